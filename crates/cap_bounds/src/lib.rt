@@ -1,13 +1,11 @@
-// A library with one function.
+//! Bounds: what a capability word means, and the capabilities that keep it.
 #![tactic(auto)]
 
-ghost use Rattle.std.specs.Prelude.{◌≡◌};
-ghost use Rattle.cap_bounds.specs.Echo.{echo_of};
+mod capability;
+mod decode;
+mod encode;
+mod plain_cap;
+mod rep;
 
-// The `ensures` clause is the contract: what `echo` returns is `echo_of` of its argument, a definition
-// in `specs/Echo.antt`, which a caller's clause can cite too.
-pub fn echo(x: usize) -> usize
-    ensures { result ≡ echo_of x }
-{
-    x
-}
+pub use plain_cap::PlainCap;
+pub use rep::CapRep;

@@ -1,0 +1,12 @@
+use Rattle.std.proofs.Common.{ℕ, ◌+◌, ◌-◌, ◌^◌, ◌<◌, ◌≤◌}
+use Rattle.cap_bounds.proofs.encode.exponent.Given as goal
+
+-- no exponent so far is enough
+abbrev pub invariant-loop-e : goal.invariant-loop-e
+invariant-loop-e l = record {
+  in_range : l.e ≤ 52;
+  too_small : (j : ℕ) → j < l.e → 2 ^ (j + 13) ≤ l.length;
+}
+
+abbrev pub decreases-loop-e : goal.decreases-loop-e
+decreases-loop-e l = 52 - l.e

@@ -1,0 +1,10 @@
+pub mod Least
+pub mod Mantissa
+pub mod Window
+pub mod Record
+pub mod CapValue
+pub mod SetAddress
+pub mod PlainCap
+pub mod LeastLaws
+pub mod ExponentLaws
+pub mod SetAddressLaws

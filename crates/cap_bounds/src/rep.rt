@@ -1,0 +1,62 @@
+ghost use Rattle.std.specs.Prelude.{◌≡◌, ◌^◌, ◌<◌, IsTrue};
+ghost use Rattle.cap_bounds.specs.Record.{IsWordWellFormed};
+ghost use Rattle.cap_bounds.specs.CapValue.{CapValue, IsSound, value_of, word_of, is_tagged, value_base, value_top, value_address, value_perms, value_flag, value_otype, without_tag};
+ghost use Rattle.cap_bounds.specs.SetAddress.{at_address};
+
+use cap_format::CapWord;
+
+/// A capability or 128 bits of data, however it is kept.
+///
+/// Every call is a function of the value that it stands for.
+pub trait CapRep: Copy {
+    /// The capability value that it stands for.
+    ghost value: { Self → CapValue };
+
+    /// What the word means: with a tag its capability, without one its bits.
+    fn from_word(word: CapWord, tag: bool) -> Self
+        requires { IsTrue tag → IsWordWellFormed word }
+        ensures { value result ≡ value_of word tag };
+
+    /// The 128 bits: of a capability its canonical word.
+    fn word(self) -> CapWord
+        ensures { result ≡ word_of (value self) };
+
+    /// Whether it is a capability.
+    fn tag(self) -> bool
+        ensures { result ≡ is_tagged (value self) };
+
+    /// The address.
+    fn address(self) -> u64
+        ensures { result ≡ value_address (value self) };
+
+    /// The first address of the bounds.
+    fn base(self) -> u64
+        ensures { result ≡ value_base (value self) };
+
+    /// The address past the bounds, below `2^65`.
+    fn top(self) -> u128
+        ensures { result ≡ value_top (value self) };
+
+    /// The permissions: hardware permissions at bits 0 to 11, user permissions at bits 12 to 15.
+    fn perms(self) -> u16
+        ensures { result ≡ value_perms (value self) };
+
+    /// The flag.
+    fn flag(self) -> bool
+        ensures { result ≡ value_flag (value self) };
+
+    /// The object type, below `2^18`.
+    fn otype(self) -> u32
+        ensures { result ≡ value_otype (value self) };
+
+    /// The capability with this address, if it is one, is unsealed and its bounds stay; else its bits with this address.
+    fn set_address(self, address: u64) -> Self
+        ensures { value result ≡ at_address (value self) address };
+
+    /// The same bits without the tag.
+    fn clear_tag(self) -> Self
+        ensures { value result ≡ without_tag (value self) };
+
+    /// A capability is well-formed, and data has 128 bits.
+    ghost valid: { (c : Self) → IsSound (value c) };
+}
