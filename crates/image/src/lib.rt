@@ -1,0 +1,10 @@
+//! Images: what a machine begins with.
+#![tactic(auto)]
+
+mod fault;
+mod image;
+mod section;
+
+pub use fault::ImageFault;
+pub use image::Image;
+pub use section::Section;
