@@ -9,8 +9,8 @@
 --   89..78    T, the low 12 bits of the top's mantissa
 --   77..64    B, the 14 bits of the base's mantissa
 --   63..0     address
-use Rattle.std.specs.Prelude.{ℕ, ◌+◌, ◌*◌, ◌/◌, ◌%◌, ◌^◌, Bool, ◌==◌, if◌then◌else◌, List, ◌++◌, bit_xor}
-use Rattle.std.specs.Int.{w64, to_le_bytes, from_le_bytes}
+use Rattle.std.specs.Prelude.{ℕ, ◌+◌, ◌*◌, ◌/◌, ◌%◌, ◌^◌, Bool, ◌==◌, if◌then◌else◌, List, bit_xor}
+use Rattle.std.specs.Int.{w128, to_le_bytes, from_le_bytes}
 
 -- bits k to k + m - 1 of a word
 abbrev pub field : ℕ → ℕ → ℕ → ℕ
@@ -50,3 +50,15 @@ with_field word k m v = word / 2 ^ (k + m) * 2 ^ (k + m) + v * 2 ^ k + word % 2 
 
 abbrev pub with_address_of : ℕ → ℕ → ℕ
 with_address_of word address = word / 2 ^ 64 * 2 ^ 64 + address
+
+-- the number whose exclusive or makes the form in memory: it has null as all zeros there
+abbrev pub null_pattern : ℕ
+null_pattern = 0x1fff_fc01_8004 * 2 ^ 64
+
+-- the 16 bytes of a word in memory, the lowest first
+abbrev pub memory_bytes : ℕ → List ℕ
+memory_bytes word = to_le_bytes w128 (bit_xor word null_pattern)
+
+-- the word that 16 bytes of memory are
+abbrev pub word_of_memory : List ℕ → ℕ
+word_of_memory bytes = bit_xor (from_le_bytes w128 bytes) null_pattern

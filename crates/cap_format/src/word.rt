@@ -1,5 +1,5 @@
 ghost use Rattle.std.specs.Prelude.{◌≡◌, ◌<◌, ◌+◌, ◌*◌, ◌^◌};
-ghost use Rattle.cap_format.specs.Word.{address_of, b_field_of, t_field_of, ie_of, otype_of, flag_of, perms_of, with_address_of};
+ghost use Rattle.cap_format.specs.Word.{address_of, b_field_of, t_field_of, ie_of, otype_of, flag_of, perms_of, with_address_of, memory_bytes, word_of_memory};
 
 use std::marker::Model;
 
@@ -46,6 +46,24 @@ impl CapWord {
         ensures range { self < 2 ^ 128 }
     {
         self.bits
+    }
+
+    /// The word that these bytes of memory are, the lowest first. Sixteen zeros are null.
+    #[inline]
+    pub fn from_memory(bytes: [u8; 16]) -> Self
+        ensures { result ≡ word_of_memory bytes }
+    {
+        CapWord {
+            bits: u128::from_le_bytes(bytes) ^ Self::NULL.bits,
+        }
+    }
+
+    /// The word's bytes in memory, the lowest first.
+    #[inline]
+    pub fn to_memory(self) -> [u8; 16]
+        ensures { result ≡ memory_bytes self }
+    {
+        (self.bits ^ Self::NULL.bits).to_le_bytes()
     }
 
     /// Bits 63..0.

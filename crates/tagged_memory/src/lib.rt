@@ -1,13 +1,12 @@
-// A library with one function.
+//! RAM with a tag for each granule of 16 bytes.
 #![tactic(auto)]
 
-ghost use Rattle.std.specs.Prelude.{◌≡◌};
-ghost use Rattle.tagged_memory.specs.Echo.{echo_of};
+mod bytes;
+mod fault;
+mod memory;
+mod place;
+mod size;
 
-// The `ensures` clause is the contract: what `echo` returns is `echo_of` of its argument, a definition
-// in `specs/Echo.antt`, which a caller's clause can cite too.
-pub fn echo(x: usize) -> usize
-    ensures { result ≡ echo_of x }
-{
-    x
-}
+pub use fault::MemoryFault;
+pub use memory::{Memory, RAM_BASE};
+pub use size::Size;

@@ -1,0 +1,4 @@
+pub mod Faults
+pub mod Tags
+pub mod Sound
+pub mod Written

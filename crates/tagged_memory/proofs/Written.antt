@@ -1,0 +1,92 @@
+-- What the code reads and writes, as the definitions of memory have it.
+use Rattle.std.proofs.Common.{◌≡◌, ℕ, zero, suc, ◌+◌, ◌-◌, ◌*◌, ◌/◌, ◌%◌, ◌^◌, ◌<◌, ◌≤◌, Bool, true, false, not, ◌&&◌, List, [], ◌++◌, length, take, drop, get_or, set, slice_index, Vec, refl, sym, ap, ◌∙◌, arith, ⊎_elim}
+use Rattle.std.proofs.lemmas.Bool.{cases_eq, lt-ltb, le-ltb, and_from, and_left, and_right, cases_lt}
+use Rattle.std.proofs.lemmas.List.{take_rest, drop-drop, drop_all, append-nil, append_assoc, length-drop, get_or-set_same, get_or-set_other, with_items_is}
+use Rattle.std.proofs.lemmas.Nat.{mod_below}
+use Rattle.std.specs.Int.{bytes_low_first}
+use Rattle.std.specs.Vec.{with_items}
+use Rattle.byteorder.specs.Endian.{little_number}
+use Rattle.tagged_memory.specs.Memory.{Memory, ram_base, number_at, touches, data_written}
+use Rattle.tagged_memory.specs.Layout.{memory_of}
+use Rattle.tagged_memory.specs.Replaced.{replaced, length-same}
+use Rattle.tagged_memory.specs.Size.{bytes_of}
+use Rattle.tagged_memory.specs.declared.size.Size.{Size}
+use Rattle.tagged_memory.specs.declared.size.Size.TheVariants.{Byte, Half, Word, Double}
+use Rattle.tagged_memory.proofs.Tags.{tags_from-retained}
+
+-- a number that is read at its place is the number at its address
+pub number_here : {m : Memory} (bytes : List ℕ) (tags : List Bool) (slice : List ℕ) (address n place : ℕ) → memory_of bytes tags ≡ m → slice ≡ bytes → ram_base + place ≡ address
+    → little_number n (take (length slice - place) (drop place slice)) ≡ number_at m address n
+number_here bytes tags slice address n place view read at =
+    let back : place ≡ address - ram_base = omega arith in
+    ap (little_number n) (take_rest slice place ∙ ap (drop place) read ∙ ap (λ k. drop k bytes) back)
+    ∙ ap (λ x. number_at x address n) view
+
+-- a write to the first part of the rest of a slice replaces that part
+pub overwritten : (bytes : List ℕ) (place : ℕ) (new part : List ℕ) → place ≤ length bytes → part ≡ new ++ drop (length new) (take (length bytes - place) (drop place bytes))
+    → take place bytes ++ (part ++ drop (length bytes - place) (drop place bytes)) ≡ replaced bytes place new
+overwritten bytes place new part h e =
+    let none : drop (length bytes - place) (drop place bytes) ≡ [] = drop_all (length bytes - place) (drop place bytes) (omega (arith, length-drop place bytes)) in
+    let rest : part ≡ new ++ drop (place + length new) bytes =
+    e ∙ ap (λ xs. new ++ drop (length new) xs) (take_rest bytes place) ∙ ap (λ xs. new ++ xs) (drop-drop (length new) place bytes) in
+    ap (λ xs. take place bytes ++ (part ++ xs)) none
+    ∙ ap (λ xs. take place bytes ++ xs) (append-nil part ∙ rest)
+    ∙ sym (append_assoc (take place bytes) new (drop (place + length new) bytes))
+
+and_not_true : (x b : Bool) → b ≡ true → false ≡ (x && not b)
+and_not_true true b e = sym (ap not e)
+and_not_true false b e = refl
+
+and_not_false : (x b : Bool) → b ≡ false → x ≡ (x && not b)
+and_not_false true b e = sym (ap not e)
+and_not_false false b e = refl
+
+-- a write inside one granule touches that granule alone
+pub granule_cleared : (tags : List Bool) (place n address i : ℕ) → ram_base + place ≡ address → 1 ≤ n → i * 16 ≤ place → place + n ≤ i * 16 + 16 → i < length tags → (k : ℕ)
+    → get_or (set tags i false) k false ≡ (get_or tags k false && not (touches address n (ram_base + 16 * k)))
+granule_cleared tags place n address i at some low high within k = ⊎_elim (λ same.
+    let first : ram_base + 16 * k < address + n = omega arith in
+    let second : address < ram_base + 16 * k + 16 = omega arith in
+    ap (λ j. get_or (set tags i false) j false) same
+    ∙ get_or-set_same tags i false false within
+    ∙ and_not_true (get_or tags k false) (touches address n (ram_base + 16 * k)) (and_from _ _ (lt-ltb _ _ first) (lt-ltb _ _ second))) (λ other.
+    get_or-set_other tags i k false false other
+    ∙ and_not_false (get_or tags k false) (touches address n (ram_base + 16 * k)) (⊎_elim (λ below. let h : ram_base + 16 * k + 16 ≤ address = omega arith in and_right _ _ (le-ltb _ _ h)) (λ above. let h : address + n ≤ ram_base + 16 * k = omega (arith, other) in and_left _ _ (le-ltb _ _ h)) (cases_lt k i))) (cases_eq k i)
+
+-- bytes and truth values that changed as a write of data says are the memory that it makes
+pub data_written-is : {m : Memory} (bytes : List ℕ) (tags us : List Bool) (address place : ℕ) (new : List ℕ) → memory_of bytes tags ≡ m → ram_base + place ≡ address → length us ≡ length tags
+    → ((k : ℕ) → get_or us k false ≡ (get_or tags k false && not (touches address (length new) (ram_base + 16 * k))))
+    → memory_of (replaced bytes place new) us ≡ data_written m address new
+unfolding data_written
+data_written-is bytes tags us address place new view at same each =
+    let back : place ≡ address - ram_base = omega arith in
+    ap (λ k. memory_of (replaced bytes k new) us) back
+    ∙ ap (λ s. record { bytes = replaced bytes (address - ram_base) new; tags = s }) (tags_from-retained ram_base tags us (λ g. not (touches address (length new) g)) same each)
+    ∙ ap (λ x. data_written x address new) view
+
+-- what a `Vec` holds after a write to the first part of the rest of it
+pub stored : {Z : Type 0} (vec : Vec ℕ Z) (slice part : List ℕ) (place n : ℕ) (new : List ℕ) → slice ≡ vec.items → vec.len ≡ length vec.items → length new ≡ n → place + n ≤ length vec.items
+    → part ≡ new ++ drop n (take (length slice - place) (drop place slice))
+    → (with_items vec (take place slice ++ (part ++ drop (length slice - place) (drop place slice)))).items ≡ replaced vec.items place new
+stored vec slice part place n new read len size fits e =
+    let room : length slice ≡ length vec.items = ap length read in
+    let part_is : part ≡ new ++ drop (length new) (take (length slice - place) (drop place slice)) = e ∙ ap (λ k. new ++ drop k (take (length slice - place) (drop place slice))) (sym size) in
+    let all = overwritten slice place new part (omega arith) part_is in
+    let same : length (take place slice ++ (part ++ drop (length slice - place) (drop place slice))) ≡ vec.len =
+    ap length all ∙ length-same slice place new (omega arith) ∙ room ∙ sym len in
+    with_items_is vec (take place slice ++ (part ++ drop (length slice - place) (drop place slice))) same
+    ∙ all ∙ ap (λ xs. replaced xs place new) read
+
+-- an aligned number lies in one granule
+pub number_in_granule : (size : Size) (address place : ℕ) → ram_base + place ≡ address → address % bytes_of size ≡ 0 → (1 ≤ bytes_of size) × (place + bytes_of size ≤ place / 16 * 16 + 16)
+number_in_granule Byte address place at aligned = (omega arith, omega arith)
+number_in_granule Half address place at aligned = (omega arith, omega arith)
+number_in_granule Word address place at aligned = (omega arith, omega arith)
+number_in_granule Double address place at aligned = (omega arith, omega arith)
+
+-- the bytes of a number are bytes
+pub little_bytes-lt : (i n x k : ℕ) → slice_index (bytes_low_first i n x) k < 256
+little_bytes-lt i zero x k = omega arith
+little_bytes-lt zero (suc n) x zero = mod_below x 256 (omega arith)
+little_bytes-lt (suc i) (suc n) x zero = mod_below (x / 256 ^ suc i) 256 (omega arith)
+little_bytes-lt i (suc n) x (suc k) = little_bytes-lt (suc i) n x k

@@ -1,0 +1,5 @@
+pub mod Layout
+pub mod Replaced
+pub mod MemoryLaws
+pub mod Memory
+pub mod Size

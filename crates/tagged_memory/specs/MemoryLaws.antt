@@ -1,0 +1,90 @@
+-- What writes of data leave as it was. The hart's laws rest on these.
+use Rattle.std.specs.Prelude.{◌≡◌, ℕ, ◌+◌, ◌-◌, ◌<◌, ◌≤◌, true, not, ◌&&◌, List, length, slice_index}
+use Rattle.std.proofs.Common.{◌⊎◌, ⊎_elim, inl, inr, sym, ap, ◌∙◌, arith}
+use Rattle.std.proofs.lemmas.Bool.{and_from, le-leb, and_parts, and_cases, not-true, leb-true, ltb-false, cases_lt}
+use Rattle.std.specs.FinSet as set
+use Rattle.std.specs.FinSet.{nat_cmp-IsAntisymmetric}
+use Rattle.tagged_memory.specs.Memory.{Memory, ram_base, is_in_ram, is_tagged, word_at, touches, data_written, IsMemory}
+use Rattle.tagged_memory.specs.Replaced.{replaced, length-same, element-kept, element-new, part-kept}
+use Rattle.cap_format.specs.Word.{word_of_memory}
+
+-- bytes in RAM, by arithmetic
+pub in_ram : (m : Memory) (address size : ℕ) → is_in_ram m address size ≡ true → (ram_base ≤ address) × (address - ram_base + size ≤ length m.bytes)
+unfolding is_in_ram
+in_ram m address size e =
+    let both = and_parts _ _ e in
+    let low : ram_base ≤ address = leb-true _ _ both.0 in
+    let high : address + size ≤ ram_base + length m.bytes = leb-true _ _ both.1 in
+    (low, omega arith)
+
+pub in_ram-from : (m : Memory) (address size : ℕ) → ram_base ≤ address → address + size ≤ ram_base + length m.bytes → is_in_ram m address size ≡ true
+unfolding is_in_ram
+in_ram-from m address size low high = and_from _ _ (le-leb _ _ low) (le-leb _ _ high)
+
+in_ram-same : (m n : Memory) (address size : ℕ) → length n.bytes ≡ length m.bytes → is_in_ram m address size ≡ true → is_in_ram n address size ≡ true
+unfolding is_in_ram
+in_ram-same m n address size same e = rw same e
+
+-- a write of data keeps the number of bytes
+pub length-data_written : (m : Memory) (address : ℕ) (new : List ℕ) → is_in_ram m address (length new) ≡ true → length (data_written m address new).bytes ≡ length m.bytes
+unfolding data_written
+length-data_written m address new e =
+    let place = in_ram m address (length new) e in
+    length-same m.bytes (address - ram_base) new place.1
+
+tags-data_written : (m : Memory) (address : ℕ) (new : List ℕ) (g : ℕ) → is_tagged (data_written m address new) g ≡ (is_tagged m g && not (touches address (length new) g))
+unfolding data_written
+tags-data_written m address new g =
+    set.contains-retain m.tags (λ a. not (touches address (length new) a)) g (λ x tie. ap (λ a. not (touches address (length new) a)) (sym (nat_cmp-IsAntisymmetric g x tie)))
+
+-- a granule that is tagged after a write of data was tagged before
+pub tagged-before_data_written : (m : Memory) (address : ℕ) (new : List ℕ) (g : ℕ) → is_tagged (data_written m address new) g ≡ true → is_tagged m g ≡ true
+tagged-before_data_written m address new g e = (and_parts _ _ (sym (tags-data_written m address new g) ∙ e)).0
+
+-- a byte that is not written stays
+pub byte-data_written : (m : Memory) (address : ℕ) (new : List ℕ) → is_in_ram m address (length new) ≡ true → (b : ℕ) → ram_base ≤ b → (b < address) ⊎ (address + length new ≤ b)
+    → slice_index (data_written m address new).bytes (b - ram_base) ≡ slice_index m.bytes (b - ram_base)
+unfolding data_written
+byte-data_written m address new e b low far =
+    let place = in_ram m address (length new) e in
+    let at : (b - ram_base < address - ram_base) ⊎ (address - ram_base + length new ≤ b - ram_base) =
+    ⊎_elim (λ below. inl (omega arith)) (λ past. inr (omega arith)) far in
+    element-kept m.bytes (address - ram_base) new place.1 (b - ram_base) 0 at
+
+-- a granule that is tagged after a write of data has the word that it had
+pub word_at-data_written : (m : Memory) (address : ℕ) (new : List ℕ) → IsMemory m → is_in_ram m address (length new) ≡ true → (g : ℕ) → is_tagged (data_written m address new) g ≡ true
+    → word_at (data_written m address new) g ≡ word_at m g
+unfolding data_written
+word_at-data_written m address new sound e g tagged =
+    let place = in_ram m address (length new) e in
+    let both = and_parts _ _ (sym (tags-data_written m address new g) ∙ tagged) in
+    let granule = in_ram m g 16 (sound.granules_in_ram g both.0) in
+    let far : (g - ram_base + 16 ≤ address - ram_base) ⊎ (address - ram_base + length new ≤ g - ram_base) =
+    ⊎_elim (λ after. inr (let h : address + length new ≤ g = ltb-false _ _ after in omega arith)) (λ before. inl (let h : g + 16 ≤ address = ltb-false _ _ before in omega arith)) (and_cases _ _ (not-true _ both.1)) in
+    ap word_of_memory (part-kept m.bytes (address - ram_base) new place.1 (g - ram_base) 16 granule.1 far)
+
+bytes_replaced : (old new : List ℕ) (place : ℕ) → place + length new ≤ length old → ((k : ℕ) → slice_index old k < 256) → ((k : ℕ) → slice_index new k < 256) → (k : ℕ)
+    → slice_index (replaced old place new) k < 256
+bytes_replaced old new place fits was is k =
+    ⊎_elim (λ below. let e = element-kept old place new fits k 0 (inl below) in omega (arith, was k))
+    (λ above. ⊎_elim (λ inside. let e = element-new old place new fits k 0 above inside in omega (arith, is (k - place)))
+    (λ past. let e = element-kept old place new fits k 0 (inr past) in omega (arith, was k)) (cases_lt k (place + length new))) (cases_lt k place)
+
+bytes_after : (m : Memory) (address : ℕ) (new : List ℕ) → IsMemory m → is_in_ram m address (length new) ≡ true → ((k : ℕ) → slice_index new k < 256) → (k : ℕ)
+    → slice_index (data_written m address new).bytes k < 256
+unfolding data_written
+bytes_after m address new sound e bytes k =
+    let place = in_ram m address (length new) e in
+    bytes_replaced m.bytes new (address - ram_base) place.1 sound.are_bytes bytes k
+
+-- a write of data leaves a memory
+pub IsMemory-data_written : (m : Memory) (address : ℕ) (new : List ℕ) → IsMemory m → is_in_ram m address (length new) ≡ true → ((k : ℕ) → slice_index new k < 256) → IsMemory (data_written m address new)
+IsMemory-data_written m address new sound e bytes = record {
+  pages = sound.pages;
+  whole_pages = length-data_written m address new e ∙ sound.whole_pages;
+  some_page = sound.some_page;
+  not_too_many = sound.not_too_many;
+  are_bytes = bytes_after m address new sound e bytes;
+  granules_aligned = λ a tagged. sound.granules_aligned a (tagged-before_data_written m address new a tagged);
+  granules_in_ram = λ a tagged. in_ram-same m (data_written m address new) a 16 (length-data_written m address new e) (sound.granules_in_ram a (tagged-before_data_written m address new a tagged));
+}
