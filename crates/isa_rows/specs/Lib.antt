@@ -1,0 +1,4 @@
+pub mod Insn
+pub mod Kind
+pub mod Line
+pub mod Name
