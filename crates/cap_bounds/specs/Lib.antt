@@ -8,3 +8,4 @@ pub mod PlainCap
 pub mod LeastLaws
 pub mod ExponentLaws
 pub mod SetAddressLaws
+pub mod AddressLaws

@@ -1,0 +1,6 @@
+//! What a capability allows: its permissions and its type.
+#![tactic(auto)]
+
+mod permission;
+
+pub use permission::{Permission, permits};

@@ -1,0 +1,4 @@
+pub mod Registers
+pub mod State
+pub mod Effect
+pub mod Step

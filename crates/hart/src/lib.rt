@@ -1,0 +1,6 @@
+//! The hart: its state, and one step.
+#![tactic(auto)]
+
+mod registers;
+
+pub use registers::Registers;

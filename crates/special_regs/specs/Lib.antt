@@ -1,0 +1,2 @@
+pub mod Csrs
+pub mod Scrs

@@ -1,0 +1,58 @@
+ghost use Rattle.std.specs.Prelude.{◌≡◌};
+
+/// The control and status registers that hold something of their own.
+#[derive(Clone, Copy, Debug, PartialEq, Eq)]
+pub struct Csrs {
+    /// mstatus.MIE: interrupts are on.
+    pub interrupts: bool,
+    /// mstatus.MPIE: they were on before the last trap.
+    pub previous: bool,
+    /// The interrupts that may be taken, by bit.
+    pub mie: u64,
+    /// A number that software keeps.
+    pub mscratch: u64,
+    /// The cause of the last trap.
+    pub mcause: u64,
+    /// What the cause says more of.
+    pub mtval: u64,
+    /// Steps, modulo 2^64.
+    pub mcycle: u64,
+    /// Instructions done, modulo 2^64.
+    pub minstret: u64,
+}
+
+impl Csrs {
+    ghost use Rattle.special_regs.specs.Csrs.{zero_csrs, cycle_counted, instruction_counted};
+
+    /// The registers as they begin: zeros.
+    pub fn new() -> Self
+        ensures { result ≡ zero_csrs }
+    {
+        Csrs {
+            interrupts: false,
+            previous: false,
+            mie: 0,
+            mscratch: 0,
+            mcause: 0,
+            mtval: 0,
+            mcycle: 0,
+            minstret: 0,
+        }
+    }
+
+    /// Counts a step.
+    #[inline]
+    pub fn count_cycle(&mut self)
+        ensures { self.new ≡ cycle_counted self.old }
+    {
+        self.mcycle = self.mcycle.wrapping_add(1);
+    }
+
+    /// Counts an instruction that is done.
+    #[inline]
+    pub fn count_instruction(&mut self)
+        ensures { self.new ≡ instruction_counted self.old }
+    {
+        self.minstret = self.minstret.wrapping_add(1);
+    }
+}

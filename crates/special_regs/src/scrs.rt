@@ -1,0 +1,112 @@
+ghost use Rattle.std.specs.Prelude.{◌≡◌};
+ghost use Rattle.special_regs.specs.Scrs.{IsAligned};
+
+use std::marker::Model;
+
+use cap_bounds::CapRep;
+
+/// The special capability registers. PCC's address is a multiple of 4.
+#[derive(Drop)]
+pub struct Scrs<C: CapRep> {
+    pcc: C,
+    ddc: C,
+    mtcc: C,
+    mtdc: C,
+    mscratchc: C,
+    mepcc: C,
+}
+
+impl<C: CapRep> Model for Scrs<C> {
+    ghost use Rattle.special_regs.specs.Scrs as spec;
+
+    ghost Value = { spec.Scrs };
+
+    ghost view = { λ s. record {
+        pcc = C.value s.pcc; ddc = C.value s.ddc; mtcc = C.value s.mtcc;
+        mtdc = C.value s.mtdc; mscratchc = C.value s.mscratchc; mepcc = C.value s.mepcc } };
+
+    ghost invariant = { λ s. spec.IsAligned (C.value s.pcc) };
+}
+
+impl<C: CapRep> Scrs<C> {
+    /// These registers; MTDC and MScratchC are null. The address of `pcc` is to be a multiple of 4.
+    pub fn new(pcc: C, root: C, null: C) -> Self
+        requires { IsAligned (C.value pcc) }
+        ensures pcc { result.pcc ≡ C.value pcc }
+        ensures ddc { result.ddc ≡ C.value root }
+        ensures mtcc { result.mtcc ≡ C.value root }
+        ensures mtdc { result.mtdc ≡ C.value null }
+        ensures mscratchc { result.mscratchc ≡ C.value null }
+        ensures mepcc { result.mepcc ≡ C.value root }
+    {
+        Scrs {
+            pcc,
+            ddc: root,
+            mtcc: root,
+            mtdc: null,
+            mscratchc: null,
+            mepcc: root,
+        }
+    }
+
+    /// The program counter capability.
+    #[inline]
+    pub fn pcc(&self) -> C
+        ensures value { C.value result ≡ self.now.pcc }
+        ensures aligned { IsAligned self.now.pcc }
+    {
+        self.pcc
+    }
+
+    /// The default data capability.
+    #[inline]
+    pub fn ddc(&self) -> C
+        ensures { C.value result ≡ self.now.ddc }
+    {
+        self.ddc
+    }
+
+    /// The machine trap code capability.
+    pub fn mtcc(&self) -> C
+        ensures { C.value result ≡ self.now.mtcc }
+    {
+        self.mtcc
+    }
+
+    /// The machine trap data capability.
+    pub fn mtdc(&self) -> C
+        ensures { C.value result ≡ self.now.mtdc }
+    {
+        self.mtdc
+    }
+
+    /// The machine scratch capability.
+    pub fn mscratchc(&self) -> C
+        ensures { C.value result ≡ self.now.mscratchc }
+    {
+        self.mscratchc
+    }
+
+    /// The machine exception program counter capability.
+    pub fn mepcc(&self) -> C
+        ensures { C.value result ≡ self.now.mepcc }
+    {
+        self.mepcc
+    }
+
+    /// Replaces the program counter capability by one whose address is a multiple of 4.
+    #[inline]
+    pub fn set_pcc(&mut self, pcc: C)
+        requires { IsAligned (C.value pcc) }
+        ensures { self.new ≡ record self.old { pcc = C.value pcc } }
+    {
+        self.pcc = pcc;
+    }
+
+    /// Replaces the machine exception program counter capability.
+    pub fn set_mepcc(&mut self, mepcc: C)
+        ensures { self.new ≡ record self.old { mepcc = C.value mepcc } }
+    {
+        self.mepcc = mepcc;
+    }
+}
