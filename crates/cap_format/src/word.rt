@@ -1,5 +1,5 @@
 ghost use Rattle.std.specs.Prelude.{◌≡◌, ◌<◌, ◌+◌, ◌*◌, ◌^◌};
-ghost use Rattle.cap_format.specs.Word.{address_of, b_field_of, t_field_of, ie_of, otype_of, flag_of, perms_of, with_address_of, memory_bytes, word_of_memory};
+ghost use Rattle.cap_format.specs.Word.{address_of, b_field_of, t_field_of, ie_of, otype_of, flag_of, perms_of, bit, with_field, with_address_of, memory_bytes, word_of_memory};
 
 use std::marker::Model;
 
@@ -129,6 +129,37 @@ impl CapWord {
     {
         CapWord {
             bits: (self.bits >> 64) << 64 | address as u128,
+        }
+    }
+
+    /// The word with these permissions and all other fields as they are.
+    #[inline]
+    pub fn with_perms(self, perms: u16) -> Self
+        ensures { result ≡ with_field self 112 16 perms }
+    {
+        CapWord {
+            bits: (perms as u128) << 112 | self.bits & ((1 << 112) - 1),
+        }
+    }
+
+    /// The word with this flag and all other fields as they are.
+    #[inline]
+    pub fn with_flag(self, flag: bool) -> Self
+        ensures { result ≡ with_field self 109 1 (bit flag) }
+    {
+        CapWord {
+            bits: ((self.bits >> 110) << 1 | flag as u128) << 109 | self.bits & ((1 << 109) - 1),
+        }
+    }
+
+    /// The word with this object type and all other fields as they are.
+    #[inline]
+    pub fn with_otype(self, otype: u32) -> Self
+        requires { otype < 2 ^ 18 }
+        ensures { result ≡ with_field self 91 18 otype }
+    {
+        CapWord {
+            bits: ((self.bits >> 109) << 18 | otype as u128) << 91 | self.bits & ((1 << 91) - 1),
         }
     }
 }

@@ -1,18 +1,18 @@
 -- What the code reads and writes, as the definitions of memory have it.
-use Rattle.std.proofs.Common.{◌≡◌, ℕ, zero, suc, ◌+◌, ◌-◌, ◌*◌, ◌/◌, ◌%◌, ◌^◌, ◌<◌, ◌≤◌, Bool, true, false, not, ◌&&◌, List, [], ◌++◌, length, take, drop, get_or, set, slice_index, Vec, refl, sym, ap, ◌∙◌, arith, ⊎_elim}
+use Rattle.std.proofs.Common.{◌≡◌, ℕ, ◌+◌, ◌-◌, ◌*◌, ◌/◌, ◌%◌, ◌<◌, ◌≤◌, Bool, true, false, cond, not, ◌&&◌, List, [], ◌++◌, length, take, drop, get_or, set, Vec, refl, sym, ap, ◌∙◌, arith, ⊎_elim}
 use Rattle.std.proofs.lemmas.Bool.{cases_eq, lt-ltb, le-ltb, and_from, and_left, and_right, cases_lt}
 use Rattle.std.proofs.lemmas.List.{take_rest, drop-drop, drop_all, append-nil, append_assoc, length-drop, get_or-set_same, get_or-set_other, with_items_is}
-use Rattle.std.proofs.lemmas.Nat.{mod_below}
-use Rattle.std.specs.Int.{bytes_low_first}
+use Rattle.std.specs.FinSet as finite
 use Rattle.std.specs.Vec.{with_items}
 use Rattle.byteorder.specs.Endian.{little_number}
-use Rattle.tagged_memory.specs.Memory.{Memory, ram_base, number_at, touches, data_written}
-use Rattle.tagged_memory.specs.Layout.{memory_of}
+use Rattle.cap_format.specs.Word.{memory_bytes, word_of_memory}
+use Rattle.tagged_memory.specs.Memory.{Memory, ram_base, number_at, word_at, is_tagged, touches, data_written, capability_written}
+use Rattle.tagged_memory.specs.Layout.{memory_of, tags_from}
 use Rattle.tagged_memory.specs.Replaced.{replaced, length-same}
 use Rattle.tagged_memory.specs.Size.{bytes_of}
 use Rattle.tagged_memory.specs.declared.size.Size.{Size}
 use Rattle.tagged_memory.specs.declared.size.Size.TheVariants.{Byte, Half, Word, Double}
-use Rattle.tagged_memory.proofs.Tags.{tags_from-retained}
+use Rattle.tagged_memory.proofs.Tags.{contains_at, tags_from-retained, tags_from-inserted, tags_from-removed}
 
 -- a number that is read at its place is the number at its address
 pub number_here : {m : Memory} (bytes : List ℕ) (tags : List Bool) (slice : List ℕ) (address n place : ℕ) → memory_of bytes tags ≡ m → slice ≡ bytes → ram_base + place ≡ address
@@ -84,9 +84,32 @@ number_in_granule Half address place at aligned = (omega arith, omega arith)
 number_in_granule Word address place at aligned = (omega arith, omega arith)
 number_in_granule Double address place at aligned = (omega arith, omega arith)
 
--- the bytes of a number are bytes
-pub little_bytes-lt : (i n x k : ℕ) → slice_index (bytes_low_first i n x) k < 256
-little_bytes-lt i zero x k = omega arith
-little_bytes-lt zero (suc n) x zero = mod_below x 256 (omega arith)
-little_bytes-lt (suc i) (suc n) x zero = mod_below (x / 256 ^ suc i) 256 (omega arith)
-little_bytes-lt i (suc n) x (suc k) = little_bytes-lt (suc i) n x k
+-- the truth value of the granule that a place is in
+pub tag_here : {m : Memory} (bytes : List ℕ) (tags : List Bool) (address place : ℕ) → memory_of bytes tags ≡ m → ram_base + place ≡ address → address % 16 ≡ 0
+    → get_or tags (place / 16) false ≡ is_tagged m address
+tag_here bytes tags address place view at aligned =
+    let granule : address ≡ ram_base + 16 * (place / 16) = omega arith in
+    sym (contains_at ram_base tags (place / 16) address granule) ∙ ap (λ m. is_tagged m address) view
+
+-- the word that is read at its place is the word at its address
+pub word_here : {m : Memory} (bytes : List ℕ) (tags : List Bool) (slice : List ℕ) (address place : ℕ) → memory_of bytes tags ≡ m → slice ≡ bytes → ram_base + place ≡ address
+    → word_of_memory (take 16 (take (length slice - place) (drop place slice))) ≡ word_at m address
+word_here bytes tags slice address place view read at =
+    let back : place ≡ address - ram_base = omega arith in
+    ap (λ xs. word_of_memory (take 16 xs)) (take_rest slice place ∙ ap (drop place) read ∙ ap (λ k. drop k bytes) back)
+    ∙ ap (λ x. word_at x address) view
+
+tags_after : (tags : List Bool) (i address : ℕ) (tag : Bool) → i < length tags → ram_base + 16 * i ≡ address
+    → tags_from ram_base (set tags i tag) ≡ cond tag (finite.insert (tags_from ram_base tags) address) (finite.remove (tags_from ram_base tags) address)
+tags_after tags i address true h at = tags_from-inserted ram_base tags i address h at
+tags_after tags i address false h at = tags_from-removed ram_base tags i address h at
+
+-- bytes and truth values that changed as a write of a capability says are the memory that it makes
+pub capability_written-is : {m : Memory} (bytes : List ℕ) (tags : List Bool) (address place word : ℕ) (tag : Bool) → memory_of bytes tags ≡ m → ram_base + place ≡ address → address % 16 ≡ 0 → place / 16 < length tags
+    → memory_of (replaced bytes place (memory_bytes word)) (set tags (place / 16) tag) ≡ capability_written m address word tag
+unfolding capability_written
+capability_written-is bytes tags address place word tag view at aligned within =
+    let back : place ≡ address - ram_base = omega arith in
+    ap (λ k. memory_of (replaced bytes k (memory_bytes word)) (set tags (place / 16) tag)) back
+    ∙ ap (λ s. record { bytes = replaced bytes (address - ram_base) (memory_bytes word); tags = s }) (tags_after tags (place / 16) address tag within (omega arith))
+    ∙ ap (λ x. capability_written x address word tag) view

@@ -3,3 +3,4 @@ pub mod Replaced
 pub mod MemoryLaws
 pub mod Memory
 pub mod Size
+pub mod Tagged

@@ -1,12 +1,13 @@
--- What writes of data leave as it was. The hart's laws rest on these.
-use Rattle.std.specs.Prelude.{◌≡◌, ℕ, ◌+◌, ◌-◌, ◌<◌, ◌≤◌, true, not, ◌&&◌, List, length, slice_index}
-use Rattle.std.proofs.Common.{◌⊎◌, ⊎_elim, inl, inr, sym, ap, ◌∙◌, arith}
-use Rattle.std.proofs.lemmas.Bool.{and_from, le-leb, and_parts, and_cases, not-true, leb-true, ltb-false, cases_lt}
+-- What writes leave as it was. The hart's laws rest on these.
+use Rattle.std.specs.Prelude.{◌≡◌, ℕ, ◌+◌, ◌-◌, ◌%◌, ◌<◌, ◌≤◌, Bool, true, false, not, ◌&&◌, ◌||◌, List, length, slice_index, bit_xor}
+use Rattle.std.proofs.Common.{◌⊎◌, ⊎_elim, inl, inr, cond, eqb, refl, sym, ap, subst, ◌∙◌, arith}
+use Rattle.std.proofs.lemmas.Bool.{and_from, le-leb, and_parts, and_cases, not-true, leb-true, ltb-false, cases_lt, cases_eq, cond-true, cond-false, eq-eqb, ne_eqb}
+use Rattle.std.specs.Cmp.{nat_cmp_total, unsigned_tied}
 use Rattle.std.specs.FinSet as set
 use Rattle.std.specs.FinSet.{nat_cmp-IsAntisymmetric}
-use Rattle.tagged_memory.specs.Memory.{Memory, ram_base, is_in_ram, is_tagged, word_at, touches, data_written, IsMemory}
-use Rattle.tagged_memory.specs.Replaced.{replaced, length-same, element-kept, element-new, part-kept}
-use Rattle.cap_format.specs.Word.{word_of_memory}
+use Rattle.tagged_memory.specs.Memory.{Memory, ram_base, is_in_ram, is_tagged, word_at, touches, data_written, capability_written, IsMemory}
+use Rattle.tagged_memory.specs.Replaced.{replaced, length-same, element-kept, element-new, part-kept, low_first-lt}
+use Rattle.cap_format.specs.Word.{memory_bytes, word_of_memory, null_pattern}
 
 -- bytes in RAM, by arithmetic
 pub in_ram : (m : Memory) (address size : ℕ) → is_in_ram m address size ≡ true → (ram_base ≤ address) × (address - ram_base + size ≤ length m.bytes)
@@ -88,3 +89,84 @@ IsMemory-data_written m address new sound e bytes = record {
   granules_aligned = λ a tagged. sound.granules_aligned a (tagged-before_data_written m address new a tagged);
   granules_in_ram = λ a tagged. in_ram-same m (data_written m address new) a 16 (length-data_written m address new e) (sound.granules_in_ram a (tagged-before_data_written m address new a tagged));
 }
+
+-- a write of a capability keeps the number of bytes
+pub length-capability_written : (m : Memory) (address word : ℕ) (tag : Bool) → is_in_ram m address 16 ≡ true → length (capability_written m address word tag).bytes ≡ length m.bytes
+unfolding capability_written
+length-capability_written m address word tag e =
+    let place = in_ram m address 16 e in
+    length-same m.bytes (address - ram_base) (memory_bytes word) place.1
+
+or_is_cond : (x y : Bool) → (x || y) ≡ cond x true y
+or_is_cond true y = refl
+or_is_cond false y = refl
+
+and_is_cond : (x y : Bool) → (not x && y) ≡ cond x false y
+and_is_cond true y = refl
+and_is_cond false y = refl
+
+-- it changes the tag of its granule alone
+pub is_tagged-capability_written : (m : Memory) (address word : ℕ) (tag : Bool) (g : ℕ) → is_tagged (capability_written m address word tag) g ≡ cond (eqb g address) tag (is_tagged m g)
+unfolding capability_written
+is_tagged-capability_written m address word true g =
+    set.contains-insert nat_cmp_total m.tags address g ∙ ap (λ b. b || is_tagged m g) (unsigned_tied g address) ∙ or_is_cond (eqb g address) (is_tagged m g)
+is_tagged-capability_written m address word false g =
+    set.contains-remove nat_cmp_total m.tags address g ∙ ap (λ b. not b && is_tagged m g) (unsigned_tied g address) ∙ and_is_cond (eqb g address) (is_tagged m g)
+
+pub is_tagged-capability_written_here : (m : Memory) (address word : ℕ) (tag : Bool) → is_tagged (capability_written m address word tag) address ≡ tag
+is_tagged-capability_written_here m address word tag =
+    is_tagged-capability_written m address word tag address ∙ cond-true (eqb address address) tag (is_tagged m address) (eq-eqb address address refl)
+
+pub is_tagged-capability_written_other : (m : Memory) (address word : ℕ) (tag : Bool) (g : ℕ) → (g ≡ address → ⊥) → is_tagged (capability_written m address word tag) g ≡ is_tagged m g
+is_tagged-capability_written_other m address word tag g other =
+    is_tagged-capability_written m address word tag g ∙ cond-false (eqb g address) tag (is_tagged m g) (ne_eqb g address other)
+
+-- a byte outside the granule stays
+pub byte-capability_written : (m : Memory) (address word : ℕ) (tag : Bool) → is_in_ram m address 16 ≡ true → (b : ℕ) → ram_base ≤ b → (b < address) ⊎ (address + 16 ≤ b)
+    → slice_index (capability_written m address word tag).bytes (b - ram_base) ≡ slice_index m.bytes (b - ram_base)
+unfolding capability_written
+byte-capability_written m address word tag e b low far =
+    let place = in_ram m address 16 e in
+    let at : (b - ram_base < address - ram_base) ⊎ (address - ram_base + 16 ≤ b - ram_base) =
+    ⊎_elim (λ below. inl (omega arith)) (λ past. inr (omega arith)) far in
+    element-kept m.bytes (address - ram_base) (memory_bytes word) place.1 (b - ram_base) 0 at
+
+-- and another tagged granule keeps its word
+pub word_at-capability_written_other : (m : Memory) (address word : ℕ) (tag : Bool) → IsMemory m → address % 16 ≡ 0 → is_in_ram m address 16 ≡ true → (g : ℕ) → is_tagged m g ≡ true → (g ≡ address → ⊥)
+    → word_at (capability_written m address word tag) g ≡ word_at m g
+unfolding capability_written
+word_at-capability_written_other m address word tag sound aligned e g tagged other =
+    let place = in_ram m address 16 e in
+    let granule = in_ram m g 16 (sound.granules_in_ram g tagged) in
+    let multiple : g % 16 ≡ 0 = sound.granules_aligned g tagged in
+    let far : (g - ram_base + 16 ≤ address - ram_base) ⊎ (address - ram_base + 16 ≤ g - ram_base) =
+    ⊎_elim (λ before. inl (omega arith)) (λ after. inr (omega (arith, other))) (cases_lt g address) in
+    ap word_of_memory (part-kept m.bytes (address - ram_base) (memory_bytes word) place.1 (g - ram_base) 16 granule.1 far)
+
+memory_bytes-lt : (word k : ℕ) → slice_index (memory_bytes word) k < 256
+memory_bytes-lt word k = low_first-lt 0 16 (bit_xor word null_pattern) k
+
+bytes_after_word : (m : Memory) (address word : ℕ) (tag : Bool) → IsMemory m → is_in_ram m address 16 ≡ true → (k : ℕ) → slice_index (capability_written m address word tag).bytes k < 256
+unfolding capability_written
+bytes_after_word m address word tag sound e k =
+    let place = in_ram m address 16 e in
+    bytes_replaced m.bytes (memory_bytes word) (address - ram_base) place.1 sound.are_bytes (memory_bytes-lt word) k
+
+tagged_after_word : (m : Memory) (address word : ℕ) (tag : Bool) → (P : ℕ → Type 0) → P address → ((g : ℕ) → is_tagged m g ≡ true → P g) → (g : ℕ) → is_tagged (capability_written m address word tag) g ≡ true → P g
+tagged_after_word m address word tag P here others g tagged =
+    ⊎_elim (λ same. subst P (sym same) here) (λ other. others g (sym (is_tagged-capability_written_other m address word tag g other) ∙ tagged)) (cases_eq g address)
+
+-- a write of a capability leaves a memory
+pub IsMemory-capability_written : (m : Memory) (address word : ℕ) (tag : Bool) → IsMemory m → address % 16 ≡ 0 → is_in_ram m address 16 ≡ true → IsMemory (capability_written m address word tag)
+IsMemory-capability_written m address word tag sound aligned e =
+    let same = length-capability_written m address word tag e in
+    record {
+      pages = sound.pages;
+      whole_pages = same ∙ sound.whole_pages;
+      some_page = sound.some_page;
+      not_too_many = sound.not_too_many;
+      are_bytes = bytes_after_word m address word tag sound e;
+      granules_aligned = tagged_after_word m address word tag (λ g. g % 16 ≡ 0) aligned sound.granules_aligned;
+      granules_in_ram = tagged_after_word m address word tag (λ g. is_in_ram (capability_written m address word tag) g 16 ≡ true) (in_ram-same m (capability_written m address word tag) address 16 same e)
+          (λ g tagged. in_ram-same m (capability_written m address word tag) g 16 same (sound.granules_in_ram g tagged));
+    }

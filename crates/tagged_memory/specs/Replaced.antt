@@ -1,4 +1,7 @@
--- A list with some of its elements replaced.
+-- A list with some of its elements replaced, and the bytes of a number.
+use Rattle.std.specs.Prelude.{zero, suc, ◌/◌, ◌^◌, slice_index}
+use Rattle.std.specs.Int.{bytes_low_first}
+use Rattle.std.proofs.lemmas.Nat.{mod_below}
 use Rattle.std.specs.Prelude.{◌≡◌, ℕ, ◌+◌, ◌-◌, ◌<◌, ◌≤◌, List, ◌++◌, take, drop, length, refl}
 use Rattle.std.proofs.Common.{get_or, sym, ap, ◌∙◌, arith, inl, inr, ◌⊎◌}
 use Rattle.std.proofs.lemmas.List.{append_assoc, length-append, length-take-le, length-drop, get_or_append_left, get_or-append_right, get_or-take, get_or-drop, same_lists, take_at, drop_at}
@@ -78,3 +81,10 @@ part-new old place new fits =
     ap (λ xs. take (length new) (drop place xs)) (append_assoc (take place old) new (drop (place + length new) old))
     ∙ ap (take (length new)) (drop_at (take place old) (new ++ drop (place + length new) old) place front)
     ∙ take_at new (drop (place + length new) old) (length new) refl
+
+-- the bytes of a number are bytes
+pub low_first-lt : (i n x k : ℕ) → slice_index (bytes_low_first i n x) k < 256
+low_first-lt i zero x k = omega arith
+low_first-lt zero (suc n) x zero = mod_below x 256 (omega arith)
+low_first-lt (suc i) (suc n) x zero = mod_below (x / 256 ^ suc i) 256 (omega arith)
+low_first-lt i (suc n) x (suc k) = low_first-lt (suc i) n x k

@@ -1,9 +1,11 @@
 ghost use Rattle.std.specs.Prelude.{◌≡◌, ◌≤◌, ◌++◌, drop, take, length};
 ghost use Rattle.byteorder.specs.Endian.{little_bytes, little_number};
+ghost use Rattle.cap_format.specs.Word.{memory_bytes, word_of_memory};
 ghost use Rattle.tagged_memory.specs.Size.{bytes_of};
 
 use crate::size::Size;
 use byteorder::{ByteOrder, LittleEndian};
+use cap_format::CapWord;
 
 /// The number in the first bytes, the lowest first.
 #[inline]
@@ -31,4 +33,25 @@ pub fn write_number(bytes: &mut [u8], size: Size, value: u64)
         Size::Word => LittleEndian::write_u32(bytes, (value & 0xffff_ffff) as u32),
         Size::Double => LittleEndian::write_u64(bytes, value),
     }
+}
+
+/// The word that the first 16 bytes are.
+#[inline]
+pub fn read_word(bytes: &[u8]) -> CapWord
+    requires { 16 ≤ length bytes.now }
+    ensures { result ≡ word_of_memory (take 16 bytes.now) }
+{
+    CapWord::from_memory([
+        bytes[0], bytes[1], bytes[2], bytes[3], bytes[4], bytes[5], bytes[6], bytes[7], bytes[8],
+        bytes[9], bytes[10], bytes[11], bytes[12], bytes[13], bytes[14], bytes[15],
+    ])
+}
+
+/// Writes a word over the first 16 bytes.
+#[inline]
+pub fn write_word(bytes: &mut [u8], word: CapWord)
+    requires { 16 ≤ length bytes.old }
+    ensures { bytes.new ≡ memory_bytes word ++ drop 16 bytes.old }
+{
+    bytes[..16].copy_from_slice(&word.to_memory());
 }

@@ -6,7 +6,9 @@ mod fault;
 mod memory;
 mod place;
 mod size;
+mod tagged;
 
 pub use fault::MemoryFault;
 pub use memory::{Memory, RAM_BASE};
 pub use size::Size;
+pub use tagged::Tagged;

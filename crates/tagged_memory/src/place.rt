@@ -1,4 +1,4 @@
-ghost use Rattle.std.specs.Prelude.{◌≡◌, ◌==◌, ◌+◌, ◌-◌, ◌^◌, ◌%◌, ◌<◌, ◌≤◌, [], length, IfOk, OnOk};
+ghost use Rattle.std.specs.Prelude.{◌≡◌, ◌==◌, ◌+◌, ◌-◌, ◌^◌, ◌/◌, ◌%◌, ◌<◌, ◌≤◌, [], length, min, IfOk, OnOk};
 ghost use Rattle.tagged_memory.specs.Memory.{ram_base, unless, access_fault, fill_fault};
 ghost use Rattle.tagged_memory.specs.Layout.{memory_of, IsPlace};
 ghost use Rattle.tagged_memory.specs.Size.{bytes_of};
@@ -61,4 +61,25 @@ pub fn number_place(bytes: &[u8], address: u64, size: Size) -> Result<usize, Mem
         Size::Word => aligned_place(bytes, address, 4, address % 4 == 0),
         Size::Double => aligned_place(bytes, address, 8, address % 8 == 0),
     }
+}
+
+/// The place of a granule.
+#[inline]
+pub fn granule_place(bytes: &[u8], address: u64) -> Result<usize, MemoryFault>
+    requires room { 16 ≤ length bytes.now }
+    requires small { length bytes.now < 2 ^ 32 }
+    ensures value { result ≡ unless (access_fault (memory_of bytes.now []) address 16) (address - ram_base) }
+    ensures within { IfOk result (IsPlace address 16 (length bytes.now)) }
+    ensures aligned { OnOk result (address % 16 ≡ 0) }
+{
+    aligned_place(bytes, address, 16, address % 16 == 0)
+}
+
+/// How many of the first `count` granules of RAM begin below an address.
+pub fn granules_below(count: usize, address: u64) -> usize
+    requires { count < 2 ^ 32 }
+    ensures { result ≡ min count ((address - ram_base + 15) / 16) }
+{
+    let below = address.saturating_sub(RAM_BASE);
+    below.div_ceil(16).min(count as u64) as usize
 }

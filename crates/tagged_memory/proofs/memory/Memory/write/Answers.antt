@@ -6,7 +6,8 @@ use Rattle.byteorder.specs.Numbers.{length-bytes_low_first}
 use Rattle.tagged_memory.specs.Layout.{memory_of}
 use Rattle.tagged_memory.specs.MemoryLaws.{in_ram-from, IsMemory-data_written}
 use Rattle.tagged_memory.specs.Size.{bytes_of}
-use Rattle.tagged_memory.proofs.Written.{stored, data_written-is, granule_cleared, number_in_granule, little_bytes-lt}
+use Rattle.tagged_memory.proofs.Written.{stored, data_written-is, granule_cleared, number_in_granule}
+use Rattle.tagged_memory.specs.Replaced.{low_first-lt}
 use Rattle.tagged_memory.specs.Memory.{IsMemory}
 use Rattle.tagged_memory.proofs.Faults.{access-refused, access-given}
 use Rattle.tagged_memory.proofs.Sound.{sound}
@@ -45,4 +46,4 @@ returns-clause-sound c =
     let room : length c.deref.result.now ≡ length c.self.inside.bytes.items = ap length c.deref.ensures.value in
     let same : length c.self.inside.bytes.items ≡ length c.args.self.now.bytes = ap (λ m. length m.bytes) c.self.view_is in
     let inside = in_ram-from c.args.self.now c.args.address (length new) (omega (arith, place.from_base)) (omega (arith, place.from_base, place.within)) in
-    subst IsMemory (sym (returns-clause-ok c)) (IsMemory-data_written c.args.self.now c.args.address new (subst IsMemory c.self.view_is (sound _ _ c.self.invariant)) inside (little_bytes-lt 0 (bytes_of c.args.size) c.args.value))
+    subst IsMemory (sym (returns-clause-ok c)) (IsMemory-data_written c.args.self.now c.args.address new (subst IsMemory c.self.view_is (sound _ _ c.self.invariant)) inside (low_first-lt 0 (bytes_of c.args.size) c.args.value))
