@@ -8,3 +8,11 @@ pub mod PlainCap
 pub mod LeastLaws
 pub mod ExponentLaws
 pub mod SetAddressLaws
+pub mod RemainderLaws
+pub mod WindowLaws
+pub mod PowerLaws
+pub mod BaseLaws
+pub mod MantissaLaws
+pub mod WordLaws
+pub mod EncodingLaws
+pub mod RecordLaws
