@@ -1,5 +1,5 @@
 -- What a register or a granule holds: a capability, or 128 bits of data.
-use Rattle.std.specs.Prelude.{ℕ, ◌*◌, ◌^◌, ◌<◌, Bool, true, false, if◌then◌else◌, ◌==◌}
+use Rattle.std.specs.Prelude.{◌≡◌, ℕ, ◌*◌, ◌^◌, ◌<◌, Bool, true, false, if◌then◌else◌, ◌==◌}
 use Rattle.cap_format.specs.Word.{address_of, perms_of, flag_of, otype_of, with_address_of}
 use Rattle.cap_bounds.specs.Window.{base_of_word, top_of_word}
 use Rattle.cap_bounds.specs.Record.{Record, IsWellFormed, encoded, decoded}
@@ -73,3 +73,7 @@ null_word = 0x1fff_fc01_8004 * 2 ^ 64
 -- an integer in a register: null with that address
 abbrev pub integer : ℕ → CapValue
 integer n = Data (with_address_of null_word n)
+
+-- a sound value is what its word and its tag mean
+abbrev pub ValueIsItsWordAndTag : Type 0
+ValueIsItsWordAndTag = (v : CapValue) → IsSound v → value_of (word_of v) (is_tagged v) ≡ v

@@ -1,7 +1,6 @@
 -- The exponent of a length, by what it is for.
-use Rattle.std.proofs.Common.{◌≡◌, ℕ, ◌+◌, ◌<◌, ◌≤◌, ◌^◌, ltb, arith, sym, ◌∙◌, inl, inr}
+use Rattle.std.proofs.Common.{◌≡◌, ℕ, ◌+◌, ◌<◌, ◌≤◌, ◌^◌, ltb, arith, inl, inr}
 use Rattle.std.proofs.lemmas.Bool.{ltb-true, ltb-false, lt-ltb, le-ltb, cases_lt}
-use Rattle.cap_bounds.specs.Least.{least_up_to}
 use Rattle.cap_bounds.specs.LeastLaws.{least_up_to-is, least_up_to-high, least_up_to-none, least_up_to-holds}
 use Rattle.cap_bounds.specs.Record.{exponent_for}
 

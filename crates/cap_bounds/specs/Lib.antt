@@ -9,3 +9,11 @@ pub mod LeastLaws
 pub mod ExponentLaws
 pub mod SetAddressLaws
 pub mod AddressLaws
+pub mod RemainderLaws
+pub mod WindowLaws
+pub mod PowerLaws
+pub mod BaseLaws
+pub mod MantissaLaws
+pub mod WordLaws
+pub mod EncodingLaws
+pub mod RecordLaws

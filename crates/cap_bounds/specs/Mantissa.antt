@@ -1,5 +1,5 @@
 -- The exponent E and the mantissas B and T of a word (UCAM-CL-TR-987, CHERI Concentrate, decoding).
-use Rattle.std.specs.Prelude.{ℕ, ◌+◌, ◌-◌, ◌*◌, ◌/◌, ◌%◌, ◌^◌, Bool, nat_lt, min, if◌then◌else◌}
+use Rattle.std.specs.Prelude.{◌≡◌, ℕ, ◌+◌, ◌-◌, ◌*◌, ◌/◌, ◌%◌, ◌^◌, ◌<◌, ◌≤◌, Bool, true, false, nat_lt, min, if◌then◌else◌}
 use Rattle.cap_format.specs.Word.{t_field_of, b_field_of, ie_of, bit}
 
 -- The greatest exponent, and the one of null and root. The six bits can also say 53 to 63, which are read as 52 (profile).
@@ -31,3 +31,10 @@ top_mantissa word =
 -- L, the length's mantissa: T - B modulo 2 ^ 14
 unfoldable pub length_mantissa : ℕ → ℕ
 length_mantissa word = (top_mantissa word + 2 ^ 14 - base_mantissa word) % 2 ^ 14
+
+-- the length's mantissa has 12 bits, or with an internal exponent 13 bits with the highest set, whatever the word
+abbrev pub LengthMantissaIsInRange : Type 0
+LengthMantissaIsInRange =
+    (word : ℕ)
+    → (ie_of word ≡ false → length_mantissa word < 4096)
+    × (ie_of word ≡ true → (4096 ≤ length_mantissa word) × (length_mantissa word < 8192))

@@ -2,7 +2,7 @@
 use Rattle.std.specs.Prelude.{◌≡◌, ℕ, ◌+◌, ◌-◌, ◌*◌, ◌/◌, ◌%◌, ◌^◌, ◌<◌, ◌≤◌, Bool, true, ◌||◌, nat_le, nat_lt, if◌then◌else◌, IsTrue}
 use Rattle.cap_format.specs.Word.{address_of, perms_of, flag_of, otype_of, bit}
 use Rattle.cap_bounds.specs.Least.{least_up_to}
-use Rattle.cap_bounds.specs.Mantissa.{greatest_exponent}
+use Rattle.cap_bounds.specs.Mantissa.{greatest_exponent, exponent_of}
 use Rattle.cap_bounds.specs.Window.{step_of, base_of_word, top_of_word}
 
 -- a capability without its tag: the bounds are the addresses from base on and below top
@@ -88,3 +88,12 @@ pub record IsWordWellFormed (word : ℕ) : Type 0 where
 -- every well-formed record's word means that record again
 abbrev pub WordMeansItsRecord : Type 0
 WordMeansItsRecord = (r : Record) → IsWellFormed r → decoded (encoded r) ≡ r
+
+-- every well-formed record's word has 128 bits, and may be tagged: decoded and encoded again it is itself
+abbrev pub CanonicalWordIsWellFormed : Type 0
+CanonicalWordIsWellFormed = (r : Record) → IsWellFormed r → (encoded r < 2 ^ 128) × IsWordWellFormed (encoded r)
+
+-- every word's address lies in the window of its own base, also where the word is malformed
+abbrev pub AddressLiesInItsWindow : Type 0
+AddressLiesInItsWindow =
+    (word : ℕ) → word < 2 ^ 128 → is_in_window (exponent_of word) (base_of_word word) (address_of word) ≡ true

@@ -1,5 +1,5 @@
 -- Setting an address (UCAM-CL-TR-987, CSetAddr), with the exact test of representability (profile).
-use Rattle.std.specs.Prelude.{◌≡◌, ℕ, ◌^◌, ◌<◌, ◌↔◌, Bool, ◌&&◌, not, if◌then◌else◌, IsTrue}
+use Rattle.std.specs.Prelude.{◌≡◌, ℕ, ◌^◌, ◌<◌, ◌↔◌, ◌&&◌, not, if◌then◌else◌, IsTrue}
 use Rattle.cap_format.specs.Word.{with_address_of}
 use Rattle.cap_bounds.specs.Window.{base_of_word, top_of_word}
 use Rattle.cap_bounds.specs.Record.{Record, IsWellFormed, encoded, window_holds}

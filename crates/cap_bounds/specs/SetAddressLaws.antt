@@ -1,8 +1,8 @@
 -- When setting an address keeps a capability, and when it makes data of it.
-use Rattle.std.proofs.Common.{◌≡◌, ℕ, Bool, true, false, cond, eqb, sym, ap, ◌∙◌, refl}
-use Rattle.std.proofs.lemmas.Bool.{and_from, and_left, and_right, cond-true, cond-false}
+use Rattle.std.proofs.Common.{◌≡◌, ℕ, true, false, eqb, refl}
+use Rattle.std.proofs.lemmas.Bool.{and_right, cond-false}
 use Rattle.cap_bounds.specs.Record.{Record, window_holds}
-use Rattle.cap_bounds.specs.CapValue.{Cap, is_sealed}
+use Rattle.cap_bounds.specs.CapValue.{Cap}
 use Rattle.cap_bounds.specs.SetAddress.{at_address, data_at}
 
 pub at_address-moved : (r : Record) (address : ℕ) → r.otype ≡ 0x3_ffff → window_holds r address ≡ true → at_address (Cap r) address ≡ Cap (record r { address = address })

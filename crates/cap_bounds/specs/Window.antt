@@ -4,7 +4,7 @@
 -- For an exponent e of at most 50 the addresses are cut into windows of 2 ^ (e + 14), one of which begins at
 -- (b / 2 ^ 11 - 1) * 2 ^ (e + 11). The base is the number congruent to b * 2 ^ e modulo 2 ^ (e + 14) in the window that holds the
 -- address. For 51 and 52 there is one window.
-use Rattle.std.specs.Prelude.{◌≡◌, ℕ, ◌+◌, ◌-◌, ◌*◌, ◌/◌, ◌%◌, ◌^◌, ◌<◌, ◌≤◌, ◌↔◌, Bool, nat_le, if◌then◌else◌}
+use Rattle.std.specs.Prelude.{◌≡◌, ℕ, ◌+◌, ◌-◌, ◌*◌, ◌/◌, ◌%◌, ◌^◌, ◌<◌, ◌≤◌, ◌↔◌, nat_le, if◌then◌else◌}
 use Rattle.cap_format.specs.Word.{address_of}
 use Rattle.cap_bounds.specs.Mantissa.{exponent_of, base_mantissa, length_mantissa}
 
@@ -55,3 +55,7 @@ abbrev pub BaseIsByWindows : Type 0
 BaseIsByWindows =
     (e b address base : ℕ) → e ≤ 50 → b < 2 ^ 14 → address < 2 ^ 64
     → IsBase e b address base ↔ (base ≡ decoded_base e b address)
+
+-- any word's base is an address, and its top has 65 bits
+abbrev pub DecodedBoundsAreInRange : Type 0
+DecodedBoundsAreInRange = (word : ℕ) → (base_of_word word < 2 ^ 64) × (top_of_word word < 2 ^ 65)

@@ -4,6 +4,7 @@
 mod capability;
 mod decode;
 mod encode;
+pub mod laws;
 mod plain_cap;
 mod rep;
 

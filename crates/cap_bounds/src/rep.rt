@@ -19,7 +19,8 @@ pub trait CapRep: Copy {
 
     /// The 128 bits: of a capability its canonical word.
     fn word(self) -> CapWord
-        ensures { result ≡ word_of (value self) };
+        ensures value { result ≡ word_of (value self) }
+        ensures well_formed { IsTrue (is_tagged (value self)) → IsWordWellFormed (word_of (value self)) };
 
     /// Whether it is a capability.
     fn tag(self) -> bool

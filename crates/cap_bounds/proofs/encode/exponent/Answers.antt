@@ -1,4 +1,4 @@
-use Rattle.std.proofs.Common.{◌≡◌, ◌+◌, ◌<◌, ◌≤◌, ◌^◌, below_more, sym, arith}
+use Rattle.std.proofs.Common.{◌+◌, ◌≤◌, ◌^◌, below_more, sym, arith}
 use Rattle.cap_bounds.specs.ExponentLaws.{exponent_for-is}
 use Rattle.cap_bounds.proofs.encode.exponent.Goals as goal
 

@@ -1,6 +1,6 @@
-use Rattle.std.proofs.Common.{◌≡◌, true, cond, rules, refl, ap}
-use Rattle.cap_bounds.specs.Record.{IsWellFormed, IsWordWellFormed, decoded, record_with}
-use Rattle.cap_bounds.specs.CapValue.{Cap, value_of}
+use Rattle.std.proofs.Common.{◌≡◌, refl, ap}
+use Rattle.cap_bounds.specs.Record.{IsWordWellFormed, decoded, record_with}
+use Rattle.cap_bounds.specs.CapValue.{Cap}
 use Rattle.cap_bounds.proofs.plain_cap.PlainCapCapRep.from_word.Goals as goal
 
 pub invariant_of-result : goal.invariant_of-result

@@ -1,4 +1,3 @@
-use Rattle.std.proofs.Common.{rules}
 use Rattle.cap_bounds.specs.SetAddress.{at_address}
 use Rattle.cap_bounds.proofs.plain_cap.PlainCapCapRep.set_address.Goals as goal
 

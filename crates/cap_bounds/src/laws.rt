@@ -1,0 +1,47 @@
+//! What holds of words, records and windows: each function's contract is a law, and its body is empty.
+
+ghost use Rattle.cap_bounds.specs.CapValue.{ValueIsItsWordAndTag};
+ghost use Rattle.cap_bounds.specs.Mantissa.{LengthMantissaIsInRange};
+ghost use Rattle.cap_bounds.specs.Record.{AddressLiesInItsWindow, CanonicalWordIsWellFormed, WordMeansItsRecord};
+ghost use Rattle.cap_bounds.specs.SetAddress.{BoundsStayInTheWindow};
+ghost use Rattle.cap_bounds.specs.Window.{BaseIsByWindows, DecodedBoundsAreInRange};
+
+/// A capability's canonical word decodes to its bounds, address, permissions, flag and object type, at every exponent.
+pub fn one_word_means_its_record()
+    ensures { WordMeansItsRecord }
+{}
+
+/// A capability's canonical word has 128 bits and may be tagged: it decodes to a capability whose encoding it is.
+pub fn canonical_words_are_well_formed()
+    ensures { CanonicalWordIsWellFormed }
+{}
+
+/// The base is the one number congruent to B * 2^E, modulo 2^(E+14), in the window that holds the address.
+pub fn base_is_by_windows()
+    ensures { BaseIsByWindows }
+{}
+
+/// A capability's bounds, decoded with another address, stay the same exactly while the address is in its window.
+pub fn bounds_stay_in_the_window()
+    ensures { BoundsStayInTheWindow }
+{}
+
+/// Every word's address is in the representable space of the base that it decodes to, malformed words included.
+pub fn every_address_lies_in_its_window()
+    ensures { AddressLiesInItsWindow }
+{}
+
+/// Every word decodes to a base below 2^64 and a top below 2^65.
+pub fn decoded_bounds_are_in_range()
+    ensures { DecodedBoundsAreInRange }
+{}
+
+/// Every word's length mantissa is below 2^12, or from 2^12 on and below 2^13 with an internal exponent.
+pub fn length_mantissa_is_in_range()
+    ensures { LengthMantissaIsInRange }
+{}
+
+/// A capability, or data, is what its word and its tag mean.
+pub fn values_are_their_words_and_tags()
+    ensures { ValueIsItsWordAndTag }
+{}
