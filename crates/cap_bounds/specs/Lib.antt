@@ -17,3 +17,4 @@ pub mod MantissaLaws
 pub mod WordLaws
 pub mod EncodingLaws
 pub mod RecordLaws
+pub mod FieldLaws

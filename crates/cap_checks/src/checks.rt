@@ -5,11 +5,10 @@ ghost use Rattle.cap_checks.specs.Access.{width_of, needed, lacking, misaligned}
 ghost use Rattle.cap_checks.specs.FirstFault.{first_fault, unless, access_checks, fetch_checks, target_checks};
 ghost use Rattle.cap_checks.specs.FirstFault as spec;
 
-use cap_bounds::CapRep;
-use cap_rights::{Permission, permits};
-
 use crate::access::Access;
 use crate::fault::Fault;
+use cap_bounds::CapRep;
+use cap_rights::{Permission, permits};
 
 /// The register number of the program counter capability in a fault.
 pub const PCC_REGISTER: u64 = 32;

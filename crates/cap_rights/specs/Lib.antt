@@ -1,1 +1,3 @@
 pub mod Permission
+pub mod Opened
+pub mod OpenedLaws

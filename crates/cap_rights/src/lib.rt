@@ -2,5 +2,7 @@
 #![tactic(auto)]
 
 mod permission;
+mod unsealed;
 
 pub use permission::{Permission, permits};
+pub use unsealed::opened;

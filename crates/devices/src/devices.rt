@@ -2,11 +2,9 @@ ghost use Rattle.std.specs.Prelude.{◌≡◌, OnErr, OnOk, None};
 ghost use Rattle.tagged_memory.specs.Size.{bytes_of};
 ghost use Rattle.devices.specs.Devices.{idle, read_fault, write_fault, effect_of, written, unless};
 
-use std::marker::Model;
-
-use tagged_memory::Size;
-
 use crate::fault::DeviceFault;
+use std::marker::Model;
+use tagged_memory::Size;
 
 /// Where the halt register lies: a store halts the machine with the stored number.
 const HALT: u64 = 0x0010_0000;

@@ -1,2 +1,3 @@
 pub mod Csrs
 pub mod Scrs
+pub mod Traps

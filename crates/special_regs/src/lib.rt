@@ -3,6 +3,8 @@
 
 mod csrs;
 mod scrs;
+mod traps;
 
 pub use csrs::Csrs;
 pub use scrs::Scrs;
+pub use traps::{enter_trap, target};

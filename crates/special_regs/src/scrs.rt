@@ -1,9 +1,8 @@
 ghost use Rattle.std.specs.Prelude.{◌≡◌};
 ghost use Rattle.special_regs.specs.Scrs.{IsAligned};
 
-use std::marker::Model;
-
 use cap_bounds::CapRep;
+use std::marker::Model;
 
 /// The special capability registers. PCC's address is a multiple of 4.
 #[derive(Drop)]
@@ -22,8 +21,13 @@ impl<C: CapRep> Model for Scrs<C> {
     ghost Value = { spec.Scrs };
 
     ghost view = { λ s. record {
-        pcc = C.value s.pcc; ddc = C.value s.ddc; mtcc = C.value s.mtcc;
-        mtdc = C.value s.mtdc; mscratchc = C.value s.mscratchc; mepcc = C.value s.mepcc } };
+      pcc = C.value s.pcc;
+      ddc = C.value s.ddc;
+      mtcc = C.value s.mtcc;
+      mtdc = C.value s.mtdc;
+      mscratchc = C.value s.mscratchc;
+      mepcc = C.value s.mepcc;
+    } };
 
     ghost invariant = { λ s. spec.IsAligned (C.value s.pcc) };
 }

@@ -1,0 +1,12 @@
+use Rattle.std.proofs.Common.{◌≡◌, ℕ, ◌*◌, ◌/◌, ◌%◌, ◌^◌, ◌<◌, sym, ap, ◌∙◌, arith}
+use Rattle.cap_bounds.specs.CapValue.{value_address}
+use Rattle.cap_bounds.specs.AddressLaws.{value_address-at_address}
+use Rattle.special_regs.specs.Scrs.{IsAligned}
+use Rattle.special_regs.proofs.traps.target.Goals as goal
+
+pub returns-else-address-eq0-clause-aligned : goal.returns-else-address-eq0-clause-aligned
+returns-else-address-eq0-clause-aligned g c =
+    let rounded : c.address-address.result / 4 * 4 < 2 ^ 64 = omega arith in
+    let moved = ap value_address c.set_address.ensures ∙ value_address-at_address _ (c.address-address.result / 4 * 4) rounded in
+    let multiple : c.address-address.result / 4 * 4 % 4 ≡ 0 = omega arith in
+    ap (λ n. n % 4) moved ∙ multiple

@@ -1,0 +1,28 @@
+-- Entering a trap (RISC-V privileged manual, machine trap handling; UCAM-CL-TR-987, CHERI-RISC-V exception handling).
+use Rattle.std.specs.Prelude.{ℕ, ◌*◌, ◌/◌, ◌%◌, Bool, true, false, ◌&&◌, ◌==◌, if◌then◌else◌}
+use Rattle.cap_bounds.specs.CapValue.{CapValue, Cap, is_tagged, value_otype, value_address, sentry_type}
+use Rattle.cap_bounds.specs.SetAddress.{at_address}
+use Rattle.cap_rights.specs.Opened.{opened}
+use Rattle.cap_checks.specs.declared.fault.Fault.{Fault}
+use Rattle.special_regs.specs.declared.csrs.Csrs.{Csrs}
+use Rattle.special_regs.specs.Scrs.{Scrs}
+
+-- a tagged sentry without its seal; any other value as it is
+unfoldable pub sentry_opened : CapValue → CapValue
+sentry_opened v = if is_tagged v && (value_otype v == sentry_type) then opened v else v
+
+-- the value with the low two bits of its address cleared, where they are not 0 already
+unfoldable pub aligned : CapValue → CapValue
+aligned v = if value_address v % 4 == 0 then v else at_address v (value_address v / 4 * 4)
+
+-- where a trap goes to from MTCC, and a return from MEPCC
+abbrev pub target : CapValue → CapValue
+target v = aligned (sentry_opened v)
+
+-- MEPCC is PCC at the instruction, and PCC where MTCC says.
+abbrev pub trapped_scrs : Scrs → Scrs
+trapped_scrs s = record s { mepcc = s.pcc; pcc = target s.mtcc }
+
+-- The cause is kept, and interrupts are off; whether they were on is kept too.
+abbrev pub trapped_csrs : Fault → Csrs → Csrs
+trapped_csrs f c = record c { mcause = f.mcause; mtval = f.mtval; previous = c.interrupts; interrupts = false }
