@@ -252,7 +252,7 @@ word_of-made Pair v i e f =
     record { below = omega (arith, f.rs1_below, f.rs2_below); value_is = omega (arith, g); operands_are = same_insn i _ _ _ _ (omega (arith, f.rd_below)) g.3 g.4 (omega (arith, f.imm_is)) }
 
 -- the word of an instruction
-pub insn_word : Insn → ℕ
+unfoldable pub insn_word : Insn → ℕ
 insn_word i = word_of (line_of i.row).format (line_of i.row).value i
 
 -- operands that fit make a word that is the instruction
