@@ -3,11 +3,12 @@
 
 mod formats;
 mod kinds;
+pub mod laws;
 mod names;
 mod operands;
 mod rows;
 
 pub use formats::Format;
 pub use kinds::Kind;
-pub use operands::Insn;
+pub use operands::{Insn, fits};
 pub use rows::{ROWS, Row};

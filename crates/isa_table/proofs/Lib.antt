@@ -1,0 +1,3 @@
+pub mod Table
+pub mod WordInsn
+pub mod InsnWord
