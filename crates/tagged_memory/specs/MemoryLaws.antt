@@ -1,13 +1,14 @@
 -- What writes leave as it was. The hart's laws rest on these.
-use Rattle.std.specs.Prelude.{◌≡◌, ℕ, ◌+◌, ◌-◌, ◌%◌, ◌<◌, ◌≤◌, Bool, true, false, not, ◌&&◌, ◌||◌, List, length, slice_index, bit_xor}
+use Rattle.std.specs.Prelude.{◌≡◌, ℕ, ◌+◌, ◌-◌, ◌%◌, ◌^◌, ◌<◌, ◌≤◌, Bool, true, false, not, ◌&&◌, ◌||◌, List, length, slice_index, bit_xor}
 use Rattle.std.proofs.Common.{◌⊎◌, ⊎_elim, inl, inr, cond, eqb, refl, sym, ap, subst, ◌∙◌, arith}
 use Rattle.std.proofs.lemmas.Bool.{and_from, le-leb, and_parts, and_cases, not-true, leb-true, ltb-false, cases_lt, cases_eq, cond-true, cond-false, eq-eqb, ne_eqb}
 use Rattle.std.specs.Cmp.{nat_cmp_total, unsigned_tied}
 use Rattle.std.specs.FinSet as set
 use Rattle.std.specs.FinSet.{nat_cmp-IsAntisymmetric}
 use Rattle.tagged_memory.specs.Memory.{Memory, ram_base, is_in_ram, is_tagged, word_at, touches, data_written, capability_written, IsMemory}
-use Rattle.tagged_memory.specs.Replaced.{replaced, length-same, element-kept, element-new, part-kept, low_first-lt}
+use Rattle.tagged_memory.specs.Replaced.{replaced, length-same, element-kept, element-new, part-kept, part-new, low_first-lt}
 use Rattle.cap_format.specs.Word.{memory_bytes, word_of_memory, null_pattern}
+use Rattle.cap_format.specs.WordLaws.{word_of_memory-memory_bytes}
 
 -- bytes in RAM, by arithmetic
 pub in_ram : (m : Memory) (address size : ℕ) → is_in_ram m address size ≡ true → (ram_base ≤ address) × (address - ram_base + size ≤ length m.bytes)
@@ -170,3 +171,10 @@ IsMemory-capability_written m address word tag sound aligned e =
       granules_in_ram = tagged_after_word m address word tag (λ g. is_in_ram (capability_written m address word tag) g 16 ≡ true) (in_ram-same m (capability_written m address word tag) address 16 same e)
           (λ g tagged. in_ram-same m (capability_written m address word tag) g 16 same (sound.granules_in_ram g tagged));
     }
+
+-- the granule has the word that was written
+pub word_at-capability_written_here : (m : Memory) (address word : ℕ) (tag : Bool) → is_in_ram m address 16 ≡ true → word < 2 ^ 128 → word_at (capability_written m address word tag) address ≡ word
+unfolding capability_written
+word_at-capability_written_here m address word tag e fits =
+    let place = in_ram m address 16 e in
+    ap word_of_memory (part-new m.bytes (address - ram_base) (memory_bytes word) place.1) ∙ word_of_memory-memory_bytes word fits
