@@ -1,10 +1,10 @@
 -- A record's canonical word means the record, and with another address it means the record's bounds exactly in its window.
-use Rattle.std.proofs.Common.{◌≡◌, ℕ, ◌-◌, ◌/◌, ◌%◌, ◌^◌, ◌<◌, Bool, true, refl, sym, ap, ◌∙◌}
+use Rattle.std.proofs.Common.{◌≡◌, ℕ, ◌-◌, ◌/◌, ◌%◌, ◌^◌, ◌<◌, Bool, true, refl, sym, ap, ◌∙◌, ◌↔◌, IsTrue}
 use Rattle.cap_format.specs.Word.{address_of, perms_of, flag_of, otype_of, ie_of, t_field_of, b_field_of, with_address_of}
 use Rattle.cap_bounds.specs.Window.{decoded_base, base_of_word, top_of_word}
 use Rattle.cap_bounds.specs.Record.{Record, IsWellFormed, IsWordWellFormed, has_exponent, exponent_for, window_holds, encoded_b, encoded_t, encoded_at, encoded, decoded, WordMeansItsRecord, CanonicalWordIsWellFormed}
 use Rattle.cap_bounds.specs.CapValue.{CapValue, Cap, Data, IsSound, is_tagged, word_of, ValueIsItsWordAndTag}
-use Rattle.cap_bounds.specs.SetAddress.{BoundsStayInTheWindow}
+use Rattle.cap_bounds.specs.SetAddress.{BoundsStayInTheWindow, KeepsBounds}
 use Rattle.cap_bounds.specs.BaseLaws.{decoded_base-in_window, is_in_window-from_base}
 use Rattle.cap_bounds.specs.EncodingLaws.{IsEncodable, encodable, base_of_word-encoded, top_of_word-encoded, encoded_t-below, encoded_b-below}
 use Rattle.cap_bounds.specs.WordLaws.{joined, address_of-joined, b_field_of-joined, t_field_of-joined, ie_of-joined, otype_of-joined, flag_of-joined, perms_of-joined, joined-below, with_address_of-joined}
@@ -126,3 +126,8 @@ value_of-word_of (Data n) sound = refl
 pub word_of-well_formed : (v : CapValue) → IsSound v → is_tagged v ≡ true → IsWordWellFormed (word_of v)
 word_of-well_formed (Cap r) sound tagged = (encoded-well_formed r sound).1
 word_of-well_formed (Data n) sound tagged = cc
+
+-- a well-formed word's bounds stay exactly where its record's window holds the address
+pub keeps_bounds-in_window : (word address : ℕ) → IsWordWellFormed word → address < 2 ^ 64 → IsTrue (window_holds (decoded word) address) ↔ KeepsBounds word address
+unfolding decoded
+keeps_bounds-in_window word address well fits = rw well.canonical at (bounds-in_window (decoded word) address well.decodes fits)

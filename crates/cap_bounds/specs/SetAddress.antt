@@ -22,3 +22,8 @@ BoundsStayInTheWindow =
     (r : Record) (address : ℕ) → IsWellFormed r → address < 2 ^ 64
     → IsTrue (window_holds r address)
     ↔ ((base_of_word (with_address_of (encoded r) address) ≡ r.base) × (top_of_word (with_address_of (encoded r) address) ≡ r.top))
+
+-- a word's bounds stay with this address in place of its own
+abbrev pub KeepsBounds : ℕ → ℕ → Type 0
+KeepsBounds word address =
+    (base_of_word (with_address_of word address) ≡ base_of_word word) × (top_of_word (with_address_of word address) ≡ top_of_word word)

@@ -7,6 +7,8 @@ mod encode;
 pub mod laws;
 mod plain_cap;
 mod rep;
+mod words;
 
 pub use plain_cap::PlainCap;
 pub use rep::CapRep;
+pub use words::{is_well_formed, representable};
