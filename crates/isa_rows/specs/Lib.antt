@@ -6,3 +6,6 @@ pub mod Name
 pub mod Once
 pub mod Operands
 pub mod WordLaws
+pub mod Decoded
+pub mod DecodedLaws
+pub mod RowLaws

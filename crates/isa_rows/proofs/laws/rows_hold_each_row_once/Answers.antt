@@ -1,6 +1,6 @@
 use Rattle.std.proofs.Common.{arith}
 use Rattle.isa_rows.specs.declared.rows.TheConstants.{ROWS}
-use Rattle.isa_rows.proofs.Numbers.{number_of, numbered-at, all_numbered, ROWS-number_of}
+use Rattle.isa_rows.specs.RowLaws.{number_of, numbered-at, all_numbered, ROWS-number_of}
 use Rattle.isa_rows.proofs.laws.rows_hold_each_row_once.Goals as goal
 
 pub returns : goal.returns
