@@ -1,4 +1,3 @@
 pub mod Registers
 pub mod State
 pub mod Effect
-pub mod Step

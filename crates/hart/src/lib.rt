@@ -1,6 +1,12 @@
 //! The hart: its state, and one step.
 #![tactic(auto)]
 
+mod effect;
+mod event;
+mod hart;
 mod registers;
+mod values;
 
+pub use event::{Event, Out};
+pub use hart::Hart;
 pub use registers::Registers;

@@ -1,0 +1,13 @@
+/// What a machine meets, one at a time.
+#[derive(Clone, Copy, Debug, PartialEq, Eq)]
+pub enum Event {
+    /// The hart does one instruction, or takes one trap.
+    Step,
+}
+
+/// What comes out of a machine at an event.
+#[derive(Clone, Copy, Debug, PartialEq, Eq)]
+pub struct Out {
+    /// The byte that is sent, if one is.
+    pub byte: Option<u8>,
+}
