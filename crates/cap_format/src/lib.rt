@@ -5,3 +5,6 @@ pub mod laws;
 mod word;
 
 pub use word::CapWord;
+
+#[cfg(test)]
+mod tests;
