@@ -7,6 +7,8 @@ mod encode;
 pub mod laws;
 mod plain_cap;
 mod rep;
+#[cfg(test)]
+mod tests;
 mod words;
 
 pub use plain_cap::PlainCap;

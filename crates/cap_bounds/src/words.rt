@@ -29,7 +29,7 @@ pub fn is_well_formed(word: CapWord) -> bool
 /// Whether a word's bounds stay with this address in place of its own.
 pub fn representable(word: CapWord, address: u64) -> bool
     ensures bounds { IsTrue result ↔ KeepsBounds word address }
-    ensures window { IsWordWellFormed word → IsTrue result ↔ IsTrue (window_holds (decoded word) address) }
+    ensures window { IsWordWellFormed word → (IsTrue result ↔ IsTrue (window_holds (decoded word) address)) }
 {
     let moved = word.with_address(address);
     decode::base(moved) == decode::base(word) && decode::top(moved) == decode::top(word)

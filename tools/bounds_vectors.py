@@ -1,0 +1,227 @@
+#!/usr/bin/env python3
+"""Writes crates/bounds_vectors/src/words.rt: capability words and what they decode to.
+
+The decoding is that of CHERI Concentrate (UCAM-CL-TR-987, 128-bit format), by its own formulas: the three top bits of the
+address, of B and of T against an edge, the corrections of base and top, and bit 64 of the top inverted. It shares nothing with
+the definitions of cap_bounds, which go by windows.
+
+    python3 tools/bounds_vectors.py > crates/bounds_vectors/src/words.rt
+"""
+
+SPACE = 1 << 64
+UNSEALED = 0x3FFFF
+NULL_HIGH = 0x00001FFFFC018004
+ROOT_HIGH = 0xFFFF1FFFFC018004
+
+
+def exponent_and_mantissas(high):
+    """E, B and T (14 bits each) of a word's high half."""
+    b, t, ie = high & 0x3FFF, high >> 14 & 0xFFF, high >> 26 & 1
+    e = 0
+    if ie:
+        e = min((t & 7) << 3 | b & 7, 52)
+        b, t = b & ~7, t & ~7
+    carry = 1 if t < b & 0xFFF else 0
+    return e, b, ((b >> 12) + carry + ie & 3) << 12 | t
+
+
+def decoded(high, address):
+    """The base and the top of a word."""
+    e, b, t = exponent_and_mantissas(high)
+    ah, bh, th = address >> e + 11 & 7, b >> 11 & 7, t >> 11 & 7
+    edge = bh - 1 & 7
+    a_high, b_high, t_high = ah < edge, bh < edge, th < edge
+    a = address >> e + 14
+    base = ((a + b_high - a_high << e + 14) + (b << e)) % SPACE
+    top = ((a + t_high - a_high << e + 14) + (t << e)) % (2 * SPACE)
+    if e < 51 and (top >> 63) - (base >> 63) & 3 > 1:
+        top ^= SPACE
+    return base, top
+
+
+def canonical(base, top, perms, reserved, flag, otype):
+    """The high half of the word of a capability, or None where its bounds have none."""
+    length = top - base
+    e, ie = 0, 0
+    if length >= 4096:
+        e, ie = length.bit_length() - 13, 1
+        if base % (1 << e + 3) or top % (1 << e + 3):
+            return None
+    b, t = base >> e & 0x3FFF, top >> e & 0xFFF
+    if ie:
+        b, t = b & ~7 | e & 7, t & ~7 | e >> 3
+    return perms << 48 | reserved << 46 | flag << 45 | otype << 27 | ie << 26 | t << 14 | b
+
+
+def is_well_formed(high, address):
+    base, top = decoded(high, address)
+    if not base <= top <= SPACE:
+        return False
+    perms, flag, otype = high >> 48, high >> 45 & 1, high >> 27 & 0x3FFFF
+    return high == canonical(base, top, perms, 0, flag, otype)
+
+
+def kept(high, address):
+    """The first and the last of the addresses from this one on, downwards and upwards, with which the bounds stay."""
+    e = exponent_and_mantissas(high)[0]
+    # the formulas read no bit of an address below this one
+    block = 1 << min(e + 11, 64)
+    bounds = decoded(high, address)
+    first = address // block * block
+    last = first + block - 1
+    while decoded(high, (first - 1) % SPACE) == bounds and last - first < SPACE - 1:
+        first -= block
+    while decoded(high, (last + 1) % SPACE) == bounds and last - first < SPACE - 1:
+        last += block
+    return (0, SPACE - 1) if last - first == SPACE - 1 else (first % SPACE, last % SPACE)
+
+
+class Numbers:
+    """A fixed sequence of numbers (SplitMix64)."""
+
+    def __init__(self, seed):
+        self.state = seed
+
+    def below(self, n):
+        self.state = self.state + 0x9E3779B97F4A7C15 & SPACE - 1
+        z = self.state
+        z = (z ^ z >> 30) * 0xBF58476D1CE4E5B9 & SPACE - 1
+        z = (z ^ z >> 27) * 0x94D049BB133111EB & SPACE - 1
+        return (z ^ z >> 31) % n
+
+    def choice(self, items):
+        return items[self.below(len(items))]
+
+
+def words():
+    numbers = Numbers(0x43484552)
+    yield NULL_HIGH, 0
+    yield ROOT_HIGH, 0
+    yield ROOT_HIGH, SPACE - 1
+    yield 0xFFFF000007FE5004 ^ NULL_HIGH, 0x80001000
+    yield 0xFFFF000000039004 ^ NULL_HIGH, 0x80001001
+    yield 0xFFFF000000018005 ^ NULL_HIGH, 1
+    yield 0x00001FFFF8003FFF ^ NULL_HIGH, 0
+
+    def shape():
+        perms = numbers.choice([0xFFFF, 0, numbers.below(1 << 16)])
+        otype = numbers.choice([UNSEALED, UNSEALED, UNSEALED, UNSEALED - 1, numbers.below(1 << 18)])
+        return perms, numbers.below(2), otype
+
+    # capabilities of every exponent, with the address at the ends of the window or in the bounds
+    def capability(e, ie, address_at):
+        perms, flag, otype = shape()
+        while True:
+            unit = 1 << e + 3 if ie else 1
+            length = (1 << e + 12) + numbers.below(1 << 9) * unit if ie else numbers.below(4096)
+            base = numbers.below(SPACE // unit) * unit
+            if numbers.below(4) == 0:
+                base = numbers.choice([0, (SPACE - length) % SPACE])
+            if base + length > SPACE:
+                continue
+            high = canonical(base, base + length, perms, 0, flag, otype)
+            # a base is an address in its own window
+            first, last = kept(high, base)
+            inside = (base + numbers.below(max(length, 1))) % SPACE
+            return high, [first, last, inside, base][address_at]
+
+    for e in range(53):
+        for address_at in range(3):
+            yield capability(e, 1, (address_at + e) % 4)
+    for k in range(16):
+        yield capability(0, 0, k % 4)
+
+    # the same words one address out of their windows
+    for e in list(range(0, 50, 3)):
+        high, address = capability(e, e % 2, 0)
+        yield high, (address - 1) % SPACE
+        yield high, (kept(high, address)[1] + 1) % SPACE
+
+    # any mantissas under every exponent field
+    for field in range(64):
+        for k in range(2):
+            perms, flag, otype = shape()
+            b, t = numbers.below(1 << 11) << 3, numbers.below(1 << 9) << 3
+            reserved = numbers.choice([0, 0, 0, numbers.below(4)])
+            high = perms << 48 | reserved << 46 | flag << 45 | otype << 27 | 1 << 26 | (t | field >> 3) << 14 | b | field & 7
+            address = numbers.below(SPACE)
+            first, last = kept(high, address)
+            yield high, [0, SPACE - 1, address, first, last][(2 * field + k) % 5]
+    # bounds that go past the end of the address space
+    for e in range(0, 53, 2):
+        perms, flag, otype = shape()
+        base = (SPACE >> e + 3) - 1 - numbers.below(256) << e + 3
+        base = base % SPACE
+        top = base + (4096 + (numbers.below(512) << 3) << e)
+        t = top >> e & 0xFF8 | e >> 3
+        high = perms << 48 | flag << 45 | otype << 27 | 1 << 26 | t << 14 | base >> e & 0x3FF8 | e & 7
+        yield high, [base, SPACE - 1, 0][e // 2 % 3]
+    # any mantissas with no exponent
+    for k in range(12):
+        perms, flag, otype = shape()
+        high = perms << 48 | flag << 45 | otype << 27 | numbers.below(1 << 26)
+        yield high, [0, SPACE - 1, numbers.below(SPACE)][k % 3]
+
+
+HEADER = """//! Words and what they decode to, written by `python3 tools/bounds_vectors.py > crates/bounds_vectors/src/words.rt`.
+//!
+//! The script decodes by the formulas of CHERI Concentrate (UCAM-CL-TR-987): edge, corrections and the inverted bit 64 of the
+//! top. A row is the word's high half and address, its base, its top, its exponent, whether it is well-formed, and the first
+//! and the last address with which its bounds stay.
+
+/// A word and what it decodes to.
+#[derive(Clone, Copy, Debug)]
+pub struct Vector {
+    /// Bits 127..64 of the word in logical form.
+    pub high: u64,
+    /// Bits 63..0.
+    pub address: u64,
+    pub base: u64,
+    pub top: u128,
+    pub exponent: u32,
+    pub well_formed: bool,
+    /// The bounds stay with the addresses from this one on, round the end of the address space.
+    pub first: u64,
+    /// The last of them.
+    pub last: u64,
+}
+
+macro_rules! vectors {
+    ($($high:literal $address:literal $base:literal $top:literal $exponent:literal $well_formed:literal $first:literal $last:literal;)*) => {
+        [$(Vector {
+            high: $high,
+            address: $address,
+            base: $base,
+            top: $top,
+            exponent: $exponent,
+            well_formed: $well_formed,
+            first: $first,
+            last: $last,
+        }),*]
+    };
+}
+"""
+
+
+def main():
+    rows = []
+    seen = set()
+    for high, address in words():
+        if (high, address) in seen:
+            continue
+        seen.add((high, address))
+        base, top = decoded(high, address)
+        e = exponent_and_mantissas(high)[0]
+        well = "true" if is_well_formed(high, address) else "false"
+        first, last = kept(high, address)
+        rows.append(
+            f"    0x{high:016x} 0x{address:016x} 0x{base:016x} 0x{top:017x} {e:2} {well:5} 0x{first:016x} 0x{last:016x};"
+        )
+    print(HEADER)
+    print("/// Words of every exponent, well-formed and malformed, with addresses at the ends of windows and of the address space.")
+    print(f"pub static WORDS: [Vector; {len(rows)}] = vectors! {{")
+    print("\n".join(rows))
+    print("};")
+
+
+main()
