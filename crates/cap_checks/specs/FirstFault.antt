@@ -1,6 +1,6 @@
 -- The ordered lists of conditions of each check. The fault is that of the first condition that is false.
 -- (UCAM-CL-TR-987, CHERI-RISC-V memory access and jump checks; the order is this profile's.)
-use Rattle.std.specs.Prelude.{ℕ, ◌+◌, ◌%◌, Bool, not, ◌&&◌, ◌==◌, nat_le, if◌then◌else◌, List, [], ◌∷◌, Option, Some, None, Result, Ok, Err}
+use Rattle.std.specs.Prelude.{ℕ, ◌+◌, ◌%◌, Bool, not, ◌&&◌, ◌==◌, nat_le, if◌then◌else◌, List, [], ◌∷◌, Option, Some, None}
 use Rattle.cap_bounds.specs.CapValue.{CapValue, is_tagged, is_sealed, value_base, value_top, value_address}
 use Rattle.cap_rights.specs.Permission.{permits}
 use Rattle.cap_rights.specs.declared.permission.Permission.TheVariants as permission
@@ -13,11 +13,6 @@ use Rattle.cap_checks.specs.Causes.{fault, cheri, pcc_register, length_violation
 abbrev pub first_fault : List (Bool × Fault) → Option Fault
 first_fault [] = None
 first_fault (check ∷ checks) = if check.0 then first_fault checks else Some check.1
-
--- the answer where no condition is false
-abbrev pub unless : {X : Type 0} → Option Fault → X → Result X Fault
-unless None x = Ok x
-unless (Some f) x = Err f
 
 -- the `size` bytes from an address lie in the value's bounds, in whole numbers
 unfoldable pub holds : CapValue → ℕ → ℕ → Bool
@@ -33,6 +28,9 @@ access_checks authority register access address =
     ∷ (address % width_of access == 0, fault (misaligned access) address)
     ∷ []
 
+unfoldable pub access_fault : CapValue → ℕ → Access → ℕ → Option Fault
+access_fault authority register access address = first_fault (access_checks authority register access address)
+
 -- The fetch of the instruction at PCC's address, which is a multiple of 4.
 abbrev pub fetch_checks : CapValue → List (Bool × Fault)
 fetch_checks pcc =
@@ -42,9 +40,15 @@ fetch_checks pcc =
     ∷ (holds pcc (value_address pcc) 4, cheri pcc_register length_violation)
     ∷ []
 
+unfoldable pub fetch_fault : CapValue → Option Fault
+fetch_fault pcc = first_fault (fetch_checks pcc)
+
 -- A jump within PCC: a branch that is taken.
 abbrev pub target_checks : CapValue → ℕ → List (Bool × Fault)
 target_checks pcc target =
     (holds pcc target 4, cheri pcc_register length_violation)
     ∷ (target % 4 == 0, fault misaligned_jump target)
     ∷ []
+
+unfoldable pub target_fault : CapValue → ℕ → Option Fault
+target_fault pcc target = first_fault (target_checks pcc target)

@@ -1,8 +1,8 @@
-ghost use Rattle.std.specs.Prelude.{◌≡◌, ◌+◌, ◌<◌, ◌%◌, ◌^◌, OnOk};
+ghost use Rattle.std.specs.Prelude.{◌≡◌, ◌+◌, ◌<◌, ◌%◌, None, Some, IfOk, IfErr, OnOk};
 ghost use Rattle.cap_bounds.specs.CapValue.{value_address};
 ghost use Rattle.cap_checks.specs.Causes.{cheri, fault};
 ghost use Rattle.cap_checks.specs.Access.{width_of, needed, lacking, misaligned};
-ghost use Rattle.cap_checks.specs.FirstFault.{first_fault, unless, access_checks, fetch_checks, target_checks};
+ghost use Rattle.cap_checks.specs.FirstFault.{access_fault, fetch_fault, target_fault};
 ghost use Rattle.cap_checks.specs.FirstFault as spec;
 
 use crate::access::Access;
@@ -54,6 +54,7 @@ impl Access {
 /// The address of an access through an authority that a register holds, or the first fault: tag, seal, permission, bounds,
 /// alignment.
 #[inline]
+#[tactic(auto, unfolding(crate::specs::FirstFault::access_fault))]
 pub fn check_access<C: CapRep>(
     authority: C,
     register: u64,
@@ -61,7 +62,9 @@ pub fn check_access<C: CapRep>(
     address: u64,
 ) -> Result<u64, Fault>
     requires { register < 64 }
-    ensures value { result ≡ unless (first_fault (access_checks (C.value authority) register access address)) address }
+    ensures value { IfOk result (λ allowed. allowed ≡ address) }
+    ensures allowed { OnOk result (access_fault (C.value authority) register access address ≡ None) }
+    ensures refused { IfErr result (λ fault. access_fault (C.value authority) register access address ≡ Some fault) }
     ensures aligned { OnOk result (address % width_of access ≡ 0) }
 {
     let (permission, cause, misaligned) = match access {
@@ -92,8 +95,11 @@ pub fn check_access<C: CapRep>(
 
 /// The address of the instruction to be fetched, or the first fault of PCC: tag, seal, Execute, bounds of 4 bytes.
 #[inline]
+#[tactic(auto, unfolding(crate::specs::FirstFault::fetch_fault))]
 pub fn check_fetch<C: CapRep>(pcc: C) -> Result<u64, Fault>
-    ensures { result ≡ unless (first_fault (fetch_checks (C.value pcc))) (value_address (C.value pcc)) }
+    ensures value { IfOk result (λ allowed. allowed ≡ value_address (C.value pcc)) }
+    ensures allowed { OnOk result (fetch_fault (C.value pcc) ≡ None) }
+    ensures refused { IfErr result (λ fault. fetch_fault (C.value pcc) ≡ Some fault) }
 {
     let address = pcc.address();
     if !pcc.tag() {
@@ -113,8 +119,11 @@ pub fn check_fetch<C: CapRep>(pcc: C) -> Result<u64, Fault>
 
 /// The target of a jump within PCC, or the first fault: bounds of 4 bytes, alignment to 4.
 #[inline]
+#[tactic(auto, unfolding(crate::specs::FirstFault::target_fault))]
 pub fn check_target<C: CapRep>(pcc: C, target: u64) -> Result<u64, Fault>
-    ensures value { result ≡ unless (first_fault (target_checks (C.value pcc) target)) target }
+    ensures value { IfOk result (λ allowed. allowed ≡ target) }
+    ensures allowed { OnOk result (target_fault (C.value pcc) target ≡ None) }
+    ensures refused { IfErr result (λ fault. target_fault (C.value pcc) target ≡ Some fault) }
     ensures aligned { OnOk result (target % 4 ≡ 0) }
 {
     if !holds(pcc, target, 4) {

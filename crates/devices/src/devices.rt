@@ -1,4 +1,4 @@
-ghost use Rattle.std.specs.Prelude.{◌≡◌, OnErr, OnOk, None};
+ghost use Rattle.std.specs.Prelude.{◌≡◌, ◌↔◌, IsTrue, OnErr, OnOk, None};
 ghost use Rattle.tagged_memory.specs.Size.{bytes_of};
 ghost use Rattle.devices.specs.Devices.{idle, read_fault, write_fault, effect_of, written, unless};
 
@@ -53,6 +53,18 @@ impl Devices {
         ensures { result ≡ self.now.halted }
     {
         self.halted
+    }
+
+    /// Whether a register at the address takes a store of this size: 8 bytes, or for transmit also one byte.
+    #[inline]
+    #[tactic(auto, unfolding(crate::specs::Devices::write_fault))]
+    pub fn takes(address: u64, size: Size) -> bool
+        ensures { IsTrue result ↔ (write_fault address (bytes_of size) ≡ None) }
+    {
+        match (address, size) {
+            (HALT | TRANSMIT, Size::Double) | (TRANSMIT, Size::Byte) => true,
+            _ => false,
+        }
     }
 
     /// What a load from a register gives: 0. V1 where there is none at the address, then V2 where the size is not 8.

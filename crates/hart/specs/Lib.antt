@@ -1,3 +1,6 @@
 pub mod Registers
 pub mod State
 pub mod Effect
+pub mod Step
+pub mod Event
+pub mod StateLaws

@@ -1,13 +1,11 @@
 ghost use Rattle.std.specs.Prelude.{◌≡◌, ◌<◌};
 
-use std::marker::Model;
-
+use crate::registers::Registers;
 use cap_bounds::CapRep;
 use devices::Devices;
 use special_regs::{Csrs, Scrs};
+use std::marker::Model;
 use tagged_memory::Memory;
-
-use crate::registers::Registers;
 
 /// A hart with its memory and devices.
 #[derive(Drop)]

@@ -1,9 +1,11 @@
 //! The hart: its state, and one step.
 #![tactic(auto)]
 
+mod apply;
 mod effect;
 mod event;
 mod hart;
+mod plan;
 mod registers;
 mod values;
 

@@ -11,4 +11,3 @@ pub(crate) fn integer_value<C: CapRep>(number: u64) -> C
 {
     C::from_word(CapWord::NULL.with_address(number), false)
 }
-

@@ -47,3 +47,9 @@ returns-clause-sound c =
     let same : length c.self.inside.bytes.items ≡ length c.args.self.now.bytes = ap (λ m. length m.bytes) c.self.view_is in
     let inside = in_ram-from c.args.self.now c.args.address (length new) (omega (arith, place.from_base)) (omega (arith, place.from_base, place.within)) in
     subst IsMemory (sym (returns-clause-ok c)) (IsMemory-data_written c.args.self.now c.args.address new (subst IsMemory c.self.view_is (sound _ _ c.self.invariant)) inside (low_first-lt 0 (bytes_of c.args.size) c.args.value))
+
+pub returns-in_err-place-clause-was_sound : goal.returns-in_err-place-clause-was_sound
+returns-in_err-place-clause-was_sound c = subst IsMemory c.self.view_is (sound _ _ c.self.invariant)
+
+pub returns-clause-was_sound : goal.returns-clause-was_sound
+returns-clause-was_sound c = subst IsMemory c.self.view_is (sound _ _ c.self.invariant)
