@@ -10,3 +10,6 @@ mod readings;
 pub use arithmetic::int_op;
 pub use branches::branch_taken;
 pub use products::mul_div;
+
+#[cfg(test)]
+mod tests;
