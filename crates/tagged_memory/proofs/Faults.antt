@@ -64,3 +64,24 @@ access-given {m = m} bytes tags slice address size x p y view read e =
     ∙ sym (ap (λ b. access_fault (memory_of b []) address size) read)
     ∙ (unless_given (access_fault (memory_of slice []) address size) x p e).0 in
     sym (ap (λ g. unless g y) here)
+
+-- the same for bytes that are filled in
+pub fill-refused : {X : Type 0} {m : Memory} (bytes : List ℕ) (tags : List Bool) (slice : List ℕ) (address size x : ℕ) (y : X) (f : MemoryFault)
+    → memory_of bytes tags ≡ m → slice ≡ bytes → Err f ≡ unless (fill_fault (memory_of slice []) address size) x → Err f ≡ unless (fill_fault m address size) y
+fill-refused {m = m} bytes tags slice address size x y f view read e =
+    let here : fill_fault m address size ≡ Some f =
+    sym (ap (λ n. fill_fault n address size) view)
+    ∙ fill_fault-by_bytes bytes tags address size
+    ∙ sym (ap (λ b. fill_fault (memory_of b []) address size) read)
+    ∙ unless_refused (fill_fault (memory_of slice []) address size) x y f e in
+    sym (ap (λ g. unless g y) here)
+
+pub fill-given : {X : Type 0} {m : Memory} (bytes : List ℕ) (tags : List Bool) (slice : List ℕ) (address size x p : ℕ) (y : X)
+    → memory_of bytes tags ≡ m → slice ≡ bytes → Ok p ≡ unless (fill_fault (memory_of slice []) address size) x → Ok y ≡ unless (fill_fault m address size) y
+fill-given {m = m} bytes tags slice address size x p y view read e =
+    let here : fill_fault m address size ≡ None =
+    sym (ap (λ n. fill_fault n address size) view)
+    ∙ fill_fault-by_bytes bytes tags address size
+    ∙ sym (ap (λ b. fill_fault (memory_of b []) address size) read)
+    ∙ (unless_given (fill_fault (memory_of slice []) address size) x p e).0 in
+    sym (ap (λ g. unless g y) here)

@@ -1,14 +1,14 @@
 -- What the code reads and writes, as the definitions of memory have it.
-use Rattle.std.proofs.Common.{◌≡◌, ℕ, ◌+◌, ◌-◌, ◌*◌, ◌/◌, ◌%◌, ◌<◌, ◌≤◌, Bool, true, false, cond, not, ◌&&◌, List, [], ◌++◌, length, take, drop, get_or, set, Vec, refl, sym, ap, ◌∙◌, arith, ⊎_elim}
+use Rattle.std.proofs.Common.{◌≡◌, ℕ, ◌+◌, ◌-◌, ◌*◌, ◌/◌, ◌%◌, ◌<◌, ◌≤◌, Bool, true, false, cond, not, ◌&&◌, List, [], ◌++◌, length, take, drop, get_or, set, Vec, refl, sym, ap, ◌∙◌, arith, ⊎_elim, inl, inr, replicate}
 use Rattle.std.proofs.lemmas.Bool.{cases_eq, lt-ltb, le-ltb, and_from, and_left, and_right, cases_lt}
-use Rattle.std.proofs.lemmas.List.{take_rest, drop-drop, drop_all, append-nil, append_assoc, length-drop, get_or-set_same, get_or-set_other, with_items_is}
+use Rattle.std.proofs.lemmas.List.{take_rest, drop-drop, drop_all, append-nil, append_assoc, length-drop, get_or-set_same, get_or-set_other, get_or-replicate, length-replicate, with_items_is}
 use Rattle.std.specs.FinSet as finite
 use Rattle.std.specs.Vec.{with_items}
 use Rattle.byteorder.specs.Endian.{little_number}
 use Rattle.cap_format.specs.Word.{memory_bytes, word_of_memory}
 use Rattle.tagged_memory.specs.Memory.{Memory, ram_base, number_at, word_at, is_tagged, touches, data_written, capability_written}
 use Rattle.tagged_memory.specs.Layout.{memory_of, tags_from}
-use Rattle.tagged_memory.specs.Replaced.{replaced, length-same}
+use Rattle.tagged_memory.specs.Replaced.{replaced, length-same, element-kept, element-new}
 use Rattle.tagged_memory.specs.Size.{bytes_of}
 use Rattle.tagged_memory.specs.declared.size.Size.{Size}
 use Rattle.tagged_memory.specs.declared.size.Size.TheVariants.{Byte, Half, Word, Double}
@@ -49,9 +49,9 @@ granule_cleared tags place n address i at some low high within k = ⊎_elim (λ 
     let second : address < ram_base + 16 * k + 16 = omega arith in
     ap (λ j. get_or (set tags i false) j false) same
     ∙ get_or-set_same tags i false false within
-    ∙ and_not_true (get_or tags k false) (touches address n (ram_base + 16 * k)) (and_from _ _ (lt-ltb _ _ first) (lt-ltb _ _ second))) (λ other.
+    ∙ and_not_true (get_or tags k false) (touches address n (ram_base + 16 * k)) (and_from _ _ (lt-ltb _ _ some) (and_from _ _ (lt-ltb _ _ first) (lt-ltb _ _ second)))) (λ other.
     get_or-set_other tags i k false false other
-    ∙ and_not_false (get_or tags k false) (touches address n (ram_base + 16 * k)) (⊎_elim (λ below. let h : ram_base + 16 * k + 16 ≤ address = omega arith in and_right _ _ (le-ltb _ _ h)) (λ above. let h : address + n ≤ ram_base + 16 * k = omega (arith, other) in and_left _ _ (le-ltb _ _ h)) (cases_lt k i))) (cases_eq k i)
+    ∙ and_not_false (get_or tags k false) (touches address n (ram_base + 16 * k)) (⊎_elim (λ below. let h : ram_base + 16 * k + 16 ≤ address = omega arith in and_right _ _ (and_right _ _ (le-ltb _ _ h))) (λ above. let h : address + n ≤ ram_base + 16 * k = omega (arith, other) in and_right _ _ (and_left _ _ (le-ltb _ _ h))) (cases_lt k i))) (cases_eq k i)
 
 -- bytes and truth values that changed as a write of data says are the memory that it makes
 pub data_written-is : {m : Memory} (bytes : List ℕ) (tags us : List Bool) (address place : ℕ) (new : List ℕ) → memory_of bytes tags ≡ m → ram_base + place ≡ address → length us ≡ length tags
@@ -113,3 +113,35 @@ capability_written-is bytes tags address place word tag view at aligned within =
     ap (λ k. memory_of (replaced bytes k (memory_bytes word)) (set tags (place / 16) tag)) back
     ∙ ap (λ s. record { bytes = replaced bytes (address - ram_base) (memory_bytes word); tags = s }) (tags_after tags (place / 16) address tag within (omega arith))
     ∙ ap (λ x. capability_written x address word tag) view
+
+-- a list whose middle is replaced
+middle : {X : Type 0} (xs ys : List X) (a n : ℕ) → length ys ≡ n → take a xs ++ (ys ++ drop n (drop a xs)) ≡ replaced xs a ys
+middle xs ys a n size =
+    ap (λ zs. take a xs ++ (ys ++ zs)) (drop-drop n a xs ∙ ap (λ m. drop (a + m) xs) (sym size))
+    ∙ sym (append_assoc (take a xs) ys (drop (a + length ys) xs))
+
+-- truth values that are all taken from one granule to another are those of the granules touched
+pub granules_cleared : (tags part : List Bool) (place size first n : ℕ) → first ≡ place / 16 → first + n ≡ (place + size + 15) / 16 → 1 ≤ size → place + size ≤ 16 * length tags → part ≡ replicate n false → (k : ℕ)
+    → get_or (take first tags ++ (part ++ drop n (drop first tags))) k false ≡ (get_or tags k false && not (touches (ram_base + place) size (ram_base + 16 * k)))
+granules_cleared tags part place size first n begin end some room e k =
+    let len : length (replicate n false) ≡ n = length-replicate n false in
+    let shape : take first tags ++ (part ++ drop n (drop first tags)) ≡ replaced tags first (replicate n false) =
+    ap (λ xs. take first tags ++ (xs ++ drop n (drop first tags))) e ∙ middle tags (replicate n false) first n len in
+    let fits : first + length (replicate n false) ≤ length tags = omega arith in
+    ap (λ xs. get_or xs k false) shape
+    ∙ ⊎_elim (λ below.
+    let apart : ram_base + 16 * k + 16 ≤ ram_base + place = omega arith in
+    element-kept tags first (replicate n false) fits k false (inl below)
+    ∙ and_not_false (get_or tags k false) (touches (ram_base + place) size (ram_base + 16 * k)) (and_right _ _ (and_right _ _ (le-ltb _ _ apart)))) (λ above. ⊎_elim (λ inside.
+    let last : ram_base + 16 * k < ram_base + place + size = omega arith in
+    let start : ram_base + place < ram_base + 16 * k + 16 = omega arith in
+    element-new tags first (replicate n false) fits k false above (omega arith)
+    ∙ get_or-replicate n (k - first) false false (omega arith)
+    ∙ and_not_true (get_or tags k false) (touches (ram_base + place) size (ram_base + 16 * k)) (and_from _ _ (lt-ltb _ _ some) (and_from _ _ (lt-ltb _ _ last) (lt-ltb _ _ start)))) (λ past.
+    let apart : ram_base + place + size ≤ ram_base + 16 * k = omega arith in
+    element-kept tags first (replicate n false) fits k false (inr (omega arith))
+    ∙ and_not_false (get_or tags k false) (touches (ram_base + place) size (ram_base + 16 * k)) (and_right _ _ (and_left _ _ (le-ltb _ _ apart)))) (cases_lt k (first + n))) (cases_lt k first)
+
+-- where there is no byte, no granule is touched
+pub none_cleared : (tags : List Bool) (address size k : ℕ) → size ≤ 0 → get_or tags k false ≡ (get_or tags k false && not (touches address size (ram_base + 16 * k)))
+none_cleared tags address size k none = and_not_false (get_or tags k false) (touches address size (ram_base + 16 * k)) (and_left _ _ (le-ltb _ _ none))

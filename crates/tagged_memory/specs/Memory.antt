@@ -54,7 +54,7 @@ replaced_at m address new = take (address - ram_base) m.bytes ++ new ++ drop (ad
 
 -- some of the `size` bytes from an address lies in the granule
 abbrev pub touches : ℕ → ℕ → ℕ → Bool
-touches address size granule = nat_lt granule (address + size) && nat_lt address (granule + 16)
+touches address size granule = nat_lt 0 size && (nat_lt granule (address + size) && nat_lt address (granule + 16))
 
 -- A write of data changes its bytes and takes the tag of each granule that it touches, and nothing else.
 unfoldable pub data_written : Memory → ℕ → List ℕ → Memory

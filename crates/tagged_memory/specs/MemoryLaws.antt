@@ -6,7 +6,7 @@ use Rattle.std.specs.Cmp.{nat_cmp_total, unsigned_tied}
 use Rattle.std.specs.FinSet as set
 use Rattle.std.specs.FinSet.{nat_cmp-IsAntisymmetric}
 use Rattle.tagged_memory.specs.Memory.{Memory, ram_base, is_in_ram, is_tagged, word_at, touches, data_written, capability_written, IsMemory}
-use Rattle.tagged_memory.specs.Replaced.{replaced, length-same, element-kept, element-new, part-kept, part-new, low_first-lt}
+use Rattle.tagged_memory.specs.Replaced.{replaced, length-same, element-kept, element-new, part-kept, part-untouched, part-new, low_first-lt}
 use Rattle.cap_format.specs.Word.{memory_bytes, word_of_memory, null_pattern}
 use Rattle.cap_format.specs.WordLaws.{word_of_memory-memory_bytes}
 
@@ -61,11 +61,14 @@ word_at-data_written m address new sound e g tagged =
     let place = in_ram m address (length new) e in
     let both = and_parts _ _ (sym (tags-data_written m address new g) ∙ tagged) in
     let granule = in_ram m g 16 (sound.granules_in_ram g both.0) in
+    ⊎_elim (λ empty. ap word_of_memory (part-untouched m.bytes (address - ram_base) new place.1 (g - ram_base) 16 granule.1 (let none : length new ≤ 0 = ltb-false _ _ empty in none)))
+    (λ apart.
     let far : (g - ram_base + 16 ≤ address - ram_base) ⊎ (address - ram_base + length new ≤ g - ram_base) =
-    ⊎_elim (λ after. inr (let h : address + length new ≤ g = ltb-false _ _ after in omega arith)) (λ before. inl (let h : g + 16 ≤ address = ltb-false _ _ before in omega arith)) (and_cases _ _ (not-true _ both.1)) in
-    ap word_of_memory (part-kept m.bytes (address - ram_base) new place.1 (g - ram_base) 16 granule.1 far)
+    ⊎_elim (λ after. inr (let h : address + length new ≤ g = ltb-false _ _ after in omega arith)) (λ before. inl (let h : g + 16 ≤ address = ltb-false _ _ before in omega arith)) (and_cases _ _ apart) in
+    ap word_of_memory (part-kept m.bytes (address - ram_base) new place.1 (g - ram_base) 16 granule.1 far)) (and_cases _ _ (not-true _ both.1))
 
-bytes_replaced : (old new : List ℕ) (place : ℕ) → place + length new ≤ length old → ((k : ℕ) → slice_index old k < 256) → ((k : ℕ) → slice_index new k < 256) → (k : ℕ)
+-- bytes stay bytes where others replace some of them
+pub bytes_replaced : (old new : List ℕ) (place : ℕ) → place + length new ≤ length old → ((k : ℕ) → slice_index old k < 256) → ((k : ℕ) → slice_index new k < 256) → (k : ℕ)
     → slice_index (replaced old place new) k < 256
 bytes_replaced old new place fits was is k =
     ⊎_elim (λ below. let e = element-kept old place new fits k 0 (inl below) in omega (arith, was k))

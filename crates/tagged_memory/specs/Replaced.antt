@@ -2,8 +2,9 @@
 use Rattle.std.specs.Prelude.{zero, suc, ◌/◌, ◌^◌, slice_index}
 use Rattle.std.specs.Int.{bytes_low_first}
 use Rattle.std.proofs.lemmas.Nat.{mod_below}
+use Rattle.std.proofs.lemmas.Bool.{cases_lt}
 use Rattle.std.specs.Prelude.{◌≡◌, ℕ, ◌+◌, ◌-◌, ◌<◌, ◌≤◌, List, ◌++◌, take, drop, length, refl}
-use Rattle.std.proofs.Common.{get_or, sym, ap, ◌∙◌, arith, inl, inr, ◌⊎◌}
+use Rattle.std.proofs.Common.{get_or, sym, ap, ◌∙◌, arith, inl, inr, ◌⊎◌, ⊎_elim}
 use Rattle.std.proofs.lemmas.List.{append_assoc, length-append, length-take-le, length-drop, get_or_append_left, get_or-append_right, get_or-take, get_or-drop, same_lists, take_at, drop_at}
 
 -- the list with new elements from a place on
@@ -73,6 +74,13 @@ part-kept old place new fits q n h far =
     get_or-part (replaced old place new) q n k d (omega arith)
     ∙ element-kept old place new fits (q + k) d (apart q n place (length new) k far (omega arith))
     ∙ sym (get_or-part old q n k d (omega arith)))
+
+-- where nothing is new, every part stays
+pub part-untouched : {X : Type 0} (old : List X) (place : ℕ) (new : List X) → place + length new ≤ length old → (q n : ℕ) → q + n ≤ length old → length new ≤ 0
+    → take n (drop q (replaced old place new)) ≡ take n (drop q old)
+part-untouched old place new fits q n h none =
+    ap (λ xs. take n (drop q xs)) (same_lists (replaced old place new) old (length-same old place new fits) (λ k d below.
+    element-kept old place new fits k d (⊎_elim (λ before. inl before) (λ past. inr (omega arith)) (cases_lt k place))))
 
 -- the part that is replaced is what is new
 pub part-new : {X : Type 0} (old : List X) (place : ℕ) (new : List X) → place + length new ≤ length old → take (length new) (drop place (replaced old place new)) ≡ new

@@ -1,4 +1,6 @@
-ghost use Rattle.std.specs.Prelude.{◌≡◌, ◌≤◌, ◌++◌, drop, take, length};
+ghost use Rattle.std.specs.Prelude.{◌≡◌, ℕ, ◌+◌, ◌*◌, ◌^◌, ◌<◌, ◌≤◌, ◌++◌, ◌&&◌, not, false, drop, take, length, slice_index_or};
+ghost use Rattle.tagged_memory.specs.Memory.{ram_base, touches};
+ghost use Rattle.tagged_memory.specs.Replaced.{replaced};
 ghost use Rattle.byteorder.specs.Endian.{little_bytes, little_number};
 ghost use Rattle.cap_format.specs.Word.{memory_bytes, word_of_memory};
 ghost use Rattle.tagged_memory.specs.Size.{bytes_of};
@@ -54,4 +56,28 @@ pub fn write_word(bytes: &mut [u8], word: CapWord)
     ensures { bytes.new ≡ memory_bytes word ++ drop 16 bytes.old }
 {
     bytes[..16].copy_from_slice(&word.to_memory());
+}
+
+/// Writes bytes over those from a place on.
+pub fn write_bytes(bytes: &mut [u8], place: usize, contents: &[u8])
+    requires { place + length contents.now ≤ length bytes.old }
+    ensures { bytes.new ≡ replaced bytes.old place contents.now }
+{
+    bytes[place..place + contents.len()].copy_from_slice(contents);
+}
+
+/// Takes the tag of each granule that some of `size` bytes from a place lie in.
+pub fn clear_granules(tags: &mut [bool], place: usize, size: usize)
+    requires room { place + size ≤ 16 * length tags.old }
+    requires small { length tags.old < 2 ^ 32 }
+    ensures len { length tags.new ≡ length tags.old }
+    ensures cleared { (k : ℕ) → slice_index_or tags.new k false
+        ≡ (slice_index_or tags.old k false && not (touches (ram_base + place) size (ram_base + 16 * k))) }
+{
+    if size == 0 {
+        return;
+    }
+    let first = place / 16;
+    let end = (place + size).div_ceil(16);
+    tags[first..end].fill(false);
 }

@@ -83,3 +83,15 @@ pub fn granules_below(count: usize, address: u64) -> usize
     let below = address.saturating_sub(RAM_BASE);
     below.div_ceil(16).min(count as u64) as usize
 }
+
+/// The place of `size` bytes that may be any number: M3 outside RAM.
+pub fn fill_place(bytes: &[u8], address: u64, size: usize) -> Result<usize, MemoryFault>
+    requires { length bytes.now < 2 ^ 32 }
+    ensures value { result ≡ unless (fill_fault (memory_of bytes.now []) address size) (address - ram_base) }
+    ensures within { IfOk result (IsPlace address size (length bytes.now)) }
+{
+    if size > bytes.len() {
+        return Err(MemoryFault::M3);
+    }
+    ram_place(bytes, address, size)
+}

@@ -166,3 +166,34 @@ fn sizes_are_powers_of_two(rt: HostRuntime) {
     assert_eq!(rt; Size::Word.bytes(), 4);
     assert_eq!(rt; Size::Double.bytes(), 8);
 }
+
+#[test]
+fn filling_takes_the_tags_it_touches(rt: HostRuntime) -> Result<(), Fail> {
+    let mut memory = Memory::new(rt.alloc(), 1)?;
+    for address in [
+        0x8000_0000,
+        0x8000_0010,
+        0x8000_0020,
+        0x8000_0030,
+        0x8000_0040,
+    ] {
+        memory.write_cap(address, CapWord::ROOT, true)?;
+    }
+    // From the last byte of one granule to the first byte of the next but one.
+    memory.fill(0x8000_001f, &[7; 18])?;
+    let left: Vec<u64> = memory.tagged(0, u64::MAX).collect(rt.alloc())?;
+    assert_eq!(rt; left.as_slice(), [0x8000_0000, 0x8000_0040].as_slice());
+    assert_eq!(rt; memory.read(0x8000_001e, Size::Byte), Ok(0xff));
+    assert_eq!(rt; memory.read(0x8000_001f, Size::Byte), Ok(7));
+    assert_eq!(rt; memory.read(0x8000_0030, Size::Half), Ok(7));
+
+    // No byte touches no granule, and there is no place past the end.
+    memory.fill(0x8000_0048, &[])?;
+    assert_eq!(rt; memory.read_cap(0x8000_0040), Ok((CapWord::ROOT, true)));
+    assert_eq!(rt; memory.fill(0x8000_1000, &[]), Ok(()));
+    assert_eq!(rt; memory.fill(0x8000_1001, &[]), Err(MemoryFault::M3));
+    assert_eq!(rt; memory.fill(0x8000_0fff, &[1, 2]), Err(MemoryFault::M3));
+    assert_eq!(rt; memory.fill(0x7fff_ffff, &[1, 2]), Err(MemoryFault::M3));
+    assert_eq!(rt; memory.read(0x8000_0fff, Size::Byte), Ok(0));
+    Ok(())
+}

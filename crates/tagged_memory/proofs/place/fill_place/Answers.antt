@@ -1,0 +1,16 @@
+use Rattle.std.proofs.Common.{◌≡◌, ◌-◌, [], Some, ap, sym, arith, inl, inr}
+use Rattle.std.proofs.lemmas.Bool.{cases_lt}
+use Rattle.tagged_memory.specs.declared.fault.MemoryFault.TheVariants.{M3}
+use Rattle.tagged_memory.specs.Memory.{ram_base, unless, fill_fault}
+use Rattle.tagged_memory.specs.Layout.{memory_of}
+use Rattle.tagged_memory.proofs.Faults.{fill_fault-below, fill_fault-past}
+use Rattle.tagged_memory.proofs.place.fill_place.Goals as goal
+
+pub returns-then-size-bytes-clause-value : goal.returns-then-size-bytes-clause-value
+returns-then-size-bytes-clause-value c =
+    let m = memory_of c.args.bytes.now [] in
+    let refused : fill_fault m c.args.address c.args.size ≡ Some M3 = elim (cases_lt c.args.address ram_base) [
+      | inl below ↦ fill_fault-below m c.args.address c.args.size below
+      | inr above ↦ fill_fault-past m c.args.address c.args.size (omega arith)
+    ] in
+    sym (ap (λ f. unless f (c.args.address - ram_base)) refused)
