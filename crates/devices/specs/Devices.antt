@@ -36,6 +36,12 @@ unfoldable pub effect_of : ℕ → ℕ → Effect
 effect_of address value =
     if address == halt then effect.Halt value else (if address == transmit then effect.Byte (value % 256) else effect.None)
 
+-- the byte that is sent
+abbrev pub byte_sent : Effect → Option ℕ
+byte_sent (effect.Byte b) = Some b
+byte_sent (effect.Halt n) = None
+byte_sent effect.None = None
+
 -- the devices after it
 unfoldable pub written : Devices → ℕ → ℕ → Devices
 written d address value = record d { halted = if address == halt then Some value else d.halted }

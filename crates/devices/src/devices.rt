@@ -1,6 +1,6 @@
 ghost use Rattle.std.specs.Prelude.{◌≡◌, ◌↔◌, IsTrue, OnErr, OnOk, None};
 ghost use Rattle.tagged_memory.specs.Size.{bytes_of};
-ghost use Rattle.devices.specs.Devices.{idle, read_fault, write_fault, effect_of, written, unless};
+ghost use Rattle.devices.specs.Devices.{idle, read_fault, write_fault, effect_of, byte_sent, written, unless};
 
 use crate::fault::DeviceFault;
 use std::marker::Model;
@@ -64,6 +64,18 @@ impl Devices {
         match (address, size) {
             (HALT | TRANSMIT, Size::Double) | (TRANSMIT, Size::Byte) => true,
             _ => false,
+        }
+    }
+
+    /// The byte that a store of a number at the address sends, if the register there takes it.
+    #[inline]
+    #[tactic(auto, unfolding(crate::specs::Devices::effect_of))]
+    pub fn sends(address: u64, value: u64) -> Option<u8>
+        ensures { result ≡ byte_sent (effect_of address value) }
+    {
+        match address {
+            TRANSMIT => Some((value % 256) as u8),
+            _ => None,
         }
     }
 

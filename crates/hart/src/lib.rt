@@ -7,6 +7,7 @@ mod event;
 mod hart;
 mod plan;
 mod registers;
+mod step;
 mod values;
 
 pub use event::{Event, Out};

@@ -13,7 +13,8 @@ use cap_format::CapWord;
 #[inline]
 pub fn read_number(bytes: &[u8], size: Size) -> u64
     requires { bytes_of size ≤ length bytes.now }
-    ensures { result ≡ little_number (bytes_of size) bytes.now }
+    ensures value { result ≡ little_number (bytes_of size) bytes.now }
+    ensures fits { result < 256 ^ bytes_of size }
 {
     match size {
         Size::Byte => u64::from(bytes[0]),
