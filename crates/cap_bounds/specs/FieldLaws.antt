@@ -1,9 +1,9 @@
 -- A capability's word with another type, other permissions or another flag is the word of the capability with that field.
 use Rattle.std.proofs.Common.{◌≡◌, ℕ, ◌-◌, ◌^◌, ◌<◌, Bool, refl, sym, ap, ◌∙◌, arith}
-use Rattle.cap_format.specs.Word.{with_field, bit}
+use Rattle.cap_format.specs.Word.{with_field, with_address_of, bit}
 use Rattle.cap_bounds.specs.Record.{Record, IsWellFormed, has_exponent, exponent_for, encoded_b, encoded_t, encoded_at, encoded}
 use Rattle.cap_bounds.specs.EncodingLaws.{encodable, encoded_t-below, encoded_b-below}
-use Rattle.cap_bounds.specs.WordLaws.{joined, bit-small}
+use Rattle.cap_bounds.specs.WordLaws.{joined, bit-small, with_address_of-joined}
 
 -- the fields of a joined word replaced
 module _ (perms : ℕ) (flag : Bool) (otype : ℕ) (ie : Bool) (t b address : ℕ) (otype_fits : otype < 2 ^ 18) (t_fits : t < 2 ^ 12) (b_fits : b < 2 ^ 14) (address_fits : address < 2 ^ 64) where
@@ -29,6 +29,10 @@ module _ (r : Record) (well : IsWellFormed r) where
   pub otype-encoded : (v : ℕ) → with_field (encoded r) 91 18 v ≡ encoded (record r { otype = v })
   unfolding encoded encoded_at joined
   otype-encoded v = otype-joined r.perms r.flag r.otype _ _ _ r.address well.otype_fits t_fits b_fits well.address_fits v
+
+  pub address-encoded : (v : ℕ) → with_address_of (encoded r) v ≡ encoded (record r { address = v })
+  unfolding encoded encoded_at joined
+  address-encoded v = with_address_of-joined r.perms r.flag r.otype _ _ _ r.address well.otype_fits t_fits b_fits well.address_fits v
 
   pub flag-encoded : (v : Bool) → with_field (encoded r) 109 1 (bit v) ≡ encoded (record r { flag = v })
   unfolding encoded encoded_at joined

@@ -18,3 +18,5 @@ pub mod WordLaws
 pub mod EncodingLaws
 pub mod RecordLaws
 pub mod FieldLaws
+pub mod Root
+pub mod RootLaws

@@ -1,1 +1,2 @@
 pub mod Fetch
+pub mod Loading

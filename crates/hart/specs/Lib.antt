@@ -4,3 +4,5 @@ pub mod Effect
 pub mod Step
 pub mod Event
 pub mod StateLaws
+pub mod Opening
+pub mod OpeningLaws

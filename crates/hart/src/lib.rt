@@ -4,7 +4,9 @@
 mod apply;
 mod effect;
 mod event;
+mod getters;
 mod hart;
+mod opening;
 mod plan;
 mod registers;
 mod step;

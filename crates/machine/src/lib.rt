@@ -1,13 +1,11 @@
-// A library with one function.
+//! The machine: a hart that meets events.
 #![tactic(auto)]
 
-ghost use Rattle.std.specs.Prelude.{◌≡◌};
-ghost use Rattle.machine.specs.Echo.{echo_of};
+mod end;
+mod fault;
+mod machine;
 
-// The `ensures` clause is the contract: what `echo` returns is `echo_of` of its argument, a definition
-// in `specs/Echo.antt`, which a caller's clause can cite too.
-pub fn echo(x: usize) -> usize
-    ensures { result ≡ echo_of x }
-{
-    x
-}
+pub use end::End;
+pub use fault::MachineFault;
+pub use hart::{Event, Out};
+pub use machine::Machine;

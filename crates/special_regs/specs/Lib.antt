@@ -1,3 +1,4 @@
 pub mod Csrs
 pub mod Scrs
 pub mod Traps
+pub mod CsrValues

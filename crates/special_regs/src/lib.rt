@@ -2,9 +2,11 @@
 #![tactic(auto)]
 
 mod csrs;
+mod reads;
 mod scrs;
 mod traps;
 
 pub use csrs::Csrs;
+pub use reads::csr_value;
 pub use scrs::Scrs;
 pub use traps::{enter_trap, target};

@@ -1,5 +1,5 @@
-ghost use Rattle.std.specs.Prelude.{◌≡◌};
-ghost use Rattle.special_regs.specs.Scrs.{IsAligned};
+ghost use Rattle.std.specs.Prelude.{◌≡◌, option_map};
+ghost use Rattle.special_regs.specs.Scrs.{IsAligned, scr_value};
 
 use cap_bounds::CapRep;
 use std::marker::Model;
@@ -96,6 +96,23 @@ impl<C: CapRep> Scrs<C> {
         ensures { C.value result ≡ self.now.mepcc }
     {
         self.mepcc
+    }
+
+    /// Special register `number`: PCC 0, DDC 1, MTCC 28, MTDC 29, MScratchC 30, MEPCC 31; `None` where there is no such register.
+    #[tactic(auto, unfolding(crate::specs::Scrs::scr_value))]
+    pub fn get(&self, number: u8) -> Option<C>
+        ensures value { option_map C.value result ≡ scr_value self.now number }
+        ensures aligned { IsAligned self.now.pcc }
+    {
+        match number {
+            0 => Some(self.pcc),
+            1 => Some(self.ddc),
+            28 => Some(self.mtcc),
+            29 => Some(self.mtdc),
+            30 => Some(self.mscratchc),
+            31 => Some(self.mepcc),
+            _ => None,
+        }
     }
 
     /// Replaces the program counter capability by one whose address is a multiple of 4.

@@ -1,0 +1,40 @@
+-- The state in which an image is opened.
+use Rattle.std.specs.Prelude.{ℕ, ◌*◌, Bool, false, List, [], ◌∷◌}
+use Rattle.cap_bounds.specs.Root.{root}
+use Rattle.tagged_memory.specs.Memory.{Memory, zeroed, data_written}
+use Rattle.devices.specs.Devices.{idle}
+use Rattle.special_regs.specs.Csrs.{zero_csrs}
+use Rattle.special_regs.specs.Scrs.{Scrs}
+use Rattle.image.specs.Image.{Image, Section}
+use Rattle.hart.specs.Registers.{null, null_registers}
+use Rattle.hart.specs.State.{State}
+
+-- memory with sections written into it, one after the other
+abbrev pub loaded : List Section → Memory → Memory
+loaded [] m = m
+loaded (s ∷ ss) m = loaded ss (data_written m s.address s.bytes)
+
+-- RAM holds the sections and zeros, and no tag
+abbrev pub opening_memory : Image → Memory
+opening_memory i = loaded i.sections (zeroed i.pages)
+
+-- PCC is root at the entry with the mode as flag; DDC, MTCC and MEPCC are root at 0; MTDC and MScratchC are null
+abbrev pub opening_scrs : Image → Scrs
+opening_scrs i = record {
+  pcc = root i.entry i.mode;
+  ddc = root 0 false;
+  mtcc = root 0 false;
+  mtdc = null;
+  mscratchc = null;
+  mepcc = root 0 false;
+}
+
+-- The registers are null, the counters and the other control registers 0, and the devices idle.
+abbrev pub opening : Image → State
+opening i = record {
+  registers = null_registers;
+  scrs = opening_scrs i;
+  csrs = zero_csrs;
+  memory = opening_memory i;
+  devices = idle;
+}

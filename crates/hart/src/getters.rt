@@ -1,0 +1,58 @@
+//! What a caller may see of a hart.
+
+ghost use Rattle.std.specs.Prelude.{◌≡◌, ◌<◌, IsSome, Some};
+ghost use Rattle.cap_bounds.specs.CapValue.{IsSound};
+ghost use Rattle.tagged_memory.specs.Memory.{IsMemory};
+ghost use Rattle.special_regs.specs.Scrs.{IsAligned, scr_value};
+ghost use Rattle.special_regs.specs.CsrValues.{csr_value};
+ghost use Rattle.hart.specs.Registers.{register};
+ghost use Rattle.hart.specs.State.{HoldsCapabilities};
+
+use cap_bounds::CapRep;
+use tagged_memory::Memory;
+
+use crate::hart::Hart;
+
+impl<C: CapRep> Hart<C> {
+    /// General register `n`, below 32.
+    pub fn reg(&self, n: u8) -> C
+        requires { n < 32 }
+        ensures value { C.value result ≡ register self.now.registers n }
+        ensures well_formed { IsSound (C.value result) }
+    {
+        self.registers.get(n)
+    }
+
+    /// Special capability register `n`: PCC 0, DDC 1, MTCC 28, MTDC 29, MScratchC 30, MEPCC 31.
+    pub fn scr(&self, n: u8) -> C
+        requires { IsSome (scr_value self.now.scrs n) }
+        ensures value { scr_value self.now.scrs n ≡ Some (C.value result) }
+        ensures well_formed { IsSound (C.value result) }
+        ensures aligned { IsAligned self.now.scrs.pcc }
+    {
+        self.scrs.get(n).unwrap()
+    }
+
+    /// What a read of control and status register `n` gives; it is to be one that there is.
+    pub fn csr(&self, n: u16) -> u64
+        requires { IsSome (csr_value self.now.csrs self.now.scrs 0 n) }
+        ensures { csr_value self.now.csrs self.now.scrs 0 n ≡ Some result }
+    {
+        special_regs::csr_value(&self.csrs, &self.scrs, 0, n).unwrap()
+    }
+
+    /// RAM and its tags. The word of each tagged granule is a capability's.
+    pub fn memory(&self) -> &Memory
+        ensures value { result.now ≡ self.now.memory }
+        ensures well_formed { HoldsCapabilities self.now.memory }
+    {
+        &self.memory
+    }
+
+    /// The number with which the machine was halted, if it was.
+    pub fn halted(&self) -> Option<u64>
+        ensures { result ≡ self.now.devices.halted }
+    {
+        self.devices.halted()
+    }
+}

@@ -1,0 +1,140 @@
+ghost use Rattle.std.specs.Prelude.{◌≡◌, ◌+◌, ◌<◌, ◌≤◌, ◌++◌, length, vec_len, vec_capacity, IsOk, IsSome, IfOk, IfErr, OnOk, OnErr, Some, option_to_list};
+ghost use Rattle.cap_bounds.specs.CapValue.{IsSound};
+ghost use Rattle.special_regs.specs.Scrs.{IsAligned, scr_value};
+ghost use Rattle.special_regs.specs.CsrValues.{csr_value};
+ghost use Rattle.hart.specs.Registers.{register};
+ghost use Rattle.hart.specs.State.{HoldsCapabilities};
+ghost use Rattle.hart.specs.Event.{after, sent};
+ghost use Rattle.hart.specs.Opening.{opening};
+ghost use Rattle.machine.specs.Run.{run_after, run_sent, end_of};
+
+use std::alloc::Global;
+use std::marker::Model;
+
+use cap_bounds::CapRep;
+use hart::{Event, Hart, Out};
+use image::Image;
+use tagged_memory::Memory;
+
+use crate::end::End;
+use crate::fault::MachineFault;
+
+/// A machine that meets events, one at a time or in runs.
+#[derive(Drop)]
+pub struct Machine<C: CapRep> {
+    hart: Hart<C>,
+}
+
+impl<C: CapRep> Model for Machine<C> {
+    ghost use Rattle.std.specs.Coded.{codes};
+    ghost use Rattle.tagged_memory.specs.Layout.{memory_code};
+    ghost use Rattle.hart.specs.State.{State};
+
+    ghost Value = { State };
+
+    ghost coded = { Prim.hlevel (codes, memory_code) };
+
+    ghost view = { λ m. m.hart };
+}
+
+/// Puts the byte that was sent, if one was, behind the others, for which there is room.
+fn emit(out: &mut Vec<u8>, byte: Option<u8>)
+    requires { vec_len out.old < vec_capacity out.old }
+    ensures items { out.new.items ≡ out.old.items ++ option_to_list byte }
+    ensures room { vec_capacity out.new ≡ vec_capacity out.old }
+{
+    if let Some(byte) = byte {
+        out.push(byte).unwrap();
+    }
+}
+
+impl<C: CapRep> Machine<C> {
+    /// A machine in the opening state of an image: M2 where there is no memory for it, and no other fault.
+    pub fn new(alloc: Global, image: &Image) -> Result<Self, MachineFault>
+        ensures ok { IfOk result (λ machine. machine ≡ opening image.now) }
+        ensures err { IfErr result (λ fault. fault ≡ MachineFault.M2) }
+    {
+        match Hart::new(alloc, image) {
+            Ok(hart) => Ok(Machine { hart }),
+            Err(_) => Err(MachineFault::M2),
+        }
+    }
+
+    /// Meets one event, and answers the byte that is sent.
+    #[inline]
+    pub fn event(&mut self, event: Event) -> Out
+        ensures state { self.new ≡ after event self.old }
+        ensures byte { result.byte ≡ sent event self.old }
+    {
+        self.hart.event(event)
+    }
+
+    /// Meets events in order and appends the sent bytes to `out`.
+    ///
+    /// Room for one byte an event is made before the first event. M5 is for want of it, and then neither machine nor bytes
+    /// are changed; where `out` has that room already, nothing is asked for and M5 can't come.
+    pub fn run(&mut self, events: &[Event], out: &mut Vec<u8>) -> Result<End, MachineFault>
+        ensures state { OnOk result (self.new ≡ run_after events.now self.old) }
+        ensures bytes { OnOk result (out.new.items ≡ out.old.items ++ run_sent events.now self.old) }
+        ensures end { IfOk result (λ end. end ≡ end_of self.new) }
+
+        ensures fault { IfErr result (λ fault. fault ≡ MachineFault.M5) }
+        ensures same_state { OnErr result (self.new ≡ self.old) }
+        ensures same_bytes { OnErr result (out.new.items ≡ out.old.items) }
+        ensures room { vec_len out.old + length events.now ≤ vec_capacity out.old → IsOk result }
+    {
+        if out.reserve(events.len()).is_err() {
+            return Err(MachineFault::M5);
+        }
+        for event in events {
+            let sent = self.event(*event);
+            emit(out, sent.byte);
+        }
+        Ok(match self.halted() {
+            Some(number) => End::Halted(number),
+            None => End::Running,
+        })
+    }
+
+    /// General register `n`, below 32.
+    pub fn reg(&self, n: u8) -> C
+        requires { n < 32 }
+        ensures value { C.value result ≡ register self.now.registers n }
+        ensures well_formed { IsSound (C.value result) }
+    {
+        self.hart.reg(n)
+    }
+
+    /// Special capability register `n`: PCC 0, DDC 1, MTCC 28, MTDC 29, MScratchC 30, MEPCC 31.
+    pub fn scr(&self, n: u8) -> C
+        requires { IsSome (scr_value self.now.scrs n) }
+        ensures value { scr_value self.now.scrs n ≡ Some (C.value result) }
+        ensures well_formed { IsSound (C.value result) }
+        ensures aligned { IsAligned self.now.scrs.pcc }
+    {
+        self.hart.scr(n)
+    }
+
+    /// What a read of control and status register `n` gives; it is to be one that there is.
+    pub fn csr(&self, n: u16) -> u64
+        requires { IsSome (csr_value self.now.csrs self.now.scrs 0 n) }
+        ensures { csr_value self.now.csrs self.now.scrs 0 n ≡ Some result }
+    {
+        self.hart.csr(n)
+    }
+
+    /// RAM and its tags. The word of each tagged granule is a capability's.
+    pub fn memory(&self) -> &Memory
+        ensures value { result.now ≡ self.now.memory }
+        ensures well_formed { HoldsCapabilities self.now.memory }
+    {
+        self.hart.memory()
+    }
+
+    /// The number with which the machine was halted, if it was.
+    pub fn halted(&self) -> Option<u64>
+        ensures { result ≡ self.now.devices.halted }
+    {
+        self.hart.halted()
+    }
+}
