@@ -8,10 +8,9 @@ ghost use Rattle.special_regs.specs.CsrValues.{csr_value};
 ghost use Rattle.hart.specs.Registers.{register};
 ghost use Rattle.hart.specs.State.{HoldsCapabilities};
 
+use crate::hart::Hart;
 use cap_bounds::CapRep;
 use tagged_memory::Memory;
-
-use crate::hart::Hart;
 
 impl<C: CapRep> Hart<C> {
     /// General register `n`, below 32.

@@ -3,17 +3,15 @@
 ghost use Rattle.std.specs.Prelude.{◌≡◌, IfOk};
 ghost use Rattle.hart.specs.Opening.{opening, opening_memory};
 
-use std::alloc::{AllocError, Global};
-
+use crate::hart::Hart;
+use crate::registers::Registers;
+use crate::values::{integer_value, root_value};
 use cap_bounds::CapRep;
 use devices::Devices;
 use image::Image;
 use special_regs::{Csrs, Scrs};
+use std::alloc::{AllocError, Global};
 use tagged_memory::Memory;
-
-use crate::hart::Hart;
-use crate::registers::Registers;
-use crate::values::{integer_value, root_value};
 
 /// RAM with an image's sections in it, and zeros.
 fn opened_memory(alloc: Global, image: &Image) -> Result<Memory, AllocError>
@@ -37,7 +35,11 @@ impl<C: CapRep> Hart<C> {
         let null = integer_value(0);
         Ok(Hart {
             registers: Registers::new(null),
-            scrs: Scrs::new(root_value(image.entry(), image.mode()), root_value(0, false), null),
+            scrs: Scrs::new(
+                root_value(image.entry(), image.mode()),
+                root_value(0, false),
+                null,
+            ),
             csrs: Csrs::new(),
             memory,
             devices: Devices::new(),

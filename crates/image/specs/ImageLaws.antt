@@ -16,12 +16,12 @@ AllInRam-sections pages free (s ∷ ss) none =
     elim (ltb s.address ram_base) as (λ low. ltb s.address ram_base ≡ low → cond (low || ltb (ram_end pages) (s.address + length s.bytes)) (Some L6) (cond (ltb s.address free) (Some L7) (sections_fault pages (s.address + length s.bytes) ss)) ≡ None → AllInRam pages (s ∷ ss)) [
       | true ↦ λ _ e. cc
       | false ↦ λ low. elim (ltb (ram_end pages) (s.address + length s.bytes)) as (λ high. ltb (ram_end pages) (s.address + length s.bytes) ≡ high → cond high (Some L6) (cond (ltb s.address free) (Some L7) (sections_fault pages (s.address + length s.bytes) ss)) ≡ None → AllInRam pages (s ∷ ss)) [
-          | true ↦ λ _ e. cc
-          | false ↦ λ high. elim (ltb s.address free) as (λ before. cond before (Some L7) (sections_fault pages (s.address + length s.bytes) ss) ≡ None → AllInRam pages (s ∷ ss)) [
-              | true ↦ λ e. cc
-              | false ↦ λ e. ((ltb-false _ _ low, ltb-false _ _ high), AllInRam-sections pages (s.address + length s.bytes) ss e)
-            ]
-        ] refl
+        | true ↦ λ _ e. cc
+        | false ↦ λ high. elim (ltb s.address free) as (λ before. cond before (Some L7) (sections_fault pages (s.address + length s.bytes) ss) ≡ None → AllInRam pages (s ∷ ss)) [
+          | true ↦ λ e. cc
+          | false ↦ λ e. ((ltb-false _ _ low, ltb-false _ _ high), AllInRam-sections pages (s.address + length s.bytes) ss e)
+        ]
+      ] refl
     ] refl none
 
 pub AllInRam-image : (i : Image) → IsImage i → AllInRam i.pages i.sections
@@ -30,9 +30,9 @@ AllInRam-image i valid =
     elim (is_good_header i.pages i.entry (mode_number i.mode)) as (λ good. cond (not good) (Some L4) (cond (ltb 64 (length i.sections)) (Some L5) (sections_fault i.pages 0 i.sections)) ≡ None → AllInRam i.pages i.sections) [
       | false ↦ λ e. cc
       | true ↦ elim (ltb 64 (length i.sections)) as (λ many. cond many (Some L5) (sections_fault i.pages 0 i.sections) ≡ None → AllInRam i.pages i.sections) [
-          | true ↦ λ e. cc
-          | false ↦ λ e. AllInRam-sections i.pages 0 i.sections e
-        ]
+        | true ↦ λ e. cc
+        | false ↦ λ e. AllInRam-sections i.pages 0 i.sections e
+      ]
     ] valid
 
 -- its header is good

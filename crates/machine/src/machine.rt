@@ -8,16 +8,14 @@ ghost use Rattle.hart.specs.Event.{after, sent};
 ghost use Rattle.hart.specs.Opening.{opening};
 ghost use Rattle.machine.specs.Run.{run_after, run_sent, end_of};
 
-use std::alloc::Global;
-use std::marker::Model;
-
+use crate::end::End;
+use crate::fault::MachineFault;
 use cap_bounds::CapRep;
 use hart::{Event, Hart, Out};
 use image::Image;
+use std::alloc::Global;
+use std::marker::Model;
 use tagged_memory::Memory;
-
-use crate::end::End;
-use crate::fault::MachineFault;
 
 /// A machine that meets events, one at a time or in runs.
 #[derive(Drop)]
@@ -41,7 +39,8 @@ impl<C: CapRep> Model for Machine<C> {
 fn emit(out: &mut Vec<u8>, byte: Option<u8>)
     requires { vec_len out.old < vec_capacity out.old }
     ensures items { out.new.items ≡ out.old.items ++ option_to_list byte }
-    ensures room { vec_capacity out.new ≡ vec_capacity out.old }
+    ensures len { vec_len out.new ≤ vec_len out.old + 1 }
+    ensures room { vec_capacity out.old ≤ vec_capacity out.new }
 {
     if let Some(byte) = byte {
         out.push(byte).unwrap();

@@ -1,10 +1,9 @@
 ghost use Rattle.std.specs.Prelude.{◌≡◌};
 ghost use Rattle.special_regs.specs.CsrValues as spec;
 
-use cap_bounds::CapRep;
-
 use crate::csrs::Csrs;
 use crate::scrs::Scrs;
+use cap_bounds::CapRep;
 
 /// mstatus: MIE at bit 3, MPIE at bit 7, and machine mode in bits 12..11.
 fn mstatus(csrs: &Csrs) -> u64
