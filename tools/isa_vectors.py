@@ -159,6 +159,7 @@ assert known["beq x10, x11, .+2048"] == 0x00B500E3
 assert known["slli x10, x10, 32"] == 0x02051513
 made = [(w, t[0], t[1], *t[3:]) for w, t in zip(words, TEXTS)] + [(f[2], f[0], f[1], *f[3:]) for f in FIELDS]
 assert len({m[1] for m in made}) == 133
+assert all(sum(m[1] == row for m in made) >= 2 for row in {m[1] for m in made} - {"Ecall", "Ebreak", "Mret", "Wfi"})
 assert set(ROWS) <= {m[1] for m in made}
 
 print("//! Words with their rows and operands, made by tools/isa_vectors.py: words of the base instruction set by")

@@ -19,7 +19,7 @@ IsJumpOffset n = (n % 2 ≡ 0) × IsSignedOf 21 n
 abbrev pub IsUpperImmediate : ℕ → Type 0
 IsUpperImmediate n = (n % 2 ^ 12 ≡ 0) × IsSignedOf 32 n
 
--- the registers are these numbers' places, and the immediate lies below a bound
+-- the registers lie below these bounds, and of the immediate a fact holds
 pub record Operands (rd rs1 rs2 : ℕ) (imm : Type 0) (insn : Insn) : Type 0 where
   pub rd_below : insn.rd < rd
   pub rs1_below : insn.rs1 < rs1
