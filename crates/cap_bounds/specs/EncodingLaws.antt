@@ -2,12 +2,12 @@
 use Rattle.std.proofs.Common.{◌≡◌, ℕ, ◌+◌, ◌-◌, ◌*◌, ◌/◌, ◌%◌, ◌^◌, ◌<◌, ◌≤◌, Bool, true, false, ltb, leb, refl, sym, ap, ◌∙◌, inl, inr, arith}
 use Rattle.std.proofs.Math.Nat.{mul-div_left, lt_of_mul-lt-mul_right, le_of_mul-le-mul_right}
 use Rattle.std.proofs.lemmas.Nat.{pow-add, pow_pos}
-use Rattle.std.proofs.lemmas.Bool.{leb-true, leb-false, cases_lt, cases_Bool}
+use Rattle.std.proofs.lemmas.Bool.{leb-true, leb-false, cases_Bool}
 use Rattle.cap_format.specs.Word.{address_of, ie_of, t_field_of, b_field_of, bit}
 use Rattle.cap_bounds.specs.Mantissa.{exponent_of, base_mantissa, low_top_mantissa, top_mantissa, length_mantissa}
 use Rattle.cap_bounds.specs.Window.{decoded_base, base_of_word, top_of_word}
 use Rattle.cap_bounds.specs.Record.{Record, IsWellFormed, has_exponent, exponent_for, alignment_for, encoded_b, encoded_t}
-use Rattle.cap_bounds.specs.ExponentLaws.{exponent_for-is, exponent_for-high, exponent_for-none, exponent_for-holds}
+use Rattle.cap_bounds.specs.ExponentLaws.{exponent_for-high, exponent_for-holds, exponent_for-short, exponent_for-long}
 use Rattle.cap_bounds.specs.MantissaLaws.{length_from_mantissas}
 use Rattle.cap_bounds.specs.BaseLaws.{decoded_top-units}
 use Rattle.cap_bounds.specs.WordLaws.{bit-small}
@@ -26,28 +26,14 @@ pub record IsEncodable (e : ℕ) (ie : Bool) (base top : ℕ) : Type 0 where
   pub short : top / 2 ^ e < base / 2 ^ e + (bit ie + 1) * 4096
 
 -- a multiple of eight units is a whole number of units, in eights
-units : (x u : ℕ) → 0 < u → x % (u * 8) ≡ 0 → (x / u * u ≡ x) × (x / u % 8 ≡ 0)
-units x u positive aligned =
+div-units : (x u : ℕ) → 0 < u → x % (u * 8) ≡ 0 → (x / u * u ≡ x) × (x / u % 8 ≡ 0)
+div-units x u positive aligned =
     let c : ℕ = x / (u * 8) in
     let whole : x ≡ c * 8 * u = omega arith in
     let quotient : x / u ≡ c * 8 = ap (λ n. n / u) whole ∙ mul-div_left (c * 8) positive in
     (rw quotient (sym whole), rw quotient (omega arith))
 
-short-clear : (n : ℕ) → n < 4096 → exponent_for n ≡ 0
-short-clear n small = exponent_for-is n 0 (omega arith) (λ j below. absurd (omega arith)) (λ _. omega arith)
-
--- a length from 4096 on takes all the 13 bits of its exponent
-long-exponent : (n : ℕ) → 4096 ≤ n → 2 ^ (exponent_for n + 12) ≤ n
-long-exponent n large = elim (cases_lt 0 (exponent_for n)) [
-  | inl some ↦
-      let before : exponent_for n - 1 < exponent_for n = omega arith in
-      let same : exponent_for n - 1 + 13 ≡ exponent_for n + 12 = omega arith in
-      rw same at (exponent_for-none n (exponent_for n - 1) before)
-  | inr zero ↦
-      let zero : exponent_for n ≡ 0 = omega arith in
-      rw zero large
-]
-
+-- bounds of fewer than 4096 addresses are encodable without an exponent
 encodable-clear : (base top : ℕ) → base ≤ top → top ≤ 2 ^ 64 → base < 2 ^ 64 → top - base < 4096 → IsEncodable 0 false base top
 encodable-clear base top ordered in_space fits small = record {
   exponent_high = omega arith;
@@ -62,12 +48,14 @@ encodable-clear base top ordered in_space fits small = record {
   short = omega arith;
 }
 
-encodable-internal : (e base top : ℕ) → e ≤ 52 → base ≤ top → top ≤ 2 ^ 64 → base < 2 ^ 64 → base % 2 ^ (e + 3) ≡ 0 → top % 2 ^ (e + 3) ≡ 0 → 2 ^ (e + 12) ≤ top - base → top - base < 2 ^ (e + 13) → IsEncodable e true base top
+-- aligned bounds of a length of 13 bits are encodable with an exponent
+encodable-internal : (e base top : ℕ) → e ≤ 52 → base ≤ top → top ≤ 2 ^ 64 → base < 2 ^ 64 → base % 2 ^ (e + 3) ≡ 0 → top % 2 ^ (e + 3) ≡ 0
+    → 2 ^ (e + 12) ≤ top - base → top - base < 2 ^ (e + 13) → IsEncodable e true base top
 encodable-internal e base top high ordered in_space fits base_aligned top_aligned large small =
     let u : ℕ = 2 ^ e in
     let positive : 0 < 2 ^ e = pow_pos e in
-    let b = units base u positive (rw (pow-add 2 e 3) at base_aligned) in
-    let t = units top u positive (rw (pow-add 2 e 3) at top_aligned) in
+    let b = div-units base u positive (rw (pow-add 2 e 3) at base_aligned) in
+    let t = div-units top u positive (rw (pow-add 2 e 3) at top_aligned) in
     let from : (base / u + 4096) * u ≤ top / u * u = omega (arith, pow-add 2 e 12) in
     let below : top / u * u < (base / u + 8192) * u = omega (arith, pow-add 2 e 13) in
     record {
@@ -94,59 +82,76 @@ encodable r well =
           let ordered = well.ordered in
           let in_space = well.in_space in
           rw long (encodable-internal (exponent_for n) r.base r.top (exponent_for-high n) ordered in_space well.base_fits (rw long at well.base_aligned) (rw long at well.top_aligned)
-          (long-exponent n large) (exponent_for-holds n (omega arith)))
+          (exponent_for-long n large) (exponent_for-holds n (omega arith)))
       | inr short ↦
           let small : r.top - r.base < 4096 = leb-false 4096 n short in
-          rw (short, short-clear n small) (encodable-clear r.base r.top well.ordered well.in_space well.base_fits small)
+          rw (short, exponent_for-short n small) (encodable-clear r.base r.top well.ordered well.in_space well.base_fits small)
     ]
 
--- the exponent of a word with encoded mantissas
-exponent_of-encoded : (word e : ℕ) (ie : Bool) (base top : ℕ) → IsEncodable e ie base top → ie_of word ≡ ie → t_field_of word ≡ encoded_t top e ie → b_field_of word ≡ encoded_b base e ie → exponent_of word ≡ e
+-- a word whose mantissas are those of encodable bounds
+pub record HasMantissas (word e : ℕ) (ie : Bool) (base top : ℕ) : Type 0 where
+  pub encodable : IsEncodable e ie base top
+  pub internal : ie_of word ≡ ie
+  pub t_field : t_field_of word ≡ encoded_t top e ie
+  pub b_field : b_field_of word ≡ encoded_b base e ie
+
+-- its exponent is theirs
+exponent_of-encoded : (word e : ℕ) (ie : Bool) (base top : ℕ) → HasMantissas word e ie base top → exponent_of word ≡ e
 unfolding exponent_of
-exponent_of-encoded word e true base top is internal t b = let high = is.exponent_high in rw (internal, t, b) (omega arith)
-exponent_of-encoded word e false base top is internal t b = rw internal (sym (is.clear refl))
+exponent_of-encoded word e true base top is = let high = is.encodable.exponent_high in rw (is.internal, is.t_field, is.b_field) (omega arith)
+exponent_of-encoded word e false base top is = rw is.internal (sym (is.encodable.clear refl))
 
-base_mantissa-encoded : (word e : ℕ) (ie : Bool) (base top : ℕ) → IsEncodable e ie base top → ie_of word ≡ ie → b_field_of word ≡ encoded_b base e ie → base_mantissa word ≡ base / 2 ^ e % 16384
+-- B is the base's units modulo 2 ^ 14
+base_mantissa-encoded : (word e : ℕ) (ie : Bool) (base top : ℕ) → HasMantissas word e ie base top → base_mantissa word ≡ base / 2 ^ e % 16384
 unfolding base_mantissa
-base_mantissa-encoded word e true base top is internal b = let eighths = is.base_eighths refl in rw (internal, b) (omega arith)
-base_mantissa-encoded word e false base top is internal b = rw internal b
+base_mantissa-encoded word e true base top is = let eighths = is.encodable.base_eighths refl in rw (is.internal, is.b_field) (omega arith)
+base_mantissa-encoded word e false base top is = rw is.internal is.b_field
 
-low_top_mantissa-encoded : (word e : ℕ) (ie : Bool) (base top : ℕ) → IsEncodable e ie base top → ie_of word ≡ ie → t_field_of word ≡ encoded_t top e ie → low_top_mantissa word ≡ top / 2 ^ e % 4096
+-- the low bits of T are those of the top's units
+low_top_mantissa-encoded : (word e : ℕ) (ie : Bool) (base top : ℕ) → HasMantissas word e ie base top → low_top_mantissa word ≡ top / 2 ^ e % 4096
 unfolding low_top_mantissa
-low_top_mantissa-encoded word e true base top is internal t = let eighths = is.top_eighths refl in let high = is.exponent_high in rw (internal, t) (omega arith)
-low_top_mantissa-encoded word e false base top is internal t = rw internal t
+low_top_mantissa-encoded word e true base top is =
+    let eighths = is.encodable.top_eighths refl in
+    let high = is.encodable.exponent_high in
+    rw (is.internal, is.t_field) (omega arith)
+low_top_mantissa-encoded word e false base top is = rw is.internal is.t_field
 
-length_mantissa-encoded : (word e : ℕ) (ie : Bool) (base top : ℕ) → IsEncodable e ie base top → ie_of word ≡ ie → t_field_of word ≡ encoded_t top e ie → b_field_of word ≡ encoded_b base e ie → length_mantissa word ≡ top / 2 ^ e - base / 2 ^ e
+-- L is the length in units
+length_mantissa-encoded : (word e : ℕ) (ie : Bool) (base top : ℕ) → HasMantissas word e ie base top → length_mantissa word ≡ top / 2 ^ e - base / 2 ^ e
 unfolding length_mantissa top_mantissa
-length_mantissa-encoded word e ie base top is internal t b =
+length_mantissa-encoded word e ie base top is =
     let p : ℕ = base / 2 ^ e in
     let q : ℕ = top / 2 ^ e in
-    rw (base_mantissa-encoded word e ie base top is internal b, low_top_mantissa-encoded word e ie base top is internal t, internal)
-    (length_from_mantissas p q (bit ie) (ltb (q % 4096) (p % 16384 % 4096)) (bit-small ie) is.long is.short refl)
+    rw (base_mantissa-encoded word e ie base top is, low_top_mantissa-encoded word e ie base top is, is.internal)
+    (length_from_mantissas p q (bit ie) (ltb (q % 4096) (p % 16384 % 4096)) (bit-small ie) is.encodable.long is.encodable.short refl)
 
--- what a word with encoded mantissas decodes to
-pub base_of_word-encoded : (word e : ℕ) (ie : Bool) (base top : ℕ) → IsEncodable e ie base top → ie_of word ≡ ie → t_field_of word ≡ encoded_t top e ie → b_field_of word ≡ encoded_b base e ie → base_of_word word ≡ decoded_base e (base / 2 ^ e % 16384) (address_of word)
+-- the base that it decodes to
+pub base_of_word-encoded : (word e : ℕ) (ie : Bool) (base top : ℕ) → HasMantissas word e ie base top
+    → base_of_word word ≡ decoded_base e (base / 2 ^ e % 16384) (address_of word)
 unfolding base_of_word
-base_of_word-encoded word e ie base top is internal t b =
-    rw (exponent_of-encoded word e ie base top is internal t b, base_mantissa-encoded word e ie base top is internal b) refl
+base_of_word-encoded word e ie base top is = rw (exponent_of-encoded word e ie base top is, base_mantissa-encoded word e ie base top is) refl
 
-pub top_of_word-encoded : (word e : ℕ) (ie : Bool) (base top : ℕ) → IsEncodable e ie base top → ie_of word ≡ ie → t_field_of word ≡ encoded_t top e ie → b_field_of word ≡ encoded_b base e ie → base_of_word word ≡ base → top_of_word word ≡ top
+-- where it decodes to their base, it decodes to their top
+pub top_of_word-encoded : (word e : ℕ) (ie : Bool) (base top : ℕ) → HasMantissas word e ie base top → base_of_word word ≡ base → top_of_word word ≡ top
 unfolding top_of_word
-top_of_word-encoded word e ie base top is internal t b same =
+top_of_word-encoded word e ie base top is same =
     let p : ℕ = base / 2 ^ e in
     let l : ℕ = top / 2 ^ e - base / 2 ^ e in
-    let long = is.long in
+    let long = is.encodable.long in
+    let fits = is.encodable.top_fits in
+    let units = is.encodable.base_units in
     let end : p + l ≡ top / 2 ^ e = omega arith in
-    let whole : (p + l) * 2 ^ e ≡ top = rw end is.top_units in
-    let fits = is.top_fits in
-    let found : decoded_base e (p % 16384) (address_of word) ≡ p * 2 ^ e = sym (base_of_word-encoded word e ie base top is internal t b) ∙ same ∙ sym is.base_units in
-    rw (exponent_of-encoded word e ie base top is internal t b, base_mantissa-encoded word e ie base top is internal b, length_mantissa-encoded word e ie base top is internal t b)
-    (decoded_top-units e p l (address_of word) (rw whole (omega arith)) (rw is.base_units is.base_fits) found ∙ whole)
+    let whole : (p + l) * 2 ^ e ≡ top = rw end is.encodable.top_units in
+    let found : decoded_base e (p % 16384) (address_of word) ≡ p * 2 ^ e = sym (base_of_word-encoded word e ie base top is) ∙ same ∙ sym units in
+    rw (exponent_of-encoded word e ie base top is, base_mantissa-encoded word e ie base top is, length_mantissa-encoded word e ie base top is)
+    (decoded_top-units e p l (address_of word) (rw whole (omega arith)) (rw units is.encodable.base_fits) found ∙ whole)
 
+-- an encoded T has 12 bits
 pub encoded_t-below : (top e : ℕ) (ie : Bool) → e ≤ 52 → encoded_t top e ie < 4096
 encoded_t-below top e true high = omega arith
 encoded_t-below top e false high = omega arith
 
+-- an encoded B has 14 bits
 pub encoded_b-below : (base e : ℕ) (ie : Bool) → encoded_b base e ie < 16384
 encoded_b-below base e true = omega arith
 encoded_b-below base e false = omega arith

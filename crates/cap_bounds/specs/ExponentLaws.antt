@@ -1,5 +1,5 @@
 -- The exponent of a length, by what it is for.
-use Rattle.std.proofs.Common.{◌≡◌, ℕ, ◌+◌, ◌<◌, ◌≤◌, ◌^◌, ltb, arith, inl, inr}
+use Rattle.std.proofs.Common.{◌≡◌, ℕ, ◌+◌, ◌-◌, ◌<◌, ◌≤◌, ◌^◌, ltb, arith, inl, inr}
 use Rattle.std.proofs.lemmas.Bool.{ltb-true, ltb-false, lt-ltb, le-ltb, cases_lt}
 use Rattle.cap_bounds.specs.LeastLaws.{least_up_to-is, least_up_to-high, least_up_to-none, least_up_to-holds}
 use Rattle.cap_bounds.specs.Record.{exponent_for}
@@ -29,4 +29,20 @@ exponent_for-holds n small = elim (cases_lt (exponent_for n) 52) [
   | inr last ↦
       let e : exponent_for n ≡ 52 = omega (arith, exponent_for-high n) in
       rw e small
+]
+
+-- a length below 4096 has exponent 0
+pub exponent_for-short : (n : ℕ) → n < 4096 → exponent_for n ≡ 0
+exponent_for-short n small = exponent_for-is n 0 (omega arith) (λ j below. absurd (omega arith)) (λ _. omega arith)
+
+-- a length from 4096 on takes all the 13 bits of its exponent
+pub exponent_for-long : (n : ℕ) → 4096 ≤ n → 2 ^ (exponent_for n + 12) ≤ n
+exponent_for-long n large = elim (cases_lt 0 (exponent_for n)) [
+  | inl some ↦
+      let before : exponent_for n - 1 < exponent_for n = omega arith in
+      let same : exponent_for n - 1 + 13 ≡ exponent_for n + 12 = omega arith in
+      rw same at (exponent_for-none n (exponent_for n - 1) before)
+  | inr zero ↦
+      let zero : exponent_for n ≡ 0 = omega arith in
+      rw zero large
 ]

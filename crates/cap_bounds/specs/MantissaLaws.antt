@@ -4,19 +4,23 @@ use Rattle.std.proofs.lemmas.Bool.{ltb-true, ltb-false, cond_both}
 use Rattle.cap_format.specs.Word.{ie_of, b_field_of, t_field_of, bit}
 use Rattle.cap_bounds.specs.Mantissa.{exponent_of, base_mantissa, low_top_mantissa, top_mantissa, length_mantissa, without_exponent, LengthMantissaIsInRange}
 
+-- an exponent is at most 52
 pub exponent_of-high : (word : ℕ) → exponent_of word ≤ 52
 unfolding exponent_of
 exponent_of-high word =
     cond_both (ie_of word) (min (t_field_of word % 8 * 8 + b_field_of word % 8) 52) 0 (λ e. e ≤ 52) (λ _. omega arith) (λ _. omega arith)
 
+-- a mantissa is no greater than its field
 without_exponent-below : (ie : Bool) (field n : ℕ) → field < n → without_exponent ie field < n
 without_exponent-below true field n small = omega arith
 without_exponent-below false field n small = small
 
+-- B has 14 bits
 pub base_mantissa-below : (word : ℕ) → base_mantissa word < 16384
 unfolding base_mantissa
 base_mantissa-below word = without_exponent-below (ie_of word) (b_field_of word) 16384 (omega arith)
 
+-- the low half of T has 12 bits
 pub low_top_mantissa-below : (word : ℕ) → low_top_mantissa word < 4096
 unfolding low_top_mantissa
 low_top_mantissa-below word = without_exponent-below (ie_of word) (t_field_of word) 4096 (omega arith)
@@ -27,6 +31,7 @@ length_by_carry : (b t i : ℕ) (carry : Bool) → b < 16384 → t < 4096 → i 
 length_by_carry b t i true base low small e = let under = ltb-true t (b % 4096) e in (omega arith, omega arith)
 length_by_carry b t i false base low small e = let over = ltb-false t (b % 4096) e in (omega arith, omega arith)
 
+-- the length's mantissa has 12 bits, or with an internal exponent 13 with the highest set
 pub length_mantissa-range : LengthMantissaIsInRange
 unfolding length_mantissa top_mantissa
 length_mantissa-range word =
@@ -41,6 +46,7 @@ pub length_from_mantissas : (p q i : ℕ) (carry : Bool) → i < 2 → p + i * 4
 length_from_mantissas p q i true small low high e = let under = ltb-true (q % 4096) (p % 16384 % 4096) e in omega arith
 length_from_mantissas p q i false small low high e = let over = ltb-false (q % 4096) (p % 16384 % 4096) e in omega arith
 
+-- the length's mantissa has 14 bits at most
 pub length_mantissa-below : (word : ℕ) → length_mantissa word < 16384
 unfolding length_mantissa
 length_mantissa-below word = omega arith

@@ -27,5 +27,6 @@ mantissa-steps e b =
     let split : b ≡ b / 2048 * 2048 + b % 2048 = omega arith in
     omega (arith, ap (λ n. n * 2 ^ e) split, ap (λ n. b / 2048 * n) (step-units e))
 
+-- that rest is below one step
 pub rest_below_step : (e b : ℕ) → b % 2048 * 2 ^ e < 2 ^ (e + 11)
 rest_below_step e b = let small : b % 2048 < 2048 = omega arith in grind (arith, step-units e, pow_pos e)

@@ -1,18 +1,19 @@
 -- A record's canonical word means the record, and with another address it means the record's bounds exactly in its window.
 use Rattle.std.proofs.Common.{◌≡◌, ℕ, ◌-◌, ◌/◌, ◌%◌, ◌^◌, ◌<◌, Bool, true, refl, sym, ap, ◌∙◌, ◌↔◌, IsTrue}
-use Rattle.cap_format.specs.Word.{address_of, perms_of, flag_of, otype_of, ie_of, t_field_of, b_field_of, with_address_of}
+use Rattle.cap_format.specs.Word.{address_of, perms_of, flag_of, otype_of, with_address_of}
 use Rattle.cap_bounds.specs.Window.{decoded_base, base_of_word, top_of_word}
 use Rattle.cap_bounds.specs.Record.{Record, IsWellFormed, IsWordWellFormed, has_exponent, exponent_for, window_holds, encoded_b, encoded_t, encoded_at, encoded, decoded, WordMeansItsRecord, CanonicalWordIsWellFormed}
 use Rattle.cap_bounds.specs.CapValue.{CapValue, Cap, Data, IsSound, is_tagged, word_of, ValueIsItsWordAndTag}
 use Rattle.cap_bounds.specs.SetAddress.{BoundsStayInTheWindow, KeepsBounds}
 use Rattle.cap_bounds.specs.BaseLaws.{decoded_base-in_window, is_in_window-from_base}
-use Rattle.cap_bounds.specs.EncodingLaws.{IsEncodable, encodable, base_of_word-encoded, top_of_word-encoded, encoded_t-below, encoded_b-below}
+use Rattle.cap_bounds.specs.EncodingLaws.{IsEncodable, HasMantissas, encodable, base_of_word-encoded, top_of_word-encoded, encoded_t-below, encoded_b-below}
 use Rattle.cap_bounds.specs.WordLaws.{joined, address_of-joined, b_field_of-joined, t_field_of-joined, ie_of-joined, otype_of-joined, flag_of-joined, perms_of-joined, joined-below, with_address_of-joined}
 
--- a record's exponent, and whether it is internal
+-- a record's exponent
 abbrev pub exponent_in : Record → ℕ
 exponent_in r = exponent_for (r.top - r.base)
 
+-- whether it is internal
 abbrev pub internal_in : Record → Bool
 internal_in r = has_exponent (r.top - r.base)
 
@@ -21,32 +22,26 @@ abbrev pub word_at : Record → ℕ → ℕ
 word_at r address =
     joined r.perms r.flag r.otype (internal_in r) (encoded_t r.top (exponent_in r) (internal_in r)) (encoded_b r.base (exponent_in r) (internal_in r)) address
 
+-- the canonical word is that with the record's own address
 encoded-word_at : (r : Record) → encoded r ≡ word_at r r.address
 unfolding encoded encoded_at joined
 encoded-word_at r = refl
 
--- the fields of a well-formed record's word with any address
+-- a well-formed record's word with any address
 module _ (r : Record) (well : IsWellFormed r) (address : ℕ) (fits : address < 2 ^ 64) where
+  -- what its mantissas rest on
   shape : IsEncodable (exponent_in r) (internal_in r) r.base r.top
   shape = encodable r well
 
   t_fits : encoded_t r.top (exponent_in r) (internal_in r) < 4096
-  t_fits = encoded_t-below r.top (exponent_in r) (internal_in r) (encodable r well).exponent_high
+  t_fits = encoded_t-below r.top (exponent_in r) (internal_in r) shape.exponent_high
 
   b_fits : encoded_b r.base (exponent_in r) (internal_in r) < 16384
   b_fits = encoded_b-below r.base (exponent_in r) (internal_in r)
 
+  -- its fields are the record's
   address_of-word_at : address_of (word_at r address) ≡ address
   address_of-word_at = address_of-joined r.perms r.flag r.otype (internal_in r) _ _ address well.otype_fits t_fits b_fits fits
-
-  ie_of-word_at : ie_of (word_at r address) ≡ internal_in r
-  ie_of-word_at = ie_of-joined r.perms r.flag r.otype (internal_in r) _ _ address well.otype_fits t_fits b_fits fits
-
-  t_field_of-word_at : t_field_of (word_at r address) ≡ encoded_t r.top (exponent_in r) (internal_in r)
-  t_field_of-word_at = t_field_of-joined r.perms r.flag r.otype (internal_in r) _ _ address well.otype_fits t_fits b_fits fits
-
-  b_field_of-word_at : b_field_of (word_at r address) ≡ encoded_b r.base (exponent_in r) (internal_in r)
-  b_field_of-word_at = b_field_of-joined r.perms r.flag r.otype (internal_in r) _ _ address well.otype_fits t_fits b_fits fits
 
   perms_of-word_at : perms_of (word_at r address) ≡ r.perms
   perms_of-word_at = perms_of-joined r.perms r.flag r.otype (internal_in r) _ _ address well.otype_fits t_fits b_fits fits well.perms_fit
@@ -57,12 +52,23 @@ module _ (r : Record) (well : IsWellFormed r) (address : ℕ) (fits : address < 
   otype_of-word_at : otype_of (word_at r address) ≡ r.otype
   otype_of-word_at = otype_of-joined r.perms r.flag r.otype (internal_in r) _ _ address well.otype_fits t_fits b_fits fits
 
+  -- and so are its mantissas
+  mantissas-word_at : HasMantissas (word_at r address) (exponent_in r) (internal_in r) r.base r.top
+  mantissas-word_at = record {
+    encodable = shape;
+    internal = ie_of-joined r.perms r.flag r.otype (internal_in r) _ _ address well.otype_fits t_fits b_fits fits;
+    t_field = t_field_of-joined r.perms r.flag r.otype (internal_in r) _ _ address well.otype_fits t_fits b_fits fits;
+    b_field = b_field_of-joined r.perms r.flag r.otype (internal_in r) _ _ address well.otype_fits t_fits b_fits fits;
+  }
+
+  -- it has 128 bits
   word_at-below : word_at r address < 2 ^ 128
   word_at-below = joined-below r.perms r.flag r.otype (internal_in r) _ _ address well.otype_fits t_fits b_fits fits well.perms_fit
 
+  -- its base is that of the record's mantissa at this address
   base_of_word-word_at : base_of_word (word_at r address) ≡ decoded_base (exponent_in r) (r.base / 2 ^ exponent_in r % 16384) address
   base_of_word-word_at =
-      base_of_word-encoded (word_at r address) (exponent_in r) (internal_in r) r.base r.top shape ie_of-word_at t_field_of-word_at b_field_of-word_at
+      base_of_word-encoded (word_at r address) (exponent_in r) (internal_in r) r.base r.top mantissas-word_at
       ∙ ap (λ a. decoded_base (exponent_in r) (r.base / 2 ^ exponent_in r % 16384) a) address_of-word_at
 
   -- in the window the base stays
@@ -72,10 +78,10 @@ module _ (r : Record) (well : IsWellFormed r) (address : ℕ) (fits : address < 
       ∙ decoded_base-in_window (exponent_in r) (r.base / 2 ^ exponent_in r) address shape.exponent_high (rw shape.base_units well.base_fits) (rw shape.base_units holds)
       ∙ shape.base_units
 
+  -- and so does the top
   top_of_word-in_window : window_holds r address ≡ true → top_of_word (word_at r address) ≡ r.top
   top_of_word-in_window holds =
-      top_of_word-encoded (word_at r address) (exponent_in r) (internal_in r) r.base r.top shape ie_of-word_at t_field_of-word_at b_field_of-word_at
-      (base_of_word-in_window holds)
+      top_of_word-encoded (word_at r address) (exponent_in r) (internal_in r) r.base r.top mantissas-word_at (base_of_word-in_window holds)
 
   -- where the base stays, the window holds the address
   window_holds-from_base : base_of_word (word_at r address) ≡ r.base → window_holds r address ≡ true
@@ -83,6 +89,7 @@ module _ (r : Record) (well : IsWellFormed r) (address : ℕ) (fits : address < 
       rw shape.base_units at (is_in_window-from_base (exponent_in r) (r.base / 2 ^ exponent_in r) address (rw shape.base_units well.base_fits)
       (sym base_of_word-word_at ∙ same ∙ sym shape.base_units))
 
+  -- it is the canonical word with the address replaced
   with_address_of-encoded : with_address_of (encoded r) address ≡ word_at r address
   with_address_of-encoded =
       ap (λ w. with_address_of w address) (encoded-word_at r)

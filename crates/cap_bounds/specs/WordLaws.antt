@@ -7,14 +7,17 @@ unfoldable pub joined : ℕ → Bool → ℕ → Bool → ℕ → ℕ → ℕ �
 joined perms flag otype ie t b address =
     perms * 2 ^ 112 + bit flag * 2 ^ 109 + otype * 2 ^ 91 + bit ie * 2 ^ 90 + t * 2 ^ 78 + b * 2 ^ 64 + address
 
+-- a truth value's bit is 0 or 1
 pub bit-small : (b : Bool) → bit b < 2
 bit-small true = omega arith
 bit-small false = omega arith
 
+-- and tells it
 bit-test : (b : Bool) → eqb (bit b) 1 ≡ b
 bit-test true = refl
 bit-test false = refl
 
+-- each field of a word put together is what went into it
 module _ (perms : ℕ) (flag : Bool) (otype : ℕ) (ie : Bool) (t b address : ℕ) (otype_fits : otype < 2 ^ 18) (t_fits : t < 2 ^ 12) (b_fits : b < 2 ^ 14) (address_fits : address < 2 ^ 64) where
   pub address_of-joined : address_of (joined perms flag otype ie t b address) ≡ address
   unfolding joined
@@ -50,10 +53,12 @@ module _ (perms : ℕ) (flag : Bool) (otype : ℕ) (ie : Bool) (t b address : �
   unfolding joined
   perms_of-joined fits = omega (arith, bit-small flag, bit-small ie)
 
+  -- the word has 128 bits
   pub joined-below : perms < 2 ^ 16 → joined perms flag otype ie t b address < 2 ^ 128
   unfolding joined
   joined-below fits = omega (arith, bit-small flag, bit-small ie)
 
+  -- another address replaces the address alone
   pub with_address_of-joined : (other : ℕ) → with_address_of (joined perms flag otype ie t b address) other ≡ joined perms flag otype ie t b other
   unfolding joined
   with_address_of-joined other = omega arith
