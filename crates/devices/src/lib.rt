@@ -3,6 +3,8 @@
 
 mod devices;
 mod fault;
+#[cfg(test)]
+mod tests;
 
 pub use devices::{Devices, Effect};
 pub use fault::DeviceFault;
