@@ -1,0 +1,10 @@
+//! Programs that the whole machine runs in tests, and what they need.
+#![tactic(auto)]
+
+mod programs;
+mod running;
+#[cfg(test)]
+mod tests;
+
+pub use programs::{FACTORIAL, FIRST_IMAGE};
+pub use running::{ENTRY, machine_of};
