@@ -4,6 +4,8 @@
 mod fault;
 mod image;
 mod section;
+#[cfg(test)]
+mod tests;
 
 pub use fault::ImageFault;
 pub use image::Image;

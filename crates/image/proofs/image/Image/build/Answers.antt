@@ -1,8 +1,7 @@
-use Rattle.std.proofs.Common.{◌≡◌, ◌≤◌, ◌+◌, ◌*◌, ℕ, Bool, true, false, cond, eqb, ltb, leb, not, List, length, Option, None, refl, sym, ap, ◌∙◌, arith, inl, inr}
+use Rattle.std.proofs.Common.{◌≡◌, ◌≤◌, ℕ, true, eqb, List, length, None, sym, ◌∙◌, arith, inl, inr}
 use Rattle.std.proofs.lemmas.Bool.{and_parts, cases_eq, eq-eqb, ne_eqb, leb-true, le-ltb}
 use Rattle.std.proofs.lemmas.List.{length-map}
-use Rattle.image.specs.declared.fault.ImageFault.{ImageFault}
-use Rattle.image.specs.Image.{IsImage, Section, is_good_header, sections_fault, build_fault, mode_number, lent_sections}
+use Rattle.image.specs.Image.{Section, is_good_header, sections_fault, build_fault, mode_number, lent_sections}
 use Rattle.image.proofs.image.Image.build.Goals as goal
 
 -- a mode of 0 or 1 is the number of its truth value
