@@ -1,10 +1,10 @@
 //! What a caller may see of a hart.
 
-ghost use Rattle.std.specs.Prelude.{◌≡◌, ◌<◌, IsSome, Some};
+ghost use Rattle.std.specs.Prelude.{◌≡◌, ◌<◌, IsTrue, Some};
 ghost use Rattle.cap_bounds.specs.CapValue.{IsSound};
 ghost use Rattle.tagged_memory.specs.Memory.{IsMemory};
-ghost use Rattle.special_regs.specs.Scrs.{IsAligned, scr_value};
-ghost use Rattle.special_regs.specs.CsrValues.{csr_value};
+ghost use Rattle.special_regs.specs.Scrs.{IsAligned, is_scr, scr_value};
+ghost use Rattle.special_regs.specs.CsrValues.{is_csr, csr_value};
 ghost use Rattle.hart.specs.Registers.{register};
 ghost use Rattle.hart.specs.State.{HoldsCapabilities};
 
@@ -24,7 +24,7 @@ impl<C: CapRep> Hart<C> {
 
     /// Special capability register `n`: PCC 0, DDC 1, MTCC 28, MTDC 29, MScratchC 30, MEPCC 31.
     pub fn scr(&self, n: u8) -> C
-        requires { IsSome (scr_value self.now.scrs n) }
+        requires { IsTrue (is_scr n) }
         ensures value { scr_value self.now.scrs n ≡ Some (C.value result) }
         ensures well_formed { IsSound (C.value result) }
         ensures aligned { IsAligned self.now.scrs.pcc }
@@ -34,7 +34,7 @@ impl<C: CapRep> Hart<C> {
 
     /// What a read of control and status register `n` gives; it is to be one that there is.
     pub fn csr(&self, n: u16) -> u64
-        requires { IsSome (csr_value self.now.csrs self.now.scrs 0 n) }
+        requires { IsTrue (is_csr n) }
         ensures { csr_value self.now.csrs self.now.scrs 0 n ≡ Some result }
     {
         special_regs::csr_value(&self.csrs, &self.scrs, 0, n).unwrap()

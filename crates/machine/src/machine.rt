@@ -1,7 +1,7 @@
-ghost use Rattle.std.specs.Prelude.{◌≡◌, ◌+◌, ◌<◌, ◌≤◌, ◌++◌, length, vec_len, vec_capacity, IsOk, IsSome, IfOk, IfErr, OnOk, OnErr, Some, option_to_list};
+ghost use Rattle.std.specs.Prelude.{◌≡◌, ◌+◌, ◌<◌, ◌≤◌, ◌++◌, length, vec_len, vec_capacity, IsOk, IsTrue, IfOk, IfErr, OnOk, OnErr, Some, option_to_list};
 ghost use Rattle.cap_bounds.specs.CapValue.{IsSound};
-ghost use Rattle.special_regs.specs.Scrs.{IsAligned, scr_value};
-ghost use Rattle.special_regs.specs.CsrValues.{csr_value};
+ghost use Rattle.special_regs.specs.Scrs.{IsAligned, is_scr, scr_value};
+ghost use Rattle.special_regs.specs.CsrValues.{is_csr, csr_value};
 ghost use Rattle.hart.specs.Registers.{register};
 ghost use Rattle.hart.specs.State.{HoldsCapabilities};
 ghost use Rattle.hart.specs.Event.{after, sent};
@@ -106,7 +106,7 @@ impl<C: CapRep> Machine<C> {
 
     /// Special capability register `n`: PCC 0, DDC 1, MTCC 28, MTDC 29, MScratchC 30, MEPCC 31.
     pub fn scr(&self, n: u8) -> C
-        requires { IsSome (scr_value self.now.scrs n) }
+        requires { IsTrue (is_scr n) }
         ensures value { scr_value self.now.scrs n ≡ Some (C.value result) }
         ensures well_formed { IsSound (C.value result) }
         ensures aligned { IsAligned self.now.scrs.pcc }
@@ -116,7 +116,7 @@ impl<C: CapRep> Machine<C> {
 
     /// What a read of control and status register `n` gives; it is to be one that there is.
     pub fn csr(&self, n: u16) -> u64
-        requires { IsSome (csr_value self.now.csrs self.now.scrs 0 n) }
+        requires { IsTrue (is_csr n) }
         ensures { csr_value self.now.csrs self.now.scrs 0 n ≡ Some result }
     {
         self.hart.csr(n)

@@ -20,13 +20,11 @@ const A1: u8 = 11;
 const A2: u8 = 12;
 
 /// The address of PCC.
-#[tactic(auto, unfolding(special_regs::specs::Scrs::scr_value))]
 fn pc(machine: &Machine<PlainCap>) -> u64 {
     machine.scr(PCC).address()
 }
 
 /// What a read of one of the registers that the tests look at gives.
-#[tactic(auto, unfolding(special_regs::specs::CsrValues::csr_value))]
 fn csrs(machine: &Machine<PlainCap>) -> [u64; 5] {
     [
         machine.csr(MCAUSE),

@@ -1,6 +1,8 @@
 -- What a read of each control and status register gives (RISC-V privileged manual, machine-level CSRs; UCAM-CL-TR-987 for mtvec and
 -- mepc, which are views of MTCC and MEPCC).
-use Rattle.std.specs.Prelude.{ℕ, ◌+◌, ◌*◌, ◌/◌, Bool, ◌==◌, if◌then◌else◌, List, [], ◌∷◌, Option, Some, None}
+use Rattle.std.specs.Prelude.{ℕ, ◌+◌, ◌*◌, ◌/◌, Bool, ◌==◌, List, [], ◌∷◌, Option}
+use Rattle.std.specs.List.{list_any}
+use Rattle.special_regs.specs.Numbered.{value_at}
 use Rattle.cap_format.specs.Word.{bit}
 use Rattle.cap_bounds.specs.CapValue.{value_address}
 use Rattle.special_regs.specs.declared.csrs.Csrs.{Csrs}
@@ -30,10 +32,13 @@ csr_values c s mip =
     ∷ (0xf14, 0)
     ∷ []
 
--- what stands beside a number in a list
-abbrev pub value_at : ℕ → List (ℕ × ℕ) → Option ℕ
-value_at n [] = None
-value_at n (entry ∷ entries) = if n == entry.0 then Some entry.1 else value_at n entries
+-- the numbers of the registers that there are
+abbrev pub csr_numbers : List ℕ
+csr_numbers =
+    0x300 ∷ 0x301 ∷ 0x304 ∷ 0x305 ∷ 0x340 ∷ 0x341 ∷ 0x342 ∷ 0x343 ∷ 0x344 ∷ 0xb00 ∷ 0xb02 ∷ 0xf11 ∷ 0xf12 ∷ 0xf13 ∷ 0xf14 ∷ []
+
+abbrev pub is_csr : ℕ → Bool
+is_csr n = list_any (λ k. n == k) csr_numbers
 
 -- what a read of register n gives, or none where there is no such register
 unfoldable pub csr_value : Csrs → Scrs → ℕ → ℕ → Option ℕ

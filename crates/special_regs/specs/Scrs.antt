@@ -1,5 +1,7 @@
 -- The special capability registers (UCAM-CL-TR-987, CHERI-RISC-V special capability registers).
-use Rattle.std.specs.Prelude.{◌≡◌, ℕ, ◌%◌, ◌==◌, if◌then◌else◌, Option, Some, None}
+use Rattle.std.specs.Prelude.{◌≡◌, ℕ, ◌%◌, Bool, ◌==◌, List, [], ◌∷◌, Option}
+use Rattle.std.specs.List.{list_any}
+use Rattle.special_regs.specs.Numbered.{value_at}
 use Rattle.cap_bounds.specs.CapValue.{CapValue, value_address}
 
 pub record Scrs : Type 0 where
@@ -14,12 +16,13 @@ pub record Scrs : Type 0 where
 abbrev pub IsAligned : CapValue → Type 0
 IsAligned v = value_address v % 4 ≡ 0
 
--- The special registers by number: PCC 0, DDC 1, MTCC 28, MTDC 29, MScratchC 30, MEPCC 31.
+-- The special registers by number.
+abbrev pub scr_values : Scrs → List (ℕ × CapValue)
+scr_values s =
+    (0, s.pcc) ∷ (1, s.ddc) ∷ (28, s.mtcc) ∷ (29, s.mtdc) ∷ (30, s.mscratchc) ∷ (31, s.mepcc) ∷ []
+
+abbrev pub is_scr : ℕ → Bool
+is_scr n = list_any (λ k. n == k) (0 ∷ 1 ∷ 28 ∷ 29 ∷ 30 ∷ 31 ∷ [])
+
 unfoldable pub scr_value : Scrs → ℕ → Option CapValue
-scr_value s n =
-    if n == 0 then Some s.pcc
-    else (if n == 1 then Some s.ddc
-    else (if n == 28 then Some s.mtcc
-    else (if n == 29 then Some s.mtdc
-    else (if n == 30 then Some s.mscratchc
-    else (if n == 31 then Some s.mepcc else None)))))
+scr_value s n = value_at n (scr_values s)

@@ -1,0 +1,25 @@
+-- A number that is listed has a value.
+use Rattle.std.proofs.Common.{◌≡◌, ℕ, Bool, true, false, cond, eqb, List, [], ◌∷◌, Option, Some, None, refl, ◌||◌}
+use Rattle.std.specs.Prelude.{IsSome, is_some}
+use Rattle.std.specs.List.{list_any}
+use Rattle.cap_bounds.specs.CapValue.{CapValue}
+use Rattle.special_regs.specs.Numbered.{value_at}
+use Rattle.special_regs.specs.declared.csrs.Csrs.{Csrs}
+use Rattle.special_regs.specs.Scrs.{Scrs, is_scr, scr_value, scr_values}
+use Rattle.special_regs.specs.CsrValues.{is_csr, csr_value, csr_values}
+
+IsSome-value_at : {X : Type 0} (n : ℕ) (entries : List (ℕ × X)) → list_any (λ e. eqb n e.0) entries ≡ true → IsSome (value_at n entries)
+IsSome-value_at n [] listed = cc
+IsSome-value_at n (e ∷ entries) listed =
+    elim (eqb n e.0) as (λ b. (b || list_any (λ e. eqb n e.0) entries) ≡ true → IsSome (cond b (Some e.1) (value_at n entries))) [
+      | true ↦ λ _. refl
+      | false ↦ λ listed. IsSome-value_at n entries listed
+    ] listed
+
+pub IsSome-scr_value : (s : Scrs) (n : ℕ) → is_scr n ≡ true → IsSome (scr_value s n)
+unfolding scr_value
+IsSome-scr_value s n listed = IsSome-value_at n (scr_values s) listed
+
+pub IsSome-csr_value : (c : Csrs) (s : Scrs) (mip n : ℕ) → is_csr n ≡ true → IsSome (csr_value c s mip n)
+unfolding csr_value
+IsSome-csr_value c s mip n listed = IsSome-value_at n (csr_values c s mip) listed
