@@ -1,8 +1,7 @@
-use std::alloc::Global;
-
 use cap_bounds::PlainCap;
 use image::Image;
 use machine::Machine;
+use std::alloc::Global;
 
 /// Where a test's program begins.
 pub const ENTRY: u64 = 0x8000_0000;

@@ -1,22 +1,30 @@
 use super::*;
-use std::test::Fail;
-
 use cap_bounds::{CapRep, PlainCap};
 use machine::{End, Event, Machine};
+use std::test::Fail;
 
 const MSTATUS: u16 = 0x300;
+
 const MCAUSE: u16 = 0x342;
+
 const MTVAL: u16 = 0x343;
+
 const MEPC: u16 = 0x341;
+
 const MCYCLE: u16 = 0xb00;
+
 const MINSTRET: u16 = 0xb02;
 
 const PCC: u8 = 0;
+
 const MTCC: u8 = 28;
+
 const MEPCC: u8 = 31;
 
 const A0: u8 = 10;
+
 const A1: u8 = 11;
+
 const A2: u8 = 12;
 
 /// The address of PCC.
@@ -71,7 +79,11 @@ fn the_first_image_step_by_step(rt: HostRuntime) -> Result<(), Fail> {
         assert_eq!(rt; machine.reg(A1).address(), a1, "a1 after step {done}");
         assert!(rt; out.byte == byte, "the byte of step {done}");
         assert!(rt; machine.halted() == halted, "the halt after step {done}");
-        assert_eq!(rt; csrs(&machine), [0, 0, 0, done, done], "counters after step {done}");
+        assert_eq!(rt;
+            csrs(&machine),
+            [0, 0, 0, done, done],
+            "counters after step {done}"
+        );
     }
     Ok(())
 }
@@ -144,7 +156,11 @@ fn traps_report_cause_value_and_place(rt: HostRuntime) -> Result<(), Fail> {
         let mut machine = machine_of(rt.alloc(), &[word], 0).ok_or("memory")?;
         let out = machine.event(Event::Step);
         assert!(rt; out.byte.is_none());
-        assert_eq!(rt; csrs(&machine), [mcause, mtval, ENTRY, 1, 0], "at {word:#x}");
+        assert_eq!(rt;
+            csrs(&machine),
+            [mcause, mtval, ENTRY, 1, 0],
+            "at {word:#x}"
+        );
         assert_eq!(rt; pc(&machine), 0, "at {word:#x}");
         assert!(rt; machine.scr(MEPCC).tag());
 
@@ -212,6 +228,11 @@ fn a_byte_store_changes_one_byte_of_ram(rt: HostRuntime) -> Result<(), Fail> {
     let mut machine = machine_of(rt.alloc(), &words, 0).ok_or("memory")?;
     let mut sent = Vec::new(rt.alloc());
     machine.run(&[Event::Step; 3], &mut sent)?;
-    assert_eq!(rt; machine.memory().read(ENTRY + 16, tagged_memory::Size::Word)?, 0xffff_ff41);
+    assert_eq!(rt;
+        machine
+            .memory()
+            .read(ENTRY + 16, tagged_memory::Size::Word)?,
+        0xffff_ff41
+    );
     Ok(())
 }

@@ -2,13 +2,11 @@
 //! argument says. Time it from outside.
 #![tactic(auto)]
 
-use std::env;
-use std::io;
-use std::process::ExitCode;
-
 use cap_bounds::{CapRep, PlainCap};
 use machine::{Event, Machine};
 use machine_tests::machine_of;
+use std::process::ExitCode;
+use std::{env, io};
 
 /// auipc a1, 0; lui t0, 0x7ffff; loop: addi t0, t0, -1; add a0, a0, t0; xor a2, a0, t0; sd a2, 256(a1); bne t0, zero, loop;
 /// lui a1, 0x100; sd zero, 0(a1)
