@@ -1,4 +1,4 @@
-ghost use Rattle.std.specs.Prelude.{◌≡◌, ◌↔◌, IsTrue, OnErr, OnOk, None};
+ghost use Rattle.std.specs.Prelude.{◌≡◌, ◌%◌, ◌↔◌, IsTrue, OnErr, OnOk, None};
 ghost use Rattle.tagged_memory.specs.Size.{bytes_of};
 ghost use Rattle.devices.specs.Devices.{idle, read_fault, write_fault, effect_of, byte_sent, written, unless};
 
@@ -39,6 +39,14 @@ impl Model for Devices {
     ghost inverse = { λ v. record { halted = v.halted } };
 }
 
+/// The low byte of a number, which transmit sends.
+#[inline]
+fn low_byte(value: u64) -> u8
+    ensures { result ≡ value % 256 }
+{
+    (value % 256) as u8
+}
+
 impl Devices {
     /// The devices as they begin: not halted.
     pub fn new() -> Self
@@ -74,7 +82,7 @@ impl Devices {
         ensures { result ≡ byte_sent (effect_of address value) }
     {
         match address {
-            TRANSMIT => Some((value % 256) as u8),
+            TRANSMIT => Some(low_byte(value)),
             _ => None,
         }
     }
@@ -108,7 +116,7 @@ impl Devices {
                 self.halted = Some(value);
                 Ok(Effect::Halt(value))
             }
-            (TRANSMIT, Size::Byte | Size::Double) => Ok(Effect::Byte((value % 256) as u8)),
+            (TRANSMIT, Size::Byte | Size::Double) => Ok(Effect::Byte(low_byte(value))),
             (HALT | TRANSMIT, _) => Err(DeviceFault::V2),
             _ => Err(DeviceFault::V1),
         }
