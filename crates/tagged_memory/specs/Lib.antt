@@ -4,3 +4,4 @@ pub mod MemoryLaws
 pub mod Memory
 pub mod Size
 pub mod Tagged
+pub mod AccessLaws

@@ -1,6 +1,6 @@
 -- Memory: a map from RAM addresses to bytes, and a set of tagged granules (UCAM-CL-TR-987, tagged memory: a tag for each
 -- capability-sized, capability-aligned granule of 16 bytes).
-use Rattle.std.specs.Prelude.{◌≡◌, ℕ, ◌+◌, ◌-◌, ◌*◌, ◌/◌, ◌%◌, ◌<◌, ◌≤◌, Bool, true, not, ◌&&◌, ◌==◌, nat_lt, nat_le, if◌then◌else◌, List, ◌++◌, take, drop, length, map, filter, slice_index, Option, Some, None, Result, Ok, Err, replicate}
+use Rattle.std.specs.Prelude.{◌≡◌, ℕ, ◌+◌, ◌-◌, ◌*◌, ◌/◌, ◌%◌, ◌^◌, ◌<◌, ◌≤◌, Bool, true, not, ◌&&◌, ◌==◌, nat_lt, nat_le, if◌then◌else◌, List, ◌++◌, take, drop, length, map, filter, slice_index, Option, Some, None, Result, Ok, Err, replicate}
 use Rattle.std.specs.Ordering.{nat_cmp}
 use Rattle.std.specs.List.{range_with_len}
 use Rattle.std.specs.FinSet as set
@@ -91,6 +91,12 @@ fill_fault m address size = if not (is_in_ram m address size) then Some M3 else 
 abbrev pub unless : {X : Type 0} → Option MemoryFault → X → Result X MemoryFault
 unless None x = Ok x
 unless (Some fault) x = Err fault
+
+-- A word that is stored with its tag is loaded again with it.
+abbrev pub StoredIsLoaded : Type 0
+StoredIsLoaded =
+    (m : Memory) (address word : ℕ) (tag : Bool) → access_fault m address 16 ≡ None → word < 2 ^ 128
+    → (word_at (capability_written m address word tag) address ≡ word) × (is_tagged (capability_written m address word tag) address ≡ tag)
 
 -- memory of so many pages as it begins: zeros, and no tag
 abbrev pub zeroed : ℕ → Memory

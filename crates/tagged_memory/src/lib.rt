@@ -3,6 +3,7 @@
 
 mod bytes;
 mod fault;
+pub mod laws;
 mod memory;
 mod place;
 mod size;

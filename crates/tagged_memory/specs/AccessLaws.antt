@@ -1,0 +1,21 @@
+-- An access without a fault, and a word that is stored and loaded again.
+use Rattle.std.proofs.Common.{◌≡◌, ℕ, ◌%◌, true, false, Option, None, Some, eqb, not, cond, refl}
+use Rattle.tagged_memory.specs.declared.fault.MemoryFault.{MemoryFault}
+use Rattle.tagged_memory.specs.declared.fault.MemoryFault.TheVariants.{M3, M4}
+use Rattle.tagged_memory.specs.Memory.{Memory, is_in_ram, access_fault, StoredIsLoaded}
+use Rattle.tagged_memory.specs.MemoryLaws.{word_at-capability_written_here, is_tagged-capability_written_here}
+
+-- an access without a fault lies in RAM
+pub in_ram-access_fault : (m : Memory) (address size : ℕ) → access_fault m address size ≡ None → is_in_ram m address size ≡ true
+unfolding access_fault
+in_ram-access_fault m address size none =
+    elim (is_in_ram m address size) as (λ inside. cond (not (eqb (address % size) 0)) (Some M4) (cond (not inside) (Some M3) None) ≡ None → inside ≡ true) [
+      | true ↦ λ _. refl
+      | false ↦ elim (eqb (address % size) 0) as (λ aligned. cond (not aligned) (Some M4) (cond true (Some M3) None) ≡ None → false ≡ true) [ true ↦ λ e. cc | false ↦ λ e. cc ]
+    ] none
+
+pub stored_is_loaded : StoredIsLoaded
+stored_is_loaded m address word tag none fits = (
+  word_at-capability_written_here m address word tag (in_ram-access_fault m address 16 none) fits,
+  is_tagged-capability_written_here m address word tag,
+)
