@@ -22,3 +22,5 @@ pub mod Root
 pub mod RootLaws
 pub mod Rounding
 pub mod SetBounds
+pub mod RoundingLaws
+pub mod SetBoundsLaws

@@ -1,5 +1,5 @@
 -- Rounding requested bounds out to what a word can say (UCAM-CL-TR-987, CHERI Concentrate, encoding and rounding).
-use Rattle.std.specs.Prelude.{ℕ, ◌+◌, ◌-◌, ◌*◌, ◌/◌, ◌%◌, ◌^◌, Bool, ◌&&◌, ◌==◌, nat_le, nat_lt, if◌then◌else◌}
+use Rattle.std.specs.Prelude.{◌≡◌, ℕ, ◌+◌, ◌-◌, ◌*◌, ◌/◌, ◌^◌, ◌<◌, ◌≤◌, Bool, ◌&&◌, ◌==◌, nat_lt, if◌then◌else◌}
 use Rattle.cap_bounds.specs.Least.{least_up_to}
 use Rattle.cap_bounds.specs.Mantissa.{greatest_exponent}
 
@@ -33,3 +33,16 @@ is_exact base top = (rounded_base base top == base) && (rounded_top base top == 
 -- what the base and the length of a capability of this length from an aligned base are multiples of
 abbrev pub length_granule : ℕ → ℕ
 length_granule length = rounding_granule 0 length
+
+-- the least exponent at which a range touches fewer than 1024 granules
+pub record IsLeastExponent (base top e : ℕ) : Type 0 where
+  pub high : e ≤ greatest_exponent
+  pub few : granules_spanned e base top < 1024
+  pub least : (smaller : ℕ) → smaller < e → 1024 ≤ granules_spanned smaller base top
+
+-- every request of 4096 bytes or more is rounded out to the least granules that serve
+abbrev pub RoundingTakesTheLeastGranule : Type 0
+RoundingTakesTheLeastGranule =
+    (base length : ℕ) → base < 2 ^ 64 → length < 2 ^ 64 → 4096 ≤ length
+    → IsLeastExponent base (base + length) (rounding_exponent base (base + length))
+    × (rounding_granule base (base + length) ≡ 2 ^ (rounding_exponent base (base + length) + 3))

@@ -1,6 +1,6 @@
 -- Setting bounds (UCAM-CL-TR-987, CSetBounds and CSetBoundsExact).
-use Rattle.std.specs.Prelude.{ℕ, ◌+◌, ◌%◌, ◌^◌, Bool, ◌&&◌, not, nat_le, if◌then◌else◌}
-use Rattle.cap_bounds.specs.Record.{Record, record_with, has_exponent, encoded_at}
+use Rattle.std.specs.Prelude.{◌≡◌, ℕ, ◌+◌, ◌%◌, ◌^◌, ◌≤◌, Bool, ◌&&◌, not, nat_le, if◌then◌else◌}
+use Rattle.cap_bounds.specs.Record.{Record, IsWellFormed, record_with, has_exponent, encoded_at}
 use Rattle.cap_bounds.specs.CapValue.{CapValue, Cap, Data, is_tagged, is_sealed, value_base, value_top, value_address, value_perms, value_flag, value_otype}
 use Rattle.cap_bounds.specs.Rounding.{rounding_exponent, rounded_base, rounded_top, is_exact}
 
@@ -28,3 +28,19 @@ with_bounds v length =
 -- rounding changes nothing of the request
 abbrev pub bounds_exact : CapValue → ℕ → Bool
 bounds_exact v length = is_exact (value_address v) (request_top v length)
+
+-- the rounded bounds of a request from v's address, the top modulo 2 ^ 65
+abbrev pub HasRoundedBounds : CapValue → ℕ → CapValue → Type 0
+HasRoundedBounds v length new =
+    (value_base new ≡ rounded_base (value_address v) (request_top v length))
+    × (value_top new ≡ rounded_top (value_address v) (request_top v length) % 2 ^ 65)
+
+-- a value's bounds lie in another's
+abbrev pub LiesWithin : CapValue → CapValue → Type 0
+LiesWithin inner outer = (value_base outer ≤ value_base inner) × (value_top inner ≤ value_top outer)
+
+-- a range in the bounds of a capability is rounded out to one that lies in them too
+abbrev pub BoundsStayInsideTheAuthority : Type 0
+BoundsStayInsideTheAuthority =
+    (r : Record) (base top : ℕ) → IsWellFormed r → base ≤ top → r.base ≤ base → top ≤ r.top
+    → (r.base ≤ rounded_base base top) × (rounded_top base top ≤ r.top)
