@@ -155,12 +155,12 @@ bounds-data v length sound short =
     )
 
 -- where the bounds may be set, the result is a capability
-with_bounds-set : (v : CapValue) (length : ℕ) → may_bound v length ≡ true → with_bounds v length ≡ Cap (bounded v length)
+pub with_bounds-set : (v : CapValue) (length : ℕ) → may_bound v length ≡ true → with_bounds v length ≡ Cap (bounded v length)
 unfolding with_bounds
 with_bounds-set v length may = cond-true _ _ _ may
 
 -- where they may not, it is data
-with_bounds-refused : (v : CapValue) (length : ℕ) → may_bound v length ≡ false
+pub with_bounds-refused : (v : CapValue) (length : ℕ) → may_bound v length ≡ false
     → with_bounds v length ≡ Data (encoded_at (rounding_exponent (value_address v) (request_top v length)) (has_exponent length) (bounded v length))
 unfolding with_bounds
 with_bounds-refused v length may = cond-false _ _ _ may
@@ -191,9 +191,9 @@ bounded-inside r length well may =
     rounded-inside_record r r.address (r.address + length) well (omega arith) held.0 held.1
 
 -- the capability that is made is well-formed
-pub IsWellFormed-bounded : (r : Record) (length : ℕ) → IsWellFormed r → length < 2 ^ 64 → may_bound (Cap r) length ≡ true → IsWellFormed (bounded (Cap r) length)
-unfolding bounded
-IsWellFormed-bounded r length well short may =
+pub IsWellFormed-bounded : (v : CapValue) (length : ℕ) → IsSound v → length < 2 ^ 64 → may_bound v length ≡ true → IsWellFormed (bounded v length)
+unfolding bounded may_bound
+IsWellFormed-bounded (Cap r) length well short may =
     let base : ℕ = r.address in
     let top : ℕ = r.address + length in
     let in_space = well.in_space in
@@ -201,6 +201,7 @@ IsWellFormed-bounded r length well short may =
     let fits : rounded_top r.address (r.address + length) < 2 ^ 65 = omega arith in
     rw (mod-eq_of_lt fits)
     (IsWellFormed-rounded base top r.perms r.flag r.otype well.address_fits (omega arith) (omega arith) (omega arith) well.perms_fit well.otype_fits)
+IsWellFormed-bounded (Data n) length sound short may = cc
 
 -- a capability's bounds lie in the operand's
 within-bounded : (v : CapValue) (length : ℕ) → IsSound v → may_bound v length ≡ true → LiesWithin (Cap (bounded v length)) v
