@@ -1,9 +1,8 @@
 -- A value whose address is set has that address.
-use Rattle.std.proofs.Common.{◌≡◌, ℕ, ◌+◌, ◌*◌, ◌/◌, ◌%◌, ◌^◌, ◌<◌, Bool, true, false, cond, refl, arith}
+use Rattle.std.proofs.Common.{◌≡◌, ℕ, ◌^◌, ◌<◌, refl, arith}
 use Rattle.std.proofs.lemmas.Bool.{cond_both}
 use Rattle.cap_format.specs.Word.{address_of, with_address_of}
-use Rattle.cap_bounds.specs.Record.{window_holds}
-use Rattle.cap_bounds.specs.CapValue.{CapValue, Cap, Data, word_of, value_address, is_sealed}
+use Rattle.cap_bounds.specs.CapValue.{CapValue, Cap, Data, word_of, value_address}
 use Rattle.cap_bounds.specs.SetAddress.{at_address, data_at}
 
 address_of-with_address_of : (w a : ℕ) → a < 2 ^ 64 → address_of (with_address_of w a) ≡ a

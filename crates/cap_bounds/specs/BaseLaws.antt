@@ -172,11 +172,14 @@ is_in_window-from_base e p address fits same = elim (cases_lt e 50) [
 ]
 
 -- the top of a base and a length in units, where the mantissas give the base
-pub decoded_top-units : (e p l address : ℕ) → (p + l) * 2 ^ e < 2 ^ 65 → p * 2 ^ e < 2 ^ 64 → decoded_base e (p % 16384) address ≡ p * 2 ^ e
-    → decoded_top e (p % 16384) l address ≡ (p + l) * 2 ^ e
-decoded_top-units e p l address fits base_fits same = elim (cases_lt 50 e) [
+pub decoded_top-units : (e p l address : ℕ) → l < 8192 → p * 2 ^ e < 2 ^ 64 → decoded_base e (p % 16384) address ≡ p * 2 ^ e
+    → decoded_top e (p % 16384) l address ≡ (p + l) * 2 ^ e % 2 ^ 65
+decoded_top-units e p l address short base_fits same = elim (cases_lt 50 e) [
   | inl above ↦
       let small : p < 16384 = units_below e p above base_fits in
-      decoded_top-high e (p % 16384) l address above ∙ rw (mod-eq_of_lt small, mod-eq_of_lt fits) refl
-  | inr low ↦ decoded_top-low e (p % 16384) l address low ∙ rw same (omega arith)
+      decoded_top-high e (p % 16384) l address above ∙ rw (mod-eq_of_lt small) refl
+  | inr low ↦
+      let unit = pow_mono low in
+      let fits : (p + l) * 2 ^ e < 2 ^ 65 = omega (arith, mul-le l (2 ^ e) 8191 (2 ^ 50) (omega arith) unit) in
+      decoded_top-low e (p % 16384) l address low ∙ rw (same, mod-eq_of_lt fits) (omega arith)
 ]

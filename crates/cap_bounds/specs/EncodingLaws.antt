@@ -17,7 +17,6 @@ pub record IsEncodable (e : ℕ) (ie : Bool) (base top : ℕ) : Type 0 where
   pub exponent_high : e ≤ 52
   pub clear : ie ≡ false → e ≡ 0
   pub base_fits : base < 2 ^ 64
-  pub top_fits : top ≤ 2 ^ 64
   pub base_units : base / 2 ^ e * 2 ^ e ≡ base
   pub top_units : top / 2 ^ e * 2 ^ e ≡ top
   pub base_eighths : ie ≡ true → base / 2 ^ e % 8 ≡ 0
@@ -34,12 +33,11 @@ div-units x u positive aligned =
     (rw quotient (sym whole), rw quotient (omega arith))
 
 -- bounds of fewer than 4096 addresses are encodable without an exponent
-encodable-clear : (base top : ℕ) → base ≤ top → top ≤ 2 ^ 64 → base < 2 ^ 64 → top - base < 4096 → IsEncodable 0 false base top
-encodable-clear base top ordered in_space fits small = record {
+pub encodable-clear : (base top : ℕ) → base ≤ top → base < 2 ^ 64 → top - base < 4096 → IsEncodable 0 false base top
+encodable-clear base top ordered fits small = record {
   exponent_high = omega arith;
   clear = λ _. refl;
   base_fits = fits;
-  top_fits = in_space;
   base_units = omega arith;
   top_units = omega arith;
   base_eighths = λ bad. cc;
@@ -49,9 +47,9 @@ encodable-clear base top ordered in_space fits small = record {
 }
 
 -- aligned bounds of a length of 13 bits are encodable with an exponent
-encodable-internal : (e base top : ℕ) → e ≤ 52 → base ≤ top → top ≤ 2 ^ 64 → base < 2 ^ 64 → base % 2 ^ (e + 3) ≡ 0 → top % 2 ^ (e + 3) ≡ 0
+pub encodable-internal : (e base top : ℕ) → e ≤ 52 → base ≤ top → base < 2 ^ 64 → base % 2 ^ (e + 3) ≡ 0 → top % 2 ^ (e + 3) ≡ 0
     → 2 ^ (e + 12) ≤ top - base → top - base < 2 ^ (e + 13) → IsEncodable e true base top
-encodable-internal e base top high ordered in_space fits base_aligned top_aligned large small =
+encodable-internal e base top high ordered fits base_aligned top_aligned large small =
     let u : ℕ = 2 ^ e in
     let positive : 0 < 2 ^ e = pow_pos e in
     let b = div-units base u positive (rw (pow-add 2 e 3) at base_aligned) in
@@ -62,7 +60,6 @@ encodable-internal e base top high ordered in_space fits base_aligned top_aligne
       exponent_high = high;
       clear = λ bad. cc;
       base_fits = fits;
-      top_fits = in_space;
       base_units = b.0;
       top_units = t.0;
       base_eighths = λ _. b.1;
@@ -81,11 +78,11 @@ encodable r well =
           let large : 4096 ≤ r.top - r.base = leb-true 4096 n long in
           let ordered = well.ordered in
           let in_space = well.in_space in
-          rw long (encodable-internal (exponent_for n) r.base r.top (exponent_for-high n) ordered in_space well.base_fits (rw long at well.base_aligned) (rw long at well.top_aligned)
+          rw long (encodable-internal (exponent_for n) r.base r.top (exponent_for-high n) ordered well.base_fits (rw long at well.base_aligned) (rw long at well.top_aligned)
           (exponent_for-long n large) (exponent_for-holds n (omega arith)))
       | inr short ↦
           let small : r.top - r.base < 4096 = leb-false 4096 n short in
-          rw (short, exponent_for-short n small) (encodable-clear r.base r.top well.ordered well.in_space well.base_fits small)
+          rw (short, exponent_for-short n small) (encodable-clear r.base r.top well.ordered well.base_fits small)
     ]
 
 -- a word whose mantissas are those of encodable bounds
@@ -131,20 +128,20 @@ pub base_of_word-encoded : (word e : ℕ) (ie : Bool) (base top : ℕ) → HasMa
 unfolding base_of_word
 base_of_word-encoded word e ie base top is = rw (exponent_of-encoded word e ie base top is, base_mantissa-encoded word e ie base top is) refl
 
--- where it decodes to their base, it decodes to their top
-pub top_of_word-encoded : (word e : ℕ) (ie : Bool) (base top : ℕ) → HasMantissas word e ie base top → base_of_word word ≡ base → top_of_word word ≡ top
+-- where it decodes to their base, it decodes to their top modulo 2 ^ 65
+pub top_of_word-encoded : (word e : ℕ) (ie : Bool) (base top : ℕ) → HasMantissas word e ie base top → base_of_word word ≡ base → top_of_word word ≡ top % 2 ^ 65
 unfolding top_of_word
 top_of_word-encoded word e ie base top is same =
     let p : ℕ = base / 2 ^ e in
     let l : ℕ = top / 2 ^ e - base / 2 ^ e in
     let long = is.encodable.long in
-    let fits = is.encodable.top_fits in
+    let short : l < 8192 = omega (arith, is.encodable.short, bit-small ie) in
     let units = is.encodable.base_units in
     let end : p + l ≡ top / 2 ^ e = omega arith in
     let whole : (p + l) * 2 ^ e ≡ top = rw end is.encodable.top_units in
     let found : decoded_base e (p % 16384) (address_of word) ≡ p * 2 ^ e = sym (base_of_word-encoded word e ie base top is) ∙ same ∙ sym units in
     rw (exponent_of-encoded word e ie base top is, base_mantissa-encoded word e ie base top is, length_mantissa-encoded word e ie base top is)
-    (decoded_top-units e p l (address_of word) (rw whole (omega arith)) (rw units is.encodable.base_fits) found ∙ whole)
+    (decoded_top-units e p l (address_of word) short (rw units is.encodable.base_fits) found ∙ ap (λ n. n % 2 ^ 65) whole)
 
 -- an encoded T has 12 bits
 pub encoded_t-below : (top e : ℕ) (ie : Bool) → e ≤ 52 → encoded_t top e ie < 4096

@@ -20,3 +20,7 @@ pub mod RecordLaws
 pub mod FieldLaws
 pub mod Root
 pub mod RootLaws
+pub mod Rounding
+pub mod SetBounds
+pub mod RoundingLaws
+pub mod SetBoundsLaws

@@ -1,5 +1,6 @@
 -- A record's canonical word means the record, and with another address it means the record's bounds exactly in its window.
-use Rattle.std.proofs.Common.{◌≡◌, ℕ, ◌-◌, ◌/◌, ◌%◌, ◌^◌, ◌<◌, Bool, true, refl, sym, ap, ◌∙◌, ◌↔◌, IsTrue}
+use Rattle.std.proofs.Common.{◌≡◌, ℕ, ◌-◌, ◌/◌, ◌%◌, ◌^◌, ◌<◌, Bool, true, refl, sym, ap, ◌∙◌, ◌↔◌, IsTrue, arith}
+use Rattle.std.proofs.Math.Nat.{mod-eq_of_lt}
 use Rattle.cap_format.specs.Word.{address_of, perms_of, flag_of, otype_of, with_address_of}
 use Rattle.cap_bounds.specs.Window.{decoded_base, base_of_word, top_of_word}
 use Rattle.cap_bounds.specs.Record.{Record, IsWellFormed, IsWordWellFormed, has_exponent, exponent_for, window_holds, encoded_b, encoded_t, encoded_at, encoded, decoded, WordMeansItsRecord, CanonicalWordIsWellFormed}
@@ -81,7 +82,9 @@ module _ (r : Record) (well : IsWellFormed r) (address : ℕ) (fits : address < 
   -- and so does the top
   top_of_word-in_window : window_holds r address ≡ true → top_of_word (word_at r address) ≡ r.top
   top_of_word-in_window holds =
-      top_of_word-encoded (word_at r address) (exponent_in r) (internal_in r) r.base r.top mantissas-word_at (base_of_word-in_window holds)
+      let in_space = well.in_space in
+      let fits : r.top < 2 ^ 65 = omega arith in
+      top_of_word-encoded (word_at r address) (exponent_in r) (internal_in r) r.base r.top mantissas-word_at (base_of_word-in_window holds) ∙ mod-eq_of_lt fits
 
   -- where the base stays, the window holds the address
   window_holds-from_base : base_of_word (word_at r address) ≡ r.base → window_holds r address ≡ true

@@ -1,8 +1,8 @@
 -- Root's word, with any address and flag.
-use Rattle.std.proofs.Common.{◌≡◌, ℕ, ◌*◌, ◌^◌, ◌<◌, ◌≤◌, Bool, true, false, refl, sym, ap, ◌∙◌, arith, lit<, lit≤}
+use Rattle.std.proofs.Common.{◌≡◌, ℕ, ◌*◌, ◌^◌, ◌<◌, Bool, false, refl, sym, ap, ◌∙◌, lit<, lit≤}
 use Rattle.cap_format.specs.Word.{with_field, with_address_of, bit}
 use Rattle.cap_bounds.specs.Least.{least_up_to}
-use Rattle.cap_bounds.specs.Record.{Record, IsWellFormed, IsWordWellFormed, has_exponent, exponent_for, alignment_for, is_in_window, encoded_at, encoded, decoded}
+use Rattle.cap_bounds.specs.Record.{IsWellFormed, IsWordWellFormed, has_exponent, exponent_for, alignment_for, is_in_window, encoded_at, encoded, decoded}
 use Rattle.cap_bounds.specs.RecordLaws.{decoded-encoded, encoded-well_formed}
 use Rattle.cap_bounds.specs.FieldLaws.{address-encoded, flag-encoded}
 use Rattle.cap_bounds.specs.Root.{root_record}

@@ -84,18 +84,30 @@ fn t_field(top: u128, e: u32, ie: bool) -> u128
     }
 }
 
+/// Permissions, flag and object type as they stand in the word.
+pub(crate) fn fields(perms: u16, flag: bool, otype: u32) -> u128
+    requires { otype < 2 ^ 18 }
+    ensures value { result ≡ perms * 2 ^ 112 + bit flag * 2 ^ 109 + otype * 2 ^ 91 }
+    ensures range { result < 2 ^ 128 - 2 ^ 111 }
+{
+    (u128::from(perms) << 112) + (u128::from(flag) << 109) + (u128::from(otype) << 91)
+}
+
+/// The mantissas of these bounds at an exponent, internal or not, as they stand in the word.
+pub(crate) fn bounds(base: u64, top: u128, e: u32, ie: bool) -> u128
+    requires { e ≤ 52 }
+    ensures value { result ≡ bit ie * 2 ^ 90 + encoded_t top e ie * 2 ^ 78 + encoded_b base e ie * 2 ^ 64 }
+    ensures range { result ≤ 2 ^ 91 - 2 ^ 64 }
+{
+    (u128::from(ie) << 90) + (t_field(top, e, ie) << 78) + (b_field(base, e, ie) << 64)
+}
+
 /// The canonical word of a capability.
 #[tactic(auto, unfolding(crate::specs::Record::encoded, crate::specs::Record::encoded_at, crate::specs::Record::has_exponent))]
 pub(crate) fn word(c: Capability) -> CapWord
     ensures { result ≡ encoded (record_with c.base c.top c.address c.perms c.flag c.otype) }
 {
     let length = c.top - u128::from(c.base);
-    let e = exponent(length);
-    let ie = length >= 4096;
-    let fields = (u128::from(c.perms) << 112)
-        + (u128::from(c.flag) << 109)
-        + (u128::from(c.otype) << 91)
-        + (u128::from(ie) << 90);
-    let bounds = (t_field(c.top, e, ie) << 78) + (b_field(c.base, e, ie) << 64);
-    CapWord::from_logical(fields + bounds + u128::from(c.address))
+    let bounds = bounds(c.base, c.top, exponent(length), length >= 4096);
+    CapWord::from_logical(fields(c.perms, c.flag, c.otype) + bounds + u128::from(c.address))
 }

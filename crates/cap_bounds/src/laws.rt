@@ -3,7 +3,9 @@
 ghost use Rattle.cap_bounds.specs.CapValue.{ValueIsItsWordAndTag};
 ghost use Rattle.cap_bounds.specs.Mantissa.{LengthMantissaIsInRange};
 ghost use Rattle.cap_bounds.specs.Record.{AddressLiesInItsWindow, CanonicalWordIsWellFormed, WordMeansItsRecord};
+ghost use Rattle.cap_bounds.specs.Rounding.{RoundingTakesTheLeastGranule};
 ghost use Rattle.cap_bounds.specs.SetAddress.{BoundsStayInTheWindow};
+ghost use Rattle.cap_bounds.specs.SetBounds.{BoundsStayInsideTheAuthority};
 ghost use Rattle.cap_bounds.specs.Window.{BaseIsByWindows, DecodedBoundsAreInRange};
 
 /// A capability's canonical word decodes to its bounds, address, permissions, flag and object type, at every exponent.
@@ -44,4 +46,15 @@ pub fn length_mantissa_is_in_range()
 /// A capability, or data, is what its word and its tag mean.
 pub fn values_are_their_words_and_tags()
     ensures { ValueIsItsWordAndTag }
+{}
+
+/// A request of 4096 bytes or more, base and length below 2^64, is rounded out to granules of 2^(e+3) bytes, where e is the
+/// least exponent, at most 52, at which it touches fewer than 1024 granules.
+pub fn rounding_takes_the_least_granule()
+    ensures { RoundingTakesTheLeastGranule }
+{}
+
+/// A range in the bounds of a capability is rounded out to a range that lies in them too.
+pub fn bounds_stay_inside_the_authority()
+    ensures { BoundsStayInsideTheAuthority }
 {}

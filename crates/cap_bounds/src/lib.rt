@@ -7,10 +7,13 @@ mod encode;
 pub mod laws;
 mod plain_cap;
 mod rep;
+mod rounding;
+mod set_bounds;
 #[cfg(test)]
 mod tests;
 mod words;
 
 pub use plain_cap::PlainCap;
 pub use rep::CapRep;
+pub use rounding::granule;
 pub use words::{is_well_formed, representable};

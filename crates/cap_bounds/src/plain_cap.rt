@@ -7,6 +7,7 @@ ghost use Rattle.cap_bounds.specs.PlainCap.{plain_value, record_of};
 
 use crate::capability::{Bits, Capability};
 use crate::rep::CapRep;
+use crate::set_bounds::bounded;
 use crate::{decode, encode};
 use cap_format::CapWord;
 
@@ -165,6 +166,10 @@ impl CapRep for PlainCap {
             PlainCap::Tagged(c) => moved(c, address),
             PlainCap::Untagged(_) => data_at(self, address),
         }
+    }
+
+    fn set_bounds(self, length: u64) -> (Self, bool) {
+        bounded(self, length)
     }
 
     fn clear_tag(self) -> Self {

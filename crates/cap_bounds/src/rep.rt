@@ -2,6 +2,7 @@ ghost use Rattle.std.specs.Prelude.{◌≡◌, ◌^◌, ◌<◌, IsTrue};
 ghost use Rattle.cap_bounds.specs.Record.{IsWordWellFormed};
 ghost use Rattle.cap_bounds.specs.CapValue.{CapValue, IsSound, value_of, word_of, is_tagged, value_base, value_top, value_address, value_perms, value_flag, value_otype, without_tag};
 ghost use Rattle.cap_bounds.specs.SetAddress.{at_address};
+ghost use Rattle.cap_bounds.specs.SetBounds.{with_bounds, bounds_exact, HasRoundedBounds, LiesWithin};
 
 use cap_format::CapWord;
 
@@ -53,6 +54,18 @@ pub trait CapRep: Copy {
     /// The capability with this address, if it is one, is unsealed and its bounds stay; else its bits with this address.
     fn set_address(self, address: u64) -> Self
         ensures { value result ≡ at_address (value self) address };
+
+    /// The value with the bounds of `length` bytes from its address, rounded out, and whether rounding changed nothing.
+    ///
+    /// The request is `[address, address + length)`, in whole numbers. Fewer than 4096 bytes stay as they are. A longer
+    /// request is rounded out to multiples of the least granule that serves: its base down and its top up, the top then
+    /// modulo `2^65`. Address, permissions, flag and object type stay. The result is a capability exactly if the operand is
+    /// an unsealed capability whose bounds hold the request; else it is data, with the same bounds and fields.
+    fn set_bounds(self, length: u64) -> (Self, bool)
+        ensures value { value result.0 ≡ with_bounds (value self) length }
+        ensures exact { result.1 ≡ bounds_exact (value self) length }
+        ensures bounds { HasRoundedBounds (value self) length (value result.0) }
+        ensures within { IsTrue (is_tagged (value result.0)) → LiesWithin (value result.0) (value self) };
 
     /// The same bits without the tag.
     fn clear_tag(self) -> Self

@@ -1,6 +1,6 @@
 //! Worked rows of the architecture: what the definitions are to give.
 
-use super::{CapRep, PlainCap, is_well_formed, representable};
+use super::{CapRep, PlainCap, granule, is_well_formed, representable};
 use cap_format::CapWord;
 use std::test::Fail;
 
@@ -18,6 +18,11 @@ fn high_half_in_memory(word: CapWord) -> u64 {
 /// A capability of all permissions and 4095 bytes.
 fn of_length_4095(otype: u32) -> Option<PlainCap> {
     PlainCap::of(0x8000_1000, 0x8000_1fff, 0x8000_1000, 0xffff, false, otype)
+}
+
+/// All permissions over all addresses.
+fn root(address: u64) -> Option<PlainCap> {
+    PlainCap::of(0, 1 << 64, address, 0xffff, false, UNSEALED)
 }
 
 fn bounds<C: CapRep>(c: C) -> (u64, u128) {
@@ -116,4 +121,76 @@ fn a_cleared_tag_leaves_the_bits(rt: HostRuntime) -> Result<(), Fail> {
     assert_eq!(rt; cleared.word(), c.word());
     assert_eq!(rt; bounds(cleared), bounds(c));
     Ok(())
+}
+
+#[test]
+fn bounds_below_4096_bytes_are_as_requested(rt: HostRuntime) -> Result<(), Fail> {
+    let (c, exact) = root(0x8000_1000).ok_or("no capability")?.set_bounds(4095);
+    assert!(rt; c.tag());
+    assert!(rt; exact);
+    assert_eq!(rt; bounds(c), (0x8000_1000, 0x8000_1fff));
+    assert_eq!(rt; high_half_in_memory(c.word()), 0xffff_0000_07fe_5004);
+    Ok(())
+}
+
+#[test]
+fn bounds_from_4096_bytes_on_are_rounded_out(rt: HostRuntime) -> Result<(), Fail> {
+    let (c, exact) = root(0x8000_1001).ok_or("no capability")?.set_bounds(4096);
+    assert!(rt; c.tag());
+    assert!(rt; !exact);
+    assert_eq!(rt; bounds(c), (0x8000_1000, 0x8000_2008));
+    assert_eq!(rt; c.address(), 0x8000_1001);
+    assert_eq!(rt; high_half_in_memory(c.word()), 0xffff_0000_0003_9004);
+    Ok(())
+}
+
+#[test]
+fn the_exponent_is_raised_where_1024_granules_are_touched(rt: HostRuntime) -> Result<(), Fail> {
+    let (c, exact) = root(1).ok_or("no capability")?.set_bounds(8191);
+    assert!(rt; c.tag());
+    assert!(rt; !exact);
+    assert_eq!(rt; bounds(c), (0, 8192));
+    assert_eq!(rt; high_half_in_memory(c.word()), 0xffff_0000_0001_8005);
+    Ok(())
+}
+
+#[test]
+fn at_its_top_a_capability_gives_no_byte(rt: HostRuntime) -> Result<(), Fail> {
+    let c = of_length_4095(UNSEALED).ok_or("no capability")?;
+    let end = c.set_address(0x8000_1fff);
+    let (empty, _) = end.set_bounds(0);
+    assert!(rt; empty.tag());
+    assert_eq!(rt; bounds(empty), (0x8000_1fff, 0x8000_1fff));
+    let (outside, _) = end.set_bounds(1);
+    assert!(rt; !outside.tag());
+    assert_eq!(rt; bounds(outside), (0x8000_1fff, 0x8000_2000));
+    Ok(())
+}
+
+#[test]
+fn a_request_past_the_last_address_gives_data_with_its_bounds(
+    rt: HostRuntime,
+) -> Result<(), Fail> {
+    let (c, _) = root(u64::MAX).ok_or("no capability")?.set_bounds(u64::MAX);
+    assert!(rt; !c.tag());
+    assert_eq!(rt; bounds(c), (0xff80_0000_0000_0000, 0));
+    Ok(())
+}
+
+#[test]
+fn bounds_of_a_sealed_capability_give_data(rt: HostRuntime) -> Result<(), Fail> {
+    let c = of_length_4095(SENTRY).ok_or("no capability")?;
+    let (set, exact) = c.set_bounds(16);
+    assert!(rt; !set.tag());
+    assert!(rt; exact);
+    assert_eq!(rt; bounds(set), (0x8000_1000, 0x8000_1010));
+    assert_eq!(rt; set.otype(), SENTRY);
+    Ok(())
+}
+
+#[test]
+fn granules_grow_with_the_length(rt: HostRuntime) {
+    for (length, bytes) in [(4095, 1), (4096, 8), (8184, 8), (8191, 16)] {
+        assert_eq!(rt; granule(length), bytes, "of {length}");
+    }
 }
