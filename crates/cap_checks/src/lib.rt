@@ -4,6 +4,8 @@
 mod access;
 mod checks;
 mod fault;
+#[cfg(test)]
+mod tests;
 
 pub use access::Access;
 pub use checks::{DDC_REGISTER, PCC_REGISTER, check_access, check_fetch, check_target};

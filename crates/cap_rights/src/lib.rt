@@ -2,6 +2,8 @@
 #![tactic(auto)]
 
 mod permission;
+#[cfg(test)]
+mod tests;
 mod unsealed;
 
 pub use permission::{Permission, permits};
