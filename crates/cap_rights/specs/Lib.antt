@@ -1,3 +1,10 @@
 pub mod Permission
+pub mod Perms
+pub mod ObjectType
 pub mod Opened
+pub mod Derivations
+pub mod Within
 pub mod OpenedLaws
+pub mod FieldLaws
+pub mod PermsLaws
+pub mod DerivationLaws

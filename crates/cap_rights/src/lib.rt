@@ -1,10 +1,25 @@
-//! What a capability allows: its permissions and its type.
+//! What a capability allows: its permissions and its type, and what may be derived from it.
 #![tactic(auto)]
 
+mod compared;
+mod fields;
+pub mod laws;
+mod otype;
 mod permission;
-#[cfg(test)]
-mod tests;
+mod perms;
+mod restricted;
+mod seals;
 mod unsealed;
 
+pub use compared::{equal_exact, subset};
+pub use otype::OType;
 pub use permission::{Permission, permits};
+pub use perms::Perms;
+pub use restricted::{and_perms, set_flags};
+pub use seals::{seal, seal_entry, unseal};
 pub use unsealed::opened;
+
+#[cfg(test)]
+mod permission_tests;
+#[cfg(test)]
+mod tests;

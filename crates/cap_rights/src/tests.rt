@@ -1,112 +1,218 @@
-//! Values from the table of permissions and the rules of types, not from their definitions.
+//! Worked rows of the architecture: what derivations are to give.
 
-use super::{Permission, opened, permits};
+use super::{
+    OType, Permission, Perms, and_perms, equal_exact, opened, permits, seal, seal_entry, set_flags,
+    subset, unseal,
+};
+use bitflags::Flags;
 use cap_bounds::{CapRep, PlainCap};
 use cap_format::CapWord;
 use std::test::Fail;
 
-/// The object type of what is not sealed.
 const UNSEALED: u32 = 0x3_ffff;
 
-/// The object type of a sentry.
 const SENTRY: u32 = 0x3_fffe;
 
-/// Each permission with its bit in `perms()`.
-const PERMISSIONS: [(Permission, u16); 12] = [
-    (Permission::Global, 0x001),
-    (Permission::Execute, 0x002),
-    (Permission::Load, 0x004),
-    (Permission::Store, 0x008),
-    (Permission::LoadCapability, 0x010),
-    (Permission::StoreCapability, 0x020),
-    (Permission::StoreLocalCapability, 0x040),
-    (Permission::Seal, 0x080),
-    (Permission::CInvoke, 0x100),
-    (Permission::Unseal, 0x200),
-    (Permission::AccessSystemRegisters, 0x400),
-    (Permission::SetCid, 0x800),
-];
+const GREATEST_SEALING_TYPE: u32 = 0x3_fffb;
 
-/// 8 KiB of RAM with an address inside, the flag set and all permissions but Store.
-fn of_type(otype: u32) -> Result<PlainCap, &'static str> {
-    PlainCap::of(0x8000_2000, 0x8000_4000, 0x8000_2104, 0xfff7, true, otype).ok_or("no capability")
+fn root_at(address: u64) -> PlainCap {
+    PlainCap::from_word(CapWord::ROOT, true).set_address(address)
 }
 
-/// The word with this high half and the address 0x1234, without a tag.
-fn data(high: u64) -> PlainCap {
-    let word = CapWord::from_logical((u128::from(high) << 64) + 0x1234);
-    PlainCap::from_word(word, false)
+fn type_number(c: PlainCap) -> u64 {
+    OType::of(c).signed_number()
 }
 
-/// The high half of a value's word.
-fn high(c: PlainCap) -> u64 {
-    (c.word().logical() >> 64) as u64
+/// A capability of 4095 bytes with these permissions and this type.
+fn page(perms: u16, otype: u32) -> Option<PlainCap> {
+    PlainCap::of(0x8000_1000, 0x8000_1fff, 0x8000_1000, perms, false, otype)
+}
+
+/// An authority over the types from 0 to 0xfff, at an address, with these permissions and this type.
+fn authority(address: u64, perms: u16, otype: u32) -> Option<PlainCap> {
+    PlainCap::of(0, 0x1000, address, perms, false, otype)
 }
 
 #[test]
-fn each_permission_has_its_own_bit(rt: HostRuntime) -> Result<(), Fail> {
-    for (permission, bit) in PERMISSIONS {
-        for otype in [UNSEALED, SENTRY, 5] {
-            let alone = PlainCap::of(0, 16, 0, bit, false, otype).ok_or("no capability")?;
-            let others = PlainCap::of(0, 16, 0, 0xffff ^ bit, false, otype).ok_or("no capability")?;
-            assert!(rt; permits(alone, permission), "{permission:?}");
-            assert!(rt; !permits(others, permission), "{permission:?}");
-            assert!(rt; permits(alone.clear_tag(), permission), "{permission:?}");
-            assert!(rt; !permits(others.clear_tag(), permission), "{permission:?}");
-        }
+fn root_seals_with_every_type_that_is_not_reserved(rt: HostRuntime) {
+    let sealed = seal(root_at(0), root_at(0x3_fffb));
+    assert!(rt; sealed.tag());
+    assert_eq!(rt; type_number(sealed), 0x3_fffb);
+    let refused = seal(root_at(0), root_at(0x3_fffc));
+    assert!(rt; !refused.tag());
+    assert_eq!(rt; type_number(refused), 0xffff_ffff_ffff_fffc);
+}
+
+#[test]
+fn root_does_not_unseal_a_sentry(rt: HostRuntime) {
+    let sentry = seal_entry(root_at(0x8000_0000));
+    assert!(rt; sentry.tag());
+    assert_eq!(rt; type_number(sentry), 0xffff_ffff_ffff_fffe);
+    let refused = unseal(sentry, root_at(0x3_fffe));
+    assert!(rt; !refused.tag());
+    assert_eq!(rt; type_number(refused), 0xffff_ffff_ffff_ffff);
+}
+
+#[test]
+fn what_is_sealed_and_unsealed_is_as_it_was(rt: HostRuntime) -> Result<(), Fail> {
+    let value = page(0xffff, UNSEALED).ok_or("no capability")?;
+    let key = authority(7, 0xffff, UNSEALED).ok_or("no authority")?;
+    let sealed = seal(value, key);
+    assert!(rt; sealed.tag());
+    assert_eq!(rt; sealed.otype(), 7);
+    assert!(rt; equal_exact(unseal(sealed, key), value));
+    let local_key = authority(7, 0xfffe, UNSEALED).ok_or("no authority")?;
+    let local = unseal(sealed, local_key);
+    assert!(rt; local.tag());
+    assert_eq!(rt; local.perms(), 0xfffe);
+    Ok(())
+}
+
+#[test]
+fn each_condition_of_a_seal_alone_takes_the_tag(rt: HostRuntime) -> Result<(), Fail> {
+    let value = page(0xffff, UNSEALED).ok_or("no capability")?;
+    let key = authority(7, 0xffff, UNSEALED).ok_or("no authority")?;
+    let without_seal = authority(7, 0xff7f, UNSEALED).ok_or("no authority")?;
+    let sealed_key = authority(7, 0xffff, 5).ok_or("no authority")?;
+    let past_its_bounds = authority(0x1000, 0xffff, UNSEALED).ok_or("no authority")?;
+    let sealed_value = page(0xffff, 5).ok_or("no capability")?;
+    let cases = [
+        ("value without tag", value.clear_tag(), key),
+        ("authority without tag", value, key.clear_tag()),
+        ("sealed value", sealed_value, key),
+        ("sealed authority", value, sealed_key),
+        ("no permission", value, without_seal),
+        ("address past the bounds", value, past_its_bounds),
+        ("reserved type", value, root_at(0x3_ffff)),
+        ("address of more than 18 bits", value, root_at(0x4_0007)),
+    ];
+    for (what, c, by) in cases {
+        let refused = seal(c, by);
+        assert!(rt; !refused.tag(), "{what}");
+        assert_eq!(rt;
+            u64::from(refused.otype()),
+            by.address() % 0x4_0000,
+            "{what}"
+        );
+        assert_eq!(rt; refused.address(), 0x8000_1000, "{what}");
     }
     Ok(())
 }
 
 #[test]
-fn user_permissions_are_no_hardware_permissions(rt: HostRuntime) -> Result<(), Fail> {
-    let user = PlainCap::of(0, 16, 0, 0xf000, false, UNSEALED).ok_or("no capability")?;
-    for (permission, _) in PERMISSIONS {
-        assert!(rt; !permits(user, permission), "{permission:?}");
+fn each_condition_of_an_unseal_alone_takes_the_tag(rt: HostRuntime) -> Result<(), Fail> {
+    let value = page(0xffff, 7).ok_or("no capability")?;
+    let key = authority(7, 0xffff, UNSEALED).ok_or("no authority")?;
+    let without_unseal = authority(7, 0xfdff, UNSEALED).ok_or("no authority")?;
+    let sealed_key = authority(7, 0xffff, 5).ok_or("no authority")?;
+    let other_type = authority(8, 0xffff, UNSEALED).ok_or("no authority")?;
+    let past_its_bounds = authority(0x1000, 0xffff, UNSEALED).ok_or("no authority")?;
+    let value_past_its_bounds = page(0xffff, 0x1000).ok_or("no capability")?;
+    let greatest = page(0xffff, GREATEST_SEALING_TYPE).ok_or("no capability")?;
+    let sentry = page(0xffff, SENTRY).ok_or("no capability")?;
+    let cases = [
+        ("value without tag", value.clear_tag(), key),
+        ("authority without tag", value, key.clear_tag()),
+        ("reserved type", sentry, root_at(0x3_fffe)),
+        ("sealed authority", value, sealed_key),
+        ("no permission", value, without_unseal),
+        (
+            "address past the bounds",
+            value_past_its_bounds,
+            past_its_bounds,
+        ),
+        ("address of another type", value, other_type),
+    ];
+    for (what, c, by) in cases {
+        let refused = unseal(c, by);
+        assert!(rt; !refused.tag(), "{what}");
+        assert_eq!(rt; refused.otype(), UNSEALED, "{what}");
+        assert_eq!(rt; refused.perms(), 0xffff, "{what}");
     }
+    assert!(rt; unseal(greatest, root_at(0x3_fffb)).tag());
     Ok(())
 }
 
 #[test]
-fn a_sealed_value_opens_to_itself_unsealed(rt: HostRuntime) -> Result<(), Fail> {
-    let unsealed = of_type(UNSEALED)?;
-    for otype in [SENTRY, 0x3_fffc, 0x3_fffb, 5, 0] {
-        let open = opened(of_type(otype)?);
-        assert!(rt; open == unsealed, "type {otype:x}");
-        assert!(rt; open.tag(), "type {otype:x}");
-        assert_eq!(rt; open.otype(), UNSEALED, "type {otype:x}");
-        assert_eq!(rt; open.address(), 0x8000_2104, "type {otype:x}");
-        assert_eq!(rt; open.base(), 0x8000_2000, "type {otype:x}");
-        assert_eq!(rt; open.top(), 0x8000_4000, "type {otype:x}");
-        assert_eq!(rt; open.perms(), 0xfff7, "type {otype:x}");
-        assert!(rt; open.flag(), "type {otype:x}");
-    }
-    Ok(())
-}
-
-#[test]
-fn an_unsealed_value_opens_to_itself(rt: HostRuntime) -> Result<(), Fail> {
-    let unsealed = of_type(UNSEALED)?;
-    assert!(rt; opened(unsealed) == unsealed);
-    assert!(rt; opened(unsealed.clear_tag()) == unsealed.clear_tag());
-    Ok(())
-}
-
-#[test]
-fn data_opens_to_its_bits_with_the_unsealed_type(rt: HostRuntime) -> Result<(), Fail> {
-    // The type has bits 27 to 44 of the high half.
-    for (before, after) in [
-        (0, 0x1fff_f800_0000),
-        (u64::MAX, u64::MAX),
-        (0xffff_e000_07ff_ffff, u64::MAX),
-        (0x1234_c000_0000_5678, 0x1234_dfff_f800_5678),
+fn an_entry_is_sealed_from_executable_capabilities(rt: HostRuntime) -> Result<(), Fail> {
+    let code = page(0xffff, UNSEALED).ok_or("no capability")?;
+    let data = page(0xfffd, UNSEALED).ok_or("no capability")?;
+    let sealed = page(0xffff, 5).ok_or("no capability")?;
+    assert!(rt; seal_entry(code).tag());
+    assert!(rt; equal_exact(opened(seal_entry(code)), code));
+    for refused in [
+        seal_entry(data),
+        seal_entry(sealed),
+        seal_entry(code.clear_tag()),
     ] {
-        let open = opened(data(before));
-        assert!(rt; !open.tag());
-        assert_eq!(rt; high(open), after, "{before:x}");
-        assert_eq!(rt; open.address(), 0x1234);
+        assert!(rt; !refused.tag());
+        assert_eq!(rt; refused.otype(), SENTRY);
     }
-    let untagged = of_type(SENTRY)?.clear_tag();
-    assert!(rt; opened(untagged) == of_type(UNSEALED)?.clear_tag());
+    Ok(())
+}
+
+#[test]
+fn a_sealed_value_keeps_no_tag_when_it_is_changed(rt: HostRuntime) -> Result<(), Fail> {
+    let free = page(0x1fff, UNSEALED).ok_or("no capability")?;
+    let sealed = page(0x1fff, 5).ok_or("no capability")?;
+    let mask = Perms::LOAD | Perms::STORE | Perms::USER1;
+    for (c, tag) in [(free, true), (sealed, false)] {
+        let fewer = and_perms(c, mask);
+        assert_eq!(rt; fewer.tag(), tag);
+        assert_eq!(rt; fewer.perms(), 0xc);
+        let marked = set_flags(c, true);
+        assert_eq!(rt; marked.tag(), tag);
+        assert!(rt; marked.flag());
+        assert!(rt; !set_flags(marked, false).flag());
+    }
+    Ok(())
+}
+
+#[test]
+fn changed_data_keeps_its_reserved_bits(rt: HostRuntime) {
+    let data = PlainCap::from_word(CapWord::from_logical(u128::MAX), false);
+    let fewer = and_perms(data, Perms::from_bits(0));
+    assert!(rt; !fewer.tag());
+    assert_eq!(rt; fewer.word().logical(), u128::MAX >> 16);
+}
+
+#[test]
+fn a_subset_has_the_same_tag_and_lies_within(rt: HostRuntime) -> Result<(), Fail> {
+    let root = root_at(0);
+    let value = page(0xffff, UNSEALED).ok_or("no capability")?;
+    let fewer = and_perms(value, Perms::LOAD);
+    assert!(rt; subset(root, value));
+    assert!(rt; subset(value, value));
+    assert!(rt; subset(value, fewer));
+    assert!(rt; !subset(value, root));
+    assert!(rt; !subset(fewer, value));
+    assert!(rt; !subset(root, value.clear_tag()));
+    assert!(rt; !equal_exact(value, value.clear_tag()));
+    assert!(rt; !equal_exact(value, fewer));
+    Ok(())
+}
+
+#[test]
+fn permissions_are_shown_with_the_user_ones_at_bit_15(rt: HostRuntime) {
+    let root = root_at(0);
+    assert_eq!(rt; Perms::from_bits(root.perms()).hardware(), 0x7_8fff);
+    assert_eq!(rt; Perms::from_hardware(0x7_8fff).bits(), 0xffff);
+    assert_eq!(rt; Perms::from_hardware(!0x7_8fff).bits(), 0);
+    assert_eq!(rt; Perms::from_hardware(1 << 15), Perms::USER0);
+    assert_eq!(rt; Perms::of(Permission::SetCid), Perms::SET_CID);
+    assert!(rt; Perms::from_bits(root.perms()).contains(Perms::SEAL));
+    assert!(rt; permits(and_perms(root, Perms::SEAL), Permission::Seal));
+    assert!(rt; !permits(and_perms(root, Perms::SEAL), Permission::Global));
+}
+
+#[test]
+fn a_type_has_18_bits(rt: HostRuntime) -> Result<(), Fail> {
+    assert!(rt; OType::new(0x4_0000).is_none());
+    let greatest = OType::new(GREATEST_SEALING_TYPE).ok_or("no type")?;
+    assert!(rt; !greatest.is_reserved());
+    assert_eq!(rt; greatest.signed_number(), 0x3_fffb);
+    assert!(rt; OType::SENTRY.is_reserved());
+    assert_eq!(rt; OType::UNSEALED.signed_number(), u64::MAX);
+    assert_eq!(rt; OType::new(0x3_ffff), Some(OType::UNSEALED));
     Ok(())
 }
