@@ -6,5 +6,5 @@ mod running;
 #[cfg(test)]
 mod tests;
 
-pub use programs::{FACTORIAL, FIRST_IMAGE};
+pub use programs::{FACTORIAL, FIRST_IMAGE, GREATEST_COMMON_DIVISOR};
 pub use running::{ENTRY, machine_of};

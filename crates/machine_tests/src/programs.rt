@@ -30,3 +30,19 @@ pub const FACTORIAL: [u32; 16] = [
     0x0010_05b7,
     0x0005_b023,
 ];
+
+/// The greatest common divisor of 1071 and 462 by Euclid's algorithm; halts with it. Assembled by GNU as:
+///
+/// li a0, 1071; li a1, 462; loop: beq a1, zero, done; remu a2, a0, a1; addi a0, a1, 0; addi a1, a2, 0; beq zero, zero, loop;
+/// done: lui a3, 0x100; sd a0, 0(a3)
+pub const GREATEST_COMMON_DIVISOR: [u32; 9] = [
+    0x42f0_0513,
+    0x1ce0_0593,
+    0x0005_8a63,
+    0x02b5_7633,
+    0x0005_8513,
+    0x0006_0593,
+    0xfe00_08e3,
+    0x0010_06b7,
+    0x00a6_b023,
+];

@@ -137,6 +137,18 @@ fn seven_factorial_is_sent_in_digits(rt: HostRuntime) -> Result<(), Fail> {
 }
 
 #[test]
+fn euclid_halts_with_the_greatest_common_divisor(rt: HostRuntime) -> Result<(), Fail> {
+    let mut machine = machine_of(rt.alloc(), &GREATEST_COMMON_DIVISOR, 0).ok_or("memory")?;
+    let mut sent = Vec::new(rt.alloc());
+    // 1071 = 2 * 462 + 147, 462 = 3 * 147 + 21, 147 = 7 * 21: three turns of five instructions, and five around them
+    assert_eq!(rt; machine.run(&[Event::Step; 19], &mut sent)?, End::Running);
+    assert_eq!(rt; machine.run(&[Event::Step; 9], &mut sent)?, End::Halted(21));
+    assert!(rt; sent.is_empty());
+    assert_eq!(rt; csrs(&machine), [0, 0, 0, 20, 20]);
+    Ok(())
+}
+
+#[test]
 fn traps_report_cause_value_and_place(rt: HostRuntime) -> Result<(), Fail> {
     // the word at the entry, mcause, mtval
     let traps = [
