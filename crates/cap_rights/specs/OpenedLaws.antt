@@ -1,5 +1,5 @@
 -- A sound value's bits with another type mean the value with that type.
-use Rattle.std.proofs.Common.{◌≡◌, ℕ, ◌^◌, ◌<◌, Bool, true, refl, ap, ◌∙◌}
+use Rattle.std.proofs.Common.{◌≡◌, ℕ, ◌^◌, ◌<◌, true, refl, ap, ◌∙◌}
 use Rattle.cap_format.specs.Word.{with_field}
 use Rattle.cap_bounds.specs.CapValue.{CapValue, Cap, Data, IsSound, is_tagged, word_of, value_of}
 use Rattle.cap_bounds.specs.Record.{IsWordWellFormed, decoded}
