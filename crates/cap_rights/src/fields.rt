@@ -40,7 +40,7 @@ pub(crate) fn with_flag<C: CapRep>(c: C, flag: bool) -> C
     C::from_word(c.word().with_flag(flag), c.tag())
 }
 
-/// Whether the value has a type, reserved ones other than that of what is unsealed included.
+/// Whether the value has another type than what is unsealed.
 #[inline]
 pub(crate) fn is_sealed<C: CapRep>(c: C) -> bool
     ensures { result ≡ is_sealed (C.value c) }

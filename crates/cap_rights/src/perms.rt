@@ -195,11 +195,11 @@ impl Flags for Perms {
     }
 
     fn bits(&self) -> u16 {
-        self.bits
+        Perms::bits(*self)
     }
 
     fn from_bits_retain(bits: u16) -> Perms {
-        Perms { bits }
+        Perms::from_bits(bits)
     }
 }
 
