@@ -168,9 +168,7 @@ fn at_its_top_a_capability_gives_no_byte(rt: HostRuntime) -> Result<(), Fail> {
 }
 
 #[test]
-fn a_request_past_the_last_address_gives_data_with_its_bounds(
-    rt: HostRuntime,
-) -> Result<(), Fail> {
+fn a_request_past_the_last_address_gives_data_with_its_bounds(rt: HostRuntime) -> Result<(), Fail> {
     let (c, _) = root(u64::MAX).ok_or("no capability")?.set_bounds(u64::MAX);
     assert!(rt; !c.tag());
     assert_eq!(rt; bounds(c), (0xff80_0000_0000_0000, 0));

@@ -1,6 +1,6 @@
 use Rattle.std.proofs.Common.{◌≡◌, ◌*◌, ◌%◌, refl, sym, ap, ◌∙◌}
 use Rattle.cap_bounds.specs.Record.{record_with, has_exponent}
-use Rattle.cap_bounds.specs.CapValue.{Cap, Data}
+use Rattle.cap_bounds.specs.CapValue.{Cap}
 use Rattle.cap_bounds.specs.SetBounds.{bounded}
 use Rattle.cap_bounds.specs.PlainCap.{plain_value, plain_sound}
 use Rattle.cap_bounds.specs.SetBoundsLaws.{IsWellFormed-bounded, with_bounds-set, with_bounds-refused}
