@@ -1,5 +1,5 @@
 -- The special capability registers (UCAM-CL-TR-987, CHERI-RISC-V special capability registers).
-use Rattle.std.specs.Prelude.{◌≡◌, ℕ, ◌*◌, ◌+◌, ◌%◌, ◌^◌, Bool, false}
+use Rattle.std.specs.Prelude.{◌≡◌, ◌%◌}
 use Rattle.cap_bounds.specs.CapValue.{CapValue, value_address}
 
 pub record Scrs : Type 0 where

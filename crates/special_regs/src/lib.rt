@@ -3,6 +3,8 @@
 
 mod csrs;
 mod scrs;
+#[cfg(test)]
+mod tests;
 mod traps;
 
 pub use csrs::Csrs;
