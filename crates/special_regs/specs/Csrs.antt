@@ -1,5 +1,5 @@
 -- The control and status registers that hold something of their own (RISC-V privileged manual, machine level).
-use Rattle.std.specs.Prelude.{ℕ, ◌+◌, ◌%◌, ◌^◌, Bool, false}
+use Rattle.std.specs.Prelude.{ℕ, ◌+◌, ◌%◌, ◌^◌, false}
 use Rattle.special_regs.specs.declared.csrs.Csrs.{Csrs}
 
 -- as they begin

@@ -1,6 +1,6 @@
 -- Entering a trap (RISC-V privileged manual, machine trap handling; UCAM-CL-TR-987, CHERI-RISC-V exception handling).
-use Rattle.std.specs.Prelude.{ℕ, ◌*◌, ◌/◌, ◌%◌, Bool, true, false, ◌&&◌, ◌==◌, if◌then◌else◌}
-use Rattle.cap_bounds.specs.CapValue.{CapValue, Cap, is_tagged, value_otype, value_address, sentry_type}
+use Rattle.std.specs.Prelude.{◌*◌, ◌/◌, ◌%◌, false, ◌&&◌, ◌==◌, if◌then◌else◌}
+use Rattle.cap_bounds.specs.CapValue.{CapValue, is_tagged, value_otype, value_address, sentry_type}
 use Rattle.cap_bounds.specs.SetAddress.{at_address}
 use Rattle.cap_rights.specs.Opened.{opened}
 use Rattle.cap_checks.specs.declared.fault.Fault.{Fault}

@@ -4,6 +4,8 @@
 mod csrs;
 mod reads;
 mod scrs;
+#[cfg(test)]
+mod tests;
 mod traps;
 
 pub use csrs::Csrs;

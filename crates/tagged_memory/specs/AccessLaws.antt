@@ -1,6 +1,5 @@
 -- An access without a fault, and a word that is stored and loaded again.
-use Rattle.std.proofs.Common.{◌≡◌, ℕ, ◌%◌, true, false, Option, None, Some, eqb, not, cond, refl}
-use Rattle.tagged_memory.specs.declared.fault.MemoryFault.{MemoryFault}
+use Rattle.std.proofs.Common.{◌≡◌, ℕ, ◌%◌, true, false, None, Some, eqb, not, cond, refl}
 use Rattle.tagged_memory.specs.declared.fault.MemoryFault.TheVariants.{M3, M4}
 use Rattle.tagged_memory.specs.Memory.{Memory, is_in_ram, access_fault, StoredIsLoaded}
 use Rattle.tagged_memory.specs.MemoryLaws.{word_at-capability_written_here, is_tagged-capability_written_here}

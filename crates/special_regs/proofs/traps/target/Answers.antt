@@ -1,7 +1,6 @@
-use Rattle.std.proofs.Common.{◌≡◌, ℕ, ◌*◌, ◌/◌, ◌%◌, ◌^◌, ◌<◌, sym, ap, ◌∙◌, arith}
+use Rattle.std.proofs.Common.{◌≡◌, ◌*◌, ◌/◌, ◌%◌, ◌^◌, ◌<◌, ap, ◌∙◌, arith}
 use Rattle.cap_bounds.specs.CapValue.{value_address}
 use Rattle.cap_bounds.specs.AddressLaws.{value_address-at_address}
-use Rattle.special_regs.specs.Scrs.{IsAligned}
 use Rattle.special_regs.proofs.traps.target.Goals as goal
 
 pub returns-else-address-eq0-clause-aligned : goal.returns-else-address-eq0-clause-aligned
