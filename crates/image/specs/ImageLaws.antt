@@ -1,7 +1,6 @@
 -- An image's sections lie in its RAM.
-use Rattle.std.proofs.Common.{◌≡◌, ℕ, ◌+◌, ◌%◌, ◌≤◌, Bool, true, false, cond, ltb, not, ◌||◌, List, [], ◌∷◌, length, Option, None, Some, refl}
+use Rattle.std.proofs.Common.{◌≡◌, ℕ, ◌+◌, ◌%◌, ◌≤◌, true, false, cond, ltb, not, ◌||◌, List, [], ◌∷◌, length, None, Some, refl}
 use Rattle.std.proofs.lemmas.Bool.{ltb-false, and_parts, eqb-true}
-use Rattle.image.specs.declared.fault.ImageFault.{ImageFault}
 use Rattle.image.specs.declared.fault.ImageFault.TheVariants.{L4, L5, L6, L7}
 use Rattle.image.specs.Image.{Section, Image, IsImage, ram_base, ram_end, is_good_header, sections_fault, build_fault, mode_number}
 
