@@ -139,7 +139,8 @@ pub(crate) fn base(word: CapWord) -> u64
 /// The top that a word decodes to, below 2^65.
 #[tactic(auto, unfolding(crate::specs::Window::top_of_word))]
 pub(crate) fn top(word: CapWord) -> u128
-    ensures { result ≡ top_of_word word }
+    ensures value { result ≡ top_of_word word }
+    ensures range { result < 2 ^ 65 }
 {
     top_at(
         exponent(word),

@@ -37,7 +37,8 @@ pub trait CapRep: Copy {
 
     /// The address past the bounds, below `2^65`.
     fn top(self) -> u128
-        ensures { result ≡ value_top (value self) };
+        ensures value { result ≡ value_top (value self) }
+        ensures range { result < 2 ^ 65 };
 
     /// The permissions: hardware permissions at bits 0 to 11, user permissions at bits 12 to 15.
     fn perms(self) -> u16

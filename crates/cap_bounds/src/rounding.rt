@@ -15,6 +15,16 @@ fn granules_up_to(granule: u128, bytes: u128) -> u128
     (bytes + granule - 1) / granule
 }
 
+/// The granule of an exponent.
+fn granule_at(e: u32) -> u128
+    requires { e ≤ 52 }
+    ensures value { result ≡ 2 ^ (e + 3) }
+    ensures some { 1 ≤ result }
+    ensures size { result ≤ 2 ^ 55 }
+{
+    power(e + 3)
+}
+
 /// How many granules of `2^(e+3)` bytes the addresses from `base` on and below `top` touch.
 fn granules_spanned(e: u32, base: u64, top: u128) -> u128
     requires exponent { e ≤ 52 }
@@ -22,7 +32,7 @@ fn granules_spanned(e: u32, base: u64, top: u128) -> u128
     requires range { top < 2 ^ 65 }
     ensures { result ≡ granules_spanned e base top }
 {
-    let granule = power(e + 3);
+    let granule = granule_at(e);
     granules_up_to(granule, top) - u128::from(base) / granule
 }
 
@@ -47,12 +57,12 @@ fn granule_of_range(base: u64, top: u128) -> u128
     requires range { top < 2 ^ 65 }
     ensures value { result ≡ rounding_granule base top }
     ensures some { 1 ≤ result }
-    ensures size { result ≤ 2 ^ 64 }
+    ensures size { result ≤ 2 ^ 55 }
 {
     if top - u128::from(base) < 4096 {
         1
     } else {
-        power(exponent(base, top) + 3)
+        granule_at(exponent(base, top))
     }
 }
 
@@ -89,7 +99,9 @@ pub(crate) fn rounded_out(base: u64, top: u128) -> Rounded
 ///
 /// 1 for a length below 4096, else a power of two from 8 to 2^55.
 pub fn granule(length: u64) -> u128
-    ensures { result ≡ length_granule length }
+    ensures value { result ≡ length_granule length }
+    ensures some { 1 ≤ result }
+    ensures size { result ≤ 2 ^ 55 }
 {
     granule_of_range(0, u128::from(length))
 }

@@ -5,8 +5,9 @@ ghost use Rattle.hart.specs.Opening.{opening, opening_memory};
 
 use crate::hart::Hart;
 use crate::registers::Registers;
-use crate::values::{integer_value, root_value};
+use crate::values::root_value;
 use cap_bounds::CapRep;
+use cap_insns::integer;
 use devices::Devices;
 use image::Image;
 use special_regs::{Csrs, Scrs};
@@ -32,7 +33,7 @@ impl<C: CapRep> Hart<C> {
         ensures { IfOk result (λ hart. hart ≡ opening image.now) }
     {
         let memory = opened_memory(alloc, image)?;
-        let null = integer_value(0);
+        let null = integer(0);
         Ok(Hart {
             registers: Registers::new(null),
             scrs: Scrs::new(

@@ -5,14 +5,14 @@ ghost use Rattle.isa_rows.specs.Kind.{kind_of};
 ghost use Rattle.isa_rows.specs.declared.kinds.Kind.TheVariants as kind;
 ghost use Rattle.tagged_memory.specs.Size.{bytes_of};
 ghost use Rattle.hart.specs.Effect.{meant, CanApply};
-ghost use Rattle.hart.specs.Step.{HasRegisters, number_in, second_of, target_of, illegal, integer_effect, mul_div_effect, auipc_effect, branch_effect, mapped_store, store_effect, stores_effect, store_size, kind_effect};
+ghost use Rattle.hart.specs.Step.{HasRegisters, number_in, second_of, target_of, illegal, integer_effect, mul_div_effect, capability_effect, auipc_effect, branch_effect, mapped_store, store_effect, stores_effect, store_size, kind_effect};
 
 use crate::effect::Effect;
 use crate::hart::Hart;
-use crate::values::integer_value;
 use alu::{branch_taken, int_op, mul_div};
 use cap_bounds::CapRep;
 use cap_checks::{Access, DDC_REGISTER, Fault, check_access, check_target};
+use cap_insns::{cap_op, integer};
 use devices::Devices;
 use isa_rows::{Format, Insn, Kind, Row};
 use tagged_memory::Size;
@@ -53,7 +53,7 @@ impl<C: CapRep> Hart<C> {
         };
         Effect::Write {
             rd: insn.rd,
-            value: integer_value(int_op(insn.row, a, b)),
+            value: integer(int_op(insn.row, a, b)),
         }
     }
 
@@ -68,7 +68,24 @@ impl<C: CapRep> Hart<C> {
         let quotient_or_product = mul_div(insn.row, self.number(insn.rs1), self.number(insn.rs2));
         Effect::Write {
             rd: insn.rd,
-            value: integer_value(quotient_or_product),
+            value: integer(quotient_or_product),
+        }
+    }
+
+    /// A row over capabilities that touches neither memory nor special registers and does not jump.
+    #[inline]
+    #[tactic(auto, unfolding(crate::specs::Step::capability_effect, crate::specs::Effect::CanApply))]
+    fn plan_capability(&self, insn: Insn) -> Effect<C>
+        requires kind { kind_of insn.row ≡ kind.Capability }
+        requires registers { HasRegisters insn }
+        ensures effect { meant C.value result ≡ capability_effect insn self.now }
+        ensures can { CanApply result self.now }
+    {
+        let cs1 = self.registers.get(insn.rs1);
+        let cs2 = self.registers.get(insn.rs2);
+        Effect::Write {
+            rd: insn.rd,
+            value: cap_op(insn, cs1, cs2, self.scrs.ddc()),
         }
     }
 
@@ -82,7 +99,7 @@ impl<C: CapRep> Hart<C> {
         let pc = self.scrs.pcc().address();
         Effect::Write {
             rd: insn.rd,
-            value: integer_value(pc.wrapping_add(insn.imm)),
+            value: integer(pc.wrapping_add(insn.imm)),
         }
     }
 
@@ -176,6 +193,7 @@ impl<C: CapRep> Hart<C> {
             Kind::Integer => self.plan_integer(insn),
             Kind::MulDiv => self.plan_mul_div(insn),
             Kind::Branch => self.plan_branch(insn),
+            Kind::Capability => self.plan_capability(insn),
             Kind::Fence => Effect::Nothing,
             Kind::Ecall => Effect::Trap(Fault {
                 mcause: 11,

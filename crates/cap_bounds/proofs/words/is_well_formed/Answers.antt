@@ -8,7 +8,7 @@ use Rattle.cap_bounds.proofs.words.is_well_formed.Goals.{After-otype}
 -- the record that the body puts together is the one that the word decodes to
 meant : (c : After-otype) → record_with c.base-base.result c.top-top.result c.address.result c.perms.result c.flag.result c.otype.result ≡ decoded c.args.word
 unfolding decoded
-meant c = rw (c.base-base.ensures, c.top-top.ensures, c.address.ensures, c.perms.ensures, c.flag.ensures, c.otype.ensures) refl
+meant c = rw (c.base-base.ensures, c.top-top.ensures.value, c.address.ensures, c.perms.ensures, c.flag.ensures, c.otype.ensures) refl
 
 -- a word is its record's canonical word exactly where it is well-formed
 canonical : (word n : ℕ) (r : Record) (v : CapValue) → r ≡ decoded word → IsWellFormed r → v ≡ Cap r → n ≡ word_of v → (b : Bool) → b ≡ eqb n word → IsTrue b ↔ IsWordWellFormed word
