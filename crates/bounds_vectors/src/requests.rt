@@ -1,0 +1,454 @@
+//! Requests for bounds, written by `python3 tools/requests.py > crates/bounds_vectors/src/requests.rt`.
+//!
+//! The script sets bounds by the formula of CHERI Concentrate (UCAM-CL-TR-987): the exponent comes from the leading zeros of the
+//! length, and is raised by one where rounding carries. A row is the operand's high half, address and tag and the length; and
+//! the result's high half and tag, whether rounding changed nothing, and the result's base and top.
+
+/// An operand, a length, and what setting the bounds is to give.
+#[derive(Clone, Copy, Debug)]
+pub struct Request {
+    /// Bits 127..64 of the operand's word in logical form.
+    pub high: u64,
+    /// Bits 63..0 of the operand's word, and of the result's.
+    pub address: u64,
+    /// Whether the operand is a capability.
+    pub tag: bool,
+    /// How many bytes from the address on are requested.
+    pub length: u64,
+    pub expected: Expected,
+}
+
+/// What setting the bounds is to give.
+#[derive(Clone, Copy, Debug)]
+pub struct Expected {
+    /// Bits 127..64 of the result's word in logical form.
+    pub high: u64,
+    /// Whether the result is a capability.
+    pub tag: bool,
+    /// Whether rounding changed nothing.
+    pub exact: bool,
+    pub base: u64,
+    /// Below 2^65.
+    pub top: u128,
+}
+
+macro_rules! requests {
+    ($($high:literal $address:literal $tag:literal $length:literal => $new_high:literal $new_tag:literal $exact:literal $base:literal $top:literal;)*) => {
+        [$(Request {
+            high: $high,
+            address: $address,
+            tag: $tag,
+            length: $length,
+            expected: Expected {
+                high: $new_high,
+                tag: $new_tag,
+                exact: $exact,
+                base: $base,
+                top: $top,
+            },
+        }),*]
+    };
+}
+
+/// Requests at every exponent, on and off granules, at the ends of the operand and of the address space, and of data.
+pub static REQUESTS: [Request; 399] = requests! {
+    0xffff1ffffc018004 0x0000000080001000 true  0x0000000000000fff => 0xffff1ffffbffd000 true  true  0x0000000080001000 0x00000000080001fff;
+    0xffff1ffffc018004 0x0000000080001001 true  0x0000000000001000 => 0xffff1ffffc021000 true  false 0x0000000080001000 0x00000000080002008;
+    0xffff1ffffc018004 0x0000000000000001 true  0x0000000000001fff => 0xffff1ffffc000001 true  false 0x0000000000000000 0x00000000000002000;
+    0xffff1ffffc018004 0xffffffffffffffff true  0xffffffffffffffff => 0xffff1ffffc018ffc false false 0xff80000000000000 0x00000000000000000;
+    0xffff1ffffc018004 0x425009fc933a6c40 true  0x0000000000000000 => 0xffff1ffffb102c40 true  true  0x425009fc933a6c40 0x0425009fc933a6c40;
+    0xffff1ffffc018004 0x38144ec7784c09a8 true  0x0000000000000000 => 0xffff1ffffa6a09a8 true  true  0x38144ec7784c09a8 0x038144ec7784c09a8;
+    0xa0381ffffbbd2ef4 0x08d90b07e3336ef4 true  0x0000000000000000 => 0xa0381ffffbbd2ef4 true  true  0x08d90b07e3336ef4 0x008d90b07e3336ef4;
+    0xffff1ffffc018004 0xef367fc3817432e0 true  0x0000000000000001 => 0xffff1ffff8b872e0 true  true  0xef367fc3817432e0 0x0ef367fc3817432e1;
+    0xe0711ffff9ce4738 0x9c987425b299c738 true  0x0000000000000001 => 0xe0711ffff9ce4738 true  true  0x9c987425b299c738 0x09c987425b299c739;
+    0xffff1ffffc018004 0x73cf92bc45302563 true  0x0000000000000001 => 0xffff1ffff9592563 true  true  0x73cf92bc45302563 0x073cf92bc45302564;
+    0xffff1ffffc018004 0xbabbd7feedfc87a0 true  0x0000000000000fff => 0xffff1ffff9e7c7a0 true  true  0xbabbd7feedfc87a0 0x0babbd7feedfc979f;
+    0xffff1ffffc018004 0x4d908da54b7a1e48 true  0x0000000000000fff => 0xffff1ffffb91de48 true  true  0x4d908da54b7a1e48 0x04d908da54b7a2e47;
+    0x22171ffffd462328 0xc9afc673464be386 true  0x0000000000000fff => 0x22171ffff8e16386 true  true  0xc9afc673464be386 0x0c9afc673464bf385;
+    0xb77e1fffff7e3c58 0xc53576dfc0957cf0 true  0x0000000000001000 => 0xb77e1fffff3c3cf0 true  true  0xc53576dfc0957cf0 0x0c53576dfc0958cf0;
+    0xffff1ffffd881548 0x602987e80a7fd5a8 true  0x0000000000001000 => 0xffff1ffffd6a15a8 true  true  0x602987e80a7fd5a8 0x0602987e80a7fe5a8;
+    0xffff3ffffc043e10 0x9888c1c5c3c9be25 true  0x0000000000001000 => 0xffff3fffff8a3e20 true  false 0x9888c1c5c3c9be20 0x09888c1c5c3c9ce28;
+    0xffff1ffffc018004 0xe9f44352faca47f0 true  0x0000000000001001 => 0xffff1ffffdfe07f0 true  false 0xe9f44352faca47f0 0x0e9f44352faca57f8;
+    0xffff1ffffc018004 0xe0ec2008b5264e08 true  0x0000000000001001 => 0xffff1fffff840e08 true  false 0xe0ec2008b5264e08 0x0e0ec2008b5265e10;
+    0xef763ffffeea2b88 0xddcd782f0480eb96 true  0x0000000000001001 => 0xef763ffffee62b90 true  false 0xddcd782f0480eb90 0x0ddcd782f0480fb98;
+    0xffff1ffffc018004 0x890e5212e71c27b0 true  0x0000000000001ff8 => 0xffff1ffffdea27b0 true  true  0x890e5212e71c27b0 0x0890e5212e71c47a8;
+    0xffff1ffffc018004 0xd66175cdc97de4c8 true  0x0000000000001ff8 => 0xffff1ffffd3024c8 true  true  0xd66175cdc97de4c8 0x0d66175cdc97e04c0;
+    0xffff1ffffc018004 0x11bdd258be029a36 true  0x0000000000001ff8 => 0xffff1fffff460d19 true  false 0x11bdd258be029a30 0x011bdd258be02ba30;
+    0xffff1ffffc018004 0xf08a2baf3a3a2050 true  0x0000000000001ff9 => 0xffff1ffffc0a1029 true  false 0xf08a2baf3a3a2050 0x0f08a2baf3a3a4050;
+    0xffff1ffffc018004 0xd7dcc3df49ce7ce8 true  0x0000000000001ff9 => 0xffff1fffff9e3e71 true  false 0xd7dcc3df49ce7ce0 0x0d7dcc3df49ce9cf0;
+    0xffff1ffffc018004 0xfd2e0ce5d7408706 true  0x0000000000001ff9 => 0xffff1ffffce00381 true  false 0xfd2e0ce5d7408700 0x0fd2e0ce5d740a700;
+    0xffff1ffffc018004 0x3bb00253575ee150 true  0x0000000000001fff => 0xffff1ffffc2a30a9 true  false 0x3bb00253575ee150 0x03bb00253575f0150;
+    0xffff1ffffc018004 0x5319ddc5a770c368 true  0x0000000000001fff => 0xffff1ffffc6e21b1 true  false 0x5319ddc5a770c360 0x05319ddc5a770e370;
+    0xffff1ffffc018004 0x8d94596e7545ba77 true  0x0000000000001fff => 0xffff1fffff501d39 true  false 0x8d94596e7545ba70 0x08d94596e7545da80;
+    0xffff1ffffc018004 0x736358d5ce8380cb true  0x0000000000000fff => 0xffff1ffff83280cb true  true  0x736358d5ce8380cb 0x0736358d5ce8390ca;
+    0xffff1ffffc018004 0x7c252c0bed345050 true  0x0000000000001000 => 0xffff1ffffc141050 true  true  0x7c252c0bed345050 0x07c252c0bed346050;
+    0xffff1ffffc018004 0x713e8c7a9b272ca8 true  0x0000000000001001 => 0xffff1fffff2c2ca8 true  false 0x713e8c7a9b272ca8 0x0713e8c7a9b273cb0;
+    0xd7751ffffe061801 0x30e7e5e029c13020 true  0x0000000000001fff => 0xd7751ffffe041811 true  false 0x30e7e5e029c13020 0x030e7e5e029c15020;
+    0xffff1ffffe980739 0x104400b3471111f4 true  0x0000000000002000 => 0xffff1ffffe4008f9 true  false 0x104400b3471111f0 0x0104400b347113200;
+    0xc8411ffffe6e09b1 0xc84ec56cfdfe1369 true  0x0000000000002001 => 0xc8411ffffe6e09b1 true  false 0xc84ec56cfdfe1360 0x0c84ec56cfdfe3370;
+    0xffff1ffffc018004 0xe72dc3dd486caa92 true  0x0000000000003fff => 0xffff1ffffeaa2aa2 true  false 0xe72dc3dd486caa80 0x0e72dc3dd486ceaa0;
+    0xffff1ffffc018004 0x750dc970721b1e00 true  0x0000000000004000 => 0xffff1ffffde00782 true  true  0x750dc970721b1e00 0x0750dc970721b5e00;
+    0xffff1ffffc018004 0xc7144ac15956272c true  0x0000000000004001 => 0xffff1ffffe7409ca true  false 0xc7144ac159562720 0x0c7144ac159566740;
+    0xbbc51fffff122be3 0xbf1f1e4d865f622c true  0x0000000000007fff => 0xbbc51fffff122c43 true  false 0xbf1f1e4d865f6200 0x0bf1f1e4d865fe240;
+    0xffff1ffffc018004 0xcc5e7cfc29502a80 true  0x0000000000008000 => 0xffff1ffffd540553 true  true  0xcc5e7cfc29502a80 0x0cc5e7cfc2950aa80;
+    0xffff1ffffc018004 0xea73193c0d29ad40 true  0x0000000000008001 => 0xffff1ffffd6c35ab true  false 0xea73193c0d29ad40 0x0ea73193c0d2a2d80;
+    0xffff1ffffc018004 0xaffe26a0bd8d951a true  0x000000000000ffff => 0xffff1ffffe561954 true  false 0xaffe26a0bd8d9500 0x0affe26a0bd8e9580;
+    0xffff1ffffc018004 0x9e61e8aba431a327 true  0x0000000000010000 => 0xffff1ffffe8e1a34 true  false 0x9e61e8aba431a300 0x09e61e8aba432a380;
+    0xffff1ffffc018004 0x686f67d4786eb4c3 true  0x0000000000010001 => 0xffff1ffffed42b4c true  false 0x686f67d4786eb480 0x0686f67d4786fb500;
+    0xffff1ffffc018004 0x95eeaa53dde3bb00 true  0x000000000001ffff => 0xffff1fffff761ddd true  false 0x95eeaa53dde3bb00 0x095eeaa53dde5bb00;
+    0xffff1ffffc018004 0xeab3824485e75a83 true  0x0000000000020000 => 0xffff1ffffeb63ad5 true  false 0xeab3824485e75a00 0x0eab3824485e95b00;
+    0xffff3ffffd642acd 0xd1d523e5f99e6ef9 true  0x0000000000020001 => 0xffff3ffffcde3375 true  false 0xd1d523e5f99e6e00 0x0d1d523e5f9a06f00;
+    0xffff3ffffcc409c6 0xe62e169417646000 true  0x000000000003ffff => 0xffff3ffffc601186 true  false 0xe62e169417646000 0x0e62e169417686000;
+    0xffff1ffffc018004 0xe93e3afd4dd924a2 true  0x0000000000040000 => 0xffff1ffffd262496 true  false 0xe93e3afd4dd92400 0x0e93e3afd4ddd2600;
+    0xffff1ffffc018004 0x45c4ff68ccbb78eb true  0x0000000000040001 => 0xffff1fffff7a2de6 true  false 0x45c4ff68ccbb7800 0x045c4ff68ccbf7a00;
+    0xffff1ffffc018004 0x93c4761d9f31cba9 true  0x000000000007ffff => 0xffff1ffffce62397 true  false 0x93c4761d9f31c800 0x093c4761d9f39cc00;
+    0xffff1ffffc018004 0x2444b189b9a19cc5 true  0x0000000000080000 => 0xffff1ffffcd0033f true  false 0x2444b189b9a19c00 0x02444b189b9a9a000;
+    0xffff1ffffc018004 0xda922db401a20400 true  0x0000000000080001 => 0xffff1ffffd04040f true  false 0xda922db401a20400 0x0da922db401aa0800;
+    0x59431fffffc07e50 0x39555df259be8399 true  0x00000000000fffff => 0x59431fffffa27e80 true  false 0x39555df259be8000 0x039555df259ce8800;
+    0xffff1ffffc018004 0xfced8ee4085cc5f8 true  0x0000000000100000 => 0xffff1fffff325cc0 true  false 0xfced8ee4085cc000 0x0fced8ee4086cc800;
+    0xbfea3ffffeee77f8 0xe0bb1f267d7b1800 true  0x0000000000100001 => 0xbfea3ffffec87b18 true  false 0xe0bb1f267d7b1800 0x0e0bb1f267d8b2000;
+    0x71363fffffb64db9 0x66eb82a4e91d170d true  0x00000000001fffff => 0x71363fffffa44e89 true  false 0x66eb82a4e91d1000 0x066eb82a4e93d2000;
+    0xffff1ffffc018004 0xc0eb2fbcb730943b true  0x0000000000200000 => 0xffff1ffffe145849 true  false 0xc0eb2fbcb7309000 0x0c0eb2fbcb750a000;
+    0xb9761ffffdd076e9 0x596bec5d19edf000 true  0x0000000000200001 => 0xb9761ffffdc076f9 true  false 0x596bec5d19edf000 0x0596bec5d1a0e0000;
+    0xc1bb3ffffc385f92 0x134aafeb2481a000 true  0x00000000003fffff => 0xc1bb3ffffc1a606a true  false 0x134aafeb2481a000 0x0134aafeb24c1a000;
+    0xffff1ffffc018004 0x3d54ded25e106000 true  0x0000000000400000 => 0xffff1ffffd06441a true  true  0x3d54ded25e106000 0x03d54ded25e506000;
+    0xffff1ffffc018004 0x511c8f1918810000 true  0x0000000000400001 => 0xffff1ffffc126042 true  false 0x511c8f1918810000 0x0511c8f1918c12000;
+    0x36783ffffc2e5c6b 0x2b2d2cca7ce42512 true  0x00000000007fffff => 0x36783fffff225c83 true  false 0x2b2d2cca7ce40000 0x02b2d2cca7d644000;
+    0xffff3ffffec24afb 0x153c556d8057f735 true  0x0000000000800000 => 0xffff3ffffec04afb true  false 0x153c556d8057c000 0x0153c556d80d80000;
+    0xffff1ffffc018004 0xd955af30d5cbc000 true  0x0000000000800001 => 0xffff1ffffe60797b true  false 0xd955af30d5cbc000 0x0d955af30d64c0000;
+    0xffff1ffffc018004 0x7a2ad8383413f56c true  0x0000000000ffffff => 0xffff1ffffc50413c true  false 0x7a2ad83834138000 0x07a2ad83835140000;
+    0xffff1ffffc018004 0x6f7c854e3a46c29b true  0x0000000001000000 => 0xffff1ffffd1c646c true  false 0x6f7c854e3a468000 0x06f7c854e3b470000;
+    0xffff1ffffc018004 0x24416f7eab938000 true  0x0000000001000001 => 0xffff1ffffe50793c true  false 0x24416f7eab938000 0x024416f7eac940000;
+    0xffff3ffffdee4775 0xbfc167c348f30000 true  0x0000000001ffffff => 0xffff3ffffde6479d true  false 0xbfc167c348f30000 0x0bfc167c34af30000;
+    0xffff1ffffc018004 0x0aedcd400c9c48e9 true  0x0000000002000000 => 0xffff1ffffd3a64e5 true  false 0x0aedcd400c9c0000 0x00aedcd400e9d0000;
+    0xffff1ffffc018004 0x7a2c4f2989c9f372 true  0x0000000002000001 => 0xffff1fffff944e4d true  false 0x7a2c4f2989c90000 0x07a2c4f298bca0000;
+    0xffff1ffffc018004 0xb15e0b27adaa93ff true  0x0000000003ffffff => 0xffff1ffffdac76ae true  false 0xb15e0b27adaa0000 0x0b15e0b27b1ac0000;
+    0xffff3ffffe504fbe 0x1a06dce4156a0000 true  0x0000000004000000 => 0xffff3ffffd6a55ae true  true  0x1a06dce4156a0000 0x01a06dce4196a0000;
+    0xffff1ffffc018004 0x8e7944e043d80000 true  0x0000000004000001 => 0xffff1fffffda4f66 true  false 0x8e7944e043d80000 0x08e7944e047da0000;
+    0xb58f1ffffd7045a7 0x74d8b510a2d6b4c7 true  0x0000000007ffffff => 0xb58f1ffffd6c45af true  false 0x74d8b510a2d40000 0x074d8b510aad80000;
+    0xc80b1fffffe45f1f 0xe7400970cfb80000 true  0x0000000008000000 => 0xc80b1fffffdc5f77 true  true  0xe7400970cfb80000 0x0e7400970d7b80000;
+    0xffff1ffffc018004 0x4a37062c6dff3aba true  0x0000000008000001 => 0xffff1fffff005bff true  false 0x4a37062c6dfc0000 0x04a37062c76000000;
+    0xffff1ffffc018004 0x8cbc1336121c0734 true  0x000000000fffffff => 0xffff1ffffc889218 true  false 0x8cbc133612180000 0x08cbc133622200000;
+    0xffff1ffffc018004 0xca20f78b42100000 true  0x0000000010000000 => 0xffff1ffffc848210 true  true  0xca20f78b42100000 0x0ca20f78b52100000;
+    0xffff1ffffc018004 0x8db1b383b6849cc9 true  0x0000000010000001 => 0xffff1ffffda2b680 true  false 0x8db1b383b6800000 0x08db1b383c6880000;
+    0xf7fe1ffffdcea889 0x346c50985f700000 true  0x000000001fffffff => 0xf7fe1fffffeeafb9 true  false 0x346c50985f700000 0x0346c50987f700000;
+    0xffff1ffffc018004 0xcfb79e4bc52aa741 true  0x0000000020000000 => 0xffff1ffffca6a291 true  false 0xcfb79e4bc5200000 0x0cfb79e4be5300000;
+    0x5ae11ffffdeeb781 0xe9bc3e5d6f400000 true  0x0000000020000001 => 0x5ae11ffffdeab7a1 true  false 0xe9bc3e5d6f400000 0x0e9bc3e5d8f500000;
+    0xffff1ffffc018004 0x96c37d1b9ec00000 true  0x000000003fffffff => 0xffff1ffffdeca7b2 true  false 0x96c37d1b9ec00000 0x096c37d1bdec00000;
+    0xffff1ffffc018004 0x289196228967eded true  0x0000000040000000 => 0xffff1ffffc98a25a true  false 0x2891962289600000 0x028919622c9800000;
+    0xffff1ffffc018004 0x00f8a8ac76f4b44c true  0x0000000040000001 => 0xffff1fffff709dba true  false 0x00f8a8ac76e00000 0x000f8a8acb7000000;
+    0xffff3fffff5e8d6b 0x5a77f8926b800000 true  0x000000007fffffff => 0xffff3fffff5c8d73 true  false 0x5a77f8926b800000 0x05a77f892eb800000;
+    0x0d513ffffe6eb953 0x0e27d099cc800000 true  0x0000000080000000 => 0x0d513ffffe64b993 true  true  0x0e27d099cc800000 0x00e27d09a4c800000;
+    0x91703ffffed898ab 0xc8735c7cd5400000 true  0x0000000080000001 => 0x91703ffffeac9aab true  false 0xc8735c7cd5400000 0x0c8735c7d55800000;
+    0xffff1ffffc018004 0xba9743dae3800000 true  0x00000000ffffffff => 0xffff1fffff8eae3c true  false 0xba9743dae3800000 0x0ba9743dbe3800000;
+    0xffff1ffffc018004 0x3c47efeb4b800000 true  0x0000000100000000 => 0xffff1ffffd2eb4bc true  true  0x3c47efeb4b800000 0x03c47efec4b800000;
+    0xffff1ffffc018004 0xf048574a80b291a2 true  0x0000000100000001 => 0xffff1ffffe04a80c true  false 0xf048574a80800000 0x0f048574b81000000;
+    0xffff1ffffc018004 0xbfce4027f1d355a0 true  0x00000001ffffffff => 0xffff1fffffe4bf8d true  false 0xbfce4027f1000000 0x0bfce4029f2000000;
+    0xffff1ffffc018004 0xd4d8947ef8b3ef4d true  0x0000000200000000 => 0xffff1ffffdf2b7c5 true  false 0xd4d8947ef8000000 0x0d4d89480f9000000;
+    0xffff3ffffe0cb7f5 0x48dfa1d702000000 true  0x0000000200000001 => 0xffff3ffffe06b815 true  false 0x48dfa1d702000000 0x048dfa1d903000000;
+    0xffff1ffffc018004 0xe5880b55fc7c7a6c true  0x00000003ffffffff => 0xffff1ffffdfe97f6 true  false 0xe5880b55fc000000 0x0e5880b59fe000000;
+    0xffff1ffffc018004 0x00221ee9d0000000 true  0x0000000400000000 => 0xffff1ffffdd0a746 true  true  0x00221ee9d0000000 0x000221eedd0000000;
+    0xffff1ffffc018004 0x50d6f96d04000000 true  0x0000000400000001 => 0xffff1ffffd06b416 true  false 0x50d6f96d04000000 0x050d6f97106000000;
+    0xffff3ffffdb88f3f 0x6fc57b6b20000000 true  0x00000007ffffffff => 0xffff3ffffd909647 true  false 0x6fc57b6b20000000 0x06fc57b7320000000;
+    0xffff1ffffc018004 0x4c1f9a1f54000000 true  0x0000000800000000 => 0xffff1fffffaabeaf true  true  0x4c1f9a1f54000000 0x04c1f9a2754000000;
+    0xffff1ffffc018004 0xf46c0b904949272e true  0x0000000800000001 => 0xffff1ffffc26a097 true  false 0xf46c0b9048000000 0x0f46c0b984c000000;
+    0xffff1ffffc018004 0xbf0fdccb539d3a75 true  0x0000000fffffffff => 0xffff1ffffed6cb50 true  false 0xbf0fdccb50000000 0x0bf0fdcdb58000000;
+    0x43711ffffd16f148 0xa63deeb349c3a4e9 true  0x0000001000000000 => 0x43711ffffcd4f348 true  false 0xa63deeb348000000 0x0a63deec350000000;
+    0xffff1ffffff4dfc0 0x7da8771fc8000000 true  0x0000001000000001 => 0xffff1ffffff4dfc8 true  false 0x7da8771fc8000000 0x07da8772fd0000000;
+    0xffff1ffffc018004 0xa6db1e9e7d04d6ec true  0x0000001fffffffff => 0xffff1fffffd0cf39 true  false 0xa6db1e9e70000000 0x0a6db1ebe80000000;
+    0xffff3fffff56cd39 0xa9f5e39a8f7837dc true  0x0000002000000000 => 0xffff3fffff52cd41 true  false 0xa9f5e39a80000000 0x0a9f5e3ba90000000;
+    0xffff1ffffc018004 0x592740713c91893a true  0x0000002000000001 => 0xffff1ffffe28f899 true  false 0x5927407130000000 0x05927409140000000;
+    0xffff1ffffc018004 0x9d6684734ddf1cfe true  0x0000003fffffffff => 0xffff1fffff36dcd2 true  false 0x9d66847340000000 0x09d6684b360000000;
+    0x11943fffffb6ded2 0xdbacdc7b4c6c3eb3 true  0x0000004000000000 => 0x11943fffffb6ded2 true  false 0xdbacdc7b40000000 0x0dbacdcbb60000000;
+    0xffff1ffffc018004 0x9ed7ce9d16fdcfb7 true  0x0000004000000001 => 0xffff1ffffdd2e742 true  false 0x9ed7ce9d00000000 0x09ed7cedd20000000;
+    0xffff1ffffc018004 0x4a24af7a9c85f7fb true  0x0000007fffffffff => 0xffff1fffffd6ef53 true  false 0x4a24af7a80000000 0x04a24affac0000000;
+    0x1a4b1fffffe2ff83 0x894e93fc125a2fce true  0x0000008000000000 => 0x1a4b1fffffe2ff83 true  false 0x894e93fc00000000 0x0894e947c40000000;
+    0xffff1ffffc018004 0x1ec743314086b63b true  0x0000008000000001 => 0xffff1ffffd8ce62b true  false 0x1ec7433140000000 0x01ec743b180000000;
+    0xffff3ffffdead6dc 0x37d76576725251c2 true  0x000000ffffffffff => 0xffff3ffffddad764 true  false 0x37d7657600000000 0x037d7667680000000;
+    0xffff1ffffc018004 0x0cc6ee05986d1a45 true  0x0000010000000000 => 0xffff1ffffc18e05c true  false 0x0cc6ee0580000000 0x00cc6ef0600000000;
+    0xffff1ffffc018004 0x010090e700000000 true  0x0000010000000001 => 0xffff1fffff9ece74 true  false 0x010090e700000000 0x0010091e780000000;
+    0xffff1ffffc018004 0x7606598800000000 true  0x000001ffffffffff => 0xffff1fffff10cc45 true  false 0x7606598800000000 0x076065b8800000000;
+    0xffff1ffffc018004 0x27284ffdc0631ea2 true  0x0000020000000000 => 0xffff1ffffffcffed true  false 0x27284ffd00000000 0x0272851fe00000000;
+    0xffff1ffffc018004 0xe5462a4f00000000 true  0x0000020000000001 => 0xffff1ffffca0d27d true  false 0xe5462a4f00000000 0x0e5462c5000000000;
+    0xffff1ffffc018004 0xdf2d16fa00000000 true  0x000003ffffffffff => 0xffff1ffffefadbee true  false 0xdf2d16fa00000000 0x0df2d1afa00000000;
+    0x41591fffff78fafe 0xe63bbf3c00000000 true  0x0000040000000000 => 0x41591fffff3cfcf6 true  true  0xe63bbf3c00000000 0x0e63bc33c00000000;
+    0xffff1ffffc018004 0xc71e349c00000000 true  0x0000040000000001 => 0xffff1ffffc9ed276 true  false 0xc71e349c00000000 0x0c71e389e00000000;
+    0x26123ffffd9add77 0x7764cfe48b57c194 true  0x000007ffffffffff => 0x26123ffffff4dfcf true  false 0x7764cfe400000000 0x07764d7e800000000;
+    0x070d1ffffff2ffa7 0xf649dfe000000000 true  0x0000080000000000 => 0x070d1ffffff0ffc7 true  true  0xf649dfe000000000 0x0f649e7e000000000;
+    0xffff1ffffc018004 0x88874c7788354720 true  0x0000080000000001 => 0xffff1ffffe3cd8ef true  false 0x88874c7400000000 0x08887547800000000;
+    0xa5a51ffffc8111f8 0x49df11fc8b360843 true  0x00000fffffffffff => 0xa5a51ffffc8111f8 true  false 0x49df11f800000000 0x049df220000000000;
+    0xffff1ffffc018004 0x296366f10c3597b3 true  0x0000100000000000 => 0xffff1ffffdbf26f0 true  false 0x296366f000000000 0x0296376f800000000;
+    0xffff1ffffc018004 0x761b339800000000 true  0x0000100000000001 => 0xffff1ffffce93398 true  false 0x761b339800000000 0x0761b43a000000000;
+    0xffff1ffffc018004 0x6d3b131000000000 true  0x00001fffffffffff => 0xffff1ffffe630989 true  false 0x6d3b131000000000 0x06d3b331000000000;
+    0xffff1ffffc018004 0x9b27ab9000000000 true  0x0000200000000000 => 0xffff1ffffd7315c9 true  true  0x9b27ab9000000000 0x09b27cb9000000000;
+    0xffff1ffffeab3929 0x06da743d9b322dec true  0x0000200000000001 => 0xffff1ffffe893a19 true  false 0x06da743000000000 0x006da944000000000;
+    0xffff1ffffc018004 0x330ae1ea5e0902a0 true  0x00003fffffffffff => 0xffff1ffffe21387a true  false 0x330ae1e000000000 0x0330b220000000000;
+    0xffff1ffffc018004 0x0bcf5a2000000000 true  0x0000400000000000 => 0xffff1ffffda3168a true  true  0x0bcf5a2000000000 0x00bcf9a2000000000;
+    0xffff1ffffc018004 0xfebfe2b41f89a8c7 true  0x0000400000000001 => 0xffff1ffffe2d38aa true  false 0xfebfe2a000000000 0x0fec022c000000000;
+    0xffff3ffffd2f24a3 0xa75f25289b02aee2 true  0x00007fffffffffff => 0xffff3ffffd2b24a3 true  false 0xa75f250000000000 0x0a75fa54000000000;
+    0x5f311ffffc473fcb 0xd8ae04ddcd41b3ae true  0x0000800000000000 => 0x5f311ffffc29009b true  false 0xd8ae04c000000000 0x0d8ae850000000000;
+    0xffff1ffffc018004 0x0a4cfe5f0bd335ef true  0x0000800000000001 => 0xffff1ffffff51fcb true  false 0x0a4cfe4000000000 0x00a4d7e8000000000;
+    0xffff3fffff4d2ccc 0x9d9acee2a9bab9f6 true  0x0000ffffffffffff => 0xffff3fffff3d2cec true  false 0x9d9ace8000000000 0x09d9bcf0000000000;
+    0xffff1ffffc018004 0x0f06b60000000000 true  0x0001000000000000 => 0xffff1ffffed92b64 true  true  0x0f06b60000000000 0x00f07b60000000000;
+    0xffff1ffffc018004 0xb401e78000000000 true  0x0001000000000001 => 0xffff1fffffa11e7c true  false 0xb401e78000000000 0x0b402e80000000000;
+    0xffff1ffffc018004 0xbd4af60000000000 true  0x0001ffffffffffff => 0xffff1ffffded17b5 true  false 0xbd4af60000000000 0x0bd4cf60000000000;
+    0xffff1ffffc018004 0x5e8d8654e722b9c5 true  0x0002000000000000 => 0xffff1fffff0f2c35 true  false 0x5e8d860000000000 0x05e8f870000000000;
+    0xffff1ffffedb1b1d 0xcca3660000000000 true  0x0002000000000001 => 0xffff1ffffecf1b35 true  false 0xcca3660000000000 0x0cca5670000000000;
+    0xffff1ffffc018004 0xc764600000000000 true  0x0003ffffffffffff => 0xffff1ffffc611186 true  false 0xc764600000000000 0x0c768600000000000;
+    0xffff1ffffc018004 0x45eb520000000000 true  0x0004000000000000 => 0xffff1fffff532d4e true  true  0x45eb520000000000 0x045ef520000000000;
+    0xffff1ffffc018004 0x4a5c7e0000000000 true  0x0004000000000001 => 0xffff1ffffc8131fe true  false 0x4a5c7e0000000000 0x04a60800000000000;
+    0xffff1ffffc018004 0xd18d480000000000 true  0x0007ffffffffffff => 0xffff1ffffea51a97 true  false 0xd18d480000000000 0x0d195480000000000;
+    0xffff1ffffc018004 0x2ab50c0000000000 true  0x0008000000000000 => 0xffff1ffffe872a1f true  true  0x2ab50c0000000000 0x02abd0c0000000000;
+    0xffff1ffffc018004 0x4308400000000000 true  0x0008000000000001 => 0xffff1ffffc231087 true  false 0x4308400000000000 0x04310440000000000;
+    0xffff1ffffc018004 0x564ac00000000000 true  0x000fffffffffffff => 0xffff1ffffeb14ac0 true  false 0x564ac00000000000 0x0565ac00000000000;
+    0xffff1ffffc018004 0xbf2d7ccf06dd078e true  0x0010000000000000 => 0xffff1fffff616d78 true  false 0xbf2d780000000000 0x0bf3d800000000000;
+    0xffff3ffffc5349d8 0x318d500000000000 true  0x0010000000000001 => 0xffff3fffff574d50 true  false 0x318d500000000000 0x0319d580000000000;
+    0xffff1ffffc018004 0x57c8b00000000000 true  0x001fffffffffffff => 0xffff1ffffd176459 true  false 0x57c8b00000000000 0x057e8b00000000000;
+    0xffff1ffffc018004 0x2dd6e00000000000 true  0x0020000000000000 => 0xffff1ffffedd6b71 true  true  0x2dd6e00000000000 0x02df6e00000000000;
+    0xffff1ffffc018004 0x3e41300000000000 true  0x0020000000000001 => 0xffff1ffffc296099 true  false 0x3e41300000000000 0x03e61400000000000;
+    0xffff1ffffc018004 0x9aee6a1b6d406287 true  0x003fffffffffffff => 0xffff1ffffee97b9a true  false 0x9aee600000000000 0x09b2e800000000000;
+    0xffff1ffffc018004 0xfc986713093eccae true  0x0040000000000000 => 0xffff1ffffd89661a true  false 0xfc98600000000000 0x0fcd8800000000000;
+    0xff1a3ffffe137832 0x9be0e00000000000 true  0x0040000000000001 => 0xff1a3ffffe11783a true  false 0x9be0e00000000000 0x09c21000000000000;
+    0xffff3ffffdd968f3 0x717ec00000000000 true  0x007fffffffffffff => 0xffff3ffffff76fdb true  false 0x717ec00000000000 0x071fec00000000000;
+    0xffff1ffffc018004 0x25a5c00000000000 true  0x0080000000000000 => 0xffff1ffffd2f74bb true  true  0x25a5c00000000000 0x02625c00000000000;
+    0xffff1ffffd8155f3 0x4eafad387ab3a0df true  0x0080000000000001 => 0xffff1ffffd7f55f3 true  false 0x4eaf800000000000 0x04f2fc00000000000;
+    0xffff1ffffc018004 0x8721800000000000 true  0x00ffffffffffffff => 0xffff1ffffc87721c true  false 0x8721800000000000 0x08821800000000000;
+    0xffff1ffffc018004 0xc9ea7799fa463045 true  0x0100000000000000 => 0xffff1fffffab5ea4 true  false 0xc9ea000000000000 0x0caea800000000000;
+    0xffff1ffffd3543b4 0x8445000000000000 true  0x0100000000000001 => 0xffff1ffffd174454 true  false 0x8445000000000000 0x08545800000000000;
+    0xffff1ffffc018004 0xaa81000000000000 true  0x01ffffffffffffff => 0xffff1ffffd03540d true  false 0xaa81000000000000 0x0ac81000000000000;
+    0xffff1ffffc018004 0x1ae690cfbd5687ed true  0x0200000000000000 => 0xffff1ffffdcf5735 true  false 0x1ae6000000000000 0x01ce7000000000000;
+    0xffff1ffffc018004 0x7da9d02dfca98919 true  0x0200000000000001 => 0xffff1fffff556d4d true  false 0x7da9000000000000 0x07faa000000000000;
+    0xffff1ffffc018004 0xf350000000000000 true  0x03ffffffffffffff => 0xffff1fffff514d46 true  false 0xf350000000000000 0x0f750000000000000;
+    0xffff1ffffc018004 0x5dfa000000000000 true  0x0400000000000000 => 0xffff1ffffdfb77ee true  true  0x5dfa000000000000 0x061fa000000000000;
+    0xffff1ffffc018004 0x6a66326b8e45c475 true  0x0400000000000001 => 0xffff1ffffe69699e true  false 0x6a66000000000000 0x06e68000000000000;
+    0xffff1ffffc018004 0xb24c000000000000 true  0x07ffffffffffffff => 0xffff1ffffd27649f true  false 0xb24c000000000000 0x0ba4c000000000000;
+    0x4f383fffffc17c9f 0x9ef453ab9564c7d5 true  0x0800000000000000 => 0x4f383fffff7d7def true  false 0x9ef4000000000000 0x0a6f8000000000000;
+    0xffff1ffffc018004 0xbdd4000000000000 true  0x0800000000000001 => 0xffff1ffffeed7baf true  false 0xbdd4000000000000 0x0c5d8000000000000;
+    0xffff1ffffc018004 0xc410000000000000 true  0x0fffffffffffffff => 0xffff1ffffd058410 true  false 0xc410000000000000 0x0d410000000000000;
+    0xffff1ffffc018004 0x10c8000000000000 true  0x1000000000000000 => 0xffff1ffffc3390c8 true  true  0x10c8000000000000 0x020c8000000000000;
+    0xffff1ffffc018004 0x0828000000000000 true  0x1000000000000001 => 0xffff1ffffe0d8828 true  false 0x0828000000000000 0x01830000000000000;
+    0xffff1ffffc018004 0x0b2f65dc09e50fe3 true  0x1fffffffffffffff => 0xffff1ffffd678591 true  false 0x0b20000000000000 0x02b30000000000000;
+    0xffff3ffffc29b091 0x6130000000000000 true  0x2000000000000000 => 0xffff3ffffc27b099 true  true  0x6130000000000000 0x08130000000000000;
+    0xffff1ffffc018004 0xa3461c5954738857 true  0x2000000000000001 => 0xffff1ffffc6b91a1 true  false 0xa340000000000000 0x0c350000000000000;
+    0xffff1ffffc018004 0xbfa853b06d43f47c true  0x3fffffffffffffff => 0xffff1ffffffdafea true  false 0xbfa0000000000000 0x0ffc0000000000000;
+    0xffff1ffffc018004 0x4ef6fe73b9555077 true  0x4000000000000000 => 0xffff1ffffcf193ba true  false 0x4ee0000000000000 0x08f00000000000000;
+    0xffff1ffffe2fa14a 0x9428d66f60edcea6 true  0x4000000000000001 => 0xffff1ffffd45a50a true  false 0x9420000000000000 0x0d440000000000000;
+    0x3a333ffffc0d8023 0x0124ea4294e3b02d true  0x7fffffffffffffff => 0x3a333ffffc0b8023 true  false 0x0100000000000000 0x08140000000000000;
+    0xffff1ffffc018004 0x7fa8c275856b7c93 true  0x8000000000000000 => 0xffff1fffffff8ff3 true  false 0x7f80000000000000 0x0ffc0000000000000;
+    0xffff1ffffc018004 0x1a57850f2c01d107 true  0x8000000000000001 => 0xffff1ffffcd5834b true  false 0x1a40000000000000 0x09a80000000000000;
+    0xffff3ffffc018004 0x0000000000000001 true  0xffffffffffffffff => 0xffff3ffffc018004 true  false 0x0000000000000000 0x10000000000000000;
+    0xffff1ffffc018004 0x6ba129f6bc47a768 true  0x0000000000001ff8 => 0xffff1ffffdd82768 true  true  0x6ba129f6bc47a768 0x06ba129f6bc47c760;
+    0xffff1ffffc018004 0x6ba129f6bc47a768 true  0x0000000000001ff9 => 0xffff1ffffcee13b1 true  false 0x6ba129f6bc47a760 0x06ba129f6bc47c770;
+    0xc28d3ffffd4434f2 0x578f13eab9ccd3f1 true  0x0000000000003fee => 0xc28d3ffffe7c29f9 true  false 0x578f13eab9ccd3f0 0x0578f13eab9cd13e0;
+    0xffff1ffffc018004 0x578f13eab9ccd3f1 true  0x0000000000003ff0 => 0xffff1ffffd4034fa true  false 0x578f13eab9ccd3e0 0x0578f13eab9cd1400;
+    0xffff3ffffca23543 0xf39e9c30fcdbd755 true  0x0000000000007fca => 0xffff3ffffd7235d2 true  false 0xf39e9c30fcdbd740 0x0f39e9c30fcdc5720;
+    0xffff3ffffec23ae3 0xf39e9c30fcdbd755 true  0x0000000000007fcc => 0xffff3ffffeba3aeb true  false 0xf39e9c30fcdbd740 0x0f39e9c30fcdc5740;
+    0x1dd81ffffe7409d4 0xbc72ab3b4ab09d3f true  0x000000000000ff81 => 0x1dd81ffffce613a3 true  false 0xbc72ab3b4ab09d00 0x0bc72ab3b4ab19cc0;
+    0xffff3ffffef2091c 0xbc72ab3b4ab09d3f true  0x000000000000ff82 => 0xffff3ffffe7409d4 true  false 0xbc72ab3b4ab09d00 0x0bc72ab3b4ab19d00;
+    0xffff1ffffc018004 0x86a03f3fb9162400 true  0x000000000001ff80 => 0xffff1ffffc8e2244 true  true  0x86a03f3fb9162400 0x086a03f3fb9182380;
+    0xffff1ffffc018004 0x86a03f3fb9162400 true  0x000000000001ff81 => 0xffff1ffffc483125 true  false 0x86a03f3fb9162400 0x086a03f3fb9182400;
+    0xcd061fffff58233e 0xb0408da1d5eac2ff true  0x000000000003fe00 => 0xcd061ffffd821615 true  false 0xb0408da1d5eac200 0x0b0408da1d5eec100;
+    0xffff1ffffc018004 0xb0408da1d5eac2ff true  0x000000000003fe02 => 0xffff1ffffec22b0e true  false 0xb0408da1d5eac200 0x0b0408da1d5eec200;
+    0xffff1ffffc304cd8 0xb50ce791fe948201 true  0x000000000007fdfe => 0xffff1ffffc80120e true  false 0xb50ce791fe948200 0x0b50ce791fe9c8000;
+    0xffff3ffffe4228ff 0xb50ce791fe948201 true  0x000000000007fe00 => 0xffff3ffffe422907 true  false 0xb50ce791fe948000 0x0b50ce791fe9c8400;
+    0xffff1ffffe5658f8 0xe9bfe455e5193401 true  0x00000000000ffbff => 0xffff1ffffc98326f true  false 0xe9bfe455e5193400 0x0e9bfe455e5293000;
+    0xffff1ffffc018004 0xe9bfe455e5193401 true  0x00000000000ffc00 => 0xffff1ffffe4e5930 true  false 0xe9bfe455e5193000 0x0e9bfe455e5293800;
+    0xffff1ffffc9651f1 0xf08505b4a9a42bf2 true  0x00000000001ff40e => 0xffff1ffffd086428 true  false 0xf08505b4a9a42800 0x0f08505b4a9c42000;
+    0xffff1ffffc018004 0xf08505b4a9a42bf2 true  0x00000000001ff40f => 0xffff1ffffc865211 true  false 0xf08505b4a9a42000 0x0f08505b4a9c43000;
+    0xffff1ffffd7a65e2 0x9ed6d4789d97afff true  0x00000000003fe000 => 0xffff1ffffef24bd1 true  false 0x9ed6d4789d97a000 0x09ed6d4789dd79000;
+    0xffff1ffffd7c65e2 0x9ed6d4789d97afff true  0x00000000003fe002 => 0xffff1ffffd7a65ea true  false 0x9ed6d4789d97a000 0x09ed6d4789dd7a000;
+    0xffff1ffffc018004 0x06914185906c0000 true  0x00000000007fdfff => 0xffff1ffffebe5b02 true  false 0x06914185906c0000 0x00691418590ebe000;
+    0xffff1ffffc018004 0x06914185906c0000 true  0x00000000007fe001 => 0xffff1fffff604d83 true  false 0x06914185906c0000 0x00691418590ec0000;
+    0xffff1ffffd526474 0xb3afb5725a4c63a0 true  0x0000000000ff9c60 => 0xffff1ffffe60498b true  false 0xb3afb5725a4c4000 0x0b3afb5725b4c0000;
+    0xffff1ffffc018004 0xb3afb5725a4c63a0 true  0x0000000000ff9c61 => 0xffff1ffffd3264c4 true  false 0xb3afb5725a4c0000 0x0b3afb5725b4c8000;
+    0xffff1ffffc018004 0xce95ade4aa060001 true  0x0000000001ff7fff => 0xffff1ffffc166064 true  false 0xce95ade4aa060000 0x0ce95ade4ac058000;
+    0xffff1ffffc018004 0xce95ade4aa060001 true  0x0000000001ff8000 => 0xffff1ffffc0c5035 true  false 0xce95ade4aa060000 0x0ce95ade4ac060000;
+    0xffff1ffffc018004 0x792e27bc75570000 true  0x0000000003feffff => 0xffff1ffffeac6abd true  false 0x792e27bc75570000 0x0792e27bc79560000;
+    0xffff1ffffc018004 0x792e27bc75570000 true  0x0000000003ff0001 => 0xffff1ffffd58555e true  false 0x792e27bc75560000 0x0792e27bc79580000;
+    0xffff1ffffc018004 0xa3e0a5599bd9ffff true  0x0000000007fc0000 => 0xffff1fffffd66f66 true  false 0xa3e0a5599bd80000 0x0a3e0a559a3d60000;
+    0xffff1ffffdec76d7 0xa3e0a5599bd9ffff true  0x0000000007fc0002 => 0xffff1ffffdec77b7 true  false 0xa3e0a5599bd80000 0x0a3e0a559a3d80000;
+    0xffff1ffffc018004 0x28f4ec4a81ec0000 true  0x000000000ffc0000 => 0xffff1ffffcf443df true  true  0x28f4ec4a81ec0000 0x028f4ec4a91e80000;
+    0xa5153ffffcba8100 0x28f4ec4a81ec0000 true  0x000000000ffc0001 => 0xa5153ffffc7c81e8 true  false 0x28f4ec4a81e80000 0x028f4ec4a91f00000;
+    0xffff1ffffc018004 0x168f947070380000 true  0x000000001ff80000 => 0xffff1ffffc0cb038 true  true  0x168f947070380000 0x0168f947090300000;
+    0xffff1ffffc018004 0x168f947070380000 true  0x000000001ff80001 => 0xffff1ffffe08b819 true  false 0x168f947070300000 0x0168f947090400000;
+    0xffff1ffffc018004 0xf9ffb60dd6afffff true  0x000000003fe00000 => 0xffff1ffffed2ab51 true  false 0xf9ffb60dd6a00000 0x0f9ffb60e16900000;
+    0xffff1ffffdcab42a 0xf9ffb60dd6afffff true  0x000000003fe00002 => 0xffff1ffffd6ab5aa true  false 0xf9ffb60dd6a00000 0x0f9ffb60e16a00000;
+    0xffff1ffffc018004 0x39f2d721fcd69a19 true  0x000000007fc965e6 => 0xffff1fffffcabf32 true  false 0x39f2d721fcc00000 0x039f2d7227ca00000;
+    0xffff1fffffe6bf9b 0x39f2d721fcd69a19 true  0x000000007fc965e8 => 0xffff1fffffe6bf9b true  false 0x39f2d721fcc00000 0x039f2d7227cc00000;
+    0xffff1ffffc018004 0x28487f14efb15e89 true  0x00000000ff8ea177 => 0xffff1fffff7a9df3 true  false 0x28487f14ef800000 0x028487f15ef400000;
+    0xffff1ffffc018004 0x28487f14efb15e89 true  0x00000000ff8ea178 => 0xffff1fffffbe8efc true  false 0x28487f14ef800000 0x028487f15ef800000;
+    0xffff1ffffc018004 0x2ddde7668bb42ce4 true  0x00000001ff4bd31c => 0xffff1ffffe2ca8bc true  false 0x2ddde7668b800000 0x02ddde7688b000000;
+    0xffff1ffffc018004 0x2ddde7668bb42ce4 true  0x00000001ff4bd31d => 0xffff1ffffd18b45d true  false 0x2ddde7668b000000 0x02ddde7688c000000;
+    0xffff1ffffc018004 0x77e23d58b0ffffff true  0x00000003fe000000 => 0xffff1ffffd5e8585 true  false 0x77e23d58b0000000 0x077e23d5caf000000;
+    0xffff3ffffd00968e 0x77e23d58b0ffffff true  0x00000003fe000002 => 0xffff3ffffcb0a2c6 true  false 0x77e23d58b0000000 0x077e23d5cb0000000;
+    0xffff1ffffc018004 0x4edffc960c000000 true  0x00000007fdffffff => 0xffff1ffffe0a9836 true  false 0x4edffc960c000000 0x04edffc9e0a000000;
+    0x0e0a1fffff0cabff 0x4edffc960c000000 true  0x00000007fe000001 => 0x0e0a1fffff06ac1f true  false 0x4edffc960c000000 0x04edffc9e0c000000;
+    0xffff1ffffc018004 0x84a0c12548000000 true  0x0000000ffc000000 => 0xffff1ffffea28a97 true  true  0x84a0c12548000000 0x084a0c13544000000;
+    0xffff1ffffc018004 0x84a0c12548000000 true  0x0000000ffc000001 => 0xffff1ffffd52e548 true  false 0x84a0c12548000000 0x084a0c13548000000;
+    0xffff1ffffc018004 0x1208aa2e2ea1b00d true  0x0000001ff15e4ff3 => 0xffff1fffff88ee28 true  false 0x1208aa2e28000000 0x01208aa4e20000000;
+    0xffff1ffffc018004 0x1208aa2e2ea1b00d true  0x0000001ff15e4ff4 => 0xffff1ffffdc6d711 true  false 0x1208aa2e20000000 0x01208aa4e30000000;
+    0xffff1ffffc018004 0x9d59893140000000 true  0x0000003fefffffff => 0xffff1ffffe26d8a1 true  false 0x9d59893140000000 0x09d59897130000000;
+    0xffff1ffffc018004 0x9d59893140000000 true  0x0000003ff0000001 => 0xffff1fffff14cc52 true  false 0x9d59893140000000 0x09d59897140000000;
+    0xffff1ffffc018004 0x83c61ce3ffffffff true  0x0000007fc0000000 => 0xffff1ffffe3cf8fa true  false 0x83c61ce3e0000000 0x083c61d63c0000000;
+    0xffff1ffffc018004 0x83c61ce3ffffffff true  0x0000007fc0000002 => 0xffff1fffff20dc7b true  false 0x83c61ce3c0000000 0x083c61d6400000000;
+    0x4e6a3fffffe0c034 0x0d464c1df6dbabe8 true  0x000000ff89245418 => 0x4e6a3ffffcecc3bb true  false 0x0d464c1dc0000000 0x00d464d1d80000000;
+    0x5fed3ffffc7cc1cc 0x0d464c1df6dbabe8 true  0x000000ff89245419 => 0x5fed3ffffc78c1dc true  false 0x0d464c1d80000000 0x00d464d1e00000000;
+    0xffff1ffffc018004 0x9b70428180000000 true  0x000001ff80000000 => 0xffff1ffffe04e81c true  true  0x9b70428180000000 0x09b70448100000000;
+    0x859b1ffffd0ad38d 0x9b70428180000000 true  0x000001ff80000001 => 0x859b1ffffd04d40d true  false 0x9b70428100000000 0x09b70448200000000;
+    0x32b21ffffdbec38e 0x1be441864c92fcb5 true  0x000003feb36d034a => 0x32b21fffff0acc35 true  false 0x1be4418600000000 0x01be4458500000000;
+    0xffff1ffffc018004 0x1be441864c92fcb5 true  0x000003feb36d034c => 0xffff1ffffd86c61e true  false 0x1be4418600000000 0x01be4458600000000;
+    0xffff1ffffc018004 0x6a53e397ffffffff true  0x000007fc00000000 => 0xffff1fffff94ce5e true  false 0x6a53e39600000000 0x06a53eb9400000000;
+    0xffff3ffffde8c70f 0x6a53e397ffffffff true  0x000007fc00000002 => 0xffff3ffffdccc72f true  false 0x6a53e39400000000 0x06a53eb9800000000;
+    0xffff3fffff512d38 0x111bad423a383806 true  0x00000ff9c5c7c7fa => 0xffff3ffffe9eda87 true  false 0x111bad4000000000 0x0111bbd3c00000000;
+    0xffff1fffff732ce8 0x111bad423a383806 true  0x00000ff9c5c7c7fb => 0xffff1fffff512d40 true  false 0x111bad4000000000 0x0111bbd4000000000;
+    0xffff1ffffc3f20f1 0xf5e0c1f000000001 true  0x00001ff7ffffffff => 0xffff1ffffc7b01f0 true  false 0xf5e0c1f000000000 0x0f5e0e1e800000000;
+    0x3dd23ffffc4120f1 0xf5e0c1f000000001 true  0x00001ff800000000 => 0x3dd23ffffc3f20f9 true  false 0xf5e0c1f000000000 0x0f5e0e1f000000000;
+    0xffff1ffffc018004 0xc04ddd3000000000 true  0x00003fefffffffff => 0xffff1fffffa52e99 true  false 0xc04ddd3000000000 0x0c04e1d2000000000;
+    0xd4753ffffe9b34d2 0xc04ddd3000000000 true  0x00003ff000000001 => 0xd4753ffffdd5374a true  false 0xc04ddd2000000000 0x0c04e1d4000000000;
+    0xffff1ffffd3514b3 0x4db4a5c000000001 true  0x00007fdffffffffe => 0xffff1ffffe5b2972 true  false 0x4db4a5c000000000 0x04db525a000000000;
+    0x7b993ffffd3314b3 0x4db4a5c000000001 true  0x00007fe000000000 => 0x7b993ffffd2f14bb true  false 0x4db4a5c000000000 0x04db525c000000000;
+    0xffff1ffffc018004 0x0d1ea9c898ec5498 true  0x0000ffb76713ab68 => 0xffff1ffffd4d153b true  false 0x0d1ea9c000000000 0x00d1fa98000000000;
+    0xffff1ffffc018004 0x0d1ea9c898ec5498 true  0x0000ffb76713ab69 => 0xffff1ffffea92a9c true  false 0x0d1ea98000000000 0x00d1faa0000000000;
+    0xffff1ffffc018004 0xeb6af00000000001 true  0x0001ff7fffffffff => 0xffff1fffffbf2f04 true  false 0xeb6af00000000000 0x0eb6cef8000000000;
+    0xffff1ffffc018004 0xeb6af00000000001 true  0x0001ff8000000000 => 0xffff1ffffde11785 true  false 0xeb6af00000000000 0x0eb6cf00000000000;
+    0xffff1ffffc018004 0xc279b92a00318973 true  0x0003fed5ffce768c => 0xffff1fffff710dcd true  false 0xc279b90000000000 0x0c27db80000000000;
+    0xffff1ffffdbd267e 0xc279b92a00318973 true  0x0003fed5ffce768e => 0xffff1ffffdbb26e6 true  false 0xc279b80000000000 0x0c27dba0000000000;
+    0xffff1fffff9f0e27 0xd8a7220000000000 true  0x0007fdffffffffff => 0xffff1fffff211c8e true  false 0xd8a7220000000000 0x0d8af200000000000;
+    0x48273fffffa50dcf 0xd8a7220000000000 true  0x0007fe0000000001 => 0x48273fffff930e47 true  false 0xd8a7200000000000 0x0d8af240000000000;
+    0xffff1ffffc018004 0x4f2b7bffffffffff true  0x000ff80000000001 => 0xffff1ffffdbb16f7 true  false 0x4f2b780000000000 0x04f3b740000000000;
+    0xffff1ffffc018004 0x4f2b7bffffffffff true  0x000ff80000000002 => 0xffff1ffffedf6b78 true  false 0x4f2b780000000000 0x04f3b780000000000;
+    0xffff1ffffc018004 0xa40c600000000000 true  0x001ff80000000000 => 0xffff1fffff174c60 true  true  0xa40c600000000000 0x0a42c580000000000;
+    0x81d21ffffe0b4621 0xa40c600000000000 true  0x001ff80000000001 => 0x81d21ffffd8d4631 true  false 0xa40c600000000000 0x0a42c600000000000;
+    0x4a381ffffe75569a 0xbe5e700000000001 true  0x003feffffffffffe => 0x4a381fffffcd6f39 true  false 0xbe5e700000000000 0x0be9e600000000000;
+    0xffff1ffffc018004 0xbe5e700000000001 true  0x003ff00000000000 => 0xffff1ffffde9579a true  false 0xbe5e600000000000 0x0be9e800000000000;
+    0x73503ffffe7759d3 0x4acebfffffffffff true  0x007fc00000000000 => 0x73503ffffce973aa true  false 0x4acea00000000000 0x04b4e800000000000;
+    0xffff1ffffc018004 0x4acebfffffffffff true  0x007fc00000000002 => 0xffff1ffffe7759d3 true  false 0x4ace800000000000 0x04b4ec00000000000;
+    0xffff1ffffc018004 0x790e3fffffffffff true  0x00ff800000000001 => 0xffff1ffffc6f61c3 true  false 0x790e000000000000 0x07a0dc00000000000;
+    0xffff1ffffc018004 0x790e3fffffffffff true  0x00ff800000000002 => 0xffff1ffffc3950e4 true  false 0x790e000000000000 0x07a0e000000000000;
+    0xffff1ffffc018004 0x7ef5e958986af69c true  0x01ff16a767950964 => 0xffff1fffffd56f5c true  false 0x7ef5800000000000 0x080f5000000000000;
+    0xffff1ffffc018004 0x7ef5e958986af69c true  0x01ff16a767950965 => 0xffff1ffffded77ad true  false 0x7ef5000000000000 0x080f6000000000000;
+    0xffff3ffffc8f521e 0xc488000000000001 true  0x03fefffffffffffe => 0xffff3ffffd0f6445 true  false 0xc488000000000000 0x0c887000000000000;
+    0xffff1ffffc018004 0xc488000000000001 true  0x03ff000000000000 => 0xffff1ffffc895226 true  false 0xc488000000000000 0x0c888000000000000;
+    0xc5941fffff2f7bf7 0xbe10000000000001 true  0x07fdfffffffffffe => 0xc5941ffffe0f7846 true  false 0xbe10000000000000 0x0c60e000000000000;
+    0xc8671fffff197c07 0xbe10000000000001 true  0x07fe000000000000 => 0xc8671fffff097c27 true  false 0xbe10000000000000 0x0c610000000000000;
+    0xffff1ffffc018004 0x04e0000000000001 true  0x0ffbffffffffffff => 0xffff1ffffe6f49c7 true  false 0x04e0000000000000 0x014dc000000000000;
+    0xffff1ffffc018004 0x04e0000000000001 true  0x0ffc000000000000 => 0xffff1ffffd3984e0 true  false 0x04e0000000000000 0x014e0000000000000;
+    0xffff1ffffc018004 0xd18fffffffffffff true  0x1ff0000000000001 => 0xffff1ffffc619188 true  false 0xd188000000000000 0x0f180000000000000;
+    0xffff3fffff07a579 0xd18fffffffffffff true  0x1ff0000000000002 => 0xffff3ffffe33a8c1 true  false 0xd180000000000000 0x0f190000000000000;
+    0xffff1ffffc018004 0x2940000000000000 true  0x3fefffffffffffff => 0xffff1ffffd2794a1 true  false 0x2940000000000000 0x06930000000000000;
+    0xffff1ffffc018004 0x2940000000000000 true  0x3ff0000000000001 => 0xffff1ffffe958a52 true  false 0x2940000000000000 0x06940000000000000;
+    0xffff1ffffc018004 0x0720000000000001 true  0x7fdffffffffffffe => 0xffff1ffffc7181ca true  false 0x0720000000000000 0x08700000000000000;
+    0xffff1ffffc018004 0x0720000000000001 true  0x7fe0000000000000 => 0xffff1ffffc3b80e3 true  false 0x0700000000000000 0x08740000000000000;
+    0xffff3ffffc018004 0x003fffffffffffff true  0xff80000000000001 => 0xffff3fffffff8003 true  false 0x0000000000000000 0x0ffc0000000000000;
+    0x3fed1ffffc018004 0x003fffffffffffff true  0xff80000000000002 => 0x3fed1ffffc018004 true  false 0x0000000000000000 0x10000000000000000;
+    0xffff1ffffc018004 0xffffffffffffffff true  0x0000000000000001 => 0xffff1ffff8003fff true  true  0xffffffffffffffff 0x10000000000000000;
+    0xffff1ffffc018004 0xffffffffffffffff true  0x0000000000000002 => 0xffff1ffff8007fff false true  0xffffffffffffffff 0x10000000000000001;
+    0xffff1ffffc018004 0xfffffffffffff001 true  0x0000000000000fff => 0xffff1ffff8003001 true  true  0xfffffffffffff001 0x10000000000000000;
+    0xffff1ffffc018004 0xfffffffffffff001 true  0x0000000000001000 => 0xffff1ffffc023000 false false 0xfffffffffffff000 0x10000000000000008;
+    0xffff1ffffc018004 0xfffffffffffff000 true  0x0000000000001000 => 0xffff1ffffc003000 true  true  0xfffffffffffff000 0x10000000000000000;
+    0xffff1ffffc018004 0xfffffffffffff000 true  0x0000000000001001 => 0xffff1ffffc023000 false false 0xfffffffffffff000 0x10000000000000008;
+    0xffff1ffffc018004 0xffffffffffffcb40 true  0x00000000000034c0 => 0xffff1ffffc0025a1 true  true  0xffffffffffffcb40 0x10000000000000000;
+    0xffff1ffffc018004 0xffffffffffffcb40 true  0x00000000000034c1 => 0xffff1ffffc0225a1 false false 0xffffffffffffcb40 0x10000000000000010;
+    0xffff1ffffc018004 0xffffffffffffcb40 true  0x00000000000034d0 => 0xffff1ffffc0225a1 false true  0xffffffffffffcb40 0x10000000000000010;
+    0xffff1ffffc00621d 0xfffffffffc6c0000 true  0x0000000003940000 => 0xffff1ffffc006365 true  true  0xfffffffffc6c0000 0x10000000000000000;
+    0xffff1ffffc018004 0xfffffffffc6c0000 true  0x0000000003940001 => 0xffff1ffffc026365 false false 0xfffffffffc6c0000 0x10000000000010000;
+    0xffff1ffffc018004 0xfffffffffc6c0000 true  0x0000000003950000 => 0xffff1ffffc026365 false true  0xfffffffffc6c0000 0x10000000000010000;
+    0xffff3ffffc00ed79 0xffffffdcd0000000 true  0x0000002330000000 => 0xffff3ffffc00ee69 true  true  0xffffffdcd0000000 0x10000000000000000;
+    0x6e6b3ffffc00ece9 0xffffffdcd0000000 true  0x0000002330000001 => 0x6e6b3ffffc02ee69 false false 0xffffffdcd0000000 0x10000000010000000;
+    0xffff1ffffc018004 0xffffffdcd0000000 true  0x0000002340000000 => 0xffff1ffffc02ee69 false true  0xffffffdcd0000000 0x10000000010000000;
+    0xffff3ffffc0125cd 0xfffd000000000000 true  0x0003000000000000 => 0xffff3ffffc012805 true  true  0xfffd000000000000 0x10000000000000000;
+    0xffff1ffffc018004 0xfffd000000000000 true  0x0003000000000001 => 0xffff1ffffc032805 false false 0xfffd000000000000 0x10000010000000000;
+    0xffff1ffffc018004 0xfffd000000000000 true  0x0003010000000000 => 0xffff1ffffc032805 false true  0xfffd000000000000 0x10000010000000000;
+    0xffff1ffffc018004 0xcd10000000000000 true  0x32f0000000000000 => 0xffff1ffffc01a689 true  true  0xcd10000000000000 0x10000000000000000;
+    0xffff3ffffc01a601 0xcd10000000000000 true  0x32f0000000000001 => 0xffff3ffffc03a689 false false 0xcd10000000000000 0x10010000000000000;
+    0xffff1ffffc018004 0xcd10000000000000 true  0x3300000000000000 => 0xffff1ffffc03a689 false true  0xcd10000000000000 0x10010000000000000;
+    0xffff1ffffc018004 0x0000000000000000 true  0xffffffffffffffff => 0xffff1ffffc018004 true  false 0x0000000000000000 0x10000000000000000;
+    0xffff1ffffc018004 0x0000000000000000 true  0x8000000000000000 => 0xffff1ffffc018003 true  true  0x0000000000000000 0x08000000000000000;
+    0xffff1ffffc018004 0x0000000000000001 true  0xffffffffffffffff => 0xffff1ffffc018004 true  false 0x0000000000000000 0x10000000000000000;
+    0xffff1ffffc018004 0x0000000000000001 true  0x8000000000000000 => 0xffff1ffffc038003 true  false 0x0000000000000000 0x08040000000000000;
+    0xffff1ffffc018004 0x8000000000000000 true  0xffffffffffffffff => 0xffff1ffffe018804 false false 0x8000000000000000 0x18000000000000000;
+    0xffff1ffffc018004 0x8000000000000000 true  0x8000000000000000 => 0xffff1ffffc019003 true  true  0x8000000000000000 0x10000000000000000;
+    0xffff1ffffc018004 0x8000000000000001 true  0xffffffffffffffff => 0xffff1ffffe018804 false false 0x8000000000000000 0x18000000000000000;
+    0xffff1ffffc018004 0x8000000000000001 true  0x8000000000000000 => 0xffff1ffffc039003 false false 0x8000000000000000 0x10040000000000000;
+    0xffff1ffffc018004 0xffffffffffffffff true  0x8000000000000000 => 0xffff1ffffc019ffb false false 0xffc0000000000000 0x18000000000000000;
+    0xbfad1ffffbb2af66 0x99185c14cce1af66 true  0x0000000000000f64 => 0xbfad1ffffbb2af66 true  true  0x99185c14cce1af66 0x099185c14cce1beca;
+    0xbfad1ffffbb2af66 0x99185c14cce1af67 true  0x0000000000000f63 => 0xbfad1ffffbb2af67 true  true  0x99185c14cce1af67 0x099185c14cce1beca;
+    0xbfad1ffffbb2af66 0x99185c14cce1af66 true  0x0000000000000f65 => 0xbfad1ffffbb2ef66 false true  0x99185c14cce1af66 0x099185c14cce1becb;
+    0xbfad1ffffbb2af66 0x99185c14cce1af65 true  0x0000000000000f65 => 0xbfad1ffffbb2af65 false true  0x99185c14cce1af65 0x099185c14cce1beca;
+    0xbfad1ffffbb2af66 0x99185c14cce1beca true  0x0000000000000000 => 0xbfad1ffffbb2beca true  true  0x99185c14cce1beca 0x099185c14cce1beca;
+    0xbfad1ffffbb2af66 0x99185c14cce1beca true  0x0000000000000001 => 0xbfad1ffffbb2feca false true  0x99185c14cce1beca 0x099185c14cce1becb;
+    0xbfad1ffffbb2af66 0x99185c14cce1dfff true  0x0000000000000000 => 0xbfad1ffffbffdfff false true  0x99185c14cce1dfff 0x099185c14cce1dfff;
+    0xffff3ffffdca2720 0x1e19202979b56720 true  0x0000000000001008 => 0xffff3ffffdca2720 true  true  0x1e19202979b56720 0x01e19202979b57728;
+    0xffff3ffffdca2720 0x1e19202979b56721 true  0x0000000000001007 => 0xffff3ffffdca2720 true  false 0x1e19202979b56720 0x01e19202979b57728;
+    0xffff3ffffdca2720 0x1e19202979b56720 true  0x0000000000001009 => 0xffff3ffffdcc2720 false false 0x1e19202979b56720 0x01e19202979b57730;
+    0xffff3ffffdca2720 0x1e19202979b5671f true  0x0000000000001009 => 0xffff3ffffdca2718 false false 0x1e19202979b56718 0x01e19202979b57728;
+    0xffff3ffffdca2720 0x1e19202979b57728 true  0x0000000000000000 => 0xffff3ffff9ca3728 true  true  0x1e19202979b57728 0x01e19202979b57728;
+    0xffff3ffffdca2720 0x1e19202979b57728 true  0x0000000000000001 => 0xffff3ffff9ca7728 false true  0x1e19202979b57728 0x01e19202979b57729;
+    0xffff3ffffdca2720 0x1e19202979b597ff true  0x0000000000000000 => 0xffff3ffff9ffd7ff false true  0x1e19202979b597ff 0x01e19202979b597ff;
+    0xd05f3ffffed208d9 0xb2dc13130c5411b0 true  0x00000000000024e0 => 0xd05f3ffffed208d9 true  true  0xb2dc13130c5411b0 0x0b2dc13130c543690;
+    0xd05f3ffffed208d9 0xb2dc13130c5411b1 true  0x00000000000024df => 0xd05f3ffffed208d9 true  false 0xb2dc13130c5411b0 0x0b2dc13130c543690;
+    0xd05f3ffffed208d9 0xb2dc13130c5411b0 true  0x00000000000024e1 => 0xd05f3ffffed408d9 false false 0xb2dc13130c5411b0 0x0b2dc13130c5436a0;
+    0xd05f3ffffed208d9 0xb2dc13130c5411af true  0x00000000000024e1 => 0xd05f3ffffed208d1 false false 0xb2dc13130c5411a0 0x0b2dc13130c543690;
+    0xd05f3ffffed208d9 0xb2dc13130c543690 true  0x0000000000000000 => 0xd05f3ffff9a43690 true  true  0xb2dc13130c543690 0x0b2dc13130c543690;
+    0xd05f3ffffed208d9 0xb2dc13130c543690 true  0x0000000000000001 => 0xd05f3ffff9a47690 false true  0xb2dc13130c543690 0x0b2dc13130c543691;
+    0xd05f3ffffed208d9 0xb2dc13130c547fff true  0x0000000000000000 => 0xd05f3ffffbffffff false true  0xb2dc13130c547fff 0x0b2dc13130c547fff;
+    0xffff3ffffd207925 0x01dee6d177240000 true  0x00000000036c0000 => 0xffff3ffffd207925 true  true  0x01dee6d177240000 0x001dee6d17a900000;
+    0xffff3ffffd207925 0x01dee6d177240001 true  0x00000000036bffff => 0xffff3ffffd207925 true  false 0x01dee6d177240000 0x001dee6d17a900000;
+    0xffff3ffffd207925 0x01dee6d177240000 true  0x00000000036c0001 => 0xffff3ffffd227925 false false 0x01dee6d177240000 0x001dee6d17a910000;
+    0xffff3ffffd207925 0x01dee6d17723ffff true  0x00000000036c0001 => 0xffff3ffffd20791d false false 0x01dee6d177230000 0x001dee6d17a900000;
+    0xffff3ffffd207925 0x01dee6d17a900000 true  0x0000000000000000 => 0xffff3ffff8000000 true  true  0x01dee6d17a900000 0x001dee6d17a900000;
+    0xffff3ffffd207925 0x01dee6d17a900000 true  0x0000000000000001 => 0xffff3ffff8004000 false true  0x01dee6d17a900000 0x001dee6d17a900001;
+    0xffff3ffffd207925 0x01dee6d17dffffff true  0x0000000000000000 => 0xffff3ffffbffffff false true  0x01dee6d17dffffff 0x001dee6d17dffffff;
+    0x7a7d3ffffd8afa2e 0xc3335e8a00000000 true  0x0000070000000000 => 0x7a7d3ffffd8afa2e true  true  0xc3335e8a00000000 0x0c333658a00000000;
+    0x7a7d3ffffd8afa2e 0xc3335e8a00000001 true  0x000006ffffffffff => 0x7a7d3ffffd8afa2e true  false 0xc3335e8a00000000 0x0c333658a00000000;
+    0x7a7d3ffffd8afa2e 0xc3335e8a00000000 true  0x0000070000000001 => 0x7a7d3ffffd8cfa2e false false 0xc3335e8a00000000 0x0c333658c00000000;
+    0x7a7d3ffffd8afa2e 0xc3335e89ffffffff true  0x0000070000000001 => 0x7a7d3ffffd8afa26 false false 0xc3335e8800000000 0x0c333658a00000000;
+    0x7a7d3ffffd8afa2e 0xc333658a00000000 true  0x0000000000000000 => 0x7a7d3ffff8000000 true  true  0xc333658a00000000 0x0c333658a00000000;
+    0x7a7d3ffffd8afa2e 0xc333658a00000000 true  0x0000000000000001 => 0x7a7d3ffff8004000 false true  0xc333658a00000000 0x0c333658a00000001;
+    0x7a7d3ffffd8afa2e 0xc3336bffffffffff true  0x0000000000000000 => 0x7a7d3ffffbffffff false true  0xc3336bffffffffff 0x0c3336bffffffffff;
+    0xdc071fffff5d74cf 0x1a64000000000000 true  0x0c54000000000000 => 0xdc071fffff5d74cf true  true  0x1a64000000000000 0x026b8000000000000;
+    0xdc071fffff5d74cf 0x1a64000000000001 true  0x0c53ffffffffffff => 0xdc071fffff5d74cf true  false 0x1a64000000000000 0x026b8000000000000;
+    0xdc071fffff5d74cf 0x1a64000000000000 true  0x0c54000000000001 => 0xdc071fffff5f74cf false false 0x1a64000000000000 0x026bc000000000000;
+    0xdc071fffff5d74cf 0x1a63ffffffffffff true  0x0c54000000000001 => 0xdc071fffff5d74c7 false false 0x1a60000000000000 0x026b8000000000000;
+    0xdc071fffff5d74cf 0x26b8000000000000 true  0x0000000000000000 => 0xdc071ffff8000000 true  true  0x26b8000000000000 0x026b8000000000000;
+    0xdc071fffff5d74cf 0x26b8000000000000 true  0x0000000000000001 => 0xdc071ffff8004000 false true  0x26b8000000000000 0x026b8000000000001;
+    0xdc071fffff5d74cf 0x33ffffffffffffff true  0x0000000000000000 => 0xdc071ffffbffffff false true  0x33ffffffffffffff 0x033ffffffffffffff;
+    0x51111ffff4018004 0x0604445da8373bfc true  0x0000000000000010 => 0x51111ffff3033bfc false true  0x0604445da8373bfc 0x00604445da8373c0c;
+    0x56391ffff3033bfc 0x0604445da8373bfc true  0x0000000000000010 => 0x56391ffff3033bfc false true  0x0604445da8373bfc 0x00604445da8373c0c;
+    0x64771ffff4018004 0x3e72a217f9ac138c true  0x000000541f78dd82 => 0x64771ffff6c2c5fa false false 0x3e72a217e0000000 0x03e72a26c20000000;
+    0x9a353ffff6c2c5fa 0x3e72a217f9ac138c true  0x000000541f78dd82 => 0x9a353ffff6c2c5fa false false 0x3e72a217e0000000 0x03e72a26c20000000;
+    0x077720002c018004 0x11e2839321cdb512 true  0x0000000000000010 => 0x077720002948b512 false true  0x11e2839321cdb512 0x011e2839321cdb522;
+    0xffff00002948b512 0x11e2839321cdb512 true  0x0000000000000010 => 0xffff00002948b512 false true  0x11e2839321cdb512 0x011e2839321cdb522;
+    0xffff00002c018004 0x556b3f7e1fa53837 true  0x00000047c68c093a => 0xffff00002c60df82 false false 0x556b3f7e00000000 0x0556b3fc600000000;
+    0xffff20002c60df82 0x556b3f7e1fa53837 true  0x00000047c68c093a => 0xffff20002c60df82 false false 0x556b3f7e00000000 0x0556b3fc600000000;
+    0x7e2a200004018004 0x2f21948bb2628b54 true  0x0000000000000010 => 0x7e2a200002d90b54 false true  0x2f21948bb2628b54 0x02f21948bb2628b64;
+    0xffff000002d90b54 0x2f21948bb2628b54 true  0x0000000000000010 => 0xffff000002d90b54 false true  0x2f21948bb2628b54 0x02f21948bb2628b64;
+    0xd254200004018004 0x695390d54bf7b870 true  0x000000ad92635477 => 0xd25420000418daab false false 0x695390d540000000 0x06953918300000000;
+    0x67aa20000418daab 0x695390d54bf7b870 true  0x000000ad92635477 => 0x67aa20000418daab false false 0x695390d540000000 0x06953918300000000;
+    0xffff2ffffc018004 0x4d4f7740a171365a true  0x0000000000000010 => 0xffff2ffff99ab65a false true  0x4d4f7740a171365a 0x04d4f7740a171366a;
+    0xffff2ffff99ab65a 0x4d4f7740a171365a true  0x0000000000000010 => 0xffff2ffff99ab65a false true  0x4d4f7740a171365a 0x04d4f7740a171366a;
+    0xffff2ffffc018004 0x7066d4b9f61d5544 true  0x00000011f60747da => 0xffff2ffffefcf9f0 false false 0x7066d4b9f0000000 0x07066d4cbf0000000;
+    0xffff0ffffefcf9f0 0x7066d4b9f61d5544 true  0x00000011f60747da => 0xffff0ffffefcf9f0 false false 0x7066d4b9f0000000 0x07066d4cbf0000000;
+    0x000000000401bffb 0x0000000000000000 false 0x00000000000001c4 => 0x0000000000710000 false true  0x0000000000000000 0x000000000000001c4;
+    0x000000000401bffb 0x0000000000000000 false 0x0000000150fa5364 => 0x0000000005448004 false false 0x0000000000000000 0x00000000151000000;
+    0xffffffffffffffff 0xffffffffffffffff false 0x0000000000000d8e => 0xffff3ffffb637fff false true  0xffffffffffffffff 0x10000000000000d8d;
+    0xffffffffffffffff 0xffffffffffffffff false 0x00000008fe62846c => 0xffff3ffffc80bfff false false 0xfffffffffc000000 0x10000000900000000;
+    0x55001ffffe007801 0xffffffffffffffff false 0x0000000000000b3e => 0x55001ffffacf7fff false true  0xffffffffffffffff 0x10000000000000b3d;
+    0x55001ffffe007801 0xffffffffffffffff false 0x000000000000557a => 0x55001ffffd583ffa false false 0xffffffffffffffe0 0x10000000000005580;
+    0xffff5ffffc018004 0x6097f62ca89fb81c false 0x0000000000000a9e => 0xffff1ffff8aeb81c false true  0x6097f62ca89fb81c 0x06097f62ca89fc2ba;
+    0xffff5ffffc018004 0x6097f62ca89fb81c false 0x00008a36cecd02f6 => 0xffff1ffffc053ec3 false false 0x6097f60000000000 0x06098808000000000;
+    0xffff9ffffc018004 0x242f538833875044 false 0x00000000000002d3 => 0xffff1ffff8c5d044 false true  0x242f538833875044 0x0242f538833875317;
+    0xffff9ffffc018004 0x242f538833875044 false 0x0000c4caacb6abe6 => 0xffff1ffffcc52a73 false false 0x242f538000000000 0x02430188000000000;
+    0xffffdffffc018004 0x0f662e185eba403c false 0x00000000000008d5 => 0xffff1ffffa44403c false true  0x0f662e185eba403c 0x00f662e185eba4911;
+    0xffffdffffc018004 0x0f662e185eba403c false 0x0098a0d90899b193 => 0xffff1ffffff96cc3 false false 0x0f66000000000000 0x00fff000000000000;
+    0x00001ffffc018004 0x0000000000000000 false 0x0000000000000e2e => 0x00001ffffb8b8000 false true  0x0000000000000000 0x00000000000000e2e;
+    0x00001ffffc018004 0x0000000000000000 false 0x000000035eef1655 => 0x00001ffffebe8005 false false 0x0000000000000000 0x0000000035f000000;
+    0x00001ffffc018004 0xffffffffffffffff false 0x0000000000000271 => 0x00001ffff89c3fff false true  0xffffffffffffffff 0x10000000000000270;
+    0x00001ffffc018004 0xffffffffffffffff false 0x00001165cb01b86d => 0x00001ffffc5b3ff8 false false 0xfffffff800000000 0x10000116800000000;
+    0xffff1ffffc018004 0x7bb389f4c060de62 false 0x0000000000000bfd => 0xffff1ffffa97de62 false true  0x7bb389f4c060de62 0x07bb389f4c060ea5f;
+    0xffff1ffffc018004 0x7bb389f4c060de62 false 0x001e72f0467642f4 => 0xffff1ffffc817388 false false 0x7bb3880000000000 0x07bd2000000000000;
+    0xffff3ffffd82a605 0x7bb389f4c060de62 false 0x00000000000005c6 => 0xffff3ffff90a1e62 false true  0x7bb389f4c060de62 0x07bb389f4c060e428;
+    0xffff3ffffd82a605 0x7bb389f4c060de62 false 0x00000000000987b2 => 0xffff3ffffd3401bf false false 0x7bb389f4c060dc00 0x07bb389f4c06a6800;
+    0xffff3ffff582a605 0x7bb389f4c060de62 false 0x0000000000000857 => 0xffff3ffff1ae5e62 false true  0x7bb389f4c060de62 0x07bb389f4c060e6b9;
+    0xffff3ffff582a605 0x7bb389f4c060de62 false 0x000000000000db9d => 0xffff3ffff5d01bcb false false 0x7bb389f4c060de40 0x07bb389f4c061ba00;
+};
