@@ -1,2 +1,3 @@
 pub mod Fetch
 pub mod Loading
+pub mod Loads

@@ -3,6 +3,7 @@
 ghost use Rattle.std.specs.Prelude.{◌≡◌, ◌<◌, IsTrue, Some};
 ghost use Rattle.cap_bounds.specs.CapValue.{IsSound};
 ghost use Rattle.tagged_memory.specs.Memory.{IsMemory};
+ghost use Rattle.devices.specs.Devices.{interrupts_of};
 ghost use Rattle.special_regs.specs.Scrs.{IsAligned, is_scr, scr_value};
 ghost use Rattle.special_regs.specs.CsrValues.{is_csr, csr_value};
 ghost use Rattle.hart.specs.Registers.{register};
@@ -10,6 +11,7 @@ ghost use Rattle.hart.specs.State.{HoldsCapabilities};
 
 use crate::hart::Hart;
 use cap_bounds::CapRep;
+use devices::Devices;
 use tagged_memory::Memory;
 
 impl<C: CapRep> Hart<C> {
@@ -35,9 +37,9 @@ impl<C: CapRep> Hart<C> {
     /// What a read of control and status register `n` gives; it is to be one that there is.
     pub fn csr(&self, n: u16) -> u64
         requires { IsTrue (is_csr n) }
-        ensures { csr_value self.now.csrs self.now.scrs 0 n ≡ Some result }
+        ensures { csr_value self.now.csrs self.now.scrs (interrupts_of self.now.devices) n ≡ Some result }
     {
-        special_regs::csr_value(&self.csrs, &self.scrs, 0, n).unwrap()
+        special_regs::csr_value(&self.csrs, &self.scrs, self.devices.interrupts(), n).unwrap()
     }
 
     /// RAM and its tags. The word of each tagged granule is a capability's.
@@ -46,6 +48,13 @@ impl<C: CapRep> Hart<C> {
         ensures well_formed { HoldsCapabilities self.now.memory }
     {
         &self.memory
+    }
+
+    /// The devices.
+    pub fn devices(&self) -> &Devices
+        ensures { result.now ≡ self.now.devices }
+    {
+        &self.devices
     }
 
     /// The number with which the machine was halted, if it was.

@@ -1,15 +1,21 @@
 //! The hart: its state, and one step.
 #![tactic(auto)]
 
+mod accesses;
 mod apply;
+mod compute;
 mod effect;
 mod event;
 mod getters;
 mod hart;
+mod jump_rows;
+mod looks;
+mod memory_rows;
 mod opening;
 mod plan;
 mod registers;
 mod step;
+mod system_rows;
 mod values;
 
 pub use event::{Event, Out};

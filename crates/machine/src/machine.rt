@@ -1,5 +1,6 @@
 ghost use Rattle.std.specs.Prelude.{◌≡◌, ◌+◌, ◌<◌, ◌≤◌, ◌++◌, length, vec_len, vec_capacity, IsOk, IsTrue, IfOk, IfErr, OnOk, OnErr, Some, option_to_list};
 ghost use Rattle.cap_bounds.specs.CapValue.{IsSound};
+ghost use Rattle.devices.specs.Devices.{interrupts_of};
 ghost use Rattle.special_regs.specs.Scrs.{IsAligned, is_scr, scr_value};
 ghost use Rattle.special_regs.specs.CsrValues.{is_csr, csr_value};
 ghost use Rattle.hart.specs.Registers.{register};
@@ -11,6 +12,7 @@ ghost use Rattle.machine.specs.Run.{run_after, run_sent, end_of};
 use crate::end::End;
 use crate::fault::MachineFault;
 use cap_bounds::CapRep;
+use devices::Devices;
 use hart::{Event, Hart, Out};
 use image::Image;
 use std::alloc::Global;
@@ -117,7 +119,7 @@ impl<C: CapRep> Machine<C> {
     /// What a read of control and status register `n` gives; it is to be one that there is.
     pub fn csr(&self, n: u16) -> u64
         requires { IsTrue (is_csr n) }
-        ensures { csr_value self.now.csrs self.now.scrs 0 n ≡ Some result }
+        ensures { csr_value self.now.csrs self.now.scrs (interrupts_of self.now.devices) n ≡ Some result }
     {
         self.hart.csr(n)
     }
@@ -128,6 +130,13 @@ impl<C: CapRep> Machine<C> {
         ensures well_formed { HoldsCapabilities self.now.memory }
     {
         self.hart.memory()
+    }
+
+    /// The devices.
+    pub fn devices(&self) -> &Devices
+        ensures { result.now ≡ self.now.devices }
+    {
+        self.hart.devices()
     }
 
     /// The number with which the machine was halted, if it was.

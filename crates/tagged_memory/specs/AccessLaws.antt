@@ -1,5 +1,6 @@
 -- An access without a fault, and a word that is stored and loaded again.
 use Rattle.std.proofs.Common.{◌≡◌, ℕ, ◌%◌, true, false, None, Some, eqb, not, cond, refl}
+use Rattle.std.proofs.lemmas.Bool.{eqb-true}
 use Rattle.tagged_memory.specs.declared.fault.MemoryFault.TheVariants.{M3, M4}
 use Rattle.tagged_memory.specs.Memory.{Memory, is_in_ram, access_fault, StoredIsLoaded}
 use Rattle.tagged_memory.specs.MemoryLaws.{word_at-capability_written_here, is_tagged-capability_written_here}
@@ -12,6 +13,16 @@ in_ram-access_fault m address size none =
       | true ↦ λ _. refl
       | false ↦ elim (eqb (address % size) 0) as (λ aligned. cond (not aligned) (Some M4) (cond true (Some M3) None) ≡ None → false ≡ true) [ true ↦ λ e. cc | false ↦ λ e. cc ]
     ] none
+
+-- an access without a fault is aligned
+pub aligned-access_fault : (m : Memory) (address size : ℕ) → access_fault m address size ≡ None → address % size ≡ 0
+unfolding access_fault
+aligned-access_fault m address size none =
+    eqb-true _ _
+    (elim (eqb (address % size) 0) as (λ aligned. cond (not aligned) (Some M4) (cond (not (is_in_ram m address size)) (Some M3) None) ≡ None → aligned ≡ true) [
+      | true ↦ λ _. refl
+      | false ↦ λ e. cc
+    ] none)
 
 pub stored_is_loaded : StoredIsLoaded
 stored_is_loaded m address word tag none fits = (

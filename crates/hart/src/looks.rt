@@ -1,0 +1,58 @@
+//! What the hart looks at to decide an instruction's effect.
+
+ghost use Rattle.std.specs.Prelude.{◌≡◌, ◌<◌};
+ghost use Rattle.hart.specs.Effect.{meant, CanApply};
+ghost use Rattle.hart.specs.Looks.{number_in, next_of, illegal, refused};
+
+use crate::effect::Effect;
+use crate::hart::Hart;
+use cap_bounds::CapRep;
+use cap_checks::Fault;
+use special_regs::SpecialFault;
+
+/// The trap of a word that is no instruction that may be done.
+pub(crate) fn illegal_effect<C: CapRep>(word: u32) -> Effect<C>
+    ensures { meant C.value result ≡ illegal word }
+{
+    Effect::Trap(Fault {
+        mcause: 2,
+        mtval: u64::from(word),
+    })
+}
+
+/// The trap where a system register is refused. A refusal for want of access names a register, below 64.
+pub(crate) fn refused_effect<C: CapRep>(
+    refusal: SpecialFault,
+    register: u64,
+    word: u32,
+) -> Effect<C>
+    requires { register < 64 }
+    ensures { meant C.value result ≡ refused refusal register word }
+{
+    match refusal {
+        SpecialFault::S1 => illegal_effect(word),
+        SpecialFault::S2 => Effect::Trap(Fault {
+            mcause: 28,
+            mtval: 32 * register + 0x18,
+        }),
+    }
+}
+
+impl<C: CapRep> Hart<C> {
+    /// The number in a register.
+    #[inline]
+    pub(crate) fn number(&self, n: u8) -> u64
+        requires { n < 32 }
+        ensures { result ≡ number_in self.now n }
+    {
+        self.registers.get(n).address()
+    }
+
+    /// The address of the instruction after this one.
+    #[inline]
+    pub(crate) fn next_address(&self) -> u64
+        ensures { result ≡ next_of self.now }
+    {
+        self.scrs.pcc().address().wrapping_add(4)
+    }
+}

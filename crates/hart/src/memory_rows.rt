@@ -1,0 +1,273 @@
+//! Loads and stores of data and of capabilities: the authority's checks, then the map, then the effect.
+
+ghost use Rattle.std.specs.Prelude.{◌≡◌, ◌<◌, ◌%◌, ◌&&◌, true, IsTrue};
+ghost use Rattle.cap_bounds.specs.CapValue.{value_of};
+ghost use Rattle.cap_bounds.specs.Record.{IsWordWellFormed};
+ghost use Rattle.tagged_memory.specs.Memory.{is_in_ram};
+ghost use Rattle.tagged_memory.specs.Size.{bytes_of};
+ghost use Rattle.hart.specs.Accesses.{size_of};
+ghost use Rattle.hart.specs.Effect.{meant, CanApply};
+ghost use Rattle.hart.specs.Looks.{HasRegisters};
+ghost use Rattle.hart.specs.MemoryRows as spec;
+ghost use Rattle.hart.specs.MemoryRows.{place_of, authority_of, authority_number_of, mapped_load, load_effect, mapped_store, store_effect, mapped_capability_load, load_capability_effect, mapped_capability_store, store_capability_effect};
+
+use crate::accesses::{loaded, size_of, through_rs1};
+use crate::effect::Effect;
+use crate::hart::Hart;
+use cap_bounds::CapRep;
+use cap_checks::{Access, DDC_REGISTER, Fault, Stored, check_access};
+use cap_format::CapWord;
+use cap_insns::integer;
+use cap_rights::{Permission, permits};
+use devices::Devices;
+use isa_rows::Insn;
+use tagged_memory::Size;
+
+/// The access faults of what lies neither in RAM nor in a device register that takes the access.
+const LOAD_ACCESS: u64 = 5;
+
+const STORE_ACCESS: u64 = 7;
+
+/// The authority of an access, and the number of its register.
+#[derive(Clone, Copy)]
+pub(crate) struct Authority<C> {
+    pub(crate) capability: C,
+    pub(crate) register: u64,
+}
+
+/// What a word and its tag mean where the tag may be kept, and what the word alone means where it may not.
+#[inline]
+fn kept_if<C: CapRep>(keeps: bool, word: CapWord, tag: bool) -> C
+    requires { IsTrue tag → IsWordWellFormed word }
+    ensures { C.value result ≡ value_of word (tag && keeps) }
+{
+    if keeps {
+        C::from_word(word, tag)
+    } else {
+        C::from_word(word, false)
+    }
+}
+
+impl<C: CapRep> Hart<C> {
+    /// Where an access is made: rs1's number and the immediate.
+    #[inline]
+    fn place(&self, insn: Insn) -> u64
+        requires registers { HasRegisters insn }
+        ensures { result ≡ place_of insn self.now }
+    {
+        self.number(insn.rs1).wrapping_add(insn.imm)
+    }
+
+    /// The authority: the capability in rs1, or the default data capability.
+    #[inline]
+    fn authority(&self, insn: Insn) -> Authority<C>
+        requires registers { HasRegisters insn }
+        ensures capability { C.value result.capability ≡ authority_of insn self.now }
+        ensures register { result.register ≡ authority_number_of insn self.now }
+        ensures exists { result.register < 64 }
+    {
+        if through_rs1(insn.row, self.scrs.pcc().flag()) {
+            Authority {
+                capability: self.registers.get(insn.rs1),
+                register: u64::from(insn.rs1),
+            }
+        } else {
+            Authority {
+                capability: self.scrs.ddc(),
+                register: DDC_REGISTER,
+            }
+        }
+    }
+
+    /// A load that its authority allows: from RAM, or from a device register that can be loaded.
+    #[inline]
+    #[tactic(auto, unfolding(crate::specs::MemoryRows::mapped_load, crate::specs::Effect::CanApply, tagged_memory::specs::Memory::access_fault))]
+    fn plan_mapped_load(&self, insn: Insn, address: u64, size: Size) -> Effect<C>
+        requires registers { HasRegisters insn }
+        requires aligned { address % bytes_of size ≡ 0 }
+        ensures effect { meant C.value result ≡ mapped_load insn address size self.now }
+        ensures can { CanApply result self.now }
+    {
+        let rd = insn.rd;
+        if self.memory.holds(address, size) {
+            let number = self.memory.read(address, size).unwrap();
+            Effect::Write {
+                rd,
+                value: integer(loaded(insn.row, size, number)),
+            }
+        } else if Devices::gives(address, size) {
+            Effect::DeviceLoad {
+                rd,
+                value: integer(self.devices.value_at(address)),
+                address,
+                size,
+            }
+        } else {
+            Effect::Trap(Fault {
+                mcause: LOAD_ACCESS,
+                mtval: address,
+            })
+        }
+    }
+
+    /// A load of data.
+    #[inline]
+    #[tactic(auto, unfolding(crate::specs::MemoryRows::load_effect, crate::specs::Effect::CanApply))]
+    pub(crate) fn plan_load(&self, insn: Insn) -> Effect<C>
+        requires registers { HasRegisters insn }
+        ensures effect { meant C.value result ≡ load_effect insn self.now }
+        ensures can { CanApply result self.now }
+    {
+        let through = self.authority(insn);
+        let size = size_of(insn.row);
+        let access = Access::Load(size);
+        match check_access(
+            through.capability,
+            through.register,
+            access,
+            self.place(insn),
+        ) {
+            Ok(address) => self.plan_mapped_load(insn, address, size),
+            Err(fault) => Effect::Trap(fault),
+        }
+    }
+
+    /// A store that its authority allows: into RAM, or into a device register that takes it.
+    #[inline]
+    #[tactic(auto, unfolding(crate::specs::MemoryRows::mapped_store, crate::specs::Effect::CanApply, tagged_memory::specs::Memory::access_fault))]
+    fn plan_mapped_store(&self, address: u64, size: Size, number: u64) -> Effect<C>
+        requires { address % bytes_of size ≡ 0 }
+        ensures effect { meant C.value result ≡ mapped_store address size number self.now }
+        ensures can { CanApply result self.now }
+    {
+        if self.memory.holds(address, size) {
+            Effect::Store {
+                address,
+                size,
+                number,
+            }
+        } else if Devices::takes(address, size) {
+            Effect::DeviceStore {
+                address,
+                size,
+                number,
+            }
+        } else {
+            Effect::Trap(Fault {
+                mcause: STORE_ACCESS,
+                mtval: address,
+            })
+        }
+    }
+
+    /// A store of data.
+    #[inline]
+    #[tactic(auto, unfolding(crate::specs::MemoryRows::store_effect, crate::specs::Effect::CanApply))]
+    pub(crate) fn plan_store(&self, insn: Insn) -> Effect<C>
+        requires registers { HasRegisters insn }
+        ensures effect { meant C.value result ≡ store_effect insn self.now }
+        ensures can { CanApply result self.now }
+    {
+        let through = self.authority(insn);
+        let size = size_of(insn.row);
+        let access = Access::Store(size);
+        match check_access(
+            through.capability,
+            through.register,
+            access,
+            self.place(insn),
+        ) {
+            Ok(address) => self.plan_mapped_store(address, size, self.number(insn.rs2)),
+            Err(fault) => Effect::Trap(fault),
+        }
+    }
+
+    /// The word of a granule in RAM, with its tag if the authority has Load_Capability.
+    #[tactic(auto, unfolding(tagged_memory::specs::Memory::access_fault))]
+    fn loaded_capability(&self, authority: C, address: u64) -> C
+        requires aligned { address % 16 ≡ 0 }
+        requires inside { is_in_ram self.now.memory address 16 ≡ true }
+        ensures { C.value result ≡ spec.loaded_capability (C.value authority) address self.now.memory }
+    {
+        let (word, tag) = self.memory.read_cap(address).unwrap();
+        kept_if(permits(authority, Permission::LoadCapability), word, tag)
+    }
+
+    /// A load of a capability that its authority allows: from RAM alone, without its tag where the authority lacks Load_Capability.
+    #[tactic(auto, unfolding(crate::specs::MemoryRows::mapped_capability_load, crate::specs::Effect::CanApply, tagged_memory::specs::Memory::access_fault))]
+    fn plan_mapped_capability_load(&self, authority: C, rd: u8, address: u64) -> Effect<C>
+        requires register { rd < 32 }
+        requires aligned { address % 16 ≡ 0 }
+        ensures effect { meant C.value result ≡ mapped_capability_load (C.value authority) rd address self.now }
+        ensures can { CanApply result self.now }
+    {
+        if !self.memory.holds_granule(address) {
+            return Effect::Trap(Fault {
+                mcause: LOAD_ACCESS,
+                mtval: address,
+            });
+        }
+        Effect::Write {
+            rd,
+            value: self.loaded_capability(authority, address),
+        }
+    }
+
+    /// A load of a capability.
+    #[tactic(auto, unfolding(crate::specs::MemoryRows::load_capability_effect, crate::specs::Effect::CanApply))]
+    pub(crate) fn plan_load_capability(&self, insn: Insn) -> Effect<C>
+        requires registers { HasRegisters insn }
+        ensures effect { meant C.value result ≡ load_capability_effect insn self.now }
+        ensures can { CanApply result self.now }
+    {
+        let through = self.authority(insn);
+        let access = Access::LoadCapability;
+        match check_access(
+            through.capability,
+            through.register,
+            access,
+            self.place(insn),
+        ) {
+            Ok(address) => self.plan_mapped_capability_load(through.capability, insn.rd, address),
+            Err(fault) => Effect::Trap(fault),
+        }
+    }
+
+    /// A store of a capability that its authority allows: into RAM alone.
+    #[tactic(auto, unfolding(crate::specs::MemoryRows::mapped_capability_store, crate::specs::Effect::CanApply, tagged_memory::specs::Memory::access_fault))]
+    fn plan_mapped_capability_store(&self, address: u64, value: C) -> Effect<C>
+        requires { address % 16 ≡ 0 }
+        ensures effect { meant C.value result ≡ mapped_capability_store address (C.value value) self.now }
+        ensures can { CanApply result self.now }
+    {
+        if self.memory.holds_granule(address) {
+            Effect::StoreCapability { address, value }
+        } else {
+            Effect::Trap(Fault {
+                mcause: STORE_ACCESS,
+                mtval: address,
+            })
+        }
+    }
+
+    /// A store of a capability, or of 128 bits without a tag.
+    #[tactic(auto, unfolding(crate::specs::MemoryRows::store_capability_effect, crate::specs::Effect::CanApply))]
+    pub(crate) fn plan_store_capability(&self, insn: Insn) -> Effect<C>
+        requires registers { HasRegisters insn }
+        ensures effect { meant C.value result ≡ store_capability_effect insn self.now }
+        ensures can { CanApply result self.now }
+    {
+        let through = self.authority(insn);
+        let value = self.registers.get(insn.rs2);
+        let access = Access::StoreCapability(Stored::of(value));
+        match check_access(
+            through.capability,
+            through.register,
+            access,
+            self.place(insn),
+        ) {
+            Ok(address) => self.plan_mapped_capability_store(address, value),
+            Err(fault) => Effect::Trap(fault),
+        }
+    }
+}
