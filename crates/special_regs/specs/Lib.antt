@@ -4,3 +4,6 @@ pub mod Traps
 pub mod CsrValues
 pub mod Numbered
 pub mod NumberedLaws
+pub mod Refusals
+pub mod Writes
+pub mod Interrupts

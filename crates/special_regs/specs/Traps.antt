@@ -1,5 +1,5 @@
--- Entering a trap (RISC-V privileged manual, machine trap handling; UCAM-CL-TR-987, CHERI-RISC-V exception handling).
-use Rattle.std.specs.Prelude.{◌*◌, ◌/◌, ◌%◌, false, ◌&&◌, ◌==◌, if◌then◌else◌}
+-- Entering a trap, and leaving it by MRET (RISC-V privileged manual, machine trap handling; UCAM-CL-TR-987, CHERI-RISC-V exception handling).
+use Rattle.std.specs.Prelude.{◌*◌, ◌/◌, ◌%◌, true, false, Bool, ◌&&◌, ◌==◌, if◌then◌else◌}
 use Rattle.cap_bounds.specs.CapValue.{CapValue, is_tagged, value_otype, value_address, sentry_type}
 use Rattle.cap_bounds.specs.SetAddress.{at_address}
 use Rattle.cap_rights.specs.Opened.{opened}
@@ -7,9 +7,13 @@ use Rattle.cap_checks.specs.declared.fault.Fault.{Fault}
 use Rattle.special_regs.specs.declared.csrs.Csrs.{Csrs}
 use Rattle.special_regs.specs.Scrs.{Scrs}
 
+-- a tagged sentry
+unfoldable pub is_sentry : CapValue → Bool
+is_sentry v = is_tagged v && (value_otype v == sentry_type)
+
 -- a tagged sentry without its seal; any other value as it is
 unfoldable pub sentry_opened : CapValue → CapValue
-sentry_opened v = if is_tagged v && (value_otype v == sentry_type) then opened v else v
+sentry_opened v = if is_sentry v then opened v else v
 
 -- the value with the low two bits of its address cleared, where they are not 0 already
 unfoldable pub aligned : CapValue → CapValue
@@ -26,3 +30,11 @@ trapped_scrs s = record s { mepcc = s.pcc; pcc = target s.mtcc }
 -- The cause is kept, and interrupts are off; whether they were on is kept too.
 abbrev pub trapped_csrs : Fault → Csrs → Csrs
 trapped_csrs f c = record c { mcause = f.mcause; mtval = f.mtval; previous = c.interrupts; interrupts = false }
+
+-- PCC is where MEPCC says.
+abbrev pub returned_scrs : Scrs → Scrs
+returned_scrs s = record s { pcc = target s.mepcc }
+
+-- Interrupts are on if they were before the trap.
+abbrev pub returned_csrs : Csrs → Csrs
+returned_csrs c = record c { interrupts = c.previous; previous = true }

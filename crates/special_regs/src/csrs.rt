@@ -24,7 +24,7 @@ pub struct Csrs {
 impl Csrs {
     ghost use Rattle.special_regs.specs.Csrs.{zero_csrs, cycle_counted, instruction_counted};
 
-    /// The registers as they begin: zeros.
+    /// Creates the registers as they begin: zeros.
     pub fn new() -> Self
         ensures { result ≡ zero_csrs }
     {

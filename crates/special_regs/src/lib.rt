@@ -1,14 +1,24 @@
-//! Control and status registers, special capability registers, and traps.
+//! Control and status registers, special capability registers, traps, and the choice of an interrupt.
 #![tactic(auto)]
 
+mod access;
+mod bits;
 mod csrs;
+mod interrupts;
+mod numbers;
 mod reads;
+mod refusal;
 mod scrs;
 #[cfg(test)]
 mod tests;
 mod traps;
+mod writes;
 
+pub use access::{check_csr, check_scr};
 pub use csrs::Csrs;
-pub use reads::csr_value;
+pub use interrupts::{Interrupt, pending};
+pub use reads::{csr_value, read_csr};
+pub use refusal::SpecialFault;
 pub use scrs::Scrs;
-pub use traps::{enter_trap, target};
+pub use traps::{check_return, enter_trap, leave_trap, target};
+pub use writes::{special_rw, write_csr};

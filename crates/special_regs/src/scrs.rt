@@ -1,6 +1,8 @@
 ghost use Rattle.std.specs.Prelude.{◌≡◌, option_map};
 ghost use Rattle.special_regs.specs.Scrs.{IsAligned, scr_value};
+ghost use Rattle.special_regs.specs.Writes.{scr_written};
 
+use crate::numbers::{DDC, MEPCC, MSCRATCHC, MTCC, MTDC, PCC};
 use cap_bounds::CapRep;
 use std::marker::Model;
 
@@ -33,7 +35,8 @@ impl<C: CapRep> Model for Scrs<C> {
 }
 
 impl<C: CapRep> Scrs<C> {
-    /// These registers; MTDC and MScratchC are null. The address of `pcc` is to be a multiple of 4.
+    /// Creates the registers as they begin: root in DDC, MTCC and MEPCC, null in MTDC and MScratchC. The address of `pcc` is to be
+    /// a multiple of 4.
     pub fn new(pcc: C, root: C, null: C) -> Self
         requires { IsAligned (C.value pcc) }
         ensures pcc { result.pcc ≡ C.value pcc }
@@ -53,7 +56,7 @@ impl<C: CapRep> Scrs<C> {
         }
     }
 
-    /// The program counter capability.
+    /// Returns the program counter capability.
     #[inline]
     pub fn pcc(&self) -> C
         ensures value { C.value result ≡ self.now.pcc }
@@ -62,7 +65,7 @@ impl<C: CapRep> Scrs<C> {
         self.pcc
     }
 
-    /// The default data capability.
+    /// Returns the default data capability.
     #[inline]
     pub fn ddc(&self) -> C
         ensures { C.value result ≡ self.now.ddc }
@@ -70,47 +73,48 @@ impl<C: CapRep> Scrs<C> {
         self.ddc
     }
 
-    /// The machine trap code capability.
+    /// Returns the machine trap code capability.
     pub fn mtcc(&self) -> C
         ensures { C.value result ≡ self.now.mtcc }
     {
         self.mtcc
     }
 
-    /// The machine trap data capability.
+    /// Returns the machine trap data capability.
     pub fn mtdc(&self) -> C
         ensures { C.value result ≡ self.now.mtdc }
     {
         self.mtdc
     }
 
-    /// The machine scratch capability.
+    /// Returns the machine scratch capability.
     pub fn mscratchc(&self) -> C
         ensures { C.value result ≡ self.now.mscratchc }
     {
         self.mscratchc
     }
 
-    /// The machine exception program counter capability.
+    /// Returns the machine exception program counter capability.
     pub fn mepcc(&self) -> C
         ensures { C.value result ≡ self.now.mepcc }
     {
         self.mepcc
     }
 
-    /// Special register `number`: PCC 0, DDC 1, MTCC 28, MTDC 29, MScratchC 30, MEPCC 31; `None` where there is no such register.
+    /// Returns special register `number`: PCC 0, DDC 1, MTCC 28, MTDC 29, MScratchC 30, MEPCC 31; `None` where there is no such
+    /// register.
     #[tactic(auto, unfolding(crate::specs::Scrs::scr_value))]
     pub fn get(&self, number: u8) -> Option<C>
         ensures value { option_map C.value result ≡ scr_value self.now number }
         ensures aligned { IsAligned self.now.pcc }
     {
         match number {
-            0 => Some(self.pcc),
-            1 => Some(self.ddc),
-            28 => Some(self.mtcc),
-            29 => Some(self.mtdc),
-            30 => Some(self.mscratchc),
-            31 => Some(self.mepcc),
+            PCC => Some(self.pcc),
+            DDC => Some(self.ddc),
+            MTCC => Some(self.mtcc),
+            MTDC => Some(self.mtdc),
+            MSCRATCHC => Some(self.mscratchc),
+            MEPCC => Some(self.mepcc),
             _ => None,
         }
     }
@@ -124,10 +128,18 @@ impl<C: CapRep> Scrs<C> {
         self.pcc = pcc;
     }
 
-    /// Replaces the machine exception program counter capability.
-    pub fn set_mepcc(&mut self, mepcc: C)
-        ensures { self.new ≡ record self.old { mepcc = C.value mepcc } }
+    /// Replaces special register `number`. PCC is not replaced, and where there is no such register nothing changes.
+    #[tactic(auto, unfolding(crate::specs::Writes::scr_written))]
+    pub(crate) fn set(&mut self, number: u8, value: C)
+        ensures { self.new ≡ scr_written number (C.value value) self.old }
     {
-        self.mepcc = mepcc;
+        match number {
+            DDC => self.ddc = value,
+            MTCC => self.mtcc = value,
+            MTDC => self.mtdc = value,
+            MSCRATCHC => self.mscratchc = value,
+            MEPCC => self.mepcc = value,
+            _ => {}
+        }
     }
 }

@@ -1,9 +1,13 @@
-ghost use Rattle.std.specs.Prelude.{◌≡◌};
+ghost use Rattle.std.specs.Prelude.{◌≡◌, IfErr, IfOk, OnErr, OnOk, Some, None};
+ghost use Rattle.special_regs.specs.Refusals.{return_fault};
 ghost use Rattle.special_regs.specs.Scrs.{IsAligned};
-ghost use Rattle.special_regs.specs.Traps.{sentry_opened, aligned, trapped_scrs, trapped_csrs};
+ghost use Rattle.special_regs.specs.Traps.{sentry_opened, aligned, trapped_scrs, trapped_csrs, returned_scrs, returned_csrs};
 ghost use Rattle.special_regs.specs.Traps as spec;
 
+use crate::access::has_system_access;
 use crate::csrs::Csrs;
+use crate::numbers::MEPCC;
+use crate::refusal::SpecialFault;
 use crate::scrs::Scrs;
 use cap_bounds::CapRep;
 use cap_checks::Fault;
@@ -12,20 +16,24 @@ use cap_rights::opened;
 /// The object type of a sentry, a sealed entry.
 const SENTRY: u32 = 0x3_fffe;
 
-/// A tagged sentry without its seal; any other value as it is.
+/// Returns whether a value is a tagged sentry.
+#[tactic(auto, unfolding(crate::specs::Traps::is_sentry))]
+fn is_sentry<C: CapRep>(c: C) -> bool
+    ensures { result ≡ spec.is_sentry (C.value c) }
+{
+    c.tag() && c.otype() == SENTRY
+}
+
+/// Returns a tagged sentry without its seal; any other value as it is.
 #[tactic(auto, unfolding(crate::specs::Traps::sentry_opened))]
 fn unseal_sentry<C: CapRep>(c: C) -> C
     ensures { C.value result ≡ sentry_opened (C.value c) }
 {
-    if c.tag() && c.otype() == SENTRY {
-        opened(c)
-    } else {
-        c
-    }
+    if is_sentry(c) { opened(c) } else { c }
 }
 
-/// Where a trap goes to from MTCC, or a return from MEPCC: a tagged sentry is unsealed, and low address bits that are not 0 are
-/// cleared, which may cost another value its tag.
+/// Returns where a trap goes to from MTCC, or a return from MEPCC: a tagged sentry is unsealed, and low address bits that are not 0
+/// are cleared, which may cost another value its tag.
 #[tactic(auto, unfolding(crate::specs::Traps::aligned))]
 pub fn target<C: CapRep>(c: C) -> C
     ensures value { C.value result ≡ spec.target (C.value c) }
@@ -41,15 +49,47 @@ pub fn target<C: CapRep>(c: C) -> C
 }
 
 /// Enters a trap: MEPCC becomes PCC, PCC becomes MTCC's target, the fault is kept in mcause and mtval, and interrupts are off.
+#[tactic(auto, unfolding(crate::specs::Writes::scr_written))]
 pub fn enter_trap<C: CapRep>(scrs: &mut Scrs<C>, csrs: &mut Csrs, fault: Fault)
     ensures scrs { scrs.new ≡ trapped_scrs scrs.old }
     ensures csrs { csrs.new ≡ trapped_csrs fault csrs.old }
 {
     let pcc = scrs.pcc();
-    scrs.set_mepcc(pcc);
+    scrs.set(MEPCC, pcc);
     scrs.set_pcc(target(scrs.mtcc()));
     csrs.mcause = fault.mcause;
     csrs.mtval = fault.mtval;
     csrs.previous = csrs.interrupts;
     csrs.interrupts = false;
+}
+
+/// Returns whether a return would unseal a sentry in MEPCC. S2 without access.
+#[tactic(auto, unfolding(crate::specs::Refusals::return_fault))]
+pub fn check_return<C: CapRep>(scrs: &Scrs<C>) -> Result<bool, SpecialFault>
+    ensures sentry { IfOk result (λ sealed. sealed ≡ spec.is_sentry scrs.now.mepcc) }
+    ensures allowed { OnOk result (return_fault scrs.now ≡ None) }
+    ensures refused { IfErr result (λ fault. return_fault scrs.now ≡ Some fault) }
+{
+    if has_system_access(scrs) {
+        Ok(is_sentry(scrs.mepcc()))
+    } else {
+        Err(SpecialFault::S2)
+    }
+}
+
+/// Leaves a trap: PCC becomes MEPCC's target, and interrupts are on if they were before the trap. S2 without access, and then nothing
+/// changes.
+pub fn leave_trap<C: CapRep>(scrs: &mut Scrs<C>, csrs: &mut Csrs) -> Result<(), SpecialFault>
+    ensures allowed { OnOk result (return_fault scrs.old ≡ None) }
+    ensures refused { IfErr result (λ fault. return_fault scrs.old ≡ Some fault) }
+    ensures scrs { OnOk result (scrs.new ≡ returned_scrs scrs.old) }
+    ensures csrs { OnOk result (csrs.new ≡ returned_csrs csrs.old) }
+    ensures scrs_on_err { OnErr result (scrs.new ≡ scrs.old) }
+    ensures csrs_on_err { OnErr result (csrs.new ≡ csrs.old) }
+{
+    check_return(scrs)?;
+    scrs.set_pcc(target(scrs.mepcc()));
+    csrs.interrupts = csrs.previous;
+    csrs.previous = true;
+    Ok(())
 }

@@ -1,0 +1,35 @@
+-- Who may use the system registers (UCAM-CL-TR-987, Access_System_Registers; that every listed register asks for it is profile).
+use Rattle.std.specs.Prelude.{ℕ, Bool, not, ◌&&◌, ◌||◌, ◌==◌, nat_le, if◌then◌else◌, List, [], ◌∷◌, Option, Some, None}
+use Rattle.std.specs.List.{list_any}
+use Rattle.cap_rights.specs.Permission.{permits}
+use Rattle.cap_rights.specs.declared.permission.Permission.TheVariants as permission
+use Rattle.special_regs.specs.CsrValues.{is_csr}
+use Rattle.special_regs.specs.Scrs.{Scrs, is_scr}
+use Rattle.special_regs.specs.declared.refusal.SpecialFault.{SpecialFault}
+use Rattle.special_regs.specs.declared.refusal.SpecialFault.TheVariants.{S1, S2}
+
+-- the code that PCC fetches may use system registers
+abbrev pub has_system_access : Scrs → Bool
+has_system_access s = permits s.pcc permission.AccessSystemRegisters
+
+-- mvendorid, marchid, mimpid and mhartid are only read
+abbrev pub is_read_only : ℕ → Bool
+is_read_only n = list_any (λ k. n == k) (0xf11 ∷ 0xf12 ∷ 0xf13 ∷ 0xf14 ∷ [])
+
+-- Why control and status register n may not be read or, where `writes` is true, written: no such register or a write to one that is
+-- only read, then no access.
+unfoldable pub csr_fault : Scrs → ℕ → Bool → Option SpecialFault
+csr_fault s n writes =
+    if not (is_csr n) || (writes && is_read_only n) then Some S1
+    else (if has_system_access s then None else Some S2)
+
+-- Why special capability register n may not be read or, where `writes` is true, replaced: no such register or a write to PCC, then no
+-- access to MTCC, MTDC, MScratchC or MEPCC.
+unfoldable pub scr_fault : Scrs → ℕ → Bool → Option SpecialFault
+scr_fault s n writes =
+    if not (is_scr n) || (writes && (n == 0)) then Some S1
+    else (if nat_le 28 n && not (has_system_access s) then Some S2 else None)
+
+-- Why a trap may not be left: no access.
+unfoldable pub return_fault : Scrs → Option SpecialFault
+return_fault s = if has_system_access s then None else Some S2

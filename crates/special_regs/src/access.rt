@@ -1,0 +1,86 @@
+//! Who may use which system register.
+
+ghost use Rattle.std.specs.Prelude.{◌≡◌, IsTrue, IfErr, IfOk, OnOk, Some, None};
+ghost use Rattle.special_regs.specs.CsrValues.{is_csr};
+ghost use Rattle.special_regs.specs.Refusals.{csr_fault, scr_fault};
+ghost use Rattle.special_regs.specs.Refusals as spec;
+ghost use Rattle.special_regs.specs.Scrs.{scr_value};
+
+use crate::numbers::*;
+use crate::refusal::SpecialFault;
+use crate::scrs::Scrs;
+use cap_bounds::CapRep;
+use cap_rights::{Permission, permits};
+
+/// Returns whether the code that PCC fetches may use system registers.
+pub(crate) fn has_system_access<C: CapRep>(scrs: &Scrs<C>) -> bool
+    ensures { result ≡ spec.has_system_access scrs.now }
+{
+    permits(scrs.pcc(), Permission::AccessSystemRegisters)
+}
+
+/// Returns whether there is a control and status register of this number.
+fn is_csr(number: u16) -> bool
+    ensures { result ≡ is_csr number }
+{
+    match number {
+        MSTATUS
+        | MISA
+        | MIE
+        | MTVEC
+        | MSCRATCH
+        | MEPC
+        | MCAUSE
+        | MTVAL
+        | MIP
+        | MCYCLE
+        | MINSTRET
+        | MVENDORID
+        | MARCHID
+        | MIMPID
+        | MHARTID => true,
+        _ => false,
+    }
+}
+
+/// Returns whether a write of control and status register `number` is a fault.
+fn is_read_only(number: u16) -> bool
+    ensures { result ≡ spec.is_read_only number }
+{
+    match number {
+        MVENDORID | MARCHID | MIMPID | MHARTID => true,
+        _ => false,
+    }
+}
+
+/// Checks that control and status register `number` may be read or, where `writes` is true, written. S1 where there is no such
+/// register or it is only read, then S2 without access.
+#[tactic(auto, unfolding(crate::specs::Refusals::csr_fault))]
+pub fn check_csr<C: CapRep>(scrs: &Scrs<C>, number: u16, writes: bool) -> Result<(), SpecialFault>
+    ensures allowed { OnOk result (csr_fault scrs.now number writes ≡ None) }
+    ensures refused { IfErr result (λ fault. csr_fault scrs.now number writes ≡ Some fault) }
+    ensures exists { OnOk result (IsTrue (is_csr number)) }
+{
+    if !is_csr(number) || (writes && is_read_only(number)) {
+        return Err(SpecialFault::S1);
+    }
+    if !has_system_access(scrs) {
+        return Err(SpecialFault::S2);
+    }
+    Ok(())
+}
+
+/// Returns special capability register `number` if it may be read or, where `writes` is true, replaced. S1 where there is no such
+/// register or a write would replace PCC, then S2 without access, which PCC and DDC do not need.
+#[tactic(auto, unfolding(crate::specs::Refusals::scr_fault, crate::specs::Scrs::scr_value))]
+pub fn check_scr<C: CapRep>(scrs: &Scrs<C>, number: u8, writes: bool) -> Result<C, SpecialFault>
+    ensures value { IfOk result (λ held. scr_value scrs.now number ≡ Some (C.value held)) }
+    ensures allowed { OnOk result (scr_fault scrs.now number writes ≡ None) }
+    ensures refused { IfErr result (λ fault. scr_fault scrs.now number writes ≡ Some fault) }
+{
+    match number {
+        PCC if writes => Err(SpecialFault::S1),
+        MTCC | MTDC | MSCRATCHC | MEPCC if !has_system_access(scrs) => Err(SpecialFault::S2),
+        _ => scrs.get(number).ok_or(SpecialFault::S1),
+    }
+}

@@ -1,0 +1,79 @@
+ghost use Rattle.std.specs.Prelude.{◌≡◌, IfErr, IfOk, OnErr, OnOk, Some, None, is_some, option_map, true};
+ghost use Rattle.special_regs.specs.Refusals.{csr_fault, scr_fault};
+ghost use Rattle.special_regs.specs.Scrs.{scr_value};
+ghost use Rattle.special_regs.specs.Writes.{csrs_written, views_written, scr_written_if};
+
+use crate::access::{check_csr, check_scr};
+use crate::bits::has_bit;
+use crate::csrs::Csrs;
+use crate::numbers::*;
+use crate::refusal::SpecialFault;
+use crate::scrs::Scrs;
+use cap_bounds::CapRep;
+
+/// Where MIE stands in mstatus.
+const MIE_BIT: u32 = 3;
+
+/// Where MPIE stands in mstatus.
+const MPIE_BIT: u32 = 7;
+
+/// The bits of mie that software may set: the timer's and the external interrupt's.
+const INTERRUPT_BITS: u64 = 0x880;
+
+/// Writes control and status register `number`. S1 where there is no such register or it is only read, then S2 without access; a
+/// refused write changes nothing.
+///
+/// Of mstatus MIE and MPIE are kept, of mie two bits. mtvec and mepc set the address of MTCC and MEPCC to a multiple of 4. misa and
+/// mip stay as they are.
+#[tactic(auto, unfolding(crate::specs::Writes::csrs_written, crate::specs::Writes::views_written, crate::specs::Writes::scr_written))]
+pub fn write_csr<C: CapRep>(
+    csrs: &mut Csrs,
+    scrs: &mut Scrs<C>,
+    number: u16,
+    value: u64,
+) -> Result<(), SpecialFault>
+    ensures allowed { OnOk result (csr_fault scrs.old number true ≡ None) }
+    ensures refused { IfErr result (λ fault. csr_fault scrs.old number true ≡ Some fault) }
+    ensures csrs { OnOk result (csrs.new ≡ csrs_written number value csrs.old) }
+    ensures scrs { OnOk result (scrs.new ≡ views_written number value scrs.old) }
+    ensures csrs_on_err { OnErr result (csrs.new ≡ csrs.old) }
+    ensures scrs_on_err { OnErr result (scrs.new ≡ scrs.old) }
+{
+    check_csr(scrs, number, true)?;
+    match number {
+        MSTATUS => {
+            csrs.interrupts = has_bit(value, MIE_BIT);
+            csrs.previous = has_bit(value, MPIE_BIT);
+        }
+        MIE => csrs.mie = value & INTERRUPT_BITS,
+        MTVEC => scrs.set(MTCC, scrs.mtcc().set_address(value / 4 * 4)),
+        MSCRATCH => csrs.mscratch = value,
+        MEPC => scrs.set(MEPCC, scrs.mepcc().set_address(value / 4 * 4)),
+        MCAUSE => csrs.mcause = value,
+        MTVAL => csrs.mtval = value,
+        MCYCLE => csrs.mcycle = value,
+        MINSTRET => csrs.minstret = value,
+        _ => {}
+    }
+    Ok(())
+}
+
+/// Replaces special capability register `number` where there is a new value, and gives what it held. S1 where there is no such
+/// register or PCC would be replaced, then S2 without access, which PCC and DDC do not need; a refused call changes nothing.
+pub fn special_rw<C: CapRep>(
+    scrs: &mut Scrs<C>,
+    number: u8,
+    new: Option<C>,
+) -> Result<C, SpecialFault>
+    ensures value { IfOk result (λ held. scr_value scrs.old number ≡ Some (C.value held)) }
+    ensures written { OnOk result (scrs.new ≡ scr_written_if number (option_map C.value new) scrs.old) }
+    ensures allowed { OnOk result (scr_fault scrs.old number (is_some new) ≡ None) }
+    ensures refused { IfErr result (λ fault. scr_fault scrs.old number (is_some new) ≡ Some fault) }
+    ensures err { OnErr result (scrs.new ≡ scrs.old) }
+{
+    let held = check_scr(scrs, number, new.is_some())?;
+    if let Some(new) = new {
+        scrs.set(number, new);
+    }
+    Ok(held)
+}
