@@ -1,24 +1,64 @@
--- The devices: registers in the map, and what a load gives and a store does (profile).
-use Rattle.std.specs.Prelude.{ℕ, ◌%◌, Bool, not, ◌&&◌, ◌||◌, ◌==◌, if◌then◌else◌, Option, Some, None, Result, Ok, Err}
+-- The devices: registers in the map, what a load gives and a store does, the timer and the console (profile).
+use Rattle.std.specs.Prelude.{ℕ, ◌+◌, ◌-◌, ◌*◌, ◌/◌, ◌%◌, ◌^◌, ◌<◌, ◌≤◌, Bool, true, false, not, ◌&&◌, ◌||◌, ◌==◌, nat_lt, nat_le, if◌then◌else◌, List, [], ◌∷◌, ◌++◌, length, Option, Some, None, Result, Ok, Err}
+use Rattle.std.specs.List.{list_any}
+use Rattle.cap_format.specs.Word.{bit}
 use Rattle.devices.specs.declared.devices.Effect.{Effect}
 use Rattle.devices.specs.declared.devices.Effect.TheVariants as effect
 use Rattle.devices.specs.declared.fault.DeviceFault.{DeviceFault}
 use Rattle.devices.specs.declared.fault.DeviceFault.TheVariants.{V1, V2}
 
--- the number with which the machine was halted
+-- two numbers of the timer; of the console the bytes that wait, whether one was lost, and whether it may interrupt; and the number with
+-- which the machine was halted
 pub record Devices : Type 0 where
+  pub mtime : ℕ
+  pub mtimecmp : ℕ
+  pub queue : List ℕ
+  pub overrun : Bool
+  pub control : Bool
   pub halted : Option ℕ
 
--- where the registers lie
+-- at most 64 bytes wait
+abbrev pub queue_limit : ℕ
+queue_limit = 64
+
+-- What is true of all devices: numbers of 64 bits, and at most 64 bytes that wait.
+pub record AreDevices (d : Devices) : Type 0 where
+  pub mtime : d.mtime < 2 ^ 64
+  pub mtimecmp : d.mtimecmp < 2 ^ 64
+  pub few : length d.queue ≤ queue_limit
+
+-- as they begin: the timer asks for nothing, and nothing waits
+abbrev pub idle : Devices
+idle = record { mtime = 0; mtimecmp = 2 ^ 64 - 1; queue = []; overrun = false; control = false; halted = None }
+
+-- ---- the map
+
 abbrev pub halt : ℕ
 halt = 0x0010_0000
+
+abbrev pub timer_compare : ℕ
+timer_compare = 0x0200_4000
+
+abbrev pub timer : ℕ
+timer = 0x0200_bff8
 
 abbrev pub transmit : ℕ
 transmit = 0x1000_0000
 
+abbrev pub receive : ℕ
+receive = 0x1000_0008
+
+abbrev pub status : ℕ
+status = 0x1000_0010
+
+abbrev pub control_register : ℕ
+control_register = 0x1000_0018
+
 -- a register begins at the address
 abbrev pub is_register : ℕ → Bool
-is_register address = (address == halt) || (address == transmit)
+is_register address =
+    list_any (λ register. address == register)
+    (halt ∷ timer_compare ∷ timer ∷ transmit ∷ receive ∷ status ∷ control_register ∷ [])
 
 -- Why a load may not be made: no such register, or not 8 bytes.
 unfoldable pub read_fault : ℕ → ℕ → Option DeviceFault
@@ -31,7 +71,44 @@ write_fault address size =
     if not (is_register address) then Some V1
     else (if (size == 8) || ((address == transmit) && (size == 1)) then None else Some V2)
 
--- what a store of a number into a register does: halt stores the number, transmit sends the low byte
+-- ---- loads
+
+-- the oldest byte that waits, or 0
+abbrev pub oldest : List ℕ → ℕ
+oldest [] = 0
+oldest (b ∷ bs) = b
+
+-- the others
+abbrev pub without_oldest : List ℕ → List ℕ
+without_oldest [] = []
+without_oldest (b ∷ bs) = bs
+
+-- a byte waits
+abbrev pub waits : List ℕ → Bool
+waits [] = false
+waits (b ∷ bs) = true
+
+-- bit 0: a byte waits; bit 1: a byte was lost
+abbrev pub status_of : Devices → ℕ
+status_of d = bit (waits d.queue) + 2 * bit d.overrun
+
+-- what a load from a register gives; of halt and transmit 0
+unfoldable pub value_at : ℕ → Devices → ℕ
+value_at address d =
+    if address == timer_compare then d.mtimecmp
+    else (if address == timer then d.mtime
+    else (if address == receive then oldest d.queue
+    else (if address == status then status_of d
+    else (if address == control_register then bit d.control
+    else 0))))
+
+-- the devices after it: a load of receive takes the oldest byte
+unfoldable pub taken_at : ℕ → Devices → Devices
+taken_at address d = record d { queue = if address == receive then without_oldest d.queue else d.queue }
+
+-- ---- stores
+
+-- what a store of a number into a register does outside the devices: halt stores the number, transmit sends the low byte
 unfoldable pub effect_of : ℕ → ℕ → Effect
 effect_of address value =
     if address == halt then effect.Halt value else (if address == transmit then effect.Byte (value % 256) else effect.None)
@@ -42,13 +119,37 @@ byte_sent (effect.Byte b) = Some b
 byte_sent (effect.Halt n) = None
 byte_sent effect.None = None
 
--- the devices after it
+-- The devices after it: the timer's numbers are set, bit 1 stored into status clears the overrun, control keeps bit 0, and receive
+-- keeps nothing.
 unfoldable pub written : Devices → ℕ → ℕ → Devices
-written d address value = record d { halted = if address == halt then Some value else d.halted }
+written d address value = record d {
+  mtime = if address == timer then value else d.mtime;
+  mtimecmp = if address == timer_compare then value else d.mtimecmp;
+  overrun = if address == status then d.overrun && not (value / 2 % 2 == 1) else d.overrun;
+  control = if address == control_register then value % 2 == 1 else d.control;
+  halted = if address == halt then Some value else d.halted;
+}
 
--- the devices as they begin
-abbrev pub idle : Devices
-idle = record { halted = None }
+-- ---- what happens outside
+
+-- one tick of the timer, modulo 2 ^ 64
+abbrev pub ticked : Devices → Devices
+ticked d = record d { mtime = (d.mtime + 1) % 2 ^ 64 }
+
+-- a byte comes: it waits behind the others, or it is lost where 64 wait already
+unfoldable pub received : ℕ → Devices → Devices
+received b d =
+    let full : Bool = not (nat_lt (length d.queue) queue_limit) in
+    record d {
+      queue = if full then d.queue else d.queue ++ (b ∷ []);
+      overrun = if full then true else d.overrun;
+    }
+
+-- ---- interrupts
+
+-- mip: bit 7 while mtime is mtimecmp or more, bit 11 while control allows it and a byte waits
+unfoldable pub interrupts_of : Devices → ℕ
+interrupts_of d = 128 * bit (nat_le d.mtimecmp d.mtime) + 2048 * bit (d.control && waits d.queue)
 
 abbrev pub unless : {X : Type 0} → Option DeviceFault → X → Result X DeviceFault
 unless None x = Ok x

@@ -1,1 +1,3 @@
 pub mod Devices
+pub mod Held
+pub mod Map

@@ -1,10 +1,16 @@
-//! The devices: halt and transmit.
+//! The devices: the timer, the console, and halt.
 #![tactic(auto)]
 
+mod console;
 mod devices;
 mod fault;
+mod interrupts;
+mod loads;
+mod map;
+mod stores;
 #[cfg(test)]
 mod tests;
+mod timer;
 
 pub use devices::{Devices, Effect};
 pub use fault::DeviceFault;

@@ -1,0 +1,68 @@
+ghost use Rattle.std.specs.Prelude.{◌≡◌, ◌↔◌, IsTrue, OnErr, OnOk, None};
+ghost use Rattle.tagged_memory.specs.Size.{bytes_of};
+ghost use Rattle.devices.specs.Devices.{read_fault, value_at, taken_at, unless};
+ghost use Rattle.devices.specs.Map.{address_of};
+
+use crate::devices::Devices;
+use crate::fault::DeviceFault;
+use crate::map::{OVERRUN, Register};
+use tagged_memory::Size;
+
+impl Devices {
+    /// Tells whether a register at the address may be loaded by this size: 8 bytes.
+    #[inline]
+    #[tactic(auto, unfolding(crate::specs::Devices::read_fault))]
+    pub fn gives(address: u64, size: Size) -> bool
+        ensures { IsTrue result ↔ (read_fault address (bytes_of size) ≡ None) }
+    {
+        size == Size::Double && Register::at(address).is_some()
+    }
+
+    /// Answers what a load from a register gives; of halt and transmit 0.
+    #[inline]
+    #[tactic(auto, unfolding(crate::specs::Devices::value_at))]
+    fn value(&self, register: Register) -> u64
+        ensures { result ≡ value_at (address_of register) self.now }
+    {
+        match register {
+            Register::TimerCompare => self.mtimecmp,
+            Register::Timer => self.mtime,
+            Register::Receive => self.oldest(),
+            Register::Status => u64::from(self.waits()) + OVERRUN * u64::from(self.overrun),
+            Register::Control => u64::from(self.control),
+            Register::Halt | Register::Transmit => 0,
+        }
+    }
+
+    /// Answers what a load of 8 bytes would give, and takes nothing. V1 where no register begins at the address.
+    #[tactic(auto, unfolding(crate::specs::Devices::read_fault))]
+    pub fn peek(&self, address: u64) -> Result<u64, DeviceFault>
+        ensures { result ≡ unless (read_fault address 8) (value_at address self.now) }
+    {
+        match Register::at(address) {
+            Some(register) => Ok(self.value(register)),
+            None => Err(DeviceFault::V1),
+        }
+    }
+
+    /// Loads from a register, which takes the oldest byte where it is receive. V1 where no register begins at the address,
+    /// then V2 where the size is not 8 bytes. A refused load takes nothing.
+    #[tactic(auto, unfolding(crate::specs::Devices::read_fault, crate::specs::Devices::taken_at))]
+    pub fn read(&mut self, address: u64, size: Size) -> Result<u64, DeviceFault>
+        ensures which { result ≡ unless (read_fault address (bytes_of size)) (value_at address self.old) }
+        ensures ok { OnOk result (self.new ≡ taken_at address self.old) }
+        ensures err { OnErr result (self.new ≡ self.old) }
+    {
+        let Some(register) = Register::at(address) else {
+            return Err(DeviceFault::V1);
+        };
+        if size != Size::Double {
+            return Err(DeviceFault::V2);
+        }
+        let value = self.value(register);
+        if register == Register::Receive {
+            self.take_oldest();
+        }
+        Ok(value)
+    }
+}
