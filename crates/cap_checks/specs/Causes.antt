@@ -26,6 +26,9 @@ tag_violation = 2
 abbrev pub seal_violation : ℕ
 seal_violation = 3
 
+abbrev pub type_violation : ℕ
+type_violation = 4
+
 abbrev pub execute_violation : ℕ
 execute_violation = 0x11
 
@@ -34,6 +37,18 @@ load_violation = 0x12
 
 abbrev pub store_violation : ℕ
 store_violation = 0x13
+
+abbrev pub store_capability_violation : ℕ
+store_capability_violation = 0x15
+
+abbrev pub store_local_violation : ℕ
+store_local_violation = 0x16
+
+abbrev pub system_access_violation : ℕ
+system_access_violation = 0x18
+
+abbrev pub cinvoke_violation : ℕ
+cinvoke_violation = 0x19
 
 -- RISC-V causes
 abbrev pub misaligned_jump : ℕ

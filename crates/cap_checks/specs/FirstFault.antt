@@ -1,13 +1,14 @@
 -- The ordered lists of conditions of each check. The fault is that of the first condition that is false.
 -- (UCAM-CL-TR-987, CHERI-RISC-V memory access and jump checks; the order is this profile's.)
-use Rattle.std.specs.Prelude.{ℕ, ◌+◌, ◌%◌, Bool, not, ◌&&◌, ◌==◌, nat_le, if◌then◌else◌, List, [], ◌∷◌, Option, Some, None}
-use Rattle.cap_bounds.specs.CapValue.{CapValue, is_tagged, is_sealed, value_base, value_top, value_address}
+use Rattle.std.specs.Prelude.{ℕ, ◌+◌, ◌*◌, ◌/◌, ◌%◌, ◌^◌, Bool, not, ◌&&◌, ◌||◌, ◌==◌, nat_le, if◌then◌else◌, List, [], ◌∷◌, Option, Some, None}
+use Rattle.cap_bounds.specs.CapValue.{CapValue, is_tagged, is_sealed, value_base, value_top, value_address, value_otype, sentry_type}
 use Rattle.cap_rights.specs.Permission.{permits}
 use Rattle.cap_rights.specs.declared.permission.Permission.TheVariants as permission
+use Rattle.cap_rights.specs.ObjectType.{is_reserved}
 use Rattle.cap_checks.specs.declared.access.Access.{Access}
 use Rattle.cap_checks.specs.declared.fault.Fault.{Fault}
-use Rattle.cap_checks.specs.Access.{width_of, needed, lacking, misaligned}
-use Rattle.cap_checks.specs.Causes.{fault, cheri, pcc_register, length_violation, tag_violation, seal_violation, execute_violation, misaligned_jump}
+use Rattle.cap_checks.specs.Access.{width_of, needed, lacking, stores_capability, stores_local, misaligned}
+use Rattle.cap_checks.specs.Causes.{fault, cheri, pcc_register, length_violation, tag_violation, seal_violation, type_violation, execute_violation, store_capability_violation, store_local_violation, cinvoke_violation, misaligned_jump}
 
 -- the fault of the first condition that is false, or none
 abbrev pub first_fault : List (Bool × Fault) → Option Fault
@@ -24,6 +25,8 @@ access_checks authority register access address =
     (is_tagged authority, cheri register tag_violation)
     ∷ (not (is_sealed authority), cheri register seal_violation)
     ∷ (permits authority (needed access), cheri register (lacking access))
+    ∷ (not (stores_capability access) || permits authority permission.StoreCapability, cheri register store_capability_violation)
+    ∷ (not (stores_local access) || permits authority permission.StoreLocalCapability, cheri register store_local_violation)
     ∷ (holds authority address (width_of access), cheri register length_violation)
     ∷ (address % width_of access == 0, fault (misaligned access) address)
     ∷ []
@@ -43,7 +46,11 @@ fetch_checks pcc =
 unfoldable pub fetch_fault : CapValue → Option Fault
 fetch_fault pcc = first_fault (fetch_checks pcc)
 
--- A jump within PCC: a branch that is taken.
+-- where a jump by an offset goes: bit 0 is cleared
+unfoldable pub jump_target : ℕ → ℕ → ℕ
+jump_target address offset = (address + offset) % 2 ^ 64 / 2 * 2
+
+-- A jump within PCC: a branch that is taken, JAL, and JALR in integer mode.
 abbrev pub target_checks : CapValue → ℕ → List (Bool × Fault)
 target_checks pcc target =
     (holds pcc target 4, cheri pcc_register length_violation)
@@ -52,3 +59,43 @@ target_checks pcc target =
 
 unfoldable pub target_fault : CapValue → ℕ → Option Fault
 target_fault pcc target = first_fault (target_checks pcc target)
+
+-- a sealed value is jumped to only if it is a sentry, and at no offset
+abbrev pub is_entered_sealed : CapValue → ℕ → Bool
+is_entered_sealed v offset = (value_otype v == sentry_type) && (offset == 0)
+
+-- A jump to a capability that a register holds: JALR in capability mode, and JALR.CAP.
+abbrev pub jump_checks : CapValue → ℕ → ℕ → List (Bool × Fault)
+jump_checks v register offset =
+    (is_tagged v, cheri register tag_violation)
+    ∷ (not (is_sealed v) || is_entered_sealed v offset, cheri register seal_violation)
+    ∷ (permits v permission.Execute, cheri register execute_violation)
+    ∷ (holds v (jump_target (value_address v) offset) 4, cheri register length_violation)
+    ∷ (jump_target (value_address v) offset % 4 == 0, fault misaligned_jump (jump_target (value_address v) offset))
+    ∷ []
+
+unfoldable pub jump_fault : CapValue → ℕ → ℕ → Option Fault
+jump_fault v register offset = first_fault (jump_checks v register offset)
+
+-- where an invocation goes: the code's address with bit 0 cleared
+abbrev pub invoke_target : CapValue → ℕ
+invoke_target code = jump_target (value_address code) 0
+
+-- CInvoke of a pair, code and data, which two registers hold.
+abbrev pub invoke_checks : CapValue → ℕ → CapValue → ℕ → List (Bool × Fault)
+invoke_checks code code_register data data_register =
+    (is_tagged code, cheri code_register tag_violation)
+    ∷ (is_tagged data, cheri data_register tag_violation)
+    ∷ (not (is_reserved (value_otype code)), cheri code_register seal_violation)
+    ∷ (not (is_reserved (value_otype data)), cheri data_register seal_violation)
+    ∷ (value_otype code == value_otype data, cheri code_register type_violation)
+    ∷ (permits code permission.CInvoke, cheri code_register cinvoke_violation)
+    ∷ (permits data permission.CInvoke, cheri data_register cinvoke_violation)
+    ∷ (permits code permission.Execute, cheri code_register execute_violation)
+    ∷ (not (permits data permission.Execute), cheri data_register execute_violation)
+    ∷ (holds code (invoke_target code) 4, cheri code_register length_violation)
+    ∷ (invoke_target code % 4 == 0, fault misaligned_jump (invoke_target code))
+    ∷ []
+
+unfoldable pub invoke_fault : CapValue → ℕ → CapValue → ℕ → Option Fault
+invoke_fault code code_register data data_register = first_fault (invoke_checks code code_register data data_register)

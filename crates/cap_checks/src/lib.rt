@@ -2,11 +2,16 @@
 #![tactic(auto)]
 
 mod access;
-mod checks;
+mod accesses;
+mod causes;
+mod conditions;
 mod fault;
+mod jumps;
 #[cfg(test)]
 mod tests;
 
-pub use access::Access;
-pub use checks::{DDC_REGISTER, PCC_REGISTER, check_access, check_fetch, check_target};
+pub use access::{Access, Stored};
+pub use accesses::check_access;
+pub use causes::{DDC_REGISTER, PCC_REGISTER};
 pub use fault::Fault;
+pub use jumps::{check_fetch, check_invoke, check_jump, check_target, jump_target};

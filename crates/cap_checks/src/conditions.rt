@@ -1,0 +1,79 @@
+//! The conditions that several lists share. What reports a fault is inlined always, since at a call its result would go through
+//! memory, and each step of the machine makes several checks.
+
+ghost use Rattle.std.specs.Prelude.{◌≡◌, ◌<◌, if◌then◌else◌, Ok, Err};
+ghost use Rattle.cap_bounds.specs.CapValue.{is_tagged, is_sealed};
+ghost use Rattle.cap_checks.specs.Causes.{cheri, tag_violation, length_violation};
+ghost use Rattle.cap_checks.specs.FirstFault as spec;
+ghost use Rattle.cap_rights.specs.Permission.{permits};
+
+use crate::causes::{LENGTH_VIOLATION, TAG_VIOLATION, cheri_fault};
+use crate::fault::Fault;
+use cap_bounds::CapRep;
+use cap_rights::{OType, Permission, permits};
+
+/// Reports the fault unless the condition holds.
+#[inline(always)]
+pub(crate) fn check(condition: bool, fault: Fault) -> Result<(), Fault>
+    ensures { result ≡ if condition then Ok tt else Err fault }
+{
+    if condition { Ok(()) } else { Err(fault) }
+}
+
+/// Reports a tag violation unless the value is a capability.
+#[inline(always)]
+pub(crate) fn check_tag<C: CapRep>(c: C, register: u64) -> Result<(), Fault>
+    requires { register < 64 }
+    ensures { result ≡ if is_tagged (C.value c) then Ok tt else Err (cheri register tag_violation) }
+{
+    check(c.tag(), cheri_fault(register, TAG_VIOLATION))
+}
+
+/// Reports a CHERI cause below 32 unless the value has the permission.
+#[inline(always)]
+pub(crate) fn check_permission<C: CapRep>(
+    c: C,
+    register: u64,
+    permission: Permission,
+    cause: u64,
+) -> Result<(), Fault>
+    requires register { register < 64 }
+    requires cause { cause < 32 }
+    ensures { result ≡ if permits (C.value c) permission then Ok tt else Err (cheri register cause) }
+{
+    check(permits(c, permission), cheri_fault(register, cause))
+}
+
+/// Reports a length violation unless the `size` bytes from an address lie in the value's bounds.
+#[inline(always)]
+pub(crate) fn check_bounds<C: CapRep>(
+    c: C,
+    register: u64,
+    address: u64,
+    size: u64,
+) -> Result<(), Fault>
+    requires { register < 64 }
+    ensures { result ≡ if spec.holds (C.value c) address size then Ok tt else Err (cheri register length_violation) }
+{
+    check(
+        holds(c, address, size),
+        cheri_fault(register, LENGTH_VIOLATION),
+    )
+}
+
+/// Tells whether the `size` bytes from an address lie in the value's bounds, in whole numbers.
+#[inline]
+#[tactic(auto, unfolding(crate::specs::FirstFault::holds))]
+fn holds<C: CapRep>(c: C, address: u64, size: u64) -> bool
+    ensures { result ≡ spec.holds (C.value c) address size }
+{
+    c.base() <= address && u128::from(address) + u128::from(size) <= c.top()
+}
+
+/// Tells whether the value, tagged or not, has another type than what is unsealed.
+#[inline]
+pub(crate) fn is_sealed<C: CapRep>(c: C) -> bool
+    ensures { result ≡ is_sealed (C.value c) }
+{
+    c.otype() != OType::UNSEALED.number()
+}

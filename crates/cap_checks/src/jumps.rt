@@ -1,0 +1,160 @@
+ghost use Rattle.std.specs.Prelude.{◌≡◌, ◌<◌, ◌%◌, if◌then◌else◌, Ok, Err, None, Some, IfOk, IfErr, OnOk};
+ghost use Rattle.cap_bounds.specs.CapValue.{value_address, value_otype};
+ghost use Rattle.cap_checks.specs.Causes.{fault, cheri, seal_violation, misaligned_jump};
+ghost use Rattle.cap_checks.specs.FirstFault.{fetch_fault, target_fault, jump_fault, invoke_target, invoke_fault};
+ghost use Rattle.cap_checks.specs.FirstFault as spec;
+ghost use Rattle.cap_rights.specs.ObjectType.{is_reserved};
+
+use crate::causes::{
+    CINVOKE_VIOLATION, EXECUTE_VIOLATION, MISALIGNED_JUMP, PCC_REGISTER, SEAL_VIOLATION,
+    TYPE_VIOLATION, cheri_fault,
+};
+use crate::conditions::{check, check_bounds, check_permission, check_tag, is_sealed};
+use crate::fault::Fault;
+use cap_bounds::CapRep;
+use cap_rights::{OType, Permission, permits};
+
+/// How many bytes an instruction has; its address is a multiple of them.
+const INSTRUCTION_BYTES: u64 = 4;
+
+/// Makes the fault of a jump to an address that is no multiple of 4.
+#[inline]
+fn misaligned(target: u64) -> Fault
+    ensures { result ≡ fault misaligned_jump target }
+{
+    Fault {
+        mcause: MISALIGNED_JUMP,
+        mtval: target,
+    }
+}
+
+/// Checks the fetch of the instruction at PCC's address, and gives the address.
+///
+/// # Errors
+///
+/// The first fault: tag, seal, Execute, bounds of 4 bytes.
+#[inline]
+#[tactic(auto, unfolding(crate::specs::FirstFault::fetch_fault))]
+pub fn check_fetch<C: CapRep>(pcc: C) -> Result<u64, Fault>
+    ensures value { IfOk result (λ allowed. allowed ≡ value_address (C.value pcc)) }
+    ensures allowed { OnOk result (fetch_fault (C.value pcc) ≡ None) }
+    ensures refused { IfErr result (λ fault. fetch_fault (C.value pcc) ≡ Some fault) }
+{
+    let address = pcc.address();
+    check_tag(pcc, PCC_REGISTER)?;
+    check(!is_sealed(pcc), cheri_fault(PCC_REGISTER, SEAL_VIOLATION))?;
+    check_permission(pcc, PCC_REGISTER, Permission::Execute, EXECUTE_VIOLATION)?;
+    check_bounds(pcc, PCC_REGISTER, address, INSTRUCTION_BYTES)?;
+    Ok(address)
+}
+
+/// Checks the target of a jump within PCC, and gives it.
+///
+/// # Errors
+///
+/// The first fault: bounds of 4 bytes, alignment to 4.
+#[inline]
+#[tactic(auto, unfolding(crate::specs::FirstFault::target_fault))]
+pub fn check_target<C: CapRep>(pcc: C, target: u64) -> Result<u64, Fault>
+    ensures value { IfOk result (λ allowed. allowed ≡ target) }
+    ensures allowed { OnOk result (target_fault (C.value pcc) target ≡ None) }
+    ensures refused { IfErr result (λ fault. target_fault (C.value pcc) target ≡ Some fault) }
+    ensures aligned { OnOk result (target % 4 ≡ 0) }
+{
+    check_bounds(pcc, PCC_REGISTER, target, INSTRUCTION_BYTES)?;
+    check(target % INSTRUCTION_BYTES == 0, misaligned(target))?;
+    Ok(target)
+}
+
+/// Gives where a jump by an offset goes: modulo `2^64`, with bit 0 cleared.
+#[inline]
+#[tactic(auto, unfolding(crate::specs::FirstFault::jump_target))]
+pub fn jump_target(address: u64, offset: u64) -> u64
+    ensures { result ≡ spec.jump_target address offset }
+{
+    address.wrapping_add(offset) / 2 * 2
+}
+
+/// Tells whether the value is a sentry that is jumped to at no offset.
+#[inline]
+fn is_entered_sealed<C: CapRep>(c: C, offset: u64) -> bool
+    ensures { result ≡ spec.is_entered_sealed (C.value c) offset }
+{
+    c.otype() == OType::SENTRY.number() && offset == 0
+}
+
+/// Checks a jump by an offset to a capability that a register holds, and gives its target.
+///
+/// # Errors
+///
+/// The first fault: tag, seal (a sentry passes at no offset), Execute, bounds of 4 bytes, alignment to 4.
+#[inline]
+#[tactic(auto, unfolding(crate::specs::FirstFault::jump_fault))]
+pub fn check_jump<C: CapRep>(c: C, register: u64, offset: u64) -> Result<u64, Fault>
+    requires { register < 64 }
+    ensures value { IfOk result (λ target. target ≡ spec.jump_target (value_address (C.value c)) offset) }
+    ensures allowed { OnOk result (jump_fault (C.value c) register offset ≡ None) }
+    ensures refused { IfErr result (λ fault. jump_fault (C.value c) register offset ≡ Some fault) }
+    ensures aligned { IfOk result (λ target. target % 4 ≡ 0) }
+{
+    let target = jump_target(c.address(), offset);
+    let may_enter = !is_sealed(c) || is_entered_sealed(c, offset);
+    check_tag(c, register)?;
+    check(may_enter, cheri_fault(register, SEAL_VIOLATION))?;
+    check_permission(c, register, Permission::Execute, EXECUTE_VIOLATION)?;
+    check_bounds(c, register, target, INSTRUCTION_BYTES)?;
+    check(target % INSTRUCTION_BYTES == 0, misaligned(target))?;
+    Ok(target)
+}
+
+/// Reports a seal violation where the value's type is reserved: unsealed, or sealed as a sentry among others.
+#[inline(always)]
+fn check_sealing_type<C: CapRep>(c: C, register: u64) -> Result<(), Fault>
+    requires { register < 64 }
+    ensures { result ≡ if is_reserved (value_otype (C.value c)) then Err (cheri register seal_violation) else Ok tt }
+{
+    check(
+        !OType::of(c).is_reserved(),
+        cheri_fault(register, SEAL_VIOLATION),
+    )
+}
+
+/// Checks the invocation of a pair that two registers hold, code and data, and gives its target.
+///
+/// # Errors
+///
+/// The first fault, of the code before the data: tags, reserved types, different types, CInvoke, Execute (the code must have
+/// it, and the data must not), and then of the code the bounds of 4 bytes and alignment to 4.
+#[inline]
+#[tactic(auto, unfolding(crate::specs::FirstFault::invoke_fault))]
+pub fn check_invoke<C: CapRep>(
+    code: C,
+    code_register: u64,
+    data: C,
+    data_register: u64,
+) -> Result<u64, Fault>
+    requires code { code_register < 64 }
+    requires data { data_register < 64 }
+    ensures value { IfOk result (λ target. target ≡ invoke_target (C.value code)) }
+    ensures allowed { OnOk result (invoke_fault (C.value code) code_register (C.value «data») data_register ≡ None) }
+    ensures refused { IfErr result (λ fault. invoke_fault (C.value code) code_register (C.value «data») data_register ≡ Some fault) }
+    ensures aligned { IfOk result (λ target. target % 4 ≡ 0) }
+{
+    let target = jump_target(code.address(), 0);
+    let same_type = code.otype() == data.otype();
+    check_tag(code, code_register)?;
+    check_tag(data, data_register)?;
+    check_sealing_type(code, code_register)?;
+    check_sealing_type(data, data_register)?;
+    check(same_type, cheri_fault(code_register, TYPE_VIOLATION))?;
+    check_permission(code, code_register, Permission::CInvoke, CINVOKE_VIOLATION)?;
+    check_permission(data, data_register, Permission::CInvoke, CINVOKE_VIOLATION)?;
+    check_permission(code, code_register, Permission::Execute, EXECUTE_VIOLATION)?;
+    check(
+        !permits(data, Permission::Execute),
+        cheri_fault(data_register, EXECUTE_VIOLATION),
+    )?;
+    check_bounds(code, code_register, target, INSTRUCTION_BYTES)?;
+    check(target % INSTRUCTION_BYTES == 0, misaligned(target))?;
+    Ok(target)
+}
