@@ -2,13 +2,9 @@
 #![tactic(auto)]
 
 mod programs;
-#[cfg(test)]
-mod rows;
 mod running;
 #[cfg(test)]
 mod tests;
-#[cfg(test)]
-mod words;
 
 pub use programs::{FACTORIAL, FIRST_IMAGE, GREATEST_COMMON_DIVISOR};
 pub use running::{ENTRY, machine_of};

@@ -7,10 +7,10 @@ mod memory;
 mod system;
 mod traps;
 
-use crate::running::{ENTRY, machine_of};
 use crate::words::*;
 use cap_bounds::{CapRep, PlainCap};
 use machine::{Event, Machine};
+use machine_tests::{ENTRY, machine_of};
 use std::alloc::{AllocError, Global};
 use std::process::Abort;
 use std::test::Fail;
