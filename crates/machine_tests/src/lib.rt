@@ -1,6 +1,10 @@
 //! Programs that the whole machine runs in tests, and what they need.
 #![tactic(auto)]
 
+#[cfg(test)]
+mod capability_programs;
+#[cfg(test)]
+mod capability_tests;
 mod programs;
 mod running;
 #[cfg(test)]
