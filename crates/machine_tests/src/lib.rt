@@ -6,6 +6,8 @@ mod capability_programs;
 #[cfg(test)]
 mod capability_tests;
 mod programs;
+#[cfg(test)]
+mod root_tests;
 mod running;
 #[cfg(test)]
 mod tests;
