@@ -11,7 +11,7 @@ use std::alloc::{AllocError, Global};
 pub const ENTRY: u64 = 0x8000_0000;
 
 /// The words' bytes, each word's lowest first.
-fn bytes_of_words(alloc: Global, words: &[u32]) -> Result<Vec<u8>, AllocError>
+pub(crate) fn bytes_of_words(alloc: Global, words: &[u32]) -> Result<Vec<u8>, AllocError>
     ensures { IfOk result (λ bytes. bytes.items ≡ program_bytes words.now) }
 {
     let mut bytes = Vec::new(alloc);

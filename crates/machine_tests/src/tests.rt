@@ -191,7 +191,7 @@ fn stores_into_devices_want_their_sizes(rt: HostRuntime) -> Result<(), Fail> {
         ([0x1000_05b7, 0x0005_b023], [0, 0]),
         ([0x0010_05b7, 0x0005_b023], [0, 0]),
         ([0x1000_05b7, 0x0005_8023], [0, 0]),
-        // sb zero, 0(a1) at halt; sd zero, 32(a1) behind the console's registers
+        // sb zero, 0(a1) at halt; sd zero, 32(a1) behind control
         ([0x0010_05b7, 0x0005_8023], [7, 0x0010_0000]),
         ([0x1000_05b7, 0x0205_b023], [7, 0x1000_0020]),
     ];
