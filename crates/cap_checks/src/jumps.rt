@@ -136,8 +136,10 @@ pub fn check_invoke<C: CapRep>(
     requires code { code_register < 64 }
     requires data { data_register < 64 }
     ensures value { IfOk result (λ target. target ≡ invoke_target (C.value code)) }
-    ensures allowed { OnOk result (invoke_fault (C.value code) code_register (C.value «data») data_register ≡ None) }
-    ensures refused { IfErr result (λ fault. invoke_fault (C.value code) code_register (C.value «data») data_register ≡ Some fault) }
+    ensures allowed { OnOk result
+        (invoke_fault (C.value code) code_register (C.value «data») data_register ≡ None) }
+    ensures refused { IfErr result (λ fault.
+        invoke_fault (C.value code) code_register (C.value «data») data_register ≡ Some fault) }
     ensures aligned { IfOk result (λ target. target % 4 ≡ 0) }
 {
     let target = jump_target(code.address(), 0);

@@ -10,6 +10,12 @@ use cap_bounds::{CapRep, PlainCap};
 use std::test::Fail;
 use tagged_memory::Size;
 
+/// An access of a word, the permission that it needs, its mtval without it, and its mcause where it is misaligned.
+const WORD_ACCESSES: [(Access, u16, u64, u64); 2] = [
+    (Access::Load(Size::Word), LOAD, A0_LOAD, 4),
+    (Access::Store(Size::Word), STORE, A0_STORE, 6),
+];
+
 /// A capability of the 32 bytes at `BASE`, room for two capabilities.
 fn wide(perms: u16, otype: u32) -> Result<PlainCap, &'static str> {
     PlainCap::of(BASE, 0x8000_1020, BASE, perms, false, otype).ok_or("no capability")
@@ -17,16 +23,11 @@ fn wide(perms: u16, otype: u32) -> Result<PlainCap, &'static str> {
 
 #[test]
 fn the_first_fault_of_an_access_is_reported(rt: HostRuntime) -> Result<(), Fail> {
-    let inside = BASE + 4;
     let askew = BASE + 6;
     let askew_outside = BASE + 18;
-    for (access, permission, lacking, misaligned) in [
-        (Access::Load(Size::Word), LOAD, A0_LOAD, 4),
-        (Access::Store(Size::Word), STORE, A0_STORE, 6),
-    ] {
+    for (access, permission, lacking, misaligned) in WORD_ACCESSES {
         let good = with(BASE, ALL, UNSEALED)?;
         let weak = with(BASE, ALL ^ permission, UNSEALED)?;
-        let sealed = with(BASE, ALL, OWN_TYPE)?;
         let weak_and_sealed = with(BASE, ALL ^ permission, OWN_TYPE)?;
         let askew_fault = Fault {
             mcause: misaligned,
@@ -42,7 +43,17 @@ fn the_first_fault_of_an_access_is_reported(rt: HostRuntime) -> Result<(), Fail>
         ] {
             assert_eq!(rt; check_access(authority, A0, access, address), Err(fault));
         }
-        // One alone is false.
+    }
+    Ok(())
+}
+
+#[test]
+fn each_fault_of_an_access_comes_alone(rt: HostRuntime) -> Result<(), Fail> {
+    let inside = BASE + 4;
+    let good = with(BASE, ALL, UNSEALED)?;
+    let sealed = with(BASE, ALL, OWN_TYPE)?;
+    for (access, permission, lacking, _) in WORD_ACCESSES {
+        let weak = with(BASE, ALL ^ permission, UNSEALED)?;
         for (authority, address, fault) in [
             (good.clear_tag(), inside, cheri(A0_TAG)),
             (sealed, inside, cheri(A0_SEAL)),
@@ -146,9 +157,7 @@ fn the_first_fault_of_a_store_of_a_local_capability_is_reported(
     rt: HostRuntime,
 ) -> Result<(), Fail> {
     let access = Access::StoreCapability(Stored::Local);
-    let inside = BASE + 16;
     let askew = BASE + 8;
-    let outside = BASE + 32;
     let askew_outside = BASE + 24;
     let none = ALL ^ STORE ^ STORE_CAPABILITY ^ STORE_LOCAL;
     let good = wide(ALL, UNSEALED)?;
@@ -177,7 +186,19 @@ fn the_first_fault_of_a_store_of_a_local_capability_is_reported(
         ),
         (good, askew_outside, cheri(A1_LENGTH)),
         (good, askew, askew_fault),
-        // One alone is false.
+    ] {
+        assert_eq!(rt; check_access(authority, A1, access, address), Err(fault));
+    }
+    Ok(())
+}
+
+#[test]
+fn each_fault_of_a_store_of_a_local_capability_comes_alone(rt: HostRuntime) -> Result<(), Fail> {
+    let access = Access::StoreCapability(Stored::Local);
+    let inside = BASE + 16;
+    let outside = BASE + 32;
+    let good = wide(ALL, UNSEALED)?;
+    for (authority, address, fault) in [
         (good.clear_tag(), inside, cheri(A1_TAG)),
         (wide(ALL, OWN_TYPE)?, inside, cheri(A1_SEAL)),
         (wide(ALL, SENTRY)?, inside, cheri(A1_SEAL)),

@@ -27,6 +27,10 @@ fn the_first_fault_of_an_invocation_is_reported(rt: HostRuntime) -> Result<(), F
     let bare_data = with(BASE, no_data, UNSEALED)?;
     let typed_code = with(far, no_code, OWN_TYPE)?;
     let typed_data = with(BASE, no_data, OWN_TYPE)?;
+    let weak_code = with(far, ALL ^ EXECUTE, OWN_TYPE)?;
+    let far_code = with(far, ALL, OWN_TYPE)?;
+    let other_data = with(BASE, no_data, OTHER_TYPE)?;
+    let executable_data = with(BASE, ALL, OWN_TYPE)?;
     let data = with(BASE, ALL ^ EXECUTE, OWN_TYPE)?;
     // From each condition on all are false.
     for (code, data, fault) in [
@@ -34,24 +38,12 @@ fn the_first_fault_of_an_invocation_is_reported(rt: HostRuntime) -> Result<(), F
         (bare_code, bare_data.clear_tag(), cheri(A1_TAG)),
         (bare_code, bare_data, cheri(A0_SEAL)),
         (typed_code, bare_data, cheri(A1_SEAL)),
-        (typed_code, with(BASE, no_data, OTHER_TYPE)?, cheri(A0_TYPE)),
+        (typed_code, other_data, cheri(A0_TYPE)),
         (typed_code, typed_data, cheri(A0_CINVOKE)),
-        (
-            with(far, ALL ^ EXECUTE, OWN_TYPE)?,
-            typed_data,
-            cheri(A1_CINVOKE),
-        ),
-        (
-            with(far, ALL ^ EXECUTE, OWN_TYPE)?,
-            with(BASE, ALL, OWN_TYPE)?,
-            cheri(A0_EXECUTE),
-        ),
-        (
-            with(far, ALL, OWN_TYPE)?,
-            with(BASE, ALL, OWN_TYPE)?,
-            cheri(A1_EXECUTE),
-        ),
-        (with(far, ALL, OWN_TYPE)?, data, cheri(A0_LENGTH)),
+        (weak_code, typed_data, cheri(A1_CINVOKE)),
+        (weak_code, executable_data, cheri(A0_EXECUTE)),
+        (far_code, executable_data, cheri(A1_EXECUTE)),
+        (far_code, data, cheri(A0_LENGTH)),
         (
             with(BASE + 2, ALL, OWN_TYPE)?,
             data,
