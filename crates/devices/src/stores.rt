@@ -84,8 +84,9 @@ impl Devices {
         }
     }
 
-    /// Stores a number into a register and answers what it does outside the devices. V1 where no register begins at the address, then V2
-    /// where it does not take the size: 8 bytes, or for transmit also one byte. A refused store changes nothing.
+    /// Stores a number into a register and answers what it does outside the devices. V1 where no register begins at the
+    /// address, then V2 where it does not take the size: 8 bytes, or for transmit also one byte. A refused store changes
+    /// nothing.
     #[tactic(auto, unfolding(crate::specs::Devices::write_fault))]
     pub fn write(&mut self, address: u64, size: Size, value: u64) -> Result<Effect, DeviceFault>
         ensures which { result ≡ unless (write_fault address (bytes_of size)) (effect_of address value) }
