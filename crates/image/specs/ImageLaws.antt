@@ -1,27 +1,38 @@
 -- An image's sections lie in its RAM.
-use Rattle.std.proofs.Common.{◌≡◌, ℕ, ◌+◌, ◌%◌, ◌≤◌, true, false, cond, ltb, not, ◌||◌, List, [], ◌∷◌, length, None, Some, refl}
+use Rattle.std.proofs.Common.{◌≡◌, ℕ, ◌+◌, ◌%◌, ◌≤◌, true, false, cond, ltb, not, ◌||◌, List, [], ◌∷◌, length, Option, None, Some, refl}
+use Rattle.std.specs.Option.{option_or}
 use Rattle.std.proofs.lemmas.Bool.{ltb-false, and_parts, eqb-true}
+use Rattle.image.specs.declared.fault.ImageFault.{ImageFault}
 use Rattle.image.specs.declared.fault.ImageFault.TheVariants.{L4, L5, L6, L7}
-use Rattle.image.specs.Image.{Section, Image, IsImage, ram_base, ram_end, is_good_header, sections_fault, build_fault, mode_number}
+use Rattle.image.specs.Image.{Section, Image, IsImage, ram_base, ram_end, is_good_header, span_fault, sections_fault, build_fault, mode_number}
 
 -- each section begins and ends in RAM
 abbrev pub AllInRam : ℕ → List Section → Type 0
 AllInRam pages [] = Unit {0}
 AllInRam pages (s ∷ ss) = ((ram_base ≤ s.address) × (s.address + length s.bytes ≤ ram_end pages)) × AllInRam pages ss
 
+-- a section without fault lies in RAM
+pub in_ram : (pages free address size : ℕ) → span_fault pages free address size ≡ None → (ram_base ≤ address) × (address + size ≤ ram_end pages)
+unfolding span_fault
+in_ram pages free address size =
+    elim (ltb address ram_base) as (λ low. ltb address ram_base ≡ low → cond (low || ltb (ram_end pages) (address + size)) (Some L6) (cond (ltb address free) (Some L7) None) ≡ None → (ram_base ≤ address) × (address + size ≤ ram_end pages)) [
+      | true ↦ λ _ e. cc
+      | false ↦ λ low. elim (ltb (ram_end pages) (address + size)) as (λ high. ltb (ram_end pages) (address + size) ≡ high → cond high (Some L6) (cond (ltb address free) (Some L7) None) ≡ None → (ram_base ≤ address) × (address + size ≤ ram_end pages)) [
+        | true ↦ λ _ e. cc
+        | false ↦ λ high _. (ltb-false _ _ low, ltb-false _ _ high)
+      ] refl
+    ] refl
+
+-- neither of two faults is there
+pub no_fault : (first others : Option ImageFault) → option_or first others ≡ None → (first ≡ None) × (others ≡ None)
+no_fault None others e = (refl, e)
+no_fault (Some fault) others e = absurd cc
+
 pub AllInRam-sections : (pages free : ℕ) (sections : List Section) → sections_fault pages free sections ≡ None → AllInRam pages sections
 AllInRam-sections pages free [] none = tt
 AllInRam-sections pages free (s ∷ ss) none =
-    elim (ltb s.address ram_base) as (λ low. ltb s.address ram_base ≡ low → cond (low || ltb (ram_end pages) (s.address + length s.bytes)) (Some L6) (cond (ltb s.address free) (Some L7) (sections_fault pages (s.address + length s.bytes) ss)) ≡ None → AllInRam pages (s ∷ ss)) [
-      | true ↦ λ _ e. cc
-      | false ↦ λ low. elim (ltb (ram_end pages) (s.address + length s.bytes)) as (λ high. ltb (ram_end pages) (s.address + length s.bytes) ≡ high → cond high (Some L6) (cond (ltb s.address free) (Some L7) (sections_fault pages (s.address + length s.bytes) ss)) ≡ None → AllInRam pages (s ∷ ss)) [
-        | true ↦ λ _ e. cc
-        | false ↦ λ high. elim (ltb s.address free) as (λ before. cond before (Some L7) (sections_fault pages (s.address + length s.bytes) ss) ≡ None → AllInRam pages (s ∷ ss)) [
-          | true ↦ λ e. cc
-          | false ↦ λ e. ((ltb-false _ _ low, ltb-false _ _ high), AllInRam-sections pages (s.address + length s.bytes) ss e)
-        ]
-      ] refl
-    ] refl none
+    let neither = no_fault (span_fault pages free s.address (length s.bytes)) (sections_fault pages (s.address + length s.bytes) ss) none in
+    (in_ram pages free s.address (length s.bytes) neither.0, AllInRam-sections pages (s.address + length s.bytes) ss neither.1)
 
 pub AllInRam-image : (i : Image) → IsImage i → AllInRam i.pages i.sections
 unfolding build_fault

@@ -1,5 +1,5 @@
-ghost use Rattle.std.specs.Prelude.{◌≡◌, ◌<◌, ◌≤◌, IfOk, length};
-ghost use Rattle.image.specs.Image.{IsImage, Builds, build_fault, image_of, lent_sections, lent_section, is_good_header, sections_fault, ram_end};
+ghost use Rattle.std.specs.Prelude.{◌≡◌, ◌<◌, ◌≤◌, ◌+◌, IfOk, IfNone, length};
+ghost use Rattle.image.specs.Image.{IsImage, Builds, build_fault, span_fault, image_of, lent_sections, lent_section, is_good_header, sections_fault, ram_end};
 
 use crate::fault::ImageFault;
 use crate::section::Section;
@@ -48,21 +48,33 @@ fn is_good(pages: u32, entry: u64, mode: u32) -> bool
         && mode <= 1
 }
 
+/// The fault of a section at `address` with `size` bytes, where the one before it ended at `free`.
+#[tactic(auto, unfolding(crate::specs::Image::span_fault))]
+pub(crate) fn fault_of_span(pages: u32, free: u64, address: u64, size: u64) -> Option<ImageFault>
+    ensures value { result ≡ span_fault pages free address size }
+    ensures inside { IfNone result (address + size ≤ ram_end pages) }
+{
+    let end = ram_end_of(pages);
+    if address < RAM_BASE || address > end || size > end - address {
+        return Some(ImageFault::L6);
+    }
+    if address < free {
+        return Some(ImageFault::L7);
+    }
+    None
+}
+
 /// The first fault of sections that nothing stands before.
 fn fault_of_sections(pages: u32, sections: &[(u64, &[u8])]) -> Option<ImageFault>
     ensures { result ≡ sections_fault pages 0 (lent_sections sections.now) }
 {
-    let end = ram_end_of(pages);
     let mut free = 0;
     for (address, bytes) in sections {
-        let length = bytes.len() as u64;
-        if *address < RAM_BASE || *address > end || length > end - *address {
-            return Some(ImageFault::L6);
+        let size = bytes.len() as u64;
+        if let Some(fault) = fault_of_span(pages, free, *address, size) {
+            return Some(fault);
         }
-        if *address < free {
-            return Some(ImageFault::L7);
-        }
-        free = *address + length;
+        free = *address + size;
     }
     None
 }
