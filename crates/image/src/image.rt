@@ -37,7 +37,7 @@ fn ram_end_of(pages: u32) -> u64
 
 /// The first fault of an image's header.
 #[tactic(auto, unfolding(crate::specs::Image::is_good_header))]
-fn is_good(pages: u32, entry: u64, mode: u32) -> bool
+pub(crate) fn is_good(pages: u32, entry: u64, mode: u32) -> bool
     ensures { result ≡ is_good_header pages entry mode }
 {
     let end = ram_end_of(pages);

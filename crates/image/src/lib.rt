@@ -5,6 +5,7 @@ mod devices;
 mod fault;
 mod image;
 mod over_std;
+mod parts;
 mod section;
 #[cfg(test)]
 mod tests;
