@@ -1,5 +1,6 @@
-ghost use Rattle.std.specs.Prelude.{◌≡◌, ◌<◌, ◌≤◌, ◌+◌, IfOk, IfNone, length};
+ghost use Rattle.std.specs.Prelude.{◌≡◌, ◌<◌, ◌≤◌, ◌+◌, IfOk, IfNone, IfSome, length};
 ghost use Rattle.image.specs.Image.{IsImage, Builds, build_fault, span_fault, image_of, lent_sections, lent_section, is_good_header, sections_fault, ram_end};
+ghost use Rattle.image.specs.Reads.{IsOfBytes};
 
 use crate::fault::ImageFault;
 use crate::section::Section;
@@ -52,6 +53,7 @@ pub(crate) fn is_good(pages: u32, entry: u64, mode: u32) -> bool
 #[tactic(auto, unfolding(crate::specs::Image::span_fault))]
 pub(crate) fn fault_of_span(pages: u32, free: u64, address: u64, size: u64) -> Option<ImageFault>
     ensures value { result ≡ span_fault pages free address size }
+    ensures fault { IfSome result IsOfBytes }
     ensures inside { IfNone result (address + size ≤ ram_end pages) }
 {
     let end = ram_end_of(pages);

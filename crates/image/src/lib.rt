@@ -6,6 +6,7 @@ mod fault;
 mod image;
 mod over_std;
 mod parts;
+mod reading;
 mod section;
 #[cfg(test)]
 mod tests;

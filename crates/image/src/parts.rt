@@ -1,8 +1,9 @@
 //! The parts of an image file.
 
-ghost use Rattle.std.specs.Prelude.{◌≡◌, ◌+◌, ◌≤◌, IfOk, length};
+ghost use Rattle.std.specs.Prelude.{◌≡◌, ◌+◌, ◌≤◌, IfOk, IfErr, length};
 ghost use Rattle.image.specs.Image.{ram_end, span_fault};
 ghost use Rattle.image.specs.Grammar.{unless, number_at, header_fault, header_of};
+ghost use Rattle.image.specs.Reads.{IsOfBytes};
 
 use crate::fault::ImageFault;
 use crate::image::{fault_of_span, is_good};
@@ -30,7 +31,8 @@ pub struct Span {
 /// What the 32 bytes of a header say, or its first fault.
 #[tactic(auto, unfolding(crate::specs::Grammar::header_fault))]
 pub fn header_in(bytes: &[u8; 32]) -> Result<Header, ImageFault>
-    ensures { result ≡ unless (header_fault bytes.now) (header_of bytes.now) }
+    ensures value { result ≡ unless (header_fault bytes.now) (header_of bytes.now) }
+    ensures fault { IfErr result IsOfBytes }
 {
     let header = Header {
         pages: LittleEndian::read_u32(&bytes[12..16]),
@@ -55,6 +57,7 @@ pub fn header_in(bytes: &[u8; 32]) -> Result<Header, ImageFault>
 pub fn span_in(bytes: &[u8; 16], pages: u32, free: u64) -> Result<Span, ImageFault>
     ensures value { let address = number_at 0 8 bytes.now in let size = number_at 8 8 bytes.now in
         result ≡ unless (span_fault pages free address size) (record { address = address; size = size }) }
+    ensures fault { IfErr result IsOfBytes }
     ensures inside { IfOk result (λ span. span.address + span.size ≤ ram_end pages) }
 {
     let address = LittleEndian::read_u64(&bytes[0..8]);
