@@ -58,5 +58,4 @@ pub Goes-ends : (pages count n free : ℕ) (front : List Section) (a b : Option 
 unfolding sections_at
 Goes-ends pages count n free front a b none so_far =
     (so_far.0, so_far.1, λ rest.
-      let here : sections_at pages count 0 (so_far.0 ++ rest) ≡ with_front front (sections_at pages 0 free rest) = rw (← none) (so_far.2 rest) in
-      here ∙ ap (λ (ss : List Section). Ok (ss, rest)) (append-nil front))
+      so_far.2 rest ∙ ap (λ k. with_front front (sections_at pages k free rest)) none ∙ ap (λ (ss : List Section). Ok (ss, rest)) (append-nil front))

@@ -1,2 +1,3 @@
 mod Taking
 mod Going
+mod Valid

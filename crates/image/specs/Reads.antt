@@ -1,9 +1,10 @@
 -- What calls that read from a source, or write to a sink, answer and leave.
-use Rattle.std.specs.Prelude.{◌≡◌, ℕ, ◌+◌, List, ◌++◌, Option, IfSome, Result, Ok, Err}
+use Rattle.std.specs.Prelude.{◌≡◌, ◌≢◌, ℕ, ◌+◌, List, [], ◌++◌, Option, IfSome, Result, Ok, Err}
 use Rattle.std.specs.Io.KnownBytes.{Consumes, Appends}
 use Rattle.image.specs.declared.fault.ImageFault.{ImageFault}
 use Rattle.image.specs.declared.fault.ImageFault.TheVariants.{L10, L11}
 use Rattle.image.specs.Devices.{AppendsBeginning}
+use Rattle.image.specs.Image.{Image}
 
 -- a fault of the bytes themselves, and not the device's or the memory's
 abbrev pub IsOfBytes : ImageFault → Type 0
@@ -12,9 +13,13 @@ IsOfBytes L11 = ⊥
 IsOfBytes fault = Unit {0}
 
 -- The answer is the reading, but where the device failed or memory ran out.
-abbrev pub Answers : {X Y : Type 0} → (X → Y) → Result Y ImageFault → Result X ImageFault → Type 0
-Answers view read (Ok x) = read ≡ Ok (view x)
-Answers view read (Err fault) = IsOfBytes fault → read ≡ Err fault
+abbrev pub Answers : Result Image ImageFault → Result Image ImageFault → Type 0
+Answers read (Ok image) = read ≡ Ok image
+Answers read (Err fault) = IsOfBytes fault → read ≡ Err fault
+
+-- some known byte is left
+abbrev pub IsNotAtEnd : Option (List ℕ) → Type 0
+IsNotAtEnd left = IfSome left (λ bytes. bytes ≢ [])
 
 -- Known bytes lose some beginning.
 abbrev pub ConsumesBeginning : Option (List ℕ) → Option (List ℕ) → Type 0

@@ -1,4 +1,4 @@
-ghost use Rattle.std.specs.Prelude.{◌≡◌, ◌<◌, ◌≤◌, ◌+◌, IfOk, IfNone, IfSome, length};
+ghost use Rattle.std.specs.Prelude.{◌≡◌, ◌<◌, ◌≤◌, ◌+◌, IfOk, IfNone, IfSome, None, length};
 ghost use Rattle.image.specs.Image.{IsImage, Builds, build_fault, span_fault, image_of, lent_sections, lent_section, is_good_header, sections_fault, ram_end};
 ghost use Rattle.image.specs.Reads.{IsOfBytes};
 
@@ -93,6 +93,19 @@ fn copies(alloc: Global, sections: &[(u64, &[u8])]) -> Result<Vec<Section>, Allo
 }
 
 impl Image {
+    /// An image of these parts, which have no fault.
+    pub(crate) fn new(pages: u32, entry: u64, mode: u32, sections: Vec<Section>) -> Self
+        requires { build_fault pages entry mode sections.items ≡ None }
+        ensures { result ≡ image_of pages entry mode sections.items }
+    {
+        Image {
+            pages,
+            entry,
+            mode: mode == 1,
+            sections,
+        }
+    }
+
     /// An image of `pages` pages (1 to 4096) that begins at `entry`, in integer mode (0) or capability mode (1), with at most
     /// 64 sections in ascending order.
     ///
@@ -118,12 +131,7 @@ impl Image {
             return Err(fault);
         }
         match copies(alloc, sections) {
-            Ok(sections) => Ok(Image {
-                pages,
-                entry,
-                mode: mode == 1,
-                sections,
-            }),
+            Ok(sections) => Ok(Image::new(pages, entry, mode, sections)),
             Err(_) => Err(ImageFault::L11),
         }
     }

@@ -1,12 +1,12 @@
 //! Images from a source.
 
-ghost use Rattle.std.specs.Prelude.{◌≡◌, ◌+◌, ◌-◌, ◌^◌, ◌<◌, ◌≤◌, length, take, IfOk, OnOk, OnErr, IfSome, vec_len};
+ghost use Rattle.std.specs.Prelude.{◌≡◌, ◌+◌, ◌-◌, ◌^◌, ◌<◌, ◌≤◌, length, take, IfOk, IfErr, OnOk, OnErr, IfSome, vec_len};
 ghost use Rattle.std.specs.Io.KnownBytes.{Consumes, IsAtEnd};
-ghost use Rattle.image.specs.declared.fault.ImageFault.TheVariants.{L8};
+ghost use Rattle.image.specs.declared.fault.ImageFault.TheVariants.{L8, L9};
 ghost use Rattle.image.specs.Devices.{Counts};
 ghost use Rattle.image.specs.Image.{ram_end};
 ghost use Rattle.image.specs.Grammar.{taken, header_at, span_at, section_at, sections_at, image_at, reading};
-ghost use Rattle.image.specs.Reads.{IsOfBytes, Answers, ConsumesBeginning, CountsL10, Takes};
+ghost use Rattle.image.specs.Reads.{IsOfBytes, IsNotAtEnd, Answers, ConsumesBeginning, CountsL10, Takes};
 
 use crate::devices::{DeviceFailed, Source};
 use crate::fault::ImageFault;
@@ -128,4 +128,49 @@ fn sections<R: Source>(
         sections.push(section)?;
     }
     Ok(sections)
+}
+
+/// The image in front.
+#[tactic(auto, unfolding(crate::specs::Grammar::image_at))]
+fn front<R: Source>(alloc: Global, source: &mut R) -> Result<Image, ImageFault>
+    requires { R.failed source.old < 2 ^ 64 - 1 }
+    ensures part { Takes (λ image. image) image_at (R.left source.old) (R.left source.new) result }
+    ensures count { CountsL10 (R.failed source.old) (R.failed source.new) result }
+{
+    let header = header(source)?;
+    let sections = sections(alloc, source, header.pages, header.count)?;
+    Ok(Image::new(header.pages, header.entry, header.mode, sections))
+}
+
+/// That the source has no byte left, or else L9.
+fn end<R: Source>(source: &mut R) -> Result<(), ImageFault>
+    requires { R.failed source.old < 2 ^ 64 - 1 }
+    ensures ok { OnOk result (IsAtEnd (R.left source.old)) }
+    ensures end { OnOk result (IsAtEnd (R.left source.new)) }
+    ensures more { IfErr result (λ fault. IsOfBytes fault → (fault ≡ L9) × IsNotAtEnd (R.left source.old)) }
+    ensures beginning { ConsumesBeginning (R.left source.old) (R.left source.new) }
+    ensures count { CountsL10 (R.failed source.old) (R.failed source.new) result }
+{
+    let mut one = [0];
+    if fill(source, &mut one)? > 0 {
+        return Err(ImageFault::L9);
+    }
+    Ok(())
+}
+
+/// Reads an image, to the end of the source.
+///
+/// The first of these, in this order: L1 to L5 of the header; for each section its 16 bytes L8, L6, L7 and its bytes L8; L9.
+/// L10, where a call of the source failed, and L11, no memory, may come in place of any check not yet made. A refusal has
+/// taken some beginning of the bytes.
+pub fn read<R: Source>(alloc: Global, source: &mut R) -> Result<Image, ImageFault>
+    requires { R.failed source.old < 2 ^ 64 - 1 }
+    ensures value { IfSome (R.left source.old) (λ bytes. Answers (reading bytes) result) }
+    ensures end { OnOk result (IsAtEnd (R.left source.new)) }
+    ensures beginning { ConsumesBeginning (R.left source.old) (R.left source.new) }
+    ensures count { CountsL10 (R.failed source.old) (R.failed source.new) result }
+{
+    let image = front(alloc, source)?;
+    end(source)?;
+    Ok(image)
 }
