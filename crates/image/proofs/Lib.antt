@@ -2,3 +2,4 @@ mod Taking
 mod Going
 mod Valid
 mod Ending
+mod Written

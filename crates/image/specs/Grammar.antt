@@ -15,12 +15,12 @@ abbrev pub magic : List ℕ
 magic = codes "CHERIIMG"
 
 -- 32 bytes: the magic, the version, the pages, the entry, the count of sections and the mode
-abbrev pub header_bytes : ℕ → ℕ → ℕ → ℕ → List ℕ
+unfoldable pub header_bytes : ℕ → ℕ → ℕ → ℕ → List ℕ
 header_bytes pages entry count mode =
     magic ++ (little_bytes 4 1 ++ (little_bytes 4 pages ++ (little_bytes 8 entry ++ (little_bytes 4 count ++ little_bytes 4 mode))))
 
 -- 16 bytes: where a section lies, and how many bytes it has
-abbrev pub span_bytes : ℕ → ℕ → List ℕ
+unfoldable pub span_bytes : ℕ → ℕ → List ℕ
 span_bytes address size = little_bytes 8 address ++ little_bytes 8 size
 
 abbrev pub section_bytes : Section → List ℕ
