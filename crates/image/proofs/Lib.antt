@@ -3,3 +3,6 @@ mod Going
 mod Valid
 mod Ending
 mod Written
+mod Numbers
+mod Again
+mod Spelt

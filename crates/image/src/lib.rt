@@ -4,6 +4,7 @@
 mod devices;
 mod fault;
 mod image;
+pub mod laws;
 mod over_std;
 mod parts;
 mod reading;

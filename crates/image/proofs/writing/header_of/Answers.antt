@@ -1,4 +1,4 @@
-use Rattle.std.proofs.Common.{◌≡◌, ◌≤◌, length, arith}
+use Rattle.std.proofs.Common.{◌≤◌, length, arith}
 use Rattle.image.specs.ImageLaws.{few_sections}
 use Rattle.image.proofs.writing.header_of.Goals as goal
 

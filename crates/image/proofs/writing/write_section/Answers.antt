@@ -1,8 +1,6 @@
-use Rattle.std.proofs.Common.{◌≡◌, ℕ, List, length, ap, subst}
+use Rattle.std.proofs.Common.{length}
 use Rattle.std.proofs.KnownBytes.{Appends-trans}
 use Rattle.std.proofs.lemmas.Result.{err_from_is_err_and, on_ok_weaker, on_err_weaker}
-use Rattle.std.specs.Io.KnownBytes.{Appends}
-use Rattle.image.specs.Devices.{AppendsBeginning}
 use Rattle.image.specs.Grammar.{span_bytes}
 use Rattle.image.proofs.Written.{beginning_more, beginning_after}
 use Rattle.image.proofs.writing.write_section.Goals as goal

@@ -1,4 +1,4 @@
-use Rattle.std.proofs.Common.{◌≡◌, ℕ, suc, List, ◌++◌, take, drop, get_or, sym, subst}
+use Rattle.std.proofs.Common.{◌≡◌, suc, ◌++◌, take, drop, get_or, sym, subst}
 use Rattle.std.specs.List.{flat_map}
 use Rattle.std.proofs.lemmas.Result.{err_from_is_err_and}
 use Rattle.image.specs.Devices.{AppendsBeginning}

@@ -8,5 +8,5 @@ use Rattle.image.proofs.writing.write_sections.Given as goal
 abbrev pub invariant-loop-section : goal.invariant-loop-section
 invariant-loop-section g l = record {
   written : Appends (g.W.Sink.held l.initial.sink) (g.W.Sink.held l.sink) (flat_map section_bytes (take l.section-index l.sections));
-  count : g.W.Sink.failed l.sink ≡ g.W.Sink.failed l.initial.sink
+  count : g.W.Sink.failed l.sink ≡ g.W.Sink.failed l.initial.sink;
 }
