@@ -16,6 +16,10 @@ const ONE_INSN: [u8; 52] = *b"CHERIIMG\
     \x00\x00\x00\x80\x00\x00\x00\x00\x04\x00\x00\x00\x00\x00\x00\x00\
     \x5b\x05\xb5\x22";
 
+/// 4096 pages, and no section.
+const NO_SECTION: [u8; 32] = *b"CHERIIMG\
+    \x01\x00\x00\x00\x00\x10\x00\x00\xfc\xff\xff\x80\x00\x00\x00\x00\x00\x00\x00\x00\x00\x00\x00\x00";
+
 /// Two sections of four bytes, one right behind the other.
 const TWO: [u8; 72] = *b"CHERIIMG\
     \x01\x00\x00\x00\x02\x00\x00\x00\x04\x00\x00\x80\x00\x00\x00\x00\x02\x00\x00\x00\x01\x00\x00\x00\
@@ -47,8 +51,7 @@ fn patched<const N: usize>(mut bytes: [u8; N], changes: &[(usize, u8)]) -> [u8; 
 
 #[test]
 fn images_are_read_and_written_back_the_same(rt: HostRuntime) -> Result<(), Fail> {
-    let none = patched(FIRST, &[(24, 0)]);
-    let files: [&[u8]; 4] = [&FIRST, &ONE_INSN, &TWO, &none[..32]];
+    let files: [&[u8]; 4] = [&FIRST, &ONE_INSN, &TWO, &NO_SECTION];
     for file in files {
         let image = read_bytes(rt.alloc(), file)?;
         assert_eq!(rt; written(rt.alloc(), &image)?.as_slice(), file);
