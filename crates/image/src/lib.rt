@@ -3,20 +3,22 @@
 
 mod devices;
 mod fault;
+mod from_read;
 mod image;
 pub mod laws;
-mod over_std;
 mod parts;
 mod reading;
 mod section;
 #[cfg(test)]
 mod tests;
+mod to_write;
 mod writing;
 
 pub use devices::{DeviceFailed, Sink, Source, write_all};
 pub use fault::ImageFault;
+pub use from_read::FromRead;
 pub use image::Image;
-pub use over_std::{FromRead, ToWrite};
 pub use reading::read;
 pub use section::Section;
+pub use to_write::ToWrite;
 pub use writing::write;
