@@ -1,12 +1,24 @@
 //! Images: what a machine begins with.
 #![tactic(auto)]
 
+mod devices;
 mod fault;
+mod from_read;
 mod image;
+pub mod laws;
+mod parts;
+mod reading;
 mod section;
 #[cfg(test)]
 mod tests;
+mod to_write;
+mod writing;
 
+pub use devices::{DeviceFailed, Sink, Source, write_all};
 pub use fault::ImageFault;
+pub use from_read::FromRead;
 pub use image::Image;
+pub use reading::read;
 pub use section::Section;
+pub use to_write::ToWrite;
+pub use writing::write;

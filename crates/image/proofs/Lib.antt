@@ -1,0 +1,8 @@
+mod Taking
+mod Going
+mod Valid
+mod Ending
+mod Written
+mod Numbers
+mod Again
+mod Spelt
