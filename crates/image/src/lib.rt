@@ -1,4 +1,4 @@
-//! Images: what a machine begins with.
+//! Images: what a machine begins with, their files, and the devices that files come from and go to.
 #![tactic(auto)]
 
 mod devices;
