@@ -1,0 +1,74 @@
+-- The command line: the command that clap reads the words by, and what a plan says of clap's matches.
+use Rattle.std.specs.Prelude.{◌≡◌, ◌≤◌, ℕ, List, [], ◌∷◌, Option, Some, None, true, codes, option_map, ⊤}
+use Rattle.std.specs.Str.Parse.{digits_value, without_leading_plus}
+use Rattle.clap.specs.Words.{App, Row, Rule, Shape, Text, first_of, one_of, new_app, new_rule, with_rule, with_subcommand}
+use Rattle.clap.specs.declared.builder.value_parser.ValueParser.TheVariants as parser
+use Rattle.sim_run.specs.declared.plans.Plan.{Plan}
+use Rattle.sim_run.specs.declared.plans.Plan.TheVariants.{Asm, Run, First}
+use Rattle.sim_run.specs.declared.schedule.Schedule.{Schedule}
+
+-- a word that has to stand at its place, and an option --ID VALUE
+abbrev pub operand : Text → Rule
+operand id = record (new_rule id) { required = true }
+
+abbrev pub named : Text → Rule
+named id = record (new_rule id) { long = Some id; value_names = 1 }
+
+-- its value is a decimal number from `least` to `most`
+abbrev pub in_range : ℕ → ℕ → Rule → Rule
+in_range least most rule = record rule { parser = Some (parser.Unsigned least most) }
+
+-- asm IN OUT
+abbrev pub asm_command : App
+asm_command = with_rule (with_rule (new_app (codes "asm")) (operand (codes "IN"))) (operand (codes "OUT"))
+
+-- STEPS of 1 to 100000000; a gap of 1 to 1000000, by default 1000; a tick of 0 to 1000000, by default 100
+abbrev pub steps_rule : Rule
+steps_rule = in_range 1 100000000 (operand (codes "STEPS"))
+
+abbrev pub gap_rule : Rule
+gap_rule = record (in_range 1 1000000 (named (codes "gap"))) { defaults = codes "1000" ∷ [] }
+
+abbrev pub tick_rule : Rule
+tick_rule = record (in_range 0 1000000 (named (codes "tick"))) { defaults = codes "100" ∷ [] }
+
+-- run IMAGE STEPS [--input FILE] [--gap N] [--tick N]
+abbrev pub run_command : App
+run_command =
+    with_rule (with_rule (with_rule (with_rule (with_rule (new_app (codes "run"))
+    (operand (codes "IMAGE"))) steps_rule) (named (codes "input"))) gap_rule) tick_rule
+
+abbrev pub program : App
+program = with_subcommand (with_subcommand (new_app (codes "cherisim")) asm_command.top) run_command.top
+
+-- a number that clap found for an argument
+abbrev pub number_of : Text → List Row → Option ℕ
+number_of id rows = option_map (λ text. digits_value 10 (without_leading_plus text)) (one_of id rows)
+
+-- the numbers of a schedule are those that clap found
+pub record IsScheduleOf (rows : List Row) (schedule : Schedule) : Type 0 where
+  pub steps : number_of (codes "STEPS") rows ≡ Some schedule.steps
+  pub gap : number_of (codes "gap") rows ≡ Some schedule.gap
+  pub tick : number_of (codes "tick") rows ≡ Some schedule.tick
+
+-- the ranges of a schedule
+pub record IsInRange (schedule : Schedule) : Type 0 where
+  pub some_step : 1 ≤ schedule.steps
+  pub steps : schedule.steps ≤ 100000000
+  pub some_gap : 1 ≤ schedule.gap
+  pub gap : schedule.gap ≤ 1000000
+  pub tick : schedule.tick ≤ 1000000
+
+-- the plan is what clap found: the command, its texts and its numbers, these in their ranges
+abbrev pub IsPlanOf : Option (Text × List Row) → Plan → Type 0
+IsPlanOf None First = ⊤
+IsPlanOf (Some found) (Asm input output) =
+    (found.0 ≡ codes "asm")
+    × (first_of (codes "IN") found.1 ≡ Some input.now)
+    × (first_of (codes "OUT") found.1 ≡ Some output.now)
+IsPlanOf (Some found) (Run image schedule input) =
+    (found.0 ≡ codes "run")
+    × (first_of (codes "IMAGE") found.1 ≡ Some image.now)
+    × IsScheduleOf found.1 schedule × IsInRange schedule
+    × (first_of (codes "input") found.1 ≡ option_map (λ file. file.now) input)
+IsPlanOf _ _ = ⊥

@@ -1,0 +1,82 @@
+ghost use Rattle.std.specs.Prelude.{◌≡◌, ◌≤◌, ◌×◌, IfOk, IfErr, Some, None, IfSome, true, map, option_map, codes};
+ghost use Rattle.clap.specs.Words.{found_of, rows_of, kind_of, first_of, subcommand_of, subcommand_rows_of, takes};
+ghost use Rattle.clap.specs.declared.error.kind.ErrorKind.{ErrorKind};
+ghost use Rattle.sim_run.specs.CommandLine.{number_of, program, IsPlanOf, IsScheduleOf, IsInRange};
+
+use crate::command_line::program;
+use crate::fault::PlanFault;
+use crate::plans::Plan;
+use crate::schedule::Schedule;
+use clap::error::ErrorKind;
+use clap::{ArgMatches, Error};
+use std::alloc::Global;
+
+/// The number that was found for `id`, where it lies in the range.
+fn number(matches: &ArgMatches<'_>, id: &str, least: u64, most: u64) -> Option<u64>
+    ensures value { IfSome result (λ n. number_of id.now (rows_of (found_of matches.now)) ≡ Some n) }
+    ensures range { IfSome result (λ n. (least ≤ n) × (n ≤ most)) }
+{
+    let number = matches.get_one::<u64>(id)?;
+    if least <= number && number <= most {
+        Some(number)
+    } else {
+        None
+    }
+}
+
+fn schedule_of(matches: &ArgMatches<'_>) -> Option<Schedule>
+    ensures value { IfSome result (IsScheduleOf (rows_of (found_of matches.now))) }
+    ensures range { IfSome result IsInRange }
+{
+    Some(Schedule {
+        steps: number(matches, "STEPS", 1, 100_000_000)?,
+        gap: number(matches, "gap", 1, 1_000_000)?,
+        tick: number(matches, "tick", 0, 1_000_000)?,
+    })
+}
+
+fn plan_of<'a>(matches: &ArgMatches<'a>) -> Option<Plan<'a>>
+    ensures { IfSome result (IsPlanOf (subcommand_rows_of matches.now)) }
+{
+    match matches.subcommand() {
+        None => Some(Plan::First),
+        Some(("asm", found)) => Some(Plan::Asm {
+            input: found.get_str("IN")?,
+            output: found.get_str("OUT")?,
+        }),
+        Some(("run", found)) => Some(Plan::Run {
+            image: found.get_str("IMAGE")?,
+            schedule: schedule_of(found)?,
+            input: found.get_str("input"),
+        }),
+        Some(_) => None,
+    }
+}
+
+/// The fault for an error of clap's, with its text.
+fn fault_of(alloc: Global, error: Error) -> PlanFault
+    ensures { kind_of error ≡ ErrorKind.OutOfMemory → result ≡ PlanFault.Memory }
+{
+    if error.kind() == ErrorKind::OutOfMemory {
+        return PlanFault::Memory;
+    }
+    match format!(in alloc; "{error}") {
+        Ok(text) => PlanFault::Refused(text),
+        Err(_) => PlanFault::Memory,
+    }
+}
+
+/// Reads the words of a command line, the program's name first.
+pub fn plan<'a>(alloc: Global, words: &'a [&'a str]) -> Result<Plan<'a>, PlanFault>
+    ensures ok { IfOk result (IsPlanOf (subcommand_of program (map (λ word. word.now) words.entry.now))) }
+{
+    let mut command = program(alloc)?;
+    let matches = match command.try_get_matches_from_mut(words) {
+        Ok(matches) => matches,
+        Err(error) => return Err(fault_of(alloc, error)),
+    };
+    match plan_of(&matches) {
+        Some(plan) => Ok(plan),
+        None => Err(fault_of(alloc, command.error(ErrorKind::InvalidValue, "a value is out of range")?)),
+    }
+}
