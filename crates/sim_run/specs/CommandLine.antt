@@ -1,11 +1,12 @@
 -- The command line: the command that clap reads the words by, and what a plan says of clap's matches.
-use Rattle.std.specs.Prelude.{◌≡◌, ◌≤◌, ℕ, List, [], ◌∷◌, Option, Some, None, true, codes, option_map, ⊤}
+use Rattle.std.specs.Prelude.{◌≡◌, ℕ, List, [], ◌∷◌, Option, Some, None, true, codes, option_map, ⊤}
 use Rattle.std.specs.Str.Parse.{digits_value, without_leading_plus}
 use Rattle.clap.specs.Words.{App, Row, Rule, Shape, Text, first_of, one_of, new_app, new_rule, with_rule, with_subcommand}
 use Rattle.clap.specs.declared.builder.value_parser.ValueParser.TheVariants as parser
 use Rattle.sim_run.specs.declared.plans.Plan.{Plan}
 use Rattle.sim_run.specs.declared.plans.Plan.TheVariants.{Asm, Run, First}
 use Rattle.sim_run.specs.declared.schedule.Schedule.{Schedule}
+use Rattle.sim_run.specs.Schedule.{IsInRange}
 
 -- a word that has to stand at its place, and an option --ID VALUE
 abbrev pub operand : Text → Rule
@@ -32,11 +33,13 @@ gap_rule = record (in_range 1 1000000 (named (codes "gap"))) { defaults = codes 
 abbrev pub tick_rule : Rule
 tick_rule = record (in_range 0 1000000 (named (codes "tick"))) { defaults = codes "100" ∷ [] }
 
+-- [--input FILE] [--gap N] [--tick N]
+abbrev pub with_options : App → App
+with_options run = with_rule (with_rule (with_rule run (named (codes "input"))) gap_rule) tick_rule
+
 -- run IMAGE STEPS [--input FILE] [--gap N] [--tick N]
 abbrev pub run_command : App
-run_command =
-    with_rule (with_rule (with_rule (with_rule (with_rule (new_app (codes "run"))
-    (operand (codes "IMAGE"))) steps_rule) (named (codes "input"))) gap_rule) tick_rule
+run_command = with_options (with_rule (with_rule (new_app (codes "run")) (operand (codes "IMAGE"))) steps_rule)
 
 abbrev pub program : App
 program = with_subcommand (with_subcommand (new_app (codes "cherisim")) asm_command.top) run_command.top
@@ -51,24 +54,23 @@ pub record IsScheduleOf (rows : List Row) (schedule : Schedule) : Type 0 where
   pub gap : number_of (codes "gap") rows ≡ Some schedule.gap
   pub tick : number_of (codes "tick") rows ≡ Some schedule.tick
 
--- the ranges of a schedule
-pub record IsInRange (schedule : Schedule) : Type 0 where
-  pub some_step : 1 ≤ schedule.steps
-  pub steps : schedule.steps ≤ 100000000
-  pub some_gap : 1 ≤ schedule.gap
-  pub gap : schedule.gap ≤ 1000000
-  pub tick : schedule.tick ≤ 1000000
+-- the plan is a command with the texts and the numbers that clap found
+abbrev pub IsPlanOfCommand : Text → List Row → Plan → Type 0
+IsPlanOfCommand name rows (Asm input output) =
+    (name ≡ codes "asm")
+    × (first_of (codes "IN") rows ≡ Some input.now) × (first_of (codes "OUT") rows ≡ Some output.now)
+IsPlanOfCommand name rows (Run image schedule input) =
+    (name ≡ codes "run")
+    × (first_of (codes "IMAGE") rows ≡ Some image.now) × IsScheduleOf rows schedule
+    × (first_of (codes "input") rows ≡ option_map (λ file. file.now) input)
+IsPlanOfCommand name rows _ = ⊥
 
--- the plan is what clap found: the command, its texts and its numbers, these in their ranges
+-- the plan is what clap found in the words
 abbrev pub IsPlanOf : Option (Text × List Row) → Plan → Type 0
-IsPlanOf None First = ⊤
-IsPlanOf (Some found) (Asm input output) =
-    (found.0 ≡ codes "asm")
-    × (first_of (codes "IN") found.1 ≡ Some input.now)
-    × (first_of (codes "OUT") found.1 ≡ Some output.now)
-IsPlanOf (Some found) (Run image schedule input) =
-    (found.0 ≡ codes "run")
-    × (first_of (codes "IMAGE") found.1 ≡ Some image.now)
-    × IsScheduleOf found.1 schedule × IsInRange schedule
-    × (first_of (codes "input") found.1 ≡ option_map (λ file. file.now) input)
-IsPlanOf _ _ = ⊥
+IsPlanOf None plan = plan ≡ First
+IsPlanOf (Some found) plan = IsPlanOfCommand found.0 found.1 plan
+
+-- the numbers of a run lie in their ranges
+abbrev pub HasRanges : Plan → Type 0
+HasRanges (Run image schedule input) = IsInRange schedule
+HasRanges _ = ⊤

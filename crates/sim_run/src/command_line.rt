@@ -1,6 +1,7 @@
 ghost use Rattle.std.specs.Prelude.{◌≡◌, ◌≤◌, ◌<◌, ◌^◌, IfOk, true, false, codes};
-ghost use Rattle.clap.specs.Words.{app_of, fields_of, rule_of};
-ghost use Rattle.sim_run.specs.CommandLine.{operand, named, in_range, asm_command, run_command, program, steps_rule, gap_rule, tick_rule};
+ghost use Rattle.clap.specs.Words.{app_of, rule_of};
+ghost use Rattle.clap.specs.declared.builder.command.Command.TheViews.{out-Command};
+ghost use Rattle.sim_run.specs.CommandLine.{operand, named, in_range, asm_command, run_command, with_options, program, steps_rule, gap_rule, tick_rule};
 
 use clap::builder::ValueParser;
 use clap::{Arg, Command};
@@ -70,7 +71,7 @@ fn tick<'a>(alloc: Global) -> Arg<'a>
 
 fn asm_command<'a>(alloc: Global) -> Result<Command<'a>, AllocError>
     ensures app { IfOk result (λ c. app_of c ≡ asm_command) }
-    ensures local { IfOk result (λ c. (fields_of c).has_globals ≡ false) }
+    ensures local { IfOk result (λ c. (out-Command c).has_globals ≡ false) }
 {
     Command::new(alloc, "asm")
         .about("Assembles a text into an image")
@@ -78,9 +79,11 @@ fn asm_command<'a>(alloc: Global) -> Result<Command<'a>, AllocError>
         .arg(operand(alloc, "OUT", "The file that the image is written to"))
 }
 
-fn run_command<'a>(alloc: Global) -> Result<Command<'a>, AllocError>
-    ensures app { IfOk result (λ c. app_of c ≡ run_command) }
-    ensures local { IfOk result (λ c. (fields_of c).has_globals ≡ false) }
+/// Adds the options of `run`.
+fn with_options<'a>(alloc: Global, run: Command<'a>) -> Result<Command<'a>, AllocError>
+    requires { (out-Command run).has_globals ≡ false }
+    ensures app { IfOk result (λ c. app_of c ≡ with_options (app_of run.entry)) }
+    ensures local { IfOk result (λ c. (out-Command c).has_globals ≡ false) }
 {
     let input = named(
         alloc,
@@ -88,13 +91,18 @@ fn run_command<'a>(alloc: Global) -> Result<Command<'a>, AllocError>
         "FILE",
         "The file whose bytes come on the console",
     );
-    Command::new(alloc, "run")
+    run.arg(input)?.arg(gap(alloc))?.arg(tick(alloc))
+}
+
+fn run_command<'a>(alloc: Global) -> Result<Command<'a>, AllocError>
+    ensures app { IfOk result (λ c. app_of c ≡ run_command) }
+    ensures local { IfOk result (λ c. (out-Command c).has_globals ≡ false) }
+{
+    let run = Command::new(alloc, "run")
         .about("Runs an image, and writes the bytes that it sends to standard output")
         .arg(operand(alloc, "IMAGE", "The file with the image"))?
-        .arg(steps(alloc))?
-        .arg(input)?
-        .arg(gap(alloc))?
-        .arg(tick(alloc))
+        .arg(steps(alloc))?;
+    with_options(alloc, run)
 }
 
 /// The command line of the program.

@@ -1,4 +1,5 @@
 ghost use Rattle.std.specs.Prelude.{◌≡◌};
+ghost use Rattle.sim_run.specs.declared.fault.PlanFault.TheVariants.{Memory};
 
 use std::alloc::AllocError;
 
@@ -12,7 +13,7 @@ pub enum PlanFault {
 }
 
 impl From<AllocError> for PlanFault {
-    ghost from_gives = { λ _ fault. fault ≡ PlanFault.Memory };
+    ghost from_gives = { λ _ fault. fault ≡ Memory };
 
     fn from(_error: AllocError) -> PlanFault {
         PlanFault::Memory

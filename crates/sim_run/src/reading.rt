@@ -1,7 +1,8 @@
-ghost use Rattle.std.specs.Prelude.{◌≡◌, ◌≤◌, ◌×◌, IfOk, IfErr, Some, None, IfSome, true, map, option_map, codes};
+ghost use Rattle.std.specs.Prelude.{◌≡◌, ◌≤◌, IfOk, IfErr, Some, None, IfSome, true, map, option_map, codes};
 ghost use Rattle.clap.specs.Words.{found_of, rows_of, kind_of, first_of, subcommand_of, subcommand_rows_of, takes};
 ghost use Rattle.clap.specs.declared.error.kind.ErrorKind.{ErrorKind};
-ghost use Rattle.sim_run.specs.CommandLine.{number_of, program, IsPlanOf, IsScheduleOf, IsInRange};
+ghost use Rattle.sim_run.specs.CommandLine.{number_of, program, HasRanges, IsPlanOf, IsPlanOfCommand, IsScheduleOf};
+ghost use Rattle.sim_run.specs.Schedule.{IsInRange};
 
 use crate::command_line::program;
 use crate::fault::PlanFault;
@@ -35,21 +36,54 @@ fn schedule_of(matches: &ArgMatches<'_>) -> Option<Schedule>
     })
 }
 
+/// The text that was found for `id`.
+fn text<'a>(matches: &ArgMatches<'a>, id: &str) -> Option<&'a str>
+    ensures { option_map (λ s. s.now) result ≡ first_of id.now (rows_of (found_of matches.now)) }
+{
+    matches.get_str(id)
+}
+
+fn asm_plan<'a>(found: &ArgMatches<'a>) -> Option<Plan<'a>>
+    ensures value { IfSome result (IsPlanOfCommand (codes "asm") (rows_of (found_of found.now))) }
+    ensures ranges { IfSome result HasRanges }
+{
+    Some(Plan::Asm {
+        input: text(found, "IN")?,
+        output: text(found, "OUT")?,
+    })
+}
+
+fn run_plan<'a>(found: &ArgMatches<'a>) -> Option<Plan<'a>>
+    ensures value { IfSome result (IsPlanOfCommand (codes "run") (rows_of (found_of found.now))) }
+    ensures ranges { IfSome result HasRanges }
+{
+    Some(Plan::Run {
+        image: text(found, "IMAGE")?,
+        schedule: schedule_of(found)?,
+        input: text(found, "input"),
+    })
+}
+
+fn plan_of_command<'a>(name: &str, found: &ArgMatches<'a>) -> Option<Plan<'a>>
+    ensures value { IfSome result (IsPlanOfCommand name.now (rows_of (found_of found.now))) }
+    ensures ranges { IfSome result HasRanges }
+{
+    if name == "asm" {
+        asm_plan(found)
+    } else if name == "run" {
+        run_plan(found)
+    } else {
+        None
+    }
+}
+
 fn plan_of<'a>(matches: &ArgMatches<'a>) -> Option<Plan<'a>>
-    ensures { IfSome result (IsPlanOf (subcommand_rows_of matches.now)) }
+    ensures value { IfSome result (IsPlanOf (subcommand_rows_of matches.now)) }
+    ensures ranges { IfSome result HasRanges }
 {
     match matches.subcommand() {
         None => Some(Plan::First),
-        Some(("asm", found)) => Some(Plan::Asm {
-            input: found.get_str("IN")?,
-            output: found.get_str("OUT")?,
-        }),
-        Some(("run", found)) => Some(Plan::Run {
-            image: found.get_str("IMAGE")?,
-            schedule: schedule_of(found)?,
-            input: found.get_str("input"),
-        }),
-        Some(_) => None,
+        Some((name, found)) => plan_of_command(name, found),
     }
 }
 
@@ -69,6 +103,7 @@ fn fault_of(alloc: Global, error: Error) -> PlanFault
 /// Reads the words of a command line, the program's name first.
 pub fn plan<'a>(alloc: Global, words: &'a [&'a str]) -> Result<Plan<'a>, PlanFault>
     ensures ok { IfOk result (IsPlanOf (subcommand_of program (map (λ word. word.now) words.entry.now))) }
+    ensures ranges { IfOk result HasRanges }
 {
     let mut command = program(alloc)?;
     let matches = match command.try_get_matches_from_mut(words) {

@@ -1,8 +1,4 @@
-use crate::{Plan, plan};
+//! Values from the rules of the command line and the schedule, not from their definitions.
 
-#[test]
-fn reads(rt: HostRuntime) {
-    let words = ["cherisim", "asm", "a.s", "b.img"];
-    let planned = plan(rt.alloc(), &words);
-    assert!(rt; matches!(planned, Ok(Plan::Asm { input: "a.s", output: "b.img" })));
-}
+mod plans;
+mod runs;
