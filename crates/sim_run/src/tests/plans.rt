@@ -3,25 +3,35 @@
 use crate::{Plan, PlanFault, Schedule, plan};
 use std::test::Fail;
 
-/// `run` of `hello.img` with nothing but its steps.
-const fn plain_run(steps: u64) -> Plan<'static> {
-    scheduled_run(steps, 1000, 100, None)
-}
+/// Words of `run` with `hello.img`; the steps, the gap and the tick; and the input.
+type RunCase = (&'static [&'static str], [u64; 3], Option<&'static str>);
 
-const fn scheduled_run(
-    steps: u64,
-    gap: u64,
-    tick: u64,
-    input: Option<&'static str>,
-) -> Plan<'static> {
-    Plan::Run {
-        image: "hello.img",
-        schedule: Schedule { steps, gap, tick },
-        input,
-    }
-}
+static RUNS: &[RunCase] = &[
+    (&["cherisim", "run", "hello.img", "5"], [5, 1000, 100], None),
+    (&["cherisim", "run", "hello.img", "1"], [1, 1000, 100], None),
+    (
+        &["cherisim", "run", "hello.img", "100000000"],
+        [100_000_000, 1000, 100],
+        None,
+    ),
+    (
+        &["cherisim", "run", "hello.img", "22", "--input", "keys", "--gap", "1"],
+        [22, 1, 100],
+        Some("keys"),
+    ),
+    (
+        &["cherisim", "run", "--gap=1000000", "--tick=1000000", "hello.img", "22"],
+        [22, 1_000_000, 1_000_000],
+        None,
+    ),
+    (
+        &["cherisim", "run", "hello.img", "22", "--tick", "0"],
+        [22, 1000, 0],
+        None,
+    ),
+];
 
-static PLANS: &[(&[&str], Plan<'static>)] = &[
+static OTHERS: &[(&[&str], Plan<'static>)] = &[
     (&["cherisim"], Plan::First),
     (
         &["cherisim", "asm", "hello.s", "hello.img"],
@@ -30,29 +40,26 @@ static PLANS: &[(&[&str], Plan<'static>)] = &[
             output: "hello.img",
         },
     ),
-    (&["cherisim", "run", "hello.img", "5"], plain_run(5)),
-    (&["cherisim", "run", "hello.img", "1"], plain_run(1)),
-    (
-        &["cherisim", "run", "hello.img", "100000000"],
-        plain_run(100_000_000),
-    ),
-    (
-        &["cherisim", "run", "hello.img", "22", "--input", "keys", "--gap", "1"],
-        scheduled_run(22, 1, 100, Some("keys")),
-    ),
-    (
-        &["cherisim", "run", "--gap=1000000", "--tick=1000000", "hello.img", "22"],
-        scheduled_run(22, 1_000_000, 1_000_000, None),
-    ),
-    (
-        &["cherisim", "run", "hello.img", "22", "--tick", "0"],
-        scheduled_run(22, 1000, 0, None),
-    ),
 ];
 
 #[test]
 fn the_words_of_each_command_are_its_plan(rt: HostRuntime) {
-    for (words, expected) in PLANS {
+    for (words, [steps, gap, tick], input) in RUNS {
+        let expected = Plan::Run {
+            image: "hello.img",
+            schedule: Schedule {
+                steps: *steps,
+                gap: *gap,
+                tick: *tick,
+            },
+            input: *input,
+        };
+        match plan(rt.alloc(), words) {
+            Ok(planned) => assert_eq!(rt; planned, expected, "{words:?}"),
+            Err(fault) => panic!(rt; "{words:?}: {fault:?}"),
+        }
+    }
+    for (words, expected) in OTHERS {
         match plan(rt.alloc(), words) {
             Ok(planned) => assert_eq!(rt; planned, *expected, "{words:?}"),
             Err(fault) => panic!(rt; "{words:?}: {fault:?}"),
