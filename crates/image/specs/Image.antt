@@ -1,5 +1,6 @@
 -- Images: what a machine begins with.
 use Rattle.std.specs.Prelude.{◌≡◌, ℕ, ◌+◌, ◌*◌, ◌%◌, Bool, not, ◌&&◌, ◌||◌, ◌==◌, nat_lt, nat_le, if◌then◌else◌, List, [], ◌∷◌, length, map, Option, Some, None, Result, Ok, Err}
+use Rattle.std.specs.Option.{option_or}
 use Rattle.std.specs.Borrow.{Bor}
 use Rattle.image.specs.declared.fault.ImageFault.{ImageFault}
 use Rattle.image.specs.declared.fault.ImageFault.TheVariants.{L4, L5, L6, L7, L11}
@@ -30,12 +31,18 @@ is_good_header pages entry mode =
     && ((entry % 4 == 0) && (nat_le ram_base entry && nat_le (entry + 4) (ram_end pages)))
     && nat_le mode 1
 
--- The first fault of sections, of which the one before ended at `free`: outside RAM, or not behind the one before.
+-- The fault of a section at this address with so many bytes, where the one before it ended at `free`: outside RAM, or not
+-- behind the one before.
+unfoldable pub span_fault : ℕ → ℕ → ℕ → ℕ → Option ImageFault
+span_fault pages free address size =
+    if nat_lt address ram_base || nat_lt (ram_end pages) (address + size) then Some L6
+    else (if nat_lt address free then Some L7 else None)
+
+-- The first fault of sections, of which the one before ended at `free`.
 abbrev pub sections_fault : ℕ → ℕ → List Section → Option ImageFault
 sections_fault pages free [] = None
 sections_fault pages free (s ∷ ss) =
-    if nat_lt s.address ram_base || nat_lt (ram_end pages) (s.address + length s.bytes) then Some L6
-    else (if nat_lt s.address free then Some L7 else sections_fault pages (s.address + length s.bytes) ss)
+    option_or (span_fault pages free s.address (length s.bytes)) (sections_fault pages (s.address + length s.bytes) ss)
 
 -- The first fault of what an image is to be made of: its header, more than 64 sections, its sections in order.
 unfoldable pub build_fault : ℕ → ℕ → ℕ → List Section → Option ImageFault

@@ -1,3 +1,5 @@
 pub mod Devices
 pub mod Image
 pub mod ImageLaws
+pub mod Grammar
+pub mod Reads

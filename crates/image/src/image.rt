@@ -1,5 +1,6 @@
-ghost use Rattle.std.specs.Prelude.{◌≡◌, ◌<◌, ◌≤◌, IfOk, length};
-ghost use Rattle.image.specs.Image.{IsImage, Builds, build_fault, image_of, lent_sections, lent_section, is_good_header, sections_fault, ram_end};
+ghost use Rattle.std.specs.Prelude.{◌≡◌, ◌<◌, ◌≤◌, ◌+◌, IfOk, IfNone, IfSome, None, length};
+ghost use Rattle.image.specs.Image.{IsImage, Builds, build_fault, span_fault, image_of, lent_sections, lent_section, is_good_header, sections_fault, ram_end};
+ghost use Rattle.image.specs.Reads.{IsOfBytes};
 
 use crate::fault::ImageFault;
 use crate::section::Section;
@@ -37,7 +38,7 @@ fn ram_end_of(pages: u32) -> u64
 
 /// The first fault of an image's header.
 #[tactic(auto, unfolding(crate::specs::Image::is_good_header))]
-fn is_good(pages: u32, entry: u64, mode: u32) -> bool
+pub(crate) fn is_good(pages: u32, entry: u64, mode: u32) -> bool
     ensures { result ≡ is_good_header pages entry mode }
 {
     let end = ram_end_of(pages);
@@ -48,21 +49,34 @@ fn is_good(pages: u32, entry: u64, mode: u32) -> bool
         && mode <= 1
 }
 
+/// The fault of a section at `address` with `size` bytes, where the one before it ended at `free`.
+#[tactic(auto, unfolding(crate::specs::Image::span_fault))]
+pub(crate) fn fault_of_span(pages: u32, free: u64, address: u64, size: u64) -> Option<ImageFault>
+    ensures value { result ≡ span_fault pages free address size }
+    ensures fault { IfSome result IsOfBytes }
+    ensures inside { IfNone result (address + size ≤ ram_end pages) }
+{
+    let end = ram_end_of(pages);
+    if address < RAM_BASE || address > end || size > end - address {
+        return Some(ImageFault::L6);
+    }
+    if address < free {
+        return Some(ImageFault::L7);
+    }
+    None
+}
+
 /// The first fault of sections that nothing stands before.
 fn fault_of_sections(pages: u32, sections: &[(u64, &[u8])]) -> Option<ImageFault>
     ensures { result ≡ sections_fault pages 0 (lent_sections sections.now) }
 {
-    let end = ram_end_of(pages);
     let mut free = 0;
     for (address, bytes) in sections {
-        let length = bytes.len() as u64;
-        if *address < RAM_BASE || *address > end || length > end - *address {
-            return Some(ImageFault::L6);
+        let size = bytes.len() as u64;
+        if let Some(fault) = fault_of_span(pages, free, *address, size) {
+            return Some(fault);
         }
-        if *address < free {
-            return Some(ImageFault::L7);
-        }
-        free = *address + length;
+        free = *address + size;
     }
     None
 }
@@ -79,6 +93,19 @@ fn copies(alloc: Global, sections: &[(u64, &[u8])]) -> Result<Vec<Section>, Allo
 }
 
 impl Image {
+    /// An image of these parts, which have no fault.
+    pub(crate) fn new(pages: u32, entry: u64, mode: u32, sections: Vec<Section>) -> Self
+        requires { build_fault pages entry mode sections.items ≡ None }
+        ensures { result ≡ image_of pages entry mode sections.items }
+    {
+        Image {
+            pages,
+            entry,
+            mode: mode == 1,
+            sections,
+        }
+    }
+
     /// An image of `pages` pages (1 to 4096) that begins at `entry`, in integer mode (0) or capability mode (1), with at most
     /// 64 sections in ascending order.
     ///
@@ -104,12 +131,7 @@ impl Image {
             return Err(fault);
         }
         match copies(alloc, sections) {
-            Ok(sections) => Ok(Image {
-                pages,
-                entry,
-                mode: mode == 1,
-                sections,
-            }),
+            Ok(sections) => Ok(Image::new(pages, entry, mode, sections)),
             Err(_) => Err(ImageFault::L11),
         }
     }

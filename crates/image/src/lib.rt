@@ -5,6 +5,8 @@ mod devices;
 mod fault;
 mod image;
 mod over_std;
+mod parts;
+mod reading;
 mod section;
 #[cfg(test)]
 mod tests;

@@ -19,6 +19,14 @@ impl Model for Section {
 }
 
 impl Section {
+    /// A section of these bytes.
+    pub(crate) fn new(address: u64, bytes: Vec<u8>) -> Self
+        ensures address { result.address ≡ address }
+        ensures bytes { result.bytes ≡ bytes.items }
+    {
+        Section { address, bytes }
+    }
+
     /// A section with a copy of these bytes.
     pub(crate) fn copied(alloc: Global, address: u64, bytes: &[u8]) -> Result<Self, AllocError>
         ensures address { IfOk result (λ s. s.address ≡ address) }

@@ -1,0 +1,4 @@
+mod Taking
+mod Going
+mod Valid
+mod Ending

@@ -1,0 +1,108 @@
+-- Images as bytes, version 1. All numbers are little-endian.
+use Rattle.std.specs.Prelude.{◌≡◌, ℕ, zero, suc, ◌+◌, Bool, not, ◌==◌, nat_eq, nat_lt, if◌then◌else◌, List, [], ◌∷◌, ◌++◌, length, take, drop, Option, Some, None, Result, Ok, Err, codes}
+use Rattle.std.specs.List.{flat_map, starts_with}
+use Rattle.byteorder.specs.Endian.{little_bytes, little_number}
+use Rattle.image.specs.declared.fault.ImageFault.{ImageFault}
+use Rattle.image.specs.declared.fault.ImageFault.TheVariants.{L1, L2, L3, L4, L5, L8, L9}
+use Rattle.image.specs.declared.parts.Header.{Header}
+use Rattle.image.specs.declared.parts.Span.{Span}
+use Rattle.image.specs.Image.{Image, Section, IsImage, image_of, is_good_header, mode_number, span_fault}
+
+-- ---- the spelling of an image
+
+-- the first 8 bytes
+abbrev pub magic : List ℕ
+magic = codes "CHERIIMG"
+
+-- 32 bytes: the magic, the version, the pages, the entry, the count of sections and the mode
+abbrev pub header_bytes : ℕ → ℕ → ℕ → ℕ → List ℕ
+header_bytes pages entry count mode =
+    magic ++ (little_bytes 4 1 ++ (little_bytes 4 pages ++ (little_bytes 8 entry ++ (little_bytes 4 count ++ little_bytes 4 mode))))
+
+-- 16 bytes: where a section lies, and how many bytes it has
+abbrev pub span_bytes : ℕ → ℕ → List ℕ
+span_bytes address size = little_bytes 8 address ++ little_bytes 8 size
+
+abbrev pub section_bytes : Section → List ℕ
+section_bytes s = span_bytes s.address (length s.bytes) ++ s.bytes
+
+unfoldable pub spelling : Image → List ℕ
+spelling i = header_bytes i.pages i.entry (length i.sections) (mode_number i.mode) ++ flat_map section_bytes i.sections
+
+-- These bytes are the image, each of them.
+abbrev pub IsSpelling : List ℕ → Image → Type 0
+IsSpelling bytes image = IsImage image × (bytes ≡ spelling image)
+
+-- ---- the reading of bytes, with the first fault in order
+
+infixl 10 ◌>>=◌
+abbrev pub ◌>>=◌ : {A B : Type 0} → Result A ImageFault → (A → Result B ImageFault) → Result B ImageFault
+(Ok x) >>= f = f x
+(Err fault) >>= f = Err fault
+
+-- the value, unless there is a fault
+abbrev pub unless : {A : Type 0} → Option ImageFault → A → Result A ImageFault
+unless None x = Ok x
+unless (Some fault) x = Err fault
+
+-- the number in so many bytes from a place on
+abbrev pub number_at : ℕ → ℕ → List ℕ → ℕ
+number_at place size bytes = little_number size (take size (drop place bytes))
+
+-- so many bytes and the rest, or the fault that they are cut short
+abbrev pub taken : ℕ → ImageFault → List ℕ → Result (List ℕ × List ℕ) ImageFault
+taken size cut_short bytes = if nat_lt (length bytes) size then Err cut_short else Ok (take size bytes, drop size bytes)
+
+-- the first fault of the 32 bytes of a header
+unfoldable pub header_fault : List ℕ → Option ImageFault
+header_fault bytes =
+    if not (starts_with nat_eq bytes magic) then Some L2
+    else (if not (number_at 8 4 bytes == 1) then Some L3
+    else (if not (is_good_header (number_at 12 4 bytes) (number_at 16 8 bytes) (number_at 28 4 bytes)) then Some L4
+    else (if nat_lt 64 (number_at 24 4 bytes) then Some L5 else None)))
+
+abbrev pub header_of : List ℕ → Header
+header_of bytes = record { pages = number_at 12 4 bytes; entry = number_at 16 8 bytes; count = number_at 24 4 bytes; mode = number_at 28 4 bytes }
+
+-- the header in front, and the rest
+unfoldable pub header_at : List ℕ → Result (Header × List ℕ) ImageFault
+header_at bytes = do
+  front ← taken 32 L1 bytes
+  header ← unless (header_fault front.0) (header_of front.0)
+  Ok (header, front.1)
+
+-- where the section in front lies, if the one before it ended at `free`, and the rest
+unfoldable pub span_at : ℕ → ℕ → List ℕ → Result (Span × List ℕ) ImageFault
+span_at pages free bytes = do
+  front ← taken 16 L8 bytes
+  span ← unless (span_fault pages free (number_at 0 8 front.0) (number_at 8 8 front.0))
+    (record { address = number_at 0 8 front.0; size = number_at 8 8 front.0 })
+  Ok (span, front.1)
+
+-- the section in front, and the rest
+unfoldable pub section_at : ℕ → ℕ → List ℕ → Result (Section × List ℕ) ImageFault
+section_at pages free bytes = do
+  span ← span_at pages free bytes
+  body ← taken span.0.size L8 span.1
+  Ok (record { address = span.0.address; bytes = body.0 }, body.1)
+
+-- so many sections in order, and the rest
+unfoldable pub sections_at : ℕ → ℕ → ℕ → List ℕ → Result (List Section × List ℕ) ImageFault
+sections_at pages zero free bytes = Ok ([], bytes)
+sections_at pages (suc n) free bytes = do
+  first ← section_at pages free bytes
+  others ← sections_at pages n (first.0.address + length first.0.bytes) first.1
+  Ok (first.0 ∷ others.0, others.1)
+
+-- the image in front, and the rest
+unfoldable pub image_at : List ℕ → Result (Image × List ℕ) ImageFault
+image_at bytes = do
+  header ← header_at bytes
+  sections ← sections_at header.0.pages header.0.count 0 header.1
+  Ok (image_of header.0.pages header.0.entry header.0.mode sections.0, sections.1)
+
+-- the image that the bytes are, each of them
+unfoldable pub reading : List ℕ → Result Image ImageFault
+reading bytes = do
+  image ← image_at bytes
+  if length image.1 == 0 then Ok image.0 else Err L9

@@ -1,0 +1,176 @@
+//! Images from a source.
+
+ghost use Rattle.std.specs.Prelude.{◌≡◌, ◌+◌, ◌-◌, ◌^◌, ◌<◌, ◌≤◌, length, take, IfOk, IfErr, OnOk, OnErr, IfSome, vec_len};
+ghost use Rattle.std.specs.Io.KnownBytes.{Consumes, IsAtEnd};
+ghost use Rattle.image.specs.declared.fault.ImageFault.TheVariants.{L8, L9};
+ghost use Rattle.image.specs.Devices.{Counts};
+ghost use Rattle.image.specs.Image.{ram_end};
+ghost use Rattle.image.specs.Grammar.{taken, header_at, span_at, section_at, sections_at, image_at, reading};
+ghost use Rattle.image.specs.Reads.{IsOfBytes, IsNotAtEnd, Answers, ConsumesBeginning, CountsL10, Takes};
+
+use crate::devices::{DeviceFailed, Source};
+use crate::fault::ImageFault;
+use crate::image::Image;
+use crate::parts::{Header, Span, header_in, span_in};
+use crate::section::Section;
+use std::alloc::Global;
+
+/// Fills the beginning of `buffer` as far as the source has bytes, and answers how many.
+fn fill<R: Source>(source: &mut R, buffer: &mut [u8]) -> Result<usize, DeviceFailed>
+    requires { R.failed source.old < 2 ^ 64 - 1 }
+    ensures within { IfOk result (λ n. n ≤ length buffer.new) }
+    ensures ok { IfOk result (λ n. Consumes (R.left source.old) (R.left source.new) (take n buffer.new)) }
+    ensures end { IfOk result (λ n. n < length buffer.new → IsAtEnd (R.left source.new)) }
+    ensures err { OnErr result (ConsumesBeginning (R.left source.old) (R.left source.new)) }
+    ensures count { Counts (R.failed source.old) (R.failed source.new) result }
+{
+    let mut at = 0;
+    while at < buffer.len() {
+        let count = source.read(&mut buffer[at..])?;
+        if count == 0 {
+            return Ok(at);
+        }
+        at += count;
+    }
+    Ok(at)
+}
+
+/// The next bytes of the source, or `cut_short` if it has fewer than `N`.
+fn next<R: Source, const N: usize>(
+    source: &mut R,
+    cut_short: ImageFault,
+) -> Result<[u8; N], ImageFault>
+    requires count { R.failed source.old < 2 ^ 64 - 1 }
+    requires fault { IsOfBytes cut_short }
+    ensures part { Takes (λ bytes. bytes) (taken N cut_short) (R.left source.old) (R.left source.new) result }
+    ensures count { CountsL10 (R.failed source.old) (R.failed source.new) result }
+{
+    let mut buffer = [0; N];
+    let count = fill(source, &mut buffer)?;
+    if count < N {
+        return Err(cut_short);
+    }
+    Ok(buffer)
+}
+
+/// The next `size` bytes of the source.
+fn body<R: Source>(alloc: Global, source: &mut R, size: u64) -> Result<Vec<u8>, ImageFault>
+    requires { R.failed source.old < 2 ^ 64 - 1 }
+    ensures size { IfOk result (λ v. vec_len v ≡ size) }
+    ensures part { Takes (λ v. v.items) (taken size L8) (R.left source.old) (R.left source.new) result }
+    ensures count { CountsL10 (R.failed source.old) (R.failed source.new) result }
+{
+    let mut bytes = vec![in alloc; 0; size as usize]?;
+    let count = fill(source, &mut bytes)?;
+    if count < bytes.len() {
+        return Err(ImageFault::L8);
+    }
+    Ok(bytes)
+}
+
+/// The header in front.
+#[tactic(auto, unfolding(crate::specs::Grammar::header_at))]
+fn header<R: Source>(source: &mut R) -> Result<Header, ImageFault>
+    requires { R.failed source.old < 2 ^ 64 - 1 }
+    ensures part { Takes (λ header. header) header_at (R.left source.old) (R.left source.new) result }
+    ensures count { CountsL10 (R.failed source.old) (R.failed source.new) result }
+{
+    let bytes = next(source, ImageFault::L1)?;
+    header_in(&bytes)
+}
+
+/// Where the section in front lies, if the one before it ended at `free`.
+#[tactic(auto, unfolding(crate::specs::Grammar::span_at))]
+fn span<R: Source>(source: &mut R, pages: u32, free: u64) -> Result<Span, ImageFault>
+    requires { R.failed source.old < 2 ^ 64 - 1 }
+    ensures part { Takes (λ span. span) (span_at pages free) (R.left source.old) (R.left source.new) result }
+    ensures inside { IfOk result (λ span. span.address + span.size ≤ ram_end pages) }
+    ensures count { CountsL10 (R.failed source.old) (R.failed source.new) result }
+{
+    let bytes = next(source, ImageFault::L8)?;
+    span_in(&bytes, pages, free)
+}
+
+/// The section in front, if the one before it ended at `free`. Its bytes are asked for once it is known to lie in RAM.
+#[tactic(auto, unfolding(crate::specs::Grammar::section_at))]
+fn section<R: Source>(
+    alloc: Global,
+    source: &mut R,
+    pages: u32,
+    free: u64,
+) -> Result<Section, ImageFault>
+    requires { R.failed source.old < 2 ^ 64 - 1 }
+    ensures part { Takes (λ section. section) (section_at pages free) (R.left source.old) (R.left source.new) result }
+    ensures inside { IfOk result (λ s. s.address + length s.bytes ≤ ram_end pages) }
+    ensures count { CountsL10 (R.failed source.old) (R.failed source.new) result }
+{
+    let span = span(source, pages, free)?;
+    let bytes = body(alloc, source, span.size)?;
+    Ok(Section::new(span.address, bytes))
+}
+
+/// So many sections in order.
+fn sections<R: Source>(
+    alloc: Global,
+    source: &mut R,
+    pages: u32,
+    count: u32,
+) -> Result<Vec<Section>, ImageFault>
+    requires { R.failed source.old < 2 ^ 64 - 1 }
+    ensures part { Takes (λ v. v.items) (sections_at pages count 0) (R.left source.old) (R.left source.new) result }
+    ensures count { CountsL10 (R.failed source.old) (R.failed source.new) result }
+{
+    let mut sections = Vec::new(alloc);
+    let mut free = 0;
+    for _ in 0..count {
+        let section = section(alloc, source, pages, free)?;
+        free = section.address() + section.bytes().len() as u64;
+        sections.push(section)?;
+    }
+    Ok(sections)
+}
+
+/// The image in front.
+#[tactic(auto, unfolding(crate::specs::Grammar::image_at))]
+fn front<R: Source>(alloc: Global, source: &mut R) -> Result<Image, ImageFault>
+    requires { R.failed source.old < 2 ^ 64 - 1 }
+    ensures part { Takes (λ image. image) image_at (R.left source.old) (R.left source.new) result }
+    ensures count { CountsL10 (R.failed source.old) (R.failed source.new) result }
+{
+    let header = header(source)?;
+    let sections = sections(alloc, source, header.pages, header.count)?;
+    Ok(Image::new(header.pages, header.entry, header.mode, sections))
+}
+
+/// That the source has no byte left, or else L9.
+fn end<R: Source>(source: &mut R) -> Result<(), ImageFault>
+    requires { R.failed source.old < 2 ^ 64 - 1 }
+    ensures ok { OnOk result (IsAtEnd (R.left source.old)) }
+    ensures end { OnOk result (IsAtEnd (R.left source.new)) }
+    ensures more { IfErr result (λ fault. IsOfBytes fault → (fault ≡ L9) × IsNotAtEnd (R.left source.old)) }
+    ensures beginning { ConsumesBeginning (R.left source.old) (R.left source.new) }
+    ensures count { CountsL10 (R.failed source.old) (R.failed source.new) result }
+{
+    let mut one = [0];
+    if fill(source, &mut one)? > 0 {
+        return Err(ImageFault::L9);
+    }
+    Ok(())
+}
+
+/// Reads an image, to the end of the source.
+///
+/// The first of these, in this order: L1 to L5 of the header; for each section its 16 bytes L8, L6, L7 and its bytes L8; L9.
+/// L10, where a call of the source failed, and L11, no memory, may come in place of any check not yet made. A refusal has
+/// taken some beginning of the bytes.
+pub fn read<R: Source>(alloc: Global, source: &mut R) -> Result<Image, ImageFault>
+    requires { R.failed source.old < 2 ^ 64 - 1 }
+    ensures value { IfSome (R.left source.old) (λ bytes. Answers (reading bytes) result) }
+    ensures end { OnOk result (IsAtEnd (R.left source.new)) }
+    ensures beginning { ConsumesBeginning (R.left source.old) (R.left source.new) }
+    ensures count { CountsL10 (R.failed source.old) (R.failed source.new) result }
+{
+    let image = front(alloc, source)?;
+    end(source)?;
+    Ok(image)
+}
