@@ -1,6 +1,6 @@
 //! The faults that end the program with status 3, and their texts.
 
-use image::ImageFault;
+use image::{DeviceFailed, ImageFault};
 use machine::MachineFault;
 use std::io;
 use thiserror::Error;
@@ -16,16 +16,16 @@ pub enum ProgramFault<'a> {
     Read,
     /// A byte could not be written.
     #[error("write failed")]
-    Write,
+    Write(#[from] DeviceFailed),
     /// No memory for a file's bytes or for the words of the command line.
     #[error("no memory")]
     Memory,
     /// An image file is none, or could not be read or written.
     #[error("{}", image_text(.0))]
-    Image(ImageFault),
+    Image(#[from] ImageFault),
     /// No machine could be made.
     #[error("{}", machine_text(.0))]
-    Machine(MachineFault),
+    Machine(#[from] MachineFault),
     /// A command that is not there yet.
     #[error("not there yet")]
     Missing,

@@ -22,5 +22,5 @@ pub fn read_image<'a>(rt: &HostRuntime, name: &'a str) -> Result<Image, ProgramF
     let Ok(file) = fs::open(rt, name) else {
         return Err(ProgramFault::File(name));
     };
-    image::read(rt.alloc(), &mut FromRead::new(file)).map_err(ProgramFault::Image)
+    Ok(image::read(rt.alloc(), &mut FromRead::new(file))?)
 }

@@ -28,10 +28,9 @@ fn run_machine<'a>(
 ) -> Result<End, ProgramFault<'a>>
     requires { IsInRange schedule }
 {
-    let mut machine: Machine<PlainCap> =
-        Machine::new(rt.alloc(), image).map_err(ProgramFault::Machine)?;
+    let mut machine: Machine<PlainCap> = Machine::new(rt.alloc(), image)?;
     let mut output = ToWrite::new(io::writer(rt));
-    run_scheduled(&mut machine, schedule, input, &mut output).map_err(|_| ProgramFault::Write)
+    Ok(run_scheduled(&mut machine, schedule, input, &mut output)?)
 }
 
 /// Runs the image of a file, with the bytes of the file `input` on its console.
@@ -53,8 +52,7 @@ pub fn run_file<'a>(
 
 /// Runs the first image for its five steps: it sends `A` and halts with 0.
 pub fn run_first<'a>(rt: &HostRuntime) -> Result<End, ProgramFault<'a>> {
-    let image = Image::build(rt.alloc(), 1, ENTRY, 0, &[(ENTRY, &FIRST)])
-        .map_err(ProgramFault::Image)?;
+    let image = Image::build(rt.alloc(), 1, ENTRY, 0, &[(ENTRY, &FIRST)])?;
     let schedule = Schedule {
         steps: 5,
         gap: 1000,

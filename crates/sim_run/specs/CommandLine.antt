@@ -1,6 +1,6 @@
 -- The command line: the command that clap reads the words by, and what a plan says of clap's matches.
 use Rattle.std.specs.Prelude.{◌≡◌, ℕ, List, [], ◌∷◌, Option, Some, None, true, codes, option_map, ⊤}
-use Rattle.std.specs.Str.Parse.{digits_value, without_leading_plus}
+use Rattle.std.specs.Str.Parse.{IsNumeral, digits_value, without_leading_plus}
 use Rattle.clap.specs.Words.{App, Row, Rule, Shape, Text, first_of, one_of, new_app, new_rule, with_rule, with_subcommand}
 use Rattle.clap.specs.declared.builder.value_parser.ValueParser.TheVariants as parser
 use Rattle.sim_run.specs.declared.plans.Plan.{Plan}
@@ -44,15 +44,18 @@ run_command = with_options (with_rule (with_rule (new_app (codes "run")) (operan
 abbrev pub program : App
 program = with_subcommand (with_subcommand (new_app (codes "cherisim")) asm_command.top) run_command.top
 
--- a number that clap found for an argument
-abbrev pub number_of : Text → List Row → Option ℕ
-number_of id rows = option_map (λ text. digits_value 10 (without_leading_plus text)) (one_of id rows)
+-- clap found the number for an argument, in decimal digits
+pub record IsNumber (id : Text) (rows : List Row) (number : ℕ) : Type 0 where
+  pub text : Text
+  pub found : one_of id rows ≡ Some text
+  pub numeral : IsNumeral 10 (without_leading_plus text)
+  pub value : number ≡ digits_value 10 (without_leading_plus text)
 
 -- the numbers of a schedule are those that clap found
 pub record IsScheduleOf (rows : List Row) (schedule : Schedule) : Type 0 where
-  pub steps : number_of (codes "STEPS") rows ≡ Some schedule.steps
-  pub gap : number_of (codes "gap") rows ≡ Some schedule.gap
-  pub tick : number_of (codes "tick") rows ≡ Some schedule.tick
+  pub steps : IsNumber (codes "STEPS") rows schedule.steps
+  pub gap : IsNumber (codes "gap") rows schedule.gap
+  pub tick : IsNumber (codes "tick") rows schedule.tick
 
 -- the plan is a command with the texts and the numbers that clap found
 abbrev pub IsPlanOfCommand : Text → List Row → Plan → Type 0
@@ -74,3 +77,10 @@ IsPlanOf (Some found) plan = IsPlanOfCommand found.0 found.1 plan
 abbrev pub HasRanges : Plan → Type 0
 HasRanges (Run image schedule input) = IsInRange schedule
 HasRanges _ = ⊤
+
+-- nothing that clap found is a plan in its ranges
+abbrev pub NoCommandFits : Text → List Row → Type 0
+NoCommandFits name rows = (plan : Plan) → IsPlanOfCommand name rows plan → HasRanges plan → ⊥
+
+abbrev pub NoPlanFits : Option (Text × List Row) → Type 0
+NoPlanFits found = (plan : Plan) → IsPlanOf found plan → HasRanges plan → ⊥

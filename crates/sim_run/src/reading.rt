@@ -1,8 +1,10 @@
-ghost use Rattle.std.specs.Prelude.{◌≡◌, ◌≤◌, IfOk, IfErr, Some, None, IfSome, true, map, option_map, codes};
+ghost use Rattle.std.specs.Prelude.{◌≡◌, ◌<◌, ◌^◌, ℕ, IfOk, IfNone, IfErr, Some, None, IfSome, true, map, option_map, codes};
 ghost use Rattle.clap.specs.Words.{found_of, rows_of, kind_of, first_of, subcommand_of, subcommand_rows_of, takes};
 ghost use Rattle.clap.specs.declared.error.kind.ErrorKind.{ErrorKind};
-ghost use Rattle.sim_run.specs.CommandLine.{number_of, program, HasRanges, IsPlanOf, IsPlanOfCommand, IsScheduleOf};
+ghost use Rattle.sim_run.specs.CommandLine.{program, HasRanges, IsNumber, IsPlanOf, IsPlanOfCommand, IsScheduleOf, NoCommandFits, NoPlanFits};
 ghost use Rattle.sim_run.specs.Schedule.{IsInRange};
+ghost use Rattle.sim_run.specs.declared.fault.PlanFault.TheVariants.{Memory};
+ghost use Rattle.sim_run.specs.declared.schedule.Schedule.{Schedule};
 
 use crate::command_line::program;
 use crate::fault::PlanFault;
@@ -12,28 +14,31 @@ use clap::error::ErrorKind;
 use clap::{ArgMatches, Error};
 use std::alloc::Global;
 
-/// The number that was found for `id`, where it lies in the range.
-fn number(matches: &ArgMatches<'_>, id: &str, least: u64, most: u64) -> Option<u64>
-    ensures value { IfSome result (λ n. number_of id.now (rows_of (found_of matches.now)) ≡ Some n) }
-    ensures range { IfSome result (λ n. (least ≤ n) × (n ≤ most)) }
+/// The number that was found for `id`.
+fn number(matches: &ArgMatches<'_>, id: &str) -> Option<u64>
+    ensures some { IfSome result (IsNumber id.now (rows_of (found_of matches.now))) }
+    ensures none { IfNone result ((n : ℕ) → n < 2 ^ 64 → IsNumber id.now (rows_of (found_of matches.now)) n → ⊥) }
 {
-    let number = matches.get_one::<u64>(id)?;
-    if least <= number && number <= most {
-        Some(number)
-    } else {
-        None
-    }
+    matches.get_one::<u64>(id)
 }
 
+/// The numbers that were found for a schedule, where they are in their ranges.
 fn schedule_of(matches: &ArgMatches<'_>) -> Option<Schedule>
     ensures value { IfSome result (IsScheduleOf (rows_of (found_of matches.now))) }
     ensures range { IfSome result IsInRange }
+    ensures none { IfNone result ((schedule : Schedule) → IsScheduleOf (rows_of (found_of matches.now)) schedule
+        → IsInRange schedule → ⊥) }
 {
-    Some(Schedule {
-        steps: number(matches, "STEPS", 1, 100_000_000)?,
-        gap: number(matches, "gap", 1, 1_000_000)?,
-        tick: number(matches, "tick", 0, 1_000_000)?,
-    })
+    let schedule = Schedule {
+        steps: number(matches, "STEPS")?,
+        gap: number(matches, "gap")?,
+        tick: number(matches, "tick")?,
+    };
+    if schedule.is_in_range() {
+        Some(schedule)
+    } else {
+        None
+    }
 }
 
 /// The text that was found for `id`.
@@ -46,6 +51,7 @@ fn text<'a>(matches: &ArgMatches<'a>, id: &str) -> Option<&'a str>
 fn asm_plan<'a>(found: &ArgMatches<'a>) -> Option<Plan<'a>>
     ensures value { IfSome result (IsPlanOfCommand (codes "asm") (rows_of (found_of found.now))) }
     ensures ranges { IfSome result HasRanges }
+    ensures none { IfNone result (NoCommandFits (codes "asm") (rows_of (found_of found.now))) }
 {
     Some(Plan::Asm {
         input: text(found, "IN")?,
@@ -56,6 +62,7 @@ fn asm_plan<'a>(found: &ArgMatches<'a>) -> Option<Plan<'a>>
 fn run_plan<'a>(found: &ArgMatches<'a>) -> Option<Plan<'a>>
     ensures value { IfSome result (IsPlanOfCommand (codes "run") (rows_of (found_of found.now))) }
     ensures ranges { IfSome result HasRanges }
+    ensures none { IfNone result (NoCommandFits (codes "run") (rows_of (found_of found.now))) }
 {
     Some(Plan::Run {
         image: text(found, "IMAGE")?,
@@ -67,6 +74,7 @@ fn run_plan<'a>(found: &ArgMatches<'a>) -> Option<Plan<'a>>
 fn plan_of_command<'a>(name: &str, found: &ArgMatches<'a>) -> Option<Plan<'a>>
     ensures value { IfSome result (IsPlanOfCommand name.now (rows_of (found_of found.now))) }
     ensures ranges { IfSome result HasRanges }
+    ensures none { IfNone result (NoCommandFits name.now (rows_of (found_of found.now))) }
 {
     if name == "asm" {
         asm_plan(found)
@@ -80,6 +88,7 @@ fn plan_of_command<'a>(name: &str, found: &ArgMatches<'a>) -> Option<Plan<'a>>
 fn plan_of<'a>(matches: &ArgMatches<'a>) -> Option<Plan<'a>>
     ensures value { IfSome result (IsPlanOf (subcommand_rows_of matches.now)) }
     ensures ranges { IfSome result HasRanges }
+    ensures none { IfNone result (NoPlanFits (subcommand_rows_of matches.now)) }
 {
     match matches.subcommand() {
         None => Some(Plan::First),
@@ -89,7 +98,7 @@ fn plan_of<'a>(matches: &ArgMatches<'a>) -> Option<Plan<'a>>
 
 /// The fault for an error of clap's, with its text.
 fn fault_of(alloc: Global, error: Error) -> PlanFault
-    ensures { kind_of error ≡ ErrorKind.OutOfMemory → result ≡ PlanFault.Memory }
+    ensures { kind_of error ≡ ErrorKind.OutOfMemory → result ≡ Memory }
 {
     if error.kind() == ErrorKind::OutOfMemory {
         return PlanFault::Memory;
@@ -104,6 +113,10 @@ fn fault_of(alloc: Global, error: Error) -> PlanFault
 pub fn plan<'a>(alloc: Global, words: &'a [&'a str]) -> Result<Plan<'a>, PlanFault>
     ensures ok { IfOk result (IsPlanOf (subcommand_of program (map (λ word. word.now) words.entry.now))) }
     ensures ranges { IfOk result HasRanges }
+    // Where clap takes the words and finds a plan in its ranges, only memory can be wanting.
+    ensures err { IfErr result (λ fault. takes program (map (λ word. word.now) words.entry.now) ≡ true
+        → (NoPlanFits (subcommand_of program (map (λ word. word.now) words.entry.now)) → ⊥)
+        → fault ≡ Memory) }
 {
     let mut command = program(alloc)?;
     let matches = match command.try_get_matches_from_mut(words) {
