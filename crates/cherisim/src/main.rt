@@ -6,6 +6,8 @@ mod fault;
 mod files;
 mod running;
 
+ghost use Rattle.sim_run.specs.CommandLine.{HasRanges};
+
 use assembling::assemble_file;
 use fault::ProgramFault;
 use machine::End;
@@ -39,7 +41,9 @@ fn tell_end(rt: &HostRuntime, end: End) -> u8 {
 }
 
 /// Does what the plan says, and answers the status.
-fn carry_out<'a>(rt: &HostRuntime, plan: Plan<'a>) -> Result<u8, ProgramFault<'a>> {
+fn carry_out<'a>(rt: &HostRuntime, plan: Plan<'a>) -> Result<u8, ProgramFault<'a>>
+    requires { HasRanges plan }
+{
     match plan {
         Plan::First => Ok(tell_end(rt, run_first(rt)?)),
         Plan::Run {
