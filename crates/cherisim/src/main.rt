@@ -13,9 +13,8 @@ use fault::ProgramFault;
 use machine::End;
 use running::{run_file, run_first};
 use sim_run::{Plan, PlanFault, plan, verdict};
-use std::env;
-use std::io;
 use std::process::ExitCode;
+use std::{env, io};
 
 /// The command line was refused, or asks for help.
 const REFUSED: u8 = 2;

@@ -34,6 +34,7 @@ up_to_halt-append (x ∷ xs) ys s running = go (is_halted (after x s)) refl (up_
   where
     goes_on : State → Type 0
     goes_on t = up_to_halt (xs ++ ys) t ≡ up_to_halt xs t ++ then_up_to_halt ys (run_after (up_to_halt xs t) t)
+
     go : (b : Bool) → is_halted (after x s) ≡ b → (is_halted (after x s) ≡ false → goes_on (after x s))
         → up_to_halt (x ∷ (xs ++ ys)) s ≡ up_to_halt (x ∷ xs) s ++ then_up_to_halt ys (run_after (up_to_halt (x ∷ xs) s) s)
     go true e later = rw (e, e) refl
@@ -96,6 +97,7 @@ run_sent-around byte ticks s running =
   where
     t : State
     t = run_after (brought byte) s
+
     last : (b : Bool) → run_sent (Step ∷ (if b then Tick ∷ [] else [])) t ≡ option_to_list (sent Step t)
     last true = append-nil (option_to_list (sent Step t))
     last false = append-nil (option_to_list (sent Step t))

@@ -20,11 +20,10 @@ module _ (schedule : Schedule) (input : List ℕ) where
       ([], ap (first_steps schedule input) none ∙ sym (append-nil (first_steps schedule input n)))
   first_steps-more n (suc k) =
       let before = first_steps-more n k in
-      let one : suc k + n ≡ suc (k + n) = omega arith in
-      (
+      let one : suc k + n ≡ suc (k + n) = omega arith in (
         before.0 ++ nth_step (k + n),
         ap (first_steps schedule input) one ∙ ap (λ es. es ++ nth_step (k + n)) before.1
-        ∙ append_assoc (first_steps schedule input n) before.0 (nth_step (k + n)),
+            ∙ append_assoc (first_steps schedule input n) before.0 (nth_step (k + n)),
       )
 
   pub first_steps-split : (n : ℕ) → n < schedule.steps
@@ -57,11 +56,11 @@ module _ (schedule : Schedule) (input : List ℕ) where
         → Appends a c (run_sent (up_to_halt (first_steps schedule input (n + 1)) s) s)
     sent_after a b c before more =
         let bytes : run_sent (up_to_halt (first_steps schedule input n) s) s ++ run_sent (up_to_halt (nth_step n) t) t
-            ≡ run_sent (up_to_halt (first_steps schedule input (n + 1)) s) s =
-            ap (λ v. run_sent (up_to_halt (first_steps schedule input n) s) s ++ run_sent (up_to_halt (nth_step n) t) v) so_far
-            ∙ sym (run_sent-append (up_to_halt (first_steps schedule input n) s) (up_to_halt (nth_step n) t) s)
-            ∙ ap (λ es. run_sent es s) (sym goes_on)
-            ∙ ap (λ m. run_sent (up_to_halt (first_steps schedule input m) s) s) (sym (add-one n)) in
+        ≡ run_sent (up_to_halt (first_steps schedule input (n + 1)) s) s =
+        ap (λ v. run_sent (up_to_halt (first_steps schedule input n) s) s ++ run_sent (up_to_halt (nth_step n) t) v) so_far
+        ∙ sym (run_sent-append (up_to_halt (first_steps schedule input n) s) (up_to_halt (nth_step n) t) s)
+        ∙ ap (λ es. run_sent es s) (sym goes_on)
+        ∙ ap (λ m. run_sent (up_to_halt (first_steps schedule input m) s) s) (sym (add-one n)) in
         subst (λ bs. Appends a c bs) bytes (Appends-trans a b c _ _ before more)
 
     pub cut_in_step : (new : State) (a b c : Option (List ℕ)) → n < schedule.steps
@@ -71,12 +70,12 @@ module _ (schedule : Schedule) (input : List ℕ) where
     cut_in_step new a b c below before cut =
         let split = first_steps-split n below in
         let whole : up_to_halt (first_steps schedule input n) s
-            ++ (up_to_halt (nth_step n) t ++ then_up_to_halt split.0 (run_after (up_to_halt (first_steps schedule input n ++ nth_step n) s) s))
-            ≡ scheduled schedule input s =
-            sym (append_assoc (up_to_halt (first_steps schedule input n) s) (up_to_halt (nth_step n) t) _)
-            ∙ ap (λ es. es ++ then_up_to_halt split.0 (run_after (up_to_halt (first_steps schedule input n ++ nth_step n) s) s)) (sym goes_on)
-            ∙ sym (up_to_halt-append (first_steps schedule input n ++ nth_step n) split.0 s running)
-            ∙ ap (λ es. up_to_halt es s) (sym split.1) in
+        ++ (up_to_halt (nth_step n) t ++ then_up_to_halt split.0 (run_after (up_to_halt (first_steps schedule input n ++ nth_step n) s) s))
+        ≡ scheduled schedule input s =
+        sym (append_assoc (up_to_halt (first_steps schedule input n) s) (up_to_halt (nth_step n) t) _)
+        ∙ ap (λ es. es ++ then_up_to_halt split.0 (run_after (up_to_halt (first_steps schedule input n ++ nth_step n) s) s)) (sym goes_on)
+        ∙ sym (up_to_halt-append (first_steps schedule input n ++ nth_step n) split.0 s running)
+        ∙ ap (λ es. up_to_halt es s) (sym split.1) in
         subst (λ es. IsCutShort es s new a c) whole
         (cut_within (up_to_halt (first_steps schedule input n) s) (up_to_halt (nth_step n) t) _ s new a b c before
         (subst (λ v. IsCutShort (up_to_halt (nth_step n) t) v new b c) so_far cut))

@@ -37,8 +37,12 @@ fn steps<'a>(alloc: Global) -> Arg<'a>
     ensures rule { rule_of result ≡ steps_rule }
     ensures local { result.global ≡ false }
 {
-    operand(alloc, "STEPS", "The most steps that are done, 1 to 100000000")
-        .value_parser(ValueParser::unsigned(1, 100_000_000))
+    operand(
+        alloc,
+        "STEPS",
+        "The most steps that are done, 1 to 100000000",
+    )
+    .value_parser(ValueParser::unsigned(1, 100_000_000))
 }
 
 fn gap<'a>(alloc: Global) -> Arg<'a>

@@ -125,6 +125,9 @@ pub fn plan<'a>(alloc: Global, words: &'a [&'a str]) -> Result<Plan<'a>, PlanFau
     };
     match plan_of(&matches) {
         Some(plan) => Ok(plan),
-        None => Err(fault_of(alloc, command.error(ErrorKind::InvalidValue, "a value is out of range")?)),
+        None => Err(fault_of(
+            alloc,
+            command.error(ErrorKind::InvalidValue, "a value is out of range")?,
+        )),
     }
 }

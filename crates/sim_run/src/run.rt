@@ -36,7 +36,11 @@ impl Schedule {
 }
 
 /// Meets an event, and writes the byte that is sent, if one is.
-fn meet<C: CapRep, W: Sink>(machine: &mut Machine<C>, event: Event, sink: &mut W) -> Result<(), DeviceFailed>
+fn meet<C: CapRep, W: Sink>(
+    machine: &mut Machine<C>,
+    event: Event,
+    sink: &mut W,
+) -> Result<(), DeviceFailed>
     requires { W.failed sink.old < 2 ^ 64 - 1 }
     ensures state { machine.new ≡ after event machine.old }
     ensures ok { OnOk result (Appends (W.held sink.old) (W.held sink.new) (option_to_list (sent event machine.old))) }

@@ -108,7 +108,13 @@ struct Outcome {
 }
 
 /// Runs a program on a schedule, with a sink that takes `most` bytes.
-fn run_words(alloc: Global, words: &[u32], schedule: Schedule, input: &[u8], most: usize) -> Option<Outcome>
+fn run_words(
+    alloc: Global,
+    words: &[u32],
+    schedule: Schedule,
+    input: &[u8],
+    most: usize,
+) -> Option<Outcome>
     requires { IsInRange schedule }
 {
     let mut machine = machine_of(alloc, words)?;
@@ -122,14 +128,22 @@ fn run_words(alloc: Global, words: &[u32], schedule: Schedule, input: &[u8], mos
 
 #[test]
 fn the_first_image_halts_with_its_fifth_step(rt: HostRuntime) {
-    let schedule = Schedule { steps: 5, gap: 1000, tick: 100 };
+    let schedule = Schedule {
+        steps: 5,
+        gap: 1000,
+        tick: 100,
+    };
     let Some(whole) = run_words(rt.alloc(), &FIRST, schedule, &[], 9) else {
         panic!(rt; "no memory");
     };
     assert_eq!(rt; whole.end, Ok(End::Halted(0)));
     assert_eq!(rt; whole.sink.bytes.as_slice(), b"A".as_slice());
 
-    let schedule = Schedule { steps: 4, gap: 1000, tick: 100 };
+    let schedule = Schedule {
+        steps: 4,
+        gap: 1000,
+        tick: 100,
+    };
     let Some(cut) = run_words(rt.alloc(), &FIRST, schedule, &[], 9) else {
         panic!(rt; "no memory");
     };
@@ -142,7 +156,11 @@ fn verdicts(rt: HostRuntime) {
     let expected = [
         (End::Halted(0), 0, ""),
         (End::Halted(1), 1, "cherisim: halted with 1"),
-        (End::Halted(u64::MAX), 1, "cherisim: halted with 18446744073709551615"),
+        (
+            End::Halted(u64::MAX),
+            1,
+            "cherisim: halted with 18446744073709551615",
+        ),
         (End::Running, 1, "cherisim: not halted"),
     ];
     for (end, status, line) in &expected {
@@ -154,14 +172,34 @@ fn verdicts(rt: HostRuntime) {
 
 #[test]
 fn an_echo_answers_the_bytes_of_its_input(rt: HostRuntime) {
-    let Some(echo) = run_words(rt.alloc(), &ECHO, Schedule { steps: 22, gap: 1, tick: 100 }, b"ABC", 9) else {
+    let Some(echo) = run_words(
+        rt.alloc(),
+        &ECHO,
+        Schedule {
+            steps: 22,
+            gap: 1,
+            tick: 100,
+        },
+        b"ABC",
+        9,
+    ) else {
         panic!(rt; "no memory");
     };
     assert_eq!(rt; echo.end, Ok(End::Halted(0)));
     assert_eq!(rt; echo.sink.bytes.as_slice(), b"ABC".as_slice());
 
     // The third byte comes before step 2001.
-    let Some(slow) = run_words(rt.alloc(), &ECHO, Schedule { steps: 2000, gap: 1000, tick: 0 }, b"ABC", 9) else {
+    let Some(slow) = run_words(
+        rt.alloc(),
+        &ECHO,
+        Schedule {
+            steps: 2000,
+            gap: 1000,
+            tick: 0,
+        },
+        b"ABC",
+        9,
+    ) else {
         panic!(rt; "no memory");
     };
     assert_eq!(rt; slow.end, Ok(End::Running));
@@ -170,7 +208,17 @@ fn an_echo_answers_the_bytes_of_its_input(rt: HostRuntime) {
 
 #[test]
 fn a_byte_that_is_not_written_ends_the_run_after_its_step(rt: HostRuntime) {
-    let Some(cut) = run_words(rt.alloc(), &ECHO, Schedule { steps: 22, gap: 1, tick: 100 }, b"ABC", 1) else {
+    let Some(cut) = run_words(
+        rt.alloc(),
+        &ECHO,
+        Schedule {
+            steps: 22,
+            gap: 1,
+            tick: 100,
+        },
+        b"ABC",
+        1,
+    ) else {
         panic!(rt; "no memory");
     };
     assert_eq!(rt; cut.end, Err(DeviceFailed));
@@ -181,14 +229,34 @@ fn a_byte_that_is_not_written_ends_the_run_after_its_step(rt: HostRuntime) {
 
 #[test]
 fn bytes_come_just_before_their_step_and_ticks_just_after(rt: HostRuntime) {
-    let Some(waited) = run_words(rt.alloc(), &WAITING, Schedule { steps: 4, gap: 3, tick: 0 }, b"AB", 9) else {
+    let Some(waited) = run_words(
+        rt.alloc(),
+        &WAITING,
+        Schedule {
+            steps: 4,
+            gap: 3,
+            tick: 0,
+        },
+        b"AB",
+        9,
+    ) else {
         panic!(rt; "no memory");
     };
     assert_eq!(rt; waited.machine.reg(10).address(), 0);
     assert_eq!(rt; waited.machine.reg(12).address(), 1);
     assert_eq!(rt; waited.machine.devices().mtime(), 0);
 
-    let Some(timed) = run_words(rt.alloc(), &TIMES, Schedule { steps: 5, gap: 1, tick: 2 }, &[], 9) else {
+    let Some(timed) = run_words(
+        rt.alloc(),
+        &TIMES,
+        Schedule {
+            steps: 5,
+            gap: 1,
+            tick: 2,
+        },
+        &[],
+        9,
+    ) else {
         panic!(rt; "no memory");
     };
     assert_eq!(rt; timed.machine.reg(10).address(), 0);
@@ -197,7 +265,17 @@ fn bytes_come_just_before_their_step_and_ticks_just_after(rt: HostRuntime) {
     assert_eq!(rt; timed.machine.reg(14).address(), 2);
 
     // After the step that halts no tick comes.
-    let Some(halted) = run_words(rt.alloc(), &FIRST, Schedule { steps: 9, gap: 1, tick: 1 }, &[], 9) else {
+    let Some(halted) = run_words(
+        rt.alloc(),
+        &FIRST,
+        Schedule {
+            steps: 9,
+            gap: 1,
+            tick: 1,
+        },
+        &[],
+        9,
+    ) else {
         panic!(rt; "no memory");
     };
     assert_eq!(rt; halted.machine.devices().mtime(), 4);
