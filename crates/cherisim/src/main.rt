@@ -9,7 +9,7 @@ mod running;
 ghost use Rattle.sim_run.specs.CommandLine.{HasRanges};
 
 use assembling::assemble_file;
-use fault::ProgramFault;
+use fault::{ProgramFault, reading_fault};
 use machine::End;
 use running::{run_file, run_first};
 use sim_run::{Plan, PlanFault, plan, verdict};
@@ -24,8 +24,9 @@ const FAULT: u8 = 3;
 
 /// The words of the command line, the program's name first.
 fn words_of(rt: &HostRuntime) -> Result<Vec<String>, ProgramFault<'static>> {
-    let Ok(words) = env::args(rt) else {
-        return Err(ProgramFault::Memory);
+    let words = match env::args(rt) {
+        Ok(words) => words,
+        Err(error) => return Err(reading_fault(&error)),
     };
     words.collect(rt.alloc()).map_err(|_| ProgramFault::Memory)
 }
