@@ -1,6 +1,8 @@
 //! Which words are a plan, and which are refused.
 
 use crate::{Plan, PlanFault, Schedule, plan};
+use std::alloc::Global;
+use std::process::Abort;
 use std::test::Fail;
 
 /// Words of `run` with `hello.img`; the steps, the gap and the tick; and the input.
@@ -58,28 +60,35 @@ static OTHERS: &[(&[&str], Plan<'static>)] = &[
     ),
 ];
 
+/// A run of `hello.img`.
+fn run_of(numbers: [u64; 3], input: Option<&'static str>) -> Plan<'static> {
+    let [steps, gap, tick] = numbers;
+    Plan::Run {
+        image: "hello.img",
+        schedule: Schedule { steps, gap, tick },
+        input,
+    }
+}
+
+fn assert_plan(
+    rt: &impl Abort,
+    alloc: Global,
+    words: &'static [&'static str],
+    expected: Plan<'static>,
+) {
+    match plan(alloc, words) {
+        Ok(planned) => assert_eq!(rt; planned, expected, "{words:?}"),
+        Err(fault) => panic!(rt; "{words:?}: {fault:?}"),
+    }
+}
+
 #[test]
 fn the_words_of_each_command_are_its_plan(rt: HostRuntime) {
-    for (words, [steps, gap, tick], input) in RUNS {
-        let expected = Plan::Run {
-            image: "hello.img",
-            schedule: Schedule {
-                steps: *steps,
-                gap: *gap,
-                tick: *tick,
-            },
-            input: *input,
-        };
-        match plan(rt.alloc(), words) {
-            Ok(planned) => assert_eq!(rt; planned, expected, "{words:?}"),
-            Err(fault) => panic!(rt; "{words:?}: {fault:?}"),
-        }
+    for case in RUNS {
+        assert_plan(&rt, rt.alloc(), case.0, run_of(case.1, case.2));
     }
-    for (words, expected) in OTHERS {
-        match plan(rt.alloc(), words) {
-            Ok(planned) => assert_eq!(rt; planned, *expected, "{words:?}"),
-            Err(fault) => panic!(rt; "{words:?}: {fault:?}"),
-        }
+    for case in OTHERS {
+        assert_plan(&rt, rt.alloc(), case.0, case.1);
     }
 }
 
