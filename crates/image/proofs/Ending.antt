@@ -1,12 +1,12 @@
 -- What reading to the end answers.
-use Rattle.std.proofs.Common.{◌≡◌, ℕ, suc, Bool, true, false, cond, eqb, List, [], ◌∷◌, ◌++◌, length, Option, Some, None, IfSome, Result, Ok, Err, refl, sym, ap, subst, ◌∙◌, arith}
+use Rattle.std.proofs.Common.{◌≡◌, ℕ, suc, List, [], ◌∷◌, ◌++◌, length, Option, Some, None, IfSome, Ok, Err, refl, arith}
 use Rattle.std.specs.Prelude.{◌≢◌}
 use Rattle.std.proofs.lemmas.Bool.{ne_eqb}
-use Rattle.std.specs.Io.KnownBytes.{Consumes, IsAtEnd}
+use Rattle.std.specs.Io.KnownBytes.{IsAtEnd}
 use Rattle.image.specs.declared.fault.ImageFault.{ImageFault}
 use Rattle.image.specs.declared.fault.ImageFault.TheVariants.{L9}
 use Rattle.image.specs.Image.{Image}
-use Rattle.image.specs.Grammar.{◌>>=◌, image_at, reading}
+use Rattle.image.specs.Grammar.{image_at, reading}
 use Rattle.image.specs.Reads.{IsOfBytes, IsNotAtEnd, Answers}
 use Rattle.image.proofs.Taking.{Got, Stopped, after_known}
 
@@ -25,7 +25,7 @@ stops bytes fault e = rw e refl
 pub value_stopped : (a b : Option (List ℕ)) (fault : ImageFault) → Stopped image_at a b fault → IfSome a (λ bytes. Answers (reading bytes) (Err fault))
 value_stopped a b fault stopped =
     premise_out a (IsOfBytes fault) (λ bytes. reading bytes ≡ Err fault)
-      (λ of_bytes. if_known a (λ bytes. image_at bytes ≡ Err fault) (λ bytes. reading bytes ≡ Err fault) (λ bytes e. stops bytes fault e) (stopped.1 of_bytes))
+    (λ of_bytes. if_known a (λ bytes. image_at bytes ≡ Err fault) (λ bytes. reading bytes ≡ Err fault) (λ bytes e. stops bytes fault e) (stopped.1 of_bytes))
 
 more : (bytes rest : List ℕ) (image : Image) → image_at bytes ≡ Ok (image, rest) → rest ≢ [] → reading bytes ≡ Err L9
 unfolding reading
@@ -35,8 +35,8 @@ more bytes (x ∷ rest) image e some = rw (e, ne_eqb (suc (length rest)) 0 (λ z
 pub value_more : (a b : Option (List ℕ)) (image : Image) (fault : ImageFault) → Got image_at a b image → (IsOfBytes fault → (fault ≡ L9) × IsNotAtEnd b) → IfSome a (λ bytes. Answers (reading bytes) (Err fault))
 value_more a b image fault got h =
     premise_out a (IsOfBytes fault) (λ bytes. reading bytes ≡ Err fault) (λ of_bytes.
-      let p = h of_bytes in
-      after_known a b got.0 (λ rest. rest ≢ []) (λ all. reading all ≡ Err fault) got.1 (λ rest some. rw p.0 (more (got.0 ++ rest) rest image (got.2 rest) some)) p.1)
+    let p = h of_bytes in
+    after_known a b got.0 (λ rest. rest ≢ []) (λ all. reading all ≡ Err fault) got.1 (λ rest some. rw p.0 (more (got.0 ++ rest) rest image (got.2 rest) some)) p.1)
 
 whole : (bytes rest : List ℕ) (image : Image) → image_at bytes ≡ Ok (image, rest) → rest ≡ [] → reading bytes ≡ Ok image
 unfolding reading

@@ -1,12 +1,11 @@
 -- Reading sections one after the other, as a loop does.
-use Rattle.std.proofs.Common.{◌≡◌, ℕ, suc, ◌-◌, ◌+◌, ◌<◌, ◌≤◌, List, [], ◌∷◌, ◌++◌, length, Option, Some, None, Result, Ok, Err, refl, sym, ap, ◌∙◌, append_assoc, arith}
+use Rattle.std.proofs.Common.{◌≡◌, ℕ, suc, ◌+◌, List, [], ◌∷◌, ◌++◌, length, Option, Result, Ok, Err, refl, ap, ◌∙◌, append_assoc}
 use Rattle.std.proofs.lemmas.List.{append-nil}
 use Rattle.std.proofs.KnownBytes.{Consumes-trans, Consumes-nil}
 use Rattle.std.specs.Io.KnownBytes.{Consumes}
 use Rattle.image.specs.declared.fault.ImageFault.{ImageFault}
 use Rattle.image.specs.Image.{Section}
 use Rattle.image.specs.Grammar.{◌>>=◌, section_at, sections_at}
-use Rattle.image.specs.Reads.{IsOfBytes, ConsumesBeginning}
 use Rattle.image.proofs.Taking.{Got, Stopped, after_known}
 
 -- what was read before, and what is still read
@@ -36,10 +35,13 @@ one_step pages free n front s here rest e = rw e (regroup front s (sections_at p
 
 pub Goes-on : (pages count m n free after : ℕ) (front : List Section) (s : Section) (a b c : Option (List ℕ)) → m ≡ suc n → after ≡ s.address + length s.bytes
     → Goes pages count front m free a b → Got (section_at pages free) b c s → Goes pages count (front ++ s ∷ []) n after a c
-Goes-on pages count m n free after front s a b c one next so_far got =
-    (so_far.0 ++ got.0, Consumes-trans a b c so_far.0 got.0 so_far.1 got.1, λ rest.
+Goes-on pages count m n free after front s a b c one next so_far got = (
+  so_far.0 ++ got.0,
+  Consumes-trans a b c so_far.0 got.0 so_far.1 got.1,
+  λ rest.
       let here : sections_at pages count 0 (so_far.0 ++ (got.0 ++ rest)) ≡ with_front front (sections_at pages (suc n) free (got.0 ++ rest)) = rw (← one) (so_far.2 (got.0 ++ rest)) in
-      rw (append_assoc so_far.0 got.0 rest, next) (here ∙ one_step pages free n front s (got.0 ++ rest) rest (got.2 rest)))
+      rw (append_assoc so_far.0 got.0 rest, next) (here ∙ one_step pages free n front s (got.0 ++ rest) rest (got.2 rest)),
+)
 
 one_stop : (pages free n : ℕ) (front : List Section) (here : List ℕ) (fault : ImageFault) → section_at pages free here ≡ Err fault
     → with_front front (sections_at pages (suc n) free here) ≡ Err fault
@@ -48,14 +50,19 @@ one_stop pages free n front here fault e = rw e refl
 
 pub Goes-stops : (pages count m n free : ℕ) (front : List Section) (fault : ImageFault) (a b c : Option (List ℕ)) → m ≡ suc n
     → Goes pages count front m free a b → Stopped (section_at pages free) b c fault → Stopped (sections_at pages count 0) a c fault
-Goes-stops pages count m n free front fault a b c one so_far stop =
-    ((so_far.0 ++ stop.0.0, Consumes-trans a b c so_far.0 stop.0.0 so_far.1 stop.0.1), λ of_bytes.
+Goes-stops pages count m n free front fault a b c one so_far stop = (
+  (so_far.0 ++ stop.0.0, Consumes-trans a b c so_far.0 stop.0.0 so_far.1 stop.0.1),
+  λ of_bytes.
       after_known a b so_far.0 (λ rest. section_at pages free rest ≡ Err fault) (λ all. sections_at pages count 0 all ≡ Err fault) so_far.1
-        (λ rest e. so_far.2 rest ∙ (rw one (one_stop pages free n front rest fault e))) (stop.1 of_bytes))
+      (λ rest e. so_far.2 rest ∙ (rw one (one_stop pages free n front rest fault e))) (stop.1 of_bytes),
+)
 
 pub Goes-ends : (pages count n free : ℕ) (front : List Section) (a b : Option (List ℕ)) → n ≡ 0
     → Goes pages count front n free a b → Got (sections_at pages count 0) a b front
 unfolding sections_at
-Goes-ends pages count n free front a b none so_far =
-    (so_far.0, so_far.1, λ rest.
-      so_far.2 rest ∙ ap (λ k. with_front front (sections_at pages k free rest)) none ∙ ap (λ (ss : List Section). Ok (ss, rest)) (append-nil front))
+Goes-ends pages count n free front a b none so_far = (
+  so_far.0,
+  so_far.1,
+  λ rest.
+      so_far.2 rest ∙ ap (λ k. with_front front (sections_at pages k free rest)) none ∙ ap (λ (ss : List Section). Ok (ss, rest)) (append-nil front),
+)

@@ -1,12 +1,10 @@
 -- Reading one part after another, from a source whose bytes may be known.
-use Rattle.std.proofs.Common.{◌≡◌, ℕ, ◌+◌, ◌<◌, ◌≤◌, true, false, cond, ltb, List, [], ◌∷◌, ◌++◌, length, take, drop, Option, Some, None, IfSome, Result, Ok, Err, refl, sym, ap, subst, ◌∙◌, append_assoc, arith}
-use Rattle.std.proofs.lemmas.Bool.{ltb-false, le-ltb, lt-ltb}
-use Rattle.std.proofs.lemmas.List.{append-nil, length-append, take_at, drop_at}
-use Rattle.std.proofs.KnownBytes.{Consumes-trans, Consumes-nil}
-use Rattle.std.specs.Io.KnownBytes.{Consumes, IsAtEnd}
+use Rattle.std.proofs.Common.{◌≡◌, ℕ, List, ◌++◌, Option, Some, None, IfSome, Result, Ok, Err, refl, sym, subst, append_assoc}
+use Rattle.std.proofs.KnownBytes.{Consumes-trans}
+use Rattle.std.specs.Io.KnownBytes.{Consumes}
 use Rattle.image.specs.declared.fault.ImageFault.{ImageFault}
 use Rattle.image.specs.declared.fault.ImageFault.TheVariants.{L1, L2, L3, L4, L5, L6, L7, L8, L9, L10, L11}
-use Rattle.image.specs.Grammar.{◌>>=◌, taken}
+use Rattle.image.specs.Grammar.{◌>>=◌}
 use Rattle.std.specs.Result.{IfErr}
 use Rattle.image.specs.Reads.{IsOfBytes, ConsumesBeginning, CountsL10, Takes}
 
@@ -41,15 +39,20 @@ Stopped part a b fault = ConsumesBeginning a b × (IsOfBytes fault → IfSome a 
 -- a first part that was read, and then what comes after it
 pub Got-then : {Y Z : Type 0} (part : List ℕ → Result (Y × List ℕ) ImageFault) (more : Y → List ℕ → Result (Z × List ℕ) ImageFault) (a b c : Option (List ℕ)) (y : Y) (z : Z)
     → Got part a b y → Got (more y) b c z → Got (then_part part more) a c z
-Got-then part more a b c y z first second =
-    (first.0 ++ second.0, Consumes-trans a b c first.0 second.0 first.1 second.1, λ rest.
-      rw (append_assoc first.0 second.0 rest, first.2 (second.0 ++ rest)) (second.2 rest))
+Got-then part more a b c y z first second = (
+  first.0 ++ second.0,
+  Consumes-trans a b c first.0 second.0 first.1 second.1,
+  λ rest.
+      rw (append_assoc first.0 second.0 rest, first.2 (second.0 ++ rest)) (second.2 rest),
+)
 
 pub Stopped-then : {Y Z : Type 0} (part : List ℕ → Result (Y × List ℕ) ImageFault) (more : Y → List ℕ → Result (Z × List ℕ) ImageFault) (a b c : Option (List ℕ)) (y : Y) (fault : ImageFault)
     → Got part a b y → Stopped (more y) b c fault → Stopped (then_part part more) a c fault
-Stopped-then part more a b c y fault first second =
-    ((first.0 ++ second.0.0, Consumes-trans a b c first.0 second.0.0 first.1 second.0.1), λ of_bytes.
-      fault_after part more a b y first.0 fault first.1 first.2 (second.1 of_bytes))
+Stopped-then part more a b c y fault first second = (
+  (first.0 ++ second.0.0, Consumes-trans a b c first.0 second.0.0 first.1 second.0.1),
+  λ of_bytes.
+      fault_after part more a b y first.0 fault first.1 first.2 (second.1 of_bytes),
+)
 
 -- a first part that was not read
 pub Stopped-first : {Y Z : Type 0} (part : List ℕ → Result (Y × List ℕ) ImageFault) (more : Y → List ℕ → Result (Z × List ℕ) ImageFault) (a b : Option (List ℕ)) (fault : ImageFault)

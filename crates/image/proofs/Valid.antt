@@ -1,16 +1,15 @@
 -- What was read of bytes: its numbers stand in them, and it has no fault.
-use Rattle.std.proofs.Common.{◌≡◌, ℕ, zero, suc, ◌+◌, ◌<◌, ◌≤◌, Bool, true, false, cond, not, ltb, eqb, List, [], ◌∷◌, ◌++◌, length, take, drop, Option, Some, None, Result, Ok, Err, refl, sym, ap, subst, ◌∙◌, arith}
+use Rattle.std.proofs.Common.{◌≡◌, ℕ, zero, suc, ◌+◌, ◌≤◌, Bool, true, false, cond, not, ltb, eqb, List, [], ◌∷◌, length, take, drop, Option, Some, None, Result, Ok, Err, refl, sym, ap, subst, ◌∙◌, arith}
 use Rattle.std.proofs.lemmas.Bool.{ltb-false, le-ltb, eqb-true}
-use Rattle.std.proofs.lemmas.List.{length-take-le, length-drop}
+use Rattle.std.proofs.lemmas.List.{length-take-le}
 use Rattle.std.specs.List.{starts_with}
 use Rattle.std.specs.Prelude.{nat_eq}
 use Rattle.image.specs.declared.fault.ImageFault.{ImageFault}
-use Rattle.image.specs.declared.fault.ImageFault.TheVariants.{L1, L2, L3, L4, L5, L8, L9}
+use Rattle.image.specs.declared.fault.ImageFault.TheVariants.{L1, L2, L3, L4, L5, L8}
 use Rattle.image.specs.declared.parts.Header.{Header}
 use Rattle.image.specs.declared.parts.Span.{Span}
-use Rattle.image.specs.Image.{Section, Image, IsImage, is_good_header, span_fault, sections_fault, build_fault, image_of}
-use Rattle.image.specs.Grammar.{◌>>=◌, magic, unless, number_at, taken, header_fault, header_of, header_at, span_at, section_at, sections_at, image_at}
-use Rattle.image.specs.ImageLaws.{IsImage-image_of}
+use Rattle.image.specs.Image.{Section, is_good_header, span_fault, sections_fault, build_fault}
+use Rattle.image.specs.Grammar.{◌>>=◌, magic, unless, number_at, taken, header_fault, header_of, header_at, span_at, section_at, sections_at}
 
 -- the value of a step that did not fail
 pub bind_ok : {A B : Type 0} (r : Result A ImageFault) (f : A → Result B ImageFault) (y : B) → (r >>= f) ≡ Ok y → (x : A) × (r ≡ Ok x) × (f x ≡ Ok y)
@@ -63,7 +62,7 @@ header_ok bytes h rest e =
       long = t.0;
       fine = ap header_fault t.1 ∙ u.0;
       said = ap header_of t.1 ∙ u.1 ∙ ap (λ (q : Header × List ℕ). q.0) p;
-      after = t.2 ∙ ap (λ (q : Header × List ℕ). q.1) p
+      after = t.2 ∙ ap (λ (q : Header × List ℕ). q.1) p;
     }
 
 pub record FineHeader (bytes : List ℕ) : Type 0 where
@@ -112,7 +111,7 @@ span_ok pages free bytes s rest e =
       fine = subst (λ (q : Span). span_fault pages free q.address q.size ≡ None) same u.0;
       address = ap (number_at 0 8) t.1 ∙ ap (λ (q : Span). q.address) same;
       size = ap (number_at 8 8) t.1 ∙ ap (λ (q : Span). q.size) same;
-      after = t.2 ∙ ap (λ (q : Span × List ℕ). q.1) p
+      after = t.2 ∙ ap (λ (q : Span × List ℕ). q.1) p;
     }
 
 pub record ReadSection (pages free : ℕ) (bytes : List ℕ) (s : Section) (rest : List ℕ) : Type 0 where
@@ -135,15 +134,15 @@ section_ok pages free bytes s rest e =
     let p : (made, b.0.1) ≡ (s, rest) = ok_is (made, b.0.1) (s, rest) b.2 in
     let same : made ≡ s = ap (λ (q : Section × List ℕ). q.0) p in
     let here : ReadSection pages free bytes made b.0.1 =
-      let len : length b.0.0 ≡ span.size = ap length (sym t.1) ∙ length-take-le span.size a.0.1 t.0 in
-      record {
-        long = r.long;
-        fine = rw len r.fine;
-        address = r.address;
-        size = r.size ∙ sym len;
-        body = rw (len, r.after) t.1;
-        after = rw (len, r.after) t.2
-      } in
+    let len : length b.0.0 ≡ span.size = ap length (sym t.1) ∙ length-take-le span.size a.0.1 t.0 in
+    record {
+      long = r.long;
+      fine = rw len r.fine;
+      address = r.address;
+      size = r.size ∙ sym len;
+      body = rw (len, r.after) t.1;
+      after = rw (len, r.after) t.2;
+    } in
     subst (λ (q : Section × List ℕ). ReadSection pages free bytes q.0 q.1) p here
 
 -- ---- sections
@@ -165,7 +164,7 @@ sections_ok pages (suc n) free bytes ss rest e =
     let more = sections_ok pages n (s.address + length s.bytes) a.0.1 b.0.0 b.0.1 b.1 in
     let p : (s ∷ b.0.0, b.0.1) ≡ (ss, rest) = ok_is (s ∷ b.0.0, b.0.1) (ss, rest) b.2 in
     subst (λ (q : List Section × List ℕ). ReadSections pages (suc n) free q.0) p
-      (record { fine = rw one.fine more.fine; count = ap suc more.count })
+    (record { fine = rw one.fine more.fine; count = ap suc more.count })
 
 -- header and sections that were read have no fault
 pub no_fault_read : (front : List ℕ) (h : Header) (ss : List Section) → FineHeader front → header_of front ≡ h → ReadSections h.pages h.count 0 ss → build_fault h.pages h.entry h.mode ss ≡ None

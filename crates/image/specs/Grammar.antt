@@ -1,5 +1,5 @@
 -- Images as bytes, version 1. All numbers are little-endian.
-use Rattle.std.specs.Prelude.{◌≡◌, ℕ, zero, suc, ◌+◌, Bool, not, ◌==◌, nat_eq, nat_lt, if◌then◌else◌, List, [], ◌∷◌, ◌++◌, length, take, drop, Option, Some, None, Result, Ok, Err, codes}
+use Rattle.std.specs.Prelude.{◌≡◌, ◌<◌, ℕ, zero, suc, ◌+◌, not, ◌==◌, nat_eq, nat_lt, if◌then◌else◌, List, [], ◌∷◌, ◌++◌, length, slice_index, take, drop, Option, Some, None, Result, Ok, Err, codes}
 use Rattle.std.specs.List.{flat_map, starts_with}
 use Rattle.byteorder.specs.Endian.{little_bytes, little_number}
 use Rattle.image.specs.declared.fault.ImageFault.{ImageFault}
@@ -15,12 +15,12 @@ abbrev pub magic : List ℕ
 magic = codes "CHERIIMG"
 
 -- 32 bytes: the magic, the version, the pages, the entry, the count of sections and the mode
-abbrev pub header_bytes : ℕ → ℕ → ℕ → ℕ → List ℕ
+unfoldable pub header_bytes : ℕ → ℕ → ℕ → ℕ → List ℕ
 header_bytes pages entry count mode =
     magic ++ (little_bytes 4 1 ++ (little_bytes 4 pages ++ (little_bytes 8 entry ++ (little_bytes 4 count ++ little_bytes 4 mode))))
 
 -- 16 bytes: where a section lies, and how many bytes it has
-abbrev pub span_bytes : ℕ → ℕ → List ℕ
+unfoldable pub span_bytes : ℕ → ℕ → List ℕ
 span_bytes address size = little_bytes 8 address ++ little_bytes 8 size
 
 abbrev pub section_bytes : Section → List ℕ
@@ -32,6 +32,10 @@ spelling i = header_bytes i.pages i.entry (length i.sections) (mode_number i.mod
 -- These bytes are the image, each of them.
 abbrev pub IsSpelling : List ℕ → Image → Type 0
 IsSpelling bytes image = IsImage image × (bytes ≡ spelling image)
+
+-- each number of a list is a byte
+abbrev pub AreBytes : List ℕ → Type 0
+AreBytes bytes = (k : ℕ) → slice_index bytes k < 256
 
 -- ---- the reading of bytes, with the first fault in order
 
@@ -76,7 +80,7 @@ unfoldable pub span_at : ℕ → ℕ → List ℕ → Result (Span × List ℕ) 
 span_at pages free bytes = do
   front ← taken 16 L8 bytes
   span ← unless (span_fault pages free (number_at 0 8 front.0) (number_at 8 8 front.0))
-    (record { address = number_at 0 8 front.0; size = number_at 8 8 front.0 })
+      (record { address = number_at 0 8 front.0; size = number_at 8 8 front.0 })
   Ok (span, front.1)
 
 -- the section in front, and the rest

@@ -77,3 +77,7 @@ pub IsImage-image_of : (pages entry mode : ℕ) (sections : List Section) → bu
 IsImage-image_of pages entry mode sections none =
     let small = (header_ranges pages entry mode (build_parts pages entry mode sections none).0).2 in
     rw (mode_again mode small) none
+
+-- an image has at most 64 sections
+pub few_sections : (i : Image) → IsImage i → length i.sections ≤ 64
+few_sections i valid = ltb-false _ _ (build_parts i.pages i.entry (mode_number i.mode) i.sections valid).1

@@ -1,9 +1,8 @@
 -- What calls that read from a source, or write to a sink, answer and leave.
 use Rattle.std.specs.Prelude.{◌≡◌, ◌≢◌, ℕ, ◌+◌, List, [], ◌++◌, Option, IfSome, Result, Ok, Err}
-use Rattle.std.specs.Io.KnownBytes.{Consumes, Appends}
+use Rattle.std.specs.Io.KnownBytes.{Consumes}
 use Rattle.image.specs.declared.fault.ImageFault.{ImageFault}
 use Rattle.image.specs.declared.fault.ImageFault.TheVariants.{L10, L11}
-use Rattle.image.specs.Devices.{AppendsBeginning}
 use Rattle.image.specs.Image.{Image}
 
 -- a fault of the bytes themselves, and not the device's or the memory's

@@ -36,7 +36,7 @@ fn ram_end_of(pages: u32) -> u64
     RAM_BASE + 4096 * u64::from(pages)
 }
 
-/// The first fault of an image's header.
+/// Whether pages, entry and mode are good.
 #[tactic(auto, unfolding(crate::specs::Image::is_good_header))]
 pub(crate) fn is_good(pages: u32, entry: u64, mode: u32) -> bool
     ensures { result ≡ is_good_header pages entry mode }

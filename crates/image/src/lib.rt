@@ -1,18 +1,24 @@
-//! Images: what a machine begins with.
+//! Images: what a machine begins with, their files, and the devices that files come from and go to.
 #![tactic(auto)]
 
 mod devices;
 mod fault;
+mod from_read;
 mod image;
-mod over_std;
+pub mod laws;
 mod parts;
 mod reading;
 mod section;
 #[cfg(test)]
 mod tests;
+mod to_write;
+mod writing;
 
 pub use devices::{DeviceFailed, Sink, Source, write_all};
 pub use fault::ImageFault;
+pub use from_read::FromRead;
 pub use image::Image;
-pub use over_std::{FromRead, ToWrite};
+pub use reading::read;
 pub use section::Section;
+pub use to_write::ToWrite;
+pub use writing::write;

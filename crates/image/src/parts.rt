@@ -10,7 +10,7 @@ use crate::image::{fault_of_span, is_good};
 use byteorder::{ByteOrder, LittleEndian};
 
 /// The first bytes of an image file.
-const MAGIC: &[u8; 8] = b"CHERIIMG";
+pub const MAGIC: &[u8; 8] = b"CHERIIMG";
 
 /// The numbers of a header that a reader needs.
 #[derive(Clone, Copy, Debug)]

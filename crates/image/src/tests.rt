@@ -1,5 +1,8 @@
 //! Values from the rules of the image format, not from its definitions.
 
+mod devices;
+mod files;
+
 use super::{Image, ImageFault};
 use std::test::Fail;
 

@@ -1,4 +1,4 @@
-use Rattle.std.proofs.Common.{arith, rules, ℕ, ◌≡◌, ◌+◌, ◌-◌, ◌≤◌, List, ◌++◌, length, take, drop, ◌∙◌, ap, sym}
+use Rattle.std.proofs.Common.{arith, rules, ℕ, ◌≡◌, ◌+◌, ◌≤◌, List, ◌++◌, length, take, ◌∙◌, ap, sym}
 use Rattle.std.proofs.lemmas.List.{take-append-le, length-append, length-take-le}
 use Rattle.std.proofs.Math.Seq.{take-append-add}
 use Rattle.std.proofs.KnownBytes.{Consumes-trans}
@@ -28,6 +28,6 @@ loop-at-preserved g c =
     record {
       within = still_within c.loop-at.at c.in_ok-count.count c.loop-at.buffer c.read.new.buffer _ within few;
       read = rw (one_more c.loop-at.at c.in_ok-count.count c.loop-at.buffer c.read.new.buffer _ within few)
-        (Consumes-trans _ _ _ _ _ c.loop-at.invariant.read c.in_ok-count.ensures.bytes.0);
-      count = search rules
+          (Consumes-trans _ _ _ _ _ c.loop-at.invariant.read c.in_ok-count.ensures.bytes.0);
+      count = search rules;
     }

@@ -1,8 +1,8 @@
-use Rattle.std.proofs.Common.{◌≡◌, List, ℕ, [], Result, Ok, None, ◌++◌}
+use Rattle.std.proofs.Common.{List, ℕ, [], Result, Ok, ◌++◌}
 use Rattle.std.proofs.lemmas.Result.{err_from_is_err_and}
 use Rattle.image.specs.declared.fault.ImageFault.{ImageFault}
 use Rattle.image.specs.declared.parts.Header.{Header}
-use Rattle.image.specs.Image.{Image, Section, image_of, build_fault}
+use Rattle.image.specs.Image.{Image, Section, image_of}
 use Rattle.image.specs.Grammar.{◌>>=◌, header_at, sections_at, image_at}
 use Rattle.image.proofs.Taking.{Got-then, Got-seen, Stopped-then, Stopped-first}
 use Rattle.image.proofs.Valid.{no_fault_front}

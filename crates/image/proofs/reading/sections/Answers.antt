@@ -1,14 +1,13 @@
-use Rattle.std.proofs.Common.{arith, rules, ◌≡◌, ◌-◌, ◌+◌, suc, ◌++◌, ◌∷◌, [], ℕ, List, length, ap, ◌∙◌}
+use Rattle.std.proofs.Common.{arith, rules, ◌-◌, ◌+◌, ◌++◌, ℕ, List, length, ap, ◌∙◌}
 use Rattle.std.proofs.lemmas.Result.{err_from_is_err_and}
 use Rattle.std.proofs.KnownBytes.{Consumes-trans}
-use Rattle.image.specs.Grammar.{section_at, sections_at}
 use Rattle.image.proofs.Going.{Goes-begins, Goes-on, Goes-stops, Goes-ends}
 use Rattle.image.proofs.reading.sections.Goals as goal
 
 pub loop-init : goal.loop-init
 loop-init g c = record {
   count = search rules;
-  read = rw c.new-sections.ensures.items (Goes-begins c.args.pages c.args.count _ _ (omega arith))
+  read = rw c.new-sections.ensures.items (Goes-begins c.args.pages c.args.count _ _ (omega arith));
 }
 
 pub returns-in_err-section-clause-part : goal.returns-in_err-section-clause-part
@@ -20,14 +19,14 @@ pub loop-preserved : goal.loop-preserved
 loop-preserved g c = record {
   count = search rules;
   read = rw c.in_ok-push.ensures.items
-    (Goes-on c.args.pages c.args.count (c.args.count - c.loop.counter) (c.args.count - (c.loop.counter + 1)) c.loop.free _ c.loop.sections.items c.in_ok-section.section _ _ _ (omega arith) (ap (λ n. n + length c.bytes.result.now) c.address.ensures ∙ ap (λ (b : List ℕ). c.in_ok-section.section.address + length b) c.bytes.ensures) c.loop.invariant.read c.in_ok-section.ensures.part)
+      (Goes-on c.args.pages c.args.count (c.args.count - c.loop.counter) (c.args.count - (c.loop.counter + 1)) c.loop.free _ c.loop.sections.items c.in_ok-section.section _ _ _ (omega arith) (ap (λ n. n + length c.bytes.result.now) c.address.ensures ∙ ap (λ (b : List ℕ). c.in_ok-section.section.address + length b) c.bytes.ensures) c.loop.invariant.read c.in_ok-section.ensures.part);
 }
 
 pub returns-clause-part : goal.returns-clause-part
 returns-clause-part g c = Goes-ends c.args.pages c.args.count (c.args.count - c.loop.counter) c.loop.free c.loop.sections.items _ _ (omega arith) c.loop.invariant.read
 
 pub returns-in_err-push-clause-part : goal.returns-in_err-push-clause-part
-returns-in_err-push-clause-part g c = 
+returns-in_err-push-clause-part g c =
     let p = err_from_is_err_and c.from_residual-in_err-push.result c.from_residual-in_err-push.ensures.1 in
     let before = c.loop.invariant.read in
     let here = c.in_ok-section.ensures.part in

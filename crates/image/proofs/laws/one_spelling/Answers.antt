@@ -1,0 +1,5 @@
+use Rattle.image.proofs.Again.{one_of}
+use Rattle.image.proofs.laws.one_spelling.Goals as goal
+
+pub returns : goal.returns
+returns c = one_of
