@@ -1,0 +1,66 @@
+//! The faults that end the program with status 3, and their texts.
+
+use image::{DeviceFailed, ImageFault};
+use machine::MachineFault;
+use std::io;
+use thiserror::Error;
+
+/// Why the program could not do its work. The text follows `cherisim: ` on standard error.
+#[derive(Debug, Drop, Error)]
+pub enum ProgramFault<'a> {
+    /// A file that cannot be opened or made: its name.
+    #[error("file {0}")]
+    File(&'a str),
+    /// A file of text or input could not be read to its end.
+    #[error("read failed")]
+    Read,
+    /// A byte could not be written.
+    #[error("write failed")]
+    Write(#[from] DeviceFailed),
+    /// No memory for a file's bytes or for the words of the command line.
+    #[error("no memory")]
+    Memory,
+    /// An image file is none, or could not be read or written.
+    #[error("{}", image_text(.0))]
+    Image(#[from] ImageFault),
+    /// No machine could be made.
+    #[error("{}", machine_text(.0))]
+    Machine(#[from] MachineFault),
+    /// A command that is not there yet.
+    #[error("not there yet")]
+    Missing,
+}
+
+/// The code and the words of a fault of an image.
+fn image_text(fault: &ImageFault) -> &'static str {
+    match fault {
+        ImageFault::L1 => "L1 short header",
+        ImageFault::L2 => "L2 magic",
+        ImageFault::L3 => "L3 version",
+        ImageFault::L4 => "L4 pages, entry or mode",
+        ImageFault::L5 => "L5 too many sections",
+        ImageFault::L6 => "L6 section outside RAM",
+        ImageFault::L7 => "L7 sections not ascending",
+        ImageFault::L8 => "L8 truncated",
+        ImageFault::L9 => "L9 bytes after the end",
+        ImageFault::L10 => "L10 device failed",
+        ImageFault::L11 => "L11 no memory",
+    }
+}
+
+/// The code and the words of a fault of a machine.
+fn machine_text(fault: &MachineFault) -> &'static str {
+    match fault {
+        MachineFault::M2 => "M2 no memory",
+        MachineFault::M5 => "M5 no memory",
+    }
+}
+
+/// The fault of a file that was opened and could not be read.
+pub fn reading_fault<'a>(error: &io::Error) -> ProgramFault<'a> {
+    if error.kind() == io::ErrorKind::OutOfMemory {
+        ProgramFault::Memory
+    } else {
+        ProgramFault::Read
+    }
+}

@@ -1,0 +1,55 @@
+-- What is read of clap's matches.
+use Rattle.std.proofs.Common.{◌≡◌, ◌∙◌, ℕ, ◌<◌, ◌^◌, List, refl, sym, ap, subst, codes, slice_index, arith}
+use Rattle.std.specs.Prelude.{Option, Some, None, IfSome, IfNone, Result, Ok, Err}
+use Rattle.std.specs.Str.Parse.{IsNumeral, digits_value, without_leading_plus}
+use Rattle.clap.specs.Words.{ReadsOne, Row, Text, one_text, rows_of}
+use Rattle.clap.specs.declared.parser.matches.Found.{Found}
+use Rattle.clap.proofs.WalkLemmas.{one_text-rows}
+use Rattle.sim_run.specs.declared.plans.Plan.{Plan}
+use Rattle.sim_run.specs.declared.plans.Plan.TheVariants.{Asm, Run, Dis, Debug, First}
+use Rattle.sim_run.specs.declared.schedule.Schedule.{Schedule}
+use Rattle.sim_run.specs.Schedule.{IsInRange}
+use Rattle.sim_run.specs.CommandLine.{IsNumber, IsScheduleOf, NoCommandFits}
+
+pub if_none : {T : Type 0} (r : Option T) (P : Type 0) → P → IfNone r P
+if_none (Some x) P p = tt
+if_none None P p = p
+
+-- ---- numbers
+
+abbrev digits_of : List ℕ → List ℕ
+digits_of = without_leading_plus
+
+pub number_some : {E : Type 0} (f : Found) (id : List ℕ) (G : List ℕ → Result ℕ E → Type 0)
+    → ((t : List ℕ) (v : ℕ) → G t (Ok v) → IsNumeral 10 (digits_of t) × (v ≡ digits_value 10 (digits_of t)))
+    → (r : Option ℕ) → (one_text f id ≡ None → r ≡ None) → ((t : List ℕ) → one_text f id ≡ Some t → ReadsOne G t r)
+    → IfSome r (IsNumber id (rows_of f))
+number_some f id G says None none reads = tt
+number_some f id G says (Some n) none reads = go (one_text f id) refl
+  where
+    go : (o : Option (List ℕ)) → one_text f id ≡ o → IsNumber id (rows_of f) n
+    go None e = let empty = none e in cc
+    go (Some t) e =
+        let read = says t n (reads t e) in
+        record { text = t; found = sym (one_text-rows f id) ∙ e; numeral = read.0; value = read.1 }
+
+pub number_none : {E : Type 0} (f : Found) (id : List ℕ) (G : List ℕ → Result ℕ E → Type 0)
+    → ((t : List ℕ) (e : E) → G t (Err e) → IsNumeral 10 (digits_of t) → digits_value 10 (digits_of t) < 2 ^ 64 → ⊥)
+    → (r : Option ℕ) → ((t : List ℕ) → one_text f id ≡ Some t → ReadsOne G t r)
+    → IfNone r ((n : ℕ) → n < 2 ^ 64 → IsNumber id (rows_of f) n → ⊥)
+number_none f id G says (Some n) reads = tt
+number_none f id G says None reads = λ n small number.
+    let read = reads number.text (one_text-rows f id ∙ number.found) in
+    says number.text read.0 read.1 number.numeral (subst (λ m. m < 2 ^ 64) number.value small)
+
+-- ---- plans
+
+-- a plan of `run` has a schedule
+pub no_run : (rows : List Row) → ((schedule : Schedule) → IsScheduleOf rows schedule → IsInRange schedule → ⊥)
+    → NoCommandFits (codes "run") rows
+no_run rows none (Asm input output) fits ranges =
+    let bad : 114 ≡ 97 = ap (λ t. slice_index t 0) fits.0 in absurd (omega (arith, bad))
+no_run rows none (Run image schedule input) fits ranges = none schedule fits.2 ranges
+no_run rows none (Dis image) fits ranges = fits
+no_run rows none (Debug image) fits ranges = fits
+no_run rows none First fits ranges = fits

@@ -1,0 +1,21 @@
+ghost use Rattle.std.specs.Prelude.{◌≡◌};
+ghost use Rattle.sim_run.specs.declared.fault.PlanFault.TheVariants.{Memory};
+
+use std::alloc::AllocError;
+
+/// Why a command line gives no plan.
+#[derive(Debug, Drop)]
+pub enum PlanFault {
+    /// It is no command of the program, or asks for help: the text to show.
+    Refused(String),
+    /// No memory to read it.
+    Memory,
+}
+
+impl From<AllocError> for PlanFault {
+    ghost from_gives = { λ _ fault. fault ≡ Memory };
+
+    fn from(_error: AllocError) -> PlanFault {
+        PlanFault::Memory
+    }
+}

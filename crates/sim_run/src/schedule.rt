@@ -1,0 +1,26 @@
+ghost use Rattle.std.specs.Prelude.{◌≡◌, ◌↔◌, IsTrue};
+ghost use Rattle.sim_run.specs.Schedule.{IsInRange};
+
+/// When a run ends, and when bytes and ticks come.
+#[derive(Clone, Copy, Debug, PartialEq, Eq)]
+pub struct Schedule {
+    /// The most steps that are done, 1 to 100000000.
+    pub steps: u64,
+    /// Steps from one byte of the input to the next, 1 to 1000000. The first byte comes before the first step.
+    pub gap: u64,
+    /// Steps from one tick of the timer to the next, at most 1000000; at 0 there is no tick.
+    pub tick: u64,
+}
+
+impl Schedule {
+    /// Whether the steps, the gap and the tick are in their ranges.
+    pub fn is_in_range(self) -> bool
+        ensures { IsTrue result ↔ IsInRange self }
+    {
+        1 <= self.steps
+            && self.steps <= 100_000_000
+            && 1 <= self.gap
+            && self.gap <= 1_000_000
+            && self.tick <= 1_000_000
+    }
+}

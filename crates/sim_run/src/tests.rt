@@ -1,0 +1,4 @@
+//! Values from the rules of the command line and the schedule, not from their definitions.
+
+mod plans;
+mod runs;
