@@ -1,0 +1,8 @@
+//! One line of an assembly text: its label, its statement, and the faults that the line alone decides.
+#![tactic(auto)]
+
+mod fault;
+mod parsed;
+
+pub use fault::LineFault;
+pub use parsed::{Expression, Parsed, Statement};

@@ -1,0 +1,4 @@
+pub mod Mnemonic
+pub mod Registers
+pub mod SpecialNames
+pub mod Slots
