@@ -5,38 +5,149 @@ use crate::slots::{Naming, Slot};
 use isa_rows::Row;
 
 const UPPER: &'static [Slot] = &[Slot::Rd(Naming::Integer), Slot::Upper];
+
 const UPPER_LINK: &'static [Slot] = &[Slot::Rd(Naming::ByMode), Slot::Upper];
+
 const JUMP: &'static [Slot] = &[Slot::Rd(Naming::ByMode), Slot::Target(21)];
+
 const JUMP_REGISTER: &'static [Slot] = &[Slot::Rd(Naming::ByMode), Slot::Address(Naming::ByMode)];
-const BRANCH: &'static [Slot] = &[Slot::Rs1(Naming::Integer), Slot::Rs2(Naming::Integer), Slot::Target(13)];
+
+const BRANCH: &'static [Slot] = &[
+    Slot::Rs1(Naming::Integer),
+    Slot::Rs2(Naming::Integer),
+    Slot::Target(13),
+];
+
 const LOAD: &'static [Slot] = &[Slot::Rd(Naming::Integer), Slot::Address(Naming::ByMode)];
+
 const STORE: &'static [Slot] = &[Slot::Rs2(Naming::Integer), Slot::Address(Naming::ByMode)];
-const STORE_CAPABILITY: &'static [Slot] = &[Slot::Rs2(Naming::Capability), Slot::Address(Naming::ByMode)];
-const IMMEDIATE: &'static [Slot] = &[Slot::Rd(Naming::Integer), Slot::Rs1(Naming::Integer), Slot::Signed];
-const LOAD_CAPABILITY: &'static [Slot] = &[Slot::Rd(Naming::Capability), Slot::Address(Naming::ByMode)];
-const SHIFT_6: &'static [Slot] = &[Slot::Rd(Naming::Integer), Slot::Rs1(Naming::Integer), Slot::Unsigned(6)];
-const SHIFT_5: &'static [Slot] = &[Slot::Rd(Naming::Integer), Slot::Rs1(Naming::Integer), Slot::Unsigned(5)];
-const INTEGERS: &'static [Slot] = &[Slot::Rd(Naming::Integer), Slot::Rs1(Naming::Integer), Slot::Rs2(Naming::Integer)];
-const CSR_REGISTER: &'static [Slot] = &[Slot::Rd(Naming::Integer), Slot::Csr, Slot::Rs1(Naming::Integer)];
+
+const STORE_CAPABILITY: &'static [Slot] = &[
+    Slot::Rs2(Naming::Capability),
+    Slot::Address(Naming::ByMode),
+];
+
+const IMMEDIATE: &'static [Slot] = &[
+    Slot::Rd(Naming::Integer),
+    Slot::Rs1(Naming::Integer),
+    Slot::Signed,
+];
+
+const LOAD_CAPABILITY: &'static [Slot] = &[
+    Slot::Rd(Naming::Capability),
+    Slot::Address(Naming::ByMode),
+];
+
+const SHIFT_6: &'static [Slot] = &[
+    Slot::Rd(Naming::Integer),
+    Slot::Rs1(Naming::Integer),
+    Slot::Unsigned(6),
+];
+
+const SHIFT_5: &'static [Slot] = &[
+    Slot::Rd(Naming::Integer),
+    Slot::Rs1(Naming::Integer),
+    Slot::Unsigned(5),
+];
+
+const INTEGERS: &'static [Slot] = &[
+    Slot::Rd(Naming::Integer),
+    Slot::Rs1(Naming::Integer),
+    Slot::Rs2(Naming::Integer),
+];
+
+const CSR_REGISTER: &'static [Slot] = &[
+    Slot::Rd(Naming::Integer),
+    Slot::Csr,
+    Slot::Rs1(Naming::Integer),
+];
+
 const CSR_IMMEDIATE: &'static [Slot] = &[Slot::Rd(Naming::Integer), Slot::Csr, Slot::Small];
+
 const NOTHING: &'static [Slot] = &[];
-const DERIVED_BY_SIGNED: &'static [Slot] = &[Slot::Rd(Naming::Capability), Slot::Rs1(Naming::Capability), Slot::Signed];
-const DERIVED_BY_UNSIGNED_12: &'static [Slot] = &[Slot::Rd(Naming::Capability), Slot::Rs1(Naming::Capability), Slot::Unsigned(12)];
-const SPECIAL: &'static [Slot] = &[Slot::Rd(Naming::Capability), Slot::Special, Slot::Rs1(Naming::Capability)];
-const DERIVED: &'static [Slot] = &[Slot::Rd(Naming::Capability), Slot::Rs1(Naming::Capability), Slot::Rs2(Naming::Integer)];
-const SEALED: &'static [Slot] = &[Slot::Rd(Naming::Capability), Slot::Rs1(Naming::Capability), Slot::Rs2(Naming::Capability)];
-const COMPARED: &'static [Slot] = &[Slot::Rd(Naming::Integer), Slot::Rs1(Naming::Capability), Slot::Rs2(Naming::Capability)];
-const STORED_INTEGER_INTEGER: &'static [Slot] = &[Slot::Rs2(Naming::Integer), Slot::Authority(Naming::Integer)];
-const STORED_CAPABILITY_INTEGER: &'static [Slot] = &[Slot::Rs2(Naming::Capability), Slot::Authority(Naming::Integer)];
-const STORED_INTEGER_CAPABILITY: &'static [Slot] = &[Slot::Rs2(Naming::Integer), Slot::Authority(Naming::Capability)];
-const STORED_CAPABILITY_CAPABILITY: &'static [Slot] = &[Slot::Rs2(Naming::Capability), Slot::Authority(Naming::Capability)];
-const LOADED_INTEGER_INTEGER: &'static [Slot] = &[Slot::Rd(Naming::Integer), Slot::Authority(Naming::Integer)];
-const LOADED_INTEGER_CAPABILITY: &'static [Slot] = &[Slot::Rd(Naming::Integer), Slot::Authority(Naming::Capability)];
-const LOADED_CAPABILITY_INTEGER: &'static [Slot] = &[Slot::Rd(Naming::Capability), Slot::Authority(Naming::Integer)];
-const LOADED_CAPABILITY_CAPABILITY: &'static [Slot] = &[Slot::Rd(Naming::Capability), Slot::Authority(Naming::Capability)];
+
+const DERIVED_BY_SIGNED: &'static [Slot] = &[
+    Slot::Rd(Naming::Capability),
+    Slot::Rs1(Naming::Capability),
+    Slot::Signed,
+];
+
+const DERIVED_BY_UNSIGNED_12: &'static [Slot] = &[
+    Slot::Rd(Naming::Capability),
+    Slot::Rs1(Naming::Capability),
+    Slot::Unsigned(12),
+];
+
+const SPECIAL: &'static [Slot] = &[
+    Slot::Rd(Naming::Capability),
+    Slot::Special,
+    Slot::Rs1(Naming::Capability),
+];
+
+const DERIVED: &'static [Slot] = &[
+    Slot::Rd(Naming::Capability),
+    Slot::Rs1(Naming::Capability),
+    Slot::Rs2(Naming::Integer),
+];
+
+const SEALED: &'static [Slot] = &[
+    Slot::Rd(Naming::Capability),
+    Slot::Rs1(Naming::Capability),
+    Slot::Rs2(Naming::Capability),
+];
+
+const COMPARED: &'static [Slot] = &[
+    Slot::Rd(Naming::Integer),
+    Slot::Rs1(Naming::Capability),
+    Slot::Rs2(Naming::Capability),
+];
+
+const STORED_INTEGER_INTEGER: &'static [Slot] = &[
+    Slot::Rs2(Naming::Integer),
+    Slot::Authority(Naming::Integer),
+];
+
+const STORED_CAPABILITY_INTEGER: &'static [Slot] = &[
+    Slot::Rs2(Naming::Capability),
+    Slot::Authority(Naming::Integer),
+];
+
+const STORED_INTEGER_CAPABILITY: &'static [Slot] = &[
+    Slot::Rs2(Naming::Integer),
+    Slot::Authority(Naming::Capability),
+];
+
+const STORED_CAPABILITY_CAPABILITY: &'static [Slot] = &[
+    Slot::Rs2(Naming::Capability),
+    Slot::Authority(Naming::Capability),
+];
+
+const LOADED_INTEGER_INTEGER: &'static [Slot] = &[
+    Slot::Rd(Naming::Integer),
+    Slot::Authority(Naming::Integer),
+];
+
+const LOADED_INTEGER_CAPABILITY: &'static [Slot] = &[
+    Slot::Rd(Naming::Integer),
+    Slot::Authority(Naming::Capability),
+];
+
+const LOADED_CAPABILITY_INTEGER: &'static [Slot] = &[
+    Slot::Rd(Naming::Capability),
+    Slot::Authority(Naming::Integer),
+];
+
+const LOADED_CAPABILITY_CAPABILITY: &'static [Slot] = &[
+    Slot::Rd(Naming::Capability),
+    Slot::Authority(Naming::Capability),
+];
+
 const INVOKED: &'static [Slot] = &[Slot::Rs1(Naming::Capability), Slot::Rs2(Naming::Capability)];
+
 const TOLD: &'static [Slot] = &[Slot::Rd(Naming::Integer), Slot::Rs1(Naming::Capability)];
+
 const ROUNDED: &'static [Slot] = &[Slot::Rd(Naming::Integer), Slot::Rs1(Naming::Integer)];
+
 const MOVED: &'static [Slot] = &[Slot::Rd(Naming::Capability), Slot::Rs1(Naming::Capability)];
 
 /// The operands that a row is written with, in order.

@@ -15,7 +15,11 @@ pub fn row_named(text: &[u8]) -> Option<Row>
 pub fn mnemonic(row: Row, mode: bool) -> &'static str
     ensures { result.now ≡ mnemonic_of mode row }
 {
-    if mode { capability_name(row) } else { row.name() }
+    if mode {
+        capability_name(row)
+    } else {
+        row.name()
+    }
 }
 
 /// The row's name in capability mode (CHERI ISA version 9, CHERI-RISC-V, capability mode).
