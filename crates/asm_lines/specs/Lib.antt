@@ -4,3 +4,4 @@ pub mod Operand
 pub mod Statement
 pub mod Line
 pub mod SlotLaws
+pub mod FitLaws
