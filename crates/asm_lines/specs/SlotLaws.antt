@@ -1,9 +1,8 @@
 -- What is known of an instruction whose operands could be read: slot by slot, bounds of its registers and the kind of its immediate.
-use Rattle.std.proofs.Common.{◌≡◌, ℕ, ◌+◌, ◌-◌, ◌*◌, ◌%◌, ◌^◌, ◌<◌, ◌≤◌, ◌⊎◌, inl, inr, Bool, true, false, ◌&&◌, List, [], ◌∷◌, Option, Some, None, refl, cond, arith}
-use Rattle.std.specs.Prelude.{ℤ, pos, negsuc, neg_ℤ, int_lt, nat_lt, nat_le, Result, Ok, Err, length, ◌==◌, ◌||◌, if◌then◌else◌}
+use Rattle.std.proofs.Common.{◌≡◌, ℕ, ◌+◌, ◌-◌, ◌*◌, ◌^◌, ◌<◌, ◌≤◌, ◌⊎◌, inl, inr, Bool, true, false, ◌&&◌, List, [], ◌∷◌, Option, Some, None, refl, arith}
+use Rattle.std.specs.Prelude.{ℤ, pos, negsuc, neg_ℤ, int_lt, Result, Ok, Err, length, ◌==◌, if◌then◌else◌}
 use Rattle.std.proofs.lemmas.Bool.Decides.{nat_tests}
 use Rattle.std.proofs.lemmas.Nat.{pow_pos}
-use Rattle.isa_rows.specs.declared.operands.Insn.{Insn}
 use Rattle.isa_rows.specs.declared.rows.Row.{Row}
 use Rattle.isa_rows.specs.Insn.{sign_extended}
 use Rattle.isa_rows.specs.Operands.{IsSignedOf, IsUpperImmediate}
@@ -179,10 +178,10 @@ slot-leads row b d Special text w =
     special-leads row b d (named_or (scr_named text) (up_to 31 (number_of text))) (named_or-numbers 32 (scr_named text) (up_to 31 (number_of text)) (scr_named-below text) (up_to-numbers 32 (number_of text) (omega arith))) w
 slot-leads row b d (Address naming) text w =
     test-leads row (bounds_with (Address naming) b) d (has_brackets text) _
-      (address-leads row b d (register_named (in_brackets text)) (signed_12 (displacement (before_bracket text))) (register_named-below (in_brackets text)) (signed_12-numbers (displacement (before_bracket text))) w)
+    (address-leads row b d (register_named (in_brackets text)) (signed_12 (displacement (before_bracket text))) (register_named-below (in_brackets text)) (signed_12-numbers (displacement (before_bracket text))) w)
 slot-leads row b d (Authority naming) text w =
     test-leads row (bounds_with (Authority naming) b) d (has_brackets text && (length (before_bracket text) == 0)) _
-      (rs1-leads row b d (register_named (in_brackets text)) (register_named-below (in_brackets text)) w)
+    (rs1-leads row b d (register_named (in_brackets text)) (register_named-below (in_brackets text)) w)
 slot-leads row b d (Target bits) text w = target-leads row b d (expression_of text) w
 
 -- no fault is told where neither operand has one
