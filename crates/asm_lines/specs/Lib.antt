@@ -4,4 +4,5 @@ pub mod Operand
 pub mod Statement
 pub mod Line
 pub mod SlotLaws
+pub mod FormatLaws
 pub mod FitLaws
