@@ -182,7 +182,7 @@ said-fits word operands =
     one-fits (is_word word (codes ".ascii")) (text_said operands) _ (quoted-fits (is_quoted operands) (take (length operands - 2) (drop 1 operands))) (
     the-pattern-fits (pattern_of word (length operands == 0)) operands (pattern-suits word (length operands == 0)))))))))))))))
 
--- the same in one line's words
+-- the same, where what is said is one equation
 pub said_by-fits : (word operands : List ℕ) (i : Insn) (target : Option Expression) → said_by word operands ≡ said (Some (row i target)) None → FitsAt i target
 said_by-fits word operands i target e = said-fits word operands i target (ap (λ s. s.statement) e) (ap (λ s. s.fault) e)
 
