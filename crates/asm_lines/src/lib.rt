@@ -3,6 +3,7 @@
 
 mod fault;
 mod parsed;
+mod text;
 
 pub use fault::LineFault;
 pub use parsed::{Expression, Parsed, Statement};
