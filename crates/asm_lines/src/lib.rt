@@ -7,3 +7,4 @@ mod text;
 
 pub use fault::LineFault;
 pub use parsed::{Expression, Parsed, Statement};
+pub use text::split_piece;
