@@ -2,6 +2,7 @@
 #![tactic(auto)]
 
 mod fault;
+mod number;
 mod parsed;
 mod text;
 
