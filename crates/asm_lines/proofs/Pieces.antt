@@ -7,7 +7,7 @@ use Rattle.std.proofs.lemmas.Grind.{common_steps}
 use Rattle.asm_lines.specs.Text.{trimmed, pieces_between}
 
 pub pieces_at : (text : List ℕ) → prefix_len (λ b. not (b == 44)) text < length text
-  → pieces_between text ≡ trimmed (take (prefix_len (λ b. not (b == 44)) text) text) ∷ pieces_between (drop (prefix_len (λ b. not (b == 44)) text + 1) text)
+    → pieces_between text ≡ trimmed (take (prefix_len (λ b. not (b == 44)) text) text) ∷ pieces_between (drop (prefix_len (λ b. not (b == 44)) text + 1) text)
 pieces_at text h = ap (map trimmed) (slice_split_first (λ c. c == 44) text 0 h)
 
 split_first_no : (p : ℕ → Bool) (x : ℕ) (xs : List ℕ) → position_or_len p (x ∷ xs) ≡ length (x ∷ xs) → p x ≡ false

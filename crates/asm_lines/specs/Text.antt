@@ -72,7 +72,7 @@ is_dot text = (length text == 1) && (slice_index text 0 == 46)
 unfoldable pub has_label : List ℕ → Bool
 has_label text =
     is_name (take (name_length text) text) && (not (is_dot (take (name_length text) text))
-      && (nat_lt (name_length text) (length text) && (slice_index text (name_length text) == 58)))
+    && (nat_lt (name_length text) (length text) && (slice_index text (name_length text) == 58)))
 
 abbrev pub label_of : List ℕ → Option (List ℕ)
 label_of text = if has_label text then Some (take (name_length text) text) else None

@@ -7,5 +7,6 @@ mod parsed;
 mod text;
 
 pub use fault::LineFault;
+pub use number::expression;
 pub use parsed::{Expression, Parsed, Statement};
 pub use text::split_piece;
