@@ -4,3 +4,4 @@ pub mod Number
 pub mod Operand
 pub mod Statement
 pub mod Line
+pub mod Seen

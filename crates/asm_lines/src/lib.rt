@@ -3,6 +3,7 @@
 
 mod fault;
 mod number;
+mod operand;
 mod parsed;
 mod text;
 
