@@ -1,5 +1,6 @@
 -- What the parser's own values, whose texts are lent, say.
-use Rattle.std.specs.Prelude.{ℕ, ℤ, Option, Some, None, option_map, Result, Ok, Err}
+use Rattle.std.specs.Prelude.{ℕ, ℤ, Option, Some, None, option_map, Result, Ok, Err, List}
+use Rattle.std.specs.Borrow.{Bor}
 use Rattle.asm_lines.specs.declared.fault.LineFault.{LineFault}
 use Rattle.asm_lines.specs.declared.fault.LineFault.TheVariants.{A2}
 use Rattle.asm_lines.specs.declared.operand.Draft.{Draft as Filled}
@@ -22,3 +23,7 @@ or_A2 None = Err A2
 abbrev pub wrapped_or : Result ℤ LineFault → Result ℕ LineFault
 wrapped_or (Ok n) = Ok (wrapped n)
 wrapped_or (Err fault) = Err fault
+
+-- the text that is left, if there is one
+abbrev pub seen_rest : Option (Bor (List ℕ)) → Option (List ℕ)
+seen_rest rest = option_map (λ text. text.now) rest

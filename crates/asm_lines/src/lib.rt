@@ -2,6 +2,7 @@
 #![tactic(auto)]
 
 mod fault;
+mod filling;
 mod number;
 mod operand;
 mod parsed;

@@ -148,7 +148,7 @@ fn displacement(text: &[u8]) -> Result<u64, LineFault>
 
 /// The instruction with one operand more, or what is wrong with the operand.
 #[tactic(auto, unfolding(crate::specs::Operand::filled_slot))]
-fn filled_slot<'a>(slot: Slot, text: &'a [u8], draft: Draft<'a>) -> Result<Draft<'a>, LineFault>
+pub(crate) fn filled_slot<'a>(slot: Slot, text: &'a [u8], draft: Draft<'a>) -> Result<Draft<'a>, LineFault>
     ensures { seen_filled result ≡ filled_slot slot text.now (seen_draft draft.entry) }
 {
     let mut insn = draft.insn;
