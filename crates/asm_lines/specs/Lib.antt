@@ -5,3 +5,5 @@ pub mod Operand
 pub mod Statement
 pub mod Line
 pub mod Seen
+pub mod SlotLaws
+pub mod FitLaws
