@@ -3,6 +3,7 @@
 
 mod fault;
 mod filling;
+mod line;
 mod number;
 mod operand;
 mod parsed;
@@ -13,6 +14,7 @@ mod text;
 mod values;
 
 pub use fault::LineFault;
+pub use line::parse_line;
 pub use number::expression;
 pub use parsed::{Expression, Parsed, Statement};
 pub use text::split_piece;

@@ -26,6 +26,16 @@ pub(crate) struct Said<'a> {
 }
 
 impl<'a> Said<'a> {
+    /// No statement and no fault.
+    pub(crate) fn nothing() -> Said<'a>
+        ensures { seen_said result ≡ said None None }
+    {
+        Said {
+            statement: None,
+            fault: None,
+        }
+    }
+
     /// A statement without a fault.
     pub(crate) fn plain(statement: Statement<'a>) -> Said<'a>
         ensures { seen_said result ≡ said (Some (seen_statement statement.entry)) None }
