@@ -11,11 +11,11 @@ use Rattle.asm_lines.specs.Statement.{said, load_said}
 use Rattle.asm_lines.proofs.Faults.{told_without}
 
 pub draft_step : (slots : List Slot) (i : ℕ) (z : Slot) (p : List ℕ) (ps : List (List ℕ)) (d : Draft) → i < length slots
-  → filled_draft (drop i slots) (p ∷ ps) d ≡ filled_draft (drop (i + 1) slots) ps (draft_after d (filled_slot (get_or slots i z) p d))
+    → filled_draft (drop i slots) (p ∷ ps) d ≡ filled_draft (drop (i + 1) slots) ps (draft_after d (filled_slot (get_or slots i z) p d))
 draft_step slots i z p ps d h = rw (drop_more slots i z h) refl
 
 pub fault_step : (slots : List Slot) (i : ℕ) (z : Slot) (p : List ℕ) (ps : List (List ℕ)) (d : Draft) → i < length slots
-  → filled_fault (drop i slots) (p ∷ ps) d
+    → filled_fault (drop i slots) (p ∷ ps) d
     ≡ told_fault (fault_of (filled_slot (get_or slots i z) p d)) (filled_fault (drop (i + 1) slots) ps (draft_after d (filled_slot (get_or slots i z) p d)))
 fault_step slots i z p ps d h = rw (drop_more slots i z h) refl
 
@@ -40,8 +40,8 @@ fault_beyond (x ∷ xs) d =
     [ true ↦ refl | false ↦ first_onto x parts d ]
 
 pub fault_of_more : (slots : List Slot) (i : ℕ) (rest : Option (List ℕ)) (text : List ℕ) (fault whole : Option LineFault) (d : Draft)
-  → length slots ≤ i → rest ≡ Some text
-  → told_fault fault (filled_fault (drop i slots) (pieces_left rest) d) ≡ whole → told_fault fault (Some A2) ≡ whole
+    → length slots ≤ i → rest ≡ Some text
+    → told_fault fault (filled_fault (drop i slots) (pieces_left rest) d) ≡ whole → told_fault fault (Some A2) ≡ whole
 fault_of_more slots i rest text fault whole d h some e =
     let gone : drop i slots ≡ [] = drop_all i slots h in
     let more = fault_beyond text d in
@@ -49,7 +49,7 @@ fault_of_more slots i rest text fault whole d h some e =
 
 -- where slots and operands end together, the fault so far is that of all
 pub fault_at_end : (slots : List Slot) (i : ℕ) (rest : Option (List ℕ)) (fault whole : Option LineFault) (d : Draft) → length slots ≤ i → rest ≡ None
-  → told_fault fault (filled_fault (drop i slots) (pieces_left rest) d) ≡ whole → fault ≡ whole
+    → told_fault fault (filled_fault (drop i slots) (pieces_left rest) d) ≡ whole → fault ≡ whole
 fault_at_end slots i rest fault whole d h none e =
     let gone : drop i slots ≡ [] = drop_all i slots h in
     let same = told_without fault in

@@ -10,8 +10,8 @@ ghost use Rattle.asm_lines.specs.Seen.{seen_draft, seen_filled, or_A2, wrapped_o
 use crate::fault::LineFault;
 use crate::number::{expression, number};
 use crate::parsed::Expression;
-use crate::text::{after, before, trimmed, Class};
-use asm_names::{csr_named, register_named, scr_named, Slot};
+use crate::text::{Class, after, before, trimmed};
+use asm_names::{Slot, csr_named, register_named, scr_named};
 use isa_rows::Insn;
 
 /// An instruction that is being written, and its target if it has one.
@@ -148,7 +148,11 @@ fn displacement(text: &[u8]) -> Result<u64, LineFault>
 
 /// The instruction with one operand more, or what is wrong with the operand.
 #[tactic(auto, unfolding(crate::specs::Operand::filled_slot))]
-pub(crate) fn filled_slot<'a>(slot: Slot, text: &'a [u8], draft: Draft<'a>) -> Result<Draft<'a>, LineFault>
+pub(crate) fn filled_slot<'a>(
+    slot: Slot,
+    text: &'a [u8],
+    draft: Draft<'a>,
+) -> Result<Draft<'a>, LineFault>
     ensures { seen_filled result ≡ filled_slot slot text.now (seen_draft draft.entry) }
 {
     let mut insn = draft.insn;
@@ -179,7 +183,11 @@ fn with_address<'a>(text: &'a [u8], draft: Draft<'a>) -> Result<Draft<'a>, LineF
     }
     let rs1 = register(in_brackets(text))?;
     let imm = displacement(before_bracket(text))?;
-    let insn = Insn { rs1, imm, ..draft.insn };
+    let insn = Insn {
+        rs1,
+        imm,
+        ..draft.insn
+    };
     Ok(Draft { insn, ..draft })
 }
 

@@ -61,22 +61,49 @@ pub(crate) fn pattern_of(word: &[u8], alone: bool) -> Option<Pattern>
     let addi = plain(Row::Addi);
     let jal = plain(Row::Jal);
     if is_word(word, "nop") {
-        Some(Pattern { insn: addi, slots: NOTHING })
+        Some(Pattern {
+            insn: addi,
+            slots: NOTHING,
+        })
     } else if is_word(word, "li") {
-        Some(Pattern { insn: addi, slots: LOADED })
+        Some(Pattern {
+            insn: addi,
+            slots: LOADED,
+        })
     } else if is_word(word, "mv") {
-        Some(Pattern { insn: addi, slots: MOVED })
+        Some(Pattern {
+            insn: addi,
+            slots: MOVED,
+        })
     } else if is_word(word, "j") {
-        Some(Pattern { insn: jal, slots: JUMPED })
+        Some(Pattern {
+            insn: jal,
+            slots: JUMPED,
+        })
     } else if is_word(word, "ret") {
-        let insn = Insn { rs1: 1, ..plain(Row::Jalr) };
-        Some(Pattern { insn, slots: NOTHING })
+        let insn = Insn {
+            rs1: 1,
+            ..plain(Row::Jalr)
+        };
+        Some(Pattern {
+            insn,
+            slots: NOTHING,
+        })
     } else if alone && is_word(word, "fence") {
-        let insn = Insn { imm: 255, ..plain(Row::Fence) };
-        Some(Pattern { insn, slots: NOTHING })
+        let insn = Insn {
+            imm: 255,
+            ..plain(Row::Fence)
+        };
+        Some(Pattern {
+            insn,
+            slots: NOTHING,
+        })
     } else if alone && is_word(word, "fence.i") {
         let insn = plain(Row::FenceI);
-        Some(Pattern { insn, slots: NOTHING })
+        Some(Pattern {
+            insn,
+            slots: NOTHING,
+        })
     } else {
         row_pattern(row_named(word))
     }

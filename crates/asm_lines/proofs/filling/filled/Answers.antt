@@ -1,12 +1,10 @@
-use Rattle.std.proofs.Common.{rules, arith, ◌≡◌, ◌+◌, Some, refl, ◌∙◌, drop, length, get_or, []}
-use Rattle.std.proofs.lemmas.Grind.{common_steps}
-use Rattle.std.proofs.lemmas.List.{drop_all}
+use Rattle.std.proofs.Common.{arith, ◌≡◌, ◌+◌, refl, ◌∙◌, drop, get_or, []}
 use Rattle.asm_names.specs.declared.slots.Naming.TheVariants.{Integer}
 use Rattle.asm_names.specs.declared.slots.Slot.TheVariants.{Rd}
 use Rattle.asm_lines.specs.Text.{pieces_between, pieces_left}
 use Rattle.asm_lines.specs.Operand.{fault_of, filled_slot, filled_fault}
 use Rattle.asm_lines.specs.Seen.{seen_draft, seen_rest}
-use Rattle.asm_lines.proofs.Faults.{told_in_turn, told_without}
+use Rattle.asm_lines.proofs.Faults.{told_in_turn}
 use Rattle.asm_lines.proofs.SlotSteps.{draft_step, fault_step, draft_without, fault_without, fault_at_end, fault_of_more}
 use Rattle.asm_lines.proofs.filling.filled.Goals as goal
 
@@ -31,7 +29,7 @@ pub returns-in-Some-rest-clause-fault : goal.returns-in-Some-rest-clause-fault
 returns-in-Some-rest-clause-fault c =
     c.told_fault-in-Some-rest.ensures
     ∙ fault_of_more c.args.slots.now c.loop-slot.slot-index (seen_rest c.loop-slot.rest) c.in-Some-rest.field-0.now c.loop-slot.fault _ (seen_draft c.loop-slot.draft)
-      (omega arith) (rw c.in-Some-rest.is refl) c.loop-slot.invariant.1
+    (omega arith) (rw c.in-Some-rest.is refl) c.loop-slot.invariant.1
 
 pub loop-slot-preserved : goal.loop-slot-preserved
 loop-slot-preserved c =
@@ -43,5 +41,5 @@ loop-slot-preserved c =
     let one = draft_step c.args.slots.now i (Rd Integer) p ps d (omega arith) in
     let other = fault_step c.args.slots.now i (Rd Integer) p ps d (omega arith) in
     let turn = told_in_turn c.loop-slot.fault (fault_of (filled_slot (get_or c.args.slots.now i (Rd Integer)) p d))
-      (filled_fault (drop (i + 1) c.args.slots.now) ps (seen_draft c.after_operand.result.0)) in
+    (filled_fault (drop (i + 1) c.args.slots.now) ps (seen_draft c.after_operand.result.0)) in
     (cc (c.after_operand.ensures.draft, c.split_piece.ensures.pieces), cc (c.after_operand.ensures.draft, c.after_operand.ensures.fault, c.split_piece.ensures.pieces))

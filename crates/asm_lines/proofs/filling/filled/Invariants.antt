@@ -8,6 +8,6 @@ use Rattle.asm_lines.proofs.filling.filled.Given as goal
 abbrev pub invariant-loop-slot : goal.invariant-loop-slot
 invariant-loop-slot l =
     (filled_draft (drop l.slot-index l.slots) (pieces_left (seen_rest l.rest)) (seen_draft l.draft)
-      ≡ filled_draft l.slots (pieces_of l.fn.operands) (seen_draft l.fn.draft))
+    ≡ filled_draft l.slots (pieces_of l.fn.operands) (seen_draft l.fn.draft))
     × (told_fault l.fault (filled_fault (drop l.slot-index l.slots) (pieces_left (seen_rest l.rest)) (seen_draft l.draft))
-      ≡ filled_fault l.slots (pieces_of l.fn.operands) (seen_draft l.fn.draft))
+    ≡ filled_fault l.slots (pieces_of l.fn.operands) (seen_draft l.fn.draft))
