@@ -25,10 +25,10 @@ use Rattle.asm_lines.specs.FormatLaws.{suits, fits-at}
 
 -- what is known before any operand is read: the numbers of an alias, or zeros
 abbrev start : Kind → Bounds
-start kind = record { rd = 1; rs1 = 2; rs2 = 1; imm = kind }
+start kind = record { rd = 1; rs1 = 2; rs2 = 1; imm = kind; target = false }
 
 abbrev zero_start : Bounds
-zero_start = record { rd = 1; rs1 = 1; rs2 = 1; imm = below 1 }
+zero_start = record { rd = 1; rs1 = 1; rs2 = 1; imm = below 1; target = false }
 
 -- the slots of each row suit its format
 rows-suit : (r : Row) → suits (line_of r).format (bounds_of (slots_of r) zero_start) ≡ true
@@ -48,7 +48,7 @@ ThePatternSuits None = Unit {0}
 
 plain-within : (r : Row) (ss : List Slot) → IsWithin r zero_start (draft_of (plain r ss))
 plain-within r ss =
-    record { row_is = refl; rd_below = omega arith; rs1_below = omega arith; rs2_below = omega arith; imm_is = omega arith }
+    record { row_is = refl; rd_below = omega arith; rs1_below = omega arith; rs2_below = omega arith; imm_is = omega arith; target_is = tt }
 
 row-suits : (r : Option Row) → ThePatternSuits (row_pattern r)
 row-suits (Some r) = record { bounds = zero_start; within = plain-within r (slots_of r); suited = rows-suit r }
@@ -73,11 +73,11 @@ j-suits = record { bounds = zero_start; within = plain-within Jal (Target 21 ∷
 
 ret-suits : PatternSuits (pattern (insn Jalr 0 1 0 0) [])
 unfolding line_of
-ret-suits = record { bounds = start (below 1); within = record { row_is = refl; rd_below = omega arith; rs1_below = omega arith; rs2_below = omega arith; imm_is = omega arith }; suited = refl }
+ret-suits = record { bounds = start (below 1); within = record { row_is = refl; rd_below = omega arith; rs1_below = omega arith; rs2_below = omega arith; imm_is = omega arith; target_is = tt }; suited = refl }
 
 fence-suits : PatternSuits (pattern (insn Fence 0 0 0 255) [])
 unfolding line_of
-fence-suits = record { bounds = start (below 256); within = record { row_is = refl; rd_below = omega arith; rs1_below = omega arith; rs2_below = omega arith; imm_is = omega arith }; suited = refl }
+fence-suits = record { bounds = start (below 256); within = record { row_is = refl; rd_below = omega arith; rs1_below = omega arith; rs2_below = omega arith; imm_is = omega arith; target_is = tt }; suited = refl }
 
 fence_i-suits : PatternSuits (plain FenceI [])
 unfolding line_of
@@ -108,7 +108,7 @@ pattern-fits p ps k e =
     let d = filled_draft p.slots ps (draft_of p) in
     let w = filled-within p.slots ps p.insn.row k.bounds (draft_of p) k.within e in
     let suited : suits (line_of d.insn.row).format (bounds_of p.slots k.bounds) ≡ true = rw w.row_is k.suited in
-    fits-at (bounds_of p.slots k.bounds) d.insn d.target suited (record { row_is = refl; rd_below = w.rd_below; rs1_below = w.rs1_below; rs2_below = w.rs2_below; imm_is = w.imm_is })
+    fits-at (bounds_of p.slots k.bounds) d.insn d.target suited (record { row_is = refl; rd_below = w.rd_below; rs1_below = w.rs1_below; rs2_below = w.rs2_below; imm_is = w.imm_is; target_is = w.target_is })
 
 -- where a fault leaves a statement, there is none or it is the first
 unless-fits : (s : Statement) (fault : Option LineFault) → ((i : Insn) (target : Option Expression) → s ≡ row i target → fault ≡ None → FitsAt i target) → SaidFits (said_unless s fault)

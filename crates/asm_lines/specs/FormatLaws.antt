@@ -1,5 +1,5 @@
 -- Which bounds of operands suit a format, and that operands within them fit it.
-use Rattle.std.proofs.Common.{◌≡◌, ℕ, ◌<◌, ◌≤◌, inl, Bool, true, false, ◌&&◌, Option, Some, None, arith}
+use Rattle.std.proofs.Common.{◌≡◌, ℕ, ◌<◌, ◌≤◌, inl, Bool, true, false, not, ◌&&◌, Option, Some, None, arith}
 use Rattle.std.specs.Prelude.{nat_le}
 use Rattle.std.proofs.lemmas.Bool.Decides.{nat_tests}
 use Rattle.isa_rows.specs.declared.formats.Format.{Format}
@@ -12,7 +12,7 @@ use Rattle.isa_rows.specs.Operands.{IsSignedOf, IsUpperImmediate, OperandsFit}
 use Rattle.asm_lines.specs.Number.{Expression}
 use Rattle.asm_lines.specs.Operand.{Draft}
 use Rattle.asm_lines.specs.Line.{IsTargetOffset, FitsAt}
-use Rattle.asm_lines.specs.SlotLaws.{Kind, below, signed, upper, Bounds, IsWithin, IsOfKind}
+use Rattle.asm_lines.specs.SlotLaws.{IsMarked, Kind, below, signed, upper, Bounds, IsWithin, IsOfKind}
 
 -- The bounds lie within a format's.
 abbrev pub are_registers_below : ℕ → ℕ → ℕ → Bounds → Bool
@@ -62,8 +62,14 @@ has_kind Whole k = is_kind_below 1 k
 has_kind Unary k = is_kind_below 1 k
 has_kind Pair k = is_kind_below 1 k
 
+-- only a branch and a jump have a target
+abbrev pub may_have_target : Format → Bool → Bool
+may_have_target Branch target = true
+may_have_target Jump target = true
+may_have_target other target = not target
+
 abbrev pub suits : Format → Bounds → Bool
-suits format b = has_registers format b && has_kind format b.imm
+suits format b = has_registers format b && (has_kind format b.imm && may_have_target format b.target)
 
 -- a kind that a format has is in the range of its immediate
 kind-below : (m n : ℕ) (k : Kind) → is_kind_below m k ≡ true → IsOfKind k n → n < m
@@ -138,25 +144,30 @@ operands-fit Pair r b d t w =
     let a = registers-below r 1 32 32 b d (grind (arith, nat_tests)) w in
     record { rd_below = a.rd_below; rs1_below = a.rs1_below; rs2_below = a.rs2_below; imm_is = kind-below 1 d.insn.imm b.imm (grind (arith, nat_tests)) w.imm_is }
 
-target-fits : (format : Format) (r : Row) (b : Bounds) (d : Draft) (distance : ℕ) → suits format b ≡ true → IsWithin r b d → IsTargetOffset format distance → OperandsFit format (record d.insn { imm = distance })
+-- no target where there may be none
+no-target : (target : Bool) (e : Expression) → not target ≡ true → IsMarked target (Some e) → ⊥
+no-target true e t m = cc
+no-target false e t m = m
+
+target-fits : (format : Format) (r : Row) (b : Bounds) (d : Draft) (e : Expression) (distance : ℕ) → suits format b ≡ true → IsWithin r b d → IsMarked b.target (Some e) → IsTargetOffset format distance → OperandsFit format (record d.insn { imm = distance })
 unfolding OperandsFit
-target-fits Upper r b d n t w h = absurd h
-target-fits Jump r b d n t w h =
+target-fits Upper r b d e n t w m h = absurd (no-target b.target e (grind (arith, nat_tests)) m)
+target-fits Jump r b d e n t w m h =
     let a = registers-below r 32 1 1 b d (grind (arith, nat_tests)) w in
     record { rd_below = a.rd_below; rs1_below = a.rs1_below; rs2_below = a.rs2_below; imm_is = h }
-target-fits Immediate r b d n t w h = absurd h
-target-fits Unsigned r b d n t w h = absurd h
-target-fits Store r b d n t w h = absurd h
-target-fits Branch r b d n t w h =
+target-fits Immediate r b d e n t w m h = absurd (no-target b.target e (grind (arith, nat_tests)) m)
+target-fits Unsigned r b d e n t w m h = absurd (no-target b.target e (grind (arith, nat_tests)) m)
+target-fits Store r b d e n t w m h = absurd (no-target b.target e (grind (arith, nat_tests)) m)
+target-fits Branch r b d e n t w m h =
     let a = registers-below r 1 32 32 b d (grind (arith, nat_tests)) w in
     record { rd_below = a.rd_below; rs1_below = a.rs1_below; rs2_below = a.rs2_below; imm_is = h }
-target-fits Shift6 r b d n t w h = absurd h
-target-fits Shift5 r b d n t w h = absurd h
-target-fits Register r b d n t w h = absurd h
-target-fits Whole r b d n t w h = absurd h
-target-fits Unary r b d n t w h = absurd h
-target-fits Pair r b d n t w h = absurd h
+target-fits Shift6 r b d e n t w m h = absurd (no-target b.target e (grind (arith, nat_tests)) m)
+target-fits Shift5 r b d e n t w m h = absurd (no-target b.target e (grind (arith, nat_tests)) m)
+target-fits Register r b d e n t w m h = absurd (no-target b.target e (grind (arith, nat_tests)) m)
+target-fits Whole r b d e n t w m h = absurd (no-target b.target e (grind (arith, nat_tests)) m)
+target-fits Unary r b d e n t w m h = absurd (no-target b.target e (grind (arith, nat_tests)) m)
+target-fits Pair r b d e n t w m h = absurd (no-target b.target e (grind (arith, nat_tests)) m)
 
 pub fits-at : (b : Bounds) (i : Insn) (target : Option Expression) → suits (line_of i.row).format b ≡ true → IsWithin i.row b (record { insn = i; target = target }) → FitsAt i target
 fits-at b i None t w = Fits-OperandsFit i (operands-fit (line_of i.row).format i.row b _ t w)
-fits-at b i (Some e) t w = λ n h. Fits-OperandsFit (record i { imm = n }) (target-fits (line_of i.row).format i.row b _ n t w h)
+fits-at b i (Some e) t w = λ n h. Fits-OperandsFit (record i { imm = n }) (target-fits (line_of i.row).format i.row b _ e n t w w.target_is h)
