@@ -1,0 +1,20 @@
+//! One line of an assembly text: its label, its statement, and the faults that the line alone decides.
+#![tactic(auto)]
+
+mod fault;
+mod filling;
+mod line;
+mod number;
+mod operand;
+mod parsed;
+mod pattern;
+mod quoted;
+mod statement;
+mod text;
+mod values;
+
+pub use fault::LineFault;
+pub use line::parse_line;
+pub use number::expression;
+pub use parsed::{Expression, Parsed, Statement};
+pub use text::split_piece;
