@@ -6,4 +6,5 @@ pub mod Statement
 pub mod Line
 pub mod Seen
 pub mod SlotLaws
+pub mod FormatLaws
 pub mod FitLaws

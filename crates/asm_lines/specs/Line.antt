@@ -41,18 +41,8 @@ line_meaning line =
 
 -- the number that a row's target gives: how far a branch or a jump goes
 abbrev pub IsTargetOffset : Format → ℕ → Type 0
-IsTargetOffset Upper n = ⊥
-IsTargetOffset Jump n = IsJumpOffset n
-IsTargetOffset Immediate n = ⊥
-IsTargetOffset Unsigned n = ⊥
-IsTargetOffset Store n = ⊥
 IsTargetOffset Branch n = IsBranchOffset n
-IsTargetOffset Shift6 n = ⊥
-IsTargetOffset Shift5 n = ⊥
-IsTargetOffset Register n = ⊥
-IsTargetOffset Whole n = ⊥
-IsTargetOffset Unary n = ⊥
-IsTargetOffset Pair n = ⊥
+IsTargetOffset other n = IsJumpOffset n
 
 -- Some word is the instruction that a line without a fault says; where it is written with a target, whatever the distance to it is.
 abbrev pub FitsAt : Insn → Option Expression → Type 0
