@@ -64,6 +64,30 @@ seen_result (Err fault) = Err fault
 abbrev pub IsOffset : ℤ → Type 0
 IsOffset n = (neg_ℤ (pos (2 ^ 64)) <ℤ n) × (n <ℤ pos (2 ^ 64))
 
+abbrev pub HasOffset : Written → Type 0
+HasOffset e = IsOffset e.offset
+
+abbrev pub HasTargetOffset : Option Written → Type 0
+HasTargetOffset (Some e) = HasOffset e
+HasTargetOffset None = Unit {0}
+
+-- each expression of a statement has such an offset
+abbrev pub HasOffsets : Read → Type 0
+HasOffsets (Row i target) = HasTargetOffset target
+HasOffsets (Load capability rd value) = HasOffset value
+HasOffsets (Pages n) = Unit {0}
+HasOffsets (Mode m) = Unit {0}
+HasOffsets (Entry e) = HasOffset e
+HasOffsets (Org n) = Unit {0}
+HasOffsets (Align n) = Unit {0}
+HasOffsets (Zero n) = Unit {0}
+HasOffsets (Values size operands) = Unit {0}
+HasOffsets (Text between) = Unit {0}
+
+abbrev pub HaveOffsets : Option Read → Type 0
+HaveOffsets (Some s) = HasOffsets s
+HaveOffsets None = Unit {0}
+
 abbrev pub seen_statement : Read → Statement
 seen_statement (Row i target) = row i (option_map seen_expression target)
 seen_statement (Load capability rd value) = load capability rd (seen_expression value)

@@ -2,6 +2,7 @@
 ghost use Rattle.std.specs.Prelude.{◌≡◌, Some};
 ghost use Rattle.asm_lines.specs.Text.{pieces_of, pieces_left};
 ghost use Rattle.asm_lines.specs.Operand.{is_A2, told_fault, fault_of, draft_after, filled_slot, filled_draft, filled_fault};
+ghost use Rattle.asm_lines.specs.Line.{HasTargetOffset};
 ghost use Rattle.asm_lines.specs.Seen.{seen_draft, seen_rest};
 
 use crate::fault::LineFault;
@@ -38,6 +39,8 @@ fn after_operand<'a>(
     draft: Draft<'a>,
     fault: Option<LineFault>,
 ) -> (Draft<'a>, Option<LineFault>)
+    requires { HasTargetOffset draft.target }
+    ensures offset { HasTargetOffset result.0.target }
     ensures draft { seen_draft result.0 ≡ draft_after (seen_draft draft.entry) (filled_slot slot piece.now (seen_draft draft.entry)) }
     ensures fault { result.1 ≡ told_fault fault (fault_of (filled_slot slot piece.now (seen_draft draft.entry))) }
 {
@@ -53,6 +56,8 @@ pub(crate) fn filled<'a>(
     operands: &'a [u8],
     draft: Draft<'a>,
 ) -> (Draft<'a>, Option<LineFault>)
+    requires { HasTargetOffset draft.target }
+    ensures offset { HasTargetOffset result.0.target }
     ensures draft { seen_draft result.0 ≡ filled_draft slots.now (pieces_of operands.now) (seen_draft draft.entry) }
     ensures fault { result.1 ≡ filled_fault slots.now (pieces_of operands.now) (seen_draft draft.entry) }
 {

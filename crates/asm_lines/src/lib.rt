@@ -18,3 +18,6 @@ pub use line::parse_line;
 pub use number::expression;
 pub use parsed::{Expression, Parsed, Statement};
 pub use text::split_piece;
+
+#[cfg(test)]
+mod tests;

@@ -1,6 +1,6 @@
 //! Lines.
 ghost use Rattle.std.specs.Prelude.{◌≡◌, option_map};
-ghost use Rattle.asm_lines.specs.Line.{labelled, line_said, line_of_text, line_meaning, seen_line, RowFits};
+ghost use Rattle.asm_lines.specs.Line.{labelled, line_said, line_of_text, line_meaning, seen_line, RowFits, HaveOffsets};
 ghost use Rattle.asm_lines.specs.Seen.{seen_said, seen_rest};
 
 use crate::fault::LineFault;
@@ -11,7 +11,9 @@ use crate::text::{
 };
 
 fn labelled<'a>(label: Option<&'a [u8]>, said: Said<'a>) -> Parsed<'a>
-    ensures { seen_line result ≡ labelled (seen_rest label.entry) (seen_said said.entry) }
+    requires { HaveOffsets said.statement }
+    ensures offsets { HaveOffsets result.statement }
+    ensures value { seen_line result ≡ labelled (seen_rest label.entry) (seen_said said.entry) }
 {
     Parsed {
         label,
@@ -22,7 +24,8 @@ fn labelled<'a>(label: Option<&'a [u8]>, said: Said<'a>) -> Parsed<'a>
 
 /// What a line says, by its label and what follows.
 fn line_said<'a>(label: Option<&'a [u8]>, text: &'a [u8]) -> Parsed<'a>
-    ensures { seen_line result ≡ line_said (seen_rest label.entry) text.now }
+    ensures offsets { HaveOffsets result.statement }
+    ensures value { seen_line result ≡ line_said (seen_rest label.entry) text.now }
 {
     if text.is_empty() {
         return labelled(label, Said::nothing());
@@ -38,13 +41,15 @@ fn line_said<'a>(label: Option<&'a [u8]>, text: &'a [u8]) -> Parsed<'a>
 pub fn parse_line<'a>(line: &'a [u8]) -> Parsed<'a>
     ensures value { seen_line result ≡ line_meaning line.now }
     ensures fits { RowFits (seen_line result) }
+    ensures offsets { HaveOffsets result.statement }
 {
     meaning(line)
 }
 
 #[tactic(auto, unfolding(crate::specs::Line::line_meaning))]
 fn meaning<'a>(line: &'a [u8]) -> Parsed<'a>
-    ensures { seen_line result ≡ line_meaning line.now }
+    ensures offsets { HaveOffsets result.statement }
+    ensures value { seen_line result ≡ line_meaning line.now }
 {
     if run_length(line, Class::Plain) < line.len() {
         return labelled(None, Said::fault(LineFault::A8));

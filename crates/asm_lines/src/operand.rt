@@ -5,6 +5,7 @@ ghost use Rattle.asm_names.specs.Registers.{register_named};
 ghost use Rattle.asm_names.specs.SpecialNames.{csr_named, scr_named};
 ghost use Rattle.asm_lines.specs.Number.{number_of};
 ghost use Rattle.asm_lines.specs.Operand.{up_to, signed_12, named_or, has_brackets, before_bracket, in_brackets, displacement, filled_address, filled_authority, filled_slot};
+ghost use Rattle.asm_lines.specs.Line.{HasTargetOffset};
 ghost use Rattle.asm_lines.specs.Seen.{seen_draft, seen_filled, or_A2, wrapped_or};
 
 use crate::fault::LineFault;
@@ -153,7 +154,9 @@ pub(crate) fn filled_slot<'a>(
     text: &'a [u8],
     draft: Draft<'a>,
 ) -> Result<Draft<'a>, LineFault>
-    ensures { seen_filled result ≡ filled_slot slot text.now (seen_draft draft.entry) }
+    requires { HasTargetOffset draft.target }
+    ensures value { seen_filled result ≡ filled_slot slot text.now (seen_draft draft.entry) }
+    ensures offset { IfOk result (λ d. HasTargetOffset d.target) }
 {
     let mut insn = draft.insn;
     let mut target = draft.target;
@@ -176,7 +179,9 @@ pub(crate) fn filled_slot<'a>(
 
 /// The instruction with a register in brackets, and a signed number before them.
 fn with_address<'a>(text: &'a [u8], draft: Draft<'a>) -> Result<Draft<'a>, LineFault>
-    ensures { seen_filled result ≡ filled_address text.now (seen_draft draft.entry) }
+    requires { HasTargetOffset draft.target }
+    ensures value { seen_filled result ≡ filled_address text.now (seen_draft draft.entry) }
+    ensures offset { IfOk result (λ d. HasTargetOffset d.target) }
 {
     if !has_brackets(text) {
         return Err(LineFault::A2);
@@ -193,7 +198,9 @@ fn with_address<'a>(text: &'a [u8], draft: Draft<'a>) -> Result<Draft<'a>, LineF
 
 /// The instruction with a register in brackets, and nothing before them.
 fn with_authority<'a>(text: &'a [u8], draft: Draft<'a>) -> Result<Draft<'a>, LineFault>
-    ensures { seen_filled result ≡ filled_authority text.now (seen_draft draft.entry) }
+    requires { HasTargetOffset draft.target }
+    ensures value { seen_filled result ≡ filled_authority text.now (seen_draft draft.entry) }
+    ensures offset { IfOk result (λ d. HasTargetOffset d.target) }
 {
     if !has_brackets(text) || !before_bracket(text).is_empty() {
         return Err(LineFault::A2);

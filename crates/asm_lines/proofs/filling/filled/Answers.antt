@@ -42,4 +42,4 @@ loop-slot-preserved c =
     let other = fault_step c.args.slots.now i (Rd Integer) p ps d (omega arith) in
     let turn = told_in_turn c.loop-slot.fault (fault_of (filled_slot (get_or c.args.slots.now i (Rd Integer)) p d))
     (filled_fault (drop (i + 1) c.args.slots.now) ps (seen_draft c.after_operand.result.0)) in
-    (cc (c.after_operand.ensures.draft, c.split_piece.ensures.pieces), cc (c.after_operand.ensures.draft, c.after_operand.ensures.fault, c.split_piece.ensures.pieces))
+    (cc (c.after_operand.ensures.draft, c.split_piece.ensures.pieces), cc (c.after_operand.ensures.draft, c.after_operand.ensures.fault, c.split_piece.ensures.pieces), c.after_operand.ensures.offset)
