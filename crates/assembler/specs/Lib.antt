@@ -1,4 +1,5 @@
 pub mod Places
+pub mod Labels
 pub mod Values
 pub mod Bytes
 pub mod Faults

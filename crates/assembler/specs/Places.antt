@@ -16,7 +16,7 @@ Symbols = List (List ℕ × ℕ)
 
 abbrev pub value_in : Symbols → List ℕ → Option ℕ
 value_in [] name = None
-value_in (s ∷ ss) name = if pointwise nat_eq s.0 name then Some s.1 else value_in ss name
+value_in (s ∷ ss) name = if pointwise nat_eq name s.0 then Some s.1 else value_in ss name
 
 -- the next multiple of a power of two
 abbrev pub aligned : ℕ → ℕ → ℕ

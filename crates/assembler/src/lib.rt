@@ -2,5 +2,7 @@
 #![tactic(auto)]
 
 mod fault;
+mod labels;
+mod lines;
 
 pub use fault::{AsmCode, AsmFault};

@@ -1,0 +1,17 @@
+//! How a text is cut into lines.
+ghost use Rattle.std.specs.Prelude.{◌≡◌, ◌<◌, ◌==◌, [], ◌∷◌, length, IfSome};
+ghost use Rattle.std.specs.List.{slice_split};
+ghost use Rattle.std.specs.Option.{option_map_or};
+
+/// What stands before the first line feed, and what stands behind it, if there is one.
+pub(crate) fn split_line(text: &[u8]) -> (&[u8], Option<&[u8]>)
+    ensures split { slice_split (λ b. b == 10) text.now ≡ result.0.now ∷ option_map_or (λ rest. slice_split (λ b. b == 10) rest.now) result.1 [] }
+    ensures shorter { IfSome result.1 (λ rest. length rest.now < length text.now) }
+{
+    for (end, byte) in text.iter().enumerate() {
+        if *byte == b'\n' {
+            return (&text[..end], Some(&text[end + 1..]));
+        }
+    }
+    (text, None)
+}
