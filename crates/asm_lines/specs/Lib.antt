@@ -1,4 +1,5 @@
 pub mod Text
+pub mod Class
 pub mod Number
 pub mod Operand
 pub mod Statement

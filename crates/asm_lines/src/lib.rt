@@ -2,7 +2,11 @@
 #![tactic(auto)]
 
 mod fault;
+mod number;
 mod parsed;
+mod text;
 
 pub use fault::LineFault;
+pub use number::expression;
 pub use parsed::{Expression, Parsed, Statement};
+pub use text::split_piece;

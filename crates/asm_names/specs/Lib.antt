@@ -2,3 +2,4 @@ pub mod Mnemonic
 pub mod Registers
 pub mod SpecialNames
 pub mod Slots
+pub mod NameLaws

@@ -48,7 +48,7 @@ frame_pointer text = if pointwise nat_eq text (codes "fp") then Some 8 else (if 
 unfoldable pub register_named : List ℕ → Option ℕ
 register_named text =
     or_else (place_of text integer_names) (or_else (place_of text capability_names)
-      (or_else (place_of text integer_numbers) (or_else (place_of text capability_numbers) (frame_pointer text))))
+    (or_else (place_of text integer_numbers) (or_else (place_of text capability_numbers) (frame_pointer text))))
 
 -- the name that a register is shown by: by use, as a capability register or not
 abbrev pub register_name : Bool → ℕ → Option (List ℕ)

@@ -1,0 +1,85 @@
+-- Laws of names: what is shown is read back.
+use Rattle.std.proofs.Common.{◌≡◌, ℕ, zero, suc, ◌+◌, Bool, true, false, ◌==◌, ◌&&◌, List, [], ◌∷◌, Option, Some, None, refl, ap, ◌∙◌, arith}
+use Rattle.std.specs.Prelude.{slice_get}
+use Rattle.std.proofs.lemmas.Bool.Decides.{nat_tests}
+use Rattle.isa_rows.specs.declared.rows.Row.{Row}
+use Rattle.isa_rows.specs.declared.rows.Row.TheVariants.{Lui}
+use Rattle.isa_rows.specs.Name.{name_of}
+use Rattle.asm_names.specs.Mnemonic.{capability_name_of, mnemonic, row_named}
+use Rattle.asm_names.specs.Registers.{register_named, register_name, integer_names, capability_names}
+use Rattle.asm_names.specs.SpecialNames.{csr_names, scr_names, number_in, name_in, csr_named, csr_name, scr_named, scr_name}
+
+-- a row by its name in either mode
+pub row_named-mnemonic : (mode : Bool) (row : Row) → row_named (mnemonic mode row) ≡ Some row
+unfolding name_of capability_name_of
+row_named-mnemonic true Lui = refl
+row_named-mnemonic true _ = refl
+row_named-mnemonic false Lui = refl
+row_named-mnemonic false _ = refl
+
+-- a number was read, and it is this
+abbrev is_number : ℕ → Option ℕ → Bool
+is_number n (Some m) = m == n
+is_number n None = false
+
+is_number-Some : (n : ℕ) (r : Option ℕ) → is_number n r ≡ true → r ≡ Some n
+is_number-Some n (Some m) h = grind (arith, nat_tests)
+is_number-Some n None h = cc
+
+-- each name of a list is read as its place from k on
+abbrev are_read_from : ℕ → List (List ℕ) → Bool
+are_read_from k [] = true
+are_read_from k (name ∷ names) = is_number k (register_named name) && are_read_from (k + 1) names
+
+read-at : (names : List (List ℕ)) (k n : ℕ) (text : List ℕ) → are_read_from k names ≡ true → slice_get names n ≡ Some text → register_named text ≡ Some (k + n)
+read-at [] k n text h e = cc
+read-at (name ∷ names) k zero text h e =
+    let here : is_number k (register_named name) ≡ true = grind (arith, nat_tests) in
+    let r = is_number-Some k (register_named name) here in
+    grind (arith, r)
+read-at (name ∷ names) k (suc n) text h e =
+    let rest : are_read_from (k + 1) names ≡ true = grind (arith, nat_tests) in
+    let r = read-at names (k + 1) n text rest e in
+    grind (arith, r)
+
+integer_names_read : are_read_from 0 integer_names ≡ true
+unfolding register_named
+integer_names_read = refl
+
+capability_names_read : are_read_from 0 capability_names ≡ true
+unfolding register_named
+capability_names_read = refl
+
+-- a register by the name that it is shown by
+pub register_named-register_name : (capability : Bool) (n : ℕ) (text : List ℕ) → register_name capability n ≡ Some text → register_named text ≡ Some n
+register_named-register_name true n text e = read-at capability_names 0 n text capability_names_read e ∙ ap Some (omega arith)
+register_named-register_name false n text e = read-at integer_names 0 n text integer_names_read e ∙ ap Some (omega arith)
+
+-- each name of a list is read as its number in another
+abbrev are_read_in : List (ℕ × List ℕ) → List (ℕ × List ℕ) → Bool
+are_read_in names [] = true
+are_read_in names (p ∷ ps) = is_number p.0 (number_in names p.1) && are_read_in names ps
+
+read-in : (names ps : List (ℕ × List ℕ)) (n : ℕ) (text : List ℕ) → are_read_in names ps ≡ true → name_in ps n ≡ Some text → number_in names text ≡ Some n
+read-in names [] n text h e = cc
+read-in names (p ∷ ps) n text h e =
+    let here : is_number p.0 (number_in names p.1) ≡ true = grind (arith, nat_tests) in
+    let rest : are_read_in names ps ≡ true = grind (arith, nat_tests) in
+    let r = is_number-Some p.0 (number_in names p.1) here in
+    let s = read-in names ps n text rest in
+    grind (arith, nat_tests, r, s)
+
+csr_names_read : are_read_in csr_names csr_names ≡ true
+csr_names_read = refl
+
+scr_names_read : are_read_in scr_names scr_names ≡ true
+scr_names_read = refl
+
+-- a control and status register, a special capability register by its name
+pub csr_named-csr_name : (n : ℕ) (text : List ℕ) → csr_name n ≡ Some text → csr_named text ≡ Some n
+unfolding csr_named csr_name
+csr_named-csr_name n text e = read-in csr_names csr_names n text csr_names_read e
+
+pub scr_named-scr_name : (n : ℕ) (text : List ℕ) → scr_name n ≡ Some text → scr_named text ≡ Some n
+unfolding scr_named scr_name
+scr_named-scr_name n text e = read-in scr_names scr_names n text scr_names_read e
