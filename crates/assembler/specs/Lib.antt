@@ -1,6 +1,7 @@
 pub mod Places
 pub mod Labels
 pub mod Values
+pub mod Worth
 pub mod Bytes
 pub mod Faults
 pub mod Text

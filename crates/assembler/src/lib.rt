@@ -4,5 +4,6 @@
 mod fault;
 mod labels;
 mod lines;
+mod values;
 
 pub use fault::{AsmCode, AsmFault};
