@@ -1,6 +1,7 @@
 //! The assembler: the image that a text means, or the first fault of its first faulty line.
 #![tactic(auto)]
 
+mod checks;
 mod fault;
 mod labels;
 mod lines;
