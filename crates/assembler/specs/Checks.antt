@@ -7,11 +7,8 @@ use Rattle.assembler.specs.declared.fault.AsmCode.TheVariants.{A3, A5, A6}
 use Rattle.assembler.specs.declared.checks.Test.{Test}
 use Rattle.assembler.specs.declared.checks.Test.TheVariants.{IsUnknown, IsBeyond}
 use Rattle.assembler.specs.Places.{Symbols}
+use Rattle.assembler.specs.Modest.{is_size}
 use Rattle.assembler.specs.Values.{known_and, is_beyond, has_value_beyond, has_unknown_name, is_out_of_reach, is_reached, reach_of, is_loadable, is_entry}
-
--- a size of values: 1, 2, 4 or 8 bytes
-abbrev pub is_size : ℕ → Bool
-is_size n = (n == 1) || ((n == 2) || ((n == 4) || (n == 8)))
 
 -- A3, then A5, then A6
 abbrev pub told : Bool → Bool → Bool → Option AsmCode

@@ -2,6 +2,8 @@ pub mod Places
 pub mod Labels
 pub mod Values
 pub mod Worth
+pub mod Blocks
+pub mod Modest
 pub mod Checks
 pub mod Bytes
 pub mod Faults

@@ -1,5 +1,6 @@
 //! The values of a statement: whether they are known, in range and within reach.
-ghost use Rattle.std.specs.Prelude.{◌≡◌, Some, false, not, option_map, pos, ◌-ℤ◌, ◌<◌, ◌^◌, IsTrue};
+ghost use Rattle.std.specs.Prelude.{◌≡◌, ◌+◌, ◌≤◌, length, Some, false, not, option_map, pos, ◌-ℤ◌, ◌<◌, ◌^◌, IsTrue};
+ghost use Rattle.std.specs.Option.{option_map_or};
 ghost use Rattle.asm_lines.specs.Line.{seen_expression, seen_statement};
 ghost use Rattle.asm_lines.specs.Number.{is_in_limits, expression_of};
 ghost use Rattle.asm_lines.specs.Statement.{is_in_size, expression_or_nought};
@@ -7,12 +8,13 @@ ghost use Rattle.asm_lines.specs.Text.{pieces_of, pieces_left};
 
 ghost use Rattle.image.specs.Image.{is_good_header};
 ghost use Rattle.assembler.specs.Values.{value_of, any_value, reach_of, is_reached, is_loadable, is_entry};
-ghost use Rattle.assembler.specs.Checks.{told, told_value, passes, is_size, is_test};
+ghost use Rattle.assembler.specs.Modest.{is_size, is_modest};
+ghost use Rattle.assembler.specs.Checks.{told, told_value, passes, is_test, named_fault};
 
 use crate::fault::AsmCode;
 use crate::labels::Labels;
 use crate::values::{Worth, value, wrapped};
-use asm_lines::{Expression, expression, split_piece};
+use asm_lines::{Expression, Statement, expression, split_piece};
 use isa_rows::Format;
 
 /// What is asked of the values of a list.
@@ -52,7 +54,8 @@ pub(crate) fn operand(piece: &[u8]) -> Expression<'_>
 
 /// The operands of a list, if there are some.
 pub(crate) fn pieces(operands: &[u8]) -> Option<&[u8]>
-    ensures { pieces_left (option_map (λ t. t.now) result) ≡ pieces_of operands.now }
+    ensures value { pieces_left (option_map (λ t. t.now) result) ≡ pieces_of operands.now }
+    ensures bound { option_map_or (λ t. length t.now + 1) result 0 ≤ length operands.now + 1 }
 {
     if operands.is_empty() {
         None
@@ -210,5 +213,28 @@ pub(crate) fn values_fault(size: u8, labels: &Labels, here: u128, operands: &[u8
         Some(AsmCode::A5)
     } else {
         None
+    }
+}
+
+/// The first fault of the values and names of a statement at a place: A3, then A5, then A6.
+#[tactic(auto, unfolding(crate::specs::Checks::named_fault, crate::specs::Values::has_value_beyond, crate::specs::Values::has_unknown_name, crate::specs::Values::is_out_of_reach))]
+pub(crate) fn named_fault(
+    page_count: u32,
+    labels: &Labels,
+    here: u128,
+    statement: &Statement<'_>,
+) -> Option<AsmCode>
+    requires modest { IsTrue (is_modest (seen_statement statement.now)) }
+    requires place { here < 2 ^ 100 }
+    ensures { result ≡ named_fault page_count labels.now here (seen_statement statement.now) }
+{
+    match statement {
+        Statement::Row(insn, Some(target)) => {
+            target_fault(reach_of(insn.row.format()), labels, here, target)
+        }
+        Statement::Load { value, .. } => load_fault(labels, here, value),
+        Statement::Entry(entry) => entry_fault(page_count, labels, here, entry),
+        Statement::Values { size, operands } => values_fault(*size, labels, here, operands),
+        _ => None,
     }
 }

@@ -1,10 +1,12 @@
 //! The assembler: the image that a text means, or the first fault of its first faulty line.
 #![tactic(auto)]
 
+mod blocks;
 mod checks;
 mod fault;
 mod labels;
 mod lines;
+mod places;
 mod values;
 
 pub use fault::{AsmCode, AsmFault};

@@ -1,0 +1,100 @@
+//! Sections of an image that is being made.
+ghost use Rattle.std.specs.Prelude.{◌≡◌, ◌++◌, [], length, nat_lt, OnOk, IfOk};
+ghost use Rattle.image.specs.Image.{Section};
+ghost use Rattle.std.specs.List.{position_or_len};
+ghost use Rattle.assembler.specs.Blocks.{meets};
+ghost use Rattle.assembler.specs.Faults.{is_taken, inserted, closed, empty_at, filled};
+
+use std::alloc::{AllocError, Global};
+use std::marker::Model;
+
+/// Bytes that stand in RAM from an address on.
+#[derive(Drop)]
+pub(crate) struct Block {
+    address: u64,
+    bytes: Vec<u8>,
+}
+
+impl Model for Block {
+    ghost use Rattle.image.specs.Image as spec;
+
+    ghost Value = { spec.Section };
+
+    ghost view = { λ b. record { address = b.address; bytes = b.bytes.items } };
+}
+
+impl Block {
+    /// A block with no bytes.
+    pub(crate) fn new(alloc: Global, address: u64) -> Self
+        ensures { result ≡ empty_at address }
+    {
+        Block {
+            address,
+            bytes: Vec::new(alloc),
+        }
+    }
+
+    /// Where it begins.
+    pub(crate) fn address(&self) -> u64
+        ensures { result ≡ self.now.address }
+    {
+        self.address
+    }
+
+    /// Its bytes.
+    pub(crate) fn bytes(&self) -> &[u8]
+        ensures { result.now ≡ self.now.bytes }
+    {
+        &self.bytes
+    }
+
+    /// Whether it has a byte from one place on and below another.
+    fn meets(&self, from: u128, to: u128) -> bool
+        ensures { result ≡ meets from to self.now }
+    {
+        let address = u128::from(self.address);
+        from < address + self.bytes.len() as u128 && address < to
+    }
+
+    /// Places bytes behind its last.
+    pub(crate) fn fill(&mut self, bytes: &[u8]) -> Result<(), AllocError>
+        ensures { OnOk result (self.new ≡ filled self.old bytes.now) }
+    {
+        self.bytes.extend_from_slice(bytes)?;
+        Ok(())
+    }
+}
+
+/// Whether some byte from one place on and below another lies in one of the blocks.
+pub(crate) fn is_taken(from: u128, to: u128, blocks: &[Block]) -> bool
+    ensures { result ≡ is_taken from to blocks.now }
+{
+    for block in blocks {
+        if block.meets(from, to) {
+            return true;
+        }
+    }
+    false
+}
+
+/// The number of blocks that begin at an address or below it, before the first that begins above.
+fn rank(blocks: &[Block], address: u64) -> usize
+    ensures { result ≡ position_or_len (λ t. nat_lt address t.address) blocks.now }
+{
+    let mut rank = 0;
+    while rank < blocks.len() && blocks[rank].address() <= address {
+        rank += 1;
+    }
+    rank
+}
+
+/// Puts a block among blocks in ascending order, unless it is empty.
+pub(crate) fn close(done: &mut Vec<Block>, block: Block) -> Result<(), AllocError>
+    ensures { OnOk result (done.new.items ≡ closed done.old.items block) }
+{
+    if !block.bytes().is_empty() {
+        let rank = rank(done, block.address());
+        done.insert(rank, block)?;
+    }
+    Ok(())
+}
