@@ -1,2 +1,3 @@
 pub mod LabelLemmas
 pub mod LineLemmas
+pub mod BlockLemmas

@@ -1,5 +1,5 @@
 //! Sections of an image that is being made.
-ghost use Rattle.std.specs.Prelude.{◌≡◌, ◌++◌, [], length, nat_lt, OnOk, IfOk};
+ghost use Rattle.std.specs.Prelude.{◌≡◌, ◌++◌, ◌≤◌, [], length, nat_lt, OnOk, IfOk};
 ghost use Rattle.image.specs.Image.{Section};
 ghost use Rattle.std.specs.List.{position_or_len};
 ghost use Rattle.assembler.specs.Blocks.{meets};
@@ -79,7 +79,8 @@ pub(crate) fn is_taken(from: u128, to: u128, blocks: &[Block]) -> bool
 
 /// The number of blocks that begin at an address or below it, before the first that begins above.
 fn rank(blocks: &[Block], address: u64) -> usize
-    ensures { result ≡ position_or_len (λ t. nat_lt address t.address) blocks.now }
+    ensures value { result ≡ position_or_len (λ t. nat_lt address t.address) blocks.now }
+    ensures bound { result ≤ length blocks.now }
 {
     let mut rank = 0;
     while rank < blocks.len() && blocks[rank].address() <= address {
@@ -88,13 +89,21 @@ fn rank(blocks: &[Block], address: u64) -> usize
     rank
 }
 
+/// Puts a block among blocks in ascending order.
+fn insert(done: &mut Vec<Block>, block: Block) -> Result<(), AllocError>
+    ensures { OnOk result (done.new.items ≡ inserted block done.old.items) }
+{
+    let rank = rank(done, block.address());
+    done.insert(rank, block)?;
+    Ok(())
+}
+
 /// Puts a block among blocks in ascending order, unless it is empty.
 pub(crate) fn close(done: &mut Vec<Block>, block: Block) -> Result<(), AllocError>
     ensures { OnOk result (done.new.items ≡ closed done.old.items block) }
 {
     if !block.bytes().is_empty() {
-        let rank = rank(done, block.address());
-        done.insert(rank, block)?;
+        insert(done, block)?;
     }
     Ok(())
 }
