@@ -23,7 +23,7 @@ abbrev pub value_at : Symbols → ℕ → Expression → ℤ
 value_at symbols here e = or_zero (value_of symbols here e)
 
 -- the word of an instruction, lowest byte first
-abbrev pub insn_bytes : Insn → List ℕ
+unfoldable pub insn_bytes : Insn → List ℕ
 insn_bytes i = little_bytes 4 (insn_word i)
 
 -- the instruction with the distance to its target
@@ -44,6 +44,10 @@ load_bytes capability rd distance =
     insn_bytes (insn Auipc rd 0 0 (sign_extended 32 (wrapped (upper_part distance) % 2 ^ 20 * 2 ^ 12)))
     ++ insn_bytes (insn (if capability then CIncOffsetImm else Addi) rd rd 0 (wrapped (lower_part distance)))
 
+-- a value of so many bytes, lowest byte first
+unfoldable pub value_bytes : Symbols → ℕ → ℕ → List ℕ → List ℕ
+value_bytes symbols here size piece = little_bytes size (wrapped (value_at symbols here (expression_or_nought (expression_of piece))))
+
 unfoldable pub bytes_at : Symbols → ℕ → Statement → List ℕ
 bytes_at symbols here (row i target) = insn_bytes (aimed symbols here i target)
 bytes_at symbols here (load capability rd value) = load_bytes capability rd (value_at symbols here value -ℤ pos here)
@@ -53,6 +57,5 @@ bytes_at symbols here (entry e) = []
 bytes_at symbols here (org n) = []
 bytes_at symbols here (align bits) = replicate (aligned here bits - here) 0
 bytes_at symbols here (zeros n) = replicate n 0
-bytes_at symbols here (values size operands) =
-    flat_map (λ p. little_bytes size (wrapped (value_at symbols here (expression_or_nought (expression_of p))))) (pieces_of operands)
+bytes_at symbols here (values size operands) = flat_map (value_bytes symbols here size) (pieces_of operands)
 bytes_at symbols here (text between) = text_bytes between

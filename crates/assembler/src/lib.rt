@@ -2,6 +2,7 @@
 #![tactic(auto)]
 
 mod blocks;
+mod bytes;
 mod checks;
 mod fault;
 mod labels;

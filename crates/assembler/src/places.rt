@@ -58,11 +58,12 @@ fn power(bits: u32) -> u128
 }
 
 /// The next multiple of two to a power of at most 12.
-fn aligned(place: u128, bits: u32) -> u128
+pub(crate) fn aligned(place: u128, bits: u32) -> u128
     requires bits { bits ≤ 12 }
     requires place { place < 2 ^ 100 }
     ensures value { result ≡ aligned place bits }
     ensures bound { result < 2 ^ 100 + 2 ^ 12 }
+    ensures behind { place ≤ result }
 {
     let unit = power(bits);
     (place + unit - 1) / unit * unit

@@ -89,14 +89,13 @@ pub(crate) fn value(labels: &Labels, here: u128, expression: &Expression<'_>) ->
     }
 }
 
-/// A value modulo 2^64.
+/// A number modulo 2^64.
 pub(crate) fn wrapped(value: i128) -> u64
-    requires { IsTrue (is_in_limits value) }
     ensures { result ≡ wrapped value }
 {
     if value >= 0 {
-        value as u64
+        (value as u128 % END) as u64
     } else {
-        u64::MAX - (-1 - value) as u64
+        u64::MAX - ((-1 - value) as u128 % END) as u64
     }
 }
