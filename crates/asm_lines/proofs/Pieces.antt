@@ -3,7 +3,6 @@ use Rattle.std.proofs.Common.{◌≡◌, ℕ, ◌+◌, ◌<◌, ◌==◌, Bool, 
 use Rattle.std.specs.List.{prefix_len, position_or_len, slice_split}
 use Rattle.std.proofs.lemmas.List.{take_all}
 use Rattle.std.proofs.lemmas.List.Splits.{slice_split_first, slice_split-cons_no}
-use Rattle.std.proofs.lemmas.Grind.{common_steps}
 use Rattle.asm_lines.specs.Text.{trimmed, pieces_between}
 
 pub pieces_at : (text : List ℕ) → prefix_len (λ b. not (b == 44)) text < length text

@@ -1,5 +1,5 @@
 -- What one line of a text says: a label, a statement, and the first fault that the line alone decides.
-use Rattle.std.specs.Prelude.{◌≡◌, ℕ, ◌&&◌, ◌||◌, ◌==◌, nat_lt, nat_le, if◌then◌else◌, List, [], ◌∷◌, length, not, Option, Some, None, option_map, codes, Result, Ok, Err, ℤ, pos, neg_ℤ, ◌<ℤ◌, ◌^◌}
+use Rattle.std.specs.Prelude.{◌≡◌, ℕ, nat_lt, if◌then◌else◌, List, [], ◌∷◌, length, not, Option, Some, None, option_map, Result, Ok, Err, ℤ, pos, neg_ℤ, ◌<ℤ◌, ◌^◌}
 use Rattle.std.specs.List.{prefix_len}
 use Rattle.isa_rows.specs.declared.formats.Format.{Format}
 use Rattle.isa_rows.specs.declared.formats.Format.TheVariants.{Upper, Jump, Immediate, Unsigned, Store, Branch, Shift6, Shift5, Register, Whole, Unary, Pair}

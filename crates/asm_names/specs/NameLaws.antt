@@ -1,12 +1,14 @@
--- Laws of names: what is shown is read back.
-use Rattle.std.proofs.Common.{◌≡◌, ℕ, zero, suc, ◌+◌, Bool, true, false, ◌==◌, ◌&&◌, List, [], ◌∷◌, Option, Some, None, refl, ap, ◌∙◌, arith}
-use Rattle.std.specs.Prelude.{slice_get}
+-- Laws of names: what is shown is read back, and the numbers that names have.
+use Rattle.std.proofs.Common.{◌≡◌, ℕ, zero, suc, ◌+◌, ◌<◌, Bool, true, false, ◌==◌, ◌&&◌, List, [], ◌∷◌, Option, Some, None, refl, ap, ◌∙◌, arith}
+use Rattle.std.specs.Cmp.Lexicographic.{pointwise}
+use Rattle.std.specs.Prelude.{length, nat_eq, nat_lt, position, slice_get}
 use Rattle.std.proofs.lemmas.Bool.Decides.{nat_tests}
+use Rattle.std.proofs.lemmas.List.Quantifiers.{position-Some}
 use Rattle.isa_rows.specs.declared.rows.Row.{Row}
 use Rattle.isa_rows.specs.declared.rows.Row.TheVariants.{Lui}
 use Rattle.isa_rows.specs.Name.{name_of}
 use Rattle.asm_names.specs.Mnemonic.{capability_name_of, mnemonic, row_named}
-use Rattle.asm_names.specs.Registers.{register_named, register_name, integer_names, capability_names}
+use Rattle.asm_names.specs.Registers.{register_named, register_name, integer_names, capability_names, integer_numbers, capability_numbers, or_else, place_of, frame_pointer}
 use Rattle.asm_names.specs.SpecialNames.{csr_names, scr_names, number_in, name_in, csr_named, csr_name, scr_named, scr_name}
 
 -- a row by its name in either mode
@@ -83,3 +85,46 @@ csr_named-csr_name n text e = read-in csr_names csr_names n text csr_names_read 
 pub scr_named-scr_name : (n : ℕ) (text : List ℕ) → scr_name n ≡ Some text → scr_named text ≡ Some n
 unfolding scr_named scr_name
 scr_named-scr_name n text e = read-in scr_names scr_names n text scr_names_read e
+
+-- the place of a name lies inside the list
+place-below : (text : List ℕ) (names : List (List ℕ)) (n : ℕ) → place_of text names ≡ Some n → n < length names
+place-below text names n e = (position-Some (pointwise nat_eq text) names n [] e).0
+
+-- a fact of both of two answers is one of the first of them
+or_else-below : (m : ℕ) (a b : Option ℕ) → ((n : ℕ) → a ≡ Some n → n < m) → ((n : ℕ) → b ≡ Some n → n < m) → (n : ℕ) → or_else a b ≡ Some n → n < m
+or_else-below m (Some k) b f g n e = f n e
+or_else-below m None b f g n e = g n e
+
+frame_pointer-below : (text : List ℕ) (n : ℕ) → frame_pointer text ≡ Some n → n < 32
+frame_pointer-below text n e = grind (arith, nat_tests)
+
+-- a register's number is below 32
+pub register_named-below : (text : List ℕ) (n : ℕ) → register_named text ≡ Some n → n < 32
+unfolding register_named
+register_named-below text =
+    or_else-below 32 _ _ (place-below text integer_names)
+      (or_else-below 32 _ _ (place-below text capability_names)
+        (or_else-below 32 _ _ (place-below text integer_numbers)
+          (or_else-below 32 _ _ (place-below text capability_numbers) (frame_pointer-below text))))
+
+-- each number of a list is below a bound
+abbrev are_below : ℕ → List (ℕ × List ℕ) → Bool
+are_below m [] = true
+are_below m (p ∷ ps) = nat_lt p.0 m && are_below m ps
+
+number_in-below : (m : ℕ) (names : List (ℕ × List ℕ)) (text : List ℕ) (n : ℕ) → are_below m names ≡ true → number_in names text ≡ Some n → n < m
+number_in-below m [] text n h e = cc
+number_in-below m (p ∷ ps) text n h e =
+    let here : p.0 < m = grind (arith, nat_tests) in
+    let rest : are_below m ps ≡ true = grind (arith, nat_tests) in
+    let later = number_in-below m ps text n rest in
+    grind (arith, nat_tests, here, later)
+
+-- a control and status register's number is below 4096, a special capability register's below 32
+pub csr_named-below : (text : List ℕ) (n : ℕ) → csr_named text ≡ Some n → n < 4096
+unfolding csr_named
+csr_named-below text n e = number_in-below 4096 csr_names text n refl e
+
+pub scr_named-below : (text : List ℕ) (n : ℕ) → scr_named text ≡ Some n → n < 32
+unfolding scr_named
+scr_named-below text n e = number_in-below 32 scr_names text n refl e

@@ -1,4 +1,4 @@
-use Rattle.std.proofs.Common.{arith, rules}
+use Rattle.std.proofs.Common.{arith}
 use Rattle.std.proofs.lemmas.Grind.{common_steps}
 use Rattle.asm_lines.proofs.Pieces.{pieces_at, pieces_none}
 use Rattle.asm_lines.proofs.text.split_piece.Goals as goal

@@ -1,4 +1,4 @@
-use Rattle.std.proofs.Common.{◌≡◌, ◌+◌, ◌-◌, ◌≤◌, ◌++◌, length, drop, take}
+use Rattle.std.proofs.Common.{◌≡◌, ◌-◌, ◌≤◌, ◌++◌, length, drop, take}
 use Rattle.asm_lines.specs.Text.{uncommented, uncommented_from}
 use Rattle.asm_lines.proofs.text.uncommented.Given as goal
 
