@@ -1,10 +1,16 @@
 //! Sections of an image that is being made.
-ghost use Rattle.std.specs.Prelude.{◌≡◌, ◌++◌, ◌≤◌, [], length, nat_lt, OnOk, IfOk};
+ghost use Rattle.std.specs.Prelude.{◌≡◌, ◌++◌, ◌≤◌, ◌<◌, ◌^◌, IsTrue, [], length, nat_lt, OnOk, IfOk};
 ghost use Rattle.image.specs.Image.{Section};
 ghost use Rattle.std.specs.List.{position_or_len};
+ghost use Rattle.asm_lines.specs.Line.{seen_statement};
+ghost use Rattle.assembler.specs.Bytes.{bytes_at};
+ghost use Rattle.assembler.specs.Modest.{is_modest};
 ghost use Rattle.assembler.specs.Blocks.{meets};
 ghost use Rattle.assembler.specs.Faults.{is_taken, inserted, closed, empty_at, filled};
 
+use crate::bytes::push_bytes;
+use crate::labels::Labels;
+use asm_lines::Statement;
 use std::alloc::{AllocError, Global};
 use std::marker::Model;
 
@@ -56,12 +62,25 @@ impl Block {
         from < address + self.bytes.len() as u128 && address < to
     }
 
-    /// Places bytes behind its last.
-    pub(crate) fn fill(&mut self, bytes: &[u8]) -> Result<(), AllocError>
-        ensures { OnOk result (self.new ≡ filled self.old bytes.now) }
+    /// The number of its bytes.
+    pub(crate) fn len(&self) -> usize
+        ensures { result ≡ length self.now.bytes }
     {
-        self.bytes.extend_from_slice(bytes)?;
-        Ok(())
+        self.bytes.len()
+    }
+
+    /// Places the bytes of a statement that has no fault behind its last.
+    pub(crate) fn fill(
+        &mut self,
+        labels: &Labels,
+        here: u128,
+        statement: &Statement<'_>,
+    ) -> Result<(), AllocError>
+        requires modest { IsTrue (is_modest (seen_statement statement.now)) }
+        requires place { here < 2 ^ 100 }
+        ensures { OnOk result (self.new ≡ filled self.old (bytes_at labels.now here (seen_statement statement.now))) }
+    {
+        push_bytes(&mut self.bytes, labels, here, statement)
     }
 }
 

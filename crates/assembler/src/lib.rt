@@ -2,6 +2,7 @@
 #![tactic(auto)]
 
 mod blocks;
+mod builder;
 mod bytes;
 mod checks;
 mod fault;
