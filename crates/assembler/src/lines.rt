@@ -1,7 +1,11 @@
 //! How a text is cut into lines.
-ghost use Rattle.std.specs.Prelude.{◌≡◌, ◌<◌, ◌==◌, [], ◌∷◌, length, IfSome};
+ghost use Rattle.std.specs.Prelude.{◌≡◌, ◌<◌, ◌==◌, [], ◌∷◌, length, IfSome, IsTrue};
 ghost use Rattle.std.specs.List.{slice_split};
+ghost use Rattle.asm_lines.specs.Line.{seen_line, line_meaning};
+ghost use Rattle.assembler.specs.Modest.{is_modest_line};
 ghost use Rattle.std.specs.Option.{option_map_or};
+
+use asm_lines::{Parsed, parse_line};
 
 /// What stands before the first line feed, and what stands behind it, if there is one.
 pub(crate) fn split_line(text: &[u8]) -> (&[u8], Option<&[u8]>)
@@ -14,4 +18,12 @@ pub(crate) fn split_line(text: &[u8]) -> (&[u8], Option<&[u8]>)
         }
     }
     (text, None)
+}
+
+/// What a line says.
+pub(crate) fn read(line: &[u8]) -> Parsed<'_>
+    ensures value { seen_line result ≡ line_meaning line.now }
+    ensures modest { IsTrue (is_modest_line (seen_line result)) }
+{
+    parse_line(line)
 }
