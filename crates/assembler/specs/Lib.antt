@@ -8,3 +8,5 @@ pub mod Checks
 pub mod Bytes
 pub mod Faults
 pub mod Text
+pub mod Left
+pub mod Assembly

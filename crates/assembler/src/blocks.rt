@@ -1,6 +1,6 @@
 //! Sections of an image that is being made.
 ghost use Rattle.std.specs.Prelude.{◌≡◌, ◌++◌, ◌≤◌, ◌<◌, ◌^◌, IsTrue, [], length, nat_lt, OnOk, IfOk};
-ghost use Rattle.image.specs.Image.{Section};
+ghost use Rattle.image.specs.Image.{Section, Builds, image_of, lent_sections};
 ghost use Rattle.std.specs.List.{position_or_len};
 ghost use Rattle.asm_lines.specs.Line.{seen_statement};
 ghost use Rattle.assembler.specs.Bytes.{bytes_at};
@@ -11,6 +11,7 @@ ghost use Rattle.assembler.specs.Faults.{is_taken, inserted, closed, empty_at, f
 use crate::bytes::push_bytes;
 use crate::labels::Labels;
 use asm_lines::Statement;
+use image::Image;
 use std::alloc::{AllocError, Global};
 use std::marker::Model;
 
@@ -125,4 +126,32 @@ pub(crate) fn close(done: &mut Vec<Block>, block: Block) -> Result<(), AllocErro
         insert(done, block)?;
     }
     Ok(())
+}
+
+/// The blocks as addresses and lent bytes.
+fn lent(alloc: Global, blocks: &[Block]) -> Result<Vec<(u64, &[u8])>, AllocError>
+    ensures { IfOk result (λ parts. lent_sections parts.items ≡ blocks.now) }
+{
+    let mut parts = Vec::with_capacity(alloc, blocks.len())?;
+    for block in blocks {
+        parts.push((block.address(), block.bytes()))?;
+    }
+    Ok(parts)
+}
+
+/// An image of blocks.
+pub(crate) fn built(
+    alloc: Global,
+    pages: u32,
+    entry: u64,
+    mode: u32,
+    blocks: &[Block],
+) -> Result<Image, AllocError>
+    ensures { IfOk result (λ image. image ≡ image_of pages entry mode blocks.now) }
+{
+    let parts = lent(alloc, blocks)?;
+    match Image::build(alloc, pages, entry, mode, &parts) {
+        Ok(image) => Ok(image),
+        Err(_) => Err(AllocError),
+    }
 }

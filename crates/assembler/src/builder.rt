@@ -1,13 +1,14 @@
 //! What the lines of a text set and place.
-ghost use Rattle.std.specs.Prelude.{◌≡◌, ◌<◌, ◌^◌, ◌≤◌, None, Some, IsTrue, OnOk};
+ghost use Rattle.std.specs.Prelude.{◌≡◌, ◌<◌, ◌^◌, ◌≤◌, None, Some, IsTrue, OnOk, IfOk};
 ghost use Rattle.asm_lines.specs.Line.{seen_statement, seen_line};
 ghost use Rattle.assembler.specs.Modest.{is_modest, is_modest_or_none, is_modest_line};
 ghost use Rattle.std.specs.Option.{option_map};
 ghost use Rattle.assembler.specs.Bytes.{bytes_at};
 ghost use Rattle.assembler.specs.Blocks.{begun_at};
+ghost use Rattle.assembler.specs.Text.{image_of};
 ghost use Rattle.assembler.specs.Faults.{page_count, is_misplaced, size_at, is_instruction, lacks_place, statement_fault, line_fault, fault_by, assembled_after, with_statement, opening, is_repeated, is_statement_misplaced, fault_in_text, with_bytes};
 
-use crate::blocks::{Block, close, is_taken};
+use crate::blocks::{Block, built, close, is_taken};
 use crate::bytes::known;
 use crate::checks::named_fault;
 use crate::fault::AsmCode;
@@ -15,6 +16,7 @@ use crate::labels::Labels;
 use crate::places::{Places, end_of};
 use crate::values::wrapped;
 use asm_lines::{LineFault, Parsed, Statement};
+use image::Image;
 use std::alloc::{AllocError, Global};
 use std::marker::Model;
 use std::mem;
@@ -237,5 +239,17 @@ impl Builder {
             self.take(alloc, labels, statement)?;
         }
         self.places.pass(alloc, line)
+    }
+
+    /// The image of a correct text.
+    pub(crate) fn finish(self, alloc: Global) -> Result<Image, AllocError>
+        ensures { IfOk result (λ image. image ≡ image_of self) }
+    {
+        let pages = self.page_count();
+        let entry = self.entry.unwrap_or(0x8000_0000);
+        let mode = u32::from(self.mode.unwrap_or(false));
+        let mut sections = self.done;
+        close(&mut sections, self.current)?;
+        built(alloc, pages, entry, mode, &sections)
     }
 }

@@ -1,3 +1,8 @@
+ghost use Rattle.std.specs.Prelude.{◌≡◌};
+ghost use Rattle.assembler.specs.declared.fault.AsmCode.TheVariants.{A10};
+
+use std::alloc::AllocError;
+
 /// What is wrong with a line, or A10. Within a line the first of this order is told: A8, A9, A4, A1, A2, A3, A5, A6, A7.
 #[derive(Clone, Copy, Debug, PartialEq, Eq)]
 pub enum AsmCode {
@@ -29,4 +34,20 @@ pub struct AsmFault {
     /// The line, counted from 1; 0 for A10.
     pub line: u64,
     pub code: AsmCode,
+}
+
+impl AsmFault {
+    /// There is no memory.
+    pub(crate) const NO_MEMORY: AsmFault = AsmFault {
+        line: 0,
+        code: AsmCode::A10,
+    };
+}
+
+impl From<AllocError> for AsmFault {
+    ghost from_gives = { λ _ f. (f.code ≡ A10) × (f.line ≡ 0) };
+
+    fn from(_error: AllocError) -> AsmFault {
+        AsmFault::NO_MEMORY
+    }
 }

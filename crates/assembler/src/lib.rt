@@ -1,6 +1,7 @@
 //! The assembler: the image that a text means, or the first fault of its first faulty line.
 #![tactic(auto)]
 
+mod assembly;
 mod blocks;
 mod builder;
 mod bytes;
@@ -11,4 +12,5 @@ mod lines;
 mod places;
 mod values;
 
+pub use assembly::{Assembly, assemble};
 pub use fault::{AsmCode, AsmFault};
