@@ -81,7 +81,7 @@ abbrev pub lacks_place : Assembled → ℕ → ℕ → Bool → Bool
 lacks_place s place size instruction =
     nat_lt 0 size
     && (nat_lt place ram_base || (nat_lt (ram_end (page_count s)) (place + size) || (is_taken place (place + size) s.done
-      || (((length s.current.bytes == 0) && nat_le 64 (length s.done)) || (instruction && not (place % 4 == 0))))))
+    || (((length s.current.bytes == 0) && nat_le 64 (length s.done)) || (instruction && not (place % 4 == 0))))))
 
 -- The first fault of a statement that stands in the text, whose line alone has none: of the values, of the names, of the reach, of the place.
 unfoldable pub statement_fault : Symbols → Assembled → Statement → Option AsmCode

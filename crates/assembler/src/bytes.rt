@@ -75,7 +75,11 @@ fn push_insn(bytes: &mut Vec<u8>, insn: Insn) -> Result<(), AllocError>
 }
 
 /// The value of an expression that has no fault.
-pub(crate) fn known(labels: &Labels, here: u128, expression: &Expression<'_>) -> Result<i128, AllocError>
+pub(crate) fn known(
+    labels: &Labels,
+    here: u128,
+    expression: &Expression<'_>,
+) -> Result<i128, AllocError>
     ensures value { IfOk result (λ v. v ≡ value_at labels.now here (seen_expression expression.now)) }
     ensures limits { IfOk result (λ v. IsTrue (is_in_limits v)) }
 {

@@ -5,7 +5,6 @@ ghost use Rattle.asm_lines.specs.Line.{seen_expression, seen_statement};
 ghost use Rattle.asm_lines.specs.Number.{is_in_limits, expression_of};
 ghost use Rattle.asm_lines.specs.Statement.{is_in_size, expression_or_nought};
 ghost use Rattle.asm_lines.specs.Text.{pieces_of, pieces_left};
-
 ghost use Rattle.image.specs.Image.{is_good_header};
 ghost use Rattle.assembler.specs.Values.{value_of, any_value, reach_of, is_reached, is_loadable, is_entry};
 ghost use Rattle.assembler.specs.Modest.{is_size, is_modest};
@@ -136,10 +135,7 @@ fn is_good_entry(page_count: u32, entry: u64) -> bool
     ensures { result ≡ is_good_header page_count entry 0 }
 {
     let end = 0x8000_0000 + 4096 * u64::from(page_count);
-    (1..=4096).contains(&page_count)
-        && entry % 4 == 0
-        && 0x8000_0000 <= entry
-        && entry <= end - 4
+    (1..=4096).contains(&page_count) && entry % 4 == 0 && 0x8000_0000 <= entry && entry <= end - 4
 }
 
 /// Whether an image of so many pages can begin at a value.
@@ -203,7 +199,12 @@ pub(crate) fn entry_fault(
 }
 
 /// The fault of values of so many bytes.
-pub(crate) fn values_fault(size: u8, labels: &Labels, here: u128, operands: &[u8]) -> Option<AsmCode>
+pub(crate) fn values_fault(
+    size: u8,
+    labels: &Labels,
+    here: u128,
+    operands: &[u8],
+) -> Option<AsmCode>
     requires { IsTrue (is_size size) }
     ensures { result ≡ told (any_value (passes (Test.IsBeyond size)) labels.now here (pieces_of operands.now)) (any_value (passes Test.IsUnknown) labels.now here (pieces_of operands.now)) false }
 {

@@ -40,7 +40,12 @@ impl Labels {
     }
 
     /// Defines a name, unless it has a value.
-    pub(crate) fn define(&mut self, alloc: Global, name: &[u8], place: u128) -> Result<(), AllocError>
+    pub(crate) fn define(
+        &mut self,
+        alloc: Global,
+        name: &[u8],
+        place: u128,
+    ) -> Result<(), AllocError>
         ensures { OnOk result (self.new ≡ with_label (Some name.now) place self.old) }
     {
         if self.value(name).is_none() {

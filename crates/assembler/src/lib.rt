@@ -10,6 +10,8 @@ mod fault;
 mod labels;
 mod lines;
 mod places;
+#[cfg(test)]
+mod tests;
 mod values;
 
 pub use assembly::{Assembly, assemble};
