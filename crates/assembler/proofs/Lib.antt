@@ -1,0 +1,4 @@
+pub mod LabelLemmas
+pub mod LineLemmas
+pub mod BlockLemmas
+pub mod ModestLemmas

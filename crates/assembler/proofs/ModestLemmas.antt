@@ -1,0 +1,114 @@
+-- The statement of a line has a size of values, and an alignment to at most 4096 bytes.
+use Rattle.std.proofs.Common.{◌≡◌, ℕ, ◌*◌, ◌-◌, ◌%◌, ◌^◌, ◌≤◌, Bool, true, false, not, ◌&&◌, ◌||◌, ◌==◌, nat_lt, nat_le, cond, if◌then◌else◌, ℤ, pos, negsuc, List, [], ◌∷◌, length, take, drop, Option, Some, None, Result, Ok, Err, codes, refl, arith}
+use Rattle.std.specs.Prelude.{int_lt}
+use Rattle.std.specs.List.{prefix_len}
+use Rattle.std.proofs.lemmas.Bool.Decides.{nat_tests}
+use Rattle.asm_lines.specs.declared.fault.LineFault.{LineFault}
+use Rattle.asm_lines.specs.declared.fault.LineFault.TheVariants.{A1, A2, A3, A8, A9}
+use Rattle.asm_lines.specs.Text.{pieces_of, is_foreign, trimmed, uncommented, label_of, statement_text, mnemonic_of, operands_of}
+use Rattle.asm_lines.specs.Number.{Expression, number_of, expression_of}
+use Rattle.asm_lines.specs.Operand.{Draft, up_to, wrapped, filled_draft, filled_fault}
+use Rattle.asm_lines.specs.Statement.{Statement, row, load, pages, mode, entry, org, align, zeros, values, text, Said, said, said_by, is_word, Pattern, pattern_of, pattern_said, draft_of, row_said, said_unless, leaves_statement, register_load, load_said, number_said, page_count, entry_said, values_said, values_fault, text_said, is_quoted, expression_or_nought}
+use Rattle.asm_lines.specs.Line.{Line, line_meaning, line_said, line_of_text, labelled}
+use Rattle.assembler.specs.Modest.{is_size, is_modest, is_modest_or_none, is_modest_line}
+
+abbrev IsModest : Said → Type 0
+IsModest s = is_modest_or_none s.statement ≡ true
+
+unless-modest : (s : Statement) (fault : Option LineFault) → is_modest s ≡ true → IsModest (said_unless s fault)
+unless-modest s None h = h
+unless-modest s (Some A1) h = refl
+unless-modest s (Some A2) h = refl
+unless-modest s (Some A3) h = h
+unless-modest s (Some A8) h = refl
+unless-modest s (Some A9) h = refl
+
+pattern-modest : (p : Option Pattern) (operands : List ℕ) → IsModest (pattern_said p operands)
+pattern-modest (Some p) operands =
+    let d = filled_draft p.slots (pieces_of operands) (draft_of p) in
+    unless-modest (row d.insn d.target) (filled_fault p.slots (pieces_of operands) (draft_of p)) refl
+pattern-modest None operands = refl
+
+register_load-modest : (capability : Bool) (rd : Option ℕ) (value : Result Expression LineFault) → IsModest (register_load capability rd value)
+register_load-modest capability (Some rd) (Ok x) = refl
+register_load-modest capability (Some rd) (Err fault) = unless-modest (load capability rd (expression_or_nought (Err fault))) (Some fault) refl
+register_load-modest capability None value = refl
+
+load-modest : (capability : Bool) (ps : List (List ℕ)) → IsModest (load_said capability ps)
+load-modest capability [] = refl
+load-modest capability (r ∷ []) = refl
+load-modest capability (r ∷ x ∷ []) = register_load-modest capability _ _
+load-modest capability (r ∷ x ∷ y ∷ rest) = refl
+
+other-modest : (other : Option Statement) (fault : LineFault) → is_modest_or_none other ≡ true → IsModest (said (if leaves_statement (Some fault) then other else None) (Some fault))
+other-modest other A1 h = refl
+other-modest other A2 h = refl
+other-modest other A3 h = h
+other-modest other A8 h = refl
+other-modest other A9 h = refl
+
+number-modest : (make : ℕ → Statement) (other : Option Statement) (r : Result ℤ LineFault) → ((n : ℕ) → is_modest (make n) ≡ true) → is_modest_or_none other ≡ true → IsModest (number_said make other r)
+number-modest make other (Ok n) f h = f (wrapped n)
+number-modest make other (Err fault) f h = other-modest other fault h
+
+align-within : (n : ℕ) → (nat_lt n 0 || nat_lt 12 n) ≡ false → nat_le (n % 2 ^ 64) 12 ≡ true
+align-within n h = grind (arith, nat_tests)
+
+align-modest : (r : Result ℤ LineFault) → IsModest (number_said align None (up_to 12 r))
+align-modest (Ok (pos n)) =
+    elim (nat_lt n 0 || nat_lt 12 n) as (λ b. (nat_lt n 0 || nat_lt 12 n) ≡ b → IsModest (number_said align None (if b then Err A3 else Ok (pos n)))) [
+      | true ↦ λ e. refl
+      | false ↦ λ e. align-within n e
+    ] refl
+align-modest (Ok (negsuc n)) = refl
+align-modest (Err fault) = other-modest None fault refl
+
+entry-modest : (x : Result Expression LineFault) → IsModest (entry_said x)
+entry-modest (Ok x) = refl
+entry-modest (Err fault) = unless-modest (entry (expression_or_nought (Err fault))) (Some fault) refl
+
+values-modest : (size : ℕ) (operands : List ℕ) → is_size size ≡ true → IsModest (values_said size operands)
+values-modest size [] h = refl
+values-modest size (b ∷ bs) h = unless-modest (values size (b ∷ bs)) (values_fault size (pieces_of (b ∷ bs))) h
+
+quoted-modest : (test : Bool) (between : List ℕ) → IsModest (if test then said (Some (text between)) None else said None (Some A2))
+quoted-modest true between = refl
+quoted-modest false between = refl
+
+one-modest : (test : Bool) (s t : Said) → IsModest s → IsModest t → IsModest (if test then s else t)
+one-modest true s t f g = f
+one-modest false s t f g = g
+
+said-modest : (word operands : List ℕ) → IsModest (said_by word operands)
+unfolding said_by
+said-modest word operands =
+    let n = number_of operands in
+    one-modest (is_word word (codes "la")) (load_said false (pieces_of operands)) _ (load-modest false (pieces_of operands)) (
+    one-modest (is_word word (codes "cla")) (load_said true (pieces_of operands)) _ (load-modest true (pieces_of operands)) (
+    one-modest (is_word word (codes ".pages")) (number_said pages (Some (pages 0)) (page_count n)) _ (number-modest pages (Some (pages 0)) (page_count n) (λ _. refl) refl) (
+    one-modest (is_word word (codes ".mode")) (number_said (λ m. mode (m == 1)) (Some (mode false)) (up_to 1 n)) _ (number-modest (λ m. mode (m == 1)) (Some (mode false)) (up_to 1 n) (λ _. refl) refl) (
+    one-modest (is_word word (codes ".entry")) (entry_said (expression_of operands)) _ (entry-modest (expression_of operands)) (
+    one-modest (is_word word (codes ".org")) (number_said org None (up_to (2 ^ 64 - 1) n)) _ (number-modest org None (up_to (2 ^ 64 - 1) n) (λ _. refl) refl) (
+    one-modest (is_word word (codes ".align")) (number_said align None (up_to 12 n)) _ (align-modest n) (
+    one-modest (is_word word (codes ".zero")) (number_said zeros None (up_to 268435456 n)) _ (number-modest zeros None (up_to 268435456 n) (λ _. refl) refl) (
+    one-modest (is_word word (codes ".byte")) (values_said 1 operands) _ (values-modest 1 operands refl) (
+    one-modest (is_word word (codes ".half")) (values_said 2 operands) _ (values-modest 2 operands refl) (
+    one-modest (is_word word (codes ".word")) (values_said 4 operands) _ (values-modest 4 operands refl) (
+    one-modest (is_word word (codes ".dword")) (values_said 8 operands) _ (values-modest 8 operands refl) (
+    one-modest (is_word word (codes ".ascii")) (text_said operands) _ (quoted-modest (is_quoted operands) (take (length operands - 2) (drop 1 operands))) (
+    pattern-modest (pattern_of word (length operands == 0)) operands)))))))))))))
+
+line_said-modest : (label : Option (List ℕ)) (statement : List ℕ) → is_modest_line (line_said label statement) ≡ true
+line_said-modest label [] = refl
+line_said-modest label (b ∷ bs) = said-modest (mnemonic_of (b ∷ bs)) (operands_of (b ∷ bs))
+
+checked-modest : (foreign long : Bool) (l : Line) → is_modest_line l ≡ true → is_modest_line (if foreign then labelled None (said None (Some A8)) else (if long then labelled None (said None (Some A9)) else l)) ≡ true
+checked-modest true long l h = refl
+checked-modest false true l h = refl
+checked-modest false false l h = h
+
+pub line_meaning-modest : (line : List ℕ) → is_modest_line (line_meaning line) ≡ true
+unfolding line_meaning
+line_meaning-modest line =
+    let statement = trimmed (uncommented line) in
+    checked-modest (nat_lt (prefix_len (λ b. not (is_foreign b)) line) (length line)) (nat_lt 255 (length line)) (line_of_text statement) (line_said-modest (label_of statement) (statement_text statement))

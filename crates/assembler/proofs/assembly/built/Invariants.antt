@@ -1,0 +1,15 @@
+use Rattle.std.proofs.Common.{◌≡◌}
+use Rattle.assembler.specs.Faults.{opening}
+use Rattle.assembler.specs.Left.{left, lines_left}
+use Rattle.assembler.specs.Places.{lines_of}
+use Rattle.assembler.specs.Text.{first_fault, all_assembled}
+use Rattle.assembler.proofs.assembly.built.Given as goal
+
+abbrev pub invariant-loop-rest : goal.invariant-loop-rest
+invariant-loop-rest l = record {
+  fault : first_fault l.labels opening 1 (lines_of l.text) ≡ first_fault l.labels l.builder l.number (lines_left l.rest);
+  built : all_assembled l.labels opening (lines_of l.text) ≡ all_assembled l.labels l.builder (lines_left l.rest);
+}
+
+abbrev pub decreases-loop-rest : goal.decreases-loop-rest
+decreases-loop-rest l = left l.rest

@@ -1,0 +1,7 @@
+-- What a correct text makes.
+use Rattle.image.specs.Image.{Image}
+use Rattle.assembler.specs.Places.{Symbols}
+
+pub record Assembly : Type 0 where
+  pub image : Image
+  pub symbols : Symbols

@@ -1,0 +1,12 @@
+pub mod Places
+pub mod Labels
+pub mod Values
+pub mod Worth
+pub mod Blocks
+pub mod Modest
+pub mod Checks
+pub mod Bytes
+pub mod Faults
+pub mod Text
+pub mod Left
+pub mod Assembly

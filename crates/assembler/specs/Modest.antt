@@ -1,0 +1,28 @@
+-- What holds of each statement that a line says.
+use Rattle.std.specs.Prelude.{ℕ, Bool, true, ◌||◌, ◌==◌, nat_le, Option, Some, None}
+use Rattle.asm_lines.specs.Statement.{Statement, row, load, pages, mode, entry, org, align, zeros, values, text}
+use Rattle.asm_lines.specs.Line.{Line}
+
+-- a size of values: 1, 2, 4 or 8 bytes
+abbrev pub is_size : ℕ → Bool
+is_size n = (n == 1) || ((n == 2) || ((n == 4) || (n == 8)))
+
+-- values have a size, and an alignment is to at most 4096 bytes
+abbrev pub is_modest : Statement → Bool
+is_modest (row i target) = true
+is_modest (load capability rd value) = true
+is_modest (pages n) = true
+is_modest (mode m) = true
+is_modest (entry e) = true
+is_modest (org n) = true
+is_modest (align bits) = nat_le bits 12
+is_modest (zeros n) = true
+is_modest (values size operands) = is_size size
+is_modest (text between) = true
+
+abbrev pub is_modest_or_none : Option Statement → Bool
+is_modest_or_none None = true
+is_modest_or_none (Some s) = is_modest s
+
+abbrev pub is_modest_line : Line → Bool
+is_modest_line l = is_modest_or_none l.statement

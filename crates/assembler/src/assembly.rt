@@ -1,0 +1,101 @@
+ghost use Rattle.std.specs.Prelude.{◌≡◌, None, IfOk, IfErr};
+ghost use Rattle.assembler.specs.Faults.{opening};
+ghost use Rattle.assembler.specs.Labels.{seen_entries};
+ghost use Rattle.assembler.specs.Left.{IsFaultOf};
+ghost use Rattle.assembler.specs.Places.{lines_of, symbols_of};
+ghost use Rattle.assembler.specs.Text.{first_fault, all_assembled, text_fault, text_image};
+
+use crate::builder::Builder;
+use crate::fault::AsmFault;
+use crate::labels::Labels;
+use crate::lines::next_line;
+use crate::places::Places;
+use image::Image;
+use indexmap::IndexMap;
+use std::alloc::{AllocError, Global};
+use std::marker::Model;
+
+/// What a correct text makes.
+#[derive(Drop, Debug)]
+pub struct Assembly {
+    image: Image,
+    labels: Labels,
+}
+
+impl Model for Assembly {
+    ghost use Rattle.assembler.specs.Assembly as spec;
+
+    ghost Value = { spec.Assembly };
+
+    ghost view = { λ a. record { image = a.image; symbols = a.labels } };
+}
+
+impl Assembly {
+    /// The image that the text means.
+    pub fn image(&self) -> &Image
+        ensures { result.now ≡ self.now.image }
+    {
+        &self.image
+    }
+
+    /// The labels and the places of their lines, in order of definition.
+    pub fn symbols(&self) -> &IndexMap<Vec<u8>, u128>
+        ensures { seen_entries result.now.entries ≡ self.now.symbols }
+    {
+        self.labels.entries()
+    }
+}
+
+/// The labels of a text, whatever its faults.
+fn labels_of(alloc: Global, text: &[u8]) -> Result<Labels, AllocError>
+    ensures { IfOk result (λ labels. labels ≡ symbols_of text.now) }
+{
+    let mut places = Places::new(alloc);
+    let mut rest = Some(text);
+    while let Some(left) = rest {
+        let (line, after) = next_line(left);
+        places.pass(alloc, &line)?;
+        rest = after;
+    }
+    Ok(places.into_labels())
+}
+
+/// What the lines of a text set and place, or the first fault of its first faulty line. `labels` are those of the whole text.
+fn built(alloc: Global, labels: &Labels, text: &[u8]) -> Result<Builder, AsmFault>
+    ensures correct { IfOk result (λ _. first_fault labels.now opening 1 (lines_of text.now) ≡ None) }
+    ensures built { IfOk result (λ builder. builder ≡ all_assembled labels.now opening (lines_of text.now)) }
+    ensures fault { IfErr result (IsFaultOf (first_fault labels.now opening 1 (lines_of text.now))) }
+{
+    let mut builder = Builder::new(alloc);
+    let mut number: u64 = 1;
+    let mut rest = Some(text);
+    while let Some(left) = rest {
+        let (line, after) = next_line(left);
+        if let Some(code) = builder.line_fault(labels, &line) {
+            return Err(AsmFault { line: number, code });
+        }
+        builder.pass(alloc, labels, &line)?;
+        let Some(next) = number.checked_add(1) else {
+            return Err(AsmFault::NO_MEMORY);
+        };
+        number = next;
+        rest = after;
+    }
+    Ok(builder)
+}
+
+/// Assembles a text.
+///
+/// The fault is that of the first faulty line, counted from 1, and within a line the first of A8, A9, A4, A1, A2, A3, A5, A6 and A7;
+/// or, where there is no memory, A10 with line 0.
+pub fn assemble(alloc: Global, text: &[u8]) -> Result<Assembly, AsmFault>
+    ensures correct { IfOk result (λ _. text_fault text.now ≡ None) }
+    ensures image { IfOk result (λ assembly. assembly.image ≡ text_image text.now) }
+    ensures symbols { IfOk result (λ assembly. assembly.symbols ≡ symbols_of text.now) }
+    ensures fault { IfErr result (IsFaultOf (text_fault text.now)) }
+{
+    let labels = labels_of(alloc, text)?;
+    let builder = built(alloc, &labels, text)?;
+    let image = builder.finish(alloc)?;
+    Ok(Assembly { image, labels })
+}

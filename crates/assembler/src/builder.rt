@@ -1,0 +1,255 @@
+//! What the lines of a text set and place.
+ghost use Rattle.std.specs.Prelude.{◌≡◌, ◌<◌, ◌^◌, ◌≤◌, None, Some, IsTrue, OnOk, IfOk};
+ghost use Rattle.asm_lines.specs.Line.{seen_statement, seen_line};
+ghost use Rattle.assembler.specs.Modest.{is_modest, is_modest_or_none, is_modest_line};
+ghost use Rattle.std.specs.Option.{option_map};
+ghost use Rattle.assembler.specs.Bytes.{bytes_at};
+ghost use Rattle.assembler.specs.Blocks.{begun_at};
+ghost use Rattle.assembler.specs.Text.{image_of};
+ghost use Rattle.assembler.specs.Faults.{page_count, is_misplaced, size_at, is_instruction, lacks_place, statement_fault, line_fault, fault_by, assembled_after, with_statement, opening, is_repeated, is_statement_misplaced, fault_in_text, with_bytes};
+
+use crate::blocks::{Block, built, close, is_taken};
+use crate::bytes::known;
+use crate::checks::named_fault;
+use crate::fault::AsmCode;
+use crate::labels::Labels;
+use crate::places::{Places, end_of};
+use crate::values::wrapped;
+use asm_lines::{LineFault, Parsed, Statement};
+use image::Image;
+use std::alloc::{AllocError, Global};
+use std::marker::Model;
+use std::mem;
+
+/// What the lines so far set and place: the sections in ascending order, none of them empty, and the one that is being filled.
+#[derive(Drop)]
+pub(crate) struct Builder {
+    places: Places,
+    pages: Option<u32>,
+    mode: Option<bool>,
+    entry: Option<u64>,
+    begun: bool,
+    done: Vec<Block>,
+    current: Block,
+}
+
+impl Model for Builder {
+    ghost use Rattle.assembler.specs.Faults as spec;
+
+    ghost Value = { spec.Assembled };
+
+    ghost view = { λ b. record { places = b.places; pages = b.pages; mode = b.mode; entry = b.entry; begun = b.begun; done = b.done.items; current = b.current } };
+}
+
+/// The number of bytes that a statement at a place takes.
+#[tactic(auto, unfolding(crate::specs::Places::end_of))]
+fn size_at(statement: &Statement<'_>, place: u128) -> u128
+    requires modest { IsTrue (is_modest (seen_statement statement.now)) }
+    requires place { place < 2 ^ 100 }
+    ensures value { result ≡ size_at (seen_statement statement.now) place }
+    ensures bound { result < 2 ^ 101 }
+{
+    match statement {
+        Statement::Org(_) => 0,
+        _ => end_of(statement, place) - place,
+    }
+}
+
+/// Whether a statement's bytes are an instruction's.
+fn is_instruction(statement: &Statement<'_>) -> bool
+    ensures { result ≡ is_instruction (seen_statement statement.now) }
+{
+    matches!(statement, Statement::Row(_, _) | Statement::Load { .. })
+}
+
+impl Builder {
+    /// What no lines set.
+    pub(crate) fn new(alloc: Global) -> Self
+        ensures { result ≡ opening }
+    {
+        Builder {
+            places: Places::new(alloc),
+            pages: None,
+            mode: None,
+            entry: None,
+            begun: false,
+            done: Vec::new(alloc),
+            current: Block::new(alloc, 0x8000_0000),
+        }
+    }
+
+    /// The number of pages: 1, unless a line sets another.
+    pub(crate) fn page_count(&self) -> u32
+        ensures { result ≡ page_count self.now }
+    {
+        self.pages.unwrap_or(1)
+    }
+
+    /// Whether a directive is repeated, or comes too late.
+    fn is_misplaced(&self, statement: &Statement<'_>) -> bool
+        ensures { result ≡ is_misplaced self.now (seen_statement statement.now) }
+    {
+        match statement {
+            Statement::Pages(_) => self.pages.is_some() || self.begun,
+            Statement::Mode(_) => self.mode.is_some() || self.begun,
+            Statement::Entry(_) => self.entry.is_some(),
+            _ => false,
+        }
+    }
+
+    /// Whether some of so many bytes from a place on have no place there.
+    fn lacks_place(&self, place: u128, size: u128, instruction: bool) -> bool
+        requires place { place < 2 ^ 100 }
+        requires size { size < 2 ^ 101 }
+        ensures { result ≡ lacks_place self.now place size instruction }
+    {
+        let ram_end = 0x8000_0000 + 4096 * u128::from(self.page_count());
+        size > 0
+            && (place < 0x8000_0000
+                || ram_end < place + size
+                || is_taken(place, place + size, &self.done)
+                || self.current.len() == 0 && self.done.len() >= 64
+                || instruction && place % 4 != 0)
+    }
+
+    /// The first fault of a statement whose line alone has none.
+    #[tactic(auto, unfolding(crate::specs::Faults::statement_fault, crate::specs::Checks::named_fault))]
+    fn statement_fault(&self, labels: &Labels, statement: &Statement<'_>) -> Option<AsmCode>
+        requires { IsTrue (is_modest (seen_statement statement.now)) }
+        ensures { result ≡ statement_fault labels.now self.now (seen_statement statement.now) }
+    {
+        let place = self.places.place();
+        let named = named_fault(self.page_count(), labels, place, statement);
+        if named.is_some() {
+            return named;
+        }
+        let size = size_at(statement, place);
+        self.lacks_place(place, size, is_instruction(statement))
+            .then_some(AsmCode::A7)
+    }
+
+    /// Whether a line defines a name that an earlier line defines.
+    fn is_repeated(&self, label: Option<&[u8]>) -> bool
+        ensures { result ≡ is_repeated self.now (option_map (λ t. t.now) label.entry) }
+    {
+        match label {
+            Some(name) => self.places.labels().value(name).is_some(),
+            None => false,
+        }
+    }
+
+    /// Whether a line's directive is repeated, or comes too late.
+    fn is_line_misplaced(&self, statement: &Option<Statement<'_>>) -> bool
+        ensures { result ≡ is_statement_misplaced self.now (option_map seen_statement statement.now) }
+    {
+        match statement {
+            Some(statement) => self.is_misplaced(statement),
+            None => false,
+        }
+    }
+
+    /// The first fault of a statement, if there is one.
+    fn fault_in_text(&self, labels: &Labels, statement: &Option<Statement<'_>>) -> Option<AsmCode>
+        requires { IsTrue (is_modest_or_none (option_map seen_statement statement.now)) }
+        ensures { result ≡ fault_in_text labels.now self.now (option_map seen_statement statement.now) }
+    {
+        match statement {
+            Some(statement) => self.statement_fault(labels, statement),
+            None => None,
+        }
+    }
+
+    /// The first fault of a line, in the order A8, A9, A4, A1, A2, A3, A5, A6, A7. `labels` are those of the whole text.
+    #[tactic(auto, unfolding(crate::specs::Faults::fault_by))]
+    pub(crate) fn line_fault(&self, labels: &Labels, line: &Parsed<'_>) -> Option<AsmCode>
+        requires { IsTrue (is_modest_line (seen_line line.now)) }
+        ensures { result ≡ line_fault labels.now self.now (seen_line line.now) }
+    {
+        let repeated = self.is_repeated(line.label);
+        let misplaced = self.is_line_misplaced(&line.statement);
+        match line.fault {
+            Some(LineFault::A8) => Some(AsmCode::A8),
+            Some(LineFault::A9) => Some(AsmCode::A9),
+            _ if repeated => Some(AsmCode::A4),
+            Some(LineFault::A1) => Some(AsmCode::A1),
+            Some(LineFault::A2) => Some(AsmCode::A2),
+            _ if misplaced => Some(AsmCode::A2),
+            Some(LineFault::A3) => Some(AsmCode::A3),
+            None => self.fault_in_text(labels, &line.statement),
+        }
+    }
+
+    /// Places the bytes of a statement.
+    fn fill(&mut self, labels: &Labels, statement: &Statement<'_>) -> Result<(), AllocError>
+        requires { IsTrue (is_modest (seen_statement statement.now)) }
+        ensures { OnOk result (self.new ≡ with_bytes self.old (bytes_at labels.now self.old.places.place (seen_statement statement.now))) }
+    {
+        let place = self.places.place();
+        self.current.fill(labels, place, statement)?;
+        self.begun = true;
+        Ok(())
+    }
+
+    /// Begins a section.
+    fn begin(&mut self, alloc: Global, address: u64) -> Result<(), AllocError>
+        ensures { OnOk result (self.new ≡ begun_at address self.old) }
+    {
+        let current = mem::replace(&mut self.current, Block::new(alloc, address));
+        close(&mut self.done, current)?;
+        self.begun = true;
+        Ok(())
+    }
+
+    /// What a statement without a fault sets and places.
+    fn take(
+        &mut self,
+        alloc: Global,
+        labels: &Labels,
+        statement: &Statement<'_>,
+    ) -> Result<(), AllocError>
+        requires { IsTrue (is_modest (seen_statement statement.now)) }
+        ensures { OnOk result (self.new ≡ with_statement labels.now self.old (seen_statement statement.now)) }
+    {
+        match statement {
+            Statement::Pages(pages) => self.pages = Some(*pages),
+            Statement::Mode(mode) => self.mode = Some(*mode),
+            Statement::Entry(entry) => {
+                let value = known(labels, self.places.place(), entry)?;
+                self.entry = Some(wrapped(value));
+                self.begun = true;
+            }
+            Statement::Org(address) => self.begin(alloc, *address)?,
+            _ => self.fill(labels, statement)?,
+        }
+        Ok(())
+    }
+
+    /// What a line without a fault does.
+    #[tactic(auto, unfolding(crate::specs::Faults::assembled_after))]
+    pub(crate) fn pass(
+        &mut self,
+        alloc: Global,
+        labels: &Labels,
+        line: &Parsed<'_>,
+    ) -> Result<(), AllocError>
+        requires { IsTrue (is_modest_line (seen_line line.now)) }
+        ensures { OnOk result (self.new ≡ assembled_after labels.now self.old (seen_line line.now)) }
+    {
+        if let Some(statement) = &line.statement {
+            self.take(alloc, labels, statement)?;
+        }
+        self.places.pass(alloc, line)
+    }
+
+    /// The image of a correct text.
+    pub(crate) fn finish(self, alloc: Global) -> Result<Image, AllocError>
+        ensures { IfOk result (λ image. image ≡ image_of self) }
+    {
+        let pages = self.page_count();
+        let entry = self.entry.unwrap_or(0x8000_0000);
+        let mode = u32::from(self.mode.unwrap_or(false));
+        let mut sections = self.done;
+        close(&mut sections, self.current)?;
+        built(alloc, pages, entry, mode, &sections)
+    }
+}

@@ -1,0 +1,302 @@
+//! The bytes that a statement places.
+ghost use Rattle.std.specs.Prelude.{◌≡◌, ◌<◌, ◌++◌, ◌%◌, ◌^◌, ◌*◌, Bool, if◌then◌else◌, replicate, pos, neg_ℤ, ◌-ℤ◌, ◌<ℤ◌, Some, IsTrue, OnOk, IfOk};
+ghost use Rattle.byteorder.specs.Endian.{little_bytes};
+ghost use Rattle.isa_rows.specs.Insn.{insn, sign_extended};
+ghost use Rattle.isa_rows.specs.InsnLaws.{insn_word};
+ghost use Rattle.asm_lines.specs.Line.{seen_expression, seen_statement};
+ghost use Rattle.asm_lines.specs.Number.{is_in_limits, expression_of};
+ghost use Rattle.asm_lines.specs.Operand.{wrapped};
+ghost use Rattle.asm_lines.specs.Statement.{expression_or_nought, text_bytes, escaped_byte};
+ghost use Rattle.asm_lines.specs.Text.{pieces_of};
+ghost use Rattle.std.specs.List.{flat_map};
+ghost use Rattle.std.specs.Option.{option_map};
+ghost use Rattle.assembler.specs.Modest.{is_size, is_modest};
+ghost use Rattle.assembler.specs.Bytes.{value_at, insn_bytes, aimed, upper_part, lower_part, load_bytes, bytes_at, value_bytes};
+
+use crate::checks::{distance, operand, pieces};
+use crate::labels::Labels;
+use crate::places::aligned;
+use crate::values::{Worth, value, wrapped};
+use asm_lines::{Expression, Statement, split_piece};
+use byteorder::{ByteOrder, LittleEndian};
+use isa_rows::{Insn, Row, fits};
+use isa_table::encode;
+use std::alloc::AllocError;
+
+/// Places the bytes of a word.
+fn push_word(bytes: &mut Vec<u8>, word: u32) -> Result<(), AllocError>
+    ensures { OnOk result (bytes.new.items ≡ bytes.old.items ++ little_bytes 4 word) }
+{
+    let mut buffer = [0; 4];
+    LittleEndian::write_u32(&mut buffer, word);
+    bytes.extend_from_slice(&buffer)
+}
+
+/// Places the low bytes of a number.
+fn push_number(bytes: &mut Vec<u8>, size: u8, number: u64) -> Result<(), AllocError>
+    requires { IsTrue (is_size size) }
+    ensures { OnOk result (bytes.new.items ≡ bytes.old.items ++ little_bytes size number) }
+{
+    let mut buffer = [0; 8];
+    LittleEndian::write_u64(&mut buffer, number);
+    bytes.extend_from_slice(&buffer[..usize::from(size)])
+}
+
+/// Places zeros.
+fn push_zeros(bytes: &mut Vec<u8>, count: u128) -> Result<(), AllocError>
+    ensures { OnOk result (bytes.new.items ≡ bytes.old.items ++ replicate count 0) }
+{
+    let Ok(count) = usize::try_from(count) else {
+        return Err(AllocError);
+    };
+    let Some(end) = bytes.len().checked_add(count) else {
+        return Err(AllocError);
+    };
+    bytes.resize(end, 0)
+}
+
+/// The word of an instruction.
+fn word_of(insn: Insn) -> Result<u32, AllocError>
+    ensures { IfOk result (λ word. word ≡ insn_word insn) }
+{
+    if fits(&insn) {
+        Ok(encode(insn))
+    } else {
+        Err(AllocError)
+    }
+}
+
+/// Places the bytes of an instruction.
+#[tactic(auto, unfolding(crate::specs::Bytes::insn_bytes))]
+fn push_insn(bytes: &mut Vec<u8>, insn: Insn) -> Result<(), AllocError>
+    ensures { OnOk result (bytes.new.items ≡ bytes.old.items ++ insn_bytes insn) }
+{
+    push_word(bytes, word_of(insn)?)
+}
+
+/// The value of an expression that has no fault.
+pub(crate) fn known(
+    labels: &Labels,
+    here: u128,
+    expression: &Expression<'_>,
+) -> Result<i128, AllocError>
+    ensures value { IfOk result (λ v. v ≡ value_at labels.now here (seen_expression expression.now)) }
+    ensures limits { IfOk result (λ v. IsTrue (is_in_limits v)) }
+{
+    match value(labels, here, expression) {
+        Worth::Known(value) => Ok(value),
+        _ => Err(AllocError),
+    }
+}
+
+/// Places an instruction, with the distance to its target if it has one.
+fn push_row(
+    bytes: &mut Vec<u8>,
+    labels: &Labels,
+    here: u128,
+    insn: &Insn,
+    target: &Option<Expression<'_>>,
+) -> Result<(), AllocError>
+    requires { here < 2 ^ 100 }
+    ensures { OnOk result (bytes.new.items ≡ bytes.old.items ++ insn_bytes (aimed labels.now here insn.now (option_map seen_expression target.now))) }
+{
+    match target {
+        None => push_insn(bytes, *insn),
+        Some(target) => {
+            let value = known(labels, here, target)?;
+            let imm = wrapped(distance(value, here));
+            push_insn(bytes, Insn { imm, ..*insn })
+        }
+    }
+}
+
+/// A number of 32 bits, read as signed, modulo 2^64.
+#[tactic(auto, unfolding(isa_rows::specs::Insn::sign_extended))]
+fn sign_extended(number: u64) -> u64
+    requires { number < 2 ^ 32 }
+    ensures { result ≡ sign_extended 32 number }
+{
+    if number < 0x8000_0000 {
+        number
+    } else {
+        number + 0xffff_ffff_0000_0000
+    }
+}
+
+/// A distance in steps of 4096, rounded so that the rest is a signed number of 12 bits.
+fn upper_part(distance: i128) -> i128
+    requires low { neg_ℤ (pos (2 ^ 101)) <ℤ distance }
+    requires high { distance <ℤ pos (2 ^ 101) }
+    ensures value { result ≡ upper_part distance }
+    ensures low { neg_ℤ (pos (2 ^ 101)) <ℤ result }
+    ensures high { result <ℤ pos (2 ^ 101) }
+{
+    (distance + 2048).div_euclid(4096)
+}
+
+/// The immediate of auipc for a distance.
+fn upper_immediate(distance: i128) -> u64
+    requires low { neg_ℤ (pos (2 ^ 101)) <ℤ distance }
+    requires high { distance <ℤ pos (2 ^ 101) }
+    ensures { result ≡ sign_extended 32 (wrapped (upper_part distance) % 2 ^ 20 * 2 ^ 12) }
+{
+    sign_extended(wrapped(upper_part(distance)) % 0x10_0000 * 0x1000)
+}
+
+/// The immediate of the instruction behind auipc for a distance.
+fn lower_immediate(distance: i128) -> u64
+    requires low { neg_ℤ (pos (2 ^ 101)) <ℤ distance }
+    requires high { distance <ℤ pos (2 ^ 101) }
+    ensures { result ≡ wrapped (lower_part distance) }
+{
+    wrapped(distance - 4096 * upper_part(distance))
+}
+
+/// auipc with an immediate.
+fn based(rd: u8, imm: u64) -> Insn
+    ensures { result ≡ insn Row.Auipc rd 0 0 imm }
+{
+    Insn {
+        row: Row::Auipc,
+        rd,
+        rs1: 0,
+        rs2: 0,
+        imm,
+    }
+}
+
+/// The instruction that adds an immediate to a register, as an address or as a capability.
+fn added(capability: bool, rd: u8, imm: u64) -> Insn
+    ensures { result ≡ insn (if capability then Row.CIncOffsetImm else Row.Addi) rd rd 0 imm }
+{
+    Insn {
+        row: if capability {
+            Row::CIncOffsetImm
+        } else {
+            Row::Addi
+        },
+        rd,
+        rs1: rd,
+        rs2: 0,
+        imm,
+    }
+}
+
+/// Places the bytes of two instructions.
+fn push_two(bytes: &mut Vec<u8>, first: Insn, second: Insn) -> Result<(), AllocError>
+    ensures { OnOk result (bytes.new.items ≡ bytes.old.items ++ (insn_bytes first ++ insn_bytes second)) }
+{
+    push_insn(bytes, first)?;
+    push_insn(bytes, second)
+}
+
+/// Places the two instructions that put the place and a distance into a register.
+fn push_load(
+    bytes: &mut Vec<u8>,
+    capability: bool,
+    rd: u8,
+    distance: i128,
+) -> Result<(), AllocError>
+    requires low { neg_ℤ (pos (2 ^ 101)) <ℤ distance }
+    requires high { distance <ℤ pos (2 ^ 101) }
+    ensures { OnOk result (bytes.new.items ≡ bytes.old.items ++ load_bytes capability rd distance) }
+{
+    let first = based(rd, upper_immediate(distance));
+    let second = added(capability, rd, lower_immediate(distance));
+    push_two(bytes, first, second)
+}
+
+/// Places a value of so many bytes.
+#[tactic(auto, unfolding(crate::specs::Bytes::value_bytes))]
+fn push_value(
+    bytes: &mut Vec<u8>,
+    size: u8,
+    labels: &Labels,
+    here: u128,
+    piece: &[u8],
+) -> Result<(), AllocError>
+    requires { IsTrue (is_size size) }
+    ensures { OnOk result (bytes.new.items ≡ bytes.old.items ++ value_bytes labels.now here size piece.now) }
+{
+    let value = known(labels, here, &operand(piece))?;
+    push_number(bytes, size, wrapped(value))
+}
+
+/// Places values of so many bytes.
+fn push_values(
+    bytes: &mut Vec<u8>,
+    size: u8,
+    labels: &Labels,
+    here: u128,
+    operands: &[u8],
+) -> Result<(), AllocError>
+    requires { IsTrue (is_size size) }
+    ensures { OnOk result (bytes.new.items ≡ bytes.old.items ++ flat_map (value_bytes labels.now here size) (pieces_of operands.now)) }
+{
+    let mut rest = pieces(operands);
+    while let Some(text) = rest {
+        let (piece, after) = split_piece(text);
+        push_value(bytes, size, labels, here, piece)?;
+        rest = after;
+    }
+    Ok(())
+}
+
+/// The byte that stands behind a backslash for another.
+fn escaped(byte: u8) -> u8
+    ensures { result ≡ escaped_byte byte }
+{
+    match byte {
+        b'n' => b'\n',
+        b'0' => 0,
+        other => other,
+    }
+}
+
+/// Places the bytes that a text between quotes stands for.
+fn push_text(bytes: &mut Vec<u8>, between: &[u8]) -> Result<(), AllocError>
+    ensures { OnOk result (bytes.new.items ≡ bytes.old.items ++ text_bytes between.now) }
+{
+    let mut behind = false;
+    for byte in between {
+        if behind {
+            bytes.push(escaped(*byte))?;
+            behind = false;
+        } else if *byte == b'\\' {
+            behind = true;
+        } else {
+            bytes.push(*byte)?;
+        }
+    }
+    Ok(())
+}
+
+/// Places the bytes of a statement that has no fault.
+#[tactic(auto, unfolding(crate::specs::Bytes::bytes_at))]
+pub(crate) fn push_bytes(
+    bytes: &mut Vec<u8>,
+    labels: &Labels,
+    here: u128,
+    statement: &Statement<'_>,
+) -> Result<(), AllocError>
+    requires modest { IsTrue (is_modest (seen_statement statement.now)) }
+    requires place { here < 2 ^ 100 }
+    ensures { OnOk result (bytes.new.items ≡ bytes.old.items ++ bytes_at labels.now here (seen_statement statement.now)) }
+{
+    match statement {
+        Statement::Row(insn, target) => push_row(bytes, labels, here, insn, target),
+        Statement::Load {
+            capability,
+            rd,
+            value,
+        } => {
+            let distance = distance(known(labels, here, value)?, here);
+            push_load(bytes, *capability, *rd, distance)
+        }
+        Statement::Align(bits) => push_zeros(bytes, aligned(here, *bits) - here),
+        Statement::Zero(count) => push_zeros(bytes, u128::from(*count)),
+        Statement::Values { size, operands } => push_values(bytes, *size, labels, here, operands),
+        Statement::Text(between) => push_text(bytes, between),
+        _ => Ok(()),
+    }
+}

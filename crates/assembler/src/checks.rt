@@ -1,0 +1,241 @@
+//! The values of a statement: whether they are known, in range and within reach.
+ghost use Rattle.std.specs.Prelude.{◌≡◌, ◌+◌, ◌≤◌, length, Some, false, not, option_map, pos, ◌-ℤ◌, ◌<◌, ◌^◌, IsTrue};
+ghost use Rattle.std.specs.Option.{option_map_or};
+ghost use Rattle.asm_lines.specs.Line.{seen_expression, seen_statement};
+ghost use Rattle.asm_lines.specs.Number.{is_in_limits, expression_of};
+ghost use Rattle.asm_lines.specs.Statement.{is_in_size, expression_or_nought};
+ghost use Rattle.asm_lines.specs.Text.{pieces_of, pieces_left};
+ghost use Rattle.image.specs.Image.{is_good_header};
+ghost use Rattle.assembler.specs.Values.{value_of, any_value, reach_of, is_reached, is_loadable, is_entry};
+ghost use Rattle.assembler.specs.Modest.{is_size, is_modest};
+ghost use Rattle.assembler.specs.Checks.{told, told_value, passes, is_test, named_fault};
+
+use crate::fault::AsmCode;
+use crate::labels::Labels;
+use crate::values::{Worth, value, wrapped};
+use asm_lines::{Expression, Statement, expression, split_piece};
+use isa_rows::Format;
+
+/// What is asked of the values of a list.
+#[derive(Clone, Copy)]
+pub(crate) enum Test {
+    /// Whether a name is unknown.
+    IsUnknown,
+    /// Whether a value is beyond what so many bytes hold.
+    IsBeyond(u8),
+}
+
+/// A number between the least signed and the greatest unsigned number of so many bytes.
+fn is_in_size(size: u8, value: i128) -> bool
+    requires { IsTrue (is_size size) }
+    ensures { result ≡ is_in_size size value }
+{
+    match size {
+        1 => -0x80 <= value && value < 0x100,
+        2 => -0x8000 <= value && value < 0x1_0000,
+        4 => -0x8000_0000 <= value && value < 0x1_0000_0000,
+        _ => -0x8000_0000_0000_0000 <= value && value < 0x1_0000_0000_0000_0000,
+    }
+}
+
+/// The expression of a list's operand, 0 where it cannot be read.
+pub(crate) fn operand(piece: &[u8]) -> Expression<'_>
+    ensures { seen_expression result ≡ expression_or_nought (expression_of piece.now) }
+{
+    match expression(piece) {
+        Ok(expression) => expression,
+        Err(_) => Expression {
+            name: None,
+            offset: 0,
+        },
+    }
+}
+
+/// The operands of a list, if there are some.
+pub(crate) fn pieces(operands: &[u8]) -> Option<&[u8]>
+    ensures value { pieces_left (option_map (λ t. t.now) result) ≡ pieces_of operands.now }
+    ensures bound { option_map_or (λ t. length t.now + 1) result 0 ≤ length operands.now + 1 }
+{
+    if operands.is_empty() {
+        None
+    } else {
+        Some(operands)
+    }
+}
+
+impl Test {
+    /// Whether the answer for a list's operand is yes.
+    fn passes(self, labels: &Labels, here: u128, piece: &[u8]) -> bool
+        requires { IsTrue (is_test self) }
+        ensures { result ≡ passes self (value_of labels.now here (expression_or_nought (expression_of piece.now))) }
+    {
+        match (self, value(labels, here, &operand(piece))) {
+            (Test::IsUnknown, Worth::Unknown) => true,
+            (Test::IsUnknown, _) => false,
+            (Test::IsBeyond(_), Worth::Unknown) => false,
+            (Test::IsBeyond(_), Worth::Beyond) => true,
+            (Test::IsBeyond(size), Worth::Known(value)) => !is_in_size(size, value),
+        }
+    }
+
+    /// Whether the answer for some of a list's operands is yes.
+    pub(crate) fn any_passes(self, labels: &Labels, here: u128, operands: &[u8]) -> bool
+        requires { IsTrue (is_test self) }
+        ensures { result ≡ any_value (passes self) labels.now here (pieces_of operands.now) }
+    {
+        let mut rest = pieces(operands);
+        while let Some(text) = rest {
+            let (piece, after) = split_piece(text);
+            if self.passes(labels, here, piece) {
+                return true;
+            }
+            rest = after;
+        }
+        false
+    }
+}
+
+/// How far a value is from a place.
+pub(crate) fn distance(value: i128, here: u128) -> i128
+    requires limits { IsTrue (is_in_limits value) }
+    requires place { here < 2 ^ 100 }
+    ensures { result ≡ value -ℤ pos here }
+{
+    value - here as i128
+}
+
+/// How far a branch or jal reaches.
+pub(crate) fn reach_of(format: Format) -> u32
+    ensures { result ≡ reach_of format }
+{
+    match format {
+        Format::Branch => 4096,
+        _ => 1_048_576,
+    }
+}
+
+/// Whether what reaches so far reaches this distance.
+fn is_reached(reach: u32, distance: i128) -> bool
+    ensures { result ≡ is_reached reach distance }
+{
+    let reach = i128::from(reach);
+    -reach <= distance && distance < reach && wrapped(distance) % 2 == 0
+}
+
+/// Whether auipc and a signed number of 12 bits reach so far.
+fn is_loadable(distance: i128) -> bool
+    ensures { result ≡ is_loadable distance }
+{
+    -0x8000_0000 <= distance && distance < 0x7fff_f800
+}
+
+/// Whether an image of so many pages can begin at an address.
+#[tactic(auto, unfolding(image::specs::Image::is_good_header))]
+fn is_good_entry(page_count: u32, entry: u64) -> bool
+    ensures { result ≡ is_good_header page_count entry 0 }
+{
+    let end = 0x8000_0000 + 4096 * u64::from(page_count);
+    (1..=4096).contains(&page_count) && entry % 4 == 0 && 0x8000_0000 <= entry && entry <= end - 4
+}
+
+/// Whether an image of so many pages can begin at a value.
+fn is_entry(page_count: u32, value: i128) -> bool
+    requires { IsTrue (is_in_limits value) }
+    ensures { result ≡ is_entry page_count value }
+{
+    value >= 0 && is_good_entry(page_count, wrapped(value))
+}
+
+/// A6, unless a value is within reach.
+fn far(is_near: bool) -> Option<AsmCode>
+    ensures { result ≡ told false false (not is_near) }
+{
+    if is_near { None } else { Some(AsmCode::A6) }
+}
+
+/// The fault of the target of a branch or jal that reaches so far.
+pub(crate) fn target_fault(
+    reach: u32,
+    labels: &Labels,
+    here: u128,
+    target: &Expression<'_>,
+) -> Option<AsmCode>
+    requires { here < 2 ^ 100 }
+    ensures { result ≡ told_value (λ v. is_reached reach (v -ℤ pos here)) (value_of labels.now here (seen_expression target.now)) }
+{
+    match value(labels, here, target) {
+        Worth::Beyond => Some(AsmCode::A3),
+        Worth::Unknown => Some(AsmCode::A5),
+        Worth::Known(value) => far(is_reached(reach, distance(value, here))),
+    }
+}
+
+/// The fault of the value of `la` or `cla`.
+pub(crate) fn load_fault(labels: &Labels, here: u128, loaded: &Expression<'_>) -> Option<AsmCode>
+    requires { here < 2 ^ 100 }
+    ensures { result ≡ told_value (λ v. is_loadable (v -ℤ pos here)) (value_of labels.now here (seen_expression loaded.now)) }
+{
+    match value(labels, here, loaded) {
+        Worth::Beyond => Some(AsmCode::A3),
+        Worth::Unknown => Some(AsmCode::A5),
+        Worth::Known(value) => far(is_loadable(distance(value, here))),
+    }
+}
+
+/// The fault of an entry, for an image of so many pages.
+pub(crate) fn entry_fault(
+    page_count: u32,
+    labels: &Labels,
+    here: u128,
+    entry: &Expression<'_>,
+) -> Option<AsmCode>
+    ensures { result ≡ told_value (is_entry page_count) (value_of labels.now here (seen_expression entry.now)) }
+{
+    match value(labels, here, entry) {
+        Worth::Beyond => Some(AsmCode::A3),
+        Worth::Unknown => Some(AsmCode::A5),
+        Worth::Known(value) => far(is_entry(page_count, value)),
+    }
+}
+
+/// The fault of values of so many bytes.
+pub(crate) fn values_fault(
+    size: u8,
+    labels: &Labels,
+    here: u128,
+    operands: &[u8],
+) -> Option<AsmCode>
+    requires { IsTrue (is_size size) }
+    ensures { result ≡ told (any_value (passes (Test.IsBeyond size)) labels.now here (pieces_of operands.now)) (any_value (passes Test.IsUnknown) labels.now here (pieces_of operands.now)) false }
+{
+    if Test::IsBeyond(size).any_passes(labels, here, operands) {
+        Some(AsmCode::A3)
+    } else if Test::IsUnknown.any_passes(labels, here, operands) {
+        Some(AsmCode::A5)
+    } else {
+        None
+    }
+}
+
+/// The first fault of the values and names of a statement at a place: A3, then A5, then A6.
+#[tactic(auto, unfolding(crate::specs::Checks::named_fault, crate::specs::Values::has_value_beyond, crate::specs::Values::has_unknown_name, crate::specs::Values::is_out_of_reach))]
+pub(crate) fn named_fault(
+    page_count: u32,
+    labels: &Labels,
+    here: u128,
+    statement: &Statement<'_>,
+) -> Option<AsmCode>
+    requires modest { IsTrue (is_modest (seen_statement statement.now)) }
+    requires place { here < 2 ^ 100 }
+    ensures { result ≡ named_fault page_count labels.now here (seen_statement statement.now) }
+{
+    match statement {
+        Statement::Row(insn, Some(target)) => {
+            target_fault(reach_of(insn.row.format()), labels, here, target)
+        }
+        Statement::Load { value, .. } => load_fault(labels, here, value),
+        Statement::Entry(entry) => entry_fault(page_count, labels, here, entry),
+        Statement::Values { size, operands } => values_fault(*size, labels, here, operands),
+        _ => None,
+    }
+}

@@ -1,0 +1,18 @@
+//! The assembler: the image that a text means, or the first fault of its first faulty line.
+#![tactic(auto)]
+
+mod assembly;
+mod blocks;
+mod builder;
+mod bytes;
+mod checks;
+mod fault;
+mod labels;
+mod lines;
+mod places;
+#[cfg(test)]
+mod tests;
+mod values;
+
+pub use assembly::{Assembly, assemble};
+pub use fault::{AsmCode, AsmFault};

@@ -1,0 +1,41 @@
+//! How a text is cut into lines.
+ghost use Rattle.std.specs.Prelude.{◌≡◌, ◌<◌, ◌==◌, [], ◌∷◌, length, IfSome, IsTrue};
+ghost use Rattle.std.specs.List.{slice_split};
+ghost use Rattle.asm_lines.specs.Line.{seen_line, line_meaning};
+ghost use Rattle.assembler.specs.Modest.{is_modest_line};
+ghost use Rattle.assembler.specs.Places.{lines_of};
+ghost use Rattle.assembler.specs.Left.{lines_left};
+ghost use Rattle.std.specs.Option.{option_map_or};
+
+use asm_lines::{Parsed, parse_line};
+
+/// What stands before the first line feed, and what stands behind it, if there is one.
+fn split_line(text: &[u8]) -> (&[u8], Option<&[u8]>)
+    ensures split { slice_split (λ b. b == 10) text.now ≡ result.0.now ∷ option_map_or (λ rest. slice_split (λ b. b == 10) rest.now) result.1 [] }
+    ensures shorter { IfSome result.1 (λ rest. length rest.now < length text.now) }
+{
+    for (end, byte) in text.iter().enumerate() {
+        if *byte == b'\n' {
+            return (&text[..end], Some(&text[end + 1..]));
+        }
+    }
+    (text, None)
+}
+
+/// What a line says.
+fn read(line: &[u8]) -> Parsed<'_>
+    ensures value { seen_line result ≡ line_meaning line.now }
+    ensures modest { IsTrue (is_modest_line (seen_line result)) }
+{
+    parse_line(line)
+}
+
+/// What the first line says, and what stands behind its line feed, if there is one.
+pub(crate) fn next_line(text: &[u8]) -> (Parsed<'_>, Option<&[u8]>)
+    ensures lines { lines_of text.now ≡ seen_line result.0 ∷ lines_left result.1 }
+    ensures modest { IsTrue (is_modest_line (seen_line result.0)) }
+    ensures shorter { IfSome result.1 (λ rest. length rest.now < length text.now) }
+{
+    let (line, rest) = split_line(text);
+    (read(line), rest)
+}

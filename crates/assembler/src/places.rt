@@ -1,0 +1,161 @@
+//! Where statements stand.
+ghost use Rattle.std.specs.Prelude.{◌≡◌, ◌+◌, ◌*◌, ◌<◌, ◌≤◌, ◌^◌, length, IsTrue, OnOk};
+ghost use Rattle.asm_lines.specs.Line.{seen_statement, seen_line};
+ghost use Rattle.asm_lines.specs.Statement.{text_bytes};
+ghost use Rattle.asm_lines.specs.Text.{pieces_of};
+ghost use Rattle.assembler.specs.Modest.{is_modest, is_modest_line};
+ghost use Rattle.assembler.specs.Places.{aligned, end_of, places_after, opening_places};
+
+use crate::checks::pieces;
+use crate::labels::Labels;
+use asm_lines::{Parsed, Statement, split_piece};
+use std::alloc::{AllocError, Global};
+use std::marker::Model;
+
+/// What no place reaches.
+const FAR: u128 = 1 << 100;
+
+/// The number of a list's operands.
+fn piece_count(operands: &[u8]) -> u128
+    ensures value { result ≡ length (pieces_of operands.now) }
+    ensures bound { result ≤ length operands.now + 1 }
+{
+    let mut count = 0;
+    let mut rest = pieces(operands);
+    while let Some(text) = rest {
+        count += 1;
+        rest = split_piece(text).1;
+    }
+    count
+}
+
+/// The number of bytes that a text between quotes stands for.
+fn text_length(between: &[u8]) -> u128
+    ensures value { result ≡ length (text_bytes between.now) }
+    ensures bound { result ≤ length between.now }
+{
+    let mut count = 0;
+    let mut behind = false;
+    for byte in between {
+        if *byte == b'\\' && !behind {
+            behind = true;
+        } else {
+            behind = false;
+            count += 1;
+        }
+    }
+    count
+}
+
+/// Two to a power of at most 12.
+fn power(bits: u32) -> u128
+    requires { bits ≤ 12 }
+    ensures value { result ≡ 2 ^ bits }
+    ensures bound { result ≤ 4096 }
+    ensures positive { 0 < result }
+{
+    1 << bits
+}
+
+/// The next multiple of two to a power of at most 12.
+pub(crate) fn aligned(place: u128, bits: u32) -> u128
+    requires bits { bits ≤ 12 }
+    requires place { place < 2 ^ 100 }
+    ensures value { result ≡ aligned place bits }
+    ensures bound { result < 2 ^ 100 + 2 ^ 12 }
+    ensures behind { place ≤ result }
+{
+    let unit = power(bits);
+    (place + unit - 1) / unit * unit
+}
+
+/// Where a statement that stands at a place ends.
+#[tactic(auto, unfolding(crate::specs::Places::end_of))]
+pub(crate) fn end_of(statement: &Statement<'_>, place: u128) -> u128
+    requires modest { IsTrue (is_modest (seen_statement statement.now)) }
+    requires place { place < 2 ^ 100 }
+    ensures value { result ≡ end_of (seen_statement statement.now) place }
+    ensures bound { result < 2 ^ 101 }
+{
+    match statement {
+        Statement::Row(_, _) => place + 4,
+        Statement::Load { .. } => place + 8,
+        Statement::Org(start) => u128::from(*start),
+        Statement::Align(bits) => aligned(place, *bits),
+        Statement::Zero(count) => place + u128::from(*count),
+        Statement::Values { size, operands } => place + u128::from(*size) * piece_count(operands),
+        Statement::Text(between) => place + text_length(between),
+        _ => place,
+    }
+}
+
+/// The place of the next statement, and the labels so far.
+#[derive(Drop)]
+pub(crate) struct Places {
+    place: u128,
+    labels: Labels,
+}
+
+impl Model for Places {
+    ghost use Rattle.std.specs.Prelude.{◌<◌, ◌^◌};
+    ghost use Rattle.assembler.specs.Places as spec;
+
+    ghost Value = { spec.Places };
+
+    ghost view = { λ p. record { place = p.place; symbols = p.labels } };
+
+    ghost invariant = { λ p. p.place < 2 ^ 100 };
+}
+
+impl Places {
+    /// Where a text begins.
+    pub(crate) fn new(alloc: Global) -> Self
+        ensures { result ≡ opening_places }
+    {
+        Places {
+            place: 0x8000_0000,
+            labels: Labels::new(alloc),
+        }
+    }
+
+    /// The place of the next statement, below 2^100.
+    pub(crate) fn place(&self) -> u128
+        ensures value { result ≡ self.now.place }
+        ensures bound { result < 2 ^ 100 }
+    {
+        self.place
+    }
+
+    /// The labels so far.
+    pub(crate) fn labels(&self) -> &Labels
+        ensures { result.now ≡ self.now.symbols }
+    {
+        &self.labels
+    }
+
+    /// Goes past a line. No memory holds a text whose places reach 2^100, so that there is none for one.
+    pub(crate) fn pass(&mut self, alloc: Global, line: &Parsed<'_>) -> Result<(), AllocError>
+        requires { IsTrue (is_modest_line (seen_line line.now)) }
+        ensures { OnOk result (self.new ≡ places_after (seen_line line.now) self.old) }
+    {
+        let end = match &line.statement {
+            Some(statement) => end_of(statement, self.place),
+            None => self.place,
+        };
+        if end >= FAR {
+            return Err(AllocError);
+        }
+        if let Some(name) = line.label {
+            self.labels.define(alloc, name, self.place)?;
+        }
+        self.place = end;
+        Ok(())
+    }
+
+    /// The labels.
+    pub(crate) fn into_labels(self) -> Labels
+        ensures { result ≡ self.symbols }
+    {
+        self.labels
+    }
+}
