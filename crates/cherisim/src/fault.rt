@@ -1,5 +1,6 @@
 //! The faults that end the program with status 3, and their texts.
 
+use assembler::{AsmCode, AsmFault};
 use image::{DeviceFailed, ImageFault};
 use machine::MachineFault;
 use std::io;
@@ -23,6 +24,9 @@ pub enum ProgramFault<'a> {
     /// An image file is none, or could not be read or written.
     #[error("{}", image_text(.0))]
     Image(#[from] ImageFault),
+    /// A text is not assembled: the first faulty line, and its first fault.
+    #[error("line {}: {}", .0.line, asm_text(.0.code))]
+    Asm(#[from] AsmFault),
     /// No machine could be made.
     #[error("{}", machine_text(.0))]
     Machine(#[from] MachineFault),
@@ -45,6 +49,22 @@ fn image_text(fault: &ImageFault) -> &'static str {
         ImageFault::L9 => "L9 bytes after the end",
         ImageFault::L10 => "L10 device failed",
         ImageFault::L11 => "L11 no memory",
+    }
+}
+
+/// The code and the words of a fault of a text.
+fn asm_text(code: AsmCode) -> &'static str {
+    match code {
+        AsmCode::A1 => "A1 unknown mnemonic",
+        AsmCode::A2 => "A2 operands",
+        AsmCode::A3 => "A3 immediate out of range",
+        AsmCode::A4 => "A4 label twice",
+        AsmCode::A5 => "A5 label unknown",
+        AsmCode::A6 => "A6 target out of range",
+        AsmCode::A7 => "A7 place",
+        AsmCode::A8 => "A8 byte not ASCII",
+        AsmCode::A9 => "A9 line too long",
+        AsmCode::A10 => "A10 no memory",
     }
 }
 

@@ -2,7 +2,7 @@
 
 use crate::fault::{ProgramFault, reading_fault};
 use image::{FromRead, Image};
-use std::fs;
+use std::fs::{self, File};
 use std::io::Read;
 
 /// All bytes of a file.
@@ -23,4 +23,9 @@ pub fn read_image<'a>(rt: &HostRuntime, name: &'a str) -> Result<Image, ProgramF
         return Err(ProgramFault::File(name));
     };
     Ok(image::read(rt.alloc(), &mut FromRead::new(file))?)
+}
+
+/// A new file of this name, or the one that there is, emptied.
+pub fn make_file<'a>(rt: &HostRuntime, name: &'a str) -> Result<File, ProgramFault<'a>> {
+    File::create(rt, name).map_err(|_| ProgramFault::File(name))
 }

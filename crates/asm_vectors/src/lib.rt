@@ -1,0 +1,9 @@
+//! Lines of assembly with the words that they mean, from outside the program, and tests that the assembler agrees with them.
+#![tactic(auto)]
+
+mod table;
+
+pub use table::VECTORS;
+
+#[cfg(test)]
+mod tests;

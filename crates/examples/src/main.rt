@@ -1,0 +1,90 @@
+//! Assembles and runs each example, and compares what it sends with what stands beside it in a file.
+#![tactic(auto)]
+
+use assembler::assemble;
+use cap_bounds::PlainCap;
+use image::ToWrite;
+use machine::{End, Machine};
+use sim_run::{Schedule, run_scheduled};
+use std::alloc::Global;
+use std::io::Read;
+use std::process::ExitCode;
+use std::{fs, io};
+
+/// An example: the name of its files, whether bytes come in from one, and how it is run.
+struct Example {
+    name: &'static str,
+    has_input: bool,
+    schedule: Schedule,
+}
+
+/// Steps enough for each example, ticks and bytes as its text says.
+const EXAMPLES: [Example; 6] = [
+    example("hello", false, 1000, 100),
+    example("echo", true, 20, 100),
+    example("primes", false, 1000, 100),
+    example("bounds", false, 1000, 100),
+    example("sealed", false, 1000, 100),
+    example("timer", false, 1000, 10),
+];
+
+/// An example that is run for 100000 steps at most.
+const fn example(name: &'static str, has_input: bool, gap: u64, tick: u64) -> Example {
+    Example {
+        name,
+        has_input,
+        schedule: Schedule {
+            steps: 100_000,
+            gap,
+            tick,
+        },
+    }
+}
+
+/// What a program sends before it halts with 0: `None` where it is not assembled or does not halt so.
+fn sent_by(alloc: Global, text: &[u8], input: &[u8], schedule: Schedule) -> Option<Vec<u8>> {
+    if !schedule.is_in_range() {
+        return None;
+    }
+    let assembly = assemble(alloc, text).ok()?;
+    let mut machine: Machine<PlainCap> = Machine::new(alloc, assembly.image()).ok()?;
+    let mut sent = Vec::new(alloc);
+    let mut sink = ToWrite::new(&mut sent);
+    match run_scheduled(&mut machine, schedule, input, &mut sink).ok()? {
+        End::Halted(0) => Some(sent),
+        End::Halted(_) | End::Running => None,
+    }
+}
+
+/// All bytes of an example's file of this kind.
+fn file(rt: &HostRuntime, example: &Example, kind: &str) -> io::Result<Vec<u8>> {
+    let name = format!(in rt.alloc(); "{}.{kind}", example.name)?;
+    let mut bytes = Vec::new(rt.alloc());
+    fs::open(rt, &name)?.read_to_end(&mut bytes)?;
+    Ok(bytes)
+}
+
+/// Whether an example sends what it is to send.
+fn is_as_expected(rt: &HostRuntime, example: &Example) -> io::Result<bool> {
+    let text = file(rt, example, "s")?;
+    let input = if example.has_input {
+        file(rt, example, "in")?
+    } else {
+        Vec::new(rt.alloc())
+    };
+    let expected = file(rt, example, "out")?;
+    Ok(sent_by(rt.alloc(), &text, &input, example.schedule).is_some_and(|sent| sent == expected))
+}
+
+fn main(rt: HostRuntime) -> io::Result<ExitCode> {
+    let mut status = ExitCode::SUCCESS;
+    for example in &EXAMPLES {
+        if is_as_expected(&rt, example)? {
+            println!(rt; "{}: as expected", example.name)?;
+        } else {
+            println!(rt; "{}: not as expected", example.name)?;
+            status = ExitCode::FAILURE;
+        }
+    }
+    Ok(status)
+}
