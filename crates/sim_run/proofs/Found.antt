@@ -2,10 +2,9 @@
 use Rattle.std.proofs.Common.{◌≡◌, ◌∙◌, ℕ, ◌<◌, ◌^◌, List, refl, sym, ap, subst, codes, slice_index, arith}
 use Rattle.std.specs.Prelude.{Option, Some, None, IfSome, IfNone, Result, Ok, Err}
 use Rattle.std.specs.Str.Parse.{IsNumeral, digits_value, without_leading_plus}
-use Rattle.clap.specs.Words.{ReadsOne, Row, Text, one_text, rows_of}
+use Rattle.clap.specs.Words.{ReadsOne, Row, one_text, rows_of}
 use Rattle.clap.specs.declared.parser.matches.Found.{Found}
 use Rattle.clap.proofs.WalkLemmas.{one_text-rows}
-use Rattle.sim_run.specs.declared.plans.Plan.{Plan}
 use Rattle.sim_run.specs.declared.plans.Plan.TheVariants.{Asm, Run, Dis, Debug, First}
 use Rattle.sim_run.specs.declared.schedule.Schedule.{Schedule}
 use Rattle.sim_run.specs.Schedule.{IsInRange}

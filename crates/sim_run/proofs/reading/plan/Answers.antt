@@ -1,4 +1,4 @@
-use Rattle.std.proofs.Common.{◌≡◌, true, sym, ap, map, subst}
+use Rattle.std.proofs.Common.{◌≡◌, true, sym, map, subst}
 use Rattle.clap.specs.Words.{App, takes}
 use Rattle.sim_run.proofs.reading.plan.Goals as goal
 

@@ -1,5 +1,5 @@
-use Rattle.std.proofs.Common.{◌≡◌, rules}
-use Rattle.std.specs.Prelude.{Result, Ok, Err, OnErr, not, ◌&&◌}
+use Rattle.std.proofs.Common.{◌≡◌}
+use Rattle.std.specs.Prelude.{not, ◌&&◌}
 use Rattle.sim_run.specs.Schedule.{is_halted}
 use Rattle.sim_run.proofs.Events.{state_around, sent_around, cut_around, tick_if_due, no_tick, on_err}
 use Rattle.sim_run.proofs.run.meet_around.Goals as goal
