@@ -2,7 +2,7 @@
 use Rattle.std.specs.Prelude.{◌≡◌, ℕ, nat_lt, if◌then◌else◌, List, [], ◌∷◌, length, not, Option, Some, None, option_map, Result, Ok, Err, ℤ, pos, neg_ℤ, ◌<ℤ◌, ◌<◌, ◌≤◌, ◌^◌}
 use Rattle.std.specs.List.{prefix_len}
 use Rattle.isa_rows.specs.declared.formats.Format.{Format}
-use Rattle.isa_rows.specs.declared.formats.Format.TheVariants.{Upper, Jump, Immediate, Unsigned, Store, Branch, Shift6, Shift5, Register, Whole, Unary, Pair}
+use Rattle.isa_rows.specs.declared.formats.Format.TheVariants.{Branch}
 use Rattle.isa_rows.specs.declared.operands.Insn.{Insn}
 use Rattle.isa_rows.specs.Line.{line_of}
 use Rattle.isa_rows.specs.Insn.{Fits}

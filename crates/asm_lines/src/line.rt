@@ -1,14 +1,14 @@
 //! Lines.
-ghost use Rattle.std.specs.Prelude.{◌≡◌, option_map};
-ghost use Rattle.asm_lines.specs.Line.{labelled, line_said, line_of_text, line_meaning, seen_line, RowFits, IsBoundedIfAny};
+ghost use Rattle.std.specs.Prelude.{◌≡◌};
+ghost use Rattle.asm_lines.specs.Line.{labelled, line_said, line_meaning, seen_line, RowFits, IsBoundedIfAny};
 ghost use Rattle.asm_lines.specs.Seen.{seen_said, seen_rest};
 
+use crate::class::{Class, run_length};
+use crate::comment::uncommented;
 use crate::fault::LineFault;
 use crate::parsed::Parsed;
 use crate::statement::{Said, said_by};
-use crate::text::{
-    Class, label, mnemonic, operands, run_length, statement_text, trimmed, uncommented,
-};
+use crate::text::{label, mnemonic, operands, statement_text, trimmed};
 
 fn labelled<'a>(label: Option<&'a [u8]>, said: Said<'a>) -> Parsed<'a>
     requires { IsBoundedIfAny said.statement }

@@ -1,16 +1,15 @@
 //! Statements: instructions, the two-row loads of a value, directives.
-ghost use Rattle.std.specs.Prelude.{◌≡◌, ◌<◌, ◌==◌, ◌^◌, ◌-◌, Some, None, length, option_map, false, IfOk, IfSome};
-ghost use Rattle.asm_lines.specs.declared.fault.LineFault.TheVariants.{A1, A2};
+ghost use Rattle.std.specs.Prelude.{◌≡◌, ◌<◌, ◌==◌, ◌^◌, ◌-◌, Some, None, option_map, false, IfOk, IfSome};
 ghost use Rattle.asm_lines.specs.Text.{pieces_of};
 ghost use Rattle.asm_lines.specs.Number.{number_of, expression_of};
 ghost use Rattle.asm_lines.specs.Operand.{up_to};
-ghost use Rattle.asm_lines.specs.Statement.{leaves_statement, said, said_unless, pattern_said, pattern_of, load_said, register_load, number_said, page_count, entry_said, values_said, text_said, said_by, pages, mode, org, align, zeros, IsSize};
+ghost use Rattle.asm_lines.specs.Statement.{said, said_unless, pattern_said, load_said, register_load, number_said, page_count, entry_said, values_said, text_said, said_by, pages, mode, org, align, zeros, IsSize};
 ghost use Rattle.asm_lines.specs.Line.{seen_statement, seen_result, HasOffset, IsBounded, IsBoundedIfAny};
 ghost use Rattle.asm_lines.specs.Seen.{seen_pattern, seen_said};
 
 use crate::fault::LineFault;
 use crate::filling::{filled, first_rest};
-use crate::number::{expression, number};
+use crate::number::expression;
 use crate::operand::{Draft, natural, register};
 use crate::parsed::{Expression, Statement};
 use crate::pattern::{Pattern, is_word, pattern_of};
@@ -29,7 +28,7 @@ impl<'a> Said<'a> {
     /// No statement and no fault.
     pub(crate) fn nothing() -> Said<'a>
         ensures value { seen_said result ≡ said None None }
-    ensures bounds { IsBoundedIfAny result.statement }
+        ensures bounds { IsBoundedIfAny result.statement }
     {
         Said {
             statement: None,
@@ -41,7 +40,7 @@ impl<'a> Said<'a> {
     pub(crate) fn plain(statement: Statement<'a>) -> Said<'a>
         requires { IsBounded statement }
         ensures value { seen_said result ≡ said (Some (seen_statement statement.entry)) None }
-    ensures bounds { IsBoundedIfAny result.statement }
+        ensures bounds { IsBoundedIfAny result.statement }
     {
         Said {
             statement: Some(statement),
@@ -52,7 +51,7 @@ impl<'a> Said<'a> {
     /// A fault and no statement.
     pub(crate) fn fault(fault: LineFault) -> Said<'a>
         ensures value { seen_said result ≡ said None (Some fault) }
-    ensures bounds { IsBoundedIfAny result.statement }
+        ensures bounds { IsBoundedIfAny result.statement }
     {
         Said {
             statement: None,
@@ -64,7 +63,7 @@ impl<'a> Said<'a> {
     pub(crate) fn unless(statement: Statement<'a>, fault: Option<LineFault>) -> Said<'a>
         requires { IsBounded statement }
         ensures value { seen_said result ≡ said_unless (seen_statement statement.entry) fault }
-    ensures bounds { IsBoundedIfAny result.statement }
+        ensures bounds { IsBoundedIfAny result.statement }
     {
         Said {
             statement: match fault {
