@@ -1,8 +1,8 @@
 -- Which bytes a kind of byte holds.
 use Rattle.std.specs.Prelude.{ℕ, Bool, not, ◌==◌, nat_lt}
 use Rattle.std.specs.Char.{digit_value}
-use Rattle.asm_lines.specs.declared.text.Class.{Class}
-use Rattle.asm_lines.specs.declared.text.Class.TheVariants.{Blank, Solid, Plain, Name, Unsigned, Not, Digit}
+use Rattle.asm_lines.specs.declared.class.Class.{Class}
+use Rattle.asm_lines.specs.declared.class.Class.TheVariants.{Blank, Solid, Plain, Name, Unsigned, Not, Digit}
 use Rattle.asm_lines.specs.Text.{is_blank, is_foreign, continues_name}
 use Rattle.asm_lines.specs.Number.{is_sign}
 

@@ -1,8 +1,8 @@
 -- What one line of a text says: a label, a statement, and the first fault that the line alone decides.
-use Rattle.std.specs.Prelude.{◌≡◌, ℕ, nat_lt, if◌then◌else◌, List, [], ◌∷◌, length, not, Option, Some, None, option_map, Result, Ok, Err, ℤ, pos, neg_ℤ, ◌<ℤ◌, ◌^◌}
+use Rattle.std.specs.Prelude.{◌≡◌, ℕ, nat_lt, if◌then◌else◌, List, [], ◌∷◌, length, not, Option, Some, None, option_map, Result, Ok, Err, ℤ, pos, neg_ℤ, ◌<ℤ◌, ◌<◌, ◌≤◌, ◌^◌}
 use Rattle.std.specs.List.{prefix_len}
 use Rattle.isa_rows.specs.declared.formats.Format.{Format}
-use Rattle.isa_rows.specs.declared.formats.Format.TheVariants.{Upper, Jump, Immediate, Unsigned, Store, Branch, Shift6, Shift5, Register, Whole, Unary, Pair}
+use Rattle.isa_rows.specs.declared.formats.Format.TheVariants.{Branch}
 use Rattle.isa_rows.specs.declared.operands.Insn.{Insn}
 use Rattle.isa_rows.specs.Line.{line_of}
 use Rattle.isa_rows.specs.Insn.{Fits}
@@ -15,7 +15,7 @@ use Rattle.asm_lines.specs.declared.parsed.Statement.TheVariants.{Row, Load, Pag
 use Rattle.asm_lines.specs.declared.parsed.Expression.{Expression as Written}
 use Rattle.asm_lines.specs.Text.{is_foreign, trimmed, uncommented, label_of, statement_text, mnemonic_of, operands_of}
 use Rattle.asm_lines.specs.Number.{Expression, expression}
-use Rattle.asm_lines.specs.Statement.{Statement, row, load, pages, mode, entry, org, align, zeros, values, text, Said, said, said_by}
+use Rattle.asm_lines.specs.Statement.{IsSize, Statement, row, load, pages, mode, entry, org, align, zeros, values, text, Said, said, said_by}
 
 pub record Line : Type 0 where
   pub label : Option (List ℕ)
@@ -71,22 +71,22 @@ abbrev pub HasTargetOffset : Option Written → Type 0
 HasTargetOffset (Some e) = HasOffset e
 HasTargetOffset None = Unit {0}
 
--- each expression of a statement has such an offset
-abbrev pub HasOffsets : Read → Type 0
-HasOffsets (Row i target) = HasTargetOffset target
-HasOffsets (Load capability rd value) = HasOffset value
-HasOffsets (Pages n) = Unit {0}
-HasOffsets (Mode m) = Unit {0}
-HasOffsets (Entry e) = HasOffset e
-HasOffsets (Org n) = Unit {0}
-HasOffsets (Align n) = Unit {0}
-HasOffsets (Zero n) = Unit {0}
-HasOffsets (Values size operands) = Unit {0}
-HasOffsets (Text between) = Unit {0}
+-- what the numbers of a statement lie between
+abbrev pub IsBounded : Read → Type 0
+IsBounded (Row i target) = HasTargetOffset target
+IsBounded (Load capability rd value) = (rd < 32) × HasOffset value
+IsBounded (Pages n) = n ≤ 4096
+IsBounded (Mode m) = Unit {0}
+IsBounded (Entry e) = HasOffset e
+IsBounded (Org n) = Unit {0}
+IsBounded (Align n) = n ≤ 12
+IsBounded (Zero n) = n ≤ 268435456
+IsBounded (Values size operands) = IsSize size
+IsBounded (Text between) = Unit {0}
 
-abbrev pub HaveOffsets : Option Read → Type 0
-HaveOffsets (Some s) = HasOffsets s
-HaveOffsets None = Unit {0}
+abbrev pub IsBoundedIfAny : Option Read → Type 0
+IsBoundedIfAny (Some s) = IsBounded s
+IsBoundedIfAny None = Unit {0}
 
 abbrev pub seen_statement : Read → Statement
 seen_statement (Row i target) = row i (option_map seen_expression target)

@@ -1,7 +1,7 @@
 //! Operands for all slots of an instruction, and the first fault that is told of them.
-ghost use Rattle.std.specs.Prelude.{◌≡◌, Some};
+ghost use Rattle.std.specs.Prelude.{◌≡◌};
 ghost use Rattle.asm_lines.specs.Text.{pieces_of, pieces_left};
-ghost use Rattle.asm_lines.specs.Operand.{is_A2, told_fault, fault_of, draft_after, filled_slot, filled_draft, filled_fault};
+ghost use Rattle.asm_lines.specs.Operand.{told_fault, fault_of, draft_after, filled_slot, filled_draft, filled_fault};
 ghost use Rattle.asm_lines.specs.Line.{HasTargetOffset};
 ghost use Rattle.asm_lines.specs.Seen.{seen_draft, seen_rest};
 

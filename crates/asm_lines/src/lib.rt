@@ -1,6 +1,8 @@
 //! One line of an assembly text: its label, its statement, and the faults that the line alone decides.
 #![tactic(auto)]
 
+mod class;
+mod comment;
 mod fault;
 mod filling;
 mod line;

@@ -1,18 +1,18 @@
 //! Lines.
-ghost use Rattle.std.specs.Prelude.{◌≡◌, option_map};
-ghost use Rattle.asm_lines.specs.Line.{labelled, line_said, line_of_text, line_meaning, seen_line, RowFits, HaveOffsets};
+ghost use Rattle.std.specs.Prelude.{◌≡◌};
+ghost use Rattle.asm_lines.specs.Line.{labelled, line_said, line_meaning, seen_line, RowFits, IsBoundedIfAny};
 ghost use Rattle.asm_lines.specs.Seen.{seen_said, seen_rest};
 
+use crate::class::{Class, run_length};
+use crate::comment::uncommented;
 use crate::fault::LineFault;
 use crate::parsed::Parsed;
 use crate::statement::{Said, said_by};
-use crate::text::{
-    Class, label, mnemonic, operands, run_length, statement_text, trimmed, uncommented,
-};
+use crate::text::{label, mnemonic, operands, statement_text, trimmed};
 
 fn labelled<'a>(label: Option<&'a [u8]>, said: Said<'a>) -> Parsed<'a>
-    requires { HaveOffsets said.statement }
-    ensures offsets { HaveOffsets result.statement }
+    requires { IsBoundedIfAny said.statement }
+    ensures bounds { IsBoundedIfAny result.statement }
     ensures value { seen_line result ≡ labelled (seen_rest label.entry) (seen_said said.entry) }
 {
     Parsed {
@@ -24,7 +24,7 @@ fn labelled<'a>(label: Option<&'a [u8]>, said: Said<'a>) -> Parsed<'a>
 
 /// What a line says, by its label and what follows.
 fn line_said<'a>(label: Option<&'a [u8]>, text: &'a [u8]) -> Parsed<'a>
-    ensures offsets { HaveOffsets result.statement }
+    ensures bounds { IsBoundedIfAny result.statement }
     ensures value { seen_line result ≡ line_said (seen_rest label.entry) text.now }
 {
     if text.is_empty() {
@@ -41,14 +41,14 @@ fn line_said<'a>(label: Option<&'a [u8]>, text: &'a [u8]) -> Parsed<'a>
 pub fn parse_line<'a>(line: &'a [u8]) -> Parsed<'a>
     ensures value { seen_line result ≡ line_meaning line.now }
     ensures fits { RowFits (seen_line result) }
-    ensures offsets { HaveOffsets result.statement }
+    ensures bounds { IsBoundedIfAny result.statement }
 {
     meaning(line)
 }
 
 #[tactic(auto, unfolding(crate::specs::Line::line_meaning))]
 fn meaning<'a>(line: &'a [u8]) -> Parsed<'a>
-    ensures offsets { HaveOffsets result.statement }
+    ensures bounds { IsBoundedIfAny result.statement }
     ensures value { seen_line result ≡ line_meaning line.now }
 {
     if run_length(line, Class::Plain) < line.len() {

@@ -1,14 +1,13 @@
 //! Numbers and expressions.
-ghost use Rattle.std.specs.Prelude.{◌≡◌, ◌≤◌, ◌<◌, ◌^◌, ◌<ℤ◌, pos, neg_ℤ, length, Some, SomeIff, IfOk, IsTrue, ◌==◌, if◌then◌else◌};
+ghost use Rattle.std.specs.Prelude.{◌≡◌, ◌≤◌, ◌<◌, ◌^◌, pos, neg_ℤ, Some, SomeIff, IfOk, IsTrue, ◌==◌, if◌then◌else◌};
 ghost use Rattle.std.specs.Str.Parse.{digits_value};
-ghost use Rattle.asm_lines.specs.Number.{is_numeral, is_in_limits, is_sign, is_hexadecimal, is_negative, limited, number_of, named_plus, named_minus, numbered, named_expression, expression_of, expression};
+ghost use Rattle.asm_lines.specs.Number.{is_numeral, is_in_limits, is_hexadecimal, is_negative, limited, number_of, named_expression, expression_of, expression};
 ghost use Rattle.asm_lines.specs.Line.{seen_expression, seen_result, IsOffset};
 
+use crate::class::{Class, begins_name, digit_value, run_length};
 use crate::fault::LineFault;
 use crate::parsed::Expression;
-use crate::text::{
-    Class, begins_name, digit_value, is_name, run_length, trimmed_end, trimmed_start,
-};
+use crate::text::{is_name, trimmed_end, trimmed_start};
 
 /// The number that digits write, if it is below 2^64.
 fn value(digits: &[u8], radix: u32) -> Option<u64>

@@ -1,5 +1,5 @@
 //! Operands as they are written, slot by slot, and what they make of an instruction.
-ghost use Rattle.std.specs.Prelude.{◌≡◌, Ok, ◌≤◌, ◌<◌, ◌^◌, ◌-◌, ◌*◌, IfOk, length};
+ghost use Rattle.std.specs.Prelude.{◌≡◌, Ok, ◌≤◌, ◌<◌, ◌^◌, ◌-◌, ◌*◌, IfOk};
 ghost use Rattle.isa_rows.specs.Insn.{sign_extended};
 ghost use Rattle.asm_names.specs.Registers.{register_named};
 ghost use Rattle.asm_names.specs.SpecialNames.{csr_named, scr_named};
@@ -8,10 +8,11 @@ ghost use Rattle.asm_lines.specs.Operand.{up_to, signed_12, named_or, has_bracke
 ghost use Rattle.asm_lines.specs.Line.{HasTargetOffset};
 ghost use Rattle.asm_lines.specs.Seen.{seen_draft, seen_filled, or_A2, wrapped_or};
 
+use crate::class::Class;
 use crate::fault::LineFault;
 use crate::number::{expression, number};
 use crate::parsed::Expression;
-use crate::text::{Class, after, before, trimmed};
+use crate::text::{after, before, trimmed};
 use asm_names::{Slot, csr_named, register_named, scr_named};
 use isa_rows::Insn;
 

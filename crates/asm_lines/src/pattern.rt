@@ -1,5 +1,5 @@
 //! What a mnemonic of an instruction stands for: an instruction with some operands already there, and those that are written.
-ghost use Rattle.std.specs.Prelude.{◌≡◌, option_map, codes};
+ghost use Rattle.std.specs.Prelude.{◌≡◌, option_map};
 ghost use Rattle.isa_rows.specs.Insn.{insn};
 ghost use Rattle.asm_lines.specs.Statement.{is_word, row_pattern, pattern_of};
 ghost use Rattle.asm_lines.specs.Seen.{seen_pattern};

@@ -1,16 +1,15 @@
 //! Statements: instructions, the two-row loads of a value, directives.
-ghost use Rattle.std.specs.Prelude.{◌≡◌, ◌<◌, ◌==◌, ◌^◌, ◌-◌, Some, None, length, option_map, false, IfOk};
-ghost use Rattle.asm_lines.specs.declared.fault.LineFault.TheVariants.{A1, A2};
+ghost use Rattle.std.specs.Prelude.{◌≡◌, ◌<◌, ◌==◌, ◌^◌, ◌-◌, Some, None, option_map, false, IfOk, IfSome};
 ghost use Rattle.asm_lines.specs.Text.{pieces_of};
 ghost use Rattle.asm_lines.specs.Number.{number_of, expression_of};
 ghost use Rattle.asm_lines.specs.Operand.{up_to};
-ghost use Rattle.asm_lines.specs.Statement.{leaves_statement, said, said_unless, pattern_said, pattern_of, load_said, register_load, number_said, page_count, entry_said, values_said, text_said, said_by, pages, mode, org, align, zeros, IsSize};
-ghost use Rattle.asm_lines.specs.Line.{seen_statement, seen_result, HasOffset, HasOffsets, HaveOffsets};
+ghost use Rattle.asm_lines.specs.Statement.{said, said_unless, pattern_said, load_said, register_load, number_said, page_count, entry_said, values_said, text_said, said_by, pages, mode, org, align, zeros, IsSize};
+ghost use Rattle.asm_lines.specs.Line.{seen_statement, seen_result, HasOffset, IsBounded, IsBoundedIfAny};
 ghost use Rattle.asm_lines.specs.Seen.{seen_pattern, seen_said};
 
 use crate::fault::LineFault;
 use crate::filling::{filled, first_rest};
-use crate::number::{expression, number};
+use crate::number::expression;
 use crate::operand::{Draft, natural, register};
 use crate::parsed::{Expression, Statement};
 use crate::pattern::{Pattern, is_word, pattern_of};
@@ -29,7 +28,7 @@ impl<'a> Said<'a> {
     /// No statement and no fault.
     pub(crate) fn nothing() -> Said<'a>
         ensures value { seen_said result ≡ said None None }
-    ensures offsets { HaveOffsets result.statement }
+        ensures bounds { IsBoundedIfAny result.statement }
     {
         Said {
             statement: None,
@@ -39,9 +38,9 @@ impl<'a> Said<'a> {
 
     /// A statement without a fault.
     pub(crate) fn plain(statement: Statement<'a>) -> Said<'a>
-        requires { HasOffsets statement }
+        requires { IsBounded statement }
         ensures value { seen_said result ≡ said (Some (seen_statement statement.entry)) None }
-    ensures offsets { HaveOffsets result.statement }
+        ensures bounds { IsBoundedIfAny result.statement }
     {
         Said {
             statement: Some(statement),
@@ -52,7 +51,7 @@ impl<'a> Said<'a> {
     /// A fault and no statement.
     pub(crate) fn fault(fault: LineFault) -> Said<'a>
         ensures value { seen_said result ≡ said None (Some fault) }
-    ensures offsets { HaveOffsets result.statement }
+        ensures bounds { IsBoundedIfAny result.statement }
     {
         Said {
             statement: None,
@@ -62,9 +61,9 @@ impl<'a> Said<'a> {
 
     /// A statement, which a number out of range leaves and operands of another form do not.
     pub(crate) fn unless(statement: Statement<'a>, fault: Option<LineFault>) -> Said<'a>
-        requires { HasOffsets statement }
+        requires { IsBounded statement }
         ensures value { seen_said result ≡ said_unless (seen_statement statement.entry) fault }
-    ensures offsets { HaveOffsets result.statement }
+        ensures bounds { IsBoundedIfAny result.statement }
     {
         Said {
             statement: match fault {
@@ -79,7 +78,7 @@ impl<'a> Said<'a> {
 /// The instruction that a mnemonic and its operands say.
 pub(crate) fn pattern_said<'a>(pattern: Option<Pattern>, operands: &'a [u8]) -> Said<'a>
     ensures value { seen_said result ≡ pattern_said (option_map seen_pattern pattern) operands.now }
-    ensures offsets { HaveOffsets result.statement }
+    ensures bounds { IsBoundedIfAny result.statement }
 {
     let Some(pattern) = pattern else {
         return Said::fault(LineFault::A1);
@@ -101,7 +100,7 @@ const NOUGHT: Expression<'static> = Expression {
 #[tactic(auto, using(crate::proofs::SlotSteps::load_more))]
 fn load_said<'a>(capability: bool, operands: &'a [u8]) -> Said<'a>
     ensures value { seen_said result ≡ load_said capability (pieces_of operands.now) }
-    ensures offsets { HaveOffsets result.statement }
+    ensures bounds { IsBoundedIfAny result.statement }
 {
     let Some(text) = first_rest(operands) else {
         return Said::fault(LineFault::A2);
@@ -120,9 +119,10 @@ fn register_load<'a>(
     rd: Option<u8>,
     value: Result<Expression<'a>, LineFault>,
 ) -> Said<'a>
-    requires { IfOk value HasOffset }
+    requires register { IfSome rd (λ n. n < 32) }
+    requires offset { IfOk value HasOffset }
     ensures value { seen_said result ≡ register_load capability rd (seen_result value.entry) }
-    ensures offsets { HaveOffsets result.statement }
+    ensures bounds { IsBoundedIfAny result.statement }
 {
     let Some(rd) = rd else {
         return Said::fault(LineFault::A2);
@@ -140,7 +140,7 @@ fn register_load<'a>(
 /// `.pages`: a number of 1 to 4096; out of range it leaves 0.
 fn pages_said<'a>(operands: &[u8]) -> Said<'a>
     ensures value { seen_said result ≡ number_said pages (Some (pages 0)) (page_count (number_of operands.now)) }
-    ensures offsets { HaveOffsets result.statement }
+    ensures bounds { IsBoundedIfAny result.statement }
 {
     match natural(operands, 4096) {
         Ok(0) => Said::unless(Statement::Pages(0), Some(LineFault::A3)),
@@ -152,7 +152,7 @@ fn pages_said<'a>(operands: &[u8]) -> Said<'a>
 /// `.mode`: 0 or 1; out of range it leaves 0.
 fn mode_said<'a>(operands: &[u8]) -> Said<'a>
     ensures value { seen_said result ≡ number_said (λ n. mode (n == 1)) (Some (mode false)) (up_to 1 (number_of operands.now)) }
-    ensures offsets { HaveOffsets result.statement }
+    ensures bounds { IsBoundedIfAny result.statement }
 {
     match natural(operands, 1) {
         Ok(mode) => Said::plain(Statement::Mode(mode == 1)),
@@ -163,7 +163,7 @@ fn mode_said<'a>(operands: &[u8]) -> Said<'a>
 /// `.entry`: an expression.
 fn entry_said<'a>(operands: &'a [u8]) -> Said<'a>
     ensures value { seen_said result ≡ entry_said (expression_of operands.now) }
-    ensures offsets { HaveOffsets result.statement }
+    ensures bounds { IsBoundedIfAny result.statement }
 {
     let value = expression(operands);
     Said::unless(Statement::Entry(value.unwrap_or(NOUGHT)), value.err())
@@ -172,7 +172,7 @@ fn entry_said<'a>(operands: &'a [u8]) -> Said<'a>
 /// `.org`: a number of 0 to 2^64 - 1.
 fn org_said<'a>(operands: &[u8]) -> Said<'a>
     ensures value { seen_said result ≡ number_said org None (up_to (2 ^ 64 - 1) (number_of operands.now)) }
-    ensures offsets { HaveOffsets result.statement }
+    ensures bounds { IsBoundedIfAny result.statement }
 {
     match natural(operands, u64::MAX) {
         Ok(place) => Said::plain(Statement::Org(place)),
@@ -183,7 +183,7 @@ fn org_said<'a>(operands: &[u8]) -> Said<'a>
 /// `.align`: a number of 0 to 12.
 fn align_said<'a>(operands: &[u8]) -> Said<'a>
     ensures value { seen_said result ≡ number_said align None (up_to 12 (number_of operands.now)) }
-    ensures offsets { HaveOffsets result.statement }
+    ensures bounds { IsBoundedIfAny result.statement }
 {
     match natural(operands, 12) {
         Ok(power) => Said::plain(Statement::Align(power as u32)),
@@ -194,7 +194,7 @@ fn align_said<'a>(operands: &[u8]) -> Said<'a>
 /// `.zero`: a number of 0 to 268435456.
 fn zero_said<'a>(operands: &[u8]) -> Said<'a>
     ensures value { seen_said result ≡ number_said zeros None (up_to 268435456 (number_of operands.now)) }
-    ensures offsets { HaveOffsets result.statement }
+    ensures bounds { IsBoundedIfAny result.statement }
 {
     match natural(operands, 268_435_456) {
         Ok(count) => Said::plain(Statement::Zero(count)),
@@ -206,7 +206,7 @@ fn zero_said<'a>(operands: &[u8]) -> Said<'a>
 fn values_said<'a>(size: u8, operands: &'a [u8]) -> Said<'a>
     requires { IsSize size }
     ensures value { seen_said result ≡ values_said size operands.now }
-    ensures offsets { HaveOffsets result.statement }
+    ensures bounds { IsBoundedIfAny result.statement }
 {
     if operands.is_empty() {
         return Said::fault(LineFault::A2);
@@ -220,7 +220,7 @@ fn values_said<'a>(size: u8, operands: &'a [u8]) -> Said<'a>
 /// `.ascii`: a text between quotes.
 fn text_said<'a>(operands: &'a [u8]) -> Said<'a>
     ensures value { seen_said result ≡ text_said operands.now }
-    ensures offsets { HaveOffsets result.statement }
+    ensures bounds { IsBoundedIfAny result.statement }
 {
     if operands.is_empty() || operands[0] != b'"' || !closes(&operands[1..]) {
         return Said::fault(LineFault::A2);
@@ -232,7 +232,7 @@ fn text_said<'a>(operands: &'a [u8]) -> Said<'a>
 #[tactic(auto, unfolding(crate::specs::Statement::said_by))]
 pub(crate) fn said_by<'a>(word: &[u8], operands: &'a [u8]) -> Said<'a>
     ensures value { seen_said result ≡ said_by word.now operands.now }
-    ensures offsets { HaveOffsets result.statement }
+    ensures bounds { IsBoundedIfAny result.statement }
 {
     if is_word(word, "la") {
         load_said(false, operands)

@@ -1,5 +1,5 @@
 //! Values with commas between.
-ghost use Rattle.std.specs.Prelude.{◌≡◌, ◌⊎◌, IsTrue, option_map};
+ghost use Rattle.std.specs.Prelude.{◌≡◌};
 ghost use Rattle.asm_lines.specs.Text.{pieces_of};
 ghost use Rattle.asm_lines.specs.Statement.{is_in_size, value_fault, values_fault, IsSize};
 ghost use Rattle.asm_lines.specs.Line.{seen_result};

@@ -1,7 +1,7 @@
 use Rattle.std.proofs.Common.{◌≡◌, ◌+◌, ◌-◌, ◌≤◌, length, drop}
 use Rattle.std.specs.List.{prefix_len}
 use Rattle.asm_lines.specs.Class.{is_in}
-use Rattle.asm_lines.proofs.text.run_length.Given as goal
+use Rattle.asm_lines.proofs.class.run_length.Given as goal
 
 abbrev pub invariant-loop-count : goal.invariant-loop-count
 invariant-loop-count l =

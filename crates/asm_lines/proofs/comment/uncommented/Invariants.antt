@@ -1,6 +1,6 @@
 use Rattle.std.proofs.Common.{◌≡◌, ◌-◌, ◌≤◌, ◌++◌, length, drop, take}
 use Rattle.asm_lines.specs.Text.{uncommented, uncommented_from}
-use Rattle.asm_lines.proofs.text.uncommented.Given as goal
+use Rattle.asm_lines.proofs.comment.uncommented.Given as goal
 
 abbrev pub invariant-loop-end : goal.invariant-loop-end
 invariant-loop-end l =
