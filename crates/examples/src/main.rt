@@ -12,24 +12,15 @@ use std::process::ExitCode;
 use std::{fs, io};
 
 /// An example: the name of its files, whether bytes come in from one, and how it is run.
+#[derive(Clone, Copy, Debug)]
 struct Example {
     name: &'static str,
     has_input: bool,
     schedule: Schedule,
 }
 
-/// Steps enough for each example, ticks and bytes as its text says.
-const EXAMPLES: [Example; 6] = [
-    example("hello", false, 1000, 100),
-    example("echo", true, 20, 100),
-    example("primes", false, 1000, 100),
-    example("bounds", false, 1000, 100),
-    example("sealed", false, 1000, 100),
-    example("timer", false, 1000, 10),
-];
-
 /// An example that is run for 100000 steps at most.
-const fn example(name: &'static str, has_input: bool, gap: u64, tick: u64) -> Example {
+fn to_try(name: &'static str, has_input: bool, gap: u64, tick: u64) -> Example {
     Example {
         name,
         has_input,
@@ -39,6 +30,18 @@ const fn example(name: &'static str, has_input: bool, gap: u64, tick: u64) -> Ex
             tick,
         },
     }
+}
+
+/// The examples, with bytes and ticks as their texts say.
+fn examples() -> [Example; 6] {
+    [
+        to_try("hello", false, 1000, 100),
+        to_try("echo", true, 20, 100),
+        to_try("primes", false, 1000, 100),
+        to_try("bounds", false, 1000, 100),
+        to_try("sealed", false, 1000, 100),
+        to_try("timer", false, 1000, 10),
+    ]
 }
 
 /// What a program sends before it halts with 0: `None` where it is not assembled or does not halt so.
@@ -78,7 +81,7 @@ fn is_as_expected(rt: &HostRuntime, example: &Example) -> io::Result<bool> {
 
 fn main(rt: HostRuntime) -> io::Result<ExitCode> {
     let mut status = ExitCode::SUCCESS;
-    for example in &EXAMPLES {
+    for example in &examples() {
         if is_as_expected(&rt, example)? {
             println!(rt; "{}: as expected", example.name)?;
         } else {
