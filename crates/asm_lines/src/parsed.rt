@@ -6,7 +6,7 @@ use isa_rows::Insn;
 pub struct Expression<'a> {
     /// The name, if there is one.
     pub name: Option<&'a [u8]>,
-    /// The number that is added, or that the expression is.
+    /// The number that is added, or that the expression is: above -2^64 and below 2^64 where it was read from a text.
     pub offset: i128,
 }
 
@@ -15,13 +15,13 @@ pub struct Expression<'a> {
 pub enum Statement<'a> {
     /// One instruction, and the address that it jumps to where it is written with one (its immediate is 0 until that is known).
     Row(Insn, Option<Expression<'a>>),
-    /// `la` or, where `capability` says so, `cla`: the two instructions that put a value into a register.
+    /// `la` or, where `capability` says so, `cla`: the two instructions that put a value into a register, 0 to 31.
     Load {
         capability: bool,
         rd: u8,
         value: Expression<'a>,
     },
-    /// `.pages`: RAM's size in pages.
+    /// `.pages`: RAM's size in pages, 1 to 4096; 0 where the number is out of range.
     Pages(u32),
     /// `.mode`: whether the first instruction is done in capability mode.
     Mode(bool),
@@ -29,11 +29,11 @@ pub enum Statement<'a> {
     Entry(Expression<'a>),
     /// `.org`: a new section, and where it begins.
     Org(u64),
-    /// `.align`: zeros up to a multiple of two to this power.
+    /// `.align`: zeros up to a multiple of two to this power, 0 to 12.
     Align(u32),
-    /// `.zero`: so many zeros.
+    /// `.zero`: so many zeros, 0 to 268435456.
     Zero(u64),
-    /// `.byte`, `.half`, `.word`, `.dword`: the number of bytes of each value, and the expressions with commas between.
+    /// `.byte`, `.half`, `.word`, `.dword`: the number of bytes of each value (1, 2, 4 or 8), and the expressions with commas between.
     Values {
         size: u8,
         operands: &'a [u8],
