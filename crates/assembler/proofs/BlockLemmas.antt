@@ -1,5 +1,5 @@
 -- A section, put among sections in ascending order.
-use Rattle.std.proofs.Common.{◌≡◌, ℕ, ◌+◌, nat_lt, cond, true, false, not, List, [], ◌∷◌, ◌++◌, take, drop, length, refl, ap, ◌∙◌, arith}
+use Rattle.std.proofs.Common.{◌≡◌, ℕ, ◌+◌, nat_lt, cond, true, false, not, List, [], ◌∷◌, refl, ap, ◌∙◌, arith}
 use Rattle.std.specs.Prelude.{insert}
 use Rattle.std.specs.List.{position_or_len}
 use Rattle.std.proofs.lemmas.Grind.{common_steps}

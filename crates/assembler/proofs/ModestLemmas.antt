@@ -1,14 +1,13 @@
 -- The statement of a line has a size of values, and an alignment to at most 4096 bytes.
-use Rattle.std.proofs.Common.{◌≡◌, ℕ, ◌*◌, ◌-◌, ◌%◌, ◌^◌, ◌≤◌, Bool, true, false, not, ◌&&◌, ◌||◌, ◌==◌, nat_lt, nat_le, cond, if◌then◌else◌, ℤ, pos, negsuc, List, [], ◌∷◌, length, take, drop, Option, Some, None, Result, Ok, Err, codes, refl, arith}
-use Rattle.std.specs.Prelude.{int_lt}
+use Rattle.std.proofs.Common.{◌≡◌, ℕ, ◌-◌, ◌%◌, ◌^◌, Bool, true, false, not, ◌||◌, ◌==◌, nat_lt, nat_le, if◌then◌else◌, ℤ, pos, negsuc, List, [], ◌∷◌, length, take, drop, Option, Some, None, Result, Ok, Err, codes, refl, arith}
 use Rattle.std.specs.List.{prefix_len}
 use Rattle.std.proofs.lemmas.Bool.Decides.{nat_tests}
 use Rattle.asm_lines.specs.declared.fault.LineFault.{LineFault}
 use Rattle.asm_lines.specs.declared.fault.LineFault.TheVariants.{A1, A2, A3, A8, A9}
 use Rattle.asm_lines.specs.Text.{pieces_of, is_foreign, trimmed, uncommented, label_of, statement_text, mnemonic_of, operands_of}
 use Rattle.asm_lines.specs.Number.{Expression, number_of, expression_of}
-use Rattle.asm_lines.specs.Operand.{Draft, up_to, wrapped, filled_draft, filled_fault}
-use Rattle.asm_lines.specs.Statement.{Statement, row, load, pages, mode, entry, org, align, zeros, values, text, Said, said, said_by, is_word, Pattern, pattern_of, pattern_said, draft_of, row_said, said_unless, leaves_statement, register_load, load_said, number_said, page_count, entry_said, values_said, values_fault, text_said, is_quoted, expression_or_nought}
+use Rattle.asm_lines.specs.Operand.{up_to, wrapped, filled_draft, filled_fault}
+use Rattle.asm_lines.specs.Statement.{Statement, row, load, pages, mode, entry, org, align, zeros, values, text, Said, said, said_by, is_word, Pattern, pattern_of, pattern_said, draft_of, said_unless, leaves_statement, register_load, load_said, number_said, page_count, entry_said, values_said, values_fault, text_said, is_quoted, expression_or_nought}
 use Rattle.asm_lines.specs.Line.{Line, line_meaning, line_said, line_of_text, labelled}
 use Rattle.assembler.specs.Modest.{is_size, is_modest, is_modest_or_none, is_modest_line}
 

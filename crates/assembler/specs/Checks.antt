@@ -1,14 +1,13 @@
 -- The faults of a statement that its place and its values decide, before its bytes are placed.
-use Rattle.std.specs.Prelude.{ℕ, ◌-◌, Bool, true, not, ◌||◌, ◌==◌, if◌then◌else◌, ℤ, pos, ◌-ℤ◌, Option, Some, None, is_none}
-use Rattle.isa_rows.specs.declared.formats.Format.{Format}
-use Rattle.asm_lines.specs.Statement.{Statement, row, load, pages, mode, entry, org, align, zeros, values, text, is_in_size}
+use Rattle.std.specs.Prelude.{ℕ, Bool, true, not, if◌then◌else◌, ℤ, Option, Some, None, is_none}
+use Rattle.asm_lines.specs.Statement.{Statement, is_in_size}
 use Rattle.assembler.specs.declared.fault.AsmCode.{AsmCode}
 use Rattle.assembler.specs.declared.fault.AsmCode.TheVariants.{A3, A5, A6}
 use Rattle.assembler.specs.declared.checks.Test.{Test}
 use Rattle.assembler.specs.declared.checks.Test.TheVariants.{IsUnknown, IsBeyond}
 use Rattle.assembler.specs.Places.{Symbols}
 use Rattle.assembler.specs.Modest.{is_size}
-use Rattle.assembler.specs.Values.{known_and, is_beyond, has_value_beyond, has_unknown_name, is_out_of_reach, is_reached, reach_of, is_loadable, is_entry}
+use Rattle.assembler.specs.Values.{known_and, is_beyond, has_value_beyond, has_unknown_name, is_out_of_reach}
 
 -- A3, then A5, then A6
 abbrev pub told : Bool → Bool → Bool → Option AsmCode

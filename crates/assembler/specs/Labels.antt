@@ -1,5 +1,5 @@
 -- Labels as a map of names holds them.
-use Rattle.std.specs.Prelude.{ℕ, List, [], ◌∷◌, map}
+use Rattle.std.specs.Prelude.{ℕ, List, map}
 use Rattle.std.specs.declared.vec.Vec.{Vec}
 use Rattle.assembler.specs.Places.{Symbols}
 

@@ -1,7 +1,7 @@
 -- The values of expressions, and whether they are in range.
-use Rattle.std.specs.Prelude.{ℕ, ◌+◌, ◌-◌, ◌*◌, ◌%◌, ◌^◌, Bool, true, false, not, ◌&&◌, ◌||◌, nat_lt, nat_le, nat_eq, ◌==◌, if◌then◌else◌, ℤ, pos, neg_ℤ, ◌+ℤ◌, ◌-ℤ◌, int_lt, List, [], ◌∷◌, Option, Some, None, is_none}
+use Rattle.std.specs.Prelude.{ℕ, ◌-◌, ◌%◌, ◌^◌, Bool, false, not, ◌&&◌, ◌||◌, ◌==◌, if◌then◌else◌, ℤ, pos, neg_ℤ, ◌+ℤ◌, ◌-ℤ◌, int_lt, List, [], ◌∷◌, Option, Some, None, is_none}
 use Rattle.isa_rows.specs.declared.formats.Format.{Format}
-use Rattle.isa_rows.specs.declared.formats.Format.TheVariants.{Upper, Jump, Immediate, Unsigned, Store, Branch, Shift6, Shift5, Register, Whole, Unary, Pair}
+use Rattle.isa_rows.specs.declared.formats.Format.TheVariants.{Branch}
 use Rattle.isa_rows.specs.declared.operands.Insn.{Insn}
 use Rattle.isa_rows.specs.Line.{line_of}
 use Rattle.image.specs.Image.{is_good_header}

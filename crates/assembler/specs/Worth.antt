@@ -1,5 +1,5 @@
 -- A value as it is looked at: unknown, beyond the limits of numbers, or known.
-use Rattle.std.specs.Prelude.{Bool, if◌then◌else◌, ℤ, Option, Some, None}
+use Rattle.std.specs.Prelude.{if◌then◌else◌, ℤ, Option, Some, None}
 use Rattle.asm_lines.specs.Number.{is_in_limits}
 use Rattle.assembler.specs.declared.values.Worth.{Worth}
 use Rattle.assembler.specs.declared.values.Worth.TheVariants.{Unknown, Beyond, Known}

@@ -139,7 +139,8 @@ fn lent(alloc: Global, blocks: &[Block]) -> Result<Vec<(u64, &[u8])>, AllocError
     Ok(parts)
 }
 
-/// An image of blocks.
+/// An image of blocks. Those of a correct text stand in RAM, in ascending order and apart, so that only memory can be wanting; this
+/// is not proved, and another fault would be answered as want of memory too.
 pub(crate) fn built(
     alloc: Global,
     pages: u32,

@@ -55,7 +55,7 @@ fn push_zeros(bytes: &mut Vec<u8>, count: u128) -> Result<(), AllocError>
     bytes.resize(end, 0)
 }
 
-/// The word of an instruction.
+/// The word of an instruction. One that does not fit its row comes from no statement without a fault.
 fn word_of(insn: Insn) -> Result<u32, AllocError>
     ensures { IfOk result (λ word. word ≡ insn_word insn) }
 {
@@ -74,7 +74,7 @@ fn push_insn(bytes: &mut Vec<u8>, insn: Insn) -> Result<(), AllocError>
     push_word(bytes, word_of(insn)?)
 }
 
-/// The value of an expression that has no fault.
+/// The value of an expression that has no fault; of another, as if there were no memory.
 pub(crate) fn known(
     labels: &Labels,
     here: u128,

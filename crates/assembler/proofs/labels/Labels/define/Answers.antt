@@ -1,7 +1,5 @@
-use Rattle.std.proofs.Common.{◌≡◌, ◌∷◌, [], ◌++◌, ◌∙◌, sym, ap, None, not}
-use Rattle.assembler.specs.Places.{value_in}
-use Rattle.assembler.specs.Labels.{seen_entries}
-use Rattle.assembler.proofs.LabelLemmas.{seen-insert_entry, defined}
+use Rattle.std.proofs.Common.{◌∙◌, ap, not}
+use Rattle.assembler.proofs.LabelLemmas.{defined}
 use Rattle.assembler.proofs.labels.Labels.define.Goals as goal
 
 pub returns-in_ok-insert : goal.returns-in_ok-insert

@@ -1,4 +1,4 @@
-use Rattle.std.proofs.Common.{◌∙◌, ap, sym}
+use Rattle.std.proofs.Common.{◌∙◌, ap}
 use Rattle.assembler.specs.Places.{value_in}
 use Rattle.assembler.proofs.LabelLemmas.{value_in-seen}
 use Rattle.assembler.proofs.labels.Labels.value.Goals as goal
