@@ -1,21 +1,66 @@
+//! Lines with their words, and texts with the files that they make, by the rules of both and not by the program.
+
 use super::VECTORS;
 use assembler::assemble;
+use image::{FromRead, Image, ImageFault, ToWrite, read, write};
+use std::alloc::Global;
 use std::test::Fail;
+
+/// Sends `A` and halts with 0.
+const FIRST: &[u8] = b"lui a1, 0x10000\n\
+    addi a0, zero, 65\n\
+    sb a0, 0(a1)\n\
+    lui a1, 0x100\n\
+    sd zero, 0(a1)\n";
+
+/// Its image: the header, the section's place and length, five instructions.
+const FIRST_FILE: [u8; 68] = *b"CHERIIMG\
+    \x01\x00\x00\x00\x01\x00\x00\x00\x00\x00\x00\x80\x00\x00\x00\x00\x01\x00\x00\x00\x00\x00\x00\x00\
+    \x00\x00\x00\x80\x00\x00\x00\x00\x14\x00\x00\x00\x00\x00\x00\x00\
+    \xb7\x05\x00\x10\x13\x05\x10\x04\x23\x80\xa5\x00\xb7\x05\x10\x00\x23\xb0\x05\x00";
+
+/// The file of the image that a text means.
+fn file_of(alloc: Global, text: &[u8]) -> Result<Vec<u8>, Fail> {
+    let mut file = Vec::new(alloc);
+    write(assemble(alloc, text)?.image(), &mut ToWrite::new(&mut file))?;
+    Ok(file)
+}
+
+/// What a file is read as.
+fn read_file(alloc: Global, file: &[u8]) -> Result<Image, ImageFault> {
+    read(alloc, &mut FromRead::new(file))
+}
 
 #[test]
 fn each_line_means_its_word(rt: HostRuntime) -> Result<(), Fail> {
-    let mut text = String::new(rt.alloc());
+    let mut text = Vec::new(rt.alloc());
     for (_, line) in &VECTORS {
-        text.push_str(line)?;
-        text.push('\n')?;
+        text.extend_from_slice(line.as_bytes())?;
+        text.push(b'\n')?;
     }
-    let assembly = assemble(rt.alloc(), text.as_bytes())?;
-    let [section] = assembly.image().sections() else {
-        return Err("not one section".into());
-    };
+    let assembly = assemble(rt.alloc(), text.as_slice())?;
+    let mut sections = assembly.image().sections().iter();
+    let section = sections.next().ok_or("no section")?;
+    assert!(rt; sections.next().is_none());
     assert_eq!(rt; section.bytes().len(), 4 * VECTORS.len());
     for ((word, line), bytes) in VECTORS.iter().zip(section.bytes().chunks_exact(4)) {
         assert_eq!(rt; bytes, word.to_le_bytes().as_slice(), "{line}");
     }
+    Ok(())
+}
+
+#[test]
+fn an_assembled_image_is_a_file_that_is_read_back(rt: HostRuntime) -> Result<(), Fail> {
+    assert_eq!(rt; file_of(rt.alloc(), FIRST)?.as_slice(), FIRST_FILE.as_slice());
+
+    let file = file_of(rt.alloc(), b"cincoffset ca0, ca0, a1\n")?;
+    assert_eq!(rt; file.len(), 52);
+    assert_eq!(rt; &file[48..], [0x5b, 0x05, 0xb5, 0x22].as_slice());
+    assert!(rt; read_file(rt.alloc(), file.as_slice()).is_ok());
+    assert_eq!(rt; read_file(rt.alloc(), &file[..51]).err(), Some(ImageFault::L8));
+    assert_eq!(rt; read_file(rt.alloc(), &file[..31]).err(), Some(ImageFault::L1));
+    let mut longer = file;
+    longer.push(0)?;
+    assert_eq!(rt; read_file(rt.alloc(), longer.as_slice()).err(), Some(ImageFault::L9));
     Ok(())
 }

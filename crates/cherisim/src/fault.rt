@@ -30,9 +30,6 @@ pub enum ProgramFault<'a> {
     /// No machine could be made.
     #[error("{}", machine_text(.0))]
     Machine(#[from] MachineFault),
-    /// A command that is not there yet.
-    #[error("not there yet")]
-    Missing,
 }
 
 /// The code and the words of a fault of an image.

@@ -5,6 +5,8 @@ mod assembling;
 mod fault;
 mod files;
 mod running;
+#[cfg(test)]
+mod tests;
 
 ghost use Rattle.sim_run.specs.CommandLine.{HasRanges};
 
@@ -55,7 +57,8 @@ fn carry_out<'a>(rt: &HostRuntime, plan: Plan<'a>) -> Result<u8, ProgramFault<'a
             assemble_file(rt, input, output)?;
             Ok(0)
         }
-        Plan::Dis { .. } | Plan::Debug { .. } => Err(ProgramFault::Missing),
+        // No words ask for these yet.
+        Plan::Dis { .. } | Plan::Debug { .. } => unreachable!(),
     }
 }
 

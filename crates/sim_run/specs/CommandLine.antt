@@ -4,7 +4,7 @@ use Rattle.std.specs.Str.Parse.{IsNumeral, digits_value, without_leading_plus}
 use Rattle.clap.specs.Words.{App, Row, Rule, Text, first_of, one_of, new_app, new_rule, with_rule, with_subcommand}
 use Rattle.clap.specs.declared.builder.value_parser.ValueParser.TheVariants as parser
 use Rattle.sim_run.specs.declared.plans.Plan.{Plan}
-use Rattle.sim_run.specs.declared.plans.Plan.TheVariants.{Asm, Run, First}
+use Rattle.sim_run.specs.declared.plans.Plan.TheVariants.{Asm, Run, Dis, Debug, First}
 use Rattle.sim_run.specs.declared.schedule.Schedule.{Schedule}
 use Rattle.sim_run.specs.Schedule.{IsInRange}
 
@@ -73,10 +73,13 @@ abbrev pub IsPlanOf : Option (Text × List Row) → Plan → Type 0
 IsPlanOf None plan = plan ≡ First
 IsPlanOf (Some found) plan = IsPlanOfCommand found.0 found.1 plan
 
--- the numbers of a run lie in their ranges
+-- the numbers of a run lie in their ranges; the listing and the debugger are no commands yet
 abbrev pub HasRanges : Plan → Type 0
+HasRanges (Asm input output) = ⊤
 HasRanges (Run image schedule input) = IsInRange schedule
-HasRanges _ = ⊤
+HasRanges (Dis image) = ⊥
+HasRanges (Debug image) = ⊥
+HasRanges First = ⊤
 
 -- nothing that clap found is a plan in its ranges
 abbrev pub NoCommandFits : Text → List Row → Type 0

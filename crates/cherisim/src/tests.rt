@@ -1,0 +1,66 @@
+//! The texts that stand on standard error, word for word.
+
+use crate::fault::ProgramFault;
+use assembler::{AsmCode, AsmFault};
+use image::{DeviceFailed, ImageFault};
+use machine::MachineFault;
+use std::test::Fail;
+
+static ASM_TEXTS: &[(AsmCode, &str)] = &[
+    (AsmCode::A1, "line 7: A1 unknown mnemonic"),
+    (AsmCode::A2, "line 7: A2 operands"),
+    (AsmCode::A3, "line 7: A3 immediate out of range"),
+    (AsmCode::A4, "line 7: A4 label twice"),
+    (AsmCode::A5, "line 7: A5 label unknown"),
+    (AsmCode::A6, "line 7: A6 target out of range"),
+    (AsmCode::A7, "line 7: A7 place"),
+    (AsmCode::A8, "line 7: A8 byte not ASCII"),
+    (AsmCode::A9, "line 7: A9 line too long"),
+    (AsmCode::A10, "line 7: A10 no memory"),
+];
+
+static IMAGE_TEXTS: &[(ImageFault, &str)] = &[
+    (ImageFault::L1, "L1 short header"),
+    (ImageFault::L2, "L2 magic"),
+    (ImageFault::L3, "L3 version"),
+    (ImageFault::L4, "L4 pages, entry or mode"),
+    (ImageFault::L5, "L5 too many sections"),
+    (ImageFault::L6, "L6 section outside RAM"),
+    (ImageFault::L7, "L7 sections not ascending"),
+    (ImageFault::L8, "L8 truncated"),
+    (ImageFault::L9, "L9 bytes after the end"),
+    (ImageFault::L10, "L10 device failed"),
+    (ImageFault::L11, "L11 no memory"),
+];
+
+static MACHINE_TEXTS: &[(MachineFault, &str)] = &[
+    (MachineFault::M2, "M2 no memory"),
+    (MachineFault::M5, "M5 no memory"),
+];
+
+/// Whether a fault has this text.
+fn has_text(rt: &HostRuntime, fault: ProgramFault<'_>, text: &str) -> Result<bool, Fail> {
+    Ok(format!(in rt.alloc(); "{fault}")?.as_str() == text)
+}
+
+#[test]
+fn each_fault_has_its_text(rt: HostRuntime) -> Result<(), Fail> {
+    for (code, text) in ASM_TEXTS {
+        let fault = AsmFault {
+            line: 7,
+            code: *code,
+        };
+        assert!(rt; has_text(&rt, ProgramFault::Asm(fault), text)?, "{text}");
+    }
+    for (fault, text) in IMAGE_TEXTS {
+        assert!(rt; has_text(&rt, ProgramFault::Image(*fault), text)?, "{text}");
+    }
+    for (fault, text) in MACHINE_TEXTS {
+        assert!(rt; has_text(&rt, ProgramFault::Machine(*fault), text)?, "{text}");
+    }
+    assert!(rt; has_text(&rt, ProgramFault::File("a.s"), "file a.s")?);
+    assert!(rt; has_text(&rt, ProgramFault::Read, "read failed")?);
+    assert!(rt; has_text(&rt, ProgramFault::Write(DeviceFailed), "write failed")?);
+    assert!(rt; has_text(&rt, ProgramFault::Memory, "no memory")?);
+    Ok(())
+}
