@@ -1,0 +1,162 @@
+-- What is assembled so far, and the first fault of the next line.
+use Rattle.std.specs.Prelude.{ℕ, ◌+◌, ◌-◌, ◌%◌, Bool, true, false, not, ◌&&◌, ◌||◌, ◌==◌, nat_lt, nat_le, if◌then◌else◌, ℤ, List, [], ◌∷◌, ◌++◌, length, Option, Some, None, is_some}
+use Rattle.image.specs.Image.{Section, ram_base, ram_end}
+use Rattle.asm_lines.specs.declared.fault.LineFault.{LineFault}
+use Rattle.asm_lines.specs.declared.fault.LineFault.TheVariants as line
+use Rattle.asm_lines.specs.Operand.{wrapped}
+use Rattle.asm_lines.specs.Statement.{Statement, row, load, pages, mode, entry, org, align, zeros, values, text}
+use Rattle.asm_lines.specs.Line.{Line}
+use Rattle.assembler.specs.declared.fault.AsmCode.{AsmCode}
+use Rattle.assembler.specs.declared.fault.AsmCode.TheVariants.{A1, A2, A3, A4, A5, A6, A7, A8, A9}
+use Rattle.assembler.specs.Places.{Symbols, Places, value_in, end_of, places_after, opening_places}
+use Rattle.assembler.specs.Values.{has_value_beyond, has_unknown_name, is_out_of_reach}
+use Rattle.assembler.specs.Bytes.{bytes_at, value_at}
+
+-- what the lines so far set and place: the finished sections in ascending order, none of them empty, and the one that is being filled
+pub record Assembled : Type 0 where
+  pub places : Places
+  pub pages : Option ℕ
+  pub mode : Option Bool
+  pub entry : Option ℕ
+  -- whether there was a statement other than .pages and .mode
+  pub begun : Bool
+  pub done : List Section
+  pub current : Section
+
+abbrev pub given : {A : Type 0} → A → Option A → A
+given default None = default
+given default (Some a) = a
+
+abbrev pub page_count : Assembled → ℕ
+page_count s = given 1 s.pages
+
+-- ---- faults
+
+-- a directive that is repeated, or comes too late (A2)
+abbrev pub is_misplaced : Assembled → Statement → Bool
+is_misplaced s (row i target) = false
+is_misplaced s (load capability rd value) = false
+is_misplaced s (pages n) = is_some s.pages || s.begun
+is_misplaced s (mode m) = is_some s.mode || s.begun
+is_misplaced s (entry e) = is_some s.entry
+is_misplaced s (org n) = false
+is_misplaced s (align bits) = false
+is_misplaced s (zeros n) = false
+is_misplaced s (values size operands) = false
+is_misplaced s (text between) = false
+
+-- the number of bytes that a statement at a place takes, and whether they are an instruction's
+abbrev pub size_at : Statement → ℕ → ℕ
+size_at (row i target) place = 4
+size_at (load capability rd value) place = 8
+size_at (pages n) place = 0
+size_at (mode m) place = 0
+size_at (entry e) place = 0
+size_at (org n) place = 0
+size_at (align bits) place = end_of (align bits) place - place
+size_at (zeros n) place = n
+size_at (values size operands) place = end_of (values size operands) place - place
+size_at (text between) place = end_of (text between) place - place
+
+abbrev pub is_instruction : Statement → Bool
+is_instruction (row i target) = true
+is_instruction (load capability rd value) = true
+is_instruction (pages n) = false
+is_instruction (mode m) = false
+is_instruction (entry e) = false
+is_instruction (org n) = false
+is_instruction (align bits) = false
+is_instruction (zeros n) = false
+is_instruction (values size operands) = false
+is_instruction (text between) = false
+
+-- some byte from a place to an end lies in one of the sections
+abbrev pub is_taken : ℕ → ℕ → List Section → Bool
+is_taken from to [] = false
+is_taken from to (s ∷ ss) = (nat_lt from (s.address + length s.bytes) && nat_lt s.address to) || is_taken from to ss
+
+-- Bytes that have no place (A7): outside RAM, where an earlier line places one, the first byte of a 65th section; or an instruction at no
+-- multiple of 4. No byte has always its place.
+abbrev pub lacks_place : Assembled → ℕ → ℕ → Bool → Bool
+lacks_place s place size instruction =
+    nat_lt 0 size
+    && (nat_lt place ram_base || (nat_lt (ram_end (page_count s)) (place + size) || (is_taken place (place + size) s.done
+      || (((length s.current.bytes == 0) && nat_le 64 (length s.done)) || (instruction && not (place % 4 == 0))))))
+
+-- The first fault of a statement that stands in the text, whose line alone has none: of the values, of the names, of the reach, of the place.
+unfoldable pub statement_fault : Symbols → Assembled → Statement → Option AsmCode
+statement_fault symbols s statement =
+    if has_value_beyond symbols s.places.place statement then Some A3
+    else (if has_unknown_name symbols s.places.place statement then Some A5
+    else (if is_out_of_reach (page_count s) symbols s.places.place statement then Some A6
+    else (if lacks_place s s.places.place (size_at statement s.places.place) (is_instruction statement) then Some A7 else None)))
+
+abbrev pub is_repeated : Assembled → Option (List ℕ) → Bool
+is_repeated s None = false
+is_repeated s (Some name) = is_some (value_in s.places.symbols name)
+
+abbrev pub is_statement_misplaced : Assembled → Option Statement → Bool
+is_statement_misplaced s None = false
+is_statement_misplaced s (Some statement) = is_misplaced s statement
+
+abbrev pub fault_in_text : Symbols → Assembled → Option Statement → Option AsmCode
+fault_in_text symbols s None = None
+fault_in_text symbols s (Some statement) = statement_fault symbols s statement
+
+-- The first fault of a line: A8, A9, A4, A1, A2, A3, A5, A6, A7. `symbols` are those of the whole text.
+unfoldable pub fault_by : Symbols → Assembled → Line → Option LineFault → Option AsmCode
+fault_by symbols s l (Some line.A8) = Some A8
+fault_by symbols s l (Some line.A9) = Some A9
+fault_by symbols s l (Some line.A1) = if is_repeated s l.label then Some A4 else Some A1
+fault_by symbols s l (Some line.A2) = if is_repeated s l.label then Some A4 else Some A2
+fault_by symbols s l (Some line.A3) =
+    if is_repeated s l.label then Some A4 else (if is_statement_misplaced s l.statement then Some A2 else Some A3)
+fault_by symbols s l None =
+    if is_repeated s l.label then Some A4
+    else (if is_statement_misplaced s l.statement then Some A2 else fault_in_text symbols s l.statement)
+
+abbrev pub line_fault : Symbols → Assembled → Line → Option AsmCode
+line_fault symbols s l = fault_by symbols s l l.fault
+
+-- ---- what a line without a fault does
+
+-- a section among sections in ascending order
+abbrev pub inserted : Section → List Section → List Section
+inserted s [] = s ∷ []
+inserted s (t ∷ ts) = if nat_lt s.address t.address then s ∷ t ∷ ts else (t ∷ inserted s ts)
+
+-- an empty section is left out
+abbrev pub closed : List Section → Section → List Section
+closed done current = if length current.bytes == 0 then done else inserted current done
+
+abbrev pub empty_at : ℕ → Section
+empty_at address = record { address = address; bytes = [] }
+
+abbrev pub filled : Section → List ℕ → Section
+filled s bytes = record { address = s.address; bytes = s.bytes ++ bytes }
+
+abbrev pub with_bytes : Assembled → List ℕ → Assembled
+with_bytes s bytes = record s { begun = true; current = filled s.current bytes }
+
+abbrev pub with_statement : Symbols → Assembled → Statement → Assembled
+with_statement symbols s (row i target) = with_bytes s (bytes_at symbols s.places.place (row i target))
+with_statement symbols s (load capability rd value) = with_bytes s (bytes_at symbols s.places.place (load capability rd value))
+with_statement symbols s (pages n) = record s { pages = Some n }
+with_statement symbols s (mode m) = record s { mode = Some m }
+with_statement symbols s (entry e) = record s { begun = true; entry = Some (wrapped (value_at symbols s.places.place e)) }
+with_statement symbols s (org n) = record s { begun = true; done = closed s.done s.current; current = empty_at n }
+with_statement symbols s (align bits) = with_bytes s (bytes_at symbols s.places.place (align bits))
+with_statement symbols s (zeros n) = with_bytes s (bytes_at symbols s.places.place (zeros n))
+with_statement symbols s (values size operands) = with_bytes s (bytes_at symbols s.places.place (values size operands))
+with_statement symbols s (text between) = with_bytes s (bytes_at symbols s.places.place (text between))
+
+abbrev pub with_statement_of : Symbols → Assembled → Option Statement → Assembled
+with_statement_of symbols s None = s
+with_statement_of symbols s (Some statement) = with_statement symbols s statement
+
+unfoldable pub assembled_after : Symbols → Assembled → Line → Assembled
+assembled_after symbols s l = record (with_statement_of symbols s l.statement) { places = places_after l s.places }
+
+abbrev pub opening : Assembled
+opening =
+    record { places = opening_places; pages = None; mode = None; entry = None; begun = false; done = []; current = empty_at ram_base }

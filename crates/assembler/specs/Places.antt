@@ -1,0 +1,64 @@
+-- Where the statements of a text stand, and what its labels are worth. Places are whole numbers and exist in faulty texts too.
+use Rattle.std.specs.Prelude.{ℕ, ◌+◌, ◌-◌, ◌*◌, ◌/◌, ◌^◌, Bool, nat_eq, if◌then◌else◌, List, [], ◌∷◌, ◌++◌, map, length, Option, Some, None, is_some, ◌==◌}
+use Rattle.std.specs.List.{slice_split}
+use Rattle.std.specs.Cmp.Lexicographic.{pointwise}
+use Rattle.asm_lines.specs.Text.{pieces_of}
+use Rattle.asm_lines.specs.Statement.{Statement, row, load, pages, mode, entry, org, align, zeros, values, text, text_bytes}
+use Rattle.asm_lines.specs.Line.{Line, line_meaning}
+
+-- the lines of a text: what stands between line feeds (behind the last one an empty line, which says nothing)
+abbrev pub lines_of : List ℕ → List Line
+lines_of bytes = map line_meaning (slice_split (λ b. b == 10) bytes)
+
+-- labels and their values, in order of definition
+abbrev pub Symbols : Type 0
+Symbols = List (List ℕ × ℕ)
+
+abbrev pub value_in : Symbols → List ℕ → Option ℕ
+value_in [] name = None
+value_in (s ∷ ss) name = if pointwise nat_eq s.0 name then Some s.1 else value_in ss name
+
+-- the next multiple of a power of two
+abbrev pub aligned : ℕ → ℕ → ℕ
+aligned place bits = (place + 2 ^ bits - 1) / 2 ^ bits * 2 ^ bits
+
+-- where a statement that stands at a place ends
+unfoldable pub end_of : Statement → ℕ → ℕ
+end_of (row i target) place = place + 4
+end_of (load capability rd value) place = place + 8
+end_of (pages n) place = place
+end_of (mode m) place = place
+end_of (entry e) place = place
+end_of (org n) place = n
+end_of (align bits) place = aligned place bits
+end_of (zeros n) place = place + n
+end_of (values size operands) place = place + size * length (pieces_of operands)
+end_of (text between) place = place + length (text_bytes between)
+
+-- the place of the next statement, and the labels so far
+pub record Places : Type 0 where
+  pub place : ℕ
+  pub symbols : Symbols
+
+-- a label that no earlier line defines is worth its line's place
+abbrev pub with_label : Option (List ℕ) → ℕ → Symbols → Symbols
+with_label None place symbols = symbols
+with_label (Some name) place symbols = if is_some (value_in symbols name) then symbols else symbols ++ (name, place) ∷ []
+
+abbrev pub end_after : Option Statement → ℕ → ℕ
+end_after None place = place
+end_after (Some s) place = end_of s place
+
+abbrev pub places_after : Line → Places → Places
+places_after l p = record { place = end_after l.statement p.place; symbols = with_label l.label p.place p.symbols }
+
+abbrev pub all_places : List Line → Places → Places
+all_places [] p = p
+all_places (l ∷ ls) p = all_places ls (places_after l p)
+
+-- a text begins at the beginning of RAM
+abbrev pub opening_places : Places
+opening_places = record { place = 0x8000_0000; symbols = [] }
+
+abbrev pub symbols_of : List ℕ → Symbols
+symbols_of bytes = (all_places (lines_of bytes) opening_places).symbols

@@ -1,0 +1,33 @@
+-- What a whole text means: the first fault of its first faulty line, or an image and its labels.
+use Rattle.std.specs.Prelude.{ℕ, ◌+◌, Bool, false, List, [], ◌∷◌, Option, Some, None}
+use Rattle.image.specs.Image.{Image, ram_base}
+use Rattle.asm_lines.specs.Line.{Line}
+use Rattle.assembler.specs.declared.fault.AsmCode.{AsmCode}
+use Rattle.assembler.specs.Places.{Symbols, lines_of, symbols_of}
+use Rattle.assembler.specs.Faults.{Assembled, given, page_count, line_fault, closed, assembled_after, opening}
+
+-- the first faulty line, counted from a number on, and its first fault
+abbrev pub found_or : Option AsmCode → ℕ → Option (ℕ × AsmCode) → Option (ℕ × AsmCode)
+found_or (Some code) number later = Some (number, code)
+found_or None number later = later
+
+abbrev pub first_fault : Symbols → Assembled → ℕ → List Line → Option (ℕ × AsmCode)
+first_fault symbols s number [] = None
+first_fault symbols s number (l ∷ ls) =
+    found_or (line_fault symbols s l) number (first_fault symbols (assembled_after symbols s l) (number + 1) ls)
+
+abbrev pub all_assembled : Symbols → Assembled → List Line → Assembled
+all_assembled symbols s [] = s
+all_assembled symbols s (l ∷ ls) = all_assembled symbols (assembled_after symbols s l) ls
+
+-- the fault of a text, its line counted from 1; a text without one is correct
+abbrev pub text_fault : List ℕ → Option (ℕ × AsmCode)
+text_fault bytes = first_fault (symbols_of bytes) opening 1 (lines_of bytes)
+
+-- the image of a correct text: a page, integer mode and the beginning of RAM where it says nothing else
+abbrev pub image_of : Assembled → Image
+image_of s =
+    record { pages = page_count s; entry = given ram_base s.entry; mode = given false s.mode; sections = closed s.done s.current }
+
+abbrev pub text_image : List ℕ → Image
+text_image bytes = image_of (all_assembled (symbols_of bytes) opening (lines_of bytes))
