@@ -12,7 +12,7 @@ spell k n acc = digits_onto k 16 false n acc
 abbrev last_glyph : ℕ → ℕ
 last_glyph n = digit_glyph false (n % 16)
 
-order : (m n : ℕ) → (m < n) ⊎ (n ≤ m)
+pub order : (m n : ℕ) → (m < n) ⊎ (n ≤ m)
 order m n = elim (cases_order m n) [ inl e ↦ inr (omega arith) | inr o ↦ elim o [ inl l ↦ inl l | inr g ↦ inr (omega arith) ] ]
 
 spell_last : (k n : ℕ) (acc : List ℕ) → n < 16 → spell (suc k) n acc ≡ last_glyph n ∷ acc

@@ -1,2 +1,4 @@
 pub mod Lengths
 pub mod HexSteps
+pub mod Cut
+pub mod Lines
