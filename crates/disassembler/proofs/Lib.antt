@@ -2,3 +2,4 @@ pub mod Lengths
 pub mod HexSteps
 pub mod Cut
 pub mod Lines
+pub mod Numbers
