@@ -3,3 +3,4 @@ pub mod HexSteps
 pub mod Cut
 pub mod Lines
 pub mod Numbers
+pub mod Bracketed

@@ -8,7 +8,7 @@ use Rattle.std.specs.Int.{w64, cast_signed}
 use Rattle.std.specs.Str.Parse.{AllDigits, IsNumeral, digits_value, digits_value_after}
 use Rattle.std.proofs.lemmas.Bool.Decides.{nat_tests}
 use Rattle.std.proofs.lemmas.List.{get_or_past}
-use Rattle.std.proofs.lemmas.Fmt.{decimal_is_IsNumeral, digits_is_IsNumeral}
+use Rattle.std.proofs.lemmas.Fmt.{decimal_is_IsNumeral, digits_is_IsNumeral, length-decimal-le}
 use Rattle.std.proofs.lemmas.Int.{to_z_pos}
 use Rattle.std.proofs.Math.Facts.{to_z-neg}
 use Rattle.asm_lines.specs.declared.fault.LineFault.{LineFault}
@@ -180,3 +180,25 @@ plain_word n = record { some = omega arith; bytes = hex_plain (hex_of 8 n) (hex_
 
 pub length_word : (n : ℕ) → length (48 ∷ 120 ∷ hex_of 8 n) ≡ 10
 length_word n = omega (arith, hex_of_length 8 n)
+
+-- a number has no bracket, and is at most 20 bytes long
+decimal_unbracketed : (ds : List ℕ) → every (is_digit_in 10) ds ≡ true → every (λ b. not (b == 40)) ds ≡ true
+decimal_unbracketed ds h = every_weaker (is_digit_in 10) (λ b. not (b == 40)) ds (λ d k. let r = digit_byte d k in grind (arith, nat_tests)) h
+
+unbracketed_decimal : (n : ℕ) → n < 2 ^ 64 → every (λ b. not (b == 40)) (decimal n) ≡ true
+unbracketed_decimal n h = decimal_unbracketed (decimal n) (every_digit 10 (decimal n) (decimal_is_IsNumeral n h).0.1)
+
+pub unbracketed_signed : (n : ℕ) → n < 2 ^ 64 → every (λ b. not (b == 40)) (shown_signed n) ≡ true
+unbracketed_signed n h = elim (signed_reading n h) [
+    | inl p ↦ subst (λ z. every (λ b. not (b == 40)) (signed_decimal z) ≡ true) (sym p.1) (unbracketed_decimal n h)
+    | inr p ↦ subst (λ z. every (λ b. not (b == 40)) (signed_decimal z) ≡ true) (sym p.1) (unbracketed_decimal (suc (2 ^ 64 - 1 - n)) (omega arith))
+  ]
+
+pub short_decimal : (n : ℕ) → n < 2 ^ 64 → length (decimal n) ≤ 20
+short_decimal n h = length-decimal-le 20 n (omega arith) (omega arith) h
+
+pub short_signed : (n : ℕ) → n < 2 ^ 64 → length (shown_signed n) ≤ 21
+short_signed n h = elim (signed_reading n h) [
+    | inl p ↦ subst (λ z. length (signed_decimal z) ≤ 21) (sym p.1) (let k = short_decimal n h in omega arith)
+    | inr p ↦ subst (λ z. length (signed_decimal z) ≤ 21) (sym p.1) (let k = short_decimal (suc (2 ^ 64 - 1 - n)) (omega arith) in omega arith)
+  ]
