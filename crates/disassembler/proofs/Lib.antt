@@ -3,4 +3,5 @@ pub mod HexSteps
 pub mod Cut
 pub mod Lines
 pub mod Numbers
+pub mod NamesBack
 pub mod Bracketed
