@@ -4,4 +4,5 @@ pub mod Cut
 pub mod Lines
 pub mod Numbers
 pub mod NamesBack
+pub mod SlotBack
 pub mod Bracketed
