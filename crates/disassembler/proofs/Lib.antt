@@ -5,4 +5,5 @@ pub mod Lines
 pub mod Numbers
 pub mod NamesBack
 pub mod SlotBack
+pub mod Fields
 pub mod Bracketed

@@ -16,6 +16,7 @@ use Rattle.asm_lines.specs.Number.{Expression, expression, number_of, expression
 use Rattle.asm_lines.specs.Operand.{Draft, wrapped, ranged, up_to, signed_12, with_rd, with_rs1, with_rs2, with_imm, with_upper, with_small, with_special, with_target, with_address, named_or, filled_slot}
 use Rattle.disassembler.specs.Hex.{short_hex}
 use Rattle.disassembler.specs.Shown.{shown_register, shown_signed, shown_target, shown_slot}
+use Rattle.disassembler.specs.ReadBack.{distance_to}
 use Rattle.disassembler.proofs.Cut.{every, every-append, is_plain, IsPlain}
 use Rattle.disassembler.proofs.HexSteps.{order, length_hex_16}
 use Rattle.disassembler.proofs.Numbers.{number_decimal, number_signed, number_short_hex, plain_decimal, plain_signed, plain_short_hex, unbracketed_signed, short_decimal, short_signed, signed_reading, wrapped_signed}
@@ -36,10 +37,6 @@ SlotFits Special i = i.rs2 < 32
 SlotFits (Address naming) i = IsSignedOf 12 i.imm × (i.rs1 < 32)
 SlotFits (Authority naming) i = i.rs1 < 32
 SlotFits (Target bits) i = i.imm < 2 ^ 64
-
--- the distance to a target, as an expression
-abbrev pub distance_to : ℕ → Expression
-distance_to imm = expression (Some here_name) (cast_signed w64 imm)
 
 -- a draft with what an instruction has in a slot's place
 abbrev pub with_slot : Insn → Slot → Draft → Draft
