@@ -6,4 +6,5 @@ pub mod Numbers
 pub mod NamesBack
 pub mod SlotBack
 pub mod Fields
+pub mod Filled
 pub mod Bracketed
