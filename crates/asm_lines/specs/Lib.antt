@@ -1,7 +1,10 @@
 pub mod Text
+pub mod Class
 pub mod Number
 pub mod Operand
 pub mod Statement
 pub mod Line
+pub mod Seen
 pub mod SlotLaws
+pub mod FormatLaws
 pub mod FitLaws

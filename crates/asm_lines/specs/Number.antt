@@ -1,5 +1,5 @@
 -- Numbers and expressions as they are written, in whole numbers.
-use Rattle.std.specs.Prelude.{ℕ, ◌*◌, ◌+◌, ◌-◌, ◌^◌, Bool, true, false, not, ◌&&◌, ◌||◌, ◌==◌, nat_lt, nat_le, if◌then◌else◌, ℤ, pos, neg_ℤ, ◌+ℤ◌, int_lt, List, [], ◌∷◌, length, take, drop, slice_index, Option, Some, None, Result, Ok, Err}
+use Rattle.std.specs.Prelude.{ℕ, ◌+◌, ◌^◌, Bool, not, ◌&&◌, ◌||◌, ◌==◌, nat_lt, if◌then◌else◌, ℤ, pos, neg_ℤ, int_lt, List, length, take, drop, slice_index, Option, Some, None, Result, Ok, Err}
 use Rattle.std.specs.List.{prefix_len}
 use Rattle.std.specs.Char.{digit_value}
 use Rattle.std.specs.Str.Parse.{digits_value}
@@ -65,8 +65,8 @@ named_expression text =
     if not (is_name (trimmed_end (take (sign_place text) text))) then Err A2
     else (if sign_place text == length text then Ok (expression (Some text) (pos 0))
     else (if slice_index text (sign_place text) == 43
-      then named_plus (trimmed_end (take (sign_place text) text)) (number_of (trimmed_start (drop (sign_place text + 1) text)))
-      else named_minus (trimmed_end (take (sign_place text) text)) (number_of (trimmed_start (drop (sign_place text + 1) text)))))
+    then named_plus (trimmed_end (take (sign_place text) text)) (number_of (trimmed_start (drop (sign_place text + 1) text)))
+    else named_minus (trimmed_end (take (sign_place text) text)) (number_of (trimmed_start (drop (sign_place text + 1) text)))))
 
 -- an expression, without white space around it
 unfoldable pub expression_of : List ℕ → Result Expression LineFault

@@ -1,9 +1,8 @@
 -- What is known of an instruction whose operands could be read: slot by slot, bounds of its registers and the kind of its immediate.
-use Rattle.std.proofs.Common.{◌≡◌, ℕ, ◌+◌, ◌-◌, ◌*◌, ◌%◌, ◌^◌, ◌<◌, ◌≤◌, ◌⊎◌, inl, inr, Bool, true, false, ◌&&◌, List, [], ◌∷◌, Option, Some, None, refl, cond, arith}
-use Rattle.std.specs.Prelude.{ℤ, pos, negsuc, neg_ℤ, int_lt, nat_lt, nat_le, Result, Ok, Err, length, ◌==◌, ◌||◌, if◌then◌else◌}
+use Rattle.std.proofs.Common.{◌≡◌, ℕ, ◌+◌, ◌-◌, ◌*◌, ◌^◌, ◌<◌, ◌≤◌, ◌⊎◌, inl, inr, Bool, true, false, ◌&&◌, List, [], ◌∷◌, Option, Some, None, refl, arith}
+use Rattle.std.specs.Prelude.{ℤ, pos, negsuc, neg_ℤ, int_lt, Result, Ok, Err, length, ◌==◌, if◌then◌else◌}
 use Rattle.std.proofs.lemmas.Bool.Decides.{nat_tests}
 use Rattle.std.proofs.lemmas.Nat.{pow_pos}
-use Rattle.isa_rows.specs.declared.operands.Insn.{Insn}
 use Rattle.isa_rows.specs.declared.rows.Row.{Row}
 use Rattle.isa_rows.specs.Insn.{sign_extended}
 use Rattle.isa_rows.specs.Operands.{IsSignedOf, IsUpperImmediate}
@@ -28,12 +27,19 @@ IsOfKind (below m) n = n < m
 IsOfKind signed n = IsSignedOf 12 n
 IsOfKind upper n = IsUpperImmediate n
 
--- bounds of the registers, and the immediate's kind
+-- bounds of the registers, the immediate's kind, and whether there may be a target
 pub record Bounds : Type 0 where
   pub rd : ℕ
   pub rs1 : ℕ
   pub rs2 : ℕ
   pub imm : Kind
+  pub target : Bool
+
+-- There is a target only where there may be one.
+abbrev pub IsMarked : Bool → Option Expression → Type 0
+IsMarked true target = Unit {0}
+IsMarked false None = Unit {0}
+IsMarked false (Some e) = ⊥
 
 -- A draft is of a row and within bounds.
 pub record IsWithin (row : Row) (b : Bounds) (d : Draft) : Type 0 where
@@ -42,6 +48,7 @@ pub record IsWithin (row : Row) (b : Bounds) (d : Draft) : Type 0 where
   pub rs1_below : d.insn.rs1 < b.rs1
   pub rs2_below : d.insn.rs2 < b.rs2
   pub imm_is : IsOfKind b.imm d.insn.imm
+  pub target_is : IsMarked b.target d.target
 
 -- the bounds with a slot's operand there
 abbrev pub bounds_with : Slot → Bounds → Bounds
@@ -56,7 +63,7 @@ bounds_with Csr b = record b { imm = below 4096 }
 bounds_with Special b = record b { rs2 = 32 }
 bounds_with (Address naming) b = record b { rs1 = 32; imm = signed }
 bounds_with (Authority naming) b = record b { rs1 = 32 }
-bounds_with (Target bits) b = b
+bounds_with (Target bits) b = record b { target = true }
 
 abbrev pub bounds_of : List Slot → Bounds → Bounds
 bounds_of [] b = b
@@ -111,47 +118,47 @@ upper-number n h =
 -- each way to put an operand into a draft keeps it within bounds
 rd-leads : (row : Row) (b : Bounds) (d : Draft) (o : Option ℕ) → ((n : ℕ) → o ≡ Some n → n < 32) → IsWithin row b d → Leads row (record b { rd = 32 }) d (with_rd d o)
 rd-leads row b d (Some n) f w e =
-    record { row_is = w.row_is; rd_below = f n refl; rs1_below = w.rs1_below; rs2_below = w.rs2_below; imm_is = w.imm_is }
+    record { row_is = w.row_is; rd_below = f n refl; rs1_below = w.rs1_below; rs2_below = w.rs2_below; imm_is = w.imm_is; target_is = w.target_is }
 rd-leads row b d None f w e = cc
 
 rs1-leads : (row : Row) (b : Bounds) (d : Draft) (o : Option ℕ) → ((n : ℕ) → o ≡ Some n → n < 32) → IsWithin row b d → Leads row (record b { rs1 = 32 }) d (with_rs1 d o)
 rs1-leads row b d (Some n) f w e =
-    record { row_is = w.row_is; rd_below = w.rd_below; rs1_below = f n refl; rs2_below = w.rs2_below; imm_is = w.imm_is }
+    record { row_is = w.row_is; rd_below = w.rd_below; rs1_below = f n refl; rs2_below = w.rs2_below; imm_is = w.imm_is; target_is = w.target_is }
 rs1-leads row b d None f w e = cc
 
 rs2-leads : (row : Row) (b : Bounds) (d : Draft) (o : Option ℕ) → ((n : ℕ) → o ≡ Some n → n < 32) → IsWithin row b d → Leads row (record b { rs2 = 32 }) d (with_rs2 d o)
 rs2-leads row b d (Some n) f w e =
-    record { row_is = w.row_is; rd_below = w.rd_below; rs1_below = w.rs1_below; rs2_below = f n refl; imm_is = w.imm_is }
+    record { row_is = w.row_is; rd_below = w.rd_below; rs1_below = w.rs1_below; rs2_below = f n refl; imm_is = w.imm_is; target_is = w.target_is }
 rs2-leads row b d None f w e = cc
 
 imm-leads : (row : Row) (b : Bounds) (d : Draft) (kind : Kind) (r : Result ℤ LineFault) → Numbers kind r → IsWithin row b d → Leads row (record b { imm = kind }) d (with_imm d r)
 imm-leads row b d kind (Ok z) f w e =
-    record { row_is = w.row_is; rd_below = w.rd_below; rs1_below = w.rs1_below; rs2_below = w.rs2_below; imm_is = f z refl }
+    record { row_is = w.row_is; rd_below = w.rd_below; rs1_below = w.rs1_below; rs2_below = w.rs2_below; imm_is = f z refl; target_is = w.target_is }
 imm-leads row b d kind (Err fault) f w e = cc
 
 upper-leads : (row : Row) (b : Bounds) (d : Draft) (r : Result ℤ LineFault) → Numbers (below (2 ^ 20)) r → IsWithin row b d → Leads row (record b { imm = upper }) d (with_upper d r)
 upper-leads row b d (Ok z) f w e =
-    record { row_is = w.row_is; rd_below = w.rd_below; rs1_below = w.rs1_below; rs2_below = w.rs2_below; imm_is = upper-number (wrapped z) (f z refl) }
+    record { row_is = w.row_is; rd_below = w.rd_below; rs1_below = w.rs1_below; rs2_below = w.rs2_below; imm_is = upper-number (wrapped z) (f z refl); target_is = w.target_is }
 upper-leads row b d (Err fault) f w e = cc
 
 small-leads : (row : Row) (b : Bounds) (d : Draft) (r : Result ℤ LineFault) → Numbers (below 32) r → IsWithin row b d → Leads row (record b { rs1 = 32 }) d (with_small d r)
 small-leads row b d (Ok z) f w e =
-    record { row_is = w.row_is; rd_below = w.rd_below; rs1_below = f z refl; rs2_below = w.rs2_below; imm_is = w.imm_is }
+    record { row_is = w.row_is; rd_below = w.rd_below; rs1_below = f z refl; rs2_below = w.rs2_below; imm_is = w.imm_is; target_is = w.target_is }
 small-leads row b d (Err fault) f w e = cc
 
 special-leads : (row : Row) (b : Bounds) (d : Draft) (r : Result ℤ LineFault) → Numbers (below 32) r → IsWithin row b d → Leads row (record b { rs2 = 32 }) d (with_special d r)
 special-leads row b d (Ok z) f w e =
-    record { row_is = w.row_is; rd_below = w.rd_below; rs1_below = w.rs1_below; rs2_below = f z refl; imm_is = w.imm_is }
+    record { row_is = w.row_is; rd_below = w.rd_below; rs1_below = w.rs1_below; rs2_below = f z refl; imm_is = w.imm_is; target_is = w.target_is }
 special-leads row b d (Err fault) f w e = cc
 
-target-leads : (row : Row) (b : Bounds) (d : Draft) (r : Result Expression LineFault) → IsWithin row b d → Leads row b d (with_target d r)
+target-leads : (row : Row) (b : Bounds) (d : Draft) (r : Result Expression LineFault) → IsWithin row b d → Leads row (record b { target = true }) d (with_target d r)
 target-leads row b d (Ok x) w e =
-    record { row_is = w.row_is; rd_below = w.rd_below; rs1_below = w.rs1_below; rs2_below = w.rs2_below; imm_is = w.imm_is }
+    record { row_is = w.row_is; rd_below = w.rd_below; rs1_below = w.rs1_below; rs2_below = w.rs2_below; imm_is = w.imm_is; target_is = tt }
 target-leads row b d (Err fault) w e = cc
 
 address-leads : (row : Row) (b : Bounds) (d : Draft) (o : Option ℕ) (r : Result ℤ LineFault) → ((n : ℕ) → o ≡ Some n → n < 32) → Numbers signed r → IsWithin row b d → Leads row (record b { rs1 = 32; imm = signed }) d (with_address d o r)
 address-leads row b d (Some n) (Ok z) f g w e =
-    record { row_is = w.row_is; rd_below = w.rd_below; rs1_below = f n refl; rs2_below = w.rs2_below; imm_is = g z refl }
+    record { row_is = w.row_is; rd_below = w.rd_below; rs1_below = f n refl; rs2_below = w.rs2_below; imm_is = g z refl; target_is = w.target_is }
 address-leads row b d (Some n) (Err fault) f g w e = cc
 address-leads row b d None r f g w e = cc
 
@@ -179,10 +186,10 @@ slot-leads row b d Special text w =
     special-leads row b d (named_or (scr_named text) (up_to 31 (number_of text))) (named_or-numbers 32 (scr_named text) (up_to 31 (number_of text)) (scr_named-below text) (up_to-numbers 32 (number_of text) (omega arith))) w
 slot-leads row b d (Address naming) text w =
     test-leads row (bounds_with (Address naming) b) d (has_brackets text) _
-      (address-leads row b d (register_named (in_brackets text)) (signed_12 (displacement (before_bracket text))) (register_named-below (in_brackets text)) (signed_12-numbers (displacement (before_bracket text))) w)
+    (address-leads row b d (register_named (in_brackets text)) (signed_12 (displacement (before_bracket text))) (register_named-below (in_brackets text)) (signed_12-numbers (displacement (before_bracket text))) w)
 slot-leads row b d (Authority naming) text w =
     test-leads row (bounds_with (Authority naming) b) d (has_brackets text && (length (before_bracket text) == 0)) _
-      (rs1-leads row b d (register_named (in_brackets text)) (register_named-below (in_brackets text)) w)
+    (rs1-leads row b d (register_named (in_brackets text)) (register_named-below (in_brackets text)) w)
 slot-leads row b d (Target bits) text w = target-leads row b d (expression_of text) w
 
 -- no fault is told where neither operand has one

@@ -2,7 +2,19 @@
 #![tactic(auto)]
 
 mod fault;
+mod filling;
+mod line;
+mod number;
+mod operand;
 mod parsed;
+mod pattern;
+mod quoted;
+mod statement;
+mod text;
+mod values;
 
 pub use fault::LineFault;
+pub use line::parse_line;
+pub use number::expression;
 pub use parsed::{Expression, Parsed, Statement};
+pub use text::split_piece;

@@ -103,9 +103,9 @@ pub register_named-below : (text : List ℕ) (n : ℕ) → register_named text �
 unfolding register_named
 register_named-below text =
     or_else-below 32 _ _ (place-below text integer_names)
-      (or_else-below 32 _ _ (place-below text capability_names)
-        (or_else-below 32 _ _ (place-below text integer_numbers)
-          (or_else-below 32 _ _ (place-below text capability_numbers) (frame_pointer-below text))))
+    (or_else-below 32 _ _ (place-below text capability_names)
+    (or_else-below 32 _ _ (place-below text integer_numbers)
+    (or_else-below 32 _ _ (place-below text capability_numbers) (frame_pointer-below text))))
 
 -- each number of a list is below a bound
 abbrev are_below : ℕ → List (ℕ × List ℕ) → Bool

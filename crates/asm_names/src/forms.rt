@@ -1,156 +1,11 @@
 ghost use Rattle.std.specs.Prelude.{◌≡◌};
 ghost use Rattle.asm_names.specs.Slots.{slots_of as slots_are};
 
-use crate::slots::{Naming, Slot};
+use crate::slots::Naming::{ByMode, Capability, Integer};
+use crate::slots::Slot;
 use isa_rows::Row;
 
-const UPPER: &'static [Slot] = &[Slot::Rd(Naming::Integer), Slot::Upper];
-
-const UPPER_LINK: &'static [Slot] = &[Slot::Rd(Naming::ByMode), Slot::Upper];
-
-const JUMP: &'static [Slot] = &[Slot::Rd(Naming::ByMode), Slot::Target(21)];
-
-const JUMP_REGISTER: &'static [Slot] = &[Slot::Rd(Naming::ByMode), Slot::Address(Naming::ByMode)];
-
-const BRANCH: &'static [Slot] = &[
-    Slot::Rs1(Naming::Integer),
-    Slot::Rs2(Naming::Integer),
-    Slot::Target(13),
-];
-
-const LOAD: &'static [Slot] = &[Slot::Rd(Naming::Integer), Slot::Address(Naming::ByMode)];
-
-const STORE: &'static [Slot] = &[Slot::Rs2(Naming::Integer), Slot::Address(Naming::ByMode)];
-
-const STORE_CAPABILITY: &'static [Slot] = &[
-    Slot::Rs2(Naming::Capability),
-    Slot::Address(Naming::ByMode),
-];
-
-const IMMEDIATE: &'static [Slot] = &[
-    Slot::Rd(Naming::Integer),
-    Slot::Rs1(Naming::Integer),
-    Slot::Signed,
-];
-
-const LOAD_CAPABILITY: &'static [Slot] = &[
-    Slot::Rd(Naming::Capability),
-    Slot::Address(Naming::ByMode),
-];
-
-const SHIFT_6: &'static [Slot] = &[
-    Slot::Rd(Naming::Integer),
-    Slot::Rs1(Naming::Integer),
-    Slot::Unsigned(6),
-];
-
-const SHIFT_5: &'static [Slot] = &[
-    Slot::Rd(Naming::Integer),
-    Slot::Rs1(Naming::Integer),
-    Slot::Unsigned(5),
-];
-
-const INTEGERS: &'static [Slot] = &[
-    Slot::Rd(Naming::Integer),
-    Slot::Rs1(Naming::Integer),
-    Slot::Rs2(Naming::Integer),
-];
-
-const CSR_REGISTER: &'static [Slot] = &[
-    Slot::Rd(Naming::Integer),
-    Slot::Csr,
-    Slot::Rs1(Naming::Integer),
-];
-
-const CSR_IMMEDIATE: &'static [Slot] = &[Slot::Rd(Naming::Integer), Slot::Csr, Slot::Small];
-
-const NOTHING: &'static [Slot] = &[];
-
-const DERIVED_BY_SIGNED: &'static [Slot] = &[
-    Slot::Rd(Naming::Capability),
-    Slot::Rs1(Naming::Capability),
-    Slot::Signed,
-];
-
-const DERIVED_BY_UNSIGNED_12: &'static [Slot] = &[
-    Slot::Rd(Naming::Capability),
-    Slot::Rs1(Naming::Capability),
-    Slot::Unsigned(12),
-];
-
-const SPECIAL: &'static [Slot] = &[
-    Slot::Rd(Naming::Capability),
-    Slot::Special,
-    Slot::Rs1(Naming::Capability),
-];
-
-const DERIVED: &'static [Slot] = &[
-    Slot::Rd(Naming::Capability),
-    Slot::Rs1(Naming::Capability),
-    Slot::Rs2(Naming::Integer),
-];
-
-const SEALED: &'static [Slot] = &[
-    Slot::Rd(Naming::Capability),
-    Slot::Rs1(Naming::Capability),
-    Slot::Rs2(Naming::Capability),
-];
-
-const COMPARED: &'static [Slot] = &[
-    Slot::Rd(Naming::Integer),
-    Slot::Rs1(Naming::Capability),
-    Slot::Rs2(Naming::Capability),
-];
-
-const STORED_INTEGER_INTEGER: &'static [Slot] = &[
-    Slot::Rs2(Naming::Integer),
-    Slot::Authority(Naming::Integer),
-];
-
-const STORED_CAPABILITY_INTEGER: &'static [Slot] = &[
-    Slot::Rs2(Naming::Capability),
-    Slot::Authority(Naming::Integer),
-];
-
-const STORED_INTEGER_CAPABILITY: &'static [Slot] = &[
-    Slot::Rs2(Naming::Integer),
-    Slot::Authority(Naming::Capability),
-];
-
-const STORED_CAPABILITY_CAPABILITY: &'static [Slot] = &[
-    Slot::Rs2(Naming::Capability),
-    Slot::Authority(Naming::Capability),
-];
-
-const LOADED_INTEGER_INTEGER: &'static [Slot] = &[
-    Slot::Rd(Naming::Integer),
-    Slot::Authority(Naming::Integer),
-];
-
-const LOADED_INTEGER_CAPABILITY: &'static [Slot] = &[
-    Slot::Rd(Naming::Integer),
-    Slot::Authority(Naming::Capability),
-];
-
-const LOADED_CAPABILITY_INTEGER: &'static [Slot] = &[
-    Slot::Rd(Naming::Capability),
-    Slot::Authority(Naming::Integer),
-];
-
-const LOADED_CAPABILITY_CAPABILITY: &'static [Slot] = &[
-    Slot::Rd(Naming::Capability),
-    Slot::Authority(Naming::Capability),
-];
-
-const INVOKED: &'static [Slot] = &[Slot::Rs1(Naming::Capability), Slot::Rs2(Naming::Capability)];
-
-const TOLD: &'static [Slot] = &[Slot::Rd(Naming::Integer), Slot::Rs1(Naming::Capability)];
-
-const ROUNDED: &'static [Slot] = &[Slot::Rd(Naming::Integer), Slot::Rs1(Naming::Integer)];
-
-const MOVED: &'static [Slot] = &[Slot::Rd(Naming::Capability), Slot::Rs1(Naming::Capability)];
-
-/// The operands that a row is written with, in order.
+/// The operands that a row is written with, in order (unprivileged manual, assembly listings; CHERI ISA version 9, instruction pages).
 #[tactic(auto, unfolding(crate::specs::Slots::slots_of))]
 pub fn slots_of(row: Row) -> &'static [Slot]
     ensures { result.now ≡ slots_are row }
@@ -228,12 +83,12 @@ pub fn slots_of(row: Row) -> &'static [Slot]
         Row::Csrrwi => CSR_IMMEDIATE,
         Row::Csrrsi => CSR_IMMEDIATE,
         Row::Csrrci => CSR_IMMEDIATE,
-        Row::Ecall => NOTHING,
-        Row::Ebreak => NOTHING,
-        Row::Mret => NOTHING,
-        Row::Wfi => NOTHING,
-        Row::CIncOffsetImm => DERIVED_BY_SIGNED,
-        Row::CSetBoundsImm => DERIVED_BY_UNSIGNED_12,
+        Row::Ecall => &[],
+        Row::Ebreak => &[],
+        Row::Mret => &[],
+        Row::Wfi => &[],
+        Row::CIncOffsetImm => DERIVED_BY_IMMEDIATE,
+        Row::CSetBoundsImm => DERIVED_BY_LENGTH,
         Row::CSpecialRW => SPECIAL,
         Row::CSetBounds => DERIVED,
         Row::CSetBoundsExact => DERIVED,
@@ -247,32 +102,32 @@ pub fn slots_of(row: Row) -> &'static [Slot]
         Row::CSub => COMPARED,
         Row::CTestSubset => COMPARED,
         Row::CSetEqualExact => COMPARED,
-        Row::SbDdc => STORED_INTEGER_INTEGER,
-        Row::ShDdc => STORED_INTEGER_INTEGER,
-        Row::SwDdc => STORED_INTEGER_INTEGER,
-        Row::SdDdc => STORED_INTEGER_INTEGER,
-        Row::ScDdc => STORED_CAPABILITY_INTEGER,
-        Row::SbCap => STORED_INTEGER_CAPABILITY,
-        Row::ShCap => STORED_INTEGER_CAPABILITY,
-        Row::SwCap => STORED_INTEGER_CAPABILITY,
-        Row::SdCap => STORED_INTEGER_CAPABILITY,
-        Row::ScCap => STORED_CAPABILITY_CAPABILITY,
-        Row::LbDdc => LOADED_INTEGER_INTEGER,
-        Row::LhDdc => LOADED_INTEGER_INTEGER,
-        Row::LwDdc => LOADED_INTEGER_INTEGER,
-        Row::LdDdc => LOADED_INTEGER_INTEGER,
-        Row::LbuDdc => LOADED_INTEGER_INTEGER,
-        Row::LhuDdc => LOADED_INTEGER_INTEGER,
-        Row::LwuDdc => LOADED_INTEGER_INTEGER,
-        Row::LbCap => LOADED_INTEGER_CAPABILITY,
-        Row::LhCap => LOADED_INTEGER_CAPABILITY,
-        Row::LwCap => LOADED_INTEGER_CAPABILITY,
-        Row::LdCap => LOADED_INTEGER_CAPABILITY,
-        Row::LbuCap => LOADED_INTEGER_CAPABILITY,
-        Row::LhuCap => LOADED_INTEGER_CAPABILITY,
-        Row::LwuCap => LOADED_INTEGER_CAPABILITY,
-        Row::LcDdc => LOADED_CAPABILITY_INTEGER,
-        Row::LcCap => LOADED_CAPABILITY_CAPABILITY,
+        Row::SbDdc => STORED_BY_INTEGER,
+        Row::ShDdc => STORED_BY_INTEGER,
+        Row::SwDdc => STORED_BY_INTEGER,
+        Row::SdDdc => STORED_BY_INTEGER,
+        Row::ScDdc => STORED_CAPABILITY_BY_INTEGER,
+        Row::SbCap => STORED_BY_CAPABILITY,
+        Row::ShCap => STORED_BY_CAPABILITY,
+        Row::SwCap => STORED_BY_CAPABILITY,
+        Row::SdCap => STORED_BY_CAPABILITY,
+        Row::ScCap => STORED_CAPABILITY_BY_CAPABILITY,
+        Row::LbDdc => LOADED_BY_INTEGER,
+        Row::LhDdc => LOADED_BY_INTEGER,
+        Row::LwDdc => LOADED_BY_INTEGER,
+        Row::LdDdc => LOADED_BY_INTEGER,
+        Row::LbuDdc => LOADED_BY_INTEGER,
+        Row::LhuDdc => LOADED_BY_INTEGER,
+        Row::LwuDdc => LOADED_BY_INTEGER,
+        Row::LbCap => LOADED_BY_CAPABILITY,
+        Row::LhCap => LOADED_BY_CAPABILITY,
+        Row::LwCap => LOADED_BY_CAPABILITY,
+        Row::LdCap => LOADED_BY_CAPABILITY,
+        Row::LbuCap => LOADED_BY_CAPABILITY,
+        Row::LhuCap => LOADED_BY_CAPABILITY,
+        Row::LwuCap => LOADED_BY_CAPABILITY,
+        Row::LcDdc => LOADED_CAPABILITY_BY_INTEGER,
+        Row::LcCap => LOADED_CAPABILITY_BY_CAPABILITY,
         Row::CInvoke => INVOKED,
         Row::CGetPerm => TOLD,
         Row::CGetType => TOLD,
@@ -291,3 +146,126 @@ pub fn slots_of(row: Row) -> &'static [Slot]
         Row::CSealEntry => MOVED,
     }
 }
+
+// rd, rs1, rs2
+const INTEGERS: &'static [Slot] = &[Slot::Rd(Integer), Slot::Rs1(Integer), Slot::Rs2(Integer)];
+
+// rd, rs1, imm
+const IMMEDIATE: &'static [Slot] = &[Slot::Rd(Integer), Slot::Rs1(Integer), Slot::Signed];
+
+// rd, rs1, imm, of six bits and of five
+const SHIFT_6: &'static [Slot] = &[Slot::Rd(Integer), Slot::Rs1(Integer), Slot::Unsigned(6)];
+
+const SHIFT_5: &'static [Slot] = &[Slot::Rd(Integer), Slot::Rs1(Integer), Slot::Unsigned(5)];
+
+// rd, imm
+const UPPER: &'static [Slot] = &[Slot::Rd(Integer), Slot::Upper];
+
+// rd, imm; the result of auipc is a capability in capability mode
+const UPPER_LINK: &'static [Slot] = &[Slot::Rd(ByMode), Slot::Upper];
+
+// rs1, rs2, target
+const BRANCH: &'static [Slot] = &[Slot::Rs1(Integer), Slot::Rs2(Integer), Slot::Target(13)];
+
+// rd, target
+const JUMP: &'static [Slot] = &[Slot::Rd(ByMode), Slot::Target(21)];
+
+// rd, imm(rs1)
+const JUMP_REGISTER: &'static [Slot] = &[Slot::Rd(ByMode), Slot::Address(ByMode)];
+
+// rd, imm(rs1)
+const LOAD: &'static [Slot] = &[Slot::Rd(Integer), Slot::Address(ByMode)];
+
+// cd, imm(rs1)
+const LOAD_CAPABILITY: &'static [Slot] = &[Slot::Rd(Capability), Slot::Address(ByMode)];
+
+// rs2, imm(rs1)
+const STORE: &'static [Slot] = &[Slot::Rs2(Integer), Slot::Address(ByMode)];
+
+// cs2, imm(rs1)
+const STORE_CAPABILITY: &'static [Slot] = &[Slot::Rs2(Capability), Slot::Address(ByMode)];
+
+// rd, csr, rs1
+const CSR_REGISTER: &'static [Slot] = &[Slot::Rd(Integer), Slot::Csr, Slot::Rs1(Integer)];
+
+// rd, csr, imm
+const CSR_IMMEDIATE: &'static [Slot] = &[Slot::Rd(Integer), Slot::Csr, Slot::Small];
+
+// cd, cs1, rs2
+const DERIVED: &'static [Slot] = &[
+    Slot::Rd(Capability),
+    Slot::Rs1(Capability),
+    Slot::Rs2(Integer),
+];
+
+// cd, cs1, imm
+const DERIVED_BY_IMMEDIATE: &'static [Slot] = &[
+    Slot::Rd(Capability),
+    Slot::Rs1(Capability),
+    Slot::Signed,
+];
+
+const DERIVED_BY_LENGTH: &'static [Slot] = &[
+    Slot::Rd(Capability),
+    Slot::Rs1(Capability),
+    Slot::Unsigned(12),
+];
+
+// cd, cs1, cs2
+const SEALED: &'static [Slot] = &[
+    Slot::Rd(Capability),
+    Slot::Rs1(Capability),
+    Slot::Rs2(Capability),
+];
+
+// rd, cs1, cs2
+const COMPARED: &'static [Slot] = &[
+    Slot::Rd(Integer),
+    Slot::Rs1(Capability),
+    Slot::Rs2(Capability),
+];
+
+// rd, cs1
+const TOLD: &'static [Slot] = &[Slot::Rd(Integer), Slot::Rs1(Capability)];
+
+// rd, rs1
+const ROUNDED: &'static [Slot] = &[Slot::Rd(Integer), Slot::Rs1(Integer)];
+
+// cd, cs1
+const MOVED: &'static [Slot] = &[Slot::Rd(Capability), Slot::Rs1(Capability)];
+
+// cs1, cs2
+const INVOKED: &'static [Slot] = &[Slot::Rs1(Capability), Slot::Rs2(Capability)];
+
+// cd, scr, cs1
+const SPECIAL: &'static [Slot] = &[Slot::Rd(Capability), Slot::Special, Slot::Rs1(Capability)];
+
+// rd, (rs1), where the value, the authority or both are capabilities
+const LOADED_BY_INTEGER: &'static [Slot] = &[Slot::Rd(Integer), Slot::Authority(Integer)];
+
+const LOADED_BY_CAPABILITY: &'static [Slot] = &[Slot::Rd(Integer), Slot::Authority(Capability)];
+
+const LOADED_CAPABILITY_BY_INTEGER: &'static [Slot] = &[
+    Slot::Rd(Capability),
+    Slot::Authority(Integer),
+];
+
+const LOADED_CAPABILITY_BY_CAPABILITY: &'static [Slot] = &[
+    Slot::Rd(Capability),
+    Slot::Authority(Capability),
+];
+
+// rs2, (rs1), where the value, the authority or both are capabilities
+const STORED_BY_INTEGER: &'static [Slot] = &[Slot::Rs2(Integer), Slot::Authority(Integer)];
+
+const STORED_BY_CAPABILITY: &'static [Slot] = &[Slot::Rs2(Integer), Slot::Authority(Capability)];
+
+const STORED_CAPABILITY_BY_INTEGER: &'static [Slot] = &[
+    Slot::Rs2(Capability),
+    Slot::Authority(Integer),
+];
+
+const STORED_CAPABILITY_BY_CAPABILITY: &'static [Slot] = &[
+    Slot::Rs2(Capability),
+    Slot::Authority(Capability),
+];
