@@ -313,7 +313,7 @@ abbrev pub SlotsFit : List Slot → Insn → Type 0
 SlotsFit [] i = Unit {0}
 SlotsFit (s ∷ ss) i = SlotFits s i × SlotsFit ss i
 
-slots_fit : (f : Format) (ss : List Slot) (i : Insn) → slots_suit f ss ≡ true → OperandsFit f i → SlotsFit ss i
+pub slots_fit : (f : Format) (ss : List Slot) (i : Insn) → slots_suit f ss ≡ true → OperandsFit f i → SlotsFit ss i
 slots_fit f [] i t h = tt
 slots_fit f (s ∷ ss) i t h = (slot_fits f s i (grind (arith, nat_tests)) h, slots_fit f ss i (grind (arith, nat_tests)) h)
 

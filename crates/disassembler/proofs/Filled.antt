@@ -110,13 +110,13 @@ any-has_target [] = refl
 any-has_target (s ∷ ss) = ap (λ t. is_target s || t) (any-has_target ss)
 
 -- the statement of a draft, where a row's operands have a target among them or not
-abbrev stated : Bool → Insn → Statement
+abbrev pub stated : Bool → Insn → Statement
 stated target i = cond target (row (record i { imm = 0 }) (Some (distance_to i.imm))) (row i None)
 
-abbrev statement_of_draft : Draft → Statement
+abbrev pub statement_of_draft : Draft → Statement
 statement_of_draft d = row d.insn d.target
 
-abbrev nought : Row → Draft
+abbrev pub nought : Row → Draft
 nought r = record { insn = insn r 0 0 0 0; target = None }
 
 statement_filled : (target fills : Bool) (f : Format) (i : Insn) → cond target (not fills) (fills || lacks_imm f) ≡ true → NoneIf (lacks_imm f) i.imm

@@ -7,4 +7,5 @@ pub mod NamesBack
 pub mod SlotBack
 pub mod Fields
 pub mod Filled
+pub mod TextBack
 pub mod Bracketed

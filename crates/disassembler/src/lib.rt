@@ -3,6 +3,7 @@
 
 mod disassembling;
 mod hex;
+pub mod laws;
 mod operands;
 
 pub use disassembling::disassemble;
