@@ -23,7 +23,7 @@ brackets_there s r h =
     let size = length-append s (40 ∷ (r ++ 41 ∷ [])) in
     let inner = length-append r (41 ∷ []) in
     let end : last (bracketed s r) ≡ 41 =
-      last-append s (40 ∷ (r ++ 41 ∷ [])) (omega arith) ∙ last-append (40 ∷ []) (r ++ 41 ∷ []) (omega arith) ∙ last-append r (41 ∷ []) (omega arith) in
+    last-append s (40 ∷ (r ++ 41 ∷ [])) (omega arith) ∙ last-append (40 ∷ []) (r ++ 41 ∷ []) (omega arith) ∙ last-append r (41 ∷ []) (omega arith) in
     let open_there : nat_lt (prefix_len (λ b. not (b == 40)) (bracketed s r)) (length (bracketed s r)) ≡ true = grind (arith, nat_tests) in
     let close_there : (slice_index (bracketed s r) (length (bracketed s r) - 1) == 41) ≡ true = grind (arith, nat_tests) in
     rw (open_there, close_there) refl

@@ -142,7 +142,7 @@ trimmed_back (b ∷ bs) h =
     let end = plain_blank (last (b ∷ bs)) (every_at is_plain (b ∷ bs) (length (b ∷ bs) - 1) 0 h.bytes (omega arith)) in
     ap trimmed_end (trimmed_start_back b bs first) ∙ trimmed_end_back (b ∷ bs) end
 
-append_nil : (xs : List ℕ) → xs ++ [] ≡ xs
+pub append_nil : (xs : List ℕ) → xs ++ [] ≡ xs
 append_nil [] = refl
 append_nil (x ∷ xs) = ap (λ l. x ∷ l) (append_nil xs)
 

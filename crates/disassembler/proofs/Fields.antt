@@ -94,16 +94,16 @@ pub record Fields (f : Format) (i : Insn) : Type 0 where
   pub imm_none : NoneIf (lacks_imm f) i.imm
 
 signed_12_below : (n : ℕ) → IsSignedOf 12 n → n < 2 ^ 64
-signed_12_below n h = elim h [ | inl p ↦ omega arith | inr p ↦ omega (arith, p.1) ]
+signed_12_below n h = elim h [ inl p ↦ omega arith | inr p ↦ omega (arith, p.1) ]
 
 signed_13_below : (n : ℕ) → IsSignedOf 13 n → n < 2 ^ 64
-signed_13_below n h = elim h [ | inl p ↦ omega arith | inr p ↦ omega (arith, p.1) ]
+signed_13_below n h = elim h [ inl p ↦ omega arith | inr p ↦ omega (arith, p.1) ]
 
 signed_21_below : (n : ℕ) → IsSignedOf 21 n → n < 2 ^ 64
-signed_21_below n h = elim h [ | inl p ↦ omega arith | inr p ↦ omega (arith, p.1) ]
+signed_21_below n h = elim h [ inl p ↦ omega arith | inr p ↦ omega (arith, p.1) ]
 
 signed_32_below : (n : ℕ) → IsSignedOf 32 n → n < 2 ^ 64
-signed_32_below n h = elim h [ | inl p ↦ omega arith | inr p ↦ omega (arith, p.1) ]
+signed_32_below n h = elim h [ inl p ↦ omega arith | inr p ↦ omega (arith, p.1) ]
 
 pub fields_of : (f : Format) (i : Insn) → OperandsFit f i → Fields f i
 unfolding OperandsFit
@@ -116,7 +116,7 @@ fields_of FUpper i h =
       rd_none = tt;
       rs1_none = omega (arith, h.rs1_below);
       rs2_none = omega (arith, h.rs2_below);
-      imm_none = tt
+      imm_none = tt;
     }
 fields_of FJump i h =
     record {
@@ -127,7 +127,7 @@ fields_of FJump i h =
       rd_none = tt;
       rs1_none = omega (arith, h.rs1_below);
       rs2_none = omega (arith, h.rs2_below);
-      imm_none = tt
+      imm_none = tt;
     }
 fields_of FImmediate i h =
     record {
@@ -138,7 +138,7 @@ fields_of FImmediate i h =
       rd_none = tt;
       rs1_none = tt;
       rs2_none = omega (arith, h.rs2_below);
-      imm_none = tt
+      imm_none = tt;
     }
 fields_of FUnsigned i h =
     record {
@@ -149,7 +149,7 @@ fields_of FUnsigned i h =
       rd_none = tt;
       rs1_none = tt;
       rs2_none = omega (arith, h.rs2_below);
-      imm_none = tt
+      imm_none = tt;
     }
 fields_of FStore i h =
     record {
@@ -160,7 +160,7 @@ fields_of FStore i h =
       rd_none = omega (arith, h.rd_below);
       rs1_none = tt;
       rs2_none = tt;
-      imm_none = tt
+      imm_none = tt;
     }
 fields_of FBranch i h =
     record {
@@ -171,7 +171,7 @@ fields_of FBranch i h =
       rd_none = omega (arith, h.rd_below);
       rs1_none = tt;
       rs2_none = tt;
-      imm_none = tt
+      imm_none = tt;
     }
 fields_of FShift6 i h =
     record {
@@ -182,7 +182,7 @@ fields_of FShift6 i h =
       rd_none = tt;
       rs1_none = tt;
       rs2_none = omega (arith, h.rs2_below);
-      imm_none = tt
+      imm_none = tt;
     }
 fields_of FShift5 i h =
     record {
@@ -193,7 +193,7 @@ fields_of FShift5 i h =
       rd_none = tt;
       rs1_none = tt;
       rs2_none = omega (arith, h.rs2_below);
-      imm_none = tt
+      imm_none = tt;
     }
 fields_of FRegister i h =
     record {
@@ -204,7 +204,7 @@ fields_of FRegister i h =
       rd_none = tt;
       rs1_none = tt;
       rs2_none = tt;
-      imm_none = omega (arith, h.imm_is)
+      imm_none = omega (arith, h.imm_is);
     }
 fields_of FWhole i h =
     record {
@@ -215,7 +215,7 @@ fields_of FWhole i h =
       rd_none = omega (arith, h.rd_below);
       rs1_none = omega (arith, h.rs1_below);
       rs2_none = omega (arith, h.rs2_below);
-      imm_none = omega (arith, h.imm_is)
+      imm_none = omega (arith, h.imm_is);
     }
 fields_of FUnary i h =
     record {
@@ -226,7 +226,7 @@ fields_of FUnary i h =
       rd_none = tt;
       rs1_none = tt;
       rs2_none = omega (arith, h.rs2_below);
-      imm_none = omega (arith, h.imm_is)
+      imm_none = omega (arith, h.imm_is);
     }
 fields_of FPair i h =
     record {
@@ -237,7 +237,7 @@ fields_of FPair i h =
       rd_none = omega (arith, h.rd_below);
       rs1_none = tt;
       rs2_none = tt;
-      imm_none = omega (arith, h.imm_is)
+      imm_none = omega (arith, h.imm_is);
     }
 
 -- the immediate of a format is in a slot's range

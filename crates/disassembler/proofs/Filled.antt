@@ -56,7 +56,7 @@ draft r rd rs1 rs2 imm target = record { insn = insn r rd rs1 rs2 imm; target = 
 abbrev filled : Insn → List Slot → Draft → Draft
 filled i ss d =
     draft d.insn.row (cond (any fills_rd ss) i.rd d.insn.rd) (cond (any fills_rs1 ss) i.rs1 d.insn.rs1) (cond (any fills_rs2 ss) i.rs2 d.insn.rs2)
-      (cond (any fills_imm ss) i.imm d.insn.imm) (cond (any is_target ss) (Some (distance_to i.imm)) d.target)
+    (cond (any fills_imm ss) i.imm d.insn.imm) (cond (any is_target ss) (Some (distance_to i.imm)) d.target)
 
 same : {A : Type 0} (t : Bool) (a : A) → cond t a a ≡ a
 same true a = refl

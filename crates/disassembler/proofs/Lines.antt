@@ -3,7 +3,7 @@ use Rattle.std.proofs.Common.{◌≡◌, ℕ, zero, suc, ◌+◌, ◌-◌, ◌<�
 use Rattle.std.specs.Prelude.{◌==◌, nat_lt, nat_le, codes, slice_index}
 use Rattle.std.specs.List.{prefix_len, before_first, after_first}
 use Rattle.std.proofs.lemmas.Bool.Decides.{nat_tests}
-use Rattle.asm_lines.specs.Text.{is_blank, is_foreign, trimmed, trimmed_start, trimmed_end, uncommented, uncommented_from, outside, inside, begins_comment, quoting_after, has_label, label_of, statement_text, name_length, mnemonic_of, operands_of}
+use Rattle.asm_lines.specs.Text.{is_blank, is_foreign, trimmed, trimmed_start, trimmed_end, uncommented, has_label, label_of, statement_text, name_length, mnemonic_of, operands_of}
 use Rattle.asm_lines.specs.Statement.{said_by}
 use Rattle.asm_lines.specs.Line.{labelled, line_said, line_of_text, line_meaning}
 use Rattle.disassembler.proofs.Cut.{every, every-append, every_weaker, every_at, prefix_every, before_stop, after_stop, before_none, after_none, last, last-append, trimmed_end_back, trimmed_start_back, is_plain, plain_blank, IsPlain, ArePlain, joined, joined_last}
@@ -22,7 +22,7 @@ uncommented_back (b ∷ bs) h =
     let hash : (b == 35) ≡ false = grind (arith, nat_tests) in
     let quote : (b == 34) ≡ false = grind (arith, nat_tests) in
     let rest : every is_line_byte bs ≡ true = grind (arith, nat_tests) in
-    ap (λ t. cond t [] (b ∷ uncommented_from (cond (b == 34) inside outside) bs)) hash ∙ ap (λ t. b ∷ uncommented_from (cond t inside outside) bs) quote ∙ ap (λ l. b ∷ l) (uncommented_back bs rest)
+    rw (hash, quote) (ap (λ l. b ∷ l) (uncommented_back bs rest))
 
 neither : (a b c : Bool) → c ≡ false → a && (b && c) ≡ false
 neither true true c h = h
@@ -31,9 +31,9 @@ neither false b c h = refl
 
 no_colon : (text : List ℕ) (k : ℕ) → every is_line_byte text ≡ true → (nat_lt k (length text) && (slice_index text k == 58)) ≡ false
 no_colon text k h = elim (order k (length text)) [
-    | inl l ↦ let e = every_at is_line_byte text k 0 h l in grind (arith, nat_tests)
-    | inr g ↦ grind (arith, nat_tests)
-  ]
+  | inl l ↦ let e = every_at is_line_byte text k 0 h l in grind (arith, nat_tests)
+  | inr g ↦ grind (arith, nat_tests)
+]
 
 no_label : (text : List ℕ) → every is_line_byte text ≡ true → has_label text ≡ false
 unfolding has_label

@@ -118,8 +118,8 @@ csr_back n h =
     elim (csr_name n) as (λ o. csr_name n ≡ o → named_or (csr_named (name_or (short_hex n) o)) (up_to 4095 (number_of (name_or (short_hex n) o))) ≡ Ok (pos n)) [
       | Some text ↦ λ e. ap (λ o. named_or o (up_to 4095 (number_of text))) (csr_named-csr_name n text e)
       | None ↦ λ e.
-        ap (λ o. named_or o (up_to 4095 (number_of (short_hex n)))) (csr_named_hex (digits 16 false n))
-        ∙ ap (up_to 4095) (number_short_hex n (omega arith)) ∙ up_to_back 4095 n (omega arith)
+          ap (λ o. named_or o (up_to 4095 (number_of (short_hex n)))) (csr_named_hex (digits 16 false n))
+          ∙ ap (up_to 4095) (number_short_hex n (omega arith)) ∙ up_to_back 4095 n (omega arith)
     ] refl
 
 pub plain_csr : (n : ℕ) → n < 4096 → IsPlain (name_or (short_hex n) (csr_name n))
@@ -141,8 +141,8 @@ scr_back n h =
     elim (scr_name n) as (λ o. scr_name n ≡ o → named_or (scr_named (name_or (decimal n) o)) (up_to 31 (number_of (name_or (decimal n) o))) ≡ Ok (pos n)) [
       | Some text ↦ λ e. ap (λ o. named_or o (up_to 31 (number_of text))) (scr_named-scr_name n text e)
       | None ↦ λ e.
-        ap (λ o. named_or o (up_to 31 (number_of (decimal n)))) (scr_named_decimal n h)
-        ∙ ap (up_to 31) (number_decimal n (omega arith)) ∙ up_to_back 31 n (omega arith)
+          ap (λ o. named_or o (up_to 31 (number_of (decimal n)))) (scr_named_decimal n h)
+          ∙ ap (up_to 31) (number_decimal n (omega arith)) ∙ up_to_back 31 n (omega arith)
     ] refl
 
 pub plain_scr : (n : ℕ) → n < 32 → IsPlain (name_or (decimal n) (scr_name n))

@@ -46,9 +46,9 @@ decimal_plain ds h = every_weaker (is_digit_in 10) is_plain ds (λ d k. let r = 
 -- a digit or nothing stands where it is
 at_digit : (ds : List ℕ) (k c : ℕ) → every (is_digit_in 10) ds ≡ true → 0 < c → (c < 48) ⊎ (57 < c) → (slice_index ds k == c) ≡ false
 at_digit ds k c h some out = elim (order k (length ds)) [
-    | inl l ↦ let r = digit_byte (get_or ds k 0) (every_at (is_digit_in 10) ds k 0 h l) in grind (arith, nat_tests)
-    | inr g ↦ let e = get_or_past ds k 0 g in grind (arith, nat_tests)
-  ]
+  | inl l ↦ let r = digit_byte (get_or ds k 0) (every_at (is_digit_in 10) ds k 0 h l) in grind (arith, nat_tests)
+  | inr g ↦ let e = get_or_past ds k 0 g in grind (arith, nat_tests)
+]
 
 numeral_test : (radix : ℕ) (ds : List ℕ) → 0 < length ds → every (is_digit_in radix) ds ≡ true → is_numeral radix ds ≡ true
 numeral_test radix ds some h =
@@ -100,23 +100,23 @@ plain_decimal n h =
 -- the signed reading of a number of 64 bits
 pub signed_reading : (n : ℕ) → n < 2 ^ 64 → ((n < 2 ^ 63) × (cast_signed w64 n ≡ pos n)) ⊎ ((2 ^ 63 ≤ n) × (cast_signed w64 n ≡ negsuc (2 ^ 64 - 1 - n)))
 signed_reading n h = elim (order n (2 ^ 63)) [
-    | inl l ↦ inl (l, to_z_pos w64 n l)
-    | inr g ↦
+  | inl l ↦ inl (l, to_z_pos w64 n l)
+  | inr g ↦
       let e : n ≡ 2 ^ 64 - suc (2 ^ 64 - 1 - n) = omega arith in
       inr (g, ap (cast_signed w64) e ∙ to_z-neg w64 (2 ^ 64 - 1 - n) (omega arith))
-  ]
+]
 
 pub wrapped_signed : (n : ℕ) → n < 2 ^ 64 → wrapped (cast_signed w64 n) ≡ n
 wrapped_signed n h = elim (signed_reading n h) [
-    | inl p ↦ ap wrapped p.1 ∙ omega arith
-    | inr p ↦ ap wrapped p.1 ∙ omega arith
-  ]
+  | inl p ↦ ap wrapped p.1 ∙ omega arith
+  | inr p ↦ ap wrapped p.1 ∙ omega arith
+]
 
 pub number_signed : (n : ℕ) → n < 2 ^ 64 → number_of (shown_signed n) ≡ Ok (cast_signed w64 n)
 number_signed n h = elim (signed_reading n h) [
-    | inl p ↦ ap (λ z. number_of (signed_decimal z)) p.1 ∙ number_decimal n h ∙ ap Ok (sym p.1)
-    | inr p ↦ ap (λ z. number_of (signed_decimal z)) p.1 ∙ number_negative (2 ^ 64 - 1 - n) (omega arith) ∙ ap Ok (sym p.1)
-  ]
+  | inl p ↦ ap (λ z. number_of (signed_decimal z)) p.1 ∙ number_decimal n h ∙ ap Ok (sym p.1)
+  | inr p ↦ ap (λ z. number_of (signed_decimal z)) p.1 ∙ number_negative (2 ^ 64 - 1 - n) (omega arith) ∙ ap Ok (sym p.1)
+]
 
 plain_negative : (n : ℕ) → n < 2 ^ 63 → IsPlain (45 ∷ decimal (suc n))
 plain_negative n h =
@@ -125,9 +125,9 @@ plain_negative n h =
 
 pub plain_signed : (n : ℕ) → n < 2 ^ 64 → IsPlain (shown_signed n)
 plain_signed n h = elim (signed_reading n h) [
-    | inl p ↦ subst (λ z. IsPlain (signed_decimal z)) (sym p.1) (plain_decimal n h)
-    | inr p ↦ subst (λ z. IsPlain (signed_decimal z)) (sym p.1) (plain_negative (2 ^ 64 - 1 - n) (omega arith))
-  ]
+  | inl p ↦ subst (λ z. IsPlain (signed_decimal z)) (sym p.1) (plain_decimal n h)
+  | inr p ↦ subst (λ z. IsPlain (signed_decimal z)) (sym p.1) (plain_negative (2 ^ 64 - 1 - n) (omega arith))
+]
 
 -- hexadecimal numbers, without and with leading zeros
 pub number_short_hex : (n : ℕ) → n < 2 ^ 64 → number_of (short_hex n) ≡ Ok (pos n)
@@ -190,15 +190,15 @@ unbracketed_decimal n h = decimal_unbracketed (decimal n) (every_digit 10 (decim
 
 pub unbracketed_signed : (n : ℕ) → n < 2 ^ 64 → every (λ b. not (b == 40)) (shown_signed n) ≡ true
 unbracketed_signed n h = elim (signed_reading n h) [
-    | inl p ↦ subst (λ z. every (λ b. not (b == 40)) (signed_decimal z) ≡ true) (sym p.1) (unbracketed_decimal n h)
-    | inr p ↦ subst (λ z. every (λ b. not (b == 40)) (signed_decimal z) ≡ true) (sym p.1) (unbracketed_decimal (suc (2 ^ 64 - 1 - n)) (omega arith))
-  ]
+  | inl p ↦ subst (λ z. every (λ b. not (b == 40)) (signed_decimal z) ≡ true) (sym p.1) (unbracketed_decimal n h)
+  | inr p ↦ subst (λ z. every (λ b. not (b == 40)) (signed_decimal z) ≡ true) (sym p.1) (unbracketed_decimal (suc (2 ^ 64 - 1 - n)) (omega arith))
+]
 
 pub short_decimal : (n : ℕ) → n < 2 ^ 64 → length (decimal n) ≤ 20
 short_decimal n h = length-decimal-le 20 n (omega arith) (omega arith) h
 
 pub short_signed : (n : ℕ) → n < 2 ^ 64 → length (shown_signed n) ≤ 21
 short_signed n h = elim (signed_reading n h) [
-    | inl p ↦ subst (λ z. length (signed_decimal z) ≤ 21) (sym p.1) (let k = short_decimal n h in omega arith)
-    | inr p ↦ subst (λ z. length (signed_decimal z) ≤ 21) (sym p.1) (let k = short_decimal (suc (2 ^ 64 - 1 - n)) (omega arith) in omega arith)
-  ]
+  | inl p ↦ subst (λ z. length (signed_decimal z) ≤ 21) (sym p.1) (let k = short_decimal n h in omega arith)
+  | inr p ↦ subst (λ z. length (signed_decimal z) ≤ 21) (sym p.1) (let k = short_decimal (suc (2 ^ 64 - 1 - n)) (omega arith) in omega arith)
+]

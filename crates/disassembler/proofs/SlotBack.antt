@@ -54,10 +54,10 @@ with_slot i (Authority naming) d = record d { insn = record d.insn { rs1 = i.rs1
 with_slot i (Target bits) d = record d { target = Some (distance_to i.imm) }
 
 signed_range : (n : ℕ) → IsSignedOf 12 n → n < 2 ^ 64
-signed_range n h = elim h [ | inl p ↦ omega arith | inr p ↦ omega (arith, p.1) ]
+signed_range n h = elim h [ inl p ↦ omega arith | inr p ↦ omega (arith, p.1) ]
 
 upper_range : (n : ℕ) → IsUpperImmediate n → n < 2 ^ 64
-upper_range n h = elim h.1 [ | inl p ↦ omega arith | inr p ↦ omega (arith, p.1) ]
+upper_range n h = elim h.1 [ inl p ↦ omega arith | inr p ↦ omega (arith, p.1) ]
 
 signed_12_pos : (n : ℕ) → n < 2048 → signed_12 (Ok (pos n)) ≡ Ok (pos n)
 signed_12_pos n h = grind (arith, nat_tests)
@@ -69,35 +69,35 @@ signed_12_back : (n : ℕ) → IsSignedOf 12 n → signed_12 (Ok (cast_signed w6
 signed_12_back n h =
     let below = signed_range n h in
     elim (signed_reading n below) [
-      | inl p ↦ ap (λ z. signed_12 (Ok z)) p.1 ∙ signed_12_pos n (elim h [ | inl q ↦ omega arith | inr q ↦ absurd (omega (arith, p.0, q.0)) ]) ∙ ap Ok (sym p.1)
-      | inr p ↦ ap (λ z. signed_12 (Ok z)) p.1 ∙ signed_12_negsuc (2 ^ 64 - 1 - n) (elim h [ | inl q ↦ absurd (omega (arith, p.0, q)) | inr q ↦ omega (arith, q.0, q.1) ]) ∙ ap Ok (sym p.1)
+      | inl p ↦ ap (λ z. signed_12 (Ok z)) p.1 ∙ signed_12_pos n (elim h [ inl q ↦ omega arith | inr q ↦ absurd (omega (arith, p.0, q.0)) ]) ∙ ap Ok (sym p.1)
+      | inr p ↦ ap (λ z. signed_12 (Ok z)) p.1 ∙ signed_12_negsuc (2 ^ 64 - 1 - n) (elim h [ inl q ↦ absurd (omega (arith, p.0, q)) | inr q ↦ omega (arith, q.0, q.1) ]) ∙ ap Ok (sym p.1)
     ]
 
 -- a number of 20 bits in the upper bits, and back
 upper_back : (n : ℕ) → IsUpperImmediate n → sign_extended 32 (n / 2 ^ 12 % 2 ^ 20 % 2 ^ 64 * 2 ^ 12) ≡ n
 unfolding sign_extended
 upper_back n h = elim h.1 [
-    | inl p ↦ let k = h.0 in grind (arith, nat_tests)
-    | inr p ↦ let k = h.0 in let q = p.0 in let r = p.1 in grind (arith, nat_tests)
-  ]
+  | inl p ↦ let k = h.0 in grind (arith, nat_tests)
+  | inr p ↦ let k = h.0 in let q = p.0 in let r = p.1 in grind (arith, nat_tests)
+]
 
 wrapped_pos : (n : ℕ) → n < 2 ^ 64 → wrapped (pos n) ≡ n
 wrapped_pos n h = omega arith
 
 target_back : (n : ℕ) → n < 2 ^ 64 → expression_of (shown_target n) ≡ Ok (distance_to n)
 target_back n h = elim (signed_reading n h) [
-    | inl p ↦
+  | inl p ↦
       let t : nat_lt n (2 ^ 63) ≡ true = let q = p.0 in grind (arith, nat_tests) in
       ap (λ t. expression_of (cond t (codes ".+" ++ decimal n) (codes ".-" ++ decimal (2 ^ 64 - n)))) t
       ∙ expression_plus (decimal n) (plain_decimal n h) ∙ ap (named_plus here_name) (number_decimal n h) ∙ ap (λ z. Ok (expression (Some here_name) z)) (sym p.1)
-    | inr p ↦
+  | inr p ↦
       let t : nat_lt n (2 ^ 63) ≡ false = let q = p.0 in grind (arith, nat_tests) in
       let e : 2 ^ 64 - n ≡ suc (2 ^ 64 - 1 - n) = omega arith in
       let q = p.0 in
       ap (λ t. expression_of (cond t (codes ".+" ++ decimal n) (codes ".-" ++ decimal (2 ^ 64 - n)))) t
       ∙ expression_minus (decimal (2 ^ 64 - n)) (plain_decimal (2 ^ 64 - n) (omega arith)) ∙ ap (named_minus here_name) (number_decimal (2 ^ 64 - n) (omega arith))
       ∙ ap (λ m. Ok (expression (Some here_name) (neg_ℤ (pos m)))) e ∙ ap (λ z. Ok (expression (Some here_name) z)) (sym p.1)
-  ]
+]
 
 shown_address : (mode : Bool) (i : Insn) (naming : Naming) → shown_slot mode i (Address naming) ≡ bracketed (shown_signed i.imm) (shown_register mode naming i.rs1)
 unfolding shown_slot
@@ -139,7 +139,7 @@ plain_bracketed : (s r : List ℕ) → every is_plain s ≡ true → IsPlain r �
 plain_bracketed s r h k =
     record {
       some = omega (arith, length-append s (40 ∷ (r ++ 41 ∷ [])));
-      bytes = every-append is_plain s (40 ∷ (r ++ 41 ∷ [])) h (every-append is_plain (40 ∷ r) (41 ∷ []) k.bytes refl)
+      bytes = every-append is_plain s (40 ∷ (r ++ 41 ∷ [])) h (every-append is_plain (40 ∷ r) (41 ∷ []) k.bytes refl);
     }
 
 plain_behind : (a b : ℕ) (text : List ℕ) → every is_plain (a ∷ b ∷ []) ≡ true → IsPlain text → IsPlain (a ∷ b ∷ text)
@@ -147,25 +147,25 @@ plain_behind a b text h k = record { some = omega arith; bytes = every-append is
 
 plain_target : (n : ℕ) → n < 2 ^ 64 → IsPlain (shown_target n)
 plain_target n h = elim (order n (2 ^ 63)) [
-    | inl l ↦
+  | inl l ↦
       let t : nat_lt n (2 ^ 63) ≡ true = grind (arith, nat_tests) in
       subst (λ t. IsPlain (cond t (codes ".+" ++ decimal n) (codes ".-" ++ decimal (2 ^ 64 - n)))) (sym t) (plain_behind 46 43 (decimal n) refl (plain_decimal n h))
-    | inr g ↦
+  | inr g ↦
       let t : nat_lt n (2 ^ 63) ≡ false = grind (arith, nat_tests) in
       subst (λ t. IsPlain (cond t (codes ".+" ++ decimal n) (codes ".-" ++ decimal (2 ^ 64 - n)))) (sym t) (plain_behind 46 45 (decimal (2 ^ 64 - n)) refl (plain_decimal (2 ^ 64 - n) (omega arith)))
-  ]
+]
 
 short_target : (n : ℕ) → n < 2 ^ 64 → length (shown_target n) ≤ 40
 short_target n h = elim (order n (2 ^ 63)) [
-    | inl l ↦
+  | inl l ↦
       let t : nat_lt n (2 ^ 63) ≡ true = grind (arith, nat_tests) in
       let k = short_decimal n h in
       subst (λ t. length (cond t (codes ".+" ++ decimal n) (codes ".-" ++ decimal (2 ^ 64 - n))) ≤ 40) (sym t) (omega arith)
-    | inr g ↦
+  | inr g ↦
       let t : nat_lt n (2 ^ 63) ≡ false = grind (arith, nat_tests) in
       let k = short_decimal (2 ^ 64 - n) (omega arith) in
       subst (λ t. length (cond t (codes ".+" ++ decimal n) (codes ".-" ++ decimal (2 ^ 64 - n))) ≤ 40) (sym t) (omega arith)
-  ]
+]
 
 pub slot_plain : (mode : Bool) (i : Insn) (s : Slot) → SlotFits s i → IsPlain (shown_slot mode i s)
 unfolding shown_slot

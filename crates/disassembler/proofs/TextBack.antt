@@ -27,7 +27,7 @@ use Rattle.asm_lines.specs.Line.{Line, labelled, line_meaning}
 use Rattle.disassembler.specs.Hex.{hex_of}
 use Rattle.disassembler.specs.Shown.{shown_slot, shown_operands, shown_insn, shown_found, shown_word}
 use Rattle.disassembler.specs.ReadBack.{has_target, statement_of, statement_of_word, word_text, sound_line, ReadsBack}
-use Rattle.disassembler.proofs.Cut.{every, is_plain, IsPlain, ArePlain, joined, pieces_back}
+use Rattle.disassembler.proofs.Cut.{every, is_plain, IsPlain, ArePlain, joined, append_nil, pieces_back}
 use Rattle.disassembler.proofs.Lines.{word_line, operands_line}
 use Rattle.disassembler.proofs.Lengths.{mnemonic_short}
 use Rattle.disassembler.proofs.Numbers.{number_word, plain_word, length_word, wrapped_signed}
@@ -83,10 +83,6 @@ shown_short mode i (s ∷ ss) h =
     let b = shown_short mode i ss h.1 in
     omega (arith, length-append (shown_slot mode i s) (joined (map (shown_slot mode i) ss)))
 
-append_none : (xs : List ℕ) → xs ++ [] ≡ xs
-append_none [] = refl
-append_none (x ∷ xs) = ap (λ l. x ∷ l) (append_none xs)
-
 -- what is read of the operands is the statement
 operands_said : (mode : Bool) (i : Insn) (ss : List Slot) (operands : List ℕ) → pieces_of operands ≡ map (shown_slot mode i) ss → SlotsFit ss i
     → pattern_said (Some (plain i.row ss)) operands ≡ said (Some (statement_of_draft (with_slots i ss (nought i.row)))) None
@@ -99,9 +95,9 @@ operands_said mode i ss operands e h =
 insn_alone : (mode : Bool) (i : Insn) → slots_of i.row ≡ [] → line_meaning (mnemonic mode i.row ++ []) ≡ labelled None (said (Some (statement_of_draft (nought i.row))) None)
 insn_alone mode i e =
     let pattern : pattern_of (mnemonic mode i.row) true ≡ Some (plain i.row []) =
-      subst (λ ss. pattern_of (mnemonic mode i.row) (is_empty ss) ≡ Some (plain i.row ss)) e (pattern_back mode i.row) in
+    subst (λ ss. pattern_of (mnemonic mode i.row) (is_empty ss) ≡ Some (plain i.row ss)) e (pattern_back mode i.row) in
     let short = mnemonic_short mode i.row in
-    ap line_meaning (append_none (mnemonic mode i.row)) ∙ word_line (mnemonic mode i.row) (plain_mnemonic mode i.row) (omega arith)
+    ap line_meaning (append_nil (mnemonic mode i.row)) ∙ word_line (mnemonic mode i.row) (plain_mnemonic mode i.row) (omega arith)
     ∙ ap (labelled None) (no_directive mode i.row []) ∙ ap (λ p. labelled None (pattern_said p [])) pattern
 
 empty_length : (t rest : List ℕ) → 0 < length t → (length (t ++ rest) == 0) ≡ false
@@ -114,7 +110,7 @@ insn_with mode i s ss e few h =
     let t = shown_slot mode i s in
     let ts = map (shown_slot mode i) ss in
     let pattern : pattern_of (mnemonic mode i.row) false ≡ Some (plain i.row (s ∷ ss)) =
-      subst (λ ss. pattern_of (mnemonic mode i.row) (is_empty ss) ≡ Some (plain i.row ss)) e (pattern_back mode i.row) in
+    subst (λ ss. pattern_of (mnemonic mode i.row) (is_empty ss) ≡ Some (plain i.row ss)) e (pattern_back mode i.row) in
     let first = slot_plain mode i s h.0 in
     let others = shown_plain mode i ss h.1 in
     let a = mnemonic_short mode i.row in
@@ -153,7 +149,7 @@ word_value : (word : ℕ) → word < 2 ^ 32 → expression_of (word_text word) �
 word_value word h = word_expression (hex_of 8 word) ∙ ap numbered (number_word word h)
 
 word_pieces : (word : ℕ) → pieces_of (word_text word) ≡ word_text word ∷ []
-word_pieces word = ap pieces_of (sym (append_none (word_text word))) ∙ pieces_back (word_text word) [] (plain_word word) tt
+word_pieces word = ap pieces_of (sym (append_nil (word_text word))) ∙ pieces_back (word_text word) [] (plain_word word) tt
 
 word_in_size : (word : ℕ) → word < 2 ^ 32 → is_in_size 4 (pos word) ≡ true
 word_in_size word h = grind (arith, nat_tests)
@@ -166,9 +162,9 @@ no_fault word h =
 word_back : (word : ℕ) → word < 2 ^ 32 → line_meaning (codes ".word 0x" ++ hex_of 8 word) ≡ sound_line (values 4 (word_text word))
 word_back word h =
     let size = length_word word in
-    ap (λ l. line_meaning (codes ".word" ++ 32 ∷ l)) (sym (append_none (word_text word)))
+    ap (λ l. line_meaning (codes ".word" ++ 32 ∷ l)) (sym (append_nil (word_text word)))
     ∙ operands_line (codes ".word") (word_text word) [] (record { some = omega arith; bytes = refl }) (plain_word word) tt (omega (arith, length-append (word_text word) []))
-    ∙ ap (λ l. labelled None (said_by (codes ".word") l)) (append_none (word_text word)) ∙ ap (labelled None) (word_said 48 (120 ∷ hex_of 8 word))
+    ∙ ap (λ l. labelled None (said_by (codes ".word") l)) (append_nil (word_text word)) ∙ ap (labelled None) (word_said 48 (120 ∷ hex_of 8 word))
     ∙ ap (λ f. labelled None (said_unless (values 4 (word_text word)) f)) (no_fault word h)
 
 operands_of_insn : (word : ℕ) (i : Insn) → IsInsn word i → OperandsFit (line_of i.row).format i
