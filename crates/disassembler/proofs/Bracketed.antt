@@ -1,17 +1,16 @@
 -- Operands in brackets and targets, as they are read.
-use Rattle.std.proofs.Common.{◌≡◌, ℕ, zero, suc, ◌+◌, ◌-◌, ◌<◌, ◌≤◌, Bool, true, false, not, ◌&&◌, ◌||◌, cond, List, [], ◌∷◌, ◌++◌, Option, Some, None, refl, sym, ap, ◌∙◌, append_assoc, arith, length, take, drop, get_or, length-append}
-use Rattle.std.specs.Prelude.{ℤ, pos, Result, Ok, Err, ◌==◌, nat_lt, nat_le, codes, slice_index}
-use Rattle.std.specs.List.{prefix_len, before_first, after_first}
+use Rattle.std.proofs.Common.{◌≡◌, ℕ, ◌-◌, ◌<◌, true, false, not, ◌&&◌, cond, List, [], ◌∷◌, ◌++◌, refl, ap, ◌∙◌, arith, length, take, length-append}
+use Rattle.std.specs.Prelude.{Err, ◌==◌, nat_lt, slice_index}
+use Rattle.std.specs.List.{prefix_len}
 use Rattle.std.proofs.lemmas.Bool.Decides.{nat_tests}
 use Rattle.asm_names.specs.declared.slots.Naming.{Naming}
 use Rattle.asm_names.specs.declared.slots.Slot.TheVariants.{Address, Authority}
 use Rattle.asm_names.specs.Registers.{register_named}
-use Rattle.asm_lines.specs.declared.fault.LineFault.{LineFault}
 use Rattle.asm_lines.specs.declared.fault.LineFault.TheVariants.{A2}
-use Rattle.asm_lines.specs.Text.{trimmed, trimmed_start, trimmed_end, begins_name}
-use Rattle.asm_lines.specs.Number.{number_of, named_plus, named_minus, numbered, named_expression, expression_of}
+use Rattle.asm_lines.specs.Text.{trimmed, trimmed_start}
+use Rattle.asm_lines.specs.Number.{number_of, named_plus, named_minus, named_expression, expression_of}
 use Rattle.asm_lines.specs.Operand.{Draft, signed_12, with_rs1, with_address, before_bracket, in_brackets, has_brackets, displacement, filled_slot}
-use Rattle.disassembler.proofs.Cut.{every, every-append, every_weaker, every_at, prefix_stop, before_stop, after_stop, take_front, last, last-append, trimmed_start_back, trimmed_back, is_plain, plain_blank, IsPlain}
+use Rattle.disassembler.proofs.Cut.{every, every_at, prefix_stop, before_stop, after_stop, take_front, last, last-append, trimmed_start_back, trimmed_back, is_plain, plain_blank, IsPlain}
 
 -- a text, and another in brackets behind it
 abbrev pub bracketed : List ℕ → List ℕ → List ℕ

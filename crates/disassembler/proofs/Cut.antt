@@ -1,7 +1,7 @@
 -- Texts put together and cut again: what is cut at a byte that the parts have not gives the parts back.
-use Rattle.std.proofs.Common.{◌≡◌, ℕ, zero, suc, ◌+◌, ◌-◌, ◌<◌, ◌≤◌, Bool, true, false, not, ◌&&◌, ◌||◌, cond, List, [], ◌∷◌, ◌++◌, map, refl, sym, ap, ◌∙◌, append_assoc, arith, length, take, drop, get_or, length-append}
-use Rattle.std.specs.Prelude.{◌==◌, nat_lt, nat_le, codes, slice_index}
-use Rattle.std.specs.List.{prefix_len, suffix_len, before_first, after_first, slice_split, onto_first}
+use Rattle.std.proofs.Common.{◌≡◌, ℕ, zero, suc, ◌+◌, ◌-◌, ◌<◌, Bool, true, false, not, ◌&&◌, cond, List, [], ◌∷◌, ◌++◌, map, refl, ap, ◌∙◌, arith, length, take, drop, get_or, length-append}
+use Rattle.std.specs.Prelude.{◌==◌, nat_lt}
+use Rattle.std.specs.List.{prefix_len, before_first, after_first, slice_split}
 use Rattle.std.proofs.lemmas.Bool.Decides.{nat_tests}
 use Rattle.std.proofs.lemmas.List.Sums.{suffix_len_is}
 use Rattle.std.proofs.lemmas.List.{get_or-append_right}

@@ -1,24 +1,15 @@
 -- The fields of an instruction by its row's format, and its operands by its row's slots.
-use Rattle.std.proofs.Common.{◌≡◌, ℕ, zero, suc, ◌+◌, ◌-◌, ◌*◌, ◌%◌, ◌^◌, ◌<◌, ◌≤◌, ◌⊎◌, inl, inr, Bool, true, false, not, ◌&&◌, ◌||◌, cond, List, [], ◌∷◌, ◌++◌, map, Option, Some, None, refl, sym, ap, subst, ◌∙◌, arith, length, length-append}
-use Rattle.std.specs.Prelude.{Result, Ok, Err, ◌==◌, nat_lt, nat_le, nat_eq}
+use Rattle.std.proofs.Common.{◌≡◌, ℕ, ◌^◌, ◌<◌, inl, inr, Bool, true, false, ◌&&◌, List, [], ◌∷◌, map, None, refl, sym, ap, subst, ◌∙◌, arith}
+use Rattle.std.specs.Prelude.{◌==◌}
 use Rattle.std.proofs.lemmas.Bool.Decides.{nat_tests}
 use Rattle.isa_rows.specs.declared.formats.Format.{Format}
 use Rattle.isa_rows.specs.declared.formats.Format.TheVariants.{Upper as FUpper, Jump as FJump, Immediate as FImmediate, Unsigned as FUnsigned, Store as FStore, Branch as FBranch, Shift6 as FShift6, Shift5 as FShift5, Register as FRegister, Whole as FWhole, Unary as FUnary, Pair as FPair}
 use Rattle.isa_rows.specs.declared.operands.Insn.{Insn}
-use Rattle.isa_rows.specs.declared.rows.Row.{Row}
-use Rattle.isa_rows.specs.declared.rows.Row.TheVariants.{Lui}
-use Rattle.isa_rows.specs.Line.{line_of}
-use Rattle.isa_rows.specs.Insn.{insn}
 use Rattle.isa_rows.specs.Operands.{IsSignedOf, IsUpperImmediate, OperandsFit}
-use Rattle.asm_names.specs.declared.slots.Naming.{Naming}
 use Rattle.asm_names.specs.declared.slots.Slot.{Slot}
 use Rattle.asm_names.specs.declared.slots.Slot.TheVariants.{Rd, Rs1, Rs2, Signed, Unsigned, Upper, Small, Csr, Special, Address, Authority, Target}
-use Rattle.asm_names.specs.Slots.{slots_of}
-use Rattle.asm_lines.specs.declared.fault.LineFault.{LineFault}
-use Rattle.asm_lines.specs.Number.{Expression}
-use Rattle.asm_lines.specs.Operand.{Draft, filled_slot, fault_of, told_fault, draft_after, filled_draft, filled_fault}
+use Rattle.asm_lines.specs.Operand.{Draft, fault_of, told_fault, draft_after, filled_draft, filled_fault}
 use Rattle.disassembler.specs.Shown.{shown_slot}
-use Rattle.disassembler.specs.ReadBack.{is_target, has_target, distance_to}
 use Rattle.disassembler.proofs.SlotBack.{SlotFits, with_slot, slot_back}
 
 -- the fields that a format has not

@@ -1,5 +1,5 @@
 -- Filling all the slots of a row gives the instruction, whose other fields are 0.
-use Rattle.std.proofs.Common.{◌≡◌, ℕ, zero, suc, ◌+◌, ◌-◌, ◌*◌, ◌^◌, ◌<◌, ◌≤◌, Bool, true, false, not, ◌&&◌, ◌||◌, cond, List, [], ◌∷◌, Option, Some, None, refl, sym, ap, ◌∙◌, arith, length}
+use Rattle.std.proofs.Common.{◌≡◌, ℕ, ◌≤◌, Bool, true, false, not, ◌&&◌, ◌||◌, cond, List, [], ◌∷◌, Option, Some, None, refl, sym, ap, ◌∙◌, arith, length}
 use Rattle.std.specs.Prelude.{nat_le}
 use Rattle.std.proofs.lemmas.Bool.Decides.{nat_tests}
 use Rattle.isa_rows.specs.declared.formats.Format.{Format}
@@ -9,16 +9,15 @@ use Rattle.isa_rows.specs.declared.rows.Row.TheVariants.{Lui}
 use Rattle.isa_rows.specs.Line.{line_of}
 use Rattle.isa_rows.specs.Insn.{insn}
 use Rattle.isa_rows.specs.Operands.{OperandsFit}
-use Rattle.asm_names.specs.declared.slots.Naming.{Naming}
 use Rattle.asm_names.specs.declared.slots.Slot.{Slot}
 use Rattle.asm_names.specs.declared.slots.Slot.TheVariants.{Rd, Rs1, Rs2, Signed, Unsigned, Upper, Small, Csr, Special, Address, Authority, Target}
 use Rattle.asm_names.specs.Slots.{slots_of}
 use Rattle.asm_lines.specs.Number.{Expression}
 use Rattle.asm_lines.specs.Operand.{Draft}
 use Rattle.asm_lines.specs.Statement.{Statement, row}
-use Rattle.disassembler.specs.ReadBack.{is_target, has_target, distance_to, statement_of}
+use Rattle.disassembler.specs.ReadBack.{is_target, has_target, distance_to}
 use Rattle.disassembler.proofs.SlotBack.{with_slot}
-use Rattle.disassembler.proofs.Fields.{lacks_rd, lacks_rs1, lacks_rs2, lacks_imm, NoneIf, Fields, fields_of, slots_suit, with_slots}
+use Rattle.disassembler.proofs.Fields.{lacks_rd, lacks_rs1, lacks_rs2, lacks_imm, NoneIf, fields_of, slots_suit, with_slots}
 
 -- the fields that a slot fills
 abbrev fills_rd : Slot → Bool

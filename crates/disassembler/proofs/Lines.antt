@@ -1,9 +1,9 @@
 -- A line of a mnemonic and operands says what they say.
-use Rattle.std.proofs.Common.{◌≡◌, ℕ, zero, suc, ◌+◌, ◌-◌, ◌<◌, ◌≤◌, ◌⊎◌, inl, inr, Bool, true, false, not, ◌&&◌, ◌||◌, cond, List, [], ◌∷◌, ◌++◌, Option, Some, None, refl, sym, ap, ◌∙◌, append_assoc, arith, length, take, drop, get_or, length-append}
-use Rattle.std.specs.Prelude.{◌==◌, nat_lt, nat_le, codes, slice_index}
-use Rattle.std.specs.List.{prefix_len, before_first, after_first}
+use Rattle.std.proofs.Common.{◌≡◌, ℕ, ◌-◌, ◌<◌, ◌≤◌, inl, inr, Bool, true, false, not, ◌&&◌, cond, List, [], ◌∷◌, ◌++◌, Some, None, refl, ap, ◌∙◌, arith, length, take, length-append}
+use Rattle.std.specs.Prelude.{◌==◌, nat_lt, nat_le, slice_index}
+use Rattle.std.specs.List.{prefix_len, after_first}
 use Rattle.std.proofs.lemmas.Bool.Decides.{nat_tests}
-use Rattle.asm_lines.specs.Text.{is_blank, is_foreign, trimmed, trimmed_start, trimmed_end, uncommented, has_label, label_of, statement_text, name_length, mnemonic_of, operands_of}
+use Rattle.asm_lines.specs.Text.{is_blank, is_foreign, trimmed, trimmed_start, trimmed_end, uncommented, has_label, name_length, mnemonic_of, operands_of}
 use Rattle.asm_lines.specs.Statement.{said_by}
 use Rattle.asm_lines.specs.Line.{labelled, line_said, line_of_text, line_meaning}
 use Rattle.disassembler.proofs.Cut.{every, every-append, every_weaker, every_at, prefix_every, before_stop, after_stop, before_none, after_none, last, last-append, trimmed_end_back, trimmed_start_back, is_plain, plain_blank, IsPlain, ArePlain, joined, joined_last}

@@ -1,6 +1,6 @@
 -- Registers that are shown are read as themselves.
-use Rattle.std.proofs.Common.{◌≡◌, ℕ, zero, suc, ◌+◌, ◌-◌, ◌^◌, ◌<◌, ◌≤◌, ◌⊎◌, inl, inr, Bool, true, false, ◌&&◌, List, [], ◌∷◌, Option, Some, None, refl, sym, ap, subst, ◌∙◌, arith, length}
-use Rattle.std.specs.Prelude.{ℤ, pos, Result, Ok, Err, ◌==◌, nat_lt, nat_le, is_none, slice_get, decimal}
+use Rattle.std.proofs.Common.{◌≡◌, ℕ, zero, suc, ◌<◌, ◌≤◌, inl, inr, Bool, true, false, ◌&&◌, List, [], ◌∷◌, Option, Some, None, refl, sym, ap, subst, ◌∙◌, arith, length}
+use Rattle.std.specs.Prelude.{pos, Ok, nat_lt, is_none, slice_get, decimal}
 use Rattle.std.specs.Fmt.{digits}
 use Rattle.std.proofs.lemmas.Bool.Decides.{nat_tests}
 use Rattle.std.proofs.Math.Nat.{eq-or-lt_of_le}
@@ -8,9 +8,8 @@ use Rattle.asm_names.specs.declared.slots.Naming.{Naming}
 use Rattle.asm_names.specs.Registers.{register_name, register_named, integer_names, capability_names}
 use Rattle.asm_names.specs.SpecialNames.{csr_names, scr_names, name_in, csr_name, csr_named, scr_name, scr_named}
 use Rattle.asm_names.specs.NameLaws.{register_named-register_name, csr_named-csr_name, scr_named-scr_name}
-use Rattle.asm_lines.specs.declared.fault.LineFault.{LineFault}
 use Rattle.asm_lines.specs.Number.{number_of}
-use Rattle.asm_lines.specs.Operand.{ranged, up_to, named_or}
+use Rattle.asm_lines.specs.Operand.{up_to, named_or}
 use Rattle.disassembler.specs.Hex.{short_hex}
 use Rattle.disassembler.specs.Shown.{is_capability, name_or, shown_register}
 use Rattle.disassembler.proofs.Cut.{every, is_plain, IsPlain}

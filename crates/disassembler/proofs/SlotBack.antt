@@ -1,6 +1,6 @@
 -- An operand that is shown, read, fills its slot with what the instruction has there.
-use Rattle.std.proofs.Common.{◌≡◌, ℕ, zero, suc, ◌+◌, ◌-◌, ◌*◌, ◌/◌, ◌%◌, ◌^◌, ◌<◌, ◌≤◌, ◌⊎◌, inl, inr, Bool, true, false, not, ◌&&◌, cond, List, [], ◌∷◌, ◌++◌, Option, Some, None, refl, sym, ap, subst, ◌∙◌, append_assoc, arith, length, length-append}
-use Rattle.std.specs.Prelude.{ℤ, pos, negsuc, neg_ℤ, Result, Ok, Err, ◌==◌, nat_lt, decimal, codes}
+use Rattle.std.proofs.Common.{◌≡◌, ℕ, suc, ◌-◌, ◌*◌, ◌/◌, ◌%◌, ◌^◌, ◌<◌, ◌≤◌, inl, inr, Bool, true, false, cond, List, [], ◌∷◌, ◌++◌, Some, refl, sym, ap, subst, ◌∙◌, append_assoc, arith, length, length-append}
+use Rattle.std.specs.Prelude.{pos, negsuc, neg_ℤ, Ok, nat_lt, decimal, codes}
 use Rattle.std.specs.Int.{w64, cast_signed}
 use Rattle.std.proofs.lemmas.Bool.Decides.{nat_tests}
 use Rattle.isa_rows.specs.declared.operands.Insn.{Insn}
@@ -9,12 +9,9 @@ use Rattle.isa_rows.specs.Operands.{IsSignedOf, IsUpperImmediate}
 use Rattle.asm_names.specs.declared.slots.Naming.{Naming}
 use Rattle.asm_names.specs.declared.slots.Slot.{Slot}
 use Rattle.asm_names.specs.declared.slots.Slot.TheVariants.{Rd, Rs1, Rs2, Signed, Unsigned, Upper, Small, Csr, Special, Address, Authority, Target}
-use Rattle.asm_names.specs.Registers.{register_named}
-use Rattle.asm_lines.specs.declared.fault.LineFault.{LineFault}
 use Rattle.asm_lines.specs.Text.{here_name}
-use Rattle.asm_lines.specs.Number.{Expression, expression, number_of, expression_of, named_plus, named_minus}
-use Rattle.asm_lines.specs.Operand.{Draft, wrapped, ranged, up_to, signed_12, with_rd, with_rs1, with_rs2, with_imm, with_upper, with_small, with_special, with_target, with_address, named_or, filled_slot}
-use Rattle.disassembler.specs.Hex.{short_hex}
+use Rattle.asm_lines.specs.Number.{expression, number_of, expression_of, named_plus, named_minus}
+use Rattle.asm_lines.specs.Operand.{Draft, wrapped, up_to, signed_12, with_rd, with_rs1, with_rs2, with_imm, with_upper, with_small, with_special, with_target, with_address, filled_slot}
 use Rattle.disassembler.specs.Shown.{shown_register, shown_signed, shown_target, shown_slot}
 use Rattle.disassembler.specs.ReadBack.{distance_to}
 use Rattle.disassembler.proofs.Cut.{every, every-append, is_plain, IsPlain}

@@ -1,8 +1,8 @@
 -- The text of a word, read as a line, says the word again.
-use Rattle.std.proofs.Common.{◌≡◌, ℕ, zero, suc, ◌+◌, ◌-◌, ◌*◌, ◌^◌, ◌<◌, ◌≤◌, Bool, true, false, not, ◌&&◌, ◌||◌, cond, List, [], ◌∷◌, ◌++◌, map, Option, Some, None, refl, sym, ap, subst, ◌∙◌, append_assoc, arith, length, length-append}
-use Rattle.std.specs.Prelude.{pos, Result, Ok, Err, ◌==◌, nat_lt, nat_le, IfSome, codes}
+use Rattle.std.proofs.Common.{◌≡◌, ℕ, ◌*◌, ◌^◌, ◌<◌, ◌≤◌, Bool, true, false, ◌&&◌, cond, List, [], ◌∷◌, ◌++◌, map, Some, None, refl, sym, ap, subst, ◌∙◌, arith, length, length-append}
+use Rattle.std.specs.Prelude.{pos, Ok, ◌==◌, nat_lt, IfSome, codes}
 use Rattle.std.specs.Int.{w64, cast_signed}
-use Rattle.std.specs.List.{join_by, flat_map}
+use Rattle.std.specs.List.{flat_map}
 use Rattle.std.proofs.lemmas.Bool.Decides.{nat_tests}
 use Rattle.isa_rows.specs.declared.operands.Insn.{Insn}
 use Rattle.isa_rows.specs.declared.rows.Row.{Row}
@@ -17,23 +17,22 @@ use Rattle.isa_rows.specs.Operands.{OperandsFit}
 use Rattle.asm_names.specs.declared.slots.Slot.{Slot}
 use Rattle.asm_names.specs.Mnemonic.{capability_name_of, mnemonic}
 use Rattle.asm_names.specs.Slots.{slots_of}
-use Rattle.asm_lines.specs.declared.fault.LineFault.{LineFault}
 use Rattle.asm_lines.specs.declared.fault.LineFault.TheVariants.{A3}
 use Rattle.asm_lines.specs.Text.{pieces_of}
 use Rattle.asm_lines.specs.Number.{expression, expression_of, number_of, numbered}
-use Rattle.asm_lines.specs.Operand.{Draft, filled_draft, filled_fault, told_fault, wrapped}
-use Rattle.asm_lines.specs.Statement.{Statement, row, values, Said, said, said_unless, Pattern, plain, pattern_of, pattern_said, row_said, values_fault, value_fault, plain_value_fault, known_value_fault, is_in_size, draft_of, said_by}
-use Rattle.asm_lines.specs.Line.{Line, labelled, line_meaning}
+use Rattle.asm_lines.specs.Operand.{filled_draft, filled_fault, told_fault, wrapped}
+use Rattle.asm_lines.specs.Statement.{values, said, said_unless, plain, pattern_of, pattern_said, row_said, values_fault, value_fault, is_in_size, said_by}
+use Rattle.asm_lines.specs.Line.{labelled, line_meaning}
 use Rattle.disassembler.specs.Hex.{hex_of}
 use Rattle.disassembler.specs.Shown.{shown_slot, shown_operands, shown_insn, shown_found, shown_word}
-use Rattle.disassembler.specs.ReadBack.{has_target, statement_of, statement_of_word, word_text, sound_line, ReadsBack}
+use Rattle.disassembler.specs.ReadBack.{statement_of, statement_of_word, word_text, sound_line, ReadsBack}
 use Rattle.disassembler.proofs.Cut.{every, is_plain, IsPlain, ArePlain, joined, append_nil, pieces_back}
 use Rattle.disassembler.proofs.Lines.{word_line, operands_line}
 use Rattle.disassembler.proofs.Lengths.{mnemonic_short}
 use Rattle.disassembler.proofs.Numbers.{number_word, plain_word, length_word, wrapped_signed}
-use Rattle.disassembler.proofs.SlotBack.{SlotFits, slot_plain, slot_short}
+use Rattle.disassembler.proofs.SlotBack.{slot_plain, slot_short}
 use Rattle.disassembler.proofs.Fields.{fields_of, slots_fit, SlotsFit, with_slots, drafts_back, faults_back}
-use Rattle.disassembler.proofs.Filled.{nought, statement_of_draft, stated, statement_back, RowSuits, row_suits_all}
+use Rattle.disassembler.proofs.Filled.{nought, statement_of_draft, statement_back, row_suits_all}
 
 -- a row's name is a word, no directive, and no alias but for one that is told from the row by its operands
 mnemonic_is_plain : (mode : Bool) (r : Row) → (nat_lt 0 (length (mnemonic mode r)) && every is_plain (mnemonic mode r)) ≡ true

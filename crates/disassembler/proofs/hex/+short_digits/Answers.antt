@@ -1,4 +1,4 @@
-use Rattle.std.proofs.Common.{◌≡◌, List, ℕ, ◌++◌, ◌%◌, [], ◌∷◌, ap, sym, ◌∙◌, arith}
+use Rattle.std.proofs.Common.{◌≡◌, ◌++◌, ◌%◌, [], ◌∷◌, ap, sym, ◌∙◌, arith}
 use Rattle.disassembler.proofs.HexSteps.{hex_step, length_hex_16}
 use Rattle.std.specs.Prelude.{length, false}
 use Rattle.std.specs.Fmt.{digit_glyph, digits}
