@@ -1,0 +1,114 @@
+-- The commands of a session, as they are written.
+use Rattle.std.specs.Prelude.{◌≡◌, ℕ, ◌-◌, ◌%◌, ◌^◌, Bool, true, false, not, ◌&&◌, ◌||◌, ◌==◌, nat_lt, nat_le, nat_eq, if◌then◌else◌, ℤ, pos, List, [], ◌∷◌, length, filter, Option, Some, None, Result, Ok, Err, codes}
+use Rattle.std.specs.List.{slice_split, prefix_len}
+use Rattle.std.specs.Cmp.Lexicographic.{pointwise}
+use Rattle.asm_names.specs.Registers.{register_named}
+use Rattle.asm_lines.specs.declared.fault.LineFault.{LineFault}
+use Rattle.asm_lines.specs.Text.{is_blank}
+use Rattle.asm_lines.specs.Number.{number_of}
+use Rattle.asm_lines.specs.Operand.{ranged, wrapped}
+use Rattle.debugger.specs.declared.fault.DebugFault.{DebugFault}
+use Rattle.debugger.specs.declared.fault.DebugFault.TheVariants.{B1, B2, B3}
+
+pub data Command : Type 0 where
+  -- so many steps, so many ticks, one byte on the console's line
+  step : ℕ → Command
+  tick : ℕ → Command
+  byte : ℕ → Command
+  -- steps until PCC's address is this one, at most so many
+  until : ℕ → ℕ → Command
+  -- a register, all of them, the special capability registers, the control and status registers
+  reg : ℕ → Command
+  regs : Command
+  scr : Command
+  csr : Command
+  -- bytes from an address, and words as instructions
+  mem : ℕ → ℕ → Command
+  dis : ℕ → ℕ → Command
+  quit : Command
+
+-- the words of a line: what stands between spaces, tabs and carriage returns
+abbrev pub words_of : List ℕ → List (List ℕ)
+words_of line = filter (λ word. not (length word == 0)) (slice_split is_blank line)
+
+-- a number between two, both included, in the assembler's form
+abbrev pub number_between : ℕ → ℕ → List ℕ → Result ℤ LineFault
+number_between low high text = ranged (pos low) (pos high) (number_of text)
+
+abbrev pub address_in : List ℕ → Result ℤ LineFault
+address_in text = number_between 0 (2 ^ 64 - 1) text
+
+-- a command of a number, of an address and a number; of other operands there is none
+abbrev pub with_number : (ℕ → Command) → Result ℤ LineFault → Option Command
+with_number make (Ok n) = Some (make (wrapped n))
+with_number make (Err fault) = None
+
+abbrev pub with_numbers : (ℕ → ℕ → Command) → Result ℤ LineFault → Result ℤ LineFault → Option Command
+with_numbers make (Ok a) (Ok n) = Some (make (wrapped a) (wrapped n))
+with_numbers make (Ok a) (Err fault) = None
+with_numbers make (Err fault) n = None
+
+abbrev pub one_number : (ℕ → Command) → ℕ → ℕ → List (List ℕ) → Option Command
+one_number make low high [] = None
+one_number make low high (n ∷ []) = with_number make (number_between low high n)
+one_number make low high (n ∷ m ∷ rest) = None
+
+abbrev pub address_and_number : (ℕ → ℕ → Command) → ℕ → List (List ℕ) → Option Command
+address_and_number make high [] = None
+address_and_number make high (a ∷ []) = None
+address_and_number make high (a ∷ n ∷ []) = with_numbers make (address_in a) (number_between 1 high n)
+address_and_number make high (a ∷ n ∷ m ∷ rest) = None
+
+abbrev pub of_register : Option ℕ → Option Command
+of_register None = None
+of_register (Some n) = Some (reg n)
+
+abbrev pub one_register : List (List ℕ) → Option Command
+one_register [] = None
+one_register (r ∷ []) = of_register (register_named r)
+one_register (r ∷ s ∷ rest) = None
+
+abbrev pub nothing_more : Command → List (List ℕ) → Option Command
+nothing_more command [] = Some command
+nothing_more command (w ∷ rest) = None
+
+-- words are disassembled from a multiple of 4 on
+abbrev pub at_a_word : Option Command → Option Command
+at_a_word None = None
+at_a_word (Some (dis address n)) = if address % 4 == 0 then Some (dis address n) else None
+at_a_word (Some other) = Some other
+
+abbrev pub is_word : List ℕ → List ℕ → Bool
+is_word word name = pointwise nat_eq word name
+
+-- The command that words write: none where the first is no command's name (B1), and none where the operands are others (B2).
+abbrev pub operands_or_B2 : Option Command → Result Command DebugFault
+operands_or_B2 (Some command) = Ok command
+operands_or_B2 None = Err B2
+
+unfoldable pub command_named : List ℕ → List (List ℕ) → Result Command DebugFault
+command_named name operands =
+    if is_word name (codes "step") then operands_or_B2 (one_number step 1 1000000 operands)
+    else (if is_word name (codes "tick") then operands_or_B2 (one_number tick 1 1000000 operands)
+    else (if is_word name (codes "byte") then operands_or_B2 (one_number byte 0 255 operands)
+    else (if is_word name (codes "until") then operands_or_B2 (address_and_number until 1000000 operands)
+    else (if is_word name (codes "reg") then operands_or_B2 (one_register operands)
+    else (if is_word name (codes "regs") then operands_or_B2 (nothing_more regs operands)
+    else (if is_word name (codes "scr") then operands_or_B2 (nothing_more scr operands)
+    else (if is_word name (codes "csr") then operands_or_B2 (nothing_more csr operands)
+    else (if is_word name (codes "mem") then operands_or_B2 (address_and_number mem 4096 operands)
+    else (if is_word name (codes "dis") then operands_or_B2 (at_a_word (address_and_number dis 1024 operands))
+    else (if is_word name (codes "quit") then operands_or_B2 (nothing_more quit operands)
+    else Err B1))))))))))
+
+abbrev pub command_of_words : List (List ℕ) → Result Command DebugFault
+command_of_words [] = Err B1
+command_of_words (name ∷ operands) = command_named name operands
+
+-- a line that is too long, or has a byte that is not ASCII
+abbrev pub is_unreadable : List ℕ → Bool
+is_unreadable line = nat_lt 255 (length line) || nat_lt (prefix_len (λ b. nat_lt b 128) line) (length line)
+
+-- the command that a line writes
+unfoldable pub command_of : List ℕ → Result Command DebugFault
+command_of line = if is_unreadable line then Err B2 else command_of_words (words_of line)

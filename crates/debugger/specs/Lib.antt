@@ -1,0 +1,4 @@
+pub mod Capability
+pub mod Command
+pub mod Reply
+pub mod Conversation

@@ -1,0 +1,144 @@
+-- The replies of a session, and the state after a command, as functions of the state and the command.
+use Rattle.std.specs.Prelude.{ℕ, zero, suc, ◌+◌, ◌-◌, ◌*◌, ◌/◌, ◌^◌, Bool, true, false, not, ◌&&◌, ◌||◌, ◌==◌, nat_lt, nat_le, if◌then◌else◌, List, [], ◌∷◌, ◌++◌, length, map, take, drop, replicate, Option, Some, None, is_some, option_map, Result, Ok, Err, codes, decimal}
+use Rattle.std.specs.List.{flat_map}
+use Rattle.byteorder.specs.Endian.{little_number}
+use Rattle.cap_bounds.specs.CapValue.{CapValue, value_flag, integer}
+use Rattle.tagged_memory.specs.Memory.{Memory, is_in_ram, bytes_at, number_at}
+use Rattle.special_regs.specs.Scrs.{scr_values}
+use Rattle.special_regs.specs.CsrValues.{csr_values}
+use Rattle.devices.specs.Devices.{interrupts_of}
+use Rattle.hart.specs.declared.event.Event.{Event}
+use Rattle.hart.specs.declared.event.Event.TheVariants.{Step, Tick, Byte}
+use Rattle.hart.specs.State.{State, pc_of}
+use Rattle.hart.specs.Registers.{register}
+use Rattle.hart.specs.Event.{after}
+use Rattle.machine.specs.Run.{run_after, run_sent}
+use Rattle.asm_names.specs.Registers.{capability_names, register_name}
+use Rattle.asm_names.specs.SpecialNames.{csr_name, scr_name}
+use Rattle.debugger.specs.declared.fault.DebugFault.{DebugFault}
+use Rattle.debugger.specs.declared.fault.DebugFault.TheVariants.{B3}
+use Rattle.disassembler.specs.Hex.{hex_of}
+use Rattle.disassembler.specs.Shown.{name_or, shown_word}
+use Rattle.debugger.specs.Capability.{value_line}
+use Rattle.debugger.specs.Command.{Command, step, tick, byte, until, reg, regs, scr, csr, mem, dis, quit, command_of}
+
+-- ---- commands that give events
+
+-- the steps of `until`: given while PCC's address is another, the machine is not halted, and fewer than the most were
+abbrev pub steps_until : ℕ → ℕ → State → List Event
+steps_until address zero s = []
+steps_until address (suc n) s =
+    if (pc_of s == address) || is_some s.devices.halted then [] else (Step ∷ steps_until address n (after Step s))
+
+-- the events that a command gives; a command that only shows gives none
+unfoldable pub events_of : Command → State → List Event
+events_of (step n) s = replicate n Step
+events_of (tick n) s = replicate n Tick
+events_of (byte b) s = Byte b ∷ []
+events_of (until address n) s = steps_until address n s
+events_of (reg n) s = []
+events_of regs s = []
+events_of scr s = []
+events_of csr s = []
+events_of (mem address n) s = []
+events_of (dis address n) s = []
+events_of quit s = []
+
+-- the bytes that were sent, two digits each, or `-` for none
+abbrev pub shown_sent : List ℕ → List ℕ
+shown_sent [] = codes "-"
+shown_sent (b ∷ bs) = flat_map (hex_of 2) (b ∷ bs)
+
+abbrev pub shown_end : Option ℕ → List ℕ
+shown_end None = codes "running"
+shown_end (Some number) = codes "halted " ++ decimal number
+
+-- how many events there were, what was sent, and where the machine stands
+abbrev pub events_line : List Event → State → List ℕ
+events_line events s =
+    codes "events " ++ decimal (length events) ++ codes " out " ++ shown_sent (run_sent events s)
+    ++ codes " pc " ++ hex_of 16 (pc_of (run_after events s)) ++ codes " " ++ shown_end (run_after events s).devices.halted ++ codes "\n"
+
+-- ---- commands that show
+
+-- the registers from one on, under their names
+abbrev pub register_lines : State → ℕ → List (List ℕ) → List ℕ
+register_lines s n [] = []
+register_lines s n (name ∷ names) = value_line name (register s.registers n) ++ register_lines s (n + 1) names
+
+abbrev pub scr_lines : List (ℕ × CapValue) → List ℕ
+scr_lines values = flat_map (λ p. value_line (name_or [] (scr_name p.0)) p.1) values
+
+abbrev pub csr_lines : List (ℕ × ℕ) → List ℕ
+csr_lines values = flat_map (λ p. name_or [] (csr_name p.0) ++ codes " " ++ hex_of 16 p.1 ++ codes "\n") values
+
+-- lines of up to 16 bytes, the first from an address on
+abbrev pub byte_line : ℕ → List ℕ → List ℕ
+byte_line address bytes = hex_of 16 address ++ codes ":" ++ flat_map (λ b. codes " " ++ hex_of 2 b) bytes ++ codes "\n"
+
+-- so many lines at most
+abbrev pub byte_lines : ℕ → ℕ → List ℕ → List ℕ
+byte_lines zero address bytes = []
+byte_lines (suc n) address bytes =
+    if length bytes == 0 then [] else (byte_line address (take 16 bytes) ++ byte_lines n (address + 16) (drop 16 bytes))
+
+-- a word at an address in a mode
+abbrev pub word_line : Bool → ℕ → ℕ → List ℕ
+word_line mode address word = hex_of 16 address ++ codes " " ++ hex_of 8 word ++ codes " " ++ shown_word mode word ++ codes "\n"
+
+abbrev pub word_lines : Bool → Memory → ℕ → ℕ → List ℕ
+word_lines mode m zero address = []
+word_lines mode m (suc n) address = word_line mode address (number_at m address 4) ++ word_lines mode m n (address + 4)
+
+-- ---- replies
+
+-- some byte that a command shows is outside RAM
+abbrev pub is_outside : Command → State → Bool
+is_outside (step n) s = false
+is_outside (tick n) s = false
+is_outside (byte b) s = false
+is_outside (until address n) s = false
+is_outside (reg n) s = false
+is_outside regs s = false
+is_outside scr s = false
+is_outside csr s = false
+is_outside (mem address n) s = not (is_in_ram s.memory address n)
+is_outside (dis address n) s = not (is_in_ram s.memory address (4 * n))
+is_outside quit s = false
+
+-- what a session answers: a text of lines, or that it ends
+pub data Answer : Type 0 where
+  told : List ℕ → Answer
+  ended : Answer
+
+unfoldable pub answer_to : Command → State → Answer
+answer_to (step n) s = told (events_line (events_of (step n) s) s)
+answer_to (tick n) s = told (events_line (events_of (tick n) s) s)
+answer_to (byte b) s = told (events_line (events_of (byte b) s) s)
+answer_to (until address n) s = told (events_line (events_of (until address n) s) s)
+answer_to (reg n) s = told (value_line (name_or [] (register_name true n)) (register s.registers n))
+answer_to regs s = told (register_lines s 0 capability_names)
+answer_to scr s = told (scr_lines (scr_values s.scrs))
+answer_to csr s = told (csr_lines (csr_values s.csrs s.scrs (interrupts_of s.devices)))
+answer_to (mem address n) s = told (byte_lines n address (bytes_at s.memory address n))
+answer_to (dis address n) s = told (word_lines (value_flag s.scrs.pcc) s.memory n address)
+answer_to quit s = ended
+
+-- what a line is refused by in a state: what it writes, then addresses outside RAM
+abbrev pub refused_outside : Command → State → Result Command DebugFault
+refused_outside command s = if is_outside command s then Err B3 else Ok command
+
+abbrev pub allowed : Result Command DebugFault → State → Result Command DebugFault
+allowed (Ok command) s = refused_outside command s
+allowed (Err fault) s = Err fault
+
+abbrev pub command_in : List ℕ → State → Result Command DebugFault
+command_in line s = allowed (command_of line) s
+
+-- the state after a line; a refused line changes nothing
+abbrev pub state_by : Result Command DebugFault → State → State
+state_by (Ok command) s = run_after (events_of command s) s
+state_by (Err fault) s = s
+
+abbrev pub state_after : List ℕ → State → State
+state_after line s = state_by (command_in line s) s

@@ -1,0 +1,11 @@
+pub mod Lengths
+pub mod HexSteps
+pub mod Cut
+pub mod Lines
+pub mod Numbers
+pub mod NamesBack
+pub mod SlotBack
+pub mod Fields
+pub mod Filled
+pub mod TextBack
+pub mod Bracketed

@@ -1,0 +1,4 @@
+pub mod Hex
+pub mod Shown
+pub mod Widths
+pub mod ReadBack

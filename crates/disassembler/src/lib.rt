@@ -1,0 +1,13 @@
+//! The disassembler: the text of a word, as the assembler reads it.
+#![tactic(auto)]
+
+mod disassembling;
+mod hex;
+pub mod laws;
+mod operands;
+
+pub use disassembling::disassemble;
+pub use hex::hex_digits;
+
+#[cfg(test)]
+mod tests;
