@@ -3,3 +3,5 @@ pub mod Number
 pub mod Operand
 pub mod Statement
 pub mod Line
+pub mod SlotLaws
+pub mod FitLaws
