@@ -1,7 +1,9 @@
 pub mod Text
+pub mod Class
 pub mod Number
 pub mod Operand
 pub mod Statement
 pub mod Line
 pub mod SlotLaws
 pub mod FitLaws
+pub mod Seen

@@ -1,5 +1,5 @@
 -- What one line of a text says: a label, a statement, and the first fault that the line alone decides.
-use Rattle.std.specs.Prelude.{◌≡◌, ℕ, ◌&&◌, ◌||◌, ◌==◌, nat_lt, nat_le, if◌then◌else◌, List, [], ◌∷◌, length, not, Option, Some, None, option_map, codes}
+use Rattle.std.specs.Prelude.{◌≡◌, ℕ, ◌&&◌, ◌||◌, ◌==◌, nat_lt, nat_le, if◌then◌else◌, List, [], ◌∷◌, length, not, Option, Some, None, option_map, codes, Result, Ok, Err, ℤ, pos, neg_ℤ, ◌<ℤ◌, ◌^◌}
 use Rattle.std.specs.List.{prefix_len}
 use Rattle.isa_rows.specs.declared.formats.Format.{Format}
 use Rattle.isa_rows.specs.declared.formats.Format.TheVariants.{Upper, Jump, Immediate, Unsigned, Store, Branch, Shift6, Shift5, Register, Whole, Unary, Pair}
@@ -65,6 +65,14 @@ RowFits l = (i : Insn) (target : Option Expression) → l.statement ≡ Some (ro
 -- what the parser's answer, whose texts are lent, says
 abbrev pub seen_expression : Written → Expression
 seen_expression e = expression (option_map (λ name. name.now) e.name) e.offset
+
+abbrev pub seen_result : Result Written LineFault → Result Expression LineFault
+seen_result (Ok e) = Ok (seen_expression e)
+seen_result (Err fault) = Err fault
+
+-- how far an offset goes: a number in its limits, added or taken away
+abbrev pub IsOffset : ℤ → Type 0
+IsOffset n = (neg_ℤ (pos (2 ^ 64)) <ℤ n) × (n <ℤ pos (2 ^ 64))
 
 abbrev pub seen_statement : Read → Statement
 seen_statement (Row i target) = row i (option_map seen_expression target)

@@ -65,8 +65,8 @@ named_expression text =
     if not (is_name (trimmed_end (take (sign_place text) text))) then Err A2
     else (if sign_place text == length text then Ok (expression (Some text) (pos 0))
     else (if slice_index text (sign_place text) == 43
-      then named_plus (trimmed_end (take (sign_place text) text)) (number_of (trimmed_start (drop (sign_place text + 1) text)))
-      else named_minus (trimmed_end (take (sign_place text) text)) (number_of (trimmed_start (drop (sign_place text + 1) text)))))
+    then named_plus (trimmed_end (take (sign_place text) text)) (number_of (trimmed_start (drop (sign_place text + 1) text)))
+    else named_minus (trimmed_end (take (sign_place text) text)) (number_of (trimmed_start (drop (sign_place text + 1) text)))))
 
 -- an expression, without white space around it
 unfoldable pub expression_of : List ℕ → Result Expression LineFault

@@ -96,6 +96,15 @@ with_address d (Some n) (Ok imm) = Ok (record d { insn = record d.insn { rs1 = n
 with_address d (Some n) (Err fault) = Err fault
 with_address d None r = Err A2
 
+-- `imm(rs1)` and `(rs1)`
+abbrev pub filled_address : List ℕ → Draft → Result Draft LineFault
+filled_address text d =
+    if has_brackets text then with_address d (register_named (in_brackets text)) (signed_12 (displacement (before_bracket text))) else Err A2
+
+abbrev pub filled_authority : List ℕ → Draft → Result Draft LineFault
+filled_authority text d =
+    if has_brackets text && (length (before_bracket text) == 0) then with_rs1 d (register_named (in_brackets text)) else Err A2
+
 -- the draft with one operand more, or what is wrong with the operand
 unfoldable pub filled_slot : Slot → List ℕ → Draft → Result Draft LineFault
 filled_slot (Rd naming) text d = with_rd d (register_named text)
@@ -107,10 +116,8 @@ filled_slot Upper text d = with_upper d (up_to 0xFFFFF (number_of text))
 filled_slot Small text d = with_small d (up_to 31 (number_of text))
 filled_slot Csr text d = with_imm d (named_or (csr_named text) (up_to 4095 (number_of text)))
 filled_slot Special text d = with_special d (named_or (scr_named text) (up_to 31 (number_of text)))
-filled_slot (Address naming) text d =
-    if has_brackets text then with_address d (register_named (in_brackets text)) (signed_12 (displacement (before_bracket text))) else Err A2
-filled_slot (Authority naming) text d =
-    if has_brackets text && (length (before_bracket text) == 0) then with_rs1 d (register_named (in_brackets text)) else Err A2
+filled_slot (Address naming) text d = filled_address text d
+filled_slot (Authority naming) text d = filled_authority text d
 filled_slot (Target bits) text d = with_target d (expression_of text)
 
 -- of two faults of operands A2 is told before A3, else the first

@@ -1,6 +1,8 @@
 -- How a line is cut: white space, comments, the label, the mnemonic, operands between commas.
 use Rattle.std.specs.Prelude.{ℕ, ◌-◌, Bool, true, false, not, ◌&&◌, ◌||◌, ◌==◌, nat_lt, nat_le, if◌then◌else◌, List, [], ◌∷◌, map, length, take, drop, slice_index, Option, Some, None}
 use Rattle.std.specs.List.{prefix_len, suffix_len, before_first, after_first, slice_split}
+use Rattle.asm_lines.specs.declared.text.Quoting.{Quoting}
+use Rattle.asm_lines.specs.declared.text.Quoting.TheVariants.{Outside, Inside, Escaped}
 
 -- space, tab and carriage return
 abbrev pub is_blank : ℕ → Bool
@@ -20,22 +22,17 @@ trimmed text = trimmed_end (trimmed_start text)
 abbrev pub is_foreign : ℕ → Bool
 is_foreign b = nat_le 127 b || (nat_lt b 32 && not ((b == 9) || ((b == 10) || (b == 13))))
 
--- where a reader stands: outside quotes, inside, or inside and behind a backslash
-pub data Quoting : Type 0 where
-  outside : Quoting
-  inside : Quoting
-  escaped : Quoting
-
+-- where a reader stands after a byte
 abbrev pub quoting_after : ℕ → Quoting → Quoting
-quoting_after b outside = if b == 34 then inside else outside
-quoting_after b inside = if b == 34 then outside else (if b == 92 then escaped else inside)
-quoting_after b escaped = inside
+quoting_after b Outside = if b == 34 then Inside else Outside
+quoting_after b Inside = if b == 34 then Outside else (if b == 92 then Escaped else Inside)
+quoting_after b Escaped = Inside
 
 -- whether a comment begins: a '#' outside quotes
 abbrev pub begins_comment : ℕ → Quoting → Bool
-begins_comment b outside = b == 35
-begins_comment b inside = false
-begins_comment b escaped = false
+begins_comment b Outside = b == 35
+begins_comment b Inside = false
+begins_comment b Escaped = false
 
 -- a line up to its comment
 abbrev pub uncommented_from : Quoting → List ℕ → List ℕ
@@ -43,7 +40,7 @@ uncommented_from quoting [] = []
 uncommented_from quoting (b ∷ bs) = if begins_comment b quoting then [] else (b ∷ uncommented_from (quoting_after b quoting) bs)
 
 abbrev pub uncommented : List ℕ → List ℕ
-uncommented line = uncommented_from outside line
+uncommented line = uncommented_from Outside line
 
 -- letters, digits, and what a name begins with and goes on with
 abbrev pub is_digit : ℕ → Bool
@@ -75,7 +72,7 @@ is_dot text = (length text == 1) && (slice_index text 0 == 46)
 unfoldable pub has_label : List ℕ → Bool
 has_label text =
     is_name (take (name_length text) text) && (not (is_dot (take (name_length text) text))
-      && (nat_lt (name_length text) (length text) && (slice_index text (name_length text) == 58)))
+    && (nat_lt (name_length text) (length text) && (slice_index text (name_length text) == 58)))
 
 abbrev pub label_of : List ℕ → Option (List ℕ)
 label_of text = if has_label text then Some (take (name_length text) text) else None
@@ -91,7 +88,16 @@ mnemonic_of text = before_first is_blank text
 abbrev pub operands_of : List ℕ → List ℕ
 operands_of text = trimmed_start (after_first is_blank text)
 
--- the operands between commas, each without white space around it; no text is no operand
+-- what stands between commas, each without white space around it
+abbrev pub pieces_between : List ℕ → List (List ℕ)
+pieces_between text = map trimmed (slice_split (λ c. c == 44) text)
+
+-- the operands; no text is no operand
 abbrev pub pieces_of : List ℕ → List (List ℕ)
 pieces_of [] = []
-pieces_of (b ∷ bs) = map trimmed (slice_split (λ c. c == 44) (b ∷ bs))
+pieces_of (b ∷ bs) = pieces_between (b ∷ bs)
+
+-- the operands of what follows a comma, if one does
+abbrev pub pieces_left : Option (List ℕ) → List (List ℕ)
+pieces_left (Some rest) = pieces_between rest
+pieces_left None = []

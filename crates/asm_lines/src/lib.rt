@@ -2,7 +2,13 @@
 #![tactic(auto)]
 
 mod fault;
+mod filling;
+mod number;
+mod operand;
 mod parsed;
+mod text;
 
 pub use fault::LineFault;
+pub use number::expression;
 pub use parsed::{Expression, Parsed, Statement};
+pub use text::split_piece;

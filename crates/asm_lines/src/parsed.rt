@@ -16,7 +16,11 @@ pub enum Statement<'a> {
     /// One instruction, and the address that it jumps to where it is written with one (its immediate is 0 until that is known).
     Row(Insn, Option<Expression<'a>>),
     /// `la` or, where `capability` says so, `cla`: the two instructions that put a value into a register.
-    Load { capability: bool, rd: u8, value: Expression<'a> },
+    Load {
+        capability: bool,
+        rd: u8,
+        value: Expression<'a>,
+    },
     /// `.pages`: RAM's size in pages.
     Pages(u32),
     /// `.mode`: whether the first instruction is done in capability mode.
@@ -30,7 +34,10 @@ pub enum Statement<'a> {
     /// `.zero`: so many zeros.
     Zero(u64),
     /// `.byte`, `.half`, `.word`, `.dword`: the number of bytes of each value, and the expressions with commas between.
-    Values { size: u8, operands: &'a [u8] },
+    Values {
+        size: u8,
+        operands: &'a [u8],
+    },
     /// `.ascii`: what stands between the quotes, with its escapes.
     Text(&'a [u8]),
 }

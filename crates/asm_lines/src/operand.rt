@@ -1,0 +1,196 @@
+//! Operands as they are written, slot by slot, and what they make of an instruction.
+ghost use Rattle.std.specs.Prelude.{◌≡◌, Ok, ◌≤◌, ◌<◌, ◌^◌, ◌-◌, ◌*◌, IfOk, length};
+ghost use Rattle.isa_rows.specs.Insn.{sign_extended};
+ghost use Rattle.asm_names.specs.Registers.{register_named};
+ghost use Rattle.asm_names.specs.SpecialNames.{csr_named, scr_named};
+ghost use Rattle.asm_lines.specs.Number.{number_of};
+ghost use Rattle.asm_lines.specs.Operand.{up_to, signed_12, named_or, has_brackets, before_bracket, in_brackets, displacement, filled_address, filled_authority, filled_slot};
+ghost use Rattle.asm_lines.specs.Seen.{seen_draft, seen_filled, or_A2, wrapped_or};
+
+use crate::fault::LineFault;
+use crate::number::{expression, number};
+use crate::parsed::Expression;
+use crate::text::{after, before, trimmed, Class};
+use asm_names::{csr_named, register_named, scr_named, Slot};
+use isa_rows::Insn;
+
+/// An instruction that is being written, and its target if it has one.
+#[derive(Clone, Copy)]
+pub(crate) struct Draft<'a> {
+    pub(crate) insn: Insn,
+    pub(crate) target: Option<Expression<'a>>,
+}
+
+/// The register that a text names, or A2.
+pub(crate) fn register(text: &[u8]) -> Result<u8, LineFault>
+    ensures value { result ≡ or_A2 (register_named text.now) }
+    ensures below { IfOk result (λ n. n < 32) }
+{
+    register_named(text).ok_or(LineFault::A2)
+}
+
+/// A number, if it is 0 to `most`.
+fn at_most(number: i128, most: u64) -> Result<u64, LineFault>
+    ensures value { result ≡ wrapped_or (up_to most (Ok number)) }
+    ensures bound { IfOk result (λ n. n ≤ most) }
+{
+    if number < 0 || number > i128::from(most) {
+        return Err(LineFault::A3);
+    }
+    Ok(number as u64)
+}
+
+/// A number of 0 to `most`.
+pub(crate) fn natural(text: &[u8], most: u64) -> Result<u64, LineFault>
+    ensures value { result ≡ wrapped_or (up_to most (number_of text.now)) }
+    ensures bound { IfOk result (λ n. n ≤ most) }
+{
+    at_most(number(text)?, most)
+}
+
+/// A number of -2048 to 2047, modulo 2^64.
+fn signed(number: i128) -> Result<u64, LineFault>
+    ensures { result ≡ wrapped_or (signed_12 (Ok number)) }
+{
+    if number < -2048 || number > 2047 {
+        Err(LineFault::A3)
+    } else if number < 0 {
+        Ok(u64::MAX - (-1 - number) as u64)
+    } else {
+        Ok(number as u64)
+    }
+}
+
+/// A number of so many bits.
+#[tactic(auto, using(crate::proofs::Powers::wide))]
+fn unsigned(text: &[u8], bits: u32) -> Result<u64, LineFault>
+    ensures { result ≡ wrapped_or (up_to (2 ^ bits - 1) (number_of text.now)) }
+{
+    let number = number(text)?;
+    if bits < 64 {
+        at_most(number, (1 << bits) - 1)
+    } else {
+        at_most(number, u64::MAX)
+    }
+}
+
+/// The 32-bit immediate whose bits 31 to 12 are a number of 0 to 0xFFFFF, modulo 2^64.
+#[tactic(auto, unfolding(isa_rows::specs::Insn::sign_extended))]
+fn upper(number: u64) -> u64
+    requires { number ≤ 0xFFFFF }
+    ensures { result ≡ sign_extended 32 (number * 2 ^ 12) }
+{
+    if number < 0x8_0000 {
+        number * 0x1000
+    } else {
+        number * 0x1000 + 0xFFFF_FFFF_0000_0000
+    }
+}
+
+/// The number of a control and status register, by name or as a number.
+fn csr(text: &[u8]) -> Result<u64, LineFault>
+    ensures { result ≡ wrapped_or (named_or (csr_named text.now) (up_to 4095 (number_of text.now))) }
+{
+    match csr_named(text) {
+        Some(number) => Ok(u64::from(number)),
+        None => natural(text, 4095),
+    }
+}
+
+/// A number of 0 to 31.
+fn small(text: &[u8]) -> Result<u8, LineFault>
+    ensures { result ≡ wrapped_or (up_to 31 (number_of text.now)) }
+{
+    Ok(natural(text, 31)? as u8)
+}
+
+/// The number of a special capability register, by name or as a number.
+fn special(text: &[u8]) -> Result<u8, LineFault>
+    ensures { result ≡ wrapped_or (named_or (scr_named text.now) (up_to 31 (number_of text.now))) }
+{
+    match scr_named(text) {
+        Some(number) => Ok(number),
+        None => small(text),
+    }
+}
+
+/// Whether a text has a `(` and ends with `)`.
+fn has_brackets(text: &[u8]) -> bool
+    ensures { result ≡ has_brackets text.now }
+{
+    before(text, Class::Not(b'(')).len() < text.len() && text[text.len() - 1] == b')'
+}
+
+/// What stands before the `(`.
+fn before_bracket(text: &[u8]) -> &[u8]
+    ensures { result.now ≡ before_bracket text.now }
+{
+    trimmed(before(text, Class::Not(b'(')))
+}
+
+/// What stands behind the `(`, but for the last byte.
+fn in_brackets(text: &[u8]) -> &[u8]
+    ensures { result.now ≡ in_brackets text.now }
+{
+    let behind = after(text, Class::Not(b'('));
+    trimmed(&behind[..behind.len().saturating_sub(1)])
+}
+
+/// The number before a bracket; nothing means 0.
+fn displacement(text: &[u8]) -> Result<u64, LineFault>
+    ensures { result ≡ wrapped_or (signed_12 (displacement text.now)) }
+{
+    if text.is_empty() {
+        return Ok(0);
+    }
+    signed(number(text)?)
+}
+
+/// The instruction with one operand more, or what is wrong with the operand.
+#[tactic(auto, unfolding(crate::specs::Operand::filled_slot))]
+pub(crate) fn filled_slot<'a>(slot: Slot, text: &'a [u8], draft: Draft<'a>) -> Result<Draft<'a>, LineFault>
+    ensures { seen_filled result ≡ filled_slot slot text.now (seen_draft draft.entry) }
+{
+    let mut insn = draft.insn;
+    let mut target = draft.target;
+    match slot {
+        Slot::Rd(_) => insn.rd = register(text)?,
+        Slot::Rs1(_) => insn.rs1 = register(text)?,
+        Slot::Rs2(_) => insn.rs2 = register(text)?,
+        Slot::Signed => insn.imm = signed(number(text)?)?,
+        Slot::Unsigned(bits) => insn.imm = unsigned(text, bits)?,
+        Slot::Upper => insn.imm = upper(natural(text, 0xFFFFF)?),
+        Slot::Small => insn.rs1 = small(text)?,
+        Slot::Csr => insn.imm = csr(text)?,
+        Slot::Special => insn.rs2 = special(text)?,
+        Slot::Address(_) => return with_address(text, draft),
+        Slot::Authority(_) => return with_authority(text, draft),
+        Slot::Target(_) => target = Some(expression(text)?),
+    }
+    Ok(Draft { insn, target })
+}
+
+/// The instruction with a register in brackets, and a signed number before them.
+fn with_address<'a>(text: &'a [u8], draft: Draft<'a>) -> Result<Draft<'a>, LineFault>
+    ensures { seen_filled result ≡ filled_address text.now (seen_draft draft.entry) }
+{
+    if !has_brackets(text) {
+        return Err(LineFault::A2);
+    }
+    let rs1 = register(in_brackets(text))?;
+    let imm = displacement(before_bracket(text))?;
+    let insn = Insn { rs1, imm, ..draft.insn };
+    Ok(Draft { insn, ..draft })
+}
+
+/// The instruction with a register in brackets, and nothing before them.
+fn with_authority<'a>(text: &'a [u8], draft: Draft<'a>) -> Result<Draft<'a>, LineFault>
+    ensures { seen_filled result ≡ filled_authority text.now (seen_draft draft.entry) }
+{
+    if !has_brackets(text) || !before_bracket(text).is_empty() {
+        return Err(LineFault::A2);
+    }
+    let rs1 = register(in_brackets(text))?;
+    let insn = Insn { rs1, ..draft.insn };
+    Ok(Draft { insn, ..draft })
+}

@@ -1,0 +1,259 @@
+//! How a line is cut: white space, comments, the label, the mnemonic, operands between commas.
+ghost use Rattle.std.specs.Prelude.{◌≡◌, ◌≤◌, ◌<◌, ◌+◌, ◌-◌, ◌==◌, ◌∷◌, take, drop, length, option_map, IfSome};
+ghost use Rattle.std.specs.List.{prefix_len, suffix_len};
+ghost use Rattle.asm_lines.specs.Text.{is_blank, is_foreign, begins_name, continues_name, trimmed_start, trimmed_end, trimmed, is_name, is_dot, has_label, label_of, statement_text, mnemonic_of, operands_of, uncommented, uncommented_from, quoting_after, begins_comment, pieces_between, pieces_left};
+ghost use Rattle.std.specs.Char.{digit_value};
+ghost use Rattle.asm_lines.specs.Class.{is_in};
+
+/// A kind of byte.
+#[derive(Clone, Copy)]
+pub(crate) enum Class {
+    /// Space, tab and carriage return.
+    Blank,
+    /// What is not white space.
+    Solid,
+    /// What is part of a text: no control byte but tab, line feed and carriage return, and nothing from 127 on.
+    Plain,
+    /// What a name goes on with: a letter, a digit, `_` or `.`.
+    Name,
+    /// What is neither a plus nor a minus.
+    Unsigned,
+    /// Any byte but this one.
+    Not(u8),
+    /// A digit in this radix.
+    Digit(u32),
+}
+
+/// Where a reader of a line stands.
+#[derive(Clone, Copy)]
+pub(crate) enum Quoting {
+    /// Outside quotes.
+    Outside,
+    /// Inside quotes.
+    Inside,
+    /// Inside quotes and behind a backslash.
+    Escaped,
+}
+
+impl Quoting {
+    fn after(self, byte: u8) -> Quoting
+        ensures { result ≡ quoting_after byte self }
+    {
+        match self {
+            Quoting::Outside if byte == b'"' => Quoting::Inside,
+            Quoting::Inside if byte == b'"' => Quoting::Outside,
+            Quoting::Inside if byte == b'\\' => Quoting::Escaped,
+            Quoting::Escaped => Quoting::Inside,
+            _ => self,
+        }
+    }
+
+    fn begins_comment(self, byte: u8) -> bool
+        ensures { result ≡ begins_comment byte self }
+    {
+        matches!(self, Quoting::Outside) && byte == b'#'
+    }
+}
+
+/// The value of a digit or a letter, or 36.
+pub(crate) fn digit_value(byte: u8) -> u32
+    ensures { result ≡ digit_value byte }
+{
+    match byte {
+        b'0'..=b'9' => u32::from(byte - b'0'),
+        b'A'..=b'Z' => u32::from(byte - b'A') + 10,
+        b'a'..=b'z' => u32::from(byte - b'a') + 10,
+        _ => 36,
+    }
+}
+
+fn is_blank(byte: u8) -> bool
+    ensures { result ≡ is_blank byte }
+{
+    byte == b' ' || byte == b'\t' || byte == b'\r'
+}
+
+fn is_foreign(byte: u8) -> bool
+    ensures { result ≡ is_foreign byte }
+{
+    byte >= 127 || byte < 32 && !(byte == b'\t' || byte == b'\n' || byte == b'\r')
+}
+
+pub(crate) fn begins_name(byte: u8) -> bool
+    ensures { result ≡ begins_name byte }
+{
+    byte.is_ascii_alphabetic() || byte == b'_' || byte == b'.'
+}
+
+fn continues_name(byte: u8) -> bool
+    ensures { result ≡ continues_name byte }
+{
+    begins_name(byte) || byte.is_ascii_digit()
+}
+
+impl Class {
+    fn has(self, byte: u8) -> bool
+        ensures { result ≡ is_in self byte }
+    {
+        match self {
+            Class::Blank => is_blank(byte),
+            Class::Solid => !is_blank(byte),
+            Class::Plain => !is_foreign(byte),
+            Class::Name => continues_name(byte),
+            Class::Unsigned => !(byte == b'+' || byte == b'-'),
+            Class::Not(other) => byte != other,
+            Class::Digit(radix) => digit_value(byte) < radix,
+        }
+    }
+}
+
+/// How many bytes of a kind a text begins with.
+pub(crate) fn run_length(text: &[u8], class: Class) -> usize
+    ensures value { result ≡ prefix_len (is_in class) text.now }
+    ensures bound { result ≤ length text.now }
+{
+    let mut count = 0;
+    while count < text.len() && class.has(text[count]) {
+        count += 1;
+    }
+    count
+}
+
+/// A text without the white space at its beginning.
+pub(crate) fn trimmed_start(text: &[u8]) -> &[u8]
+    ensures value { result.now ≡ trimmed_start text.now }
+    ensures bound { length result.now ≤ length text.now }
+{
+    &text[run_length(text, Class::Blank)..]
+}
+
+/// A text without the white space at its end.
+pub(crate) fn trimmed_end(text: &[u8]) -> &[u8]
+    ensures value { result.now ≡ trimmed_end text.now }
+    ensures bound { length result.now ≤ length text.now }
+{
+    let mut end = text.len();
+    while end > 0 && is_blank(text[end - 1]) {
+        end -= 1;
+    }
+    &text[..end]
+}
+
+/// A text without the white space around it.
+pub(crate) fn trimmed(text: &[u8]) -> &[u8]
+    ensures value { result.now ≡ trimmed text.now }
+    ensures bound { length result.now ≤ length text.now }
+{
+    trimmed_end(trimmed_start(text))
+}
+
+/// A line up to its comment.
+pub(crate) fn uncommented(line: &[u8]) -> &[u8]
+    ensures value { result.now ≡ uncommented line.now }
+    ensures bound { length result.now ≤ length line.now }
+{
+    let mut quoting = Quoting::Outside;
+    let mut end = 0;
+    while end < line.len() && !quoting.begins_comment(line[end]) {
+        quoting = quoting.after(line[end]);
+        end += 1;
+    }
+    &line[..end]
+}
+
+/// What stands before the first byte that is not of a kind.
+pub(crate) fn before(text: &[u8], class: Class) -> &[u8]
+    ensures value { result.now ≡ take (prefix_len (is_in class) text.now) text.now }
+    ensures bound { length result.now ≤ length text.now }
+{
+    &text[..run_length(text, class)]
+}
+
+/// What stands after the first byte that is not of a kind; nothing where there is none.
+pub(crate) fn after(text: &[u8], class: Class) -> &[u8]
+    ensures value { result.now ≡ drop (prefix_len (is_in class) text.now + 1) text.now }
+    ensures bound { length result.now ≤ length text.now }
+{
+    let count = run_length(text, class);
+    if count < text.len() {
+        &text[count + 1..]
+    } else {
+        &[]
+    }
+}
+
+/// Whether a text is a name: a letter, `_` or `.`, and then letters, digits, `_` and `.`.
+pub(crate) fn is_name(text: &[u8]) -> bool
+    ensures { result ≡ is_name text.now }
+{
+    match text {
+        [first, rest @ ..] => begins_name(*first) && run_length(rest, Class::Name) == rest.len(),
+        [] => false,
+    }
+}
+
+fn is_dot(text: &[u8]) -> bool
+    ensures { result ≡ is_dot text.now }
+{
+    text.len() == 1 && text[0] == b'.'
+}
+
+/// Whether a line begins with a label: a name other than `.`, and a colon at once.
+#[tactic(auto, unfolding(crate::specs::Text::has_label))]
+fn has_label(text: &[u8]) -> bool
+    ensures { result ≡ has_label text.now }
+{
+    let name = before(text, Class::Name);
+    let end = run_length(text, Class::Name);
+    is_name(name) && !is_dot(name) && end < text.len() && text[end] == b':'
+}
+
+/// The name before a line's colon, if it begins with a label.
+pub(crate) fn label(text: &[u8]) -> Option<&[u8]>
+    ensures { option_map (λ t. t.now) result ≡ label_of text.now }
+{
+    has_label(text).then_some(before(text, Class::Name))
+}
+
+/// What follows a line's label, without white space before it.
+pub(crate) fn statement_text(text: &[u8]) -> &[u8]
+    ensures value { result.now ≡ statement_text text.now }
+    ensures bound { length result.now ≤ length text.now }
+{
+    if has_label(text) {
+        trimmed_start(after(text, Class::Not(b':')))
+    } else {
+        text
+    }
+}
+
+/// A statement up to its first white space.
+pub(crate) fn mnemonic(text: &[u8]) -> &[u8]
+    ensures value { result.now ≡ mnemonic_of text.now }
+    ensures bound { length result.now ≤ length text.now }
+{
+    before(text, Class::Solid)
+}
+
+/// What follows a statement's mnemonic.
+pub(crate) fn operands(text: &[u8]) -> &[u8]
+    ensures value { result.now ≡ operands_of text.now }
+    ensures bound { length result.now ≤ length text.now }
+{
+    trimmed_start(after(text, Class::Solid))
+}
+
+/// The first operand between commas, without white space around it, and what follows its comma, if there is one.
+pub fn split_piece<'a>(text: &'a [u8]) -> (&'a [u8], Option<&'a [u8]>)
+    ensures pieces { pieces_between text.now ≡ result.0.now ∷ pieces_left (option_map (λ rest. rest.now) result.1) }
+    ensures bound { length result.0.now ≤ length text.now }
+    ensures shorter { IfSome result.1 (λ rest. length rest.now < length text.now) }
+{
+    let piece = trimmed(before(text, Class::Not(b',')));
+    let end = run_length(text, Class::Not(b','));
+    if end < text.len() {
+        (piece, Some(&text[end + 1..]))
+    } else {
+        (piece, None)
+    }
+}
