@@ -1,5 +1,5 @@
 -- Operands, slot by slot.
-use Rattle.std.proofs.Common.{◌≡◌, ℕ, ◌+◌, ◌<◌, List, [], ◌∷◌, Option, Some, None, length, drop, get_or, ◌≤◌, refl, sym, ◌∙◌, map, cond, true, false, ◌==◌}
+use Rattle.std.proofs.Common.{◌≡◌, ℕ, ◌+◌, ◌<◌, List, [], ◌∷◌, Option, Some, None, length, drop, get_or, ◌≤◌, refl, sym, ◌∙◌, map, cond, Bool, true, false, ◌==◌}
 use Rattle.std.proofs.lemmas.List.{drop_more, drop_all}
 use Rattle.std.specs.List.{slice_split, onto_first}
 use Rattle.asm_names.specs.declared.slots.Slot.{Slot}
@@ -7,6 +7,7 @@ use Rattle.asm_lines.specs.declared.fault.LineFault.{LineFault}
 use Rattle.asm_lines.specs.declared.fault.LineFault.TheVariants.{A2}
 use Rattle.asm_lines.specs.Operand.{Draft, told_fault, fault_of, draft_after, filled_slot, filled_draft, filled_fault}
 use Rattle.asm_lines.specs.Text.{pieces_left, pieces_between, trimmed}
+use Rattle.asm_lines.specs.Statement.{said, load_said}
 use Rattle.asm_lines.proofs.Faults.{told_without}
 
 pub draft_step : (slots : List Slot) (i : ℕ) (z : Slot) (p : List ℕ) (ps : List (List ℕ)) (d : Draft) → i < length slots
@@ -54,3 +55,15 @@ fault_at_end slots i rest fault whole d h none e =
     let same = told_without fault in
     let ended : told_fault fault (filled_fault [] (pieces_left None) d) ≡ whole = rw (gone, none) at e in
     sym same ∙ ended
+
+-- a third operand of a load
+load_onto : (capability : Bool) (r e : List ℕ) (x : ℕ) (parts : List (List ℕ)) → load_said capability (r ∷ e ∷ map trimmed (onto_first x parts)) ≡ said None (Some A2)
+load_onto capability r e x [] = refl
+load_onto capability r e x (part ∷ parts) = refl
+
+pub load_more : (capability : Bool) (r e text : List ℕ) → load_said capability (r ∷ e ∷ pieces_between text) ≡ said None (Some A2)
+load_more capability r e [] = refl
+load_more capability r e (x ∷ xs) =
+    let parts = slice_split (λ c. c == 44) xs in
+    elim (x == 44) as (λ b. load_said capability (r ∷ e ∷ map trimmed (cond b ([] ∷ parts) (onto_first x parts))) ≡ said None (Some A2))
+    [ true ↦ refl | false ↦ load_onto capability r e x parts ]

@@ -4,6 +4,6 @@ pub mod Number
 pub mod Operand
 pub mod Statement
 pub mod Line
+pub mod Seen
 pub mod SlotLaws
 pub mod FitLaws
-pub mod Seen

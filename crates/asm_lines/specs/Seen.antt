@@ -4,8 +4,11 @@ use Rattle.std.specs.Borrow.{Bor}
 use Rattle.asm_lines.specs.declared.fault.LineFault.{LineFault}
 use Rattle.asm_lines.specs.declared.fault.LineFault.TheVariants.{A2}
 use Rattle.asm_lines.specs.declared.operand.Draft.{Draft as Filled}
+use Rattle.asm_lines.specs.declared.pattern.Pattern.{Pattern as Held}
+use Rattle.asm_lines.specs.declared.statement.Said.{Said as Answer}
 use Rattle.asm_lines.specs.Operand.{Draft, wrapped}
-use Rattle.asm_lines.specs.Line.{seen_expression}
+use Rattle.asm_lines.specs.Statement.{Pattern, Said}
+use Rattle.asm_lines.specs.Line.{seen_expression, seen_statement}
 
 abbrev pub seen_draft : Filled → Draft
 seen_draft d = record { insn = d.insn; target = option_map seen_expression d.target }
@@ -27,3 +30,9 @@ wrapped_or (Err fault) = Err fault
 -- the text that is left, if there is one
 abbrev pub seen_rest : Option (Bor (List ℕ)) → Option (List ℕ)
 seen_rest rest = option_map (λ text. text.now) rest
+
+abbrev pub seen_pattern : Held → Pattern
+seen_pattern p = record { insn = p.insn; slots = p.slots.now }
+
+abbrev pub seen_said : Answer → Said
+seen_said s = record { statement = option_map seen_statement s.statement; fault = s.fault }

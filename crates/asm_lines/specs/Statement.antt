@@ -1,5 +1,5 @@
 -- Statements: rows and their aliases, the two-row loads of a value, directives.
-use Rattle.std.specs.Prelude.{ℕ, ◌*◌, ◌+◌, ◌-◌, ◌%◌, ◌^◌, Bool, true, false, not, ◌&&◌, ◌||◌, ◌==◌, nat_lt, nat_le, nat_eq, if◌then◌else◌, ℤ, pos, neg_ℤ, int_lt, List, [], ◌∷◌, length, take, drop, slice_index, Option, Some, None, Result, Ok, Err, codes}
+use Rattle.std.specs.Prelude.{◌≡◌, ◌⊎◌, ℕ, ◌*◌, ◌+◌, ◌-◌, ◌%◌, ◌^◌, Bool, true, false, not, ◌&&◌, ◌||◌, ◌==◌, nat_lt, nat_le, nat_eq, if◌then◌else◌, ℤ, pos, neg_ℤ, int_lt, List, [], ◌∷◌, length, take, drop, slice_index, Option, Some, None, Result, Ok, Err, codes}
 use Rattle.std.specs.Cmp.Lexicographic.{pointwise}
 use Rattle.isa_rows.specs.declared.rows.Row.{Row}
 use Rattle.isa_rows.specs.declared.rows.Row.TheVariants.{Addi, Jal, Jalr, Fence, FenceI}
@@ -122,6 +122,10 @@ page_count (Err fault) = Err fault
 
 abbrev pub entry_said : Result Expression LineFault → Said
 entry_said e = said_unless (entry (expression_or_nought e)) (fault_of e)
+
+-- the sizes of values, in bytes
+abbrev pub IsSize : ℕ → Type 0
+IsSize size = (size ≡ 1) ⊎ ((size ≡ 2) ⊎ ((size ≡ 4) ⊎ (size ≡ 8)))
 
 -- a value of so many bytes lies between the least signed and the greatest unsigned number of its size
 abbrev pub is_in_size : ℕ → ℤ → Bool

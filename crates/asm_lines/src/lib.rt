@@ -6,7 +6,11 @@ mod filling;
 mod number;
 mod operand;
 mod parsed;
+mod pattern;
+mod quoted;
+mod statement;
 mod text;
+mod values;
 
 pub use fault::LineFault;
 pub use number::expression;
