@@ -14,5 +14,6 @@ mod values;
 
 pub use fault::LineFault;
 pub use number::expression;
+pub use operand::natural;
 pub use parsed::{Expression, Parsed, Statement};
 pub use text::split_piece;
