@@ -2,3 +2,4 @@ pub mod Capability
 pub mod Command
 pub mod Reply
 pub mod Conversation
+pub mod Seen
