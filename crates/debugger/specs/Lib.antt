@@ -3,3 +3,4 @@ pub mod Command
 pub mod Reply
 pub mod Conversation
 pub mod Seen
+pub mod Lines

@@ -4,6 +4,7 @@
 mod command;
 mod fault;
 mod shown;
+mod state;
 mod text;
 mod words;
 
