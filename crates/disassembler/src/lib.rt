@@ -1,2 +1,12 @@
 //! The disassembler: the text of a word, as the assembler reads it.
 #![tactic(auto)]
+
+mod disassembling;
+mod hex;
+mod operands;
+
+pub use disassembling::disassemble;
+pub use hex::hex_digits;
+
+#[cfg(test)]
+mod tests;

@@ -1,0 +1,60 @@
+-- Digits of a number in base 16, the last one first.
+use Rattle.std.proofs.Common.{◌≡◌, ℕ, zero, suc, ◌+◌, ◌/◌, ◌%◌, ◌^◌, ◌<◌, ◌≤◌, ◌⊎◌, inl, inr, Bool, true, false, cond, List, [], ◌∷◌, ◌++◌, refl, sym, ap, ◌∙◌, append_assoc, arith}
+use Rattle.std.specs.Prelude.{length}
+use Rattle.std.specs.Fmt.{digit_glyph, digits_onto, digits}
+use Rattle.std.proofs.Common.{length-append}
+use Rattle.std.proofs.lemmas.Fmt.{hex_one_digit}
+use Rattle.std.proofs.lemmas.Bool.{eq-eqb, ne_eqb, cases_order}
+
+abbrev spell : ℕ → ℕ → List ℕ → List ℕ
+spell k n acc = digits_onto k 16 false n acc
+
+abbrev last_glyph : ℕ → ℕ
+last_glyph n = digit_glyph false (n % 16)
+
+order : (m n : ℕ) → (m < n) ⊎ (n ≤ m)
+order m n = elim (cases_order m n) [ inl e ↦ inr (omega arith) | inr o ↦ elim o [ inl l ↦ inl l | inr g ↦ inr (omega arith) ] ]
+
+spell_last : (k n : ℕ) (acc : List ℕ) → n < 16 → spell (suc k) n acc ≡ last_glyph n ∷ acc
+spell_last k n acc h = ap (λ t. cond t (last_glyph n ∷ acc) (spell k (n / 16) (last_glyph n ∷ acc))) (eq-eqb (n / 16) 0 (omega arith))
+
+spell_next : (k n : ℕ) (acc : List ℕ) → 16 ≤ n → spell (suc k) n acc ≡ spell k (n / 16) (last_glyph n ∷ acc)
+spell_next k n acc h = ap (λ t. cond t (last_glyph n ∷ acc) (spell k (n / 16) (last_glyph n ∷ acc))) (ne_eqb (n / 16) 0 (λ e. omega arith))
+
+spell-append : (k n : ℕ) (acc : List ℕ) → spell k n acc ≡ spell k n [] ++ acc
+spell-append zero n acc = refl
+spell-append (suc k) n acc = elim (order n 16) [
+  | inl l ↦ spell_last k n acc l ∙ ap (λ x. x ++ acc) (sym (spell_last k n [] l))
+  | inr l ↦ spell_next k n acc l ∙ spell-append k (n / 16) (last_glyph n ∷ acc) ∙ sym (append_assoc (spell k (n / 16) []) (last_glyph n ∷ []) acc) ∙ ap (λ x. x ++ acc) (sym (spell_next k n [] l ∙ spell-append k (n / 16) (last_glyph n ∷ [])))
+]
+
+-- the digit limit does not matter once it is large enough
+spell_enough : (j k n : ℕ) (acc : List ℕ) → n < 16 ^ suc j → n < 16 ^ suc k → spell (suc j) n acc ≡ spell (suc k) n acc
+spell_enough zero k n acc p q = spell_last zero n acc (omega arith) ∙ sym (spell_last k n acc (omega arith))
+spell_enough (suc j) zero n acc p q = spell_last (suc j) n acc (omega arith) ∙ sym (spell_last zero n acc (omega arith))
+spell_enough (suc j) (suc k) n acc p q = elim (order n 16) [
+  | inl l ↦ spell_last (suc j) n acc l ∙ sym (spell_last (suc k) n acc l)
+  | inr l ↦ spell_next (suc j) n acc l ∙ spell_enough j k (n / 16) (last_glyph n ∷ acc) (omega arith) (omega arith) ∙ sym (spell_next (suc k) n acc l)
+]
+
+spell-nil : (n : ℕ) → spell 64 n [] ≡ digits 16 false n
+unfolding digits
+spell-nil n = refl
+
+pub hex_digit : (n : ℕ) → n < 16 → digits 16 false n ≡ digit_glyph false n ∷ []
+hex_digit n small = hex_one_digit false n small
+
+pub hex_step : (n : ℕ) → 16 ≤ n → n < 2 ^ 64 → digits 16 false n ≡ digits 16 false (n / 16) ++ digit_glyph false (n % 16) ∷ []
+hex_step n large small =
+    sym (spell-nil n) ∙ spell_next 63 n [] large ∙ spell_enough 62 63 (n / 16) (last_glyph n ∷ []) (omega arith) (omega arith) ∙ spell-append 64 (n / 16) (last_glyph n ∷ []) ∙ ap (λ x. x ++ last_glyph n ∷ []) (spell-nil (n / 16))
+
+pub length_hex : (k n : ℕ) → 0 < k → n < 16 ^ k → n < 2 ^ 64 → length (digits 16 false n) ≤ k
+length_hex zero n some fits small = absurd (omega arith)
+length_hex (suc zero) n some fits small = let e = hex_digit n (omega arith) in omega (arith, ap length e)
+length_hex (suc (suc k)) n some fits small = elim (order n 16) [
+  | inl l ↦ let e = hex_digit n l in omega (arith, ap length e)
+  | inr l ↦ let e = hex_step n l small in omega (arith, ap length e, length-append (digits 16 false (n / 16)) (last_glyph n ∷ []), length_hex (suc k) (n / 16) (omega arith) (omega arith) (omega arith))
+]
+
+pub length_hex_16 : (n : ℕ) → n < 2 ^ 64 → length (digits 16 false n) ≤ 16
+length_hex_16 n fits = length_hex 16 n (omega arith) (omega arith) fits

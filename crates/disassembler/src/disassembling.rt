@@ -1,0 +1,44 @@
+ghost use Rattle.std.specs.Prelude.{◌≡◌, ◌++◌, codes};
+ghost use Rattle.isa_rows.specs.declared.operands.Insn.{Insn};
+ghost use Rattle.disassembler.specs.Hex.{hex_of};
+ghost use Rattle.disassembler.specs.Shown.{shown_insn, shown_word};
+ghost use Rattle.disassembler.specs.Widths.{HasRegisters};
+
+use crate::hex::hex_digits;
+use crate::operands::push_operands;
+use arrayvec::ArrayString;
+use asm_names::{mnemonic, slots_of};
+use isa_rows::Insn;
+use isa_table::decode;
+
+/// The text of a word in a mode, capability mode if `mode` says so: its row's name and its operands, or `.word` and the number where the
+/// word is no row (unprivileged manual, assembly listings; CHERI ISA version 9, instruction pages).
+pub fn disassemble(word: u32, mode: bool) -> ArrayString<64>
+    ensures { result.bytes ≡ shown_word mode word }
+{
+    match decode(word) {
+        Some(insn) => text_of(&insn, mode),
+        None => number(word),
+    }
+}
+
+#[tactic(auto, using(crate::proofs::Lengths::mnemonic_short, crate::proofs::Lengths::operands_short))]
+fn text_of(insn: &Insn, mode: bool) -> ArrayString<64>
+    requires { HasRegisters insn.now }
+    ensures { result.bytes ≡ shown_insn mode insn.now }
+{
+    let mut text = ArrayString::new();
+    text.push_str(mnemonic(insn.row, mode));
+    push_operands(&mut text, insn, mode, slots_of(insn.row));
+    text
+}
+
+fn number(word: u32) -> ArrayString<64>
+    ensures { result.bytes ≡ codes ".word 0x" ++ hex_of 8 word }
+{
+    let mut text = ArrayString::new();
+    text.push_str(".word 0x");
+    let digits = hex_digits(u128::from(word), 8);
+    text.push_str(digits.as_str());
+    text
+}

@@ -1,0 +1,58 @@
+ghost use Rattle.std.specs.Prelude.{◌≡◌, ◌+◌, ◌<◌, ◌≤◌, false, [], ◌∷◌, ◌++◌};
+ghost use Rattle.std.specs.Fmt.{digit_glyph, digits};
+ghost use Rattle.arrayvec.specs.ArrayString.{array_string_len};
+ghost use Rattle.disassembler.specs.Hex.{hex_of};
+
+use arrayvec::ArrayString;
+
+/// The lowest `width` digits of `n`, at most 17, in lower-case hexadecimal with leading zeros.
+#[tactic(auto, unfolding(crate::specs::Hex::hex_of))]
+pub fn hex_digits(n: u128, width: usize) -> ArrayString<17>
+    requires { width ≤ 17 }
+    ensures text { result.bytes ≡ hex_of width n }
+    ensures length { array_string_len result ≡ width }
+{
+    if width == 0 {
+        ArrayString::new()
+    } else {
+        extended(hex_digits(n / 16, width - 1), (n % 16) as u8)
+    }
+}
+
+/// The digits of `n` in lower-case hexadecimal, without leading zeros.
+#[tactic(auto, using(crate::proofs::HexSteps::hex_digit, crate::proofs::HexSteps::hex_step, crate::proofs::HexSteps::length_hex_16))]
+pub fn short_digits(n: u64) -> ArrayString<17>
+    ensures text { result.bytes ≡ digits 16 false n }
+    ensures length { array_string_len result ≤ 16 }
+{
+    if n < 16 {
+        extended(ArrayString::new(), n as u8)
+    } else {
+        extended(short_digits(n / 16), (n % 16) as u8)
+    }
+}
+
+/// A text with one digit more.
+fn extended(text: ArrayString<17>, digit: u8) -> ArrayString<17>
+    requires digit { digit < 16 }
+    requires room { array_string_len text < 17 }
+    ensures text { result.bytes ≡ text.bytes ++ digit_glyph false digit ∷ [] }
+    ensures length { array_string_len result ≡ array_string_len text + 1 }
+{
+    let mut longer = text;
+    longer.push(glyph(digit));
+    longer
+}
+
+/// The digit of a number below 16.
+fn glyph(digit: u8) -> char
+    requires { digit < 16 }
+    ensures value { result ≡ digit_glyph false digit }
+    ensures ascii { result < 128 }
+{
+    if digit < 10 {
+        (b'0' + digit) as char
+    } else {
+        (b'a' + (digit - 10)) as char
+    }
+}
