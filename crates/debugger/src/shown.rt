@@ -12,11 +12,12 @@ use cap_rights::Perms;
 use std::alloc::AllocError;
 
 /// Puts a name and so many hexadecimal digits behind a text.
-fn put_field(text: &mut String, name: &str, digits: u32, n: u128) -> Result<(), AllocError>
-    ensures { OnOk result (string_bytes text.new ≡ string_bytes text.old ++ name.now ++ hex_of digits n) }
+fn put_field(text: &mut String, name: &str, width: usize, n: u128) -> Result<(), AllocError>
+    requires { width ≤ 17 }
+    ensures { OnOk result (string_bytes text.new ≡ string_bytes text.old ++ name.now ++ hex_of width n) }
 {
     put(text, name)?;
-    put_hex(text, digits, n)
+    put_hex(text, width, n)
 }
 
 /// Puts a name and a truth value as a digit behind a text.
