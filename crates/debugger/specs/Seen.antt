@@ -61,3 +61,17 @@ IsWithinLimits Csr = ⊤
 IsWithinLimits (Mem address n) = n ≤ 4096
 IsWithinLimits (Dis address n) = (n ≤ 1024) × (address % 4 ≡ 0)
 IsWithinLimits Quit = ⊤
+
+-- the most events that a command gives
+abbrev pub most_of : Request → ℕ
+most_of (Step n) = n
+most_of (Tick n) = n
+most_of (Byte b) = 1
+most_of (Until address n) = n
+most_of (Reg n) = 0
+most_of Regs = 0
+most_of Scr = 0
+most_of Csr = 0
+most_of (Mem address n) = 0
+most_of (Dis address n) = 0
+most_of Quit = 0

@@ -3,6 +3,8 @@
 
 mod command;
 mod fault;
+mod ram;
+mod run;
 mod shown;
 mod state;
 mod text;

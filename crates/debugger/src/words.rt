@@ -47,7 +47,7 @@ pub(crate) fn run_length(text: &[u8], kind: Kind) -> usize
 }
 
 /// A text up to its byte number `end`.
-fn before<'a>(text: &'a [u8], end: usize) -> &'a [u8]
+pub(crate) fn before<'a>(text: &'a [u8], end: usize) -> &'a [u8]
     requires { end ≤ length text.now }
     ensures { result.now ≡ take end text.now }
 {
@@ -55,7 +55,7 @@ fn before<'a>(text: &'a [u8], end: usize) -> &'a [u8]
 }
 
 /// A text from its byte number `start` on.
-fn behind<'a>(text: &'a [u8], start: usize) -> &'a [u8]
+pub(crate) fn behind<'a>(text: &'a [u8], start: usize) -> &'a [u8]
     requires { start ≤ length text.now }
     ensures { result.now ≡ drop start text.now }
 {
