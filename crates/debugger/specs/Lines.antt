@@ -35,11 +35,12 @@ csr_line c s mip n = number_line (name_or [] (csr_name n)) (csr_value c s mip n)
 abbrev pub spaced : ℕ → List ℕ
 spaced b = codes " " ++ hex_of 2 b
 
--- so many events, what was sent, and where the machine stands
-abbrev pub run_line : ℕ → List ℕ → State → List ℕ
-run_line count bytes s =
-    codes "events " ++ decimal count ++ codes " out " ++ shown_sent bytes
-    ++ codes " pc " ++ hex_of 16 (pc_of s) ++ codes " " ++ shown_end s.devices.halted ++ codes "\n"
+-- so many events and what was sent; where the machine stands
+abbrev pub given_part : ℕ → List ℕ → List ℕ
+given_part count bytes = codes "events " ++ decimal count ++ codes " out " ++ shown_sent bytes
+
+abbrev pub place_part : State → List ℕ
+place_part s = codes " pc " ++ hex_of 16 (pc_of s) ++ codes " " ++ shown_end s.devices.halted ++ codes "\n"
 
 -- whether `until` gives one more step
 abbrev pub goes_on : ℕ → ℕ → State → Bool

@@ -6,7 +6,7 @@ ghost use Rattle.hart.specs.State.{pc_of};
 ghost use Rattle.machine.specs.Run.{run_after, run_sent};
 ghost use Rattle.disassembler.specs.Hex.{hex_of};
 ghost use Rattle.debugger.specs.Reply.{steps_until as until_steps, events_of, events_line, shown_sent, shown_end};
-ghost use Rattle.debugger.specs.Lines.{run_line, goes_on};
+ghost use Rattle.debugger.specs.Lines.{given_part, place_part, goes_on};
 ghost use Rattle.debugger.specs.Seen.{seen_command, most_of, IsWithinLimits};
 
 use crate::command::Command;
@@ -165,20 +165,38 @@ fn put_end(text: &mut String, halted: Option<u64>) -> Result<(), AllocError>
     }
 }
 
-/// Puts the line that tells of so many events and of what they sent behind a text.
-fn put_run_line<C: CapRep>(text: &mut String, machine: &Machine<C>, count: u64, sent: &[u8]) -> Result<(), AllocError>
-    ensures bytes { OnOk result (string_bytes text.new ≡ string_bytes text.old ++ run_line count sent.now machine.now) }
-    ensures full { OnErr result (string_capacity text.old < string_len text.old + 2 * length sent.now + 200) }
+/// Puts how many events there were and what they sent behind a text.
+fn put_given(text: &mut String, count: u64, sent: &[u8]) -> Result<(), AllocError>
+    ensures bytes { OnOk result (string_bytes text.new ≡ string_bytes text.old ++ given_part count sent.now) }
+    ensures len { OnOk result (string_len text.new ≤ string_len text.old + 2 * length sent.now + 60) }
+    ensures capacity { string_capacity text.old ≤ string_capacity text.new }
+    ensures full { OnErr result (string_capacity text.old < string_len text.old + 2 * length sent.now + 60) }
 {
     put(text, "events ")?;
     put_decimal(text, count)?;
     put(text, " out ")?;
-    put_sent(text, sent)?;
+    put_sent(text, sent)
+}
+
+/// Puts where a machine stands behind a text.
+fn put_place<C: CapRep>(text: &mut String, machine: &Machine<C>) -> Result<(), AllocError>
+    ensures bytes { OnOk result (string_bytes text.new ≡ string_bytes text.old ++ place_part machine.now) }
+    ensures full { OnErr result (string_capacity text.old < string_len text.old + 80) }
+{
     put(text, " pc ")?;
     put_hex(text, 16, u128::from(pc(machine)))?;
     put(text, " ")?;
     put_end(text, machine.halted())?;
     put(text, "\n")
+}
+
+/// Puts the line that tells of so many events and of what they sent behind a text.
+fn put_run_line<C: CapRep>(text: &mut String, machine: &Machine<C>, count: u64, sent: &[u8]) -> Result<(), AllocError>
+    ensures bytes { OnOk result (string_bytes text.new ≡ string_bytes text.old ++ (given_part count sent.now ++ place_part machine.now)) }
+    ensures full { OnErr result (string_capacity text.old < string_len text.old + 2 * length sent.now + 200) }
+{
+    put_given(text, count, sent)?;
+    put_place(text, machine)
 }
 
 /// Gives the events of a command, and answers the line that tells of them.

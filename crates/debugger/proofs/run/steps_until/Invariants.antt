@@ -4,8 +4,8 @@ use Rattle.debugger.specs.Reply.{steps_until}
 use Rattle.debugger.proofs.run.steps_until.Given as goal
 
 -- what is still to come after the steps so far is what comes after all of them
-abbrev pub invariant-loop-left : goal.invariant-loop-left
-invariant-loop-left g l = record {
+abbrev pub invariant-loop-machine : goal.invariant-loop-machine
+invariant-loop-machine g l = record {
   state : run_after (steps_until l.address l.left l.machine) l.machine ≡ run_after (steps_until l.address l.most l.fn.machine) l.fn.machine;
   bytes : l.sent.items ++ run_sent (steps_until l.address l.left l.machine) l.machine ≡ l.fn.sent.items ++ run_sent (steps_until l.address l.most l.fn.machine) l.fn.machine;
   count : length (steps_until l.address l.left l.machine) + (l.most - l.left) ≡ length (steps_until l.address l.most l.fn.machine);
@@ -14,5 +14,5 @@ invariant-loop-left g l = record {
   room : vec_len l.sent + l.left ≤ vec_capacity l.sent;
 }
 
-abbrev pub decreases-loop-left : goal.decreases-loop-left
-decreases-loop-left g l = l.left
+abbrev pub decreases-loop-machine : goal.decreases-loop-machine
+decreases-loop-machine g l = l.left
