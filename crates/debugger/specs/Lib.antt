@@ -4,3 +4,4 @@ pub mod Reply
 pub mod Conversation
 pub mod Seen
 pub mod Lines
+pub mod Answers
