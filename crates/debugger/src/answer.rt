@@ -4,7 +4,7 @@ ghost use Rattle.cap_bounds.specs.CapValue.{value_flag};
 ghost use Rattle.special_regs.specs.Scrs.{scr_value};
 ghost use Rattle.machine.specs.Run.{run_after};
 ghost use Rattle.debugger.specs.Command.{reg, regs, scr, csr, mem, dis};
-ghost use Rattle.debugger.specs.Reply.{events_of, is_outside, answer_to};
+ghost use Rattle.debugger.specs.Reply.{told, events_of, events_line, is_outside, answer_to};
 ghost use Rattle.debugger.specs.Seen.{seen_command, IsWithinLimits};
 ghost use Rattle.debugger.specs.Answers.{seen_reply};
 
@@ -105,6 +105,18 @@ fn words<C: CapRep>(alloc: Global, machine: &Machine<C>, address: u64, count: u6
     Ok(Reply::Text(text))
 }
 
+fn events<C: CapRep>(alloc: Global, machine: &mut Machine<C>, command: Command) -> Result<Reply, DebugFault>
+    requires { IsWithinLimits command }
+    ensures reply { IfOk result (λ reply.
+        seen_reply reply ≡ told (events_line (events_of (seen_command command) machine.old) machine.old)) }
+    ensures state { OnOk result (machine.new ≡ run_after (events_of (seen_command command) machine.old) machine.old) }
+    ensures err { IfErr result (λ fault. fault ≡ DebugFault.B4) }
+    ensures same { OnErr result (machine.new ≡ machine.old) }
+{
+    let text = told_events(alloc, machine, command)?;
+    Ok(Reply::Text(text))
+}
+
 /// Does what a command asks for, and answers its reply: B4 where there is no memory, then nothing is done.
 #[tactic(auto, unfolding(crate::specs::Reply::answer_to, crate::specs::Reply::events_of))]
 pub(crate) fn answer<C: CapRep>(alloc: Global, machine: &mut Machine<C>, command: Command) -> Result<Reply, DebugFault>
@@ -123,9 +135,9 @@ pub(crate) fn answer<C: CapRep>(alloc: Global, machine: &mut Machine<C>, command
         Command::Csr => control_registers(alloc, machine),
         Command::Mem { address, count } => memory(alloc, machine, address, count),
         Command::Dis { address, count } => words(alloc, machine, address, count),
-        Command::Step(_) | Command::Tick(_) | Command::Byte(_) | Command::Until { .. } => {
-            let text = told_events(alloc, machine, command)?;
-            Ok(Reply::Text(text))
-        }
+        Command::Step(_) => events(alloc, machine, command),
+        Command::Tick(_) => events(alloc, machine, command),
+        Command::Byte(_) => events(alloc, machine, command),
+        Command::Until { .. } => events(alloc, machine, command),
     }
 }
