@@ -18,6 +18,7 @@ mod values;
 pub use fault::LineFault;
 pub use line::parse_line;
 pub use number::expression;
+pub use operand::natural;
 pub use parsed::{Expression, Parsed, Statement};
 pub use text::split_piece;
 

@@ -43,7 +43,7 @@ fn at_most(number: i128, most: u64) -> Result<u64, LineFault>
 }
 
 /// A number of 0 to `most`.
-pub(crate) fn natural(text: &[u8], most: u64) -> Result<u64, LineFault>
+pub fn natural(text: &[u8], most: u64) -> Result<u64, LineFault>
     ensures value { result ≡ wrapped_or (up_to most (number_of text.now)) }
     ensures bound { IfOk result (λ n. n ≤ most) }
 {

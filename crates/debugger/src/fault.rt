@@ -1,3 +1,8 @@
+ghost use Rattle.std.specs.Prelude.{◌≡◌};
+ghost use Rattle.debugger.specs.declared.fault.DebugFault.TheVariants.{B4};
+
+use std::alloc::AllocError;
+
 /// Why a command was refused; the first of this order. A refused command changes nothing.
 #[derive(Clone, Copy, Debug, PartialEq, Eq)]
 pub enum DebugFault {
@@ -9,4 +14,12 @@ pub enum DebugFault {
     B3,
     /// No memory.
     B4,
+}
+
+impl From<AllocError> for DebugFault {
+    ghost from_gives = { λ _ fault. fault ≡ B4 };
+
+    fn from(_: AllocError) -> DebugFault {
+        DebugFault::B4
+    }
 }

@@ -1,6 +1,18 @@
 //! The debugger: what words, values and states look like as text, and a machine that is driven by commands.
 #![tactic(auto)]
 
+mod answer;
+mod command;
 mod fault;
+mod ram;
+mod reply;
+mod run;
+mod session;
+mod shown;
+mod state;
+mod text;
+mod words;
 
 pub use fault::DebugFault;
+pub use reply::Reply;
+pub use session::Session;

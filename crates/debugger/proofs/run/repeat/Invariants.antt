@@ -1,0 +1,16 @@
+use Rattle.std.proofs.Common.{◌≡◌, ◌+◌, ◌≤◌, ◌++◌, vec_len, vec_capacity}
+use Rattle.std.specs.Prelude.{replicate}
+use Rattle.machine.specs.Run.{run_after, run_sent}
+use Rattle.debugger.proofs.run.repeat.Given as goal
+
+-- what is still to come after the events so far is what comes after all of them
+abbrev pub invariant-loop-left : goal.invariant-loop-left
+invariant-loop-left g l = record {
+  state : run_after (replicate l.left l.event) l.machine ≡ run_after (replicate l.times l.event) l.fn.machine;
+  bytes : l.sent.items ++ run_sent (replicate l.left l.event) l.machine ≡ l.fn.sent.items ++ run_sent (replicate l.times l.event) l.fn.machine;
+  len : vec_len l.sent + l.left ≤ vec_len l.fn.sent + l.times;
+  room : vec_len l.sent + l.left ≤ vec_capacity l.sent;
+}
+
+abbrev pub decreases-loop-left : goal.decreases-loop-left
+decreases-loop-left g l = l.left

@@ -1,0 +1,44 @@
+use Rattle.std.proofs.Common.{◌≡◌, ℕ, suc, true, false, ◌+◌, ◌-◌, ◌∷◌, ◌++◌, length, ◌∙◌, ap, sym, arith}
+use Rattle.std.specs.Prelude.{option_to_list}
+use Rattle.std.proofs.lemmas.Grind.{common_steps}
+use Rattle.hart.specs.declared.event.Event.TheVariants.{Step}
+use Rattle.debugger.specs.Lines.{goes_on}
+use Rattle.debugger.specs.Reply.{steps_until}
+use Rattle.debugger.proofs.RunSteps.{state_goes_on, bytes_go_on, one_step, no_step, some_step}
+use Rattle.debugger.proofs.run.steps_until.Goals as goal
+
+pub loop-machine-preserved : goal.loop-machine-preserved
+loop-machine-preserved g c =
+    let l = c.loop-machine in
+    let a = c.args.address in
+    let m = c.event-out.new.self in
+    let more : goes_on a l.left l.machine ≡ true = sym c.goes_on.ensures ∙ c.loop-machine-test.true in
+    let some = some_step a l.left l.machine more in
+    let first = one_step a l.left l.machine m c.event-out.ensures.state more in
+    record {
+      state = state_goes_on (steps_until a l.left l.machine) Step (steps_until a (l.left - 1) m) first l.machine m c.event-out.ensures.state _ l.invariant.state;
+      bytes = bytes_go_on (steps_until a l.left l.machine) Step (steps_until a (l.left - 1) m) first l.machine m c.event-out.ensures.state _ l.sent.items _
+          (c.emit.ensures.items ∙ ap (λ b. l.sent.items ++ option_to_list b) c.event-out.ensures.byte) l.invariant.bytes;
+      count = omega (arith, some, l.invariant.below, l.invariant.count, ap length first);
+      below = omega (arith, l.invariant.below);
+      len = omega (arith, some, c.emit.ensures.len, l.invariant.len);
+      room = omega (arith, some, c.emit.ensures.len, c.emit.ensures.room, l.invariant.room);
+    }
+
+pub returns-clause-state : goal.returns-clause-state
+returns-clause-state g c =
+    let l = c.loop-machine in
+    let e = no_step c.args.address l.left l.machine (sym c.goes_on.ensures ∙ c.loop-machine-test.false) in
+    rw e at l.invariant.state
+
+pub returns-clause-bytes : goal.returns-clause-bytes
+returns-clause-bytes g c =
+    let l = c.loop-machine in
+    let e = no_step c.args.address l.left l.machine (sym c.goes_on.ensures ∙ c.loop-machine-test.false) in
+    grind (arith, common_steps, rw e at l.invariant.bytes)
+
+pub returns-clause-count : goal.returns-clause-count
+returns-clause-count g c =
+    let l = c.loop-machine in
+    let e = no_step c.args.address l.left l.machine (sym c.goes_on.ensures ∙ c.loop-machine-test.false) in
+    omega (arith, rw e at l.invariant.count)

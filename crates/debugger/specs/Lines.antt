@@ -1,0 +1,47 @@
+-- One line of each kind of register, by its number.
+use Rattle.std.specs.Prelude.{ℕ, Bool, true, not, ◌&&◌, ◌||◌, ◌==◌, nat_lt, is_some, List, [], ◌++◌, Option, Some, None, codes, decimal}
+use Rattle.cap_bounds.specs.CapValue.{CapValue}
+use Rattle.special_regs.specs.declared.csrs.Csrs.{Csrs}
+use Rattle.special_regs.specs.Scrs.{Scrs, scr_value}
+use Rattle.special_regs.specs.CsrValues.{csr_value}
+use Rattle.hart.specs.State.{State, pc_of}
+use Rattle.hart.specs.Registers.{register}
+use Rattle.asm_names.specs.Registers.{register_name}
+use Rattle.asm_names.specs.SpecialNames.{csr_name, scr_name}
+use Rattle.disassembler.specs.Hex.{hex_of}
+use Rattle.disassembler.specs.Shown.{name_or}
+use Rattle.debugger.specs.Capability.{value_line}
+use Rattle.debugger.specs.Reply.{shown_sent, shown_end}
+
+abbrev pub register_line : State → ℕ → List ℕ
+register_line s n = value_line (name_or [] (register_name true n)) (register s.registers n)
+
+-- a register's value under its name; no register has no line
+abbrev pub line_of : List ℕ → Option CapValue → List ℕ
+line_of name (Some v) = value_line name v
+line_of name None = []
+
+abbrev pub scr_line : Scrs → ℕ → List ℕ
+scr_line s n = line_of (name_or [] (scr_name n)) (scr_value s n)
+
+abbrev pub number_line : List ℕ → Option ℕ → List ℕ
+number_line name (Some n) = name ++ codes " " ++ hex_of 16 n ++ codes "\n"
+number_line name None = []
+
+abbrev pub csr_line : Csrs → Scrs → ℕ → ℕ → List ℕ
+csr_line c s mip n = number_line (name_or [] (csr_name n)) (csr_value c s mip n)
+
+-- a byte behind a space
+abbrev pub spaced : ℕ → List ℕ
+spaced b = codes " " ++ hex_of 2 b
+
+-- so many events and what was sent; where the machine stands
+abbrev pub given_part : ℕ → List ℕ → List ℕ
+given_part count bytes = codes "events " ++ decimal count ++ codes " out " ++ shown_sent bytes
+
+abbrev pub place_part : State → List ℕ
+place_part s = codes " pc " ++ hex_of 16 (pc_of s) ++ codes " " ++ shown_end s.devices.halted ++ codes "\n"
+
+-- whether `until` gives one more step
+abbrev pub goes_on : ℕ → ℕ → State → Bool
+goes_on address left s = nat_lt 0 left && not ((pc_of s == address) || is_some s.devices.halted)

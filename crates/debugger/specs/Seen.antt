@@ -1,0 +1,77 @@
+-- What the code's own commands and replies say, and the words of a line as they are cut off.
+use Rattle.std.specs.Prelude.{◌≡◌, ℕ, ◌%◌, ◌<◌, ◌≤◌, ⊤, Bool, true, not, nat_lt, ℤ, List, [], ◌∷◌, Option, Some, None, option_map, Result, Ok, Err}
+use Rattle.asm_lines.specs.declared.fault.LineFault.{LineFault}
+use Rattle.asm_lines.specs.Text.{is_blank}
+use Rattle.asm_lines.specs.Operand.{wrapped}
+use Rattle.debugger.specs.declared.fault.DebugFault.{DebugFault}
+use Rattle.debugger.specs.declared.command.Command.{Command as Request}
+use Rattle.debugger.specs.declared.command.Command.TheVariants.{Step, Tick, Byte, Until, Reg, Regs, Scr, Csr, Mem, Dis, Quit}
+use Rattle.debugger.specs.declared.words.Kind.{Kind}
+use Rattle.debugger.specs.declared.words.Kind.TheVariants.{Blank, Solid, Ascii}
+use Rattle.debugger.specs.Command.{Command, step, tick, byte, until, reg, regs, scr, csr, mem, dis, quit}
+
+-- whether a byte is of a kind
+abbrev pub is_in : Kind → ℕ → Bool
+is_in Blank b = is_blank b
+is_in Solid b = not (is_blank b)
+is_in Ascii b = nat_lt b 128
+
+abbrev pub seen_command : Request → Command
+seen_command (Step n) = step n
+seen_command (Tick n) = tick n
+seen_command (Byte b) = byte b
+seen_command (Until address n) = until address n
+seen_command (Reg n) = reg n
+seen_command Regs = regs
+seen_command Scr = scr
+seen_command Csr = csr
+seen_command (Mem address n) = mem address n
+seen_command (Dis address n) = dis address n
+seen_command Quit = quit
+
+abbrev pub seen_request : Result Request DebugFault → Result Command DebugFault
+seen_request (Ok request) = Ok (seen_command request)
+seen_request (Err fault) = Err fault
+
+-- the command that a number makes
+abbrev pub made_of : (ℕ → Command) → Result ℕ DebugFault → Result Command DebugFault
+made_of make (Ok n) = Ok (make n)
+made_of make (Err fault) = Err fault
+
+-- the command that an address and a number make
+abbrev pub made_of_two : (ℕ → ℕ → Command) → Result (ℕ × ℕ) DebugFault → Result Command DebugFault
+made_of_two make (Ok p) = Ok (make p.0 p.1)
+made_of_two make (Err fault) = Err fault
+
+-- a number that was read
+abbrev pub read_number : Result ℤ LineFault → Option ℕ
+read_number (Ok n) = Some (wrapped n)
+read_number (Err fault) = None
+
+-- what is known of a command's operands
+abbrev pub IsWithinLimits : Request → Type 0
+IsWithinLimits (Step n) = n ≤ 1000000
+IsWithinLimits (Tick n) = n ≤ 1000000
+IsWithinLimits (Byte b) = ⊤
+IsWithinLimits (Until address n) = n ≤ 1000000
+IsWithinLimits (Reg n) = n < 32
+IsWithinLimits Regs = ⊤
+IsWithinLimits Scr = ⊤
+IsWithinLimits Csr = ⊤
+IsWithinLimits (Mem address n) = n ≤ 4096
+IsWithinLimits (Dis address n) = (n ≤ 1024) × (address % 4 ≡ 0)
+IsWithinLimits Quit = ⊤
+
+-- the most events that a command gives
+abbrev pub most_of : Request → ℕ
+most_of (Step n) = n
+most_of (Tick n) = n
+most_of (Byte b) = 1
+most_of (Until address n) = n
+most_of (Reg n) = 0
+most_of Regs = 0
+most_of Scr = 0
+most_of Csr = 0
+most_of (Mem address n) = 0
+most_of (Dis address n) = 0
+most_of Quit = 0

@@ -1,0 +1,191 @@
+//! Commands as they are written.
+ghost use Rattle.std.specs.Prelude.{◌≡◌, ℕ, ◌≤◌, ◌<◌, ◌%◌, IfOk, IfSome, nat_eq, codes, option_map};
+ghost use Rattle.std.specs.Cmp.Lexicographic.{pointwise};
+ghost use Rattle.asm_names.specs.Registers.{register_named};
+ghost use Rattle.debugger.specs.Command.{Command as Written, step, tick, byte, until, reg, regs, mem, dis, words_of, number_between, operands_or_B2, one_number, address_and_number, one_register, nothing_more, at_a_word, command_named, command_of};
+ghost use Rattle.debugger.specs.Seen.{seen_command, seen_request, made_of, made_of_two, read_number, IsWithinLimits};
+
+use crate::fault::DebugFault;
+use crate::words::{Kind, run_length, split_word};
+use asm_lines::natural;
+use asm_names::register_named;
+
+/// The most bytes that a line has.
+const MOST_BYTES: usize = 255;
+
+/// The most events that a command gives.
+const MOST_EVENTS: u64 = 1_000_000;
+
+/// The most bytes that a command shows.
+const MOST_SHOWN: u64 = 4096;
+
+/// The most words that a command disassembles.
+const MOST_WORDS: u64 = 1024;
+
+/// A command of a session.
+#[derive(Clone, Copy)]
+pub(crate) enum Command {
+    /// So many steps.
+    Step(u64),
+    /// So many ticks.
+    Tick(u64),
+    /// One byte on the console's line.
+    Byte(u8),
+    /// Steps until PCC's address is this one, at most so many.
+    Until { address: u64, most: u64 },
+    /// A register.
+    Reg(u8),
+    /// All registers.
+    Regs,
+    /// The special capability registers.
+    Scr,
+    /// The control and status registers.
+    Csr,
+    /// So many bytes from an address.
+    Mem { address: u64, count: u64 },
+    /// So many words from an address, as instructions.
+    Dis { address: u64, count: u64 },
+    /// The end.
+    Quit,
+}
+
+/// A number of `low` to `high`.
+fn number(text: &[u8], low: u64, high: u64) -> Option<u64>
+    ensures value { result ≡ read_number (number_between low high text.now) }
+    ensures bound { IfSome result (λ n. n ≤ high) }
+{
+    match natural(text, high) {
+        Ok(number) if number >= low => Some(number),
+        _ => None,
+    }
+}
+
+/// The only operand, a number of `low` to `high`, or B2.
+fn one_number(operands: &[u8], low: u64, high: u64) -> Result<u64, DebugFault>
+    ensures value { (make : ℕ → Written) →
+        operands_or_B2 (one_number make low high (words_of operands.now)) ≡ made_of make result }
+    ensures bound { IfOk result (λ n. n ≤ high) }
+{
+    let Some((word, rest)) = split_word(operands) else {
+        return Err(DebugFault::B2);
+    };
+    if split_word(rest).is_some() {
+        return Err(DebugFault::B2);
+    }
+    number(word, low, high).ok_or(DebugFault::B2)
+}
+
+/// The only two operands, an address and a number of 1 to `high`, or B2.
+fn address_and_number(operands: &[u8], high: u64) -> Result<(u64, u64), DebugFault>
+    ensures value { (make : ℕ → ℕ → Written) →
+        operands_or_B2 (address_and_number make high (words_of operands.now)) ≡ made_of_two make result }
+    ensures bound { IfOk result (λ p. p.1 ≤ high) }
+{
+    let Some((address, rest)) = split_word(operands) else {
+        return Err(DebugFault::B2);
+    };
+    let Some((count, rest)) = split_word(rest) else {
+        return Err(DebugFault::B2);
+    };
+    if split_word(rest).is_some() {
+        return Err(DebugFault::B2);
+    }
+    let Some(address) = number(address, 0, u64::MAX) else {
+        return Err(DebugFault::B2);
+    };
+    match number(count, 1, high) {
+        Some(count) => Ok((address, count)),
+        None => Err(DebugFault::B2),
+    }
+}
+
+/// The only operand, a register's name, or B2.
+fn one_register(operands: &[u8]) -> Result<Command, DebugFault>
+    ensures value { seen_request result ≡ operands_or_B2 (one_register (words_of operands.now)) }
+    ensures limits { IfOk result IsWithinLimits }
+{
+    let Some((word, rest)) = split_word(operands) else {
+        return Err(DebugFault::B2);
+    };
+    if split_word(rest).is_some() {
+        return Err(DebugFault::B2);
+    }
+    match register_named(word) {
+        Some(n) => Ok(Command::Reg(n)),
+        None => Err(DebugFault::B2),
+    }
+}
+
+/// The command that has no operands, or B2 where there are some.
+fn nothing_more(command: Command, operands: &[u8]) -> Result<Command, DebugFault>
+    ensures value { seen_request result ≡ operands_or_B2 (nothing_more (seen_command command) (words_of operands.now)) }
+    ensures limits { IfOk result (λ same. same ≡ command) }
+{
+    match split_word(operands) {
+        Some(_) => Err(DebugFault::B2),
+        None => Ok(command),
+    }
+}
+
+/// Words from a multiple of 4 on, or B2.
+fn words_at(operands: &[u8]) -> Result<Command, DebugFault>
+    ensures value { seen_request result ≡ operands_or_B2 (at_a_word (address_and_number dis 1024 (words_of operands.now))) }
+    ensures limits { IfOk result IsWithinLimits }
+{
+    let (address, count) = address_and_number(operands, MOST_WORDS)?;
+    if address % 4 != 0 {
+        return Err(DebugFault::B2);
+    }
+    Ok(Command::Dis { address, count })
+}
+
+/// The command of a name and operands: B1 where no command has that name, and else B2 where the operands are not its own.
+#[tactic(auto, unfolding(crate::specs::Command::command_named))]
+fn command_named(name: &[u8], operands: &[u8]) -> Result<Command, DebugFault>
+    ensures value { seen_request result ≡ command_named name.now (words_of operands.now) }
+    ensures limits { IfOk result IsWithinLimits }
+{
+    if name == "step".as_bytes() {
+        Ok(Command::Step(one_number(operands, 1, MOST_EVENTS)?))
+    } else if name == "tick".as_bytes() {
+        Ok(Command::Tick(one_number(operands, 1, MOST_EVENTS)?))
+    } else if name == "byte".as_bytes() {
+        Ok(Command::Byte(one_number(operands, 0, 255)? as u8))
+    } else if name == "until".as_bytes() {
+        let (address, most) = address_and_number(operands, MOST_EVENTS)?;
+        Ok(Command::Until { address, most })
+    } else if name == "reg".as_bytes() {
+        one_register(operands)
+    } else if name == "regs".as_bytes() {
+        nothing_more(Command::Regs, operands)
+    } else if name == "scr".as_bytes() {
+        nothing_more(Command::Scr, operands)
+    } else if name == "csr".as_bytes() {
+        nothing_more(Command::Csr, operands)
+    } else if name == "mem".as_bytes() {
+        let (address, count) = address_and_number(operands, MOST_SHOWN)?;
+        Ok(Command::Mem { address, count })
+    } else if name == "dis".as_bytes() {
+        words_at(operands)
+    } else if name == "quit".as_bytes() {
+        nothing_more(Command::Quit, operands)
+    } else {
+        Err(DebugFault::B1)
+    }
+}
+
+/// The command that a line writes: B2 where the line has more than 255 bytes or one of 128 or more; else B1 where its first word
+/// is no command's name or there is none, and else B2 where the operands are not that command's.
+#[tactic(auto, unfolding(crate::specs::Command::command_of))]
+pub(crate) fn command_of(line: &[u8]) -> Result<Command, DebugFault>
+    ensures value { seen_request result ≡ command_of line.now }
+    ensures limits { IfOk result IsWithinLimits }
+{
+    if line.len() > MOST_BYTES || run_length(line, Kind::Ascii) < line.len() {
+        return Err(DebugFault::B2);
+    }
+    match split_word(line) {
+        Some((name, operands)) => command_named(name, operands),
+        None => Err(DebugFault::B1),
+    }
+}

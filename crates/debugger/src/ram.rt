@@ -1,0 +1,179 @@
+//! Bytes and words of RAM as lines of text.
+ghost use Rattle.std.specs.Prelude.{◌≡◌, ◌+◌, ◌-◌, ◌*◌, ◌/◌, ◌%◌, ◌^◌, ◌<◌, ◌≤◌, ◌++◌, [], ◌∷◌, IsTrue, IfOk, OnOk, string_bytes, length, take, drop};
+ghost use Rattle.std.specs.List.{flat_map};
+ghost use Rattle.tagged_memory.specs.Memory.{is_in_ram, bytes_at, number_at, ram_base};
+ghost use Rattle.disassembler.specs.Hex.{hex_of};
+ghost use Rattle.debugger.specs.Reply.{byte_line, byte_lines, word_line, word_lines};
+ghost use Rattle.debugger.specs.Lines.{spaced};
+
+use crate::text::{put, put_hex};
+use crate::words::{before, behind};
+use disassembler::disassemble;
+use std::alloc::{AllocError, Global};
+use tagged_memory::{Memory, RAM_BASE, Size};
+
+/// The bytes of a page.
+const PAGE_BYTES: u64 = 4096;
+
+/// The most bytes of a line.
+const LINE_BYTES: usize = 16;
+
+/// Whether so many bytes from an address lie in RAM.
+#[tactic(auto, unfolding(tagged_memory::specs::Memory::is_in_ram))]
+pub(crate) fn is_in_ram(memory: &Memory, address: u64, count: u64) -> bool
+    ensures { result ≡ is_in_ram memory.now address count }
+{
+    let end = RAM_BASE + PAGE_BYTES * u64::from(memory.pages());
+    address >= RAM_BASE && count <= end && address <= end - count
+}
+
+/// The byte at an address.
+#[tactic(auto, unfolding(tagged_memory::specs::Memory::access_fault, tagged_memory::specs::Memory::is_in_ram), using(crate::proofs::RamBytes::one_byte))]
+fn byte_at(memory: &Memory, address: u64) -> u8
+    requires low { ram_base ≤ address }
+    requires high { address < ram_base + length memory.now.bytes }
+    ensures { bytes_at memory.now address 1 ≡ result ∷ [] }
+{
+    match memory.read(address, Size::Byte) {
+        Ok(byte) => byte as u8,
+        Err(_) => unreachable!(),
+    }
+}
+
+/// The bytes from an address.
+fn bytes_at(alloc: Global, memory: &Memory, address: u64, count: u64) -> Result<Vec<u8>, AllocError>
+    requires low { ram_base ≤ address }
+    requires high { address + count ≤ ram_base + length memory.now.bytes }
+    requires fits { address + count < 2 ^ 64 }
+    ensures { IfOk result (λ bytes. bytes.items ≡ bytes_at memory.now address count) }
+{
+    let mut bytes = Vec::with_capacity(alloc, count as usize)?;
+    for i in 0..count {
+        bytes.push(byte_at(memory, address + i))?;
+    }
+    Ok(bytes)
+}
+
+/// Puts bytes, two digits each and a space before each, behind a text.
+fn put_bytes(text: &mut String, bytes: &[u8]) -> Result<(), AllocError>
+    ensures { OnOk result (string_bytes text.new ≡ string_bytes text.old ++ flat_map spaced bytes.now) }
+{
+    match bytes {
+        [] => Ok(()),
+        [first, rest @ ..] => {
+            put(text, " ")?;
+            put_hex(text, 2, u128::from(*first))?;
+            put_bytes(text, rest)
+        }
+    }
+}
+
+/// Puts a line behind a text: an address and bytes.
+fn put_byte_line(text: &mut String, address: u64, bytes: &[u8]) -> Result<(), AllocError>
+    ensures { OnOk result (string_bytes text.new ≡ string_bytes text.old ++ byte_line address bytes.now) }
+{
+    put_hex(text, 16, u128::from(address))?;
+    put(text, ":")?;
+    put_bytes(text, bytes)?;
+    put(text, "\n")
+}
+
+/// The first 16 bytes, or all where there are fewer.
+fn first_line(bytes: &[u8]) -> &[u8]
+    ensures { result.now ≡ take 16 bytes.now }
+{
+    if bytes.len() < LINE_BYTES {
+        bytes
+    } else {
+        before(bytes, LINE_BYTES)
+    }
+}
+
+/// The bytes behind the first 16.
+fn other_lines(bytes: &[u8]) -> &[u8]
+    ensures { result.now ≡ drop 16 bytes.now }
+{
+    if bytes.len() < LINE_BYTES {
+        &[]
+    } else {
+        behind(bytes, LINE_BYTES)
+    }
+}
+
+/// Puts lines of up to 16 bytes behind a text, so many at most.
+fn put_byte_lines(text: &mut String, lines: u64, address: u64, bytes: &[u8]) -> Result<(), AllocError>
+    requires lines { length bytes.now ≤ lines }
+    requires fits { address + 16 * lines < 2 ^ 64 }
+    ensures { OnOk result (string_bytes text.new ≡ string_bytes text.old ++ byte_lines lines address bytes.now) }
+{
+    if bytes.is_empty() {
+        return Ok(());
+    }
+    put_byte_line(text, address, first_line(bytes))?;
+    put_byte_lines(text, lines - 1, address + 16, other_lines(bytes))?;
+    Ok(())
+}
+
+/// Puts the lines of so many bytes from an address behind a text.
+#[tactic(auto, unfolding(tagged_memory::specs::Memory::is_in_ram))]
+pub(crate) fn put_memory(text: &mut String, alloc: Global, memory: &Memory, address: u64, count: u64) -> Result<(), AllocError>
+    requires { IsTrue (is_in_ram memory.now address count) }
+    ensures { OnOk result (string_bytes text.new ≡ string_bytes text.old ++ byte_lines count address (bytes_at memory.now address count)) }
+{
+    let _pages = memory.pages();
+    let bytes = bytes_at(alloc, memory, address, count)?;
+    put_byte_lines(text, count, address, &bytes)
+}
+
+/// The word at an address.
+#[tactic(auto, unfolding(tagged_memory::specs::Memory::access_fault, tagged_memory::specs::Memory::is_in_ram))]
+fn word_at(memory: &Memory, address: u64) -> u32
+    requires aligned { address % 4 ≡ 0 }
+    requires low { ram_base ≤ address }
+    requires high { address + 4 ≤ ram_base + length memory.now.bytes }
+    ensures { result ≡ number_at memory.now address 4 }
+{
+    match memory.read(address, Size::Word) {
+        Ok(word) => word as u32,
+        Err(_) => unreachable!(),
+    }
+}
+
+/// Puts a line behind a text: an address, a word, and its text in a mode.
+fn put_word_line(text: &mut String, mode: bool, address: u64, word: u32) -> Result<(), AllocError>
+    ensures { OnOk result (string_bytes text.new ≡ string_bytes text.old ++ word_line mode address word) }
+{
+    put_hex(text, 16, u128::from(address))?;
+    put(text, " ")?;
+    put_hex(text, 8, u128::from(word))?;
+    put(text, " ")?;
+    put(text, disassemble(word, mode).as_str())?;
+    put(text, "\n")
+}
+
+/// Puts the lines of so many words from an address behind a text.
+fn put_words_from(text: &mut String, memory: &Memory, mode: bool, address: u64, count: u64) -> Result<(), AllocError>
+    requires aligned { address % 4 ≡ 0 }
+    requires low { ram_base ≤ address }
+    requires high { address + 4 * count ≤ ram_base + length memory.now.bytes }
+    requires fits { address + 4 * count < 2 ^ 64 }
+    ensures { OnOk result (string_bytes text.new ≡ string_bytes text.old ++ word_lines mode memory.now count address) }
+{
+    if count == 0 {
+        return Ok(());
+    }
+    put_word_line(text, mode, address, word_at(memory, address))?;
+    put_words_from(text, memory, mode, address + 4, count - 1)?;
+    Ok(())
+}
+
+/// Puts the lines of so many words from an address behind a text.
+#[tactic(auto, unfolding(tagged_memory::specs::Memory::is_in_ram))]
+pub(crate) fn put_words(text: &mut String, memory: &Memory, mode: bool, address: u64, count: u64) -> Result<(), AllocError>
+    requires aligned { address % 4 ≡ 0 }
+    requires in_ram { IsTrue (is_in_ram memory.now address (4 * count)) }
+    ensures { OnOk result (string_bytes text.new ≡ string_bytes text.old ++ word_lines mode memory.now count address) }
+{
+    let _pages = memory.pages();
+    put_words_from(text, memory, mode, address, count)
+}

@@ -1,0 +1,221 @@
+//! The events that a command gives, and the line that tells of them.
+ghost use Rattle.std.specs.Prelude.{◌≡◌, ◌+◌, ◌*◌, ◌<◌, ◌≤◌, ◌++◌, IfOk, IfErr, OnOk, OnErr, replicate, length, vec_len, vec_capacity, string_bytes, string_len, string_capacity, option_to_list};
+ghost use Rattle.std.specs.List.{flat_map};
+ghost use Rattle.special_regs.specs.Scrs.{scr_value};
+ghost use Rattle.hart.specs.State.{pc_of};
+ghost use Rattle.machine.specs.Run.{run_after, run_sent};
+ghost use Rattle.disassembler.specs.Hex.{hex_of};
+ghost use Rattle.debugger.specs.Reply.{steps_until as until_steps, events_of, events_line, shown_sent, shown_end};
+ghost use Rattle.debugger.specs.Lines.{given_part, place_part, goes_on};
+ghost use Rattle.debugger.specs.Seen.{seen_command, most_of, IsWithinLimits};
+
+use crate::command::Command;
+use crate::fault::DebugFault;
+use crate::text::{put, put_decimal, put_hex};
+use cap_bounds::CapRep;
+use machine::{Event, Machine};
+use std::alloc::{AllocError, Global};
+
+/// The number of PCC.
+const PCC: u8 = 0;
+
+/// The bytes that a line of events has at most, besides two for each byte that was sent.
+const LINE_ROOM: usize = 200;
+
+/// PCC's address.
+#[tactic(auto, unfolding(special_regs::specs::Scrs::scr_value))]
+fn pc<C: CapRep>(machine: &Machine<C>) -> u64
+    ensures { result ≡ pc_of machine.now }
+{
+    machine.scr(PCC).address()
+}
+
+/// Puts the byte that was sent, if one was, behind the others, for which there is room.
+fn emit(sent: &mut Vec<u8>, byte: Option<u8>)
+    requires { vec_len sent.old < vec_capacity sent.old }
+    ensures items { sent.new.items ≡ sent.old.items ++ option_to_list byte }
+    ensures len { vec_len sent.new ≤ vec_len sent.old + 1 }
+    ensures room { vec_capacity sent.old ≤ vec_capacity sent.new }
+{
+    if let Some(byte) = byte {
+        sent.push(byte).unwrap();
+    }
+}
+
+/// Gives an event so many times, and puts what is sent behind the other bytes, for which there is room.
+fn repeat<C: CapRep>(machine: &mut Machine<C>, event: Event, times: u64, sent: &mut Vec<u8>)
+    requires { vec_len sent.old + times ≤ vec_capacity sent.old }
+    ensures state { machine.new ≡ run_after (replicate times event) machine.old }
+    ensures bytes { sent.new.items ≡ sent.old.items ++ run_sent (replicate times event) machine.old }
+    ensures len { vec_len sent.new ≤ vec_len sent.old + times }
+{
+    let mut left = times;
+    while left > 0 {
+        let out = machine.event(event);
+        emit(sent, out.byte);
+        left -= 1;
+    }
+}
+
+/// Whether `until` gives one more step: fewer than the most were given, PCC's address is another, and the machine isn't halted.
+fn goes_on<C: CapRep>(machine: &Machine<C>, address: u64, left: u64) -> bool
+    ensures { result ≡ goes_on address left machine.now }
+{
+    left > 0 && !(pc(machine) == address || machine.halted().is_some())
+}
+
+/// Gives steps until PCC's address is this one or the machine is halted, at most so many, and answers how many there were.
+fn steps_until<C: CapRep>(machine: &mut Machine<C>, address: u64, most: u64, sent: &mut Vec<u8>) -> u64
+    requires { vec_len sent.old + most ≤ vec_capacity sent.old }
+    ensures state { machine.new ≡ run_after (until_steps address most machine.old) machine.old }
+    ensures bytes { sent.new.items ≡ sent.old.items ++ run_sent (until_steps address most machine.old) machine.old }
+    ensures count { result ≡ length (until_steps address most machine.old) }
+    ensures len { vec_len sent.new ≤ vec_len sent.old + most }
+{
+    let mut left = most;
+    while goes_on(machine, address, left) {
+        let out = machine.event(Event::Step);
+        emit(sent, out.byte);
+        left -= 1;
+    }
+    most - left
+}
+
+/// The most events that a command gives.
+fn most_events(command: Command) -> u64
+    requires { IsWithinLimits command }
+    ensures value { result ≡ most_of command }
+    ensures bound { result ≤ 1000000 }
+{
+    match command {
+        Command::Step(n) | Command::Tick(n) => n,
+        Command::Until { most, .. } => most,
+        Command::Byte(_) => 1,
+        _ => 0,
+    }
+}
+
+/// Gives the events of a command, puts what is sent behind the other bytes, for which there is room, and answers how many there
+/// were.
+#[tactic(auto, unfolding(crate::specs::Reply::events_of))]
+fn give<C: CapRep>(machine: &mut Machine<C>, command: Command, sent: &mut Vec<u8>) -> u64
+    requires { vec_len sent.old + most_of command ≤ vec_capacity sent.old }
+    ensures state { machine.new ≡ run_after (events_of (seen_command command) machine.old) machine.old }
+    ensures bytes { sent.new.items ≡ sent.old.items ++ run_sent (events_of (seen_command command) machine.old) machine.old }
+    ensures count { result ≡ length (events_of (seen_command command) machine.old) }
+    ensures len { vec_len sent.new ≤ vec_len sent.old + most_of command }
+{
+    match command {
+        Command::Step(n) => {
+            repeat(machine, Event::Step, n, sent);
+            n
+        }
+        Command::Tick(n) => {
+            repeat(machine, Event::Tick, n, sent);
+            n
+        }
+        Command::Byte(byte) => {
+            repeat(machine, Event::Byte(byte), 1, sent);
+            1
+        }
+        Command::Until { address, most } => steps_until(machine, address, most, sent),
+        _ => 0,
+    }
+}
+
+/// Puts bytes, two digits each, behind a text.
+fn put_pairs(text: &mut String, bytes: &[u8]) -> Result<(), AllocError>
+    ensures bytes { OnOk result (string_bytes text.new ≡ string_bytes text.old ++ flat_map (hex_of 2) bytes.now) }
+    ensures len { OnOk result (string_len text.new ≡ string_len text.old + 2 * length bytes.now) }
+    ensures capacity { string_capacity text.old ≤ string_capacity text.new }
+    ensures full { OnErr result (string_capacity text.old < string_len text.old + 2 * length bytes.now) }
+{
+    for byte in bytes {
+        put_hex(text, 2, u128::from(*byte))?;
+    }
+    Ok(())
+}
+
+/// Puts the bytes that were sent behind a text, or `-` where there are none.
+fn put_sent(text: &mut String, bytes: &[u8]) -> Result<(), AllocError>
+    ensures bytes { OnOk result (string_bytes text.new ≡ string_bytes text.old ++ shown_sent bytes.now) }
+    ensures len { OnOk result (string_len text.new ≤ string_len text.old + 2 * length bytes.now + 1) }
+    ensures capacity { string_capacity text.old ≤ string_capacity text.new }
+    ensures full { OnErr result (string_capacity text.old < string_len text.old + 2 * length bytes.now + 1) }
+{
+    match bytes {
+        [] => put(text, "-"),
+        [_, ..] => put_pairs(text, bytes),
+    }
+}
+
+/// Puts how a machine stands behind a text.
+fn put_end(text: &mut String, halted: Option<u64>) -> Result<(), AllocError>
+    ensures bytes { OnOk result (string_bytes text.new ≡ string_bytes text.old ++ shown_end halted) }
+    ensures len { OnOk result (string_len text.new ≤ string_len text.old + 47) }
+    ensures capacity { string_capacity text.old ≤ string_capacity text.new }
+    ensures full { OnErr result (string_capacity text.old < string_len text.old + 47) }
+{
+    match halted {
+        Some(number) => {
+            put(text, "halted ")?;
+            put_decimal(text, number)
+        }
+        None => put(text, "running"),
+    }
+}
+
+/// Puts how many events there were and what they sent behind a text.
+fn put_given(text: &mut String, count: u64, sent: &[u8]) -> Result<(), AllocError>
+    ensures bytes { OnOk result (string_bytes text.new ≡ string_bytes text.old ++ given_part count sent.now) }
+    ensures len { OnOk result (string_len text.new ≤ string_len text.old + 2 * length sent.now + 60) }
+    ensures capacity { string_capacity text.old ≤ string_capacity text.new }
+    ensures full { OnErr result (string_capacity text.old < string_len text.old + 2 * length sent.now + 60) }
+{
+    put(text, "events ")?;
+    put_decimal(text, count)?;
+    put(text, " out ")?;
+    put_sent(text, sent)
+}
+
+/// Puts where a machine stands behind a text.
+fn put_place<C: CapRep>(text: &mut String, machine: &Machine<C>) -> Result<(), AllocError>
+    ensures bytes { OnOk result (string_bytes text.new ≡ string_bytes text.old ++ place_part machine.now) }
+    ensures full { OnErr result (string_capacity text.old < string_len text.old + 80) }
+{
+    put(text, " pc ")?;
+    put_hex(text, 16, u128::from(pc(machine)))?;
+    put(text, " ")?;
+    put_end(text, machine.halted())?;
+    put(text, "\n")
+}
+
+/// Puts the line that tells of so many events and of what they sent behind a text.
+fn put_run_line<C: CapRep>(text: &mut String, machine: &Machine<C>, count: u64, sent: &[u8]) -> Result<(), AllocError>
+    ensures bytes { OnOk result (string_bytes text.new ≡ string_bytes text.old ++ (given_part count sent.now ++ place_part machine.now)) }
+    ensures full { OnErr result (string_capacity text.old < string_len text.old + 2 * length sent.now + 200) }
+{
+    put_given(text, count, sent)?;
+    put_place(text, machine)
+}
+
+/// Gives the events of a command, and answers the line that tells of them.
+///
+/// The line's room is made before the first event: B4 is for want of it, and then no event is given.
+pub(crate) fn told_events<C: CapRep>(alloc: Global, machine: &mut Machine<C>, command: Command) -> Result<String, DebugFault>
+    requires { IsWithinLimits command }
+    ensures text { IfOk result (λ text.
+        string_bytes text ≡ events_line (events_of (seen_command command) machine.old) machine.old) }
+    ensures state { OnOk result (machine.new ≡ run_after (events_of (seen_command command) machine.old) machine.old) }
+    ensures err { IfErr result (λ fault. fault ≡ DebugFault.B4) }
+    ensures same { OnErr result (machine.new ≡ machine.old) }
+{
+    let most = most_events(command) as usize;
+    let mut sent = Vec::with_capacity(alloc, most)?;
+    let mut text = String::with_capacity(alloc, 2 * most + LINE_ROOM)?;
+    let count = give(machine, command, &mut sent);
+    match put_run_line(&mut text, machine, count, &sent) {
+        Ok(()) => Ok(text),
+        Err(_) => unreachable!(),
+    }
+}

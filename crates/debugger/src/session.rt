@@ -1,0 +1,81 @@
+//! Sessions.
+ghost use Rattle.std.specs.Prelude.{◌≡◌, ◌⊎◌, false, Err, IfOk, IfErr, OnOk, OnErr};
+ghost use Rattle.debugger.specs.Reply.{command_in, state_after, is_outside};
+ghost use Rattle.debugger.specs.Seen.{seen_command, seen_request, IsWithinLimits};
+ghost use Rattle.debugger.specs.Answers.{seen_reply, IsAnswer};
+
+use crate::answer::{answer, is_outside};
+use crate::command::{Command, command_of};
+use crate::fault::DebugFault;
+use crate::reply::Reply;
+use cap_bounds::CapRep;
+use machine::Machine;
+use std::alloc::Global;
+use std::marker::Model;
+
+/// A machine that is driven by commands.
+#[derive(Drop)]
+pub struct Session<C: CapRep> {
+    alloc: Global,
+    machine: Machine<C>,
+}
+
+impl<C: CapRep> Model for Session<C> {
+    ghost use Rattle.std.specs.Coded.{codes};
+    ghost use Rattle.tagged_memory.specs.Layout.{memory_code};
+    ghost use Rattle.hart.specs.State.{State};
+
+    ghost Value = { State };
+
+    ghost coded = { Prim.hlevel (codes, memory_code) };
+
+    ghost view = { λ s. s.machine };
+}
+
+/// The command that a line writes, if it may be done: of a command's faults B1 comes before B2 and B2 before B3.
+fn accepted<C: CapRep>(machine: &Machine<C>, line: &str) -> Result<Command, DebugFault>
+    ensures value { seen_request result ≡ command_in line.now machine.now }
+    ensures limits { IfOk result IsWithinLimits }
+    ensures inside { IfOk result (λ command. is_outside (seen_command command) machine.now ≡ false) }
+{
+    let command = command_of(line.as_bytes())?;
+    if is_outside(machine, command) {
+        return Err(DebugFault::B3);
+    }
+    Ok(command)
+}
+
+impl<C: CapRep> Session<C> {
+    /// A session with a machine. It takes no memory; `alloc` is kept for its replies.
+    pub fn new(alloc: Global, machine: Machine<C>) -> Self
+        ensures { result ≡ machine }
+    {
+        Session { alloc, machine }
+    }
+
+    /// Does what a line asks for, and answers its reply.
+    ///
+    /// Commands are `step N`, `tick N`, `byte B`, `until ADDR N`, `reg R`, `regs`, `scr`, `csr`, `mem ADDR LEN`, `dis ADDR N` and
+    /// `quit`; numbers are those of the assembly language. Only the first four change anything.
+    ///
+    /// Refused with B1 where the line has no word or its first is no command; with B2 where its operands are others, and where the
+    /// line has more than 255 bytes or one of 128 or more, whatever its words; with B3 where some byte to be shown is outside RAM;
+    /// with B4 where there is no memory for the reply. A refused line changes nothing: the reply's room is made before the first
+    /// event.
+    pub fn command(&mut self, line: &str) -> Result<Reply, DebugFault>
+        ensures ok { IfOk result (λ reply. IsAnswer line.now self.old (seen_reply reply)) }
+        ensures state { OnOk result (self.new ≡ state_after line.now self.old) }
+        ensures err { IfErr result (λ fault. (fault ≡ DebugFault.B4) ⊎ (command_in line.now self.old ≡ Err fault)) }
+        ensures same { OnErr result (self.new ≡ self.old) }
+    {
+        let command = accepted(&self.machine, line)?;
+        answer(self.alloc, &mut self.machine, command)
+    }
+
+    /// The machine.
+    pub fn machine(&self) -> &Machine<C>
+        ensures { result.now ≡ self.now }
+    {
+        &self.machine
+    }
+}

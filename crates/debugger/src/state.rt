@@ -1,0 +1,126 @@
+//! The registers of a machine as lines of text.
+ghost use Rattle.std.specs.Prelude.{◌≡◌, ◌<◌, ◌++◌, ◌≤◌, IsTrue, Some, OnOk, string_bytes, drop};
+ghost use Rattle.std.specs.List.{flat_map, list_all};
+ghost use Rattle.asm_names.specs.Registers.{capability_names};
+ghost use Rattle.special_regs.specs.Scrs.{is_scr, scr_values};
+ghost use Rattle.special_regs.specs.CsrValues.{is_csr, csr_values};
+ghost use Rattle.devices.specs.Devices.{interrupts_of};
+ghost use Rattle.debugger.specs.Reply.{register_lines, scr_lines, csr_lines};
+ghost use Rattle.debugger.specs.Lines.{register_line, scr_line, csr_line, number_line};
+
+use crate::shown::put_value_line;
+use crate::text::{put, put_hex};
+use asm_names::{csr_name, register_name, scr_name};
+use cap_bounds::CapRep;
+use machine::Machine;
+use std::alloc::AllocError;
+
+/// The numbers of the special capability registers.
+const SCR_NUMBERS: [u8; 6] = [0, 1, 28, 29, 30, 31];
+
+/// The numbers of the control and status registers.
+const CSR_NUMBERS: [u16; 15] = [
+    0x300, 0x301, 0x304, 0x305, 0x340, 0x341, 0x342, 0x343, 0x344, 0xb00, 0xb02, 0xf11, 0xf12, 0xf13, 0xf14,
+];
+
+/// Puts the line of general register `n`, below 32, behind a text.
+pub(crate) fn put_register<C: CapRep>(text: &mut String, machine: &Machine<C>, n: u8) -> Result<(), AllocError>
+    requires { n < 32 }
+    ensures { OnOk result (string_bytes text.new ≡ string_bytes text.old ++ register_line machine.now n) }
+{
+    put_value_line(text, register_name(n, true), machine.reg(n))
+}
+
+/// Puts the lines of the general registers from `n` on behind a text.
+fn put_registers_from<C: CapRep>(text: &mut String, machine: &Machine<C>, n: u8) -> Result<(), AllocError>
+    requires { n ≤ 32 }
+    ensures { OnOk result (string_bytes text.new ≡ string_bytes text.old ++ register_lines machine.now n (drop n capability_names)) }
+{
+    if n == 32 {
+        return Ok(());
+    }
+    put_register(text, machine, n)?;
+    put_registers_from(text, machine, n + 1)?;
+    Ok(())
+}
+
+/// Puts the line of a special capability register behind a text.
+#[tactic(auto, unfolding(special_regs::specs::Scrs::scr_value))]
+fn put_scr<C: CapRep>(text: &mut String, machine: &Machine<C>, n: u8) -> Result<(), AllocError>
+    requires { IsTrue (is_scr n) }
+    ensures { OnOk result (string_bytes text.new ≡ string_bytes text.old ++ scr_line machine.now.scrs n) }
+{
+    put_value_line(text, scr_name(n).unwrap_or(""), machine.scr(n))
+}
+
+/// Puts a line behind a text: a name and 16 hexadecimal digits.
+fn put_number_line(text: &mut String, name: &str, n: u64) -> Result<(), AllocError>
+    ensures { OnOk result (string_bytes text.new ≡ string_bytes text.old ++ number_line name.now (Some n)) }
+{
+    put(text, name)?;
+    put(text, " ")?;
+    put_hex(text, 16, u128::from(n))?;
+    put(text, "\n")
+}
+
+/// Puts the line of a control and status register behind a text.
+fn put_csr<C: CapRep>(text: &mut String, machine: &Machine<C>, n: u16) -> Result<(), AllocError>
+    requires { IsTrue (is_csr n) }
+    ensures { OnOk result (string_bytes text.new ≡ string_bytes text.old
+        ++ csr_line machine.now.csrs machine.now.scrs (interrupts_of machine.now.devices) n) }
+{
+    put_number_line(text, csr_name(n).unwrap_or(""), machine.csr(n))
+}
+
+/// Puts the lines of all general registers behind a text.
+pub(crate) fn put_registers<C: CapRep>(text: &mut String, machine: &Machine<C>) -> Result<(), AllocError>
+    ensures { OnOk result (string_bytes text.new ≡ string_bytes text.old ++ register_lines machine.now 0 capability_names) }
+{
+    put_registers_from(text, machine, 0)
+}
+
+/// Puts the lines of these special capability registers behind a text.
+fn put_scrs_of<C: CapRep>(text: &mut String, machine: &Machine<C>, numbers: &[u8]) -> Result<(), AllocError>
+    requires { IsTrue (list_all is_scr numbers.now) }
+    ensures { OnOk result (string_bytes text.new ≡ string_bytes text.old ++ flat_map (scr_line machine.now.scrs) numbers.now) }
+{
+    match numbers {
+        [] => Ok(()),
+        [first, rest @ ..] => {
+            put_scr(text, machine, *first)?;
+            put_scrs_of(text, machine, rest)
+        }
+    }
+}
+
+/// Puts the lines of the special capability registers behind a text.
+#[tactic(auto, unfolding(special_regs::specs::Scrs::scr_value))]
+pub(crate) fn put_scrs<C: CapRep>(text: &mut String, machine: &Machine<C>) -> Result<(), AllocError>
+    ensures { OnOk result (string_bytes text.new ≡ string_bytes text.old ++ scr_lines (scr_values machine.now.scrs)) }
+{
+    put_scrs_of(text, machine, &SCR_NUMBERS)
+}
+
+/// Puts the lines of these control and status registers behind a text.
+fn put_csrs_of<C: CapRep>(text: &mut String, machine: &Machine<C>, numbers: &[u16]) -> Result<(), AllocError>
+    requires { IsTrue (list_all is_csr numbers.now) }
+    ensures { OnOk result (string_bytes text.new ≡ string_bytes text.old
+        ++ flat_map (csr_line machine.now.csrs machine.now.scrs (interrupts_of machine.now.devices)) numbers.now) }
+{
+    match numbers {
+        [] => Ok(()),
+        [first, rest @ ..] => {
+            put_csr(text, machine, *first)?;
+            put_csrs_of(text, machine, rest)
+        }
+    }
+}
+
+/// Puts the lines of the control and status registers behind a text.
+#[tactic(auto, unfolding(special_regs::specs::CsrValues::csr_value))]
+pub(crate) fn put_csrs<C: CapRep>(text: &mut String, machine: &Machine<C>) -> Result<(), AllocError>
+    ensures { OnOk result (string_bytes text.new ≡ string_bytes text.old
+        ++ csr_lines (csr_values machine.now.csrs machine.now.scrs (interrupts_of machine.now.devices))) }
+{
+    put_csrs_of(text, machine, &CSR_NUMBERS)
+}
