@@ -51,16 +51,28 @@ fn each_line_means_its_word(rt: HostRuntime) -> Result<(), Fail> {
 
 #[test]
 fn an_assembled_image_is_a_file_that_is_read_back(rt: HostRuntime) -> Result<(), Fail> {
-    assert_eq!(rt; file_of(rt.alloc(), FIRST)?.as_slice(), FIRST_FILE.as_slice());
+    assert_eq!(rt;
+        file_of(rt.alloc(), FIRST)?.as_slice(),
+        FIRST_FILE.as_slice()
+    );
 
     let file = file_of(rt.alloc(), b"cincoffset ca0, ca0, a1\n")?;
     assert_eq!(rt; file.len(), 52);
     assert_eq!(rt; &file[48..], [0x5b, 0x05, 0xb5, 0x22].as_slice());
     assert!(rt; read_file(rt.alloc(), file.as_slice()).is_ok());
-    assert_eq!(rt; read_file(rt.alloc(), &file[..51]).err(), Some(ImageFault::L8));
-    assert_eq!(rt; read_file(rt.alloc(), &file[..31]).err(), Some(ImageFault::L1));
+    assert_eq!(rt;
+        read_file(rt.alloc(), &file[..51]).err(),
+        Some(ImageFault::L8)
+    );
+    assert_eq!(rt;
+        read_file(rt.alloc(), &file[..31]).err(),
+        Some(ImageFault::L1)
+    );
     let mut longer = file;
     longer.push(0)?;
-    assert_eq!(rt; read_file(rt.alloc(), longer.as_slice()).err(), Some(ImageFault::L9));
+    assert_eq!(rt;
+        read_file(rt.alloc(), longer.as_slice()).err(),
+        Some(ImageFault::L9)
+    );
     Ok(())
 }

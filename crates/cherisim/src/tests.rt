@@ -56,7 +56,10 @@ fn each_fault_has_its_text(rt: HostRuntime) -> Result<(), Fail> {
         assert!(rt; has_text(&rt, ProgramFault::Image(*fault), text)?, "{text}");
     }
     for (fault, text) in MACHINE_TEXTS {
-        assert!(rt; has_text(&rt, ProgramFault::Machine(*fault), text)?, "{text}");
+        assert!(rt;
+            has_text(&rt, ProgramFault::Machine(*fault), text)?,
+            "{text}"
+        );
     }
     assert!(rt; has_text(&rt, ProgramFault::File("a.s"), "file a.s")?);
     assert!(rt; has_text(&rt, ProgramFault::Read, "read failed")?);
