@@ -84,8 +84,14 @@ assert len({row for _, row, *_ in made}) == 133
 print("//! Lines of assembly with their words, made by tools/asm_vectors.py: words of the base instruction set by GNU as, words of")
 print("//! CHERI-RISC-V from the fields of its encodings. Not written by hand.")
 print()
-print("/// A word and a line that means it, for each row by each of its names.")
-print(f"pub static VECTORS: [(u32, &str); {len(table)}] = [")
-for word, line in table:
-    print(f'    (0x{word:08x}, "{line}"),')
+print("/// Lines of assembly: each row by each of its names.")
+print('pub const TEXT: &str = "\\')
+for _, line in table:
+    print(f"    {line}\\n\\")
+print('";')
+print()
+print("/// The words that the lines mean, in order.")
+print(f"pub static WORDS: [u32; {len(table)}] = [")
+for word, _ in table:
+    print(f"    0x{word:08x},")
 print("];")

@@ -3,7 +3,7 @@
 
 mod table;
 
-pub use table::VECTORS;
+pub use table::{TEXT, WORDS};
 
 #[cfg(test)]
 mod tests;

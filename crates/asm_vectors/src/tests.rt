@@ -1,9 +1,10 @@
 //! Lines with their words, and texts with the files that they make, by the rules of both and not by the program.
 
-use super::VECTORS;
+use super::{TEXT, WORDS};
 use assembler::assemble;
 use image::{FromRead, Image, ImageFault, ToWrite, read, write};
 use std::alloc::Global;
+use std::process::Abort;
 use std::test::Fail;
 
 /// Sends `A` and halts with 0.
@@ -31,48 +32,40 @@ fn read_file(alloc: Global, file: &[u8]) -> Result<Image, ImageFault> {
     read(alloc, &mut FromRead::new(file))
 }
 
+/// Compares bytes with words, one after the other.
+fn compare(rt: &impl Abort, words: &[u32], bytes: &[u8]) {
+    assert_eq!(rt; bytes.len(), 4 * words.len());
+    for (word, bytes) in words.iter().zip(bytes.chunks_exact(4)) {
+        assert_eq!(rt; bytes, word.to_le_bytes().as_slice(), "{word:x}");
+    }
+}
+
 #[test]
 fn each_line_means_its_word(rt: HostRuntime) -> Result<(), Fail> {
-    let mut text = Vec::new(rt.alloc());
-    for (_, line) in &VECTORS {
-        text.extend_from_slice(line.as_bytes())?;
-        text.push(b'\n')?;
-    }
-    let assembly = assemble(rt.alloc(), text.as_slice())?;
+    let assembly = assemble(rt.alloc(), TEXT.as_bytes())?;
     let mut sections = assembly.image().sections().iter();
     let section = sections.next().ok_or("no section")?;
     assert!(rt; sections.next().is_none());
-    assert_eq!(rt; section.bytes().len(), 4 * VECTORS.len());
-    for ((word, line), bytes) in VECTORS.iter().zip(section.bytes().chunks_exact(4)) {
-        assert_eq!(rt; bytes, word.to_le_bytes().as_slice(), "{line}");
-    }
+    compare(&rt, &WORDS, section.bytes());
     Ok(())
+}
+
+/// The fault of the first bytes of a file.
+fn fault_of_first(alloc: Global, file: &[u8], count: usize) -> Option<ImageFault> {
+    read_file(alloc, file.get(..count)?).err()
 }
 
 #[test]
 fn an_assembled_image_is_a_file_that_is_read_back(rt: HostRuntime) -> Result<(), Fail> {
-    assert_eq!(rt;
-        file_of(rt.alloc(), FIRST)?.as_slice(),
-        FIRST_FILE.as_slice()
-    );
+    assert_eq!(rt; file_of(rt.alloc(), FIRST)?.as_slice(), FIRST_FILE.as_slice());
 
-    let file = file_of(rt.alloc(), b"cincoffset ca0, ca0, a1\n")?;
+    let mut file = file_of(rt.alloc(), b"cincoffset ca0, ca0, a1\n")?;
     assert_eq!(rt; file.len(), 52);
-    assert_eq!(rt; &file[48..], [0x5b, 0x05, 0xb5, 0x22].as_slice());
+    assert_eq!(rt; file.get(48..), Some([0x5b, 0x05, 0xb5, 0x22].as_slice()));
     assert!(rt; read_file(rt.alloc(), file.as_slice()).is_ok());
-    assert_eq!(rt;
-        read_file(rt.alloc(), &file[..51]).err(),
-        Some(ImageFault::L8)
-    );
-    assert_eq!(rt;
-        read_file(rt.alloc(), &file[..31]).err(),
-        Some(ImageFault::L1)
-    );
-    let mut longer = file;
-    longer.push(0)?;
-    assert_eq!(rt;
-        read_file(rt.alloc(), longer.as_slice()).err(),
-        Some(ImageFault::L9)
-    );
+    assert_eq!(rt; fault_of_first(rt.alloc(), file.as_slice(), 51), Some(ImageFault::L8));
+    assert_eq!(rt; fault_of_first(rt.alloc(), file.as_slice(), 31), Some(ImageFault::L1));
+    file.push(0)?;
+    assert_eq!(rt; fault_of_first(rt.alloc(), file.as_slice(), 53), Some(ImageFault::L9));
     Ok(())
 }
