@@ -36,12 +36,12 @@ pub byte_lines_from : (n address : ℕ) (bytes line rest old mid new : List ℕ)
     → new ≡ old ++ byte_lines n address bytes
 byte_lines_from n address bytes line rest old mid new some most first others one more =
     joined old mid new (byte_line address (take 16 bytes)) (byte_lines (n - 1) (address + 16) (drop 16 bytes)) (byte_lines n address bytes)
-      (byte_step n address bytes some most)
-      (one ∙ ap (λ bs. old ++ byte_line address bs) first) (more ∙ ap (λ bs. mid ++ byte_lines (n - 1) (address + 16) bs) others)
+    (byte_step n address bytes some most)
+    (one ∙ ap (λ bs. old ++ byte_line address bs) first) (more ∙ ap (λ bs. mid ++ byte_lines (n - 1) (address + 16) bs) others)
 
 pub word_lines_from : (mode : Bool) (m : Memory) (n address word : ℕ) (old mid new : List ℕ) → 0 < n → word ≡ number_at m address 4
     → mid ≡ old ++ word_line mode address word → new ≡ mid ++ word_lines mode m (n - 1) (address + 4)
     → new ≡ old ++ word_lines mode m n address
 word_lines_from mode m n address word old mid new some is one more =
     joined old mid new (word_line mode address (number_at m address 4)) (word_lines mode m (n - 1) (address + 4)) (word_lines mode m n address)
-      (word_step mode m n address some) (one ∙ ap (λ w. old ++ word_line mode address w) is) more
+    (word_step mode m n address some) (one ∙ ap (λ w. old ++ word_line mode address w) is) more

@@ -83,7 +83,12 @@ fn control_registers<C: CapRep>(alloc: Global, machine: &Machine<C>) -> Result<R
 }
 
 #[tactic(auto, unfolding(crate::specs::Reply::answer_to))]
-fn memory<C: CapRep>(alloc: Global, machine: &Machine<C>, address: u64, count: u64) -> Result<Reply, DebugFault>
+fn memory<C: CapRep>(
+    alloc: Global,
+    machine: &Machine<C>,
+    address: u64,
+    count: u64,
+) -> Result<Reply, DebugFault>
     requires { is_outside (mem address count) machine.now ≡ false }
     ensures reply { IfOk result (λ reply. seen_reply reply ≡ answer_to (mem address count) machine.now) }
     ensures err { IfErr result (λ fault. fault ≡ DebugFault.B4) }
@@ -94,7 +99,12 @@ fn memory<C: CapRep>(alloc: Global, machine: &Machine<C>, address: u64, count: u
 }
 
 #[tactic(auto, unfolding(crate::specs::Reply::answer_to))]
-fn words<C: CapRep>(alloc: Global, machine: &Machine<C>, address: u64, count: u64) -> Result<Reply, DebugFault>
+fn words<C: CapRep>(
+    alloc: Global,
+    machine: &Machine<C>,
+    address: u64,
+    count: u64,
+) -> Result<Reply, DebugFault>
     requires aligned { address % 4 ≡ 0 }
     requires inside { is_outside (dis address count) machine.now ≡ false }
     ensures reply { IfOk result (λ reply. seen_reply reply ≡ answer_to (dis address count) machine.now) }
@@ -105,7 +115,11 @@ fn words<C: CapRep>(alloc: Global, machine: &Machine<C>, address: u64, count: u6
     Ok(Reply::Text(text))
 }
 
-fn events<C: CapRep>(alloc: Global, machine: &mut Machine<C>, command: Command) -> Result<Reply, DebugFault>
+fn events<C: CapRep>(
+    alloc: Global,
+    machine: &mut Machine<C>,
+    command: Command,
+) -> Result<Reply, DebugFault>
     requires { IsWithinLimits command }
     ensures reply { IfOk result (λ reply.
         seen_reply reply ≡ told (events_line (events_of (seen_command command) machine.old) machine.old)) }
@@ -119,7 +133,11 @@ fn events<C: CapRep>(alloc: Global, machine: &mut Machine<C>, command: Command) 
 
 /// Does what a command asks for, and answers its reply: B4 where there is no memory, then nothing is done.
 #[tactic(auto, unfolding(crate::specs::Reply::answer_to, crate::specs::Reply::events_of))]
-pub(crate) fn answer<C: CapRep>(alloc: Global, machine: &mut Machine<C>, command: Command) -> Result<Reply, DebugFault>
+pub(crate) fn answer<C: CapRep>(
+    alloc: Global,
+    machine: &mut Machine<C>,
+    command: Command,
+) -> Result<Reply, DebugFault>
     requires limits { IsWithinLimits command }
     requires inside { is_outside (seen_command command) machine.old ≡ false }
     ensures reply { IfOk result (λ reply. seen_reply reply ≡ answer_to (seen_command command) machine.old) }

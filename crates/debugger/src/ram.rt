@@ -101,7 +101,12 @@ fn other_lines(bytes: &[u8]) -> &[u8]
 }
 
 /// Puts lines of up to 16 bytes behind a text, so many at most.
-fn put_byte_lines(text: &mut String, lines: u64, address: u64, bytes: &[u8]) -> Result<(), AllocError>
+fn put_byte_lines(
+    text: &mut String,
+    lines: u64,
+    address: u64,
+    bytes: &[u8],
+) -> Result<(), AllocError>
     requires lines { length bytes.now ≤ lines }
     requires fits { address + 16 * lines < 2 ^ 64 }
     ensures { OnOk result (string_bytes text.new ≡ string_bytes text.old ++ byte_lines lines address bytes.now) }
@@ -116,7 +121,13 @@ fn put_byte_lines(text: &mut String, lines: u64, address: u64, bytes: &[u8]) -> 
 
 /// Puts the lines of so many bytes from an address behind a text.
 #[tactic(auto, unfolding(tagged_memory::specs::Memory::is_in_ram))]
-pub(crate) fn put_memory(text: &mut String, alloc: Global, memory: &Memory, address: u64, count: u64) -> Result<(), AllocError>
+pub(crate) fn put_memory(
+    text: &mut String,
+    alloc: Global,
+    memory: &Memory,
+    address: u64,
+    count: u64,
+) -> Result<(), AllocError>
     requires { IsTrue (is_in_ram memory.now address count) }
     ensures { OnOk result (string_bytes text.new ≡ string_bytes text.old ++ byte_lines count address (bytes_at memory.now address count)) }
 {
@@ -152,7 +163,13 @@ fn put_word_line(text: &mut String, mode: bool, address: u64, word: u32) -> Resu
 }
 
 /// Puts the lines of so many words from an address behind a text.
-fn put_words_from(text: &mut String, memory: &Memory, mode: bool, address: u64, count: u64) -> Result<(), AllocError>
+fn put_words_from(
+    text: &mut String,
+    memory: &Memory,
+    mode: bool,
+    address: u64,
+    count: u64,
+) -> Result<(), AllocError>
     requires aligned { address % 4 ≡ 0 }
     requires low { ram_base ≤ address }
     requires high { address + 4 * count ≤ ram_base + length memory.now.bytes }
@@ -169,7 +186,13 @@ fn put_words_from(text: &mut String, memory: &Memory, mode: bool, address: u64, 
 
 /// Puts the lines of so many words from an address behind a text.
 #[tactic(auto, unfolding(tagged_memory::specs::Memory::is_in_ram))]
-pub(crate) fn put_words(text: &mut String, memory: &Memory, mode: bool, address: u64, count: u64) -> Result<(), AllocError>
+pub(crate) fn put_words(
+    text: &mut String,
+    memory: &Memory,
+    mode: bool,
+    address: u64,
+    count: u64,
+) -> Result<(), AllocError>
     requires aligned { address % 4 ≡ 0 }
     requires in_ram { IsTrue (is_in_ram memory.now address (4 * count)) }
     ensures { OnOk result (string_bytes text.new ≡ string_bytes text.old ++ word_lines mode memory.now count address) }

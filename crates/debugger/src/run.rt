@@ -65,7 +65,12 @@ fn goes_on<C: CapRep>(machine: &Machine<C>, address: u64, left: u64) -> bool
 }
 
 /// Gives steps until PCC's address is this one or the machine is halted, at most so many, and answers how many there were.
-fn steps_until<C: CapRep>(machine: &mut Machine<C>, address: u64, most: u64, sent: &mut Vec<u8>) -> u64
+fn steps_until<C: CapRep>(
+    machine: &mut Machine<C>,
+    address: u64,
+    most: u64,
+    sent: &mut Vec<u8>,
+) -> u64
     requires { vec_len sent.old + most ≤ vec_capacity sent.old }
     ensures state { machine.new ≡ run_after (until_steps address most machine.old) machine.old }
     ensures bytes { sent.new.items ≡ sent.old.items ++ run_sent (until_steps address most machine.old) machine.old }
@@ -191,7 +196,12 @@ fn put_place<C: CapRep>(text: &mut String, machine: &Machine<C>) -> Result<(), A
 }
 
 /// Puts the line that tells of so many events and of what they sent behind a text.
-fn put_run_line<C: CapRep>(text: &mut String, machine: &Machine<C>, count: u64, sent: &[u8]) -> Result<(), AllocError>
+fn put_run_line<C: CapRep>(
+    text: &mut String,
+    machine: &Machine<C>,
+    count: u64,
+    sent: &[u8],
+) -> Result<(), AllocError>
     ensures bytes { OnOk result (string_bytes text.new ≡ string_bytes text.old ++ (given_part count sent.now ++ place_part machine.now)) }
     ensures full { OnErr result (string_capacity text.old < string_len text.old + 2 * length sent.now + 200) }
 {
@@ -202,7 +212,11 @@ fn put_run_line<C: CapRep>(text: &mut String, machine: &Machine<C>, count: u64, 
 /// Gives the events of a command, and answers the line that tells of them.
 ///
 /// The line's room is made before the first event: B4 is for want of it, and then no event is given.
-pub(crate) fn told_events<C: CapRep>(alloc: Global, machine: &mut Machine<C>, command: Command) -> Result<String, DebugFault>
+pub(crate) fn told_events<C: CapRep>(
+    alloc: Global,
+    machine: &mut Machine<C>,
+    command: Command,
+) -> Result<String, DebugFault>
     requires { IsWithinLimits command }
     ensures text { IfOk result (λ text.
         string_bytes text ≡ events_line (events_of (seen_command command) machine.old) machine.old) }

@@ -44,7 +44,11 @@ fn put_value<C: CapRep>(text: &mut String, value: C) -> Result<(), AllocError>
 }
 
 /// Puts a line behind a text: a name and a value.
-pub(crate) fn put_value_line<C: CapRep>(text: &mut String, name: &str, value: C) -> Result<(), AllocError>
+pub(crate) fn put_value_line<C: CapRep>(
+    text: &mut String,
+    name: &str,
+    value: C,
+) -> Result<(), AllocError>
     ensures { OnOk result (string_bytes text.new ≡ string_bytes text.old ++ value_line name.now (C.value value)) }
 {
     put(text, name)?;

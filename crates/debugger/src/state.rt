@@ -20,11 +20,16 @@ const SCR_NUMBERS: [u8; 6] = [0, 1, 28, 29, 30, 31];
 
 /// The numbers of the control and status registers.
 const CSR_NUMBERS: [u16; 15] = [
-    0x300, 0x301, 0x304, 0x305, 0x340, 0x341, 0x342, 0x343, 0x344, 0xb00, 0xb02, 0xf11, 0xf12, 0xf13, 0xf14,
+    0x300, 0x301, 0x304, 0x305, 0x340, 0x341, 0x342, 0x343, 0x344, 0xb00, 0xb02, 0xf11, 0xf12,
+    0xf13, 0xf14,
 ];
 
 /// Puts the line of general register `n`, below 32, behind a text.
-pub(crate) fn put_register<C: CapRep>(text: &mut String, machine: &Machine<C>, n: u8) -> Result<(), AllocError>
+pub(crate) fn put_register<C: CapRep>(
+    text: &mut String,
+    machine: &Machine<C>,
+    n: u8,
+) -> Result<(), AllocError>
     requires { n < 32 }
     ensures { OnOk result (string_bytes text.new ≡ string_bytes text.old ++ register_line machine.now n) }
 {
@@ -32,7 +37,11 @@ pub(crate) fn put_register<C: CapRep>(text: &mut String, machine: &Machine<C>, n
 }
 
 /// Puts the lines of the general registers from `n` on behind a text.
-fn put_registers_from<C: CapRep>(text: &mut String, machine: &Machine<C>, n: u8) -> Result<(), AllocError>
+fn put_registers_from<C: CapRep>(
+    text: &mut String,
+    machine: &Machine<C>,
+    n: u8,
+) -> Result<(), AllocError>
     requires { n ≤ 32 }
     ensures { OnOk result (string_bytes text.new ≡ string_bytes text.old ++ register_lines machine.now n (drop n capability_names)) }
 {
@@ -73,14 +82,21 @@ fn put_csr<C: CapRep>(text: &mut String, machine: &Machine<C>, n: u16) -> Result
 }
 
 /// Puts the lines of all general registers behind a text.
-pub(crate) fn put_registers<C: CapRep>(text: &mut String, machine: &Machine<C>) -> Result<(), AllocError>
+pub(crate) fn put_registers<C: CapRep>(
+    text: &mut String,
+    machine: &Machine<C>,
+) -> Result<(), AllocError>
     ensures { OnOk result (string_bytes text.new ≡ string_bytes text.old ++ register_lines machine.now 0 capability_names) }
 {
     put_registers_from(text, machine, 0)
 }
 
 /// Puts the lines of these special capability registers behind a text.
-fn put_scrs_of<C: CapRep>(text: &mut String, machine: &Machine<C>, numbers: &[u8]) -> Result<(), AllocError>
+fn put_scrs_of<C: CapRep>(
+    text: &mut String,
+    machine: &Machine<C>,
+    numbers: &[u8],
+) -> Result<(), AllocError>
     requires { IsTrue (list_all is_scr numbers.now) }
     ensures { OnOk result (string_bytes text.new ≡ string_bytes text.old ++ flat_map (scr_line machine.now.scrs) numbers.now) }
 {
@@ -102,7 +118,11 @@ pub(crate) fn put_scrs<C: CapRep>(text: &mut String, machine: &Machine<C>) -> Re
 }
 
 /// Puts the lines of these control and status registers behind a text.
-fn put_csrs_of<C: CapRep>(text: &mut String, machine: &Machine<C>, numbers: &[u16]) -> Result<(), AllocError>
+fn put_csrs_of<C: CapRep>(
+    text: &mut String,
+    machine: &Machine<C>,
+    numbers: &[u16],
+) -> Result<(), AllocError>
     requires { IsTrue (list_all is_csr numbers.now) }
     ensures { OnOk result (string_bytes text.new ≡ string_bytes text.old
         ++ flat_map (csr_line machine.now.csrs machine.now.scrs (interrupts_of machine.now.devices)) numbers.now) }
