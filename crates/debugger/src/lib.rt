@@ -16,3 +16,6 @@ mod words;
 pub use fault::DebugFault;
 pub use reply::Reply;
 pub use session::Session;
+
+#[cfg(test)]
+mod tests;
