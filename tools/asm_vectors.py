@@ -92,6 +92,6 @@ print('";')
 print()
 print("/// The words that the lines mean, in order.")
 print(f"pub static WORDS: [u32; {len(table)}] = [")
-for word, _ in table:
-    print(f"    0x{word:08x},")
+for first in range(0, len(table), 8):
+    print("    " + " ".join(f"0x{word:08x}," for word, _ in table[first:first + 8]))
 print("];")

@@ -1,5 +1,7 @@
 //! Lines with their words, and texts with the files that they make, by the rules of both and not by the program.
 
+mod pairs;
+
 use super::{TEXT, WORDS};
 use assembler::assemble;
 use image::{FromRead, Image, ImageFault, ToWrite, read, write};
@@ -57,15 +59,27 @@ fn fault_of_first(alloc: Global, file: &[u8], count: usize) -> Option<ImageFault
 
 #[test]
 fn an_assembled_image_is_a_file_that_is_read_back(rt: HostRuntime) -> Result<(), Fail> {
-    assert_eq!(rt; file_of(rt.alloc(), FIRST)?.as_slice(), FIRST_FILE.as_slice());
+    assert_eq!(rt;
+        file_of(rt.alloc(), FIRST)?.as_slice(),
+        FIRST_FILE.as_slice()
+    );
 
     let mut file = file_of(rt.alloc(), b"cincoffset ca0, ca0, a1\n")?;
     assert_eq!(rt; file.len(), 52);
     assert_eq!(rt; file.get(48..), Some([0x5b, 0x05, 0xb5, 0x22].as_slice()));
     assert!(rt; read_file(rt.alloc(), file.as_slice()).is_ok());
-    assert_eq!(rt; fault_of_first(rt.alloc(), file.as_slice(), 51), Some(ImageFault::L8));
-    assert_eq!(rt; fault_of_first(rt.alloc(), file.as_slice(), 31), Some(ImageFault::L1));
+    assert_eq!(rt;
+        fault_of_first(rt.alloc(), file.as_slice(), 51),
+        Some(ImageFault::L8)
+    );
+    assert_eq!(rt;
+        fault_of_first(rt.alloc(), file.as_slice(), 31),
+        Some(ImageFault::L1)
+    );
     file.push(0)?;
-    assert_eq!(rt; fault_of_first(rt.alloc(), file.as_slice(), 53), Some(ImageFault::L9));
+    assert_eq!(rt;
+        fault_of_first(rt.alloc(), file.as_slice(), 53),
+        Some(ImageFault::L9)
+    );
     Ok(())
 }
