@@ -3,7 +3,8 @@ use Rattle.std.proofs.Common.{◌≡◌, ℕ, zero, suc, ◌+◌, ◌-◌, ◌<�
 use Rattle.std.specs.Prelude.{◌==◌, false, nat_lt, if◌then◌else◌}
 use Rattle.std.proofs.lemmas.Bool.Decides.{nat_tests}
 use Rattle.tagged_memory.specs.Memory.{Memory, number_at}
-use Rattle.debugger.specs.Reply.{byte_line, byte_lines, word_line, word_lines}
+use Rattle.disassembler.specs.Shown.{word_line}
+use Rattle.debugger.specs.Reply.{byte_line, byte_lines, word_lines}
 
 less_one : (n : ℕ) → suc n - 1 ≡ n
 less_one n = omega arith

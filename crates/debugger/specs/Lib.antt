@@ -5,3 +5,5 @@ pub mod Conversation
 pub mod Seen
 pub mod Lines
 pub mod Answers
+pub mod Talk
+pub mod TextBack

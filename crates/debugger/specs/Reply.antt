@@ -18,7 +18,7 @@ use Rattle.asm_names.specs.SpecialNames.{csr_name, scr_name}
 use Rattle.debugger.specs.declared.fault.DebugFault.{DebugFault}
 use Rattle.debugger.specs.declared.fault.DebugFault.TheVariants.{B3}
 use Rattle.disassembler.specs.Hex.{hex_of}
-use Rattle.disassembler.specs.Shown.{name_or, shown_word}
+use Rattle.disassembler.specs.Shown.{name_or, word_line}
 use Rattle.debugger.specs.Capability.{value_line}
 use Rattle.debugger.specs.Command.{Command, step, tick, byte, until, reg, regs, scr, csr, mem, dis, quit, command_of}
 
@@ -82,10 +82,7 @@ byte_lines zero address bytes = []
 byte_lines (suc n) address bytes =
     if length bytes == 0 then [] else (byte_line address (take 16 bytes) ++ byte_lines n (address + 16) (drop 16 bytes))
 
--- a word at an address in a mode
-abbrev pub word_line : Bool → ℕ → ℕ → List ℕ
-word_line mode address word = hex_of 16 address ++ codes " " ++ hex_of 8 word ++ codes " " ++ shown_word mode word ++ codes "\n"
-
+-- the words from an address on, one a line
 abbrev pub word_lines : Bool → Memory → ℕ → ℕ → List ℕ
 word_lines mode m zero address = []
 word_lines mode m (suc n) address = word_line mode address (number_at m address 4) ++ word_lines mode m n (address + 4)

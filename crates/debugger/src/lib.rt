@@ -13,7 +13,7 @@ mod state;
 mod text;
 mod words;
 
-pub use fault::DebugFault;
+pub use fault::{DebugFault, TalkFault};
 pub use reply::Reply;
 pub use session::Session;
 

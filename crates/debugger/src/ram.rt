@@ -3,7 +3,8 @@ ghost use Rattle.std.specs.Prelude.{◌≡◌, ◌+◌, ◌-◌, ◌*◌, ◌/�
 ghost use Rattle.std.specs.List.{flat_map};
 ghost use Rattle.tagged_memory.specs.Memory.{is_in_ram, bytes_at, number_at, ram_base};
 ghost use Rattle.disassembler.specs.Hex.{hex_of};
-ghost use Rattle.debugger.specs.Reply.{byte_line, byte_lines, word_line, word_lines};
+ghost use Rattle.disassembler.specs.Shown.{word_line};
+ghost use Rattle.debugger.specs.Reply.{byte_line, byte_lines, word_lines};
 ghost use Rattle.debugger.specs.Lines.{spaced};
 
 use crate::text::{put, put_hex};

@@ -68,3 +68,7 @@ shown_found mode word None = codes ".word 0x" ++ hex_of 8 word
 -- a word in a mode (true: capability mode); one that is no row is shown as a number
 abbrev pub shown_word : Bool → ℕ → List ℕ
 shown_word mode word = shown_found mode word (insn_of word)
+
+-- a line of a listing: an address, the word there, and its text in a mode
+abbrev pub word_line : Bool → ℕ → ℕ → List ℕ
+word_line mode address word = hex_of 16 address ++ codes " " ++ hex_of 8 word ++ codes " " ++ shown_word mode word ++ codes "\n"

@@ -41,8 +41,19 @@ with_options run = with_rule (with_rule (with_rule run (named (codes "input"))) 
 abbrev pub run_command : App
 run_command = with_options (with_rule (with_rule (new_app (codes "run")) (operand (codes "IMAGE"))) steps_rule)
 
+-- dis IMAGE
+abbrev pub dis_command : App
+dis_command = with_rule (new_app (codes "dis")) (operand (codes "IMAGE"))
+
+-- debug IMAGE
+abbrev pub debug_command : App
+debug_command = with_rule (new_app (codes "debug")) (operand (codes "IMAGE"))
+
+abbrev pub run_commands : App
+run_commands = with_subcommand (with_subcommand (new_app (codes "cherisim")) asm_command.top) run_command.top
+
 abbrev pub program : App
-program = with_subcommand (with_subcommand (new_app (codes "cherisim")) asm_command.top) run_command.top
+program = with_subcommand (with_subcommand run_commands dis_command.top) debug_command.top
 
 -- clap found the number for an argument, in decimal digits
 pub record IsNumber (id : Text) (rows : List Row) (number : ℕ) : Type 0 where
@@ -66,19 +77,21 @@ IsPlanOfCommand name rows (Run image schedule input) =
     (name ≡ codes "run")
     × (first_of (codes "IMAGE") rows ≡ Some image.now) × IsScheduleOf rows schedule
     × (first_of (codes "input") rows ≡ option_map (λ file. file.now) input)
-IsPlanOfCommand name rows _ = ⊥
+IsPlanOfCommand name rows (Dis image) = (name ≡ codes "dis") × (first_of (codes "IMAGE") rows ≡ Some image.now)
+IsPlanOfCommand name rows (Debug image) = (name ≡ codes "debug") × (first_of (codes "IMAGE") rows ≡ Some image.now)
+IsPlanOfCommand name rows First = ⊥
 
 -- the plan is what clap found in the words
 abbrev pub IsPlanOf : Option (Text × List Row) → Plan → Type 0
 IsPlanOf None plan = plan ≡ First
 IsPlanOf (Some found) plan = IsPlanOfCommand found.0 found.1 plan
 
--- the numbers of a run lie in their ranges; the listing and the debugger are no commands yet
+-- the numbers of a run lie in their ranges
 abbrev pub HasRanges : Plan → Type 0
 HasRanges (Asm input output) = ⊤
 HasRanges (Run image schedule input) = IsInRange schedule
-HasRanges (Dis image) = ⊥
-HasRanges (Debug image) = ⊥
+HasRanges (Dis image) = ⊤
+HasRanges (Debug image) = ⊤
 HasRanges First = ⊤
 
 -- nothing that clap found is a plan in its ranges

@@ -1,3 +1,4 @@
 pub mod CommandLine
 pub mod Schedule
 pub mod Verdict
+pub mod Listing

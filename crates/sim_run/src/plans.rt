@@ -19,12 +19,12 @@ pub enum Plan<'a> {
         /// The file whose bytes come on the console, if one is named.
         input: Option<&'a str>,
     },
-    /// List an image. No command line asks for it yet.
+    /// List an image.
     Dis {
         /// The file with the image.
         image: &'a str,
     },
-    /// Debug an image. No command line asks for it yet.
+    /// Debug an image.
     Debug {
         /// The file with the image.
         image: &'a str,
