@@ -4,6 +4,7 @@
 mod answer;
 mod command;
 mod fault;
+pub mod laws;
 mod ram;
 mod reply;
 mod run;
