@@ -1,0 +1,278 @@
+#!/usr/bin/env python3
+"""Prints crates/shown_vectors/src/table.rt: words with the texts that they are shown as in both modes, from outside the program.
+
+    tools/shown_vectors.py > crates/shown_vectors/src/table.rt
+    tools/shown_vectors.py --compare
+
+The words are those of crates/isa_vectors/src/table.rt (of GNU as for RV64IM, Zicsr, Zifencei and the privileged rows, put
+together from the fields of CHERI-RISC-V's encodings for the others), and these words with other operands in their fields.
+The texts are written here by the rules of the assembly language. The first form takes nothing but Python.
+
+--compare prints no table. It compares the texts of integer mode with those of GNU objdump (Debian's package
+binutils-riscv64-linux-gnu) over the words of RV64IM, Zicsr, Zifencei and the privileged rows, and stops at a difference.
+These differences are of form, and both sides are brought to one: white space round commas; targets, which objdump gives
+as addresses; numbers of lui, auipc and shifts, decimal here and hexadecimal there or the other way round; names of CSRs
+that objdump knows and the language doesn't; fence's sets, which the language writes as a number, and fence.i's zeros.
+A fence or fence.i whose fields the manual reserves is left out: objdump shows it as no row, or without its operands.
+"""
+import os
+import re
+import subprocess
+import sys
+import tempfile
+
+VECTORS = os.path.join(os.path.dirname(__file__), "..", "crates", "isa_vectors", "src", "table.rt")
+X = ("zero ra sp gp tp t0 t1 t2 s0 s1 a0 a1 a2 a3 a4 a5 a6 a7 s2 s3 s4 s5 s6 s7 s8 s9 s10 s11 t3 t4 t5 t6").split()
+C = ["cnull"] + ["c" + name for name in X[1:]]
+CSRS = {0x300: "mstatus", 0x301: "misa", 0x304: "mie", 0x305: "mtvec", 0x340: "mscratch", 0x341: "mepc", 0x342: "mcause",
+        0x343: "mtval", 0x344: "mip", 0xB00: "mcycle", 0xB02: "minstret", 0xF11: "mvendorid", 0xF12: "marchid",
+        0xF13: "mimpid", 0xF14: "mhartid"}
+SCRS = {0: "pcc", 1: "ddc", 28: "mtcc", 29: "mtdc", 30: "mscratchc", 31: "mepcc"}
+
+# ---- how a row is written: each form with its rows; `rd` as an integer register, `cd` as a capability, and so on
+
+LOADS = "lb lh lw ld lbu lhu lwu"
+STORES = "sb sh sw sd"
+FORMS = {
+    "rd, rs1, rs2": "add sll slt sltu xor srl or and sub sra mul mulh mulhsu mulhu div divu rem remu "
+                    "addw sllw srlw subw sraw mulw divw divuw remw remuw",
+    "rd, rs1, signed": "addi slti sltiu xori ori andi addiw fence fence.i",
+    "rd, rs1, shift6": "slli srli srai",
+    "rd, rs1, shift5": "slliw srliw sraiw",
+    "rd, upper": "lui auipc",
+    "rs1, rs2, branch": "beq bne blt bge bltu bgeu",
+    "rd, jump": "jal",
+    "rd, signed(rs1)": "jalr " + LOADS,
+    "cd, signed(rs1)": "lc",
+    "rs2, stored(rs1)": STORES,
+    "cs2, stored(rs1)": "sc",
+    "rd, csr, rs1": "csrrw csrrs csrrc",
+    "rd, csr, five": "csrrwi csrrsi csrrci",
+    "cd, cs1, rs2": "csetbounds csetboundsexact candperm csetflags csetoffset csetaddr cincoffset",
+    "cd, cs1, signed": "cincoffsetimm",
+    "cd, cs1, unsigned": "csetboundsimm",
+    "cd, cs1, cs2": "cseal cunseal",
+    "rd, cs1, cs2": "csub ctestsubset csetequalexact",
+    "rd, cs1": "cgetperm cgettype cgetbase cgetlen cgettag cgetsealed cgetoffset cgetflags cgetaddr",
+    "rd, rs1": "crrl cram",
+    "cd, cs1": "cmove ccleartag csealentry jalr.cap",
+    "cs1, cs2": "cinvoke",
+    "cd, scr, cs1": "cspecialrw",
+    "rd, (rs1)": " ".join(f"{name}.ddc" for name in LOADS.split()),
+    "rd, (cs1)": " ".join(f"{name}.cap" for name in LOADS.split()),
+    "cd, (rs1)": "lc.ddc",
+    "cd, (cs1)": "lc.cap",
+    "rs2, (rs1)": " ".join(f"{name}.ddc" for name in STORES.split()),
+    "rs2, (cs1)": " ".join(f"{name}.cap" for name in STORES.split()),
+    "cs2, (rs1)": "sc.ddc",
+    "cs2, (cs1)": "sc.cap",
+    "": "ecall ebreak mret wfi",
+}
+FORM = {name: form for form, names in FORMS.items() for name in names.split()}
+SECOND = {name: ("c" + name, FORM[name].replace("rs1", "cs1")) for name in (LOADS + " " + STORES + " lc sc").split()}
+SECOND |= {"jal": ("cjal", "cd, jump"), "jalr": ("cjalr", "cd, signed(cs1)"), "auipc": ("auipcc", "cd, upper")}
+assert len(FORM) == 133
+
+# ---- words and their operands
+
+
+def signed(number):
+    return number - 2**64 if number >= 2**63 else number
+
+
+def vectors():
+    """The words of the table of the instruction set, as (word, mnemonic, operands), and those that are no row."""
+    text = open(VECTORS).read()
+    names = dict(re.findall(r'\(Row::(\w+), "([\w.]+)"\)', text))
+    rows = re.findall(r"\(0x(\w+), Row::(\w+), (\d+), (\d+), (\d+), 0x(\w+)\)", text)
+    made = [(int(word, 16), names[row], {"rd": int(rd), "rs1": int(rs1), "rs2": int(rs2), "imm": signed(int(imm, 16))})
+            for word, row, rd, rs1, rs2, imm in rows]
+    return made, [int(word, 16) for word in re.findall(r"^    0x(\w+),$", text, re.M)]
+
+
+# For each operand the fields that it fills, as (lowest bit of the word, lowest bit of the operand, count of bits).
+FIELDS = {
+    "rd": [(7, 0, 5)], "rs1": [(15, 0, 5)], "rs2": [(20, 0, 5)], "scr": [(20, 0, 5)], "five": [(15, 0, 5)],
+    "signed": [(20, 0, 12)], "unsigned": [(20, 0, 12)], "csr": [(20, 0, 12)], "shift6": [(20, 0, 6)], "shift5": [(20, 0, 5)],
+    "stored": [(7, 0, 5), (25, 5, 7)], "upper": [(12, 12, 20)],
+    "branch": [(8, 1, 4), (25, 5, 6), (7, 11, 1), (31, 12, 1)],
+    "jump": [(21, 1, 10), (20, 11, 1), (12, 12, 8), (31, 20, 1)],
+}
+HOLDS = {"scr": "rs2", "five": "rs1"} | {slot: "imm" for slot in
+         ("signed", "unsigned", "csr", "shift6", "shift5", "stored", "upper", "branch", "jump")}
+
+
+def slots(form):
+    """The operands of a form, as names of FIELDS."""
+    return [name.replace("cd", "rd").replace("cs1", "rs1").replace("cs2", "rs2") for name in re.findall(r"\w+", form)]
+
+
+def with_operands(vector, changes):
+    """The vector with other operands, for those of these that its row has."""
+    word, name, operands = vector
+    operands = dict(operands)
+    for slot in slots(FORM[name]):
+        if slot not in changes:
+            continue
+        number = operands[HOLDS.get(slot, slot)] = changes[slot]
+        for at, low, count in FIELDS[slot]:
+            ones = 2**count - 1
+            word = word & ~(ones << at) | (number >> low & ones) << at
+    return word, name, operands
+
+
+# One more word of each row: registers at both ends of their numbers, and immediates that the words of the table haven't.
+OTHERS = {"rd": 8, "rs1": 0, "rs2": 31, "scr": 1, "five": 0, "signed": 0, "unsigned": 0, "csr": 0x342, "shift6": 33, "shift5": 1,
+          "stored": -1, "upper": 0x1000, "branch": 0, "jump": 0}
+
+
+def extras(made):
+    """Each row with other operands; then every register, special register and CSR, numbers beside those of CSRs, and limits."""
+    first = {}
+    for vector in made:
+        first.setdefault(vector[1], vector)
+    for name, vector in first.items():
+        if FORM[name]:
+            yield with_operands(vector, OTHERS)
+    for number in range(0, 32):
+        yield with_operands(first["cspecialrw"], {"rd": (number + 2) % 32, "rs1": (number + 1) % 32, "scr": number})
+    for number in range(0, 32, 3):
+        yield with_operands(first["add"], {"rd": number, "rs1": (number + 1) % 32, "rs2": (number + 2) % 32})
+    forms = [first[name] for name in ("csrrw", "csrrs", "csrrc", "csrrwi", "csrrsi", "csrrci")]
+    for place, number in enumerate(sorted(CSRS)):
+        yield with_operands(forms[place % 6], {"csr": number})
+    for place, number in enumerate((0x001, 0x302, 0x303, 0x306, 0x345, 0x7C0, 0xB01, 0xB03, 0xC00, 0xF10, 0xF15)):
+        yield with_operands(forms[place % 6], {"csr": number})
+    for name, number in (("jal", -1048576), ("jal", 1048574), ("beq", -4096), ("bgeu", 4094), ("bne", 2), ("blt", -2), ("fence", 255),
+                         ("fence", 0x33), ("fence", -2048), ("fence.i", 2047), ("csetboundsimm", 2048), ("slliw", 31), ("addi", 0)):
+        yield with_operands(first[name], dict.fromkeys(FIELDS, number) | {"rd": 0, "rs1": 0, "rs2": 8})
+
+
+def unlisted():
+    """Words with one fixed field that no row has."""
+    def fields(funct7=0, rs2=11, rs1=10, funct3=0, rd=10, opcode=0x5B):
+        return funct7 << 25 | rs2 << 20 | rs1 << 15 | funct3 << 12 | rd << 7 | opcode
+    yield from (fields(opcode=opcode) for opcode in (0x07, 0x0B, 0x27, 0x2B, 0x2F, 0x3F, 0x43, 0x53, 0x6B, 0x77, 0x7B, 0x7F))
+    yield from (fields(funct7=funct7) for funct7 in (0x02, 0x0A, 0x12, 0x15, 0x1F, 0x22, 0x40, 0x7B))
+    yield from (fields(funct7=0x7C, rd=rd) for rd in (0x07, 0x0F, 0x10, 0x1F))
+    yield from (fields(funct7=0x7D, rs2=rs2) for rs2 in (0x0F, 0x16, 0x18, 0x1E))
+    yield from (fields(funct7=0x7F, rs2=rs2) for rs2 in (0x0E, 0x12, 0x1E))
+    yield from (fields(funct3=funct3) for funct3 in (4, 5, 6))
+    yield from (fields(funct3=7, opcode=opcode) for opcode in (0x0F, 0x1B, 0x23, 0x67))
+    yield from (fields(funct7=0x21, opcode=opcode) for opcode in (0x33, 0x3B))
+    yield from (fields(funct7=funct7, funct3=5, opcode=0x13) for funct7 in (0x40, 0x60))
+    yield from (0x00000073 ^ 1 << bit for bit in (7, 15, 21, 25, 31))
+    yield from (0x10500073 ^ 1 << bit for bit in (11, 19, 20, 28))
+
+
+# ---- texts
+
+def operand(slot, operands):
+    """An operand's text."""
+    if slot[-1] in "d12" and slot[0] in "rc":
+        return (C if slot[0] == "c" else X)[operands["r" + slot.lstrip("rc")]]
+    number = operands[HOLDS[slot]]
+    if slot == "csr":
+        return CSRS.get(number, f"{number:#x}")
+    if slot == "scr":
+        return SCRS.get(number, str(number))
+    if slot == "upper":
+        return f"{number >> 12 & 0xFFFFF:#x}"
+    if slot in ("branch", "jump"):
+        return f".{number:+d}"
+    return str(number % 4096 if slot == "unsigned" else number)
+
+
+def shown(name, operands, mode):
+    """The text of a row in a mode."""
+    name, form = SECOND.get(name, (name, FORM[name])) if mode else (name, FORM[name])
+    return " ".join([name] + [re.sub(r"\w+", lambda slot: operand(slot[0], operands), form)] * (form != ""))
+
+
+# ---- comparison with the field's disassembler
+
+FIELD_CSRS = {"fflags": 0x001, "medeleg": 0x302, "mideleg": 0x303, "mcounteren": 0x306, "mhpmcounter3": 0xB03, "cycle": 0xC00,
+              "mconfigptr": 0xF15}
+
+
+def disassembled(words):
+    """The texts that objdump gives, each with its place."""
+    with tempfile.NamedTemporaryFile() as raw:
+        raw.write(b"".join(word.to_bytes(4, "little") for word in words))
+        raw.flush()
+        command = ["riscv64-linux-gnu-objdump", "-D", "-z", "-b", "binary", "-m", "riscv:rv64", "-M", "no-aliases", raw.name]
+        text = subprocess.run(command, check=True, capture_output=True, text=True).stdout
+    lines = re.findall(r"^ *([0-9a-f]+):\t([0-9a-f]{8}) *\t(.*)$", text, re.M)
+    assert [int(line[1], 16) for line in lines] == list(words), "objdump cut the words otherwise"
+    return [(int(place, 16), line) for place, _, line in lines]
+
+
+def one_form(text, place):
+    """A text as its mnemonic and operands, numbers as numbers, a target as an address."""
+    text = re.sub(r" *[#<].*", "", text)
+    name, _, rest = text.replace("\t", " ").partition(" ")
+    parts = [part.strip() for part in rest.split(",")] if rest.strip() else []
+    if name == "fence" and len(parts) == 3:
+        number = int(parts[2])
+        parts = ["".join(letter for bit, letter in zip((8, 4, 2, 1), "iorw") if number >> at & bit) for at in (4, 0)]
+    if name == "fence.i" and len(parts) == 3:
+        parts = []
+
+    def value(part):
+        if part[0] == ".":
+            return (place + int(part[1:])) % 2**64
+        if part in FIELD_CSRS and name.startswith("csr"):
+            return FIELD_CSRS[part]
+        return int(part, 0) if re.fullmatch(r"-?(0x[0-9a-f]+|\d+)", part) else part
+    return name, [value(part) for part in parts]
+
+
+def compare(table):
+    """Compares the texts of the rows that the field's disassembler knows, and stops at a difference that is not of form."""
+    known = [v for v in table if v[1] not in ("lc", "sc") and v[0] & 0x7F != 0x5B]
+    reserved = [v for v in known if v[1] == "fence" and v[0] & 0xF00F8F80 or v[1] == "fence.i" and v[0] & 0xFFFF8F80]
+    known = [v for v in known if v not in reserved]
+    for vector, (place, theirs) in zip(known, disassembled([v[0] for v in known])):
+        ours = shown(vector[1], vector[2], False)
+        assert one_form(ours, place) == one_form(theirs, place), f"{vector[0]:#010x}: {ours} against {theirs}"
+    rows = len({v[1] for v in known})
+    print(f"{len(known)} words of {rows} rows compared, {len(reserved)} reserved forms of fence left out", file=sys.stderr)
+
+
+def printed(table, none):
+    """Prints the table."""
+    lines = [(word, [shown(name, operands, mode) for mode in (False, True)]) for word, name, operands in table]
+    lines += [(word, [f".word 0x{word:08x}"] * 2) for word in none]
+    print("//! Words with the texts that they are shown as, made by tools/shown_vectors.py from the rules of the assembly language.")
+    print("//! Not written by hand.")
+    print()
+    print("/// For each word a line: its text in integer mode, a bar, its text in capability mode.")
+    print('pub const TEXT: &str = "\\')
+    for _, texts in lines:
+        print("    " + "|".join(texts) + "\\n\\")
+    print('";')
+    print()
+    print("/// The words, in order: those of rows, then words that are no row.")
+    print(f"pub static WORDS: [u32; {len(lines)}] = [")
+    for at in range(0, len(lines), 8):
+        print("    " + " ".join(f"0x{word:08x}," for word, _ in lines[at:at + 8]))
+    print("];")
+
+
+def main():
+    made, none = vectors()
+    for vector in made:
+        own = {slot: vector[2][HOLDS.get(slot, slot)] for slot in slots(FORM[vector[1]])}
+        assert with_operands(vector, own) == vector, f"the fields of {vector}"
+    known = {}
+    for vector in made + list(extras(made)):
+        assert known.setdefault(vector[0], vector) == vector, vector
+    table = list(known.values())
+    none = list(dict.fromkeys(none + list(unlisted())))
+    assert {vector[1] for vector in table} == set(FORM)
+    assert all(sum(vector[1] == name for vector in table) >= 2 for name in FORM if FORM[name])
+    assert not set(none) & set(known)
+    compare(table) if sys.argv[1:] == ["--compare"] else printed(table, none)
+
+
+main()
