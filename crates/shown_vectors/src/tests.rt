@@ -1,3 +1,5 @@
+//! The texts of the table are those of the disassembler, and each row has a word in the table.
+
 use super::{TEXT, WORDS};
 use disassembler::disassemble;
 use isa_rows::{ROWS, Row};
