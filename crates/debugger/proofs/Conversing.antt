@@ -99,7 +99,7 @@ module _ (next : List ℕ) (rest : List (List ℕ)) where
 
   one_unread : (line : List ℕ) (lines : List (List ℕ)) (s : State)
       → unread_lines (line ∷ (lines ++ next ∷ rest)) s
-        ≡ (if is_last line s then join_by (λ l. l) (10 ∷ []) (lines ++ next ∷ rest) else unread_lines (lines ++ next ∷ rest) (state_after line s))
+      ≡ (if is_last line s then join_by (λ l. l) (10 ∷ []) (lines ++ next ∷ rest) else unread_lines (lines ++ next ∷ rest) (state_after line s))
   one_unread line [] s = refl
   one_unread line (l ∷ lines) s = refl
 

@@ -15,6 +15,7 @@ mod talking;
 mod text;
 mod words;
 
+pub use disassembler::disassemble;
 pub use fault::{DebugFault, TalkFault};
 pub use reply::Reply;
 pub use session::Session;
