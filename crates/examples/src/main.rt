@@ -1,9 +1,11 @@
-//! Assembles and runs each example, and compares what it sends with what stands beside it in a file.
+//! Assembles and runs each example, and compares what it sends, and what a session of the debugger with it answers, with what stands
+//! beside it in files.
 #![tactic(auto)]
 
 use assembler::assemble;
 use cap_bounds::PlainCap;
-use image::ToWrite;
+use debugger::{Session, talk};
+use image::{FromRead, ToWrite};
 use machine::{End, Machine};
 use sim_run::{Schedule, run_scheduled};
 use std::alloc::Global;
@@ -67,6 +69,17 @@ fn file(rt: &HostRuntime, example: &Example, kind: &str) -> io::Result<Vec<u8>> 
     Ok(bytes)
 }
 
+/// What a session with a program's machine answers to commands: `None` where the program is not assembled or memory is wanting.
+fn answered(alloc: Global, text: &[u8], commands: &[u8]) -> Option<Vec<u8>> {
+    let assembly = assemble(alloc, text).ok()?;
+    let machine: Machine<PlainCap> = Machine::new(alloc, assembly.image()).ok()?;
+    let mut session = Session::new(alloc, machine);
+    let mut replies = Vec::new(alloc);
+    let mut sink = ToWrite::new(&mut replies);
+    talk(&mut session, &mut FromRead::new(commands), &mut sink).ok()?;
+    Some(replies)
+}
+
 /// Whether an example sends what it is to send.
 fn is_as_expected(rt: &HostRuntime, example: &Example) -> io::Result<bool> {
     let text = file(rt, example, "s")?;
@@ -79,6 +92,14 @@ fn is_as_expected(rt: &HostRuntime, example: &Example) -> io::Result<bool> {
     Ok(sent_by(rt.alloc(), &text, &input, example.schedule).is_some_and(|sent| sent == expected))
 }
 
+/// Whether the session that docs/DEBUGGER.md shows is answered as it shows.
+fn is_answered_as_expected(rt: &HostRuntime, example: &Example) -> io::Result<bool> {
+    let text = file(rt, example, "s")?;
+    let commands = file(rt, example, "commands")?;
+    let expected = file(rt, example, "replies")?;
+    Ok(answered(rt.alloc(), &text, &commands).is_some_and(|replies| replies == expected))
+}
+
 fn main(rt: HostRuntime) -> io::Result<ExitCode> {
     let mut status = ExitCode::SUCCESS;
     for example in &examples() {
@@ -88,6 +109,13 @@ fn main(rt: HostRuntime) -> io::Result<ExitCode> {
             println!(rt; "{}: not as expected", example.name)?;
             status = ExitCode::FAILURE;
         }
+    }
+    let debugged = to_try("bounds", false, 1000, 100);
+    if is_answered_as_expected(&rt, &debugged)? {
+        println!(rt; "bounds, debugged: as expected")?;
+    } else {
+        println!(rt; "bounds, debugged: not as expected")?;
+        status = ExitCode::FAILURE;
     }
     Ok(status)
 }
