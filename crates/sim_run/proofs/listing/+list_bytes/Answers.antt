@@ -1,4 +1,4 @@
-use Rattle.std.proofs.Common.{◌≡◌, ◌+◌, ◌<◌, length, get_or, drop, subst, arith}
+use Rattle.std.proofs.Common.{◌+◌, ◌<◌, length, get_or, drop, subst, arith}
 use Rattle.std.proofs.lemmas.Result.{on_err_weaker}
 use Rattle.image.specs.Devices.{AppendsBeginning}
 use Rattle.sim_run.specs.Listing.{byte_line, byte_lines}

@@ -1,4 +1,4 @@
-use Rattle.std.proofs.Common.{◌≡◌, suc, ◌++◌, ◌<◌, length, take, drop, get_or, ap, sym, subst, rules, add-one}
+use Rattle.std.proofs.Common.{◌≡◌, suc, ◌++◌, ◌<◌, length, take, drop, get_or, sym, subst, rules, add-one}
 use Rattle.std.specs.List.{flat_map}
 use Rattle.std.specs.Io.KnownBytes.{Appends}
 use Rattle.std.proofs.KnownBytes.{Appends-trans}

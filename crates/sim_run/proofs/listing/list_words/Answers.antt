@@ -1,4 +1,4 @@
-use Rattle.std.proofs.Common.{◌≡◌, ◌+◌, ◌*◌, ◌≤◌, suc, ◌++◌, length, take, drop, ap, sym, ◌∙◌, subst, rules, arith, add-one}
+use Rattle.std.proofs.Common.{◌+◌, ◌*◌, ◌≤◌, suc, length, take, drop, sym, subst, rules, arith, add-one}
 use Rattle.std.proofs.KnownBytes.{Appends-trans}
 use Rattle.std.proofs.lemmas.Result.{err_from_is_err_and}
 use Rattle.std.specs.Io.KnownBytes.{Appends}
