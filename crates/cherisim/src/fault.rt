@@ -1,6 +1,7 @@
 //! The faults that end the program with status 3, and their texts.
 
 use assembler::{AsmCode, AsmFault};
+use debugger::TalkFault;
 use image::{DeviceFailed, ImageFault};
 use machine::MachineFault;
 use std::io;
@@ -30,6 +31,9 @@ pub enum ProgramFault<'a> {
     /// No machine could be made.
     #[error("{}", machine_text(.0))]
     Machine(#[from] MachineFault),
+    /// A conversation with the debugger was cut short.
+    #[error("{}", talk_text(.0))]
+    Talk(#[from] TalkFault),
 }
 
 /// The code and the words of a fault of an image.
@@ -70,6 +74,15 @@ fn machine_text(fault: &MachineFault) -> &'static str {
     match fault {
         MachineFault::M2 => "M2 no memory",
         MachineFault::M5 => "M5 no memory",
+    }
+}
+
+/// The words of a fault of a conversation, which has no code.
+fn talk_text(fault: &TalkFault) -> &'static str {
+    match fault {
+        TalkFault::Read => "read failed",
+        TalkFault::Write => "write failed",
+        TalkFault::Memory => "no memory",
     }
 }
 

@@ -2,8 +2,10 @@
 #![tactic(auto)]
 
 mod assembling;
+mod debugging;
 mod fault;
 mod files;
+mod listing;
 mod running;
 #[cfg(test)]
 mod tests;
@@ -11,7 +13,9 @@ mod tests;
 ghost use Rattle.sim_run.specs.CommandLine.{HasRanges};
 
 use assembling::assemble_file;
+use debugging::debug_file;
 use fault::{ProgramFault, reading_fault};
+use listing::list_file;
 use machine::End;
 use running::{run_file, run_first};
 use sim_run::{Plan, PlanFault, plan, verdict};
@@ -57,8 +61,14 @@ fn carry_out<'a>(rt: &HostRuntime, plan: Plan<'a>) -> Result<u8, ProgramFault<'a
             assemble_file(rt, input, output)?;
             Ok(0)
         }
-        // No words ask for these yet.
-        Plan::Dis { .. } | Plan::Debug { .. } => unreachable!(),
+        Plan::Dis { image } => {
+            list_file(rt, image)?;
+            Ok(0)
+        }
+        Plan::Debug { image } => {
+            debug_file(rt, image)?;
+            Ok(0)
+        }
     }
 }
 

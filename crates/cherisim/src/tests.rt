@@ -2,6 +2,7 @@
 
 use crate::fault::ProgramFault;
 use assembler::{AsmCode, AsmFault};
+use debugger::TalkFault;
 use image::{DeviceFailed, ImageFault};
 use machine::MachineFault;
 use std::test::Fail;
@@ -38,6 +39,12 @@ static MACHINE_TEXTS: &[(MachineFault, &str)] = &[
     (MachineFault::M5, "M5 no memory"),
 ];
 
+static TALK_TEXTS: &[(TalkFault, &str)] = &[
+    (TalkFault::Read, "read failed"),
+    (TalkFault::Write, "write failed"),
+    (TalkFault::Memory, "no memory"),
+];
+
 /// Whether a fault has this text.
 fn has_text(rt: &HostRuntime, fault: ProgramFault<'_>, text: &str) -> Result<bool, Fail> {
     Ok(format!(in rt.alloc(); "{fault}")?.as_str() == text)
@@ -60,6 +67,9 @@ fn each_fault_has_its_text(rt: HostRuntime) -> Result<(), Fail> {
             has_text(&rt, ProgramFault::Machine(*fault), text)?,
             "{text}"
         );
+    }
+    for (fault, text) in TALK_TEXTS {
+        assert!(rt; has_text(&rt, ProgramFault::Talk(*fault), text)?, "{text}");
     }
     assert!(rt; has_text(&rt, ProgramFault::File("a.s"), "file a.s")?);
     assert!(rt; has_text(&rt, ProgramFault::Read, "read failed")?);

@@ -3,13 +3,13 @@ ghost use Rattle.std.specs.Prelude.{◌≡◌, ◌+◌, ◌-◌, ◌*◌, ◌/�
 ghost use Rattle.std.specs.List.{flat_map};
 ghost use Rattle.tagged_memory.specs.Memory.{is_in_ram, bytes_at, number_at, ram_base};
 ghost use Rattle.disassembler.specs.Hex.{hex_of};
-ghost use Rattle.disassembler.specs.Shown.{word_line};
+ghost use Rattle.disassembler.specs.Shown.{word_line as word_line_of};
 ghost use Rattle.debugger.specs.Reply.{byte_line, byte_lines, word_lines};
 ghost use Rattle.debugger.specs.Lines.{spaced};
 
 use crate::text::{put, put_hex};
 use crate::words::{before, behind};
-use disassembler::disassemble;
+use disassembler::word_line;
 use std::alloc::{AllocError, Global};
 use tagged_memory::{Memory, RAM_BASE, Size};
 
@@ -153,14 +153,9 @@ fn word_at(memory: &Memory, address: u64) -> u32
 
 /// Puts a line behind a text: an address, a word, and its text in a mode.
 fn put_word_line(text: &mut String, mode: bool, address: u64, word: u32) -> Result<(), AllocError>
-    ensures { OnOk result (string_bytes text.new ≡ string_bytes text.old ++ word_line mode address word) }
+    ensures { OnOk result (string_bytes text.new ≡ string_bytes text.old ++ word_line_of mode address word) }
 {
-    put_hex(text, 16, u128::from(address))?;
-    put(text, " ")?;
-    put_hex(text, 8, u128::from(word))?;
-    put(text, " ")?;
-    put(text, disassemble(word, mode).as_str())?;
-    put(text, "\n")
+    put(text, word_line(address, word, mode).as_str())
 }
 
 /// Puts the lines of so many words from an address behind a text.

@@ -1,7 +1,7 @@
 ghost use Rattle.std.specs.Prelude.{◌≡◌, ◌++◌, codes};
 ghost use Rattle.isa_rows.specs.declared.operands.Insn.{Insn};
 ghost use Rattle.disassembler.specs.Hex.{hex_of};
-ghost use Rattle.disassembler.specs.Shown.{shown_insn, shown_word};
+ghost use Rattle.disassembler.specs.Shown.{shown_insn, shown_word, word_line as word_line_of};
 ghost use Rattle.disassembler.specs.Widths.{HasRegisters};
 
 use crate::hex::hex_digits;
@@ -20,6 +20,21 @@ pub fn disassemble(word: u32, mode: bool) -> ArrayString<64>
         Some(insn) => text_of(&insn, mode),
         None => number(word),
     }
+}
+
+/// A line of a listing: 16 digits of the address, 8 digits of the word, and the word's text in a mode, with a space between and a line
+/// feed at the end, 91 bytes at most.
+pub fn word_line(address: u64, word: u32, mode: bool) -> ArrayString<96>
+    ensures { result.bytes ≡ word_line_of mode address word }
+{
+    let mut line = ArrayString::new();
+    line.push_str(hex_digits(u128::from(address), 16).as_str());
+    line.push_str(" ");
+    line.push_str(hex_digits(u128::from(word), 8).as_str());
+    line.push_str(" ");
+    line.push_str(disassemble(word, mode).as_str());
+    line.push_str("\n");
+    line
 }
 
 #[tactic(auto, using(crate::proofs::Lengths::mnemonic_short, crate::proofs::Lengths::operands_short))]

@@ -6,7 +6,7 @@ mod hex;
 pub mod laws;
 mod operands;
 
-pub use disassembling::disassemble;
+pub use disassembling::{disassemble, word_line};
 pub use hex::hex_digits;
 
 #[cfg(test)]

@@ -49,6 +49,8 @@ pub no_run : (rows : List Row) → ((schedule : Schedule) → IsScheduleOf rows 
 no_run rows none (Asm input output) fits ranges =
     let bad : 114 ≡ 97 = ap (λ t. slice_index t 0) fits.0 in absurd (omega (arith, bad))
 no_run rows none (Run image schedule input) fits ranges = none schedule fits.2 ranges
-no_run rows none (Dis image) fits ranges = fits
-no_run rows none (Debug image) fits ranges = fits
+no_run rows none (Dis image) fits ranges =
+    let bad : 114 ≡ 100 = ap (λ t. slice_index t 0) fits.0 in absurd (omega (arith, bad))
+no_run rows none (Debug image) fits ranges =
+    let bad : 114 ≡ 100 = ap (λ t. slice_index t 0) fits.0 in absurd (omega (arith, bad))
 no_run rows none First fits ranges = fits

@@ -1,3 +1,4 @@
 pub mod Events
 pub mod Scheduled
 pub mod Found
+pub mod Listed

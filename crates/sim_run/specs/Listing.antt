@@ -22,7 +22,7 @@ lines_from mode address (a ∷ []) = byte_lines address (a ∷ [])
 lines_from mode address (a ∷ b ∷ []) = byte_lines address (a ∷ b ∷ [])
 lines_from mode address (a ∷ b ∷ c ∷ []) = byte_lines address (a ∷ b ∷ c ∷ [])
 lines_from mode address (a ∷ b ∷ c ∷ d ∷ rest) =
-    word_line mode address (little_number (a ∷ b ∷ c ∷ d ∷ [])) ++ lines_from mode (address + 4) rest
+    word_line mode address (little_number 4 (a ∷ b ∷ c ∷ d ∷ [])) ++ lines_from mode (address + 4) rest
 
 abbrev pub section_listing : Bool → Section → List ℕ
 section_listing mode s = lines_from mode s.address s.bytes

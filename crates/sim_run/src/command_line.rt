@@ -1,16 +1,22 @@
 ghost use Rattle.std.specs.Prelude.{◌≡◌, ◌≤◌, ◌<◌, ◌^◌, IfOk, true, false, codes};
 ghost use Rattle.clap.specs.Words.{app_of, rule_of};
 ghost use Rattle.clap.specs.declared.builder.command.Command.TheViews.{out-Command};
-ghost use Rattle.sim_run.specs.CommandLine.{operand, named, in_range, asm_command, run_command, with_options, program, steps_rule, gap_rule, tick_rule};
+ghost use Rattle.sim_run.specs.CommandLine.{operand, named, in_range, asm_command, run_command, with_options, dis_command, debug_command, run_commands, program, steps_rule, gap_rule, tick_rule};
 
 use clap::builder::ValueParser;
 use clap::{Arg, Command};
 use std::alloc::{AllocError, Global};
 
 /// What the help says below the commands.
-const EXAMPLE: &str = "Example:
+const EXAMPLE: &str = "Examples:
+  cherisim asm hello.s hello.img
+      assembles the text hello.s, and writes the image to hello.img
   cherisim run hello.img 1000 --input keys.txt --gap 50
       runs hello.img for at most 1000 steps, and gives it a byte of keys.txt every 50 steps
+  cherisim dis hello.img
+      lists hello.img: for each word its address, its number and its instruction
+  cherisim debug hello.img
+      loads hello.img and does one command a line, as `step 5`, `regs`, `mem 0x80000000 64` or `quit`
 
 Without a command the program runs a first image of five instructions, which prints A.
 
@@ -109,13 +115,40 @@ fn run_command<'a>(alloc: Global) -> Result<Command<'a>, AllocError>
     with_options(alloc, run)
 }
 
-/// The command line of the program.
-pub(crate) fn program<'a>(alloc: Global) -> Result<Command<'a>, AllocError>
-    ensures { IfOk result (λ c. app_of c ≡ program) }
+fn dis_command<'a>(alloc: Global) -> Result<Command<'a>, AllocError>
+    ensures app { IfOk result (λ c. app_of c ≡ dis_command) }
+    ensures local { IfOk result (λ c. (out-Command c).has_globals ≡ false) }
+{
+    Command::new(alloc, "dis")
+        .about("Lists an image as instructions")
+        .arg(operand(alloc, "IMAGE", "The file with the image"))
+}
+
+fn debug_command<'a>(alloc: Global) -> Result<Command<'a>, AllocError>
+    ensures app { IfOk result (λ c. app_of c ≡ debug_command) }
+    ensures local { IfOk result (λ c. (out-Command c).has_globals ≡ false) }
+{
+    Command::new(alloc, "debug")
+        .about("Debugs an image: commands from standard input, replies to standard output")
+        .arg(operand(alloc, "IMAGE", "The file with the image"))
+}
+
+/// The program with the commands that make an image and run it.
+fn run_commands<'a>(alloc: Global) -> Result<Command<'a>, AllocError>
+    ensures { IfOk result (λ c. app_of c ≡ run_commands) }
 {
     Command::new(alloc, "cherisim")
         .about("A CHERI-RISC-V machine")
         .after_help(EXAMPLE)
         .subcommand(asm_command(alloc)?)?
         .subcommand(run_command(alloc)?)
+}
+
+/// The command line of the program.
+pub(crate) fn program<'a>(alloc: Global) -> Result<Command<'a>, AllocError>
+    ensures { IfOk result (λ c. app_of c ≡ program) }
+{
+    run_commands(alloc)?
+        .subcommand(dis_command(alloc)?)?
+        .subcommand(debug_command(alloc)?)
 }

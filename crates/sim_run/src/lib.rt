@@ -1,9 +1,10 @@
-//! The program's command line, and a machine that is run on a schedule.
+//! The program's command line, a machine that is run on a schedule, and the listing of an image.
 #![tactic(auto)]
 
 mod command_line;
 mod ending;
 mod fault;
+mod listing;
 mod plans;
 mod reading;
 mod run;
@@ -13,6 +14,7 @@ mod tests;
 
 pub use ending::verdict;
 pub use fault::PlanFault;
+pub use listing::list;
 pub use plans::Plan;
 pub use reading::plan;
 pub use run::run_scheduled;

@@ -71,6 +71,26 @@ fn run_plan<'a>(found: &ArgMatches<'a>) -> Option<Plan<'a>>
     })
 }
 
+fn dis_plan<'a>(found: &ArgMatches<'a>) -> Option<Plan<'a>>
+    ensures value { IfSome result (IsPlanOfCommand (codes "dis") (rows_of (found_of found.now))) }
+    ensures ranges { IfSome result HasRanges }
+    ensures none { IfNone result (NoCommandFits (codes "dis") (rows_of (found_of found.now))) }
+{
+    Some(Plan::Dis {
+        image: text(found, "IMAGE")?,
+    })
+}
+
+fn debug_plan<'a>(found: &ArgMatches<'a>) -> Option<Plan<'a>>
+    ensures value { IfSome result (IsPlanOfCommand (codes "debug") (rows_of (found_of found.now))) }
+    ensures ranges { IfSome result HasRanges }
+    ensures none { IfNone result (NoCommandFits (codes "debug") (rows_of (found_of found.now))) }
+{
+    Some(Plan::Debug {
+        image: text(found, "IMAGE")?,
+    })
+}
+
 fn plan_of_command<'a>(name: &str, found: &ArgMatches<'a>) -> Option<Plan<'a>>
     ensures value { IfSome result (IsPlanOfCommand name.now (rows_of (found_of found.now))) }
     ensures ranges { IfSome result HasRanges }
@@ -80,6 +100,10 @@ fn plan_of_command<'a>(name: &str, found: &ArgMatches<'a>) -> Option<Plan<'a>>
         asm_plan(found)
     } else if name == "run" {
         run_plan(found)
+    } else if name == "dis" {
+        dis_plan(found)
+    } else if name == "debug" {
+        debug_plan(found)
     } else {
         None
     }

@@ -58,6 +58,14 @@ static OTHERS: &[(&[&str], Plan<'static>)] = &[
             output: "hello.img",
         },
     ),
+    (
+        &["cherisim", "dis", "hello.img"],
+        Plan::Dis { image: "hello.img" },
+    ),
+    (
+        &["cherisim", "debug", "hello.img"],
+        Plan::Debug { image: "hello.img" },
+    ),
 ];
 
 /// A run of `hello.img`.
@@ -95,8 +103,10 @@ fn the_words_of_each_command_are_its_plan(rt: HostRuntime) {
 /// Words, and what the text of their refusal names.
 static REFUSED: &[(&[&str], &str)] = &[
     (&["cherisim", "link", "hello.img"], "link"),
-    (&["cherisim", "dis", "hello.img"], "dis"),
-    (&["cherisim", "debug", "hello.img"], "debug"),
+    (&["cherisim", "dis"], "IMAGE"),
+    (&["cherisim", "dis", "hello.img", "more"], "more"),
+    (&["cherisim", "debug"], "IMAGE"),
+    (&["cherisim", "debug", "hello.img", "more"], "more"),
     (&["cherisim", "asm", "hello.s"], "OUT"),
     (&["cherisim", "asm", "hello.s", "hello.img", "more"], "more"),
     (&["cherisim", "run"], "IMAGE"),
@@ -124,8 +134,12 @@ static REFUSED: &[(&[&str], &str)] = &[
     ),
     (&["cherisim", "--help"], "asm"),
     (&["cherisim", "--help"], "run"),
+    (&["cherisim", "--help"], "dis"),
+    (&["cherisim", "--help"], "debug"),
     (&["cherisim", "--help"], "Example"),
     (&["cherisim", "asm", "--help"], "OUT"),
+    (&["cherisim", "dis", "--help"], "IMAGE"),
+    (&["cherisim", "debug", "--help"], "standard input"),
     (&["cherisim", "run", "--help"], "100000000"),
     (&["cherisim", "run", "--help"], "--tick"),
 ];
