@@ -1,5 +1,4 @@
-use Rattle.std.proofs.Common.{◌≡◌, ◌≢◌, ℕ, ◌+◌, false, List, [], ◌∷◌, Option, Some, None, refl, sym, subst, ◌∙◌, arith}
-use Rattle.std.specs.Prelude.{◌==◌}
+use Rattle.std.proofs.Common.{◌≡◌, ◌≢◌, ℕ, false, List, [], ◌∷◌, Option, refl, sym, subst, ◌∙◌, arith, rules}
 use Rattle.std.specs.Io.KnownBytes.{Consumes}
 use Rattle.std.proofs.lemmas.Bool.Decides.{nat_tests}
 use Rattle.std.proofs.lemmas.Result.{err_from_is_err_and}
@@ -46,20 +45,20 @@ loop-preserved g c =
     let reads = c.in_ok-byte.ensures.count ∙ c.loop.invariant.reads in
     let next = rw c.in-Some.is at c.in_ok-byte.ensures.ok in
     elim c.if-byte-ne10.branch [
-      then-byte-ne10 w ↦
+      | then-byte-ne10 w ↦
           rw (w.session-is, w.sink-is, w.line-is) (record {
             heard = heard_byte _ _ _ _ _ _ _ _ c.loop.invariant.heard _ c.in-Some.byte next _ (not_feed c.in-Some.byte w.if-byte-ne10.true) w.keep.ensures;
             reads = reads;
             writes = c.loop.invariant.writes;
           })
-    | else-byte-ne10+in_ok-answer_line+else-branch w ↦
-        let same = w.as_slice.ensures.value in
-        let answered = w.in_ok-answer_line.ensures in
-        rw (w.session-is, w.sink-is, w.line-is) (record {
-          heard =
-              heard_line _ _ _ _ _ _ _ _ c.loop.invariant.heard _ (feed _ _ c.in-Some.byte w.if-byte-ne10.false next) _ _ (rw same at answered.state) (rw same at answered.text) _
-              (sym (rw same at answered.last) ∙ w.if-branch.false) w.clear.ensures;
-          reads = reads;
-          writes = answered.count ∙ c.loop.invariant.writes;
-        })
+      | else-byte-ne10+in_ok-answer_line+else-branch w ↦
+          let same = w.as_slice.ensures.value in
+          let answered = w.in_ok-answer_line.ensures in
+          rw (w.session-is, w.sink-is, w.line-is) (record {
+            heard =
+                heard_line _ _ _ _ _ _ _ _ c.loop.invariant.heard _ (feed _ _ c.in-Some.byte w.if-byte-ne10.false next) _ _ (rw same at answered.state) (rw same at answered.text) _
+                (sym (rw same at answered.last) ∙ w.if-branch.false) (search rules);
+            reads = reads;
+            writes = answered.count ∙ c.loop.invariant.writes;
+          })
     ]

@@ -1,4 +1,4 @@
-use Rattle.std.proofs.Common.{◌≡◌, true, false, sym, ◌∙◌}
+use Rattle.std.proofs.Common.{sym, ◌∙◌}
 use Rattle.std.proofs.lemmas.Result.{err_from_is_err_and}
 use Rattle.debugger.proofs.Hearing.{cut_at_rest, told_without_rest, told_with_rest}
 use Rattle.debugger.proofs.talking.talk.Goals as goal
@@ -20,8 +20,8 @@ returns-in_ok-answer_line-clause-ok g c =
 pub returns-else-not-is_over-clause-ok : goal.returns-else-not-is_over-clause-ok
 returns-else-not-is_over-clause-ok g c =
     elim c.else-not-is_over.branch [
-      else-not-is_over-via-then-not-is_over+else-not-is_empty w ↦
+      | else-not-is_over-via-then-not-is_over+else-not-is_empty w ↦
           let all = rw w.if-not-is_over.true at c.in_ok-is_over.ensures.ok in
           told_without_rest _ _ _ _ _ _ _ _ all.heard all.end (sym w.is_empty.ensures ∙ w.if-not-is_empty.false)
-    | else-not-is_over-via-else-not-is_over w ↦ rw w.if-not-is_over.false at c.in_ok-is_over.ensures.ok
+      | else-not-is_over-via-else-not-is_over w ↦ rw w.if-not-is_over.false at c.in_ok-is_over.ensures.ok
     ]
