@@ -1,5 +1,5 @@
 -- Whole lines that do not end a conversation, and the piece behind them.
-use Rattle.std.proofs.Common.{◌≡◌, ℕ, ◌<◌, ◌≤◌, Bool, true, false, List, [], ◌∷◌, ◌++◌, All, length, take, Result, Ok, Err, refl, sym, ap, ◌∙◌, append_assoc, append-nil, take_all, arith}
+use Rattle.std.proofs.Common.{◌≡◌, ℕ, ◌<◌, Bool, true, false, List, [], ◌∷◌, ◌++◌, All, length, take, Result, Ok, Err, refl, sym, ap, ◌∙◌, append_assoc, append-nil, take_all, arith}
 use Rattle.std.specs.Prelude.{not, ◌&&◌, ◌==◌, nat_lt, if◌then◌else◌}
 use Rattle.std.proofs.lemmas.Bool.{false≢true}
 use Rattle.std.proofs.lemmas.Bool.Decides.{nat_tests}
@@ -11,8 +11,8 @@ use Rattle.machine.specs.Run.{run_after}
 use Rattle.debugger.specs.declared.fault.DebugFault.{DebugFault}
 use Rattle.debugger.specs.declared.fault.DebugFault.TheVariants.{B2}
 use Rattle.debugger.specs.Command.{Command, step, tick, byte, until, reg, regs, scr, csr, mem, dis, quit, command_of}
-use Rattle.debugger.specs.Reply.{answer_to, events_of, command_in, allowed, state_by, state_after}
-use Rattle.debugger.specs.Conversation.{reply_by, reply_to, is_end, ends_by, is_last, replies_to, state_after_lines, unread_lines, conversation, state_after_conversation, unread}
+use Rattle.debugger.specs.Reply.{answer_to, events_of, command_in, state_by, state_after}
+use Rattle.debugger.specs.Conversation.{reply_to, is_end, ends_by, is_last, replies_to, state_after_lines, unread_lines, conversation, state_after_conversation, unread}
 use Rattle.debugger.specs.Talk.{is_feed, fed, replies, state_after_all, goes_on}
 use Rattle.debugger.specs.Heard.{IsInLine}
 use Rattle.debugger.proofs.Pieces.{pieces_at_end, pieces_at_feed, joined}

@@ -1,12 +1,11 @@
 -- What was heard and answered so far, one step further; what is left where it is cut short; and the whole conversation.
-use Rattle.std.proofs.Common.{◌≡◌, ℕ, zero, suc, ◌+◌, ◌-◌, ◌<◌, ◌≤◌, Bool, true, false, List, [], ◌∷◌, ◌++◌, All, length, take, drop, Option, Some, None, refl, sym, ap, subst, ◌∙◌, append_assoc, append-nil, arith}
+use Rattle.std.proofs.Common.{◌≡◌, ℕ, zero, suc, ◌+◌, ◌-◌, ◌<◌, ◌≤◌, true, false, List, [], ◌∷◌, ◌++◌, length, take, drop, Option, Some, None, refl, sym, ap, subst, ◌∙◌, append_assoc, append-nil, arith}
 use Rattle.std.specs.Prelude.{◌==◌, if◌then◌else◌, IfSome, ◌⊎◌}
 use Rattle.std.proofs.Common.{inl, inr}
 use Rattle.std.proofs.KnownBytes.{Appends-nil, Appends-trans, Consumes-nil, Consumes-trans, Consumes-kept}
 use Rattle.std.proofs.Math.Seq.{take-append-add}
-use Rattle.std.proofs.lemmas.Bool.{eq-eqb}
 use Rattle.std.proofs.lemmas.Bool.Decides.{nat_tests}
-use Rattle.std.proofs.lemmas.List.{length-append, append_cancel_left, take-append-drop, take-append-le, drop_all}
+use Rattle.std.proofs.lemmas.List.{length-append}
 use Rattle.std.proofs.lemmas.List.Elements.{All-nil, All-push}
 use Rattle.std.specs.List.{before_first}
 use Rattle.std.specs.Io.KnownBytes.{Appends, Consumes, Keeps, IsAtEnd}
@@ -17,8 +16,8 @@ use Rattle.debugger.specs.declared.fault.TalkFault.TheVariants.{Read, Write, Mem
 use Rattle.debugger.specs.Command.{command_of}
 use Rattle.debugger.specs.Reply.{state_after, allowed, state_by}
 use Rattle.debugger.specs.Conversation.{reply_by, ends_by, reply_to, is_last, conversation, state_after_conversation, unread}
-use Rattle.debugger.specs.Talk.{most_heard, heard, is_feed, fed, replies, state_after_all, goes_on, IsTold, IsRead, IsCutBeforeReply, IsCutInReply, LeavesOff}
-use Rattle.debugger.specs.Heard.{FailsToReply, IsInLine, IsHeard, IsHeardToEnd, Hears}
+use Rattle.debugger.specs.Talk.{most_heard, heard, is_feed, fed, replies, state_after_all, IsTold, IsRead, IsCutBeforeReply, LeavesOff}
+use Rattle.debugger.specs.Heard.{FailsToReply, IsInLine, IsHeard, IsHeardToEnd}
 use Rattle.debugger.proofs.Pieces.{before_none, after_none, before_feed, after_feed, in_line_more, whole_lines, fed_more, take_again, take_front, take_behind}
 use Rattle.debugger.proofs.Conversing.{kept_command, same_after_last, goes_on_more, replies_more, state_after_more, told_last, state_last, unread_last, told_end, state_end, unread_end}
 

@@ -1,5 +1,5 @@
 -- A conversation: the replies to the lines of an input, up to `quit` or its end.
-use Rattle.std.specs.Prelude.{ℕ, Bool, true, false, List, [], ◌∷◌, ◌++◌, length, Result, Ok, Err, Option, Some, None, codes, if◌then◌else◌, ◌==◌}
+use Rattle.std.specs.Prelude.{ℕ, Bool, true, false, List, [], ◌∷◌, ◌++◌, length, Result, Ok, Err, codes, if◌then◌else◌, ◌==◌}
 use Rattle.std.specs.List.{slice_split, join_by}
 use Rattle.hart.specs.State.{State}
 use Rattle.debugger.specs.declared.fault.DebugFault.{DebugFault}

@@ -1,6 +1,6 @@
 -- What the parts of a conversation do: a reply to one line, and the lines heard so far.
-use Rattle.std.specs.Prelude.{◌≡◌, ◌⊎◌, ℕ, ◌<◌, Bool, true, false, List, All, [], ◌++◌, length, take, Option, Some, IfSome}
-use Rattle.std.specs.Io.KnownBytes.{Appends, Consumes, Keeps, IsAtEnd}
+use Rattle.std.specs.Prelude.{◌≡◌, ◌⊎◌, ℕ, ◌<◌, Bool, true, false, List, All, ◌++◌, length, take, Option, IfSome}
+use Rattle.std.specs.Io.KnownBytes.{Appends, Consumes, IsAtEnd}
 use Rattle.image.specs.Devices.{AppendsBeginning}
 use Rattle.hart.specs.State.{State}
 use Rattle.debugger.specs.declared.fault.TalkFault.{TalkFault}

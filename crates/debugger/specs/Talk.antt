@@ -1,5 +1,5 @@
 -- A conversation over a source and a sink: what was read, what was written, and where the machine stands.
-use Rattle.std.specs.Prelude.{◌≡◌, ℕ, ◌-◌, ◌^◌, ◌+◌, ◌==◌, not, ◌&&◌, Bool, true, ⊤, List, All, [], ◌∷◌, ◌++◌, take, drop, Option, Some, Result, Err}
+use Rattle.std.specs.Prelude.{◌≡◌, ℕ, ◌-◌, ◌^◌, ◌+◌, ◌==◌, not, ◌&&◌, Bool, true, List, All, [], ◌∷◌, ◌++◌, take, drop, Option, Some, Result, Err}
 use Rattle.std.specs.List.{before_first, after_first, flat_map}
 use Rattle.std.specs.Io.KnownBytes.{Appends, Consumes}
 use Rattle.image.specs.Devices.{AppendsBeginning}

@@ -1,7 +1,6 @@
 //! Whole conversations.
-ghost use Rattle.std.specs.Prelude.{◌≡◌, ℕ, ◌-◌, ◌^◌, ◌<◌, [], ◌∷◌, ◌++◌, length, take, Option, None, MatchOption, IfOk, IfErr, OnOk, OnErr, IfSome};
+ghost use Rattle.std.specs.Prelude.{◌≡◌, ◌-◌, ◌^◌, ◌<◌, [], ◌∷◌, ◌++◌, take, MatchOption, IfOk, IfErr, OnOk, OnErr, IfSome};
 ghost use Rattle.std.specs.Io.KnownBytes.{Appends, Consumes, Keeps, IsAtEnd};
-ghost use Rattle.arrayvec.specs.ArrayVec.{array_vec_len};
 ghost use Rattle.image.specs.Devices.{AppendsBeginning};
 ghost use Rattle.debugger.specs.declared.fault.TalkFault.TheVariants.{Read, Write};
 ghost use Rattle.debugger.specs.Reply.{state_after};

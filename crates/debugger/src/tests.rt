@@ -1,5 +1,7 @@
 //! Sessions on small programs: replies from the rows of the instruction set and the state that a machine begins with.
 
+mod talking;
+
 use crate::{DebugFault, Reply, Session};
 use cap_bounds::{CapRep, PlainCap};
 use image::Image;

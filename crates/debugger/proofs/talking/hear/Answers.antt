@@ -1,5 +1,4 @@
-use Rattle.std.proofs.Common.{◌≡◌, ◌≢◌, ℕ, ◌+◌, false, List, [], ◌∷◌, Option, Some, None, refl, sym, subst, ◌∙◌, arith}
-use Rattle.std.specs.Prelude.{◌==◌}
+use Rattle.std.proofs.Common.{◌≡◌, ◌≢◌, ℕ, false, List, [], ◌∷◌, Option, refl, sym, subst, ◌∙◌, arith, rules}
 use Rattle.std.specs.Io.KnownBytes.{Consumes}
 use Rattle.std.proofs.lemmas.Bool.Decides.{nat_tests}
 use Rattle.std.proofs.lemmas.Result.{err_from_is_err_and}
@@ -58,7 +57,7 @@ loop-preserved g c =
           rw (w.session-is, w.sink-is, w.line-is) (record {
             heard =
                 heard_line _ _ _ _ _ _ _ _ c.loop.invariant.heard _ (feed _ _ c.in-Some.byte w.if-byte-ne10.false next) _ _ (rw same at answered.state) (rw same at answered.text) _
-                (sym (rw same at answered.last) ∙ w.if-branch.false) w.clear.ensures;
+                (sym (rw same at answered.last) ∙ w.if-branch.false) (search rules);
             reads = reads;
             writes = answered.count ∙ c.loop.invariant.writes;
           })

@@ -1,4 +1,4 @@
-use Rattle.std.proofs.Common.{◌≡◌, ◌≤◌}
+use Rattle.std.proofs.Common.{◌≡◌}
 use Rattle.debugger.specs.Heard.{IsHeard}
 use Rattle.debugger.proofs.talking.hear.Given as goal
 

@@ -1,4 +1,4 @@
-use Rattle.std.proofs.Common.{◌≡◌, true, false, sym, ◌∙◌}
+use Rattle.std.proofs.Common.{sym, ◌∙◌}
 use Rattle.std.proofs.lemmas.Result.{err_from_is_err_and}
 use Rattle.debugger.proofs.Hearing.{cut_at_rest, told_without_rest, told_with_rest}
 use Rattle.debugger.proofs.talking.talk.Goals as goal

@@ -1,0 +1,270 @@
+//! Conversations over devices of std, and over devices that give and take one byte a call and fail at a call.
+
+use super::{RECEIVES, session_of};
+use crate::{TalkFault, talk};
+use cap_bounds::CapRep;
+use image::{DeviceFailed, FromRead, Sink, Source, ToWrite};
+use std::alloc::{AllocError, Global};
+use std::process::Abort;
+use std::test::Fail;
+
+/// A call that never comes.
+const NEVER: u64 = u64::MAX;
+
+/// An input, what it is answered, and what is left of it.
+static TALKS: &[(&str, &str, &str)] = &[
+    ("", "", ""),
+    ("\n", "fault B1\n", ""),
+    ("quit", "", ""),
+    ("quit\nregs", "", "regs"),
+    ("step 1", "events 1 out - pc 0000000080000004 running\n", ""),
+    (
+        "step 1\r\n\nfrob\nmem 0 1\nquit now\nbyte 0x41\n\tquit \nregs\n",
+        "events 1 out - pc 0000000080000004 running\nfault B1\nfault B1\nfault B3\nfault B2\nevents 1 out - pc 0000000080000004 running\n",
+        "regs\n",
+    ),
+];
+
+/// A byte of 200 in the second of three lines.
+const UNREADABLE: &[u8] = b"tick 1\ntick 1 \xc8\ntick 1\n";
+
+/// Lines, each with its reply, PCC's address after it, and how many bytes wait for the load then.
+static PIECES: &[(&str, &str, u64, usize)] = &[
+    (
+        "step 1\n",
+        "events 1 out - pc 0000000080000004 running\n",
+        0x8000_0004,
+        0,
+    ),
+    ("frob\n", "fault B1\n", 0x8000_0004, 0),
+    (
+        "byte 0x41\n",
+        "events 1 out - pc 0000000080000004 running\n",
+        0x8000_0004,
+        1,
+    ),
+    (
+        "step 1",
+        "events 1 out - pc 0000000080000008 running\n",
+        0x8000_0008,
+        0,
+    ),
+];
+
+/// Gives one byte a call, but for the call that fails.
+#[derive(Drop)]
+struct Slow<'a> {
+    bytes: &'a [u8],
+    calls: u64,
+    fails_at: u64,
+    failures: u64,
+}
+
+impl Source for Slow<'_> {
+    ghost failed = { λ s. s.failures };
+
+    fn read(&mut self, buffer: &mut [u8]) -> Result<usize, DeviceFailed> {
+        let call = self.calls;
+        self.calls = call.saturating_add(1);
+        if call == self.fails_at {
+            self.failures += 1;
+            return Err(DeviceFailed);
+        }
+        let (Some((byte, rest)), Some(place)) = (self.bytes.split_first(), buffer.first_mut())
+        else {
+            return Ok(0);
+        };
+        *place = *byte;
+        self.bytes = rest;
+        Ok(1)
+    }
+
+    fn failures(&self) -> u64 {
+        self.failures
+    }
+}
+
+/// Takes one byte a call, but for the call that fails.
+#[derive(Drop)]
+struct Narrow<'a> {
+    held: &'a mut Vec<u8>,
+    calls: u64,
+    fails_at: u64,
+    failures: u64,
+}
+
+impl Sink for Narrow<'_> {
+    ghost failed = { λ s. s.failures };
+
+    fn write(&mut self, bytes: &[u8]) -> Result<usize, DeviceFailed> {
+        let call = self.calls;
+        self.calls = call.saturating_add(1);
+        let Some(byte) = bytes.first() else {
+            return Ok(0);
+        };
+        if call == self.fails_at || self.held.push(*byte).is_err() {
+            self.failures += 1;
+            return Err(DeviceFailed);
+        }
+        Ok(1)
+    }
+
+    fn failures(&self) -> u64 {
+        self.failures
+    }
+}
+
+/// A conversation over this input is answered so, and leaves so much of it.
+fn assert_talk(
+    rt: &impl Abort,
+    alloc: Global,
+    input: &[u8],
+    written: &str,
+    left: &str,
+) -> Result<(), Fail> {
+    let mut session = session_of(alloc, &RECEIVES)?;
+    let mut rest = input;
+    let mut held = Vec::new(alloc);
+    let answer = talk(
+        &mut session,
+        &mut FromRead::new(&mut rest),
+        &mut ToWrite::new(&mut held),
+    );
+    assert_eq!(rt; answer, Ok(()));
+    assert_eq!(rt; held.as_slice(), written.as_bytes());
+    assert_eq!(rt; rest, left.as_bytes());
+    Ok(())
+}
+
+/// Lines of these lengths, each `step 1` and blanks.
+fn padded_lines(alloc: Global, lengths: &[usize]) -> Result<Vec<u8>, AllocError> {
+    let mut lines = Vec::new(alloc);
+    for length in lengths {
+        lines.extend_from_slice(b"step 1")?;
+        for _ in 6..*length {
+            lines.push(b' ')?;
+        }
+        lines.push(b'\n')?;
+    }
+    Ok(lines)
+}
+
+/// What a conversation leaves: its answer, what was written, PCC's address, and how many bytes wait.
+#[derive(Drop)]
+struct Outcome {
+    answer: Result<(), TalkFault>,
+    held: Vec<u8>,
+    counter: u64,
+    waiting: usize,
+}
+
+/// A conversation over all pieces, over devices that fail at these calls.
+fn talked(alloc: Global, source_fails_at: u64, sink_fails_at: u64) -> Result<Outcome, Fail> {
+    let mut session = session_of(alloc, &RECEIVES)?;
+    let mut input = Vec::new(alloc);
+    for (line, _, _, _) in PIECES {
+        input.extend_from_slice(line.as_bytes())?;
+    }
+    let mut source = Slow {
+        bytes: input.as_slice(),
+        calls: 0,
+        fails_at: source_fails_at,
+        failures: 0,
+    };
+    let mut held = Vec::new(alloc);
+    let mut sink = Narrow {
+        held: &mut held,
+        calls: 0,
+        fails_at: sink_fails_at,
+        failures: 0,
+    };
+    let answer = talk(&mut session, &mut source, &mut sink);
+    let counter = session.machine().scr(0).address();
+    let waiting = session.machine().devices().waiting().len();
+    Ok(Outcome {
+        answer,
+        held,
+        counter,
+        waiting,
+    })
+}
+
+/// Each call of the sink in turn fails: a beginning of all replies is written, and the session stands after the line of that call.
+fn assert_cut_in_replies(rt: &impl Abort, alloc: Global, whole: &[u8]) -> Result<(), Fail> {
+    let mut call = 0;
+    for (_, reply, counter, waiting) in PIECES {
+        for _ in 0..reply.len() {
+            let outcome = talked(alloc, NEVER, call as u64)?;
+            assert_eq!(rt; outcome.answer, Err(TalkFault::Write), "at call {call}");
+            assert_eq!(rt; Some(outcome.held.as_slice()), whole.get(..call));
+            assert_eq!(rt; outcome.counter, *counter, "at call {call}");
+            assert_eq!(rt; outcome.waiting, *waiting, "at call {call}");
+            call = call.saturating_add(1);
+        }
+    }
+    assert_eq!(rt; call, whole.len());
+    Ok(())
+}
+
+/// Each call of the source in turn fails: the replies to the lines before are written, and the session stands after those.
+fn assert_cut_in_lines(rt: &impl Abort, alloc: Global, whole: &[u8]) -> Result<(), Fail> {
+    let mut call = 0u64;
+    let mut answered = 0usize;
+    let mut before = (0x8000_0000, 0);
+    for (line, reply, counter, waiting) in PIECES {
+        // The call for each byte fails, and behind the last line the one that meets the end.
+        let calls = if line.ends_with('\n') {
+            line.len()
+        } else {
+            line.len().saturating_add(1)
+        };
+        for _ in 0..calls {
+            let outcome = talked(alloc, call, NEVER)?;
+            assert_eq!(rt; outcome.answer, Err(TalkFault::Read), "at call {call}");
+            assert_eq!(rt; Some(outcome.held.as_slice()), whole.get(..answered));
+            assert_eq!(rt;
+                (outcome.counter, outcome.waiting),
+                before,
+                "at call {call}"
+            );
+            call = call.saturating_add(1);
+        }
+        answered = answered.saturating_add(reply.len());
+        before = (*counter, *waiting);
+    }
+    Ok(())
+}
+
+#[test]
+fn lines_are_answered_up_to_quit_or_the_end(rt: HostRuntime) -> Result<(), Fail> {
+    for (input, written, left) in TALKS {
+        assert_talk(&rt, rt.alloc(), input.as_bytes(), written, left)?;
+    }
+    assert_talk(
+        &rt,
+        rt.alloc(),
+        UNREADABLE,
+        "events 1 out - pc 0000000080000000 running\nfault B2\nevents 1 out - pc 0000000080000000 running\n",
+        "",
+    )?;
+    assert_talk(
+        &rt,
+        rt.alloc(),
+        &padded_lines(rt.alloc(), &[255, 256, 257, 600, 6])?,
+        "events 1 out - pc 0000000080000004 running\nfault B2\nfault B2\nfault B2\nevents 1 out - pc 0000000080000008 running\n",
+        "",
+    )
+}
+
+#[test]
+fn a_device_may_fail_at_any_call(rt: HostRuntime) -> Result<(), Fail> {
+    let all = talked(rt.alloc(), NEVER, NEVER)?;
+    assert_eq!(rt; all.answer, Ok(()));
+    let mut whole = Vec::new(rt.alloc());
+    for (_, reply, _, _) in PIECES {
+        whole.extend_from_slice(reply.as_bytes())?;
+    }
+    assert_eq!(rt; all.held, whole);
+    assert_cut_in_replies(&rt, rt.alloc(), &whole)?;
+    assert_cut_in_lines(&rt, rt.alloc(), &whole)
+}
