@@ -6,4 +6,5 @@ pub mod Seen
 pub mod Lines
 pub mod Answers
 pub mod Talk
+pub mod Heard
 pub mod TextBack

@@ -20,7 +20,7 @@ heard input = take most_heard input
 pub record IsTold (input : List ℕ) (old new : State) (left : Option (List ℕ)) (held_old held_new : Option (List ℕ)) : Type 0 where
   pub text : Appends held_old held_new (conversation (heard input) old)
   pub state : new ≡ state_after_conversation (heard input) old
-  pub left : left ≡ Some (unread (heard input) old ++ drop most_heard input)
+  pub rest : left ≡ Some (unread (heard input) old ++ drop most_heard input)
 
 -- ---- a conversation that was cut short
 
@@ -74,10 +74,10 @@ LeavesOff Write old new left_old left_new held_old held_new = IsCutInReply old n
 LeavesOff Memory old new left_old left_new held_old held_new = IsCutBeforeReply old new left_old left_new held_old held_new
 
 -- The count of the source's failures rises by one where the answer is Read, that of the sink's where it is Write, and else both stay.
-abbrev pub CountsReads : ℕ → ℕ → Result ⊤ TalkFault → Type 0
+abbrev pub CountsReads : {T : Type 0} → ℕ → ℕ → Result T TalkFault → Type 0
 CountsReads old new (Err Read) = new ≡ old + 1
 CountsReads old new other = new ≡ old
 
-abbrev pub CountsWrites : ℕ → ℕ → Result ⊤ TalkFault → Type 0
+abbrev pub CountsWrites : {T : Type 0} → ℕ → ℕ → Result T TalkFault → Type 0
 CountsWrites old new (Err Write) = new ≡ old + 1
 CountsWrites old new other = new ≡ old

@@ -11,12 +11,14 @@ mod run;
 mod session;
 mod shown;
 mod state;
+mod talking;
 mod text;
 mod words;
 
 pub use fault::{DebugFault, TalkFault};
 pub use reply::Reply;
 pub use session::Session;
+pub use talking::talk;
 
 #[cfg(test)]
 mod tests;

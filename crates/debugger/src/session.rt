@@ -33,12 +33,12 @@ impl<C: CapRep> Model for Session<C> {
 }
 
 /// The command that a line writes, if it may be done: of a command's faults B1 comes before B2 and B2 before B3.
-fn accepted<C: CapRep>(machine: &Machine<C>, line: &str) -> Result<Command, DebugFault>
+fn accepted<C: CapRep>(machine: &Machine<C>, line: &[u8]) -> Result<Command, DebugFault>
     ensures value { seen_request result ≡ command_in line.now machine.now }
     ensures limits { IfOk result IsWithinLimits }
     ensures inside { IfOk result (λ command. is_outside (seen_command command) machine.now ≡ false) }
 {
-    let command = command_of(line.as_bytes())?;
+    let command = command_of(line)?;
     if is_outside(machine, command) {
         return Err(DebugFault::B3);
     }
@@ -63,6 +63,16 @@ impl<C: CapRep> Session<C> {
     /// with B4 where there is no memory for the reply. A refused line changes nothing: the reply's room is made before the first
     /// event.
     pub fn command(&mut self, line: &str) -> Result<Reply, DebugFault>
+        ensures ok { IfOk result (λ reply. IsAnswer line.now self.old (seen_reply reply)) }
+        ensures state { OnOk result (self.new ≡ state_after line.now self.old) }
+        ensures err { IfErr result (λ fault. (fault ≡ DebugFault.B4) ⊎ (command_in line.now self.old ≡ Err fault)) }
+        ensures same { OnErr result (self.new ≡ self.old) }
+    {
+        self.command_bytes(line.as_bytes())
+    }
+
+    /// The same of a line whose bytes need not be text.
+    pub(crate) fn command_bytes(&mut self, line: &[u8]) -> Result<Reply, DebugFault>
         ensures ok { IfOk result (λ reply. IsAnswer line.now self.old (seen_reply reply)) }
         ensures state { OnOk result (self.new ≡ state_after line.now self.old) }
         ensures err { IfErr result (λ fault. (fault ≡ DebugFault.B4) ⊎ (command_in line.now self.old ≡ Err fault)) }

@@ -1,0 +1,160 @@
+//! Whole conversations.
+ghost use Rattle.std.specs.Prelude.{◌≡◌, ℕ, ◌-◌, ◌^◌, ◌<◌, [], ◌∷◌, ◌++◌, length, take, Option, None, MatchOption, IfOk, IfErr, OnOk, OnErr, IfSome};
+ghost use Rattle.std.specs.Io.KnownBytes.{Appends, Consumes, Keeps, IsAtEnd};
+ghost use Rattle.arrayvec.specs.ArrayVec.{array_vec_len};
+ghost use Rattle.image.specs.Devices.{AppendsBeginning};
+ghost use Rattle.debugger.specs.declared.fault.TalkFault.TheVariants.{Read, Write};
+ghost use Rattle.debugger.specs.Reply.{state_after};
+ghost use Rattle.debugger.specs.Conversation.{fault_text, reply_to, is_last};
+ghost use Rattle.debugger.specs.Talk.{IsTold, LeavesOff, CountsReads, CountsWrites};
+ghost use Rattle.debugger.specs.Heard.{FailsToReply, Hears};
+
+use crate::fault::{DebugFault, TalkFault};
+use crate::reply::Reply;
+use crate::session::Session;
+use arrayvec::ArrayVec;
+use cap_bounds::CapRep;
+use image::{Sink, Source, write_all};
+
+/// The most bytes of a line that are kept: a longer line is refused for its length, as its beginning is.
+const MOST_KEPT: usize = 256;
+
+/// The next byte, or none at the end.
+fn next_byte<R: Source>(source: &mut R) -> Result<Option<u8>, TalkFault>
+    requires { R.failed source.old < 2 ^ 64 - 1 }
+    ensures ok { IfOk result (λ next. MatchOption next
+        (Consumes (R.left source.old) (R.left source.new) [] × IsAtEnd (R.left source.new))
+        (λ byte. Consumes (R.left source.old) (R.left source.new) (byte ∷ []))) }
+    ensures err { OnErr result (Keeps (R.left source.old) (R.left source.new)) }
+    ensures fault { IfErr result (λ fault. fault ≡ Read) }
+    ensures count { CountsReads (R.failed source.old) (R.failed source.new) result }
+{
+    let mut one = [0];
+    match source.read(&mut one) {
+        Err(_) => Err(TalkFault::Read),
+        Ok(0) => Ok(None),
+        Ok(_) => Ok(Some(one[0])),
+    }
+}
+
+/// What a refusal prints.
+fn fault_text(fault: DebugFault) -> &'static str
+    ensures { result.now ≡ fault_text fault }
+{
+    match fault {
+        DebugFault::B1 => "fault B1\n",
+        DebugFault::B2 => "fault B2\n",
+        DebugFault::B3 => "fault B3\n",
+        DebugFault::B4 => "",
+    }
+}
+
+/// Writes a text, or a beginning of it.
+fn put<W: Sink>(sink: &mut W, text: &str) -> Result<(), TalkFault>
+    requires { W.failed sink.old < 2 ^ 64 - 1 }
+    ensures ok { OnOk result (Appends (W.held sink.old) (W.held sink.new) text.now) }
+    ensures err { OnErr result (AppendsBeginning (W.held sink.old) (W.held sink.new) text.now) }
+    ensures fault { IfErr result (λ fault. fault ≡ Write) }
+    ensures count { CountsWrites (W.failed sink.old) (W.failed sink.new) result }
+{
+    match write_all(sink, text.as_bytes()) {
+        Ok(()) => Ok(()),
+        Err(_) => Err(TalkFault::Write),
+    }
+}
+
+/// Does what a line asks for, writes its reply, and answers whether it ends the conversation.
+fn answer_line<C: CapRep, W: Sink>(
+    session: &mut Session<C>,
+    sink: &mut W,
+    line: &[u8],
+) -> Result<bool, TalkFault>
+    requires { W.failed sink.old < 2 ^ 64 - 1 }
+    ensures last { IfOk result (λ last. last ≡ is_last line.now session.old) }
+    ensures state { OnOk result (session.new ≡ state_after line.now session.old) }
+    ensures text { OnOk result (Appends (W.held sink.old) (W.held sink.new) (reply_to line.now session.old)) }
+    ensures err { IfErr result (λ fault. FailsToReply fault line.now session.old session.new (W.held sink.old) (W.held sink.new)) }
+    ensures count { CountsWrites (W.failed sink.old) (W.failed sink.new) result }
+{
+    match session.command_bytes(line) {
+        Ok(Reply::Quit) => Ok(true),
+        Ok(Reply::Text(text)) => {
+            put(sink, text.as_str())?;
+            Ok(false)
+        }
+        Err(DebugFault::B4) => Err(TalkFault::Memory),
+        Err(fault) => {
+            put(sink, fault_text(fault))?;
+            Ok(false)
+        }
+    }
+}
+
+/// Keeps a byte of a line, if there is room for it.
+fn keep(line: &mut ArrayVec<u8, MOST_KEPT>, byte: u8)
+    ensures { line.new.items ≡ take 256 (line.old.items ++ byte ∷ []) }
+{
+    if !line.is_full() {
+        line.push(byte);
+    }
+}
+
+/// Answers each line that ends with a line feed, up to the end of the input or the line that ends the conversation, and answers
+/// whether such a line came. `line` is empty before, and holds the last line's beginning after.
+fn hear<C: CapRep, R: Source, W: Sink>(
+    session: &mut Session<C>,
+    source: &mut R,
+    sink: &mut W,
+    line: &mut ArrayVec<u8, MOST_KEPT>,
+) -> Result<bool, TalkFault>
+    requires source { R.failed source.old < 2 ^ 64 - 1 }
+    requires sink { W.failed sink.old < 2 ^ 64 - 1 }
+    requires line { line.old.items ≡ [] }
+    ensures ok { IfOk result (λ is_over. Hears is_over line.new.items session.old session.new (R.left source.old) (R.left source.new) (W.held sink.old) (W.held sink.new)) }
+    ensures err { IfErr result (λ fault. LeavesOff fault session.old session.new (R.left source.old) (R.left source.new) (W.held sink.old) (W.held sink.new)) }
+    ensures reads { CountsReads (R.failed source.old) (R.failed source.new) result }
+    ensures writes { CountsWrites (W.failed sink.old) (W.failed sink.new) result }
+{
+    for _ in 0..u64::MAX {
+        let Some(byte) = next_byte(source)? else {
+            return Ok(false);
+        };
+        if byte != b'\n' {
+            keep(line, byte);
+        } else {
+            if answer_line(session, sink, line.as_slice())? {
+                return Ok(true);
+            }
+            line.clear();
+        }
+    }
+    Ok(false)
+}
+
+/// Answers each line of the source: its reply, or `fault ` with the code of its refusal.
+///
+/// Reads one byte at a time. Lines end with a line feed; the last one may stand without it if it is not empty. Ends after the
+/// line feed of `quit`, which is answered with nothing, at the end of the input, or after `2^64 - 1` bytes as at its end.
+///
+/// `Read`, a call of the source failed: the replies to the lines before are written, and the session stands after those lines.
+/// `Write`, a call of the sink failed: a beginning of the text is written, and the session stands after the command whose reply
+/// was cut. `Memory`, there is no memory for a reply: as `Read`; the line's command is not done.
+pub fn talk<C: CapRep, R: Source, W: Sink>(
+    session: &mut Session<C>,
+    source: &mut R,
+    sink: &mut W,
+) -> Result<(), TalkFault>
+    requires source { R.failed source.old < 2 ^ 64 - 1 }
+    requires sink { W.failed sink.old < 2 ^ 64 - 1 }
+    ensures ok { OnOk result (IfSome (R.left source.old) (λ input. IsTold input session.old session.new (R.left source.new) (W.held sink.old) (W.held sink.new))) }
+    ensures err { IfErr result (λ fault. LeavesOff fault session.old session.new (R.left source.old) (R.left source.new) (W.held sink.old) (W.held sink.new)) }
+    ensures reads { CountsReads (R.failed source.old) (R.failed source.new) result }
+    ensures writes { CountsWrites (W.failed sink.old) (W.failed sink.new) result }
+{
+    let mut line = ArrayVec::new();
+    let is_over = hear(session, source, sink, &mut line)?;
+    if !is_over && !line.is_empty() {
+        answer_line(session, sink, line.as_slice())?;
+    }
+    Ok(())
+}
