@@ -23,8 +23,8 @@ fn session_of(alloc: Global, transcript: &Transcript) -> Result<Session<PlainCap
     Ok(Session::new(alloc, Machine::new(alloc, &image)?))
 }
 
-/// Types what is typed in a transcript, and compares what is answered.
-fn compare(rt: &impl Abort, alloc: Global, transcript: &Transcript) -> Result<(), Fail> {
+/// What is typed in a transcript, and what is answered.
+fn sides(alloc: Global, transcript: &Transcript) -> Result<(String, String), Fail> {
     let mut typed = String::new(alloc);
     let mut answers = String::new(alloc);
     for line in transcript.text.split_inclusive('\n') {
@@ -33,6 +33,11 @@ fn compare(rt: &impl Abort, alloc: Global, transcript: &Transcript) -> Result<()
             None => answers.push_str(line)?,
         }
     }
+    Ok((typed, answers))
+}
+
+/// What a session with the machine of a transcript answers.
+fn said(alloc: Global, transcript: &Transcript, typed: &str) -> Result<String, Fail> {
     let mut session = session_of(alloc, transcript)?;
     let mut said = Vec::new(alloc);
     talk(
@@ -40,14 +45,27 @@ fn compare(rt: &impl Abort, alloc: Global, transcript: &Transcript) -> Result<()
         &mut FromRead::new(typed.as_bytes()),
         &mut ToWrite::new(&mut said),
     )?;
-    assert_eq!(rt; String::from_utf8(said)?, answers, "{}", transcript.title);
-    Ok(())
+    Ok(String::from_utf8(said)?)
+}
+
+/// Compares answers line by line, so that the first that differs is shown, and then as a whole.
+fn compare(rt: &impl Abort, title: &str, said: &str, answers: &str) {
+    for (line, answer) in said.lines().zip(answers.lines()) {
+        assert_eq!(rt; line, answer, "{title}");
+    }
+    assert_eq!(rt; said, answers, "{title}");
 }
 
 #[test]
 fn each_session_answers_as_in_its_transcript(rt: HostRuntime) -> Result<(), Fail> {
     for transcript in TRANSCRIPTS {
-        compare(&rt, rt.alloc(), transcript)?;
+        let (typed, answers) = sides(rt.alloc(), transcript)?;
+        let whole = said(rt.alloc(), transcript, &typed)?;
+        compare(&rt, transcript.title, &whole, &answers);
+        // the last line may lack its line feed
+        let cut = typed.strip_suffix('\n').ok_or("nothing typed")?;
+        let unended = said(rt.alloc(), transcript, cut)?;
+        compare(&rt, transcript.title, &unended, &answers);
     }
     Ok(())
 }

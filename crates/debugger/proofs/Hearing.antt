@@ -1,0 +1,305 @@
+-- What was heard and answered so far, one step further; what is left where it is cut short; and the whole conversation.
+use Rattle.std.proofs.Common.{◌≡◌, ℕ, zero, suc, ◌+◌, ◌-◌, ◌<◌, ◌≤◌, Bool, true, false, List, [], ◌∷◌, ◌++◌, All, length, take, drop, Option, Some, None, refl, sym, ap, subst, ◌∙◌, append_assoc, append-nil, arith}
+use Rattle.std.specs.Prelude.{◌==◌, if◌then◌else◌, IfSome, ◌⊎◌}
+use Rattle.std.proofs.Common.{inl, inr}
+use Rattle.std.proofs.KnownBytes.{Appends-nil, Appends-trans, Consumes-nil, Consumes-trans, Consumes-kept}
+use Rattle.std.proofs.Math.Seq.{take-append-add}
+use Rattle.std.proofs.lemmas.Bool.{eq-eqb}
+use Rattle.std.proofs.lemmas.Bool.Decides.{nat_tests}
+use Rattle.std.proofs.lemmas.List.{length-append, append_cancel_left, take-append-drop, take-append-le, drop_all}
+use Rattle.std.proofs.lemmas.List.Elements.{All-nil, All-push}
+use Rattle.std.specs.List.{before_first}
+use Rattle.std.specs.Io.KnownBytes.{Appends, Consumes, Keeps, IsAtEnd}
+use Rattle.image.specs.Devices.{AppendsBeginning}
+use Rattle.hart.specs.State.{State}
+use Rattle.debugger.specs.declared.fault.TalkFault.{TalkFault}
+use Rattle.debugger.specs.declared.fault.TalkFault.TheVariants.{Read, Write, Memory}
+use Rattle.debugger.specs.Command.{command_of}
+use Rattle.debugger.specs.Reply.{state_after, allowed, state_by}
+use Rattle.debugger.specs.Conversation.{reply_by, ends_by, reply_to, is_last, conversation, state_after_conversation, unread}
+use Rattle.debugger.specs.Talk.{most_heard, heard, is_feed, fed, replies, state_after_all, goes_on, IsTold, IsRead, IsCutBeforeReply, IsCutInReply, LeavesOff}
+use Rattle.debugger.specs.Heard.{FailsToReply, IsInLine, IsHeard, IsHeardToEnd, Hears}
+use Rattle.debugger.proofs.Pieces.{before_none, after_none, before_feed, after_feed, in_line_more, whole_lines, fed_more, take_again, take_front, take_behind}
+use Rattle.debugger.proofs.Conversing.{kept_command, same_after_last, goes_on_more, replies_more, state_after_more, told_last, state_last, unread_last, told_end, state_end, unread_end}
+
+-- all of some bytes, and a beginning of those after them
+beginning_after : (a b c : Option (List ℕ)) (bytes rest : List ℕ) → Appends a b bytes → AppendsBeginning b c rest → AppendsBeginning a c (bytes ++ rest)
+beginning_after a b c bytes rest all h =
+    (length bytes + h.0, simp length-append (omega (arith, h.1)), rw (take-append-add bytes rest h.0) (Appends-trans a b c bytes (take h.0 rest) all h.2))
+
+-- ---- a line of which a beginning is kept does the same
+
+module _ (line part : List ℕ) (kept : line ≡ take 256 part) (s : State) where
+  command : command_of line ≡ command_of part
+  command = ap command_of kept ∙ kept_command part
+
+  pub same_reply : reply_to line s ≡ reply_to part s
+  same_reply = ap (λ r. reply_by (allowed r s) s) command
+
+  pub same_last : is_last line s ≡ is_last part s
+  same_last = ap (λ r. ends_by (allowed r s) s) command
+
+  pub same_state : state_after line s ≡ state_after part s
+  same_state = ap (λ r. state_by (allowed r s) s) command
+
+-- ---- the beginning
+
+pub nothing_heard : (s : State) (line : List ℕ) (left held : Option (List ℕ)) → line ≡ [] → IsHeard 0 line s s left left held held
+nothing_heard s line left held e = record {
+  lines = [];
+  part = [];
+  read = Consumes-nil left;
+  count = refl;
+  in_lines = All-nil IsInLine;
+  in_line = All-nil (λ b. is_feed b ≡ false);
+  goes_on = refl;
+  text = Appends-nil held;
+  state = refl;
+  kept = e;
+}
+
+-- ---- known bytes, numbers and empty lines
+
+if_known : (lo ln : Option (List ℕ)) (bytes : List ℕ) (P : List ℕ → Option (List ℕ) → Type 0) → Consumes lo ln bytes
+    → ((input rest : List ℕ) → ln ≡ Some rest → input ≡ bytes ++ rest → P input (Some rest)) → IfSome lo (λ input. P input ln)
+if_known None ln bytes P c f = tt
+if_known (Some input) None bytes P c f = absurd c
+if_known (Some input) (Some rest) bytes P c f = f input rest refl c
+
+take_nil : (k : ℕ) → take {A = ℕ} k [] ≡ []
+take_nil zero = refl
+take_nil (suc k) = refl
+
+not_zero : (n : ℕ) → (suc n == 0) ≡ false
+not_zero n = grind (arith, nat_tests)
+
+empty_same : (part : List ℕ) → (length (take 256 part) == 0) ≡ (length part == 0)
+empty_same [] = refl
+empty_same (x ∷ xs) = not_zero (length (take 255 xs)) ∙ sym (not_zero (length xs))
+
+at_most : (n m : ℕ) → m ≡ n → (ln : Option (List ℕ)) → (n ≡ most_heard) ⊎ ((n < most_heard) × IsAtEnd ln) → m ≤ most_heard
+at_most n m e ln (inl most) = omega arith
+at_most n m e ln (inr at) = omega (arith, at.0)
+
+-- ---- one byte more
+
+module _ (n : ℕ) (line : List ℕ) (old new : State) (lo ln ho hn : Option (List ℕ)) (h : IsHeard n line old new lo ln ho hn) where
+  abbrev bytes : List ℕ
+  bytes = fed h.lines ++ h.part
+
+  abbrev t : State
+  t = state_after_all h.lines old
+
+  reply_here : reply_to line new ≡ reply_to h.part t
+  reply_here = same_reply line h.part h.kept new ∙ ap (reply_to h.part) h.state
+
+  last_here : is_last line new ≡ is_last h.part t
+  last_here = same_last line h.part h.kept new ∙ ap (is_last h.part) h.state
+
+  state_here : state_after line new ≡ state_after h.part t
+  state_here = same_state line h.part h.kept new ∙ ap (state_after h.part) h.state
+
+  -- the bytes up to the next one
+  module _ (ln' : Option (List ℕ)) (b : ℕ) (next : Consumes ln ln' (b ∷ [])) where
+    consumed : Consumes lo ln' (bytes ++ b ∷ [])
+    consumed = Consumes-trans lo ln ln' bytes (b ∷ []) h.read next
+
+    longer : length (bytes ++ b ∷ []) ≡ n + 1
+    longer = length-append bytes (b ∷ []) ∙ ap (λ k. k + 1) h.count
+
+    consumed_part : Consumes lo ln' (fed h.lines ++ (h.part ++ b ∷ []))
+    consumed_part = subst (Consumes lo ln') (append_assoc (fed h.lines) h.part (b ∷ [])) consumed
+
+    pub heard_byte : (line' : List ℕ) → is_feed b ≡ false → line' ≡ take 256 (line ++ b ∷ []) → IsHeard (n + 1) line' old new lo ln' ho hn
+    heard_byte line' e k = record {
+      lines = h.lines;
+      part = h.part ++ b ∷ [];
+      read = consumed_part;
+      count = ap length (sym (append_assoc (fed h.lines) h.part (b ∷ []))) ∙ longer;
+      in_lines = h.in_lines;
+      in_line = in_line_more h.part b h.in_line e;
+      goes_on = h.goes_on;
+      text = h.text;
+      state = h.state;
+      kept = k ∙ ap (λ l. take 256 (l ++ b ∷ [])) h.kept ∙ take_again 256 h.part (b ∷ []);
+    }
+
+  -- what was read where the next line feed came
+  module _ (ln' : Option (List ℕ)) (next : Consumes ln ln' (10 ∷ [])) where
+    abbrev lines' : List (List ℕ)
+    lines' = h.lines ++ h.part ∷ []
+
+    module _ (new' : State) (hn' : Option (List ℕ)) (state : new' ≡ state_after line new) (text : Appends hn hn' (reply_to line new)) where
+      written : Appends ho hn' (replies h.lines old ++ reply_to h.part t)
+      written = Appends-trans ho hn hn' (replies h.lines old) _ h.text (subst (Appends hn hn') reply_here text)
+
+      pub heard_line : (line' : List ℕ) → is_last line new ≡ false → line' ≡ [] → IsHeard (n + 1) line' old new' lo ln' ho hn'
+      heard_line line' e k =
+          let same : fed lines' ++ [] ≡ bytes ++ 10 ∷ [] = append-nil (fed lines') ∙ fed_more h.lines h.part in
+          record {
+            lines = lines';
+            part = [];
+            read = subst (Consumes lo ln') (sym same) (consumed ln' 10 next);
+            count = ap length same ∙ longer ln' 10 next;
+            in_lines = All-push IsInLine h.lines h.part h.in_lines h.in_line;
+            in_line = All-nil (λ b. is_feed b ≡ false);
+            goes_on = goes_on_more h.lines h.part old h.goes_on (sym last_here ∙ e);
+            text = subst (Appends ho hn') (sym (replies_more h.lines h.part old)) written;
+            state = state ∙ state_here ∙ sym (state_after_more h.lines h.part old);
+            kept = k;
+          }
+
+      told_of : (input rest : List ℕ) → input ≡ (bytes ++ 10 ∷ []) ++ rest → n < most_heard → is_last line new ≡ true → IsTold input old new' (Some rest) ho hn'
+      told_of input rest e small last =
+          let short : length (bytes ++ 10 ∷ []) ≤ most_heard = omega (arith, longer ln' 10 next) in
+          let more : List ℕ = take (most_heard - length (bytes ++ 10 ∷ [])) rest in
+          let is : heard input ≡ bytes ++ 10 ∷ more =
+          ap (take most_heard) e ∙ take_front most_heard (bytes ++ 10 ∷ []) rest short ∙ append_assoc bytes (10 ∷ []) more in
+          let others : more ++ drop most_heard input ≡ rest =
+          ap (λ l. more ++ drop most_heard l) e ∙ take_behind most_heard (bytes ++ 10 ∷ []) rest short in
+          let ended : is_last h.part t ≡ true = sym last_here ∙ last in
+          record {
+            text = subst (Appends ho hn') (sym (ap (λ l. conversation l old) is ∙ told_last h.lines h.part old h.in_lines h.in_line h.goes_on more ended)) written;
+            state =
+                state ∙ state_here ∙ same_after_last h.part t ended
+                ∙ sym (ap (λ l. state_after_conversation l old) is ∙ state_last h.lines h.part old h.in_lines h.in_line h.goes_on more ended);
+            rest =
+                ap (λ l. Some l) (sym others
+                ∙ ap (λ l. l ++ drop most_heard input) (sym (ap (λ l. unread l old) is ∙ unread_last h.lines h.part old h.in_lines h.in_line h.goes_on more ended)));
+          }
+
+      -- the line that ended the conversation was answered
+      pub heard_last : n < most_heard → is_last line new ≡ true → IfSome lo (λ input. IsTold input old new' ln' ho hn')
+      heard_last small last =
+          if_known lo ln' (bytes ++ 10 ∷ []) (λ input left. IsTold input old new' left ho hn') (consumed ln' 10 next) (λ input rest _ e. told_of input rest e small last)
+
+    -- the line could not be answered
+    read_feed : IsRead h.lines (h.part ++ 10 ∷ []) old lo ln'
+    read_feed = record {
+      read = consumed_part ln' 10 next;
+      one_line_each = whole_lines h.lines h.in_lines;
+      one_line = after_feed h.part h.in_line;
+      goes_on = h.goes_on;
+    }
+
+    pub cut_at_feed : (fault : TalkFault) (new' : State) (hn' : Option (List ℕ)) → FailsToReply fault line new new' hn hn' → LeavesOff fault old new' lo ln' ho hn'
+    cut_at_feed Read new' hn' f = absurd f
+    cut_at_feed Write new' hn' f =
+        let same : h.part ≡ before_first is_feed (h.part ++ 10 ∷ []) = sym (before_feed h.part h.in_line) in
+        record {
+          lines = h.lines;
+          part = h.part ++ 10 ∷ [];
+          is_read = read_feed;
+          text = beginning_after ho hn hn' (replies h.lines old) _ h.text (subst (AppendsBeginning hn hn') (reply_here ∙ ap (λ l. reply_to l t) same) f.0);
+          state = f.1 ∙ state_here ∙ ap (λ l. state_after l t) same;
+        }
+    cut_at_feed Memory new' hn' f = record {
+      lines = h.lines;
+      part = h.part ++ 10 ∷ [];
+      is_read = read_feed;
+      text = subst (λ held. Appends ho held (replies h.lines old)) (sym f.0) h.text;
+      state = f.1 ∙ h.state;
+    }
+
+  -- no byte more
+  read_part : (ln' : Option (List ℕ)) → Consumes lo ln' bytes → IsRead h.lines h.part old lo ln'
+  read_part ln' read = record {
+    read = read;
+    one_line_each = whole_lines h.lines h.in_lines;
+    one_line = after_none h.part h.in_line;
+    goes_on = h.goes_on;
+  }
+
+  pub cut_at_read : (ln' : Option (List ℕ)) → Keeps ln ln' → IsCutBeforeReply old new lo ln' ho hn
+  cut_at_read ln' k = record {
+    lines = h.lines;
+    part = h.part;
+    is_read = read_part ln' (Consumes-kept lo ln ln' bytes h.read k);
+    text = h.text;
+    state = h.state;
+  }
+
+  pub heard_end : (ln' : Option (List ℕ)) → n < most_heard → Consumes ln ln' [] → IsAtEnd ln' → IsHeardToEnd line old new lo ln' ho hn
+  heard_end ln' small none end = record {
+    count = n;
+    heard = record {
+      lines = h.lines;
+      part = h.part;
+      read = subst (Consumes lo ln') (append-nil bytes) (Consumes-trans lo ln ln' bytes [] h.read none);
+      count = h.count;
+      in_lines = h.in_lines;
+      in_line = h.in_line;
+      goes_on = h.goes_on;
+      text = h.text;
+      state = h.state;
+      kept = h.kept;
+    };
+    end = inr (small, end);
+  }
+
+  pub heard_most : n ≡ most_heard → IsHeardToEnd line old new lo ln ho hn
+  heard_most most = record { count = n; heard = h; end = inl most }
+
+  -- the last line, which has no line feed
+  pub cut_at_rest : (fault : TalkFault) (new' : State) (hn' : Option (List ℕ)) → FailsToReply fault line new new' hn hn' → LeavesOff fault old new' lo ln ho hn'
+  cut_at_rest Read new' hn' f = absurd f
+  cut_at_rest Write new' hn' f =
+      let same : h.part ≡ before_first is_feed h.part = sym (before_none h.part h.in_line) in
+      record {
+        lines = h.lines;
+        part = h.part;
+        is_read = read_part ln h.read;
+        text = beginning_after ho hn hn' (replies h.lines old) _ h.text (subst (AppendsBeginning hn hn') (reply_here ∙ ap (λ l. reply_to l t) same) f.0);
+        state = f.1 ∙ state_here ∙ ap (λ l. state_after l t) same;
+      }
+  cut_at_rest Memory new' hn' f = record {
+    lines = h.lines;
+    part = h.part;
+    is_read = read_part ln h.read;
+    text = subst (λ held. Appends ho held (replies h.lines old)) (sym f.0) h.text;
+    state = f.1 ∙ h.state;
+  }
+
+  no_more : (rest : List ℕ) → (n ≡ most_heard) ⊎ ((n < most_heard) × IsAtEnd (Some rest)) → take (most_heard - length bytes) rest ≡ []
+  no_more rest (inl most) = let none : most_heard - length bytes ≡ 0 = omega (arith, h.count) in ap (λ k. take k rest) none
+  no_more rest (inr at) = ap (take (most_heard - length bytes)) at.1 ∙ take_nil (most_heard - length bytes)
+
+  module _ (end : (n ≡ most_heard) ⊎ ((n < most_heard) × IsAtEnd ln)) (new' : State) (hn' : Option (List ℕ))
+      (state : new' ≡ (if length h.part == 0 then t else state_after h.part t))
+      (text : Appends ho hn' (replies h.lines old ++ (if length h.part == 0 then [] else reply_to h.part t))) where
+    told_of_all : (input rest : List ℕ) → ln ≡ Some rest → input ≡ bytes ++ rest → IsTold input old new' (Some rest) ho hn'
+    told_of_all input rest is e =
+        let none : take (most_heard - length bytes) rest ≡ [] = no_more rest (subst (λ left. (n ≡ most_heard) ⊎ ((n < most_heard) × IsAtEnd left)) is end) in
+        let short : length bytes ≤ most_heard = at_most n (length bytes) h.count ln end in
+        let all : heard input ≡ bytes = ap (take most_heard) e ∙ take_front most_heard bytes rest short ∙ ap (λ l. bytes ++ l) none ∙ append-nil bytes in
+        let others : drop most_heard input ≡ rest =
+        ap (drop most_heard) e ∙ ap (λ l. l ++ drop most_heard (bytes ++ rest)) (sym none) ∙ take_behind most_heard bytes rest short in
+        record {
+          text = subst (Appends ho hn') (sym (ap (λ l. conversation l old) all ∙ told_end h.lines h.part old h.in_lines h.in_line h.goes_on)) text;
+          state = state ∙ sym (ap (λ l. state_after_conversation l old) all ∙ state_end h.lines h.part old h.in_lines h.in_line h.goes_on);
+          rest =
+              ap (λ l. Some l) (sym others
+              ∙ ap (λ l. l ++ drop most_heard input) (sym (ap (λ l. unread l old) all ∙ unread_end h.lines h.part old h.in_lines h.in_line h.goes_on)));
+        }
+
+    told_all : IfSome lo (λ input. IsTold input old new' ln ho hn')
+    told_all = if_known lo ln bytes (λ input left. IsTold input old new' left ho hn') h.read told_of_all
+
+  same_test : (length line == 0) ≡ (length h.part == 0)
+  same_test = ap (λ l. length l == 0) h.kept ∙ empty_same h.part
+
+  -- there is no last line
+  pub told_without_rest : (n ≡ most_heard) ⊎ ((n < most_heard) × IsAtEnd ln) → (length line == 0) ≡ true → IfSome lo (λ input. IsTold input old new ln ho hn)
+  told_without_rest end none =
+      let test : (length h.part == 0) ≡ true = sym same_test ∙ none in
+      told_all end new hn (h.state ∙ sym (ap (λ b. if b then t else state_after h.part t) test))
+      (subst (Appends ho hn) (sym (ap (λ b. replies h.lines old ++ (if b then [] else reply_to h.part t)) test ∙ append-nil (replies h.lines old))) h.text)
+
+  -- it was answered
+  pub told_with_rest : (n ≡ most_heard) ⊎ ((n < most_heard) × IsAtEnd ln) → (length line == 0) ≡ false → (new' : State) (hn' : Option (List ℕ))
+      → new' ≡ state_after line new → Appends hn hn' (reply_to line new) → IfSome lo (λ input. IsTold input old new' ln ho hn')
+  told_with_rest end some new' hn' state text =
+      let test : (length h.part == 0) ≡ false = sym same_test ∙ some in
+      told_all end new' hn' (state ∙ state_here ∙ sym (ap (λ b. if b then t else state_after h.part t) test))
+      (subst (Appends ho hn') (sym (ap (λ b. replies h.lines old ++ (if b then [] else reply_to h.part t)) test))
+      (Appends-trans ho hn hn' (replies h.lines old) _ h.text (subst (Appends hn hn') reply_here text)))
