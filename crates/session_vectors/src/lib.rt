@@ -1,15 +1,13 @@
-//! Sessions of the debugger as conversations, with what they answer by the rules of its commands and not by the program, and a
-//! test that the debugger has the same conversations.
+//! Sessions of the debugger as conversations, with what they answer by the rules of its commands and not by the program, and
+//! tests that the debugger has the same conversations.
 #![tactic(auto)]
 
-mod events;
-mod refusals;
-mod shown;
+pub mod events;
+pub mod refusals;
+pub mod shown;
 mod transcript;
-mod transcripts;
 
-pub use transcript::Transcript;
-pub use transcripts::TRANSCRIPTS;
+pub use transcript::{FIRST_IMAGE, Transcript};
 
 #[cfg(test)]
 mod tests;

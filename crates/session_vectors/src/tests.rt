@@ -1,6 +1,12 @@
 //! What is typed in each transcript is answered as it stands there.
 
-use super::{TRANSCRIPTS, Transcript};
+use super::Transcript;
+use super::events::{
+    ALL_AT_ONCE, FULL_QUEUE, GREATEST_HALT, LEADING_ZEROS, LIMITS, RECEIVED, TIMER, TRAPS,
+    TWO_BYTES, UNTIL_A_STORE, UNTIL_THE_HALT,
+};
+use super::refusals::{LONG_LINES, REFUSED_LINES};
+use super::shown::{CAPABILITY_MODE, CHANGED_MODE, EDGES_OF_RAM, MOST_PAGES, REGISTER_NAMES};
 use cap_bounds::PlainCap;
 use debugger::{Session, talk};
 use image::{FromRead, Image, ToWrite};
@@ -49,23 +55,53 @@ fn said(alloc: Global, transcript: &Transcript, typed: &str) -> Result<String, F
 }
 
 /// Compares answers line by line, so that the first that differs is shown, and then as a whole.
-fn compare(rt: &impl Abort, title: &str, said: &str, answers: &str) {
+fn compare_lines(rt: &impl Abort, title: &str, said: &str, answers: &str) {
     for (line, answer) in said.lines().zip(answers.lines()) {
         assert_eq!(rt; line, answer, "{title}");
     }
     assert_eq!(rt; said, answers, "{title}");
 }
 
-#[test]
-fn each_session_answers_as_in_its_transcript(rt: HostRuntime) -> Result<(), Fail> {
-    for transcript in TRANSCRIPTS {
-        let (typed, answers) = sides(rt.alloc(), transcript)?;
-        let whole = said(rt.alloc(), transcript, &typed)?;
-        compare(&rt, transcript.title, &whole, &answers);
-        // the last line may lack its line feed
-        let cut = typed.strip_suffix('\n').ok_or("nothing typed")?;
-        let unended = said(rt.alloc(), transcript, cut)?;
-        compare(&rt, transcript.title, &unended, &answers);
+/// Compares what is answered, with the last line's line feed and without it.
+fn compare(rt: &impl Abort, alloc: Global, transcript: &Transcript) -> Result<(), Fail> {
+    let (typed, answers) = sides(alloc, transcript)?;
+    let cut = typed.strip_suffix('\n').ok_or("nothing typed")?;
+    for typed in [typed.as_str(), cut] {
+        let said = said(alloc, transcript, typed)?;
+        compare_lines(rt, transcript.title, &said, &answers);
     }
+    Ok(())
+}
+
+#[test]
+fn refused_lines_are_answered_with_faults(rt: HostRuntime) -> Result<(), Fail> {
+    compare(&rt, rt.alloc(), &REFUSED_LINES)?;
+    compare(&rt, rt.alloc(), &LONG_LINES)?;
+    Ok(())
+}
+
+#[test]
+fn events_are_counted_and_sent_bytes_shown(rt: HostRuntime) -> Result<(), Fail> {
+    compare(&rt, rt.alloc(), &LIMITS)?;
+    compare(&rt, rt.alloc(), &ALL_AT_ONCE)?;
+    compare(&rt, rt.alloc(), &UNTIL_A_STORE)?;
+    compare(&rt, rt.alloc(), &UNTIL_THE_HALT)?;
+    compare(&rt, rt.alloc(), &TWO_BYTES)?;
+    compare(&rt, rt.alloc(), &LEADING_ZEROS)?;
+    compare(&rt, rt.alloc(), &RECEIVED)?;
+    compare(&rt, rt.alloc(), &FULL_QUEUE)?;
+    compare(&rt, rt.alloc(), &TIMER)?;
+    compare(&rt, rt.alloc(), &GREATEST_HALT)?;
+    compare(&rt, rt.alloc(), &TRAPS)?;
+    Ok(())
+}
+
+#[test]
+fn the_state_is_shown(rt: HostRuntime) -> Result<(), Fail> {
+    compare(&rt, rt.alloc(), &REGISTER_NAMES)?;
+    compare(&rt, rt.alloc(), &EDGES_OF_RAM)?;
+    compare(&rt, rt.alloc(), &MOST_PAGES)?;
+    compare(&rt, rt.alloc(), &CAPABILITY_MODE)?;
+    compare(&rt, rt.alloc(), &CHANGED_MODE)?;
     Ok(())
 }
