@@ -1,8 +1,8 @@
 //! What the lines of a text set and place.
-ghost use Rattle.std.specs.Prelude.{◌≡◌, ◌<◌, ◌^◌, ◌≤◌, None, Some, IsTrue, OnOk, IfOk};
+ghost use Rattle.std.specs.Prelude.{◌≡◌, ◌+◌, ◌<◌, ◌^◌, ◌≤◌, None, Some, IsTrue, OnOk, IfOk};
 ghost use Rattle.asm_lines.specs.Line.{seen_statement, seen_line, RowFits, IsBoundedIfAny};
 ghost use Rattle.assembler.specs.Sound.{IsValued, HasWords};
-ghost use Rattle.assembler.specs.Modest.{is_modest, is_modest_or_none, is_modest_line};
+ghost use Rattle.assembler.specs.Modest.{is_modest, is_modest_or_none, is_modest_line, IsNear};
 ghost use Rattle.std.specs.Option.{option_map};
 ghost use Rattle.assembler.specs.Bytes.{bytes_at};
 ghost use Rattle.assembler.specs.Blocks.{begun_at};
@@ -241,7 +241,9 @@ impl Builder {
         requires fits { RowFits (seen_line line.now) }
         requires bounds { IsBoundedIfAny line.now.statement }
         requires faultless { line_fault labels.now self.old (seen_line line.now) ≡ None }
-        ensures { OnOk result (self.new ≡ assembled_after labels.now self.old (seen_line line.now)) }
+        requires room { self.old.places.place + 2 ^ 28 < 2 ^ 100 }
+        ensures value { OnOk result (self.new ≡ assembled_after labels.now self.old (seen_line line.now)) }
+        ensures near { OnOk result (IsNear self.old.places.place self.new.places.place) }
     {
         if let Some(statement) = &line.statement {
             self.take(alloc, labels, statement)?;

@@ -1,5 +1,5 @@
 //! The bytes that a statement places.
-ghost use Rattle.std.specs.Prelude.{◌≡◌, ◌<◌, ◌++◌, ◌%◌, ◌^◌, ◌*◌, Bool, if◌then◌else◌, replicate, pos, neg_ℤ, ◌-ℤ◌, ◌<ℤ◌, Some, IsTrue, OnOk, IfOk};
+ghost use Rattle.std.specs.Prelude.{◌≡◌, ◌<◌, ◌≤◌, ◌++◌, ◌%◌, ◌^◌, ◌*◌, Bool, if◌then◌else◌, replicate, pos, neg_ℤ, ◌-ℤ◌, ◌<ℤ◌, Some, IsTrue, OnOk, IfOk};
 ghost use Rattle.byteorder.specs.Endian.{little_bytes};
 ghost use Rattle.isa_rows.specs.Insn.{insn, sign_extended, Fits};
 ghost use Rattle.isa_rows.specs.Operands.{IsUpperImmediate, IsSignedOf};
@@ -45,17 +45,12 @@ fn push_number(bytes: &mut Vec<u8>, size: u8, number: u64) -> Result<(), AllocEr
     bytes.extend_from_slice(&buffer[..usize::from(size)])
 }
 
-/// Places zeros.
-fn push_zeros(bytes: &mut Vec<u8>, count: u128) -> Result<(), AllocError>
+/// Places at most 2^28 zeros.
+fn push_zeros(bytes: &mut Vec<u8>, count: usize) -> Result<(), AllocError>
+    requires { count ≤ 2 ^ 28 }
     ensures { OnOk result (bytes.new.items ≡ bytes.old.items ++ replicate count 0) }
 {
-    let Ok(count) = usize::try_from(count) else {
-        return Err(AllocError);
-    };
-    let Some(end) = bytes.len().checked_add(count) else {
-        return Err(AllocError);
-    };
-    bytes.resize(end, 0)
+    bytes.resize(bytes.len() + count, 0)
 }
 
 /// The word of an instruction that some word is.
@@ -310,8 +305,8 @@ pub(crate) fn push_bytes(
             let distance = distance(known(labels, here, value), here);
             push_load(bytes, *capability, *rd, distance)
         }
-        Statement::Align(bits) => push_zeros(bytes, aligned(here, *bits) - here),
-        Statement::Zero(count) => push_zeros(bytes, u128::from(*count)),
+        Statement::Align(bits) => push_zeros(bytes, (aligned(here, *bits) - here) as usize),
+        Statement::Zero(count) => push_zeros(bytes, *count as usize),
         Statement::Values { size, operands } => push_values(bytes, *size, labels, here, operands),
         Statement::Text(between) => push_text(bytes, between),
         _ => Ok(()),
