@@ -1,10 +1,11 @@
--- The statement of a line has a size of values, and an alignment to at most 4096 bytes.
-use Rattle.std.proofs.Common.{◌≡◌, ℕ, ◌-◌, ◌%◌, ◌^◌, Bool, true, false, not, ◌||◌, ◌==◌, nat_lt, nat_le, if◌then◌else◌, ℤ, pos, negsuc, List, [], ◌∷◌, length, take, drop, Option, Some, None, Result, Ok, Err, codes, refl, arith}
-use Rattle.std.specs.List.{prefix_len}
+-- The statement of a line has a size of values, an alignment to at most 4096 bytes, at most 2 ^ 28 zeros, and texts within the line.
+use Rattle.std.proofs.Common.{◌≡◌, ℕ, ◌+◌, ◌≤◌, ◌&&◌, ◌-◌, ◌%◌, ◌^◌, Bool, true, false, not, ◌||◌, ◌==◌, nat_lt, nat_le, if◌then◌else◌, ℤ, pos, negsuc, List, [], ◌∷◌, length, take, drop, Option, Some, None, Result, Ok, Err, codes, refl, arith}
+use Rattle.std.specs.List.{prefix_len, suffix_len, position_or_len, after_first}
+use Rattle.std.proofs.lemmas.List.{length-drop, length-take}
 use Rattle.std.proofs.lemmas.Bool.Decides.{nat_tests}
 use Rattle.asm_lines.specs.declared.fault.LineFault.{LineFault}
 use Rattle.asm_lines.specs.declared.fault.LineFault.TheVariants.{A1, A2, A3, A8, A9}
-use Rattle.asm_lines.specs.Text.{pieces_of, is_foreign, trimmed, uncommented, label_of, statement_text, mnemonic_of, operands_of}
+use Rattle.asm_lines.specs.Text.{is_blank, trimmed_start, uncommented_from, quoting_after, begins_comment, has_label, pieces_of, is_foreign, trimmed, uncommented, label_of, statement_text, mnemonic_of, operands_of}
 use Rattle.asm_lines.specs.Number.{Expression, number_of, expression_of}
 use Rattle.asm_lines.specs.Operand.{up_to, wrapped, filled_draft, filled_fault}
 use Rattle.asm_lines.specs.Statement.{Statement, row, load, pages, mode, entry, org, align, zeros, values, text, Said, said, said_by, is_word, Pattern, pattern_of, pattern_said, draft_of, said_unless, leaves_statement, register_load, load_said, number_said, page_count, entry_said, values_said, values_fault, text_said, is_quoted, expression_or_nought}
@@ -53,6 +54,18 @@ number-modest make other (Err fault) f h = other-modest other fault h
 align-within : (n : ℕ) → (nat_lt n 0 || nat_lt 12 n) ≡ false → nat_le (n % 2 ^ 64) 12 ≡ true
 align-within n h = grind (arith, nat_tests)
 
+zeros-within : (n : ℕ) → (nat_lt n 0 || nat_lt 268435456 n) ≡ false → nat_le (n % 2 ^ 64) 268435456 ≡ true
+zeros-within n h = grind (arith, nat_tests)
+
+zeros-modest : (r : Result ℤ LineFault) → IsModest (number_said zeros None (up_to 268435456 r))
+zeros-modest (Ok (pos n)) =
+    elim (nat_lt n 0 || nat_lt 268435456 n) as (λ b. (nat_lt n 0 || nat_lt 268435456 n) ≡ b → IsModest (number_said zeros None (if b then Err A3 else Ok (pos n)))) [
+      | true ↦ λ e. refl
+      | false ↦ λ e. zeros-within n e
+    ] refl
+zeros-modest (Ok (negsuc n)) = refl
+zeros-modest (Err fault) = other-modest None fault refl
+
 align-modest : (r : Result ℤ LineFault) → IsModest (number_said align None (up_to 12 r))
 align-modest (Ok (pos n)) =
     elim (nat_lt n 0 || nat_lt 12 n) as (λ b. (nat_lt n 0 || nat_lt 12 n) ≡ b → IsModest (number_said align None (if b then Err A3 else Ok (pos n)))) [
@@ -66,21 +79,34 @@ entry-modest : (x : Result Expression LineFault) → IsModest (entry_said x)
 entry-modest (Ok x) = refl
 entry-modest (Err fault) = unless-modest (entry (expression_or_nought (Err fault))) (Some fault) refl
 
-values-modest : (size : ℕ) (operands : List ℕ) → is_size size ≡ true → IsModest (values_said size operands)
-values-modest size [] h = refl
-values-modest size (b ∷ bs) h = unless-modest (values size (b ∷ bs)) (values_fault size (pieces_of (b ∷ bs))) h
+both-true : (a b : Bool) → a ≡ true → b ≡ true → (a && b) ≡ true
+both-true a b h g = cc
 
-quoted-modest : (test : Bool) (between : List ℕ) → IsModest (if test then said (Some (text between)) None else said None (Some A2))
-quoted-modest true between = refl
-quoted-modest false between = refl
+short : (n : ℕ) → n ≤ 255 → nat_le n 255 ≡ true
+short n h = grind (arith, nat_tests)
+
+values-modest : (size : ℕ) (operands : List ℕ) → is_size size ≡ true → length operands ≤ 255 → IsModest (values_said size operands)
+values-modest size [] h g = refl
+values-modest size (b ∷ bs) h g =
+    unless-modest (values size (b ∷ bs)) (values_fault size (pieces_of (b ∷ bs))) (both-true (is_size size) (nat_le (length (b ∷ bs)) 255) h (short _ g))
+
+quoted-modest : (test : Bool) (between : List ℕ) → length between ≤ 255 → IsModest (if test then said (Some (text between)) None else said None (Some A2))
+quoted-modest true between h = short _ h
+quoted-modest false between h = refl
+
+length-drop-le : (k : ℕ) (xs : List ℕ) → length (drop k xs) ≤ length xs
+length-drop-le k xs = omega (arith, length-drop k xs)
+
+length-take-most : (k : ℕ) (xs : List ℕ) → length (take k xs) ≤ length xs
+length-take-most k xs = omega (arith, length-take k xs)
 
 one-modest : (test : Bool) (s t : Said) → IsModest s → IsModest t → IsModest (if test then s else t)
 one-modest true s t f g = f
 one-modest false s t f g = g
 
-said-modest : (word operands : List ℕ) → IsModest (said_by word operands)
+said-modest : (word operands : List ℕ) → length operands ≤ 255 → IsModest (said_by word operands)
 unfolding said_by
-said-modest word operands =
+said-modest word operands short-enough =
     let n = number_of operands in
     one-modest (is_word word (codes "la")) (load_said false (pieces_of operands)) _ (load-modest false (pieces_of operands)) (
     one-modest (is_word word (codes "cla")) (load_said true (pieces_of operands)) _ (load-modest true (pieces_of operands)) (
@@ -89,25 +115,62 @@ said-modest word operands =
     one-modest (is_word word (codes ".entry")) (entry_said (expression_of operands)) _ (entry-modest (expression_of operands)) (
     one-modest (is_word word (codes ".org")) (number_said org None (up_to (2 ^ 64 - 1) n)) _ (number-modest org None (up_to (2 ^ 64 - 1) n) (λ _. refl) refl) (
     one-modest (is_word word (codes ".align")) (number_said align None (up_to 12 n)) _ (align-modest n) (
-    one-modest (is_word word (codes ".zero")) (number_said zeros None (up_to 268435456 n)) _ (number-modest zeros None (up_to 268435456 n) (λ _. refl) refl) (
-    one-modest (is_word word (codes ".byte")) (values_said 1 operands) _ (values-modest 1 operands refl) (
-    one-modest (is_word word (codes ".half")) (values_said 2 operands) _ (values-modest 2 operands refl) (
-    one-modest (is_word word (codes ".word")) (values_said 4 operands) _ (values-modest 4 operands refl) (
-    one-modest (is_word word (codes ".dword")) (values_said 8 operands) _ (values-modest 8 operands refl) (
-    one-modest (is_word word (codes ".ascii")) (text_said operands) _ (quoted-modest (is_quoted operands) (take (length operands - 2) (drop 1 operands))) (
+    one-modest (is_word word (codes ".zero")) (number_said zeros None (up_to 268435456 n)) _ (zeros-modest n) (
+    one-modest (is_word word (codes ".byte")) (values_said 1 operands) _ (values-modest 1 operands refl short-enough) (
+    one-modest (is_word word (codes ".half")) (values_said 2 operands) _ (values-modest 2 operands refl short-enough) (
+    one-modest (is_word word (codes ".word")) (values_said 4 operands) _ (values-modest 4 operands refl short-enough) (
+    one-modest (is_word word (codes ".dword")) (values_said 8 operands) _ (values-modest 8 operands refl short-enough) (
+    one-modest (is_word word (codes ".ascii")) (text_said operands) _ (quoted-modest (is_quoted operands) (take (length operands - 2) (drop 1 operands)) (omega (arith, length-take-most (length operands - 2) (drop 1 operands), length-drop-le 1 operands))) (
     pattern-modest (pattern_of word (length operands == 0)) operands)))))))))))))
 
-line_said-modest : (label : Option (List ℕ)) (statement : List ℕ) → is_modest_line (line_said label statement) ≡ true
-line_said-modest label [] = refl
-line_said-modest label (b ∷ bs) = said-modest (mnemonic_of (b ∷ bs)) (operands_of (b ∷ bs))
+operands-shorter : (statement : List ℕ) → length (operands_of statement) ≤ length statement
+operands-shorter statement =
+    let behind = after_first is_blank statement in
+    omega (arith, length-drop-le (prefix_len is_blank behind) behind, length-drop-le (position_or_len is_blank statement + 1) statement)
 
-checked-modest : (foreign long : Bool) (l : Line) → is_modest_line l ≡ true → is_modest_line (if foreign then labelled None (said None (Some A8)) else (if long then labelled None (said None (Some A9)) else l)) ≡ true
+line_said-modest : (label : Option (List ℕ)) (statement : List ℕ) → length statement ≤ 255 → is_modest_line (line_said label statement) ≡ true
+line_said-modest label [] h = refl
+line_said-modest label (b ∷ bs) h = said-modest (mnemonic_of (b ∷ bs)) (operands_of (b ∷ bs)) (omega (arith, h, operands-shorter (b ∷ bs)))
+
+checked-modest : (foreign long : Bool) (l : Line) → (long ≡ false → is_modest_line l ≡ true) → is_modest_line (if foreign then labelled None (said None (Some A8)) else (if long then labelled None (said None (Some A9)) else l)) ≡ true
 checked-modest true long l h = refl
 checked-modest false true l h = refl
-checked-modest false false l h = h
+checked-modest false false l h = h refl
+
+-- the statement of a line is no longer than the line
+uncommented-shorter : (quoting : _) (line : List ℕ) → length (uncommented_from quoting line) ≤ length line
+uncommented-shorter quoting [] = omega arith
+uncommented-shorter quoting (b ∷ bs) =
+    let later = uncommented-shorter (quoting_after b quoting) bs in
+    elim (begins_comment b quoting) as (λ t. length (if t then [] else (b ∷ uncommented_from (quoting_after b quoting) bs)) ≤ length (b ∷ bs)) [
+      | true ↦ omega arith
+      | false ↦ omega arith
+    ]
+
+trimmed_start-shorter : (line : List ℕ) → length (trimmed_start line) ≤ length line
+trimmed_start-shorter line = length-drop-le (prefix_len is_blank line) line
+
+trimmed-shorter : (line : List ℕ) → length (trimmed line) ≤ length line
+trimmed-shorter line =
+    let start = trimmed_start line in
+    omega (arith, trimmed_start-shorter line, length-take-most (length start - suffix_len is_blank start) start)
+
+statement-shorter : (line : List ℕ) → length (statement_text line) ≤ length line
+statement-shorter line =
+    elim (has_label line) as (λ t. length (if t then trimmed_start (after_first (λ b. b == 58) line) else line) ≤ length line) [
+      | true ↦ omega (arith, trimmed_start-shorter (after_first (λ b. b == 58) line), length-drop-le (position_or_len (λ b. b == 58) line + 1) line)
+      | false ↦ omega arith
+    ]
+
+not-long : (n : ℕ) → nat_lt 255 n ≡ false → n ≤ 255
+not-long n h = grind (arith, nat_tests)
 
 pub line_meaning-modest : (line : List ℕ) → is_modest_line (line_meaning line) ≡ true
 unfolding line_meaning
 line_meaning-modest line =
-    let statement = trimmed (uncommented line) in
-    checked-modest (nat_lt (prefix_len (λ b. not (is_foreign b)) line) (length line)) (nat_lt 255 (length line)) (line_of_text statement) (line_said-modest (label_of statement) (statement_text statement))
+    let rest = trimmed (uncommented line) in
+    let shorter : length (statement_text rest) ≤ length line =
+    let bare : length (uncommented line) ≤ length line = uncommented-shorter _ line in
+    omega (arith, statement-shorter rest, trimmed-shorter (uncommented line), bare) in
+    checked-modest (nat_lt (prefix_len (λ b. not (is_foreign b)) line) (length line)) (nat_lt 255 (length line)) (line_of_text rest)
+    (λ e. line_said-modest (label_of rest) (statement_text rest) (omega (arith, shorter, not-long (length line) e)))

@@ -61,8 +61,6 @@ fn labels_of(alloc: Global, text: &[u8]) -> Result<Labels, AllocError>
 }
 
 /// What the lines of a text set and place, or the first fault of its first faulty line. `labels` are those of the whole text.
-///
-/// No memory holds a text of 2^64 lines, so that there is none for one.
 fn built(alloc: Global, labels: &Labels, text: &[u8]) -> Result<Builder, AsmFault>
     ensures correct { IfOk result (λ _. first_fault labels.now opening 1 (lines_of text.now) ≡ None) }
     ensures built { IfOk result (λ builder. builder ≡ all_assembled labels.now opening (lines_of text.now)) }
@@ -77,10 +75,7 @@ fn built(alloc: Global, labels: &Labels, text: &[u8]) -> Result<Builder, AsmFaul
             return Err(AsmFault { line: number, code });
         }
         builder.pass(alloc, labels, &line)?;
-        let Some(next) = number.checked_add(1) else {
-            return Err(AsmFault::NO_MEMORY);
-        };
-        number = next;
+        number += 1;
         rest = after;
     }
     Ok(builder)

@@ -5,6 +5,7 @@ ghost use Rattle.std.specs.List.{position_or_len};
 ghost use Rattle.asm_lines.specs.Line.{seen_statement};
 ghost use Rattle.assembler.specs.Bytes.{bytes_at};
 ghost use Rattle.assembler.specs.Modest.{is_modest};
+ghost use Rattle.assembler.specs.Sound.{IsValued, HasWords};
 ghost use Rattle.assembler.specs.Blocks.{meets};
 ghost use Rattle.assembler.specs.Faults.{is_taken, inserted, closed, empty_at, filled};
 
@@ -79,6 +80,8 @@ impl Block {
     ) -> Result<(), AllocError>
         requires modest { IsTrue (is_modest (seen_statement statement.now)) }
         requires place { here < 2 ^ 100 }
+        requires valued { IsValued labels.now here (seen_statement statement.now) }
+        requires words { HasWords labels.now here (seen_statement statement.now) }
         ensures { OnOk result (self.new ≡ filled self.old (bytes_at labels.now here (seen_statement statement.now))) }
     {
         push_bytes(&mut self.bytes, labels, here, statement)

@@ -1,7 +1,8 @@
 //! What the lines of a text set and place.
-ghost use Rattle.std.specs.Prelude.{◌≡◌, ◌<◌, ◌^◌, ◌≤◌, None, Some, IsTrue, OnOk, IfOk};
-ghost use Rattle.asm_lines.specs.Line.{seen_statement, seen_line};
-ghost use Rattle.assembler.specs.Modest.{is_modest, is_modest_or_none, is_modest_line};
+ghost use Rattle.std.specs.Prelude.{◌≡◌, ◌+◌, ◌<◌, ◌^◌, ◌≤◌, None, Some, IsTrue, OnOk, IfOk};
+ghost use Rattle.asm_lines.specs.Line.{seen_statement, seen_line, RowFits, IsBoundedIfAny};
+ghost use Rattle.assembler.specs.Sound.{IsValued, HasWords};
+ghost use Rattle.assembler.specs.Modest.{is_modest, is_modest_or_none, is_modest_line, IsNear};
 ghost use Rattle.std.specs.Option.{option_map};
 ghost use Rattle.assembler.specs.Bytes.{bytes_at};
 ghost use Rattle.assembler.specs.Blocks.{begun_at};
@@ -181,7 +182,9 @@ impl Builder {
 
     /// Places the bytes of a statement.
     fn fill(&mut self, labels: &Labels, statement: &Statement<'_>) -> Result<(), AllocError>
-        requires { IsTrue (is_modest (seen_statement statement.now)) }
+        requires modest { IsTrue (is_modest (seen_statement statement.now)) }
+        requires valued { IsValued labels.now self.old.places.place (seen_statement statement.now) }
+        requires words { HasWords labels.now self.old.places.place (seen_statement statement.now) }
         ensures { OnOk result (self.new ≡ with_bytes self.old (bytes_at labels.now self.old.places.place (seen_statement statement.now))) }
     {
         let place = self.places.place();
@@ -207,14 +210,16 @@ impl Builder {
         labels: &Labels,
         statement: &Statement<'_>,
     ) -> Result<(), AllocError>
-        requires { IsTrue (is_modest (seen_statement statement.now)) }
+        requires modest { IsTrue (is_modest (seen_statement statement.now)) }
+        requires valued { IsValued labels.now self.old.places.place (seen_statement statement.now) }
+        requires words { HasWords labels.now self.old.places.place (seen_statement statement.now) }
         ensures { OnOk result (self.new ≡ with_statement labels.now self.old (seen_statement statement.now)) }
     {
         match statement {
             Statement::Pages(pages) => self.pages = Some(*pages),
             Statement::Mode(mode) => self.mode = Some(*mode),
             Statement::Entry(entry) => {
-                let value = known(labels, self.places.place(), entry)?;
+                let value = known(labels, self.places.place(), entry);
                 self.entry = Some(wrapped(value));
                 self.begun = true;
             }
@@ -232,8 +237,13 @@ impl Builder {
         labels: &Labels,
         line: &Parsed<'_>,
     ) -> Result<(), AllocError>
-        requires { IsTrue (is_modest_line (seen_line line.now)) }
-        ensures { OnOk result (self.new ≡ assembled_after labels.now self.old (seen_line line.now)) }
+        requires modest { IsTrue (is_modest_line (seen_line line.now)) }
+        requires fits { RowFits (seen_line line.now) }
+        requires bounds { IsBoundedIfAny line.now.statement }
+        requires faultless { line_fault labels.now self.old (seen_line line.now) ≡ None }
+        requires room { self.old.places.place + 2 ^ 28 < 2 ^ 100 }
+        ensures value { OnOk result (self.new ≡ assembled_after labels.now self.old (seen_line line.now)) }
+        ensures near { OnOk result (IsNear self.old.places.place self.new.places.place) }
     {
         if let Some(statement) = &line.statement {
             self.take(alloc, labels, statement)?;

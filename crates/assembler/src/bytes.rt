@@ -1,7 +1,8 @@
 //! The bytes that a statement places.
-ghost use Rattle.std.specs.Prelude.{◌≡◌, ◌<◌, ◌++◌, ◌%◌, ◌^◌, ◌*◌, Bool, if◌then◌else◌, replicate, pos, neg_ℤ, ◌-ℤ◌, ◌<ℤ◌, Some, IsTrue, OnOk, IfOk};
+ghost use Rattle.std.specs.Prelude.{◌≡◌, ◌<◌, ◌≤◌, ◌++◌, ◌%◌, ◌^◌, ◌*◌, Bool, if◌then◌else◌, replicate, pos, neg_ℤ, ◌-ℤ◌, ◌<ℤ◌, Some, IsTrue, OnOk, IfOk};
 ghost use Rattle.byteorder.specs.Endian.{little_bytes};
-ghost use Rattle.isa_rows.specs.Insn.{insn, sign_extended};
+ghost use Rattle.isa_rows.specs.Insn.{insn, sign_extended, Fits};
+ghost use Rattle.isa_rows.specs.Operands.{IsUpperImmediate, IsSignedOf};
 ghost use Rattle.isa_rows.specs.InsnLaws.{insn_word};
 ghost use Rattle.asm_lines.specs.Line.{seen_expression, seen_statement};
 ghost use Rattle.asm_lines.specs.Number.{is_in_limits, expression_of};
@@ -11,6 +12,8 @@ ghost use Rattle.asm_lines.specs.Text.{pieces_of};
 ghost use Rattle.std.specs.List.{flat_map};
 ghost use Rattle.std.specs.Option.{option_map};
 ghost use Rattle.assembler.specs.Modest.{is_size, is_modest};
+ghost use Rattle.assembler.specs.Sound.{IsKnown, IsTargetKnown, ArePiecesKnown, IsValued, HasWords};
+ghost use Rattle.assembler.specs.Values.{value_of};
 ghost use Rattle.assembler.specs.Bytes.{value_at, insn_bytes, aimed, upper_part, lower_part, load_bytes, bytes_at, value_bytes};
 
 use crate::checks::{distance, operand, pieces};
@@ -19,7 +22,7 @@ use crate::places::aligned;
 use crate::values::{Worth, value, wrapped};
 use asm_lines::{Expression, Statement, split_piece};
 use byteorder::{ByteOrder, LittleEndian};
-use isa_rows::{Insn, Row, fits};
+use isa_rows::{Insn, Row};
 use isa_table::encode;
 use std::alloc::AllocError;
 
@@ -42,50 +45,40 @@ fn push_number(bytes: &mut Vec<u8>, size: u8, number: u64) -> Result<(), AllocEr
     bytes.extend_from_slice(&buffer[..usize::from(size)])
 }
 
-/// Places zeros.
-fn push_zeros(bytes: &mut Vec<u8>, count: u128) -> Result<(), AllocError>
+/// Places at most 2^28 zeros.
+fn push_zeros(bytes: &mut Vec<u8>, count: usize) -> Result<(), AllocError>
+    requires { count ≤ 2 ^ 28 }
     ensures { OnOk result (bytes.new.items ≡ bytes.old.items ++ replicate count 0) }
 {
-    let Ok(count) = usize::try_from(count) else {
-        return Err(AllocError);
-    };
-    let Some(end) = bytes.len().checked_add(count) else {
-        return Err(AllocError);
-    };
-    bytes.resize(end, 0)
+    bytes.resize(bytes.len() + count, 0)
 }
 
-/// The word of an instruction. One that does not fit its row comes from no statement without a fault.
-fn word_of(insn: Insn) -> Result<u32, AllocError>
-    ensures { IfOk result (λ word. word ≡ insn_word insn) }
+/// The word of an instruction that some word is.
+fn word_of(insn: Insn) -> u32
+    requires { Fits insn }
+    ensures { result ≡ insn_word insn }
 {
-    if fits(&insn) {
-        Ok(encode(insn))
-    } else {
-        Err(AllocError)
-    }
+    encode(insn)
 }
 
-/// Places the bytes of an instruction.
+/// Places the bytes of an instruction that some word is.
 #[tactic(auto, unfolding(crate::specs::Bytes::insn_bytes))]
 fn push_insn(bytes: &mut Vec<u8>, insn: Insn) -> Result<(), AllocError>
+    requires { Fits insn }
     ensures { OnOk result (bytes.new.items ≡ bytes.old.items ++ insn_bytes insn) }
 {
-    push_word(bytes, word_of(insn)?)
+    push_word(bytes, word_of(insn))
 }
 
-/// The value of an expression that has no fault; of another, as if there were no memory.
-pub(crate) fn known(
-    labels: &Labels,
-    here: u128,
-    expression: &Expression<'_>,
-) -> Result<i128, AllocError>
-    ensures value { IfOk result (λ v. v ≡ value_at labels.now here (seen_expression expression.now)) }
-    ensures limits { IfOk result (λ v. IsTrue (is_in_limits v)) }
+/// The value of an expression that is known.
+pub(crate) fn known(labels: &Labels, here: u128, expression: &Expression<'_>) -> i128
+    requires { IsKnown (value_of labels.now here (seen_expression expression.now)) }
+    ensures value { result ≡ value_at labels.now here (seen_expression expression.now) }
+    ensures limits { IsTrue (is_in_limits result) }
 {
     match value(labels, here, expression) {
-        Worth::Known(value) => Ok(value),
-        _ => Err(AllocError),
+        Worth::Known(value) => value,
+        _ => unreachable!(),
     }
 }
 
@@ -97,13 +90,15 @@ fn push_row(
     insn: &Insn,
     target: &Option<Expression<'_>>,
 ) -> Result<(), AllocError>
-    requires { here < 2 ^ 100 }
+    requires place { here < 2 ^ 100 }
+    requires known { IsTargetKnown labels.now here (option_map seen_expression target.now) }
+    requires fits { Fits (aimed labels.now here insn.now (option_map seen_expression target.now)) }
     ensures { OnOk result (bytes.new.items ≡ bytes.old.items ++ insn_bytes (aimed labels.now here insn.now (option_map seen_expression target.now))) }
 {
     match target {
         None => push_insn(bytes, *insn),
         Some(target) => {
-            let value = known(labels, here, target)?;
+            let value = known(labels, here, target);
             let imm = wrapped(distance(value, here));
             push_insn(bytes, Insn { imm, ..*insn })
         }
@@ -138,7 +133,8 @@ fn upper_part(distance: i128) -> i128
 fn upper_immediate(distance: i128) -> u64
     requires low { neg_ℤ (pos (2 ^ 101)) <ℤ distance }
     requires high { distance <ℤ pos (2 ^ 101) }
-    ensures { result ≡ sign_extended 32 (wrapped (upper_part distance) % 2 ^ 20 * 2 ^ 12) }
+    ensures value { result ≡ sign_extended 32 (wrapped (upper_part distance) % 2 ^ 20 * 2 ^ 12) }
+    ensures upper { IsUpperImmediate result }
 {
     sign_extended(wrapped(upper_part(distance)) % 0x10_0000 * 0x1000)
 }
@@ -147,14 +143,19 @@ fn upper_immediate(distance: i128) -> u64
 fn lower_immediate(distance: i128) -> u64
     requires low { neg_ℤ (pos (2 ^ 101)) <ℤ distance }
     requires high { distance <ℤ pos (2 ^ 101) }
-    ensures { result ≡ wrapped (lower_part distance) }
+    ensures value { result ≡ wrapped (lower_part distance) }
+    ensures signed { IsSignedOf 12 result }
 {
     wrapped(distance - 4096 * upper_part(distance))
 }
 
 /// auipc with an immediate.
+#[tactic(auto, using(crate::proofs::LoadLemmas::based_fits))]
 fn based(rd: u8, imm: u64) -> Insn
-    ensures { result ≡ insn Row.Auipc rd 0 0 imm }
+    requires register { rd < 32 }
+    requires upper { IsUpperImmediate imm }
+    ensures value { result ≡ insn Row.Auipc rd 0 0 imm }
+    ensures fits { Fits result }
 {
     Insn {
         row: Row::Auipc,
@@ -166,8 +167,12 @@ fn based(rd: u8, imm: u64) -> Insn
 }
 
 /// The instruction that adds an immediate to a register, as an address or as a capability.
+#[tactic(auto, using(crate::proofs::LoadLemmas::number_fits, crate::proofs::LoadLemmas::capability_fits))]
 fn added(capability: bool, rd: u8, imm: u64) -> Insn
-    ensures { result ≡ insn (if capability then Row.CIncOffsetImm else Row.Addi) rd rd 0 imm }
+    requires register { rd < 32 }
+    requires signed { IsSignedOf 12 imm }
+    ensures value { result ≡ insn (if capability then Row.CIncOffsetImm else Row.Addi) rd rd 0 imm }
+    ensures fits { Fits result }
 {
     Insn {
         row: if capability {
@@ -184,6 +189,8 @@ fn added(capability: bool, rd: u8, imm: u64) -> Insn
 
 /// Places the bytes of two instructions.
 fn push_two(bytes: &mut Vec<u8>, first: Insn, second: Insn) -> Result<(), AllocError>
+    requires first { Fits first }
+    requires second { Fits second }
     ensures { OnOk result (bytes.new.items ≡ bytes.old.items ++ (insn_bytes first ++ insn_bytes second)) }
 {
     push_insn(bytes, first)?;
@@ -197,6 +204,7 @@ fn push_load(
     rd: u8,
     distance: i128,
 ) -> Result<(), AllocError>
+    requires register { rd < 32 }
     requires low { neg_ℤ (pos (2 ^ 101)) <ℤ distance }
     requires high { distance <ℤ pos (2 ^ 101) }
     ensures { OnOk result (bytes.new.items ≡ bytes.old.items ++ load_bytes capability rd distance) }
@@ -215,10 +223,11 @@ fn push_value(
     here: u128,
     piece: &[u8],
 ) -> Result<(), AllocError>
-    requires { IsTrue (is_size size) }
+    requires size { IsTrue (is_size size) }
+    requires known { IsKnown (value_of labels.now here (expression_or_nought (expression_of piece.now))) }
     ensures { OnOk result (bytes.new.items ≡ bytes.old.items ++ value_bytes labels.now here size piece.now) }
 {
-    let value = known(labels, here, &operand(piece))?;
+    let value = known(labels, here, &operand(piece));
     push_number(bytes, size, wrapped(value))
 }
 
@@ -230,7 +239,8 @@ fn push_values(
     here: u128,
     operands: &[u8],
 ) -> Result<(), AllocError>
-    requires { IsTrue (is_size size) }
+    requires size { IsTrue (is_size size) }
+    requires known { ArePiecesKnown labels.now here (pieces_of operands.now) }
     ensures { OnOk result (bytes.new.items ≡ bytes.old.items ++ flat_map (value_bytes labels.now here size) (pieces_of operands.now)) }
 {
     let mut rest = pieces(operands);
@@ -281,6 +291,8 @@ pub(crate) fn push_bytes(
 ) -> Result<(), AllocError>
     requires modest { IsTrue (is_modest (seen_statement statement.now)) }
     requires place { here < 2 ^ 100 }
+    requires valued { IsValued labels.now here (seen_statement statement.now) }
+    requires words { HasWords labels.now here (seen_statement statement.now) }
     ensures { OnOk result (bytes.new.items ≡ bytes.old.items ++ bytes_at labels.now here (seen_statement statement.now)) }
 {
     match statement {
@@ -290,11 +302,11 @@ pub(crate) fn push_bytes(
             rd,
             value,
         } => {
-            let distance = distance(known(labels, here, value)?, here);
+            let distance = distance(known(labels, here, value), here);
             push_load(bytes, *capability, *rd, distance)
         }
-        Statement::Align(bits) => push_zeros(bytes, aligned(here, *bits) - here),
-        Statement::Zero(count) => push_zeros(bytes, u128::from(*count)),
+        Statement::Align(bits) => push_zeros(bytes, (aligned(here, *bits) - here) as usize),
+        Statement::Zero(count) => push_zeros(bytes, *count as usize),
         Statement::Values { size, operands } => push_values(bytes, *size, labels, here, operands),
         Statement::Text(between) => push_text(bytes, between),
         _ => Ok(()),

@@ -1,7 +1,7 @@
 //! How a text is cut into lines.
 ghost use Rattle.std.specs.Prelude.{◌≡◌, ◌<◌, ◌==◌, [], ◌∷◌, length, IfSome, IsTrue};
 ghost use Rattle.std.specs.List.{slice_split};
-ghost use Rattle.asm_lines.specs.Line.{seen_line, line_meaning};
+ghost use Rattle.asm_lines.specs.Line.{seen_line, line_meaning, RowFits, IsBoundedIfAny};
 ghost use Rattle.assembler.specs.Modest.{is_modest_line};
 ghost use Rattle.assembler.specs.Places.{lines_of};
 ghost use Rattle.assembler.specs.Left.{lines_left};
@@ -26,6 +26,8 @@ fn split_line(text: &[u8]) -> (&[u8], Option<&[u8]>)
 fn read(line: &[u8]) -> Parsed<'_>
     ensures value { seen_line result ≡ line_meaning line.now }
     ensures modest { IsTrue (is_modest_line (seen_line result)) }
+    ensures fits { RowFits (seen_line result) }
+    ensures bounds { IsBoundedIfAny result.statement }
 {
     parse_line(line)
 }
@@ -34,6 +36,8 @@ fn read(line: &[u8]) -> Parsed<'_>
 pub(crate) fn next_line(text: &[u8]) -> (Parsed<'_>, Option<&[u8]>)
     ensures lines { lines_of text.now ≡ seen_line result.0 ∷ lines_left result.1 }
     ensures modest { IsTrue (is_modest_line (seen_line result.0)) }
+    ensures fits { RowFits (seen_line result.0) }
+    ensures bounds { IsBoundedIfAny result.0.statement }
     ensures shorter { IfSome result.1 (λ rest. length rest.now < length text.now) }
 {
     let (line, rest) = split_line(text);

@@ -3,7 +3,7 @@ ghost use Rattle.std.specs.Prelude.{◌≡◌, ◌+◌, ◌*◌, ◌<◌, ◌≤
 ghost use Rattle.asm_lines.specs.Line.{seen_statement, seen_line};
 ghost use Rattle.asm_lines.specs.Statement.{text_bytes};
 ghost use Rattle.asm_lines.specs.Text.{pieces_of};
-ghost use Rattle.assembler.specs.Modest.{is_modest, is_modest_line};
+ghost use Rattle.assembler.specs.Modest.{is_modest, is_modest_line, IsNear};
 ghost use Rattle.assembler.specs.Places.{aligned, end_of, places_after, opening_places};
 
 use crate::checks::pieces;
@@ -11,9 +11,6 @@ use crate::labels::Labels;
 use asm_lines::{Parsed, Statement, split_piece};
 use std::alloc::{AllocError, Global};
 use std::marker::Model;
-
-/// What no place reaches.
-const FAR: u128 = 1 << 100;
 
 /// The number of a list's operands.
 fn piece_count(operands: &[u8]) -> u128
@@ -62,7 +59,7 @@ pub(crate) fn aligned(place: u128, bits: u32) -> u128
     requires bits { bits ≤ 12 }
     requires place { place < 2 ^ 100 }
     ensures value { result ≡ aligned place bits }
-    ensures bound { result < 2 ^ 100 + 2 ^ 12 }
+    ensures bound { result < place + 2 ^ 12 }
     ensures behind { place ≤ result }
 {
     let unit = power(bits);
@@ -75,7 +72,7 @@ pub(crate) fn end_of(statement: &Statement<'_>, place: u128) -> u128
     requires modest { IsTrue (is_modest (seen_statement statement.now)) }
     requires place { place < 2 ^ 100 }
     ensures value { result ≡ end_of (seen_statement statement.now) place }
-    ensures bound { result < 2 ^ 101 }
+    ensures near { IsNear place result }
 {
     match statement {
         Statement::Row(_, _) => place + 4,
@@ -133,18 +130,17 @@ impl Places {
         &self.labels
     }
 
-    /// Goes past a line. No memory holds a text whose places reach 2^100, so that there is none for one.
+    /// Goes past a line.
     pub(crate) fn pass(&mut self, alloc: Global, line: &Parsed<'_>) -> Result<(), AllocError>
-        requires { IsTrue (is_modest_line (seen_line line.now)) }
-        ensures { OnOk result (self.new ≡ places_after (seen_line line.now) self.old) }
+        requires modest { IsTrue (is_modest_line (seen_line line.now)) }
+        requires room { self.old.place + 2 ^ 28 < 2 ^ 100 }
+        ensures value { OnOk result (self.new ≡ places_after (seen_line line.now) self.old) }
+        ensures near { OnOk result (IsNear self.old.place self.new.place) }
     {
         let end = match &line.statement {
             Some(statement) => end_of(statement, self.place),
             None => self.place,
         };
-        if end >= FAR {
-            return Err(AllocError);
-        }
         if let Some(name) = line.label {
             self.labels.define(alloc, name, self.place)?;
         }
