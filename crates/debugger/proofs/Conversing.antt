@@ -1,6 +1,6 @@
 -- Whole lines that do not end a conversation, and the piece behind them.
-use Rattle.std.proofs.Common.{◌≡◌, ℕ, ◌<◌, Bool, true, false, List, [], ◌∷◌, ◌++◌, All, length, take, Result, Ok, Err, refl, sym, ap, inl, inr, ◌∙◌, append_assoc, append-nil, take_all, arith}
-use Rattle.std.specs.Prelude.{◌≢◌, ◌⊎◌, not, ◌&&◌, ◌==◌, nat_lt, if◌then◌else◌}
+use Rattle.std.proofs.Common.{◌≡◌, ℕ, ◌<◌, Bool, true, false, List, [], ◌∷◌, ◌++◌, All, length, take, Result, Ok, Err, refl, sym, ap, ◌∙◌, append_assoc, append-nil, take_all, arith}
+use Rattle.std.specs.Prelude.{not, ◌&&◌, ◌==◌, nat_lt, if◌then◌else◌}
 use Rattle.std.proofs.lemmas.Bool.{false≢true}
 use Rattle.std.proofs.lemmas.Bool.Decides.{nat_tests}
 use Rattle.std.proofs.lemmas.List.{length-take-le}
@@ -9,7 +9,7 @@ use Rattle.std.specs.List.{slice_split, join_by}
 use Rattle.hart.specs.State.{State}
 use Rattle.machine.specs.Run.{run_after}
 use Rattle.debugger.specs.declared.fault.DebugFault.{DebugFault}
-use Rattle.debugger.specs.declared.fault.DebugFault.TheVariants.{B2, B4}
+use Rattle.debugger.specs.declared.fault.DebugFault.TheVariants.{B2}
 use Rattle.debugger.specs.Command.{Command, step, tick, byte, until, reg, regs, scr, csr, mem, dis, quit, command_of}
 use Rattle.debugger.specs.Reply.{answer_to, events_of, command_in, state_by, state_after}
 use Rattle.debugger.specs.Conversation.{reply_to, is_end, ends_by, is_last, replies_to, state_after_lines, unread_lines, conversation, state_after_conversation, unread}
@@ -54,21 +54,6 @@ last_by (Err fault) s h = absurd (false≢true h)
 
 pub same_after_last : (line : List ℕ) (s : State) → is_last line s ≡ true → state_after line s ≡ s
 same_after_last line s h = last_by (command_in line s) s h
-
--- ---- a line that is refused, but not for want of memory
-
-module _ (line : List ℕ) (s : State) (fault : DebugFault) (err : (fault ≡ B4) ⊎ (command_in line s ≡ Err fault)) (other : fault ≢ B4) where
-  refused : command_in line s ≡ Err fault
-  refused = elim err [ inl e ↦ absurd (other e) | inr e ↦ e ]
-
-  pub refused_last : false ≡ is_last line s
-  refused_last = sym (ap (λ r. ends_by r s) refused)
-
-  pub refused_state : s ≡ state_after line s
-  refused_state = sym (ap (λ r. state_by r s) refused)
-
-  pub refused_reply : fault_text fault ≡ reply_to line s
-  refused_reply = sym (ap (λ r. reply_by r s) refused)
 
 -- ---- lines that go on
 
