@@ -1,13 +1,21 @@
 -- What the parts of a conversation do: a reply to one line, and the lines heard so far.
-use Rattle.std.specs.Prelude.{◌≡◌, ◌⊎◌, ℕ, ◌<◌, Bool, true, false, List, All, ◌++◌, length, take, Option, IfSome}
+use Rattle.std.specs.Prelude.{◌≡◌, ◌≢◌, ◌⊎◌, ℕ, ◌<◌, Bool, true, false, List, All, ◌++◌, length, take, Option, IfSome}
 use Rattle.std.specs.Io.KnownBytes.{Appends, Consumes, IsAtEnd}
 use Rattle.image.specs.Devices.{AppendsBeginning}
 use Rattle.hart.specs.State.{State}
+use Rattle.debugger.specs.declared.fault.DebugFault.{DebugFault}
+use Rattle.debugger.specs.declared.fault.DebugFault.TheVariants.{B4}
 use Rattle.debugger.specs.declared.fault.TalkFault.{TalkFault}
 use Rattle.debugger.specs.declared.fault.TalkFault.TheVariants.{Read, Write, Memory}
 use Rattle.debugger.specs.Reply.{state_after}
-use Rattle.debugger.specs.Conversation.{reply_to}
+use Rattle.debugger.specs.Conversation.{fault_text, reply_to}
 use Rattle.debugger.specs.Talk.{most_heard, is_feed, fed, replies, state_after_all, goes_on, IsTold}
+
+-- what is left where a refusal was not written: a beginning of its text, or nothing of one for want of memory
+abbrev pub FailsToRefuse : TalkFault → DebugFault → Option (List ℕ) → Option (List ℕ) → Type 0
+FailsToRefuse Read fault held_old held_new = ⊥
+FailsToRefuse Write fault held_old held_new = (fault ≢ B4) × AppendsBeginning held_old held_new (fault_text fault)
+FailsToRefuse Memory fault held_old held_new = (fault ≡ B4) × (held_new ≡ held_old)
 
 -- what is left where a line was not answered
 abbrev pub FailsToReply : TalkFault → List ℕ → State → State → Option (List ℕ) → Option (List ℕ) → Type 0

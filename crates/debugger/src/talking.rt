@@ -1,12 +1,13 @@
 //! Whole conversations.
-ghost use Rattle.std.specs.Prelude.{◌≡◌, ◌-◌, ◌^◌, ◌<◌, [], ◌∷◌, ◌++◌, take, MatchOption, IfOk, IfErr, OnOk, OnErr, IfSome};
+ghost use Rattle.std.specs.Prelude.{◌≡◌, ◌≢◌, ◌-◌, ◌^◌, ◌<◌, [], ◌∷◌, ◌++◌, take, MatchOption, IfOk, IfErr, OnOk, OnErr, IfSome};
 ghost use Rattle.std.specs.Io.KnownBytes.{Appends, Consumes, Keeps, IsAtEnd};
 ghost use Rattle.image.specs.Devices.{AppendsBeginning};
+ghost use Rattle.debugger.specs.declared.fault.DebugFault.TheVariants.{B4};
 ghost use Rattle.debugger.specs.declared.fault.TalkFault.TheVariants.{Read, Write};
 ghost use Rattle.debugger.specs.Reply.{state_after};
 ghost use Rattle.debugger.specs.Conversation.{fault_text, reply_to, is_last};
 ghost use Rattle.debugger.specs.Talk.{IsTold, LeavesOff, CountsReads, CountsWrites};
-ghost use Rattle.debugger.specs.Heard.{FailsToReply, Hears};
+ghost use Rattle.debugger.specs.Heard.{FailsToRefuse, FailsToReply, Hears};
 
 use crate::fault::{DebugFault, TalkFault};
 use crate::reply::Reply;
@@ -36,18 +37,6 @@ fn next_byte<R: Source>(source: &mut R) -> Result<Option<u8>, TalkFault>
     }
 }
 
-/// What a refusal prints.
-fn fault_text(fault: DebugFault) -> &'static str
-    ensures { result.now ≡ fault_text fault }
-{
-    match fault {
-        DebugFault::B1 => "fault B1\n",
-        DebugFault::B2 => "fault B2\n",
-        DebugFault::B3 => "fault B3\n",
-        DebugFault::B4 => "",
-    }
-}
-
 /// Writes a text, or a beginning of it.
 fn put<W: Sink>(sink: &mut W, text: &str) -> Result<(), TalkFault>
     requires { W.failed sink.old < 2 ^ 64 - 1 }
@@ -59,6 +48,22 @@ fn put<W: Sink>(sink: &mut W, text: &str) -> Result<(), TalkFault>
     match write_all(sink, text.as_bytes()) {
         Ok(()) => Ok(()),
         Err(_) => Err(TalkFault::Write),
+    }
+}
+
+/// Writes what a refusal prints. A refusal for want of memory prints nothing, and is a fault of the conversation.
+fn put_refusal<W: Sink>(sink: &mut W, fault: DebugFault) -> Result<(), TalkFault>
+    requires { W.failed sink.old < 2 ^ 64 - 1 }
+    ensures ok { OnOk result (Appends (W.held sink.old) (W.held sink.new) (fault_text fault)) }
+    ensures kind { OnOk result (fault ≢ B4) }
+    ensures err { IfErr result (λ cut. FailsToRefuse cut fault (W.held sink.old) (W.held sink.new)) }
+    ensures count { CountsWrites (W.failed sink.old) (W.failed sink.new) result }
+{
+    match fault {
+        DebugFault::B1 => put(sink, "fault B1\n"),
+        DebugFault::B2 => put(sink, "fault B2\n"),
+        DebugFault::B3 => put(sink, "fault B3\n"),
+        DebugFault::B4 => Err(TalkFault::Memory),
     }
 }
 
@@ -81,9 +86,8 @@ fn answer_line<C: CapRep, W: Sink>(
             put(sink, text.as_str())?;
             Ok(false)
         }
-        Err(DebugFault::B4) => Err(TalkFault::Memory),
         Err(fault) => {
-            put(sink, fault_text(fault))?;
+            put_refusal(sink, fault)?;
             Ok(false)
         }
     }
