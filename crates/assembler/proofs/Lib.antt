@@ -1,6 +1,10 @@
+pub mod TestLemmas
 pub mod LabelLemmas
 pub mod LineLemmas
 pub mod BlockLemmas
 pub mod ModestLemmas
 pub mod SoundLemmas
 pub mod LoadLemmas
+pub mod PageLemmas
+pub mod SectionLemmas
+pub mod BuildLemmas

@@ -1,5 +1,5 @@
 -- The statement of a line has a size of values, an alignment to at most 4096 bytes, at most 2 ^ 28 zeros, and texts within the line.
-use Rattle.std.proofs.Common.{◌≡◌, ℕ, ◌+◌, ◌≤◌, ◌&&◌, ◌-◌, ◌%◌, ◌^◌, Bool, true, false, not, ◌||◌, ◌==◌, nat_lt, nat_le, if◌then◌else◌, ℤ, pos, negsuc, List, [], ◌∷◌, length, take, drop, Option, Some, None, Result, Ok, Err, codes, refl, arith}
+use Rattle.std.proofs.Common.{◌≡◌, ℕ, ◌+◌, ◌≤◌, ◌-◌, ◌%◌, ◌^◌, Bool, true, false, not, ◌||◌, ◌==◌, nat_lt, nat_le, if◌then◌else◌, ℤ, pos, negsuc, List, [], ◌∷◌, length, take, drop, Option, Some, None, Result, Ok, Err, codes, refl, arith}
 use Rattle.std.specs.List.{prefix_len, suffix_len, position_or_len, after_first}
 use Rattle.std.proofs.lemmas.List.{length-drop, length-take}
 use Rattle.std.proofs.lemmas.Bool.Decides.{nat_tests}
@@ -10,6 +10,7 @@ use Rattle.asm_lines.specs.Number.{Expression, number_of, expression_of}
 use Rattle.asm_lines.specs.Operand.{up_to, wrapped, filled_draft, filled_fault}
 use Rattle.asm_lines.specs.Statement.{Statement, row, load, pages, mode, entry, org, align, zeros, values, text, Said, said, said_by, is_word, Pattern, pattern_of, pattern_said, draft_of, said_unless, leaves_statement, register_load, load_said, number_said, page_count, entry_said, values_said, values_fault, text_said, is_quoted, expression_or_nought}
 use Rattle.asm_lines.specs.Line.{Line, line_meaning, line_said, line_of_text, labelled}
+use Rattle.assembler.proofs.TestLemmas.{both-true, not-below}
 use Rattle.assembler.specs.Modest.{is_size, is_modest, is_modest_or_none, is_modest_line}
 
 abbrev IsModest : Said → Type 0
@@ -78,9 +79,6 @@ align-modest (Err fault) = other-modest None fault refl
 entry-modest : (x : Result Expression LineFault) → IsModest (entry_said x)
 entry-modest (Ok x) = refl
 entry-modest (Err fault) = unless-modest (entry (expression_or_nought (Err fault))) (Some fault) refl
-
-both-true : (a b : Bool) → a ≡ true → b ≡ true → (a && b) ≡ true
-both-true a b h g = cc
 
 short : (n : ℕ) → n ≤ 255 → nat_le n 255 ≡ true
 short n h = grind (arith, nat_tests)
@@ -162,9 +160,6 @@ statement-shorter line =
       | false ↦ omega arith
     ]
 
-not-long : (n : ℕ) → nat_lt 255 n ≡ false → n ≤ 255
-not-long n h = grind (arith, nat_tests)
-
 pub line_meaning-modest : (line : List ℕ) → is_modest_line (line_meaning line) ≡ true
 unfolding line_meaning
 line_meaning-modest line =
@@ -173,4 +168,4 @@ line_meaning-modest line =
     let bare : length (uncommented line) ≤ length line = uncommented-shorter _ line in
     omega (arith, statement-shorter rest, trimmed-shorter (uncommented line), bare) in
     checked-modest (nat_lt (prefix_len (λ b. not (is_foreign b)) line) (length line)) (nat_lt 255 (length line)) (line_of_text rest)
-    (λ e. line_said-modest (label_of rest) (statement_text rest) (omega (arith, shorter, not-long (length line) e)))
+    (λ e. line_said-modest (label_of rest) (statement_text rest) (omega (arith, shorter, not-below 255 (length line) e)))

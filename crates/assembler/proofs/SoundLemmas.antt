@@ -1,5 +1,5 @@
 -- A line without a fault: its values are known, and its instructions have words.
-use Rattle.std.proofs.Common.{option_map, ◌≡◌, ℕ, Bool, true, false, not, ◌||◌, inl, inr, if◌then◌else◌, ℤ, pos, negsuc, ◌-ℤ◌, List, [], ◌∷◌, Option, Some, None, is_none, refl, sym, ap, ◌∙◌, subst, arith}
+use Rattle.std.proofs.Common.{option_map, ◌≡◌, ℕ, Bool, true, false, not, inl, inr, if◌then◌else◌, ℤ, pos, negsuc, ◌-ℤ◌, List, [], ◌∷◌, Option, Some, None, is_none, refl, sym, ap, ◌∙◌, subst, arith}
 use Rattle.std.proofs.lemmas.Bool.Decides.{nat_tests}
 use Rattle.std.proofs.lemmas.Int.{ints}
 use Rattle.isa_rows.specs.declared.formats.Format.{Format}
@@ -22,6 +22,7 @@ use Rattle.assembler.specs.Places.{Symbols}
 use Rattle.assembler.specs.Values.{value_of, any_value, known_and, is_beyond, has_value_beyond, has_unknown_name, is_out_of_reach, is_reached, reach_of}
 use Rattle.assembler.specs.Bytes.{or_zero}
 use Rattle.assembler.specs.Faults.{Assembled, page_count, line_fault, fault_by, fault_in_text, statement_fault, is_statement_misplaced, lacks_place, size_at, is_instruction}
+use Rattle.assembler.proofs.TestLemmas.{or-false, not-false}
 use Rattle.assembler.specs.Sound.{IsKnown, ArePiecesKnown, IsValued, HasWords}
 
 -- a test before others that tells nothing
@@ -54,7 +55,7 @@ pub record IsLineFaultless (symbols : Symbols) (s : Assembled) (l : Line) : Type
   pub timely : is_statement_misplaced s l.statement ≡ false
   pub in_text : fault_in_text symbols s l.statement ≡ None
 
-pub fault_by-none : (symbols : Symbols) (s : Assembled) (l : Line) (fault : Option LineFault) → fault_by symbols s l fault ≡ None → (fault ≡ None) × (is_statement_misplaced s l.statement ≡ false) × (fault_in_text symbols s l.statement ≡ None)
+fault_by-none : (symbols : Symbols) (s : Assembled) (l : Line) (fault : Option LineFault) → fault_by symbols s l fault ≡ None → (fault ≡ None) × (is_statement_misplaced s l.statement ≡ false) × (fault_in_text symbols s l.statement ≡ None)
 unfolding fault_by
 fault_by-none symbols s l (Some line.A8) h = cc
 fault_by-none symbols s l (Some line.A9) h = cc
@@ -83,10 +84,6 @@ sized-value : (size : ℕ) (value : Option ℤ) → IsSize size → known_and (�
 sized-value size None s h g = cc
 sized-value size (Some v) s h g = in-size-limits size v s h
 
-or-false : (a b : Bool) → (a || b) ≡ false → (a ≡ false) × (b ≡ false)
-or-false true b h = cc
-or-false false b h = (refl, h)
-
 known-pieces : (size : ℕ) (symbols : Symbols) (here : ℕ) (ps : List (List ℕ)) → IsSize size → any_value (known_and (λ v. not (is_in_size size v))) symbols here ps ≡ false → any_value is_none symbols here ps ≡ false → ArePiecesKnown symbols here ps
 known-pieces size symbols here [] s h g = tt
 known-pieces size symbols here (p ∷ ps) s h g =
@@ -95,7 +92,7 @@ known-pieces size symbols here (p ∷ ps) s h g =
     (sized-value size _ s a.0 b.0, known-pieces size symbols here ps s a.1 b.1)
 
 -- each value of a statement without a fault is known
-pub faultless-valued : (symbols : Symbols) (s : Assembled) (r : Read) → IsBounded r → IsFaultless symbols s (seen_statement r) → IsValued symbols s.places.place (seen_statement r)
+faultless-valued : (symbols : Symbols) (s : Assembled) (r : Read) → IsBounded r → IsFaultless symbols s (seen_statement r) → IsValued symbols s.places.place (seen_statement r)
 unfolding has_value_beyond has_unknown_name
 faultless-valued symbols s (Row i None) b f = tt
 faultless-valued symbols s (Row i (Some e)) b f = known-value _ f.in_range f.named
@@ -132,16 +129,12 @@ reached-offset Whole d h = jump-offset d h
 reached-offset Unary d h = jump-offset d h
 reached-offset Pair d h = jump-offset d h
 
-not-false : (b : Bool) → not b ≡ false → b ≡ true
-not-false true h = refl
-not-false false h = cc
-
 near-offset : (format : Format) (here : ℕ) (value : Option ℤ) → is_none value ≡ false → known_and (λ v. not (is_reached (reach_of format) (v -ℤ pos here))) value ≡ false → IsTargetOffset format (wrapped (or_zero value -ℤ pos here))
 near-offset format here None g h = cc
 near-offset format here (Some v) g h = reached-offset format (v -ℤ pos here) (not-false _ h)
 
 -- each instruction of a statement without a fault has a word
-pub faultless-words : (symbols : Symbols) (s : Assembled) (l : Line) (r : Read) → IsBounded r → RowFits l → l.statement ≡ Some (seen_statement r) → l.fault ≡ None → IsFaultless symbols s (seen_statement r) → HasWords symbols s.places.place (seen_statement r)
+faultless-words : (symbols : Symbols) (s : Assembled) (l : Line) (r : Read) → IsBounded r → RowFits l → l.statement ≡ Some (seen_statement r) → l.fault ≡ None → IsFaultless symbols s (seen_statement r) → HasWords symbols s.places.place (seen_statement r)
 unfolding has_unknown_name is_out_of_reach
 faultless-words symbols s l (Row i None) b fits e p f = fits i None e p
 faultless-words symbols s l (Row i (Some x)) b fits e p f =

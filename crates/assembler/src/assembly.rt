@@ -1,4 +1,5 @@
 ghost use Rattle.std.specs.Prelude.{◌≡◌, None, IfOk, IfErr};
+ghost use Rattle.assembler.specs.Buildable.{IsBuildable};
 ghost use Rattle.assembler.specs.Faults.{opening};
 ghost use Rattle.assembler.specs.Labels.{seen_entries};
 ghost use Rattle.assembler.specs.Left.{IsFaultOf};
@@ -61,9 +62,11 @@ fn labels_of(alloc: Global, text: &[u8]) -> Result<Labels, AllocError>
 }
 
 /// What the lines of a text set and place, or the first fault of its first faulty line. `labels` are those of the whole text.
+#[tactic(auto, using(crate::proofs::BuildLemmas::new_buildable, crate::proofs::BuildLemmas::kept_buildable))]
 fn built(alloc: Global, labels: &Labels, text: &[u8]) -> Result<Builder, AsmFault>
     ensures correct { IfOk result (λ _. first_fault labels.now opening 1 (lines_of text.now) ≡ None) }
     ensures built { IfOk result (λ builder. builder ≡ all_assembled labels.now opening (lines_of text.now)) }
+    ensures buildable { IfOk result (λ builder. IsBuildable builder) }
     ensures fault { IfErr result (IsFaultOf (first_fault labels.now opening 1 (lines_of text.now))) }
 {
     let mut builder = Builder::new(alloc);

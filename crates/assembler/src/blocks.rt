@@ -1,6 +1,6 @@
 //! Sections of an image that is being made.
-ghost use Rattle.std.specs.Prelude.{◌≡◌, ◌++◌, ◌≤◌, ◌<◌, ◌^◌, IsTrue, [], length, nat_lt, OnOk, IfOk};
-ghost use Rattle.image.specs.Image.{Section, Builds, image_of, lent_sections};
+ghost use Rattle.std.specs.Prelude.{◌≡◌, ◌++◌, ◌≤◌, ◌<◌, ◌^◌, IsTrue, [], length, nat_lt, None, OnOk, IfOk};
+ghost use Rattle.image.specs.Image.{Section, Builds, build_fault, image_of, lent_sections};
 ghost use Rattle.std.specs.List.{position_or_len};
 ghost use Rattle.asm_lines.specs.Line.{seen_statement};
 ghost use Rattle.assembler.specs.Bytes.{bytes_at};
@@ -12,7 +12,7 @@ ghost use Rattle.assembler.specs.Faults.{is_taken, inserted, closed, empty_at, f
 use crate::bytes::push_bytes;
 use crate::labels::Labels;
 use asm_lines::Statement;
-use image::Image;
+use image::{Image, ImageFault};
 use std::alloc::{AllocError, Global};
 use std::marker::Model;
 
@@ -142,8 +142,7 @@ fn lent(alloc: Global, blocks: &[Block]) -> Result<Vec<(u64, &[u8])>, AllocError
     Ok(parts)
 }
 
-/// An image of blocks. Those of a correct text stand in RAM, in ascending order and apart, so that only memory can be wanting; this
-/// is not proved, and another fault would be answered as want of memory too.
+/// An image of blocks that have no fault, so that only memory can be wanting.
 pub(crate) fn built(
     alloc: Global,
     pages: u32,
@@ -151,11 +150,13 @@ pub(crate) fn built(
     mode: u32,
     blocks: &[Block],
 ) -> Result<Image, AllocError>
+    requires { build_fault pages entry mode blocks.now ≡ None }
     ensures { IfOk result (λ image. image ≡ image_of pages entry mode blocks.now) }
 {
     let parts = lent(alloc, blocks)?;
     match Image::build(alloc, pages, entry, mode, &parts) {
         Ok(image) => Ok(image),
-        Err(_) => Err(AllocError),
+        Err(ImageFault::L11) => Err(AllocError),
+        Err(_) => unreachable!(),
     }
 }

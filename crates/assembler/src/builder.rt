@@ -2,6 +2,7 @@
 ghost use Rattle.std.specs.Prelude.{◌≡◌, ◌+◌, ◌<◌, ◌^◌, ◌≤◌, None, Some, IsTrue, OnOk, IfOk};
 ghost use Rattle.asm_lines.specs.Line.{seen_statement, seen_line, RowFits, IsBoundedIfAny};
 ghost use Rattle.assembler.specs.Sound.{IsValued, HasWords};
+ghost use Rattle.assembler.specs.Buildable.{IsBuildable};
 ghost use Rattle.assembler.specs.Modest.{is_modest, is_modest_or_none, is_modest_line, IsNear};
 ghost use Rattle.std.specs.Option.{option_map};
 ghost use Rattle.assembler.specs.Bytes.{bytes_at};
@@ -252,7 +253,9 @@ impl Builder {
     }
 
     /// The image of a correct text.
+    #[tactic(auto, using(crate::proofs::BuildLemmas::finished_none))]
     pub(crate) fn finish(self, alloc: Global) -> Result<Image, AllocError>
+        requires { IsBuildable self }
         ensures { IfOk result (λ image. image ≡ image_of self) }
     {
         let pages = self.page_count();

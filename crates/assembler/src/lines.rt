@@ -3,6 +3,7 @@ ghost use Rattle.std.specs.Prelude.{◌≡◌, ◌<◌, ◌==◌, [], ◌∷◌,
 ghost use Rattle.std.specs.List.{slice_split};
 ghost use Rattle.asm_lines.specs.Line.{seen_line, line_meaning, RowFits, IsBoundedIfAny};
 ghost use Rattle.assembler.specs.Modest.{is_modest_line};
+ghost use Rattle.assembler.specs.Buildable.{is_paged_line};
 ghost use Rattle.assembler.specs.Places.{lines_of};
 ghost use Rattle.assembler.specs.Left.{lines_left};
 ghost use Rattle.std.specs.Option.{option_map_or};
@@ -28,6 +29,7 @@ fn read(line: &[u8]) -> Parsed<'_>
     ensures modest { IsTrue (is_modest_line (seen_line result)) }
     ensures fits { RowFits (seen_line result) }
     ensures bounds { IsBoundedIfAny result.statement }
+    ensures paged { IsTrue (is_paged_line (seen_line result)) }
 {
     parse_line(line)
 }
@@ -38,6 +40,7 @@ pub(crate) fn next_line(text: &[u8]) -> (Parsed<'_>, Option<&[u8]>)
     ensures modest { IsTrue (is_modest_line (seen_line result.0)) }
     ensures fits { RowFits (seen_line result.0) }
     ensures bounds { IsBoundedIfAny result.0.statement }
+    ensures paged { IsTrue (is_paged_line (seen_line result.0)) }
     ensures shorter { IfSome result.1 (λ rest. length rest.now < length text.now) }
 {
     let (line, rest) = split_line(text);

@@ -122,13 +122,13 @@ fn hear<C: CapRep, R: Source, W: Sink>(
         let Some(byte) = next_byte(source)? else {
             return Ok(false);
         };
-        if byte != b'\n' {
-            keep(line, byte);
-        } else {
+        if byte == b'\n' {
             if answer_line(session, sink, line.as_slice())? {
                 return Ok(true);
             }
             line.clear();
+        } else {
+            keep(line, byte);
         }
     }
     Ok(false)

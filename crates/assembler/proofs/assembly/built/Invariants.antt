@@ -1,4 +1,5 @@
 use Rattle.std.proofs.Common.{◌≡◌, ◌+◌, ◌*◌, ◌^◌, ◌≤◌, length}
+use Rattle.assembler.specs.Buildable.{IsBuildable}
 use Rattle.assembler.specs.Faults.{opening}
 use Rattle.assembler.specs.Left.{left, lines_left}
 use Rattle.assembler.specs.Places.{lines_of}
@@ -9,6 +10,7 @@ abbrev pub invariant-loop-rest : goal.invariant-loop-rest
 invariant-loop-rest l = record {
   fault : first_fault l.labels opening 1 (lines_of l.text) ≡ first_fault l.labels l.builder l.number (lines_left l.rest);
   built : all_assembled l.labels opening (lines_of l.text) ≡ all_assembled l.labels l.builder (lines_left l.rest);
+  buildable : IsBuildable l.builder;
   start : 1 ≤ l.number;
   lines : l.number + left l.rest ≤ length l.text + 2;
   room : l.builder.places.place + 2 ^ 28 * left l.rest ≤ 2 ^ 64 + 2 ^ 28 * (length l.text + 1);

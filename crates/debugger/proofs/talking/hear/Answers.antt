@@ -5,7 +5,7 @@ use Rattle.std.proofs.lemmas.Result.{err_from_is_err_and}
 use Rattle.debugger.specs.Talk.{is_feed}
 use Rattle.debugger.proofs.Hearing.{nothing_heard, heard_byte, heard_line, heard_last, heard_end, cut_at_feed, cut_at_read}
 use Rattle.debugger.proofs.talking.hear.Goals as goal
-use Rattle.debugger.proofs.talking.hear.Goals.{then-byte-ne10, else-byte-ne10+in_ok-answer_line+else-branch}
+use Rattle.debugger.proofs.talking.hear.Goals.{then-byte-eq10+in_ok-answer_line+else-branch, else-byte-eq10}
 
 not_feed : (b : ℕ) → b ≢ 10 → is_feed b ≡ false
 not_feed b h = grind (arith, nat_tests)
@@ -29,12 +29,12 @@ returns-in_default-clause-ok g c =
 pub returns-in_err-answer_line-clause-err : goal.returns-in_err-answer_line-clause-err
 returns-in_err-answer_line-clause-err g c =
     let p = err_from_is_err_and c.from_residual-in_err-answer_line.result c.from_residual-in_err-answer_line.ensures.1 in
-    let next = feed _ _ c.in-Some.byte c.if-byte-ne10.false (rw c.in-Some.is at c.in_ok-byte.ensures.ok) in
+    let next = feed _ _ c.in-Some.byte c.if-byte-eq10.true (rw c.in-Some.is at c.in_ok-byte.ensures.ok) in
     rw (p.1, p.2) (cut_at_feed _ _ _ _ _ _ _ _ c.loop.invariant.heard _ next _ _ _ (rw c.as_slice.ensures.value at c.in_err-answer_line.ensures.err))
 
 pub returns-then-branch-clause-ok : goal.returns-then-branch-clause-ok
 returns-then-branch-clause-ok g c =
-    let next = feed _ _ c.in-Some.byte c.if-byte-ne10.false (rw c.in-Some.is at c.in_ok-byte.ensures.ok) in
+    let next = feed _ _ c.in-Some.byte c.if-byte-eq10.true (rw c.in-Some.is at c.in_ok-byte.ensures.ok) in
     let same = c.as_slice.ensures.value in
     let answered = c.in_ok-answer_line.ensures in
     heard_last _ _ _ _ _ _ _ _ c.loop.invariant.heard _ next _ _ (rw same at answered.state) (rw same at answered.text) c.loop-test.true
@@ -44,19 +44,19 @@ pub loop-preserved : goal.loop-preserved
 loop-preserved g c =
     let reads = c.in_ok-byte.ensures.count ∙ c.loop.invariant.reads in
     let next = rw c.in-Some.is at c.in_ok-byte.ensures.ok in
-    elim c.if-byte-ne10.branch [
-      | then-byte-ne10 w ↦
+    elim c.if-byte-eq10.branch [
+      | else-byte-eq10 w ↦
           rw (w.session-is, w.sink-is, w.line-is) (record {
-            heard = heard_byte _ _ _ _ _ _ _ _ c.loop.invariant.heard _ c.in-Some.byte next _ (not_feed c.in-Some.byte w.if-byte-ne10.true) w.keep.ensures;
+            heard = heard_byte _ _ _ _ _ _ _ _ c.loop.invariant.heard _ c.in-Some.byte next _ (not_feed c.in-Some.byte w.if-byte-eq10.false) w.keep.ensures;
             reads = reads;
             writes = c.loop.invariant.writes;
           })
-      | else-byte-ne10+in_ok-answer_line+else-branch w ↦
+      | then-byte-eq10+in_ok-answer_line+else-branch w ↦
           let same = w.as_slice.ensures.value in
           let answered = w.in_ok-answer_line.ensures in
           rw (w.session-is, w.sink-is, w.line-is) (record {
             heard =
-                heard_line _ _ _ _ _ _ _ _ c.loop.invariant.heard _ (feed _ _ c.in-Some.byte w.if-byte-ne10.false next) _ _ (rw same at answered.state) (rw same at answered.text) _
+                heard_line _ _ _ _ _ _ _ _ c.loop.invariant.heard _ (feed _ _ c.in-Some.byte w.if-byte-eq10.true next) _ _ (rw same at answered.state) (rw same at answered.text) _
                 (sym (rw same at answered.last) ∙ w.if-branch.false) (search rules);
             reads = reads;
             writes = answered.count ∙ c.loop.invariant.writes;

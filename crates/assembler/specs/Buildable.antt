@@ -1,0 +1,58 @@
+-- What is assembled of lines without a fault: an image can be built of it.
+use Rattle.std.specs.Prelude.{◌≡◌, ℕ, ◌+◌, ◌<◌, ◌≤◌, Bool, true, false, ◌&&◌, nat_le, List, [], ◌∷◌, length, Option, Some, None}
+use Rattle.image.specs.Image.{Section, ram_base, ram_end, is_good_header, sections_fault}
+use Rattle.asm_lines.specs.declared.fault.LineFault.{LineFault}
+use Rattle.asm_lines.specs.Statement.{Statement, row, load, pages, mode, entry, org, align, zeros, values, text}
+use Rattle.asm_lines.specs.Line.{Line}
+use Rattle.assembler.specs.Faults.{Assembled, given, page_count, is_taken}
+
+-- a number of pages, where no fault says that it is none, is 1 to 4096
+abbrev pub is_paged : Statement → Bool
+is_paged (row i target) = true
+is_paged (load capability rd value) = true
+is_paged (pages n) = nat_le 1 n && nat_le n 4096
+is_paged (mode m) = true
+is_paged (entry e) = true
+is_paged (org n) = true
+is_paged (align bits) = true
+is_paged (zeros n) = true
+is_paged (values size operands) = true
+is_paged (text between) = true
+
+abbrev pub is_paged_or_none : Option Statement → Bool
+is_paged_or_none None = true
+is_paged_or_none (Some s) = is_paged s
+
+abbrev pub is_paged_unless : Option LineFault → Option Statement → Bool
+is_paged_unless None s = is_paged_or_none s
+is_paged_unless (Some fault) s = true
+
+abbrev pub is_paged_line : Line → Bool
+is_paged_line l = is_paged_unless l.fault l.statement
+
+-- each of the sections has a byte
+abbrev pub AreFilled : List Section → Type 0
+AreFilled [] = Unit {0}
+AreFilled (s ∷ ss) = (0 < length s.bytes) × AreFilled ss
+
+-- a section lies in RAM, apart from those that are finished, and they leave room for it
+pub record HasRoom (pages : ℕ) (done : List Section) (s : Section) : Type 0 where
+  pub above : ram_base ≤ s.address
+  pub below : s.address + length s.bytes ≤ ram_end pages
+  pub apart : is_taken s.address (s.address + length s.bytes) done ≡ false
+  pub few : length done < 64
+
+-- nothing is placed, and the entry is not set
+pub record IsUnbegun (s : Assembled) : Type 0 where
+  pub done : s.done ≡ []
+  pub current : s.current.bytes ≡ []
+  pub entry : s.entry ≡ None
+
+pub record IsBuildable (s : Assembled) : Type 0 where
+  pub header : is_good_header (page_count s) (given ram_base s.entry) 0 ≡ true
+  pub apart : sections_fault (page_count s) 0 s.done ≡ None
+  pub filled : AreFilled s.done
+  pub few : length s.done ≤ 64
+  pub place : s.places.place ≡ s.current.address + length s.current.bytes
+  pub current : 0 < length s.current.bytes → HasRoom (page_count s) s.done s.current
+  pub unbegun : s.begun ≡ false → IsUnbegun s
