@@ -7,7 +7,6 @@ use Rattle.std.proofs.Math.Seq.{take-append-add}
 use Rattle.std.proofs.lemmas.Bool.Decides.{nat_tests}
 use Rattle.std.proofs.lemmas.List.{length-append}
 use Rattle.std.proofs.lemmas.List.Elements.{All-nil, All-push}
-use Rattle.std.specs.List.{before_first}
 use Rattle.std.specs.Io.KnownBytes.{Appends, Consumes, Keeps, IsAtEnd}
 use Rattle.image.specs.Devices.{AppendsBeginning}
 use Rattle.hart.specs.State.{State}
@@ -16,9 +15,9 @@ use Rattle.debugger.specs.declared.fault.TalkFault.TheVariants.{Read, Write, Mem
 use Rattle.debugger.specs.Command.{command_of}
 use Rattle.debugger.specs.Reply.{state_after, allowed, state_by}
 use Rattle.debugger.specs.Conversation.{reply_by, ends_by, reply_to, is_last, conversation, state_after_conversation, unread}
-use Rattle.debugger.specs.Talk.{most_heard, heard, is_feed, fed, replies, state_after_all, IsTold, IsRead, IsCutBeforeReply, LeavesOff}
+use Rattle.debugger.specs.Talk.{most_heard, heard, is_feed, fed, replies, state_after_all, Ends, IsTold, IsRead, IsCutInLine, LeavesOff}
 use Rattle.debugger.specs.Heard.{FailsToReply, IsInLine, IsHeard, IsHeardToEnd}
-use Rattle.debugger.proofs.Pieces.{before_none, after_none, before_feed, after_feed, in_line_more, whole_lines, fed_more, take_again, take_front, take_behind}
+use Rattle.debugger.proofs.Pieces.{before_none, in_line_more, whole_lines, fed_more, take_again, take_front, take_behind}
 use Rattle.debugger.proofs.Conversing.{kept_command, same_after_last, goes_on_more, replies_more, state_after_more, told_last, state_last, unread_last, told_end, state_end, unread_end}
 
 -- all of some bytes, and a beginning of those after them
@@ -79,6 +78,13 @@ empty_same (x ∷ xs) = not_zero (length (take 255 xs)) ∙ sym (not_zero (lengt
 at_most : (n m : ℕ) → m ≡ n → (ln : Option (List ℕ)) → (n ≡ most_heard) ⊎ ((n < most_heard) × IsAtEnd ln) → m ≤ most_heard
 at_most n m e ln (inl most) = omega arith
 at_most n m e ln (inr at) = omega (arith, at.0)
+
+is_some : (k : ℕ) → (k == 0) ≡ false → 0 < k
+is_some k h = grind (arith, nat_tests)
+
+reached : (n m : ℕ) → m ≡ n → (ln : Option (List ℕ)) → (n ≡ most_heard) ⊎ ((n < most_heard) × IsAtEnd ln) → (m ≡ most_heard) ⊎ IsAtEnd ln
+reached n m e ln (inl most) = inl (e ∙ most)
+reached n m e ln (inr at) = inr at.1
 
 -- ---- one byte more
 
@@ -174,46 +180,38 @@ module _ (n : ℕ) (line : List ℕ) (old new : State) (lo ln ho hn : Option (Li
 
     -- the line could not be answered
     read_feed : IsRead h.lines (h.part ++ 10 ∷ []) old lo ln'
-    read_feed = record {
-      read = consumed_part ln' 10 next;
-      one_line_each = whole_lines h.lines h.in_lines;
-      one_line = after_feed h.part h.in_line;
-      goes_on = h.goes_on;
-    }
+    read_feed = record { read = consumed_part ln' 10 next; are_lines = whole_lines h.lines h.in_lines; goes_on = h.goes_on }
 
     pub cut_at_feed : (fault : TalkFault) (new' : State) (hn' : Option (List ℕ)) → FailsToReply fault line new new' hn hn' → LeavesOff fault old new' lo ln' ho hn'
     cut_at_feed Read new' hn' f = absurd f
-    cut_at_feed Write new' hn' f =
-        let same : h.part ≡ before_first is_feed (h.part ++ 10 ∷ []) = sym (before_feed h.part h.in_line) in
-        record {
-          lines = h.lines;
-          part = h.part ++ 10 ∷ [];
-          is_read = read_feed;
-          text = beginning_after ho hn hn' (replies h.lines old) _ h.text (subst (AppendsBeginning hn hn') (reply_here ∙ ap (λ l. reply_to l t) same) f.0);
-          state = f.1 ∙ state_here ∙ ap (λ l. state_after l t) same;
-        }
+    cut_at_feed Write new' hn' f = record {
+      lines = h.lines;
+      line = h.part;
+      behind = 10 ∷ [];
+      is_read = read_feed;
+      is_line = before_none h.part h.in_line;
+      ends = inl refl;
+      text = beginning_after ho hn hn' (replies h.lines old) _ h.text (subst (AppendsBeginning hn hn') reply_here f.0);
+      state = f.1 ∙ state_here;
+    }
     cut_at_feed Memory new' hn' f = record {
       lines = h.lines;
-      part = h.part ++ 10 ∷ [];
+      line = h.part;
+      behind = 10 ∷ [];
       is_read = read_feed;
+      is_line = before_none h.part h.in_line;
+      ends = inl refl;
       text = subst (λ held. Appends ho held (replies h.lines old)) (sym f.0) h.text;
       state = f.1 ∙ h.state;
     }
 
   -- no byte more
-  read_part : (ln' : Option (List ℕ)) → Consumes lo ln' bytes → IsRead h.lines h.part old lo ln'
-  read_part ln' read = record {
-    read = read;
-    one_line_each = whole_lines h.lines h.in_lines;
-    one_line = after_none h.part h.in_line;
-    goes_on = h.goes_on;
-  }
-
-  pub cut_at_read : (ln' : Option (List ℕ)) → Keeps ln ln' → IsCutBeforeReply old new lo ln' ho hn
+  pub cut_at_read : (ln' : Option (List ℕ)) → Keeps ln ln' → IsCutInLine old new lo ln' ho hn
   cut_at_read ln' k = record {
     lines = h.lines;
     part = h.part;
-    is_read = read_part ln' (Consumes-kept lo ln ln' bytes h.read k);
+    is_read = record { read = Consumes-kept lo ln ln' bytes h.read k; are_lines = whole_lines h.lines h.in_lines; goes_on = h.goes_on };
+    is_in_line = before_none h.part h.in_line;
     text = h.text;
     state = h.state;
   }
@@ -239,25 +237,43 @@ module _ (n : ℕ) (line : List ℕ) (old new : State) (lo ln ho hn : Option (Li
   pub heard_most : n ≡ most_heard → IsHeardToEnd line old new lo ln ho hn
   heard_most most = record { count = n; heard = h; end = inl most }
 
+  same_test : (length line == 0) ≡ (length h.part == 0)
+  same_test = ap (λ l. length l == 0) h.kept ∙ empty_same h.part
+
   -- the last line, which has no line feed
-  pub cut_at_rest : (fault : TalkFault) (new' : State) (hn' : Option (List ℕ)) → FailsToReply fault line new new' hn hn' → LeavesOff fault old new' lo ln ho hn'
-  cut_at_rest Read new' hn' f = absurd f
-  cut_at_rest Write new' hn' f =
-      let same : h.part ≡ before_first is_feed h.part = sym (before_none h.part h.in_line) in
-      record {
-        lines = h.lines;
-        part = h.part;
-        is_read = read_part ln h.read;
-        text = beginning_after ho hn hn' (replies h.lines old) _ h.text (subst (AppendsBeginning hn hn') (reply_here ∙ ap (λ l. reply_to l t) same) f.0);
-        state = f.1 ∙ state_here ∙ ap (λ l. state_after l t) same;
-      }
-  cut_at_rest Memory new' hn' f = record {
-    lines = h.lines;
-    part = h.part;
-    is_read = read_part ln h.read;
-    text = subst (λ held. Appends ho held (replies h.lines old)) (sym f.0) h.text;
-    state = f.1 ∙ h.state;
-  }
+  module _ (end : (n ≡ most_heard) ⊎ ((n < most_heard) × IsAtEnd ln)) (some : (length line == 0) ≡ false) where
+    read_rest : IsRead h.lines (h.part ++ []) old lo ln
+    read_rest = record {
+      read = subst (λ l. Consumes lo ln (fed h.lines ++ l)) (sym (append-nil h.part)) h.read;
+      are_lines = whole_lines h.lines h.in_lines;
+      goes_on = h.goes_on;
+    }
+
+    ends_rest : Ends h.lines h.part [] ln
+    ends_rest = inr (refl, is_some (length h.part) (sym same_test ∙ some), reached n (length bytes) h.count ln end)
+
+    pub cut_at_rest : (fault : TalkFault) (new' : State) (hn' : Option (List ℕ)) → FailsToReply fault line new new' hn hn' → LeavesOff fault old new' lo ln ho hn'
+    cut_at_rest Read new' hn' f = absurd f
+    cut_at_rest Write new' hn' f = record {
+      lines = h.lines;
+      line = h.part;
+      behind = [];
+      is_read = read_rest;
+      is_line = before_none h.part h.in_line;
+      ends = ends_rest;
+      text = beginning_after ho hn hn' (replies h.lines old) _ h.text (subst (AppendsBeginning hn hn') reply_here f.0);
+      state = f.1 ∙ state_here;
+    }
+    cut_at_rest Memory new' hn' f = record {
+      lines = h.lines;
+      line = h.part;
+      behind = [];
+      is_read = read_rest;
+      is_line = before_none h.part h.in_line;
+      ends = ends_rest;
+      text = subst (λ held. Appends ho held (replies h.lines old)) (sym f.0) h.text;
+      state = f.1 ∙ h.state;
+    }
 
   no_more : (rest : List ℕ) → (n ≡ most_heard) ⊎ ((n < most_heard) × IsAtEnd (Some rest)) → take (most_heard - length bytes) rest ≡ []
   no_more rest (inl most) = let none : most_heard - length bytes ≡ 0 = omega (arith, h.count) in ap (λ k. take k rest) none
@@ -283,9 +299,6 @@ module _ (n : ℕ) (line : List ℕ) (old new : State) (lo ln ho hn : Option (Li
 
     told_all : IfSome lo (λ input. IsTold input old new' ln ho hn')
     told_all = if_known lo ln bytes (λ input left. IsTold input old new' left ho hn') h.read told_of_all
-
-  same_test : (length line == 0) ≡ (length h.part == 0)
-  same_test = ap (λ l. length l == 0) h.kept ∙ empty_same h.part
 
   -- there is no last line
   pub told_without_rest : (n ≡ most_heard) ⊎ ((n < most_heard) × IsAtEnd ln) → (length line == 0) ≡ true → IfSome lo (λ input. IsTold input old new ln ho hn)

@@ -1,14 +1,13 @@
 -- Lines of an input: its pieces between line feeds, and a line's beginning.
 use Rattle.std.proofs.Common.{◌≡◌, ℕ, zero, suc, ◌+◌, ◌-◌, ◌<◌, ◌≤◌, false, List, [], ◌∷◌, ◌++◌, All, length, take, drop, refl, sym, ap, ◌∙◌, append_assoc, append-nil, take_all, arith}
 use Rattle.std.proofs.lemmas.Bool.{eq-eqb}
-use Rattle.std.proofs.lemmas.List.{drop_all, take-append-drop, append_cancel_left, length-append}
+use Rattle.std.proofs.lemmas.List.{take-append-drop, append_cancel_left, length-append}
 use Rattle.std.proofs.lemmas.List.Elements.{All-head, All-tail, All-weaker, All-push}
-use Rattle.std.proofs.lemmas.List.Folds.{position_or_len_push}
 use Rattle.std.proofs.lemmas.List.Sums.{position_or_len_is}
 use Rattle.std.proofs.lemmas.List.Splits.{slice_split_at, slice_split_none, join_with_byte-slice_split}
 use Rattle.std.proofs.Math.Seq.{take-append-add}
-use Rattle.std.specs.List.{slice_split, join_by, join_with_byte, position_or_len, before_first, after_first}
-use Rattle.debugger.specs.Talk.{is_feed, fed}
+use Rattle.std.specs.List.{slice_split, join_by, join_with_byte, position_or_len, before_first}
+use Rattle.debugger.specs.Talk.{is_feed, fed, IsLine}
 use Rattle.debugger.specs.Heard.{IsInLine}
 
 -- ---- one line
@@ -16,30 +15,14 @@ use Rattle.debugger.specs.Heard.{IsInLine}
 feed_at : (part : List ℕ) → IsInLine part → position_or_len is_feed part ≡ length part
 feed_at part h = position_or_len_is is_feed part (length part) 0 (omega arith) (λ k lt. h k 0 lt) (λ lt. absurd (omega arith))
 
-feed_behind : (part : List ℕ) → IsInLine part → position_or_len is_feed (part ++ 10 ∷ []) ≡ length part
-feed_behind part h =
-    let at = feed_at part h in
-    position_or_len_push is_feed part 10 ∙ rw (eq-eqb _ _ at) (omega arith)
-
 pub before_none : (part : List ℕ) → IsInLine part → before_first is_feed part ≡ part
 before_none part h = ap (λ n. take n part) (feed_at part h) ∙ take_all (length part) part (omega arith)
-
-pub after_none : (part : List ℕ) → IsInLine part → after_first is_feed part ≡ []
-after_none part h = drop_all _ part (omega (arith, feed_at part h))
-
-pub before_feed : (part : List ℕ) → IsInLine part → before_first is_feed (part ++ 10 ∷ []) ≡ part
-before_feed part h =
-    let all : length part + 0 ≡ length part = omega arith in
-    ap (λ n. take n (part ++ 10 ∷ [])) (feed_behind part h ∙ sym all) ∙ take-append-add part (10 ∷ []) 0 ∙ append-nil part
-
-pub after_feed : (part : List ℕ) → IsInLine part → after_first is_feed (part ++ 10 ∷ []) ≡ []
-after_feed part h = drop_all _ (part ++ 10 ∷ []) (omega (arith, feed_behind part h, length-append part (10 ∷ [])))
 
 pub in_line_more : (part : List ℕ) (b : ℕ) → IsInLine part → is_feed b ≡ false → IsInLine (part ++ b ∷ [])
 in_line_more part b h e = All-push (λ x. is_feed x ≡ false) part b h e
 
-pub whole_lines : (lines : List (List ℕ)) → All IsInLine lines → All (λ line. before_first is_feed line ≡ line) lines
-whole_lines lines h = All-weaker IsInLine (λ line. before_first is_feed line ≡ line) before_none lines h
+pub whole_lines : (lines : List (List ℕ)) → All IsInLine lines → All IsLine lines
+whole_lines lines h = All-weaker IsInLine IsLine before_none lines h
 
 -- ---- whole lines
 

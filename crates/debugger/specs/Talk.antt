@@ -1,7 +1,7 @@
 -- A conversation over a source and a sink: what was read, what was written, and where the machine stands.
-use Rattle.std.specs.Prelude.{◌≡◌, ℕ, ◌-◌, ◌^◌, ◌+◌, ◌==◌, not, ◌&&◌, Bool, true, List, All, [], ◌∷◌, ◌++◌, take, drop, Option, Some, Result, Err}
-use Rattle.std.specs.List.{before_first, after_first, flat_map}
-use Rattle.std.specs.Io.KnownBytes.{Appends, Consumes}
+use Rattle.std.specs.Prelude.{◌≡◌, ◌⊎◌, ℕ, ◌-◌, ◌^◌, ◌+◌, ◌<◌, ◌==◌, length, not, ◌&&◌, Bool, true, List, All, [], ◌∷◌, ◌++◌, take, drop, Option, Some, Result, Err}
+use Rattle.std.specs.List.{before_first, flat_map}
+use Rattle.std.specs.Io.KnownBytes.{Appends, Consumes, IsAtEnd}
 use Rattle.image.specs.Devices.{AppendsBeginning}
 use Rattle.hart.specs.State.{State}
 use Rattle.debugger.specs.declared.fault.TalkFault.{TalkFault}
@@ -44,32 +44,55 @@ abbrev pub goes_on : List (List ℕ) → State → Bool
 goes_on [] s = true
 goes_on (line ∷ lines) s = not (is_last line s) && goes_on lines (state_after line s)
 
--- Whole lines that did not end the conversation were read, and of one more line, with its line feed or without, this much.
-pub record IsRead (lines : List (List ℕ)) (part : List ℕ) (s : State) (left_old left_new : Option (List ℕ)) : Type 0 where
-  pub read : Consumes left_old left_new (fed lines ++ part)
-  pub one_line_each : All (λ line. before_first is_feed line ≡ line) lines
-  pub one_line : after_first is_feed part ≡ []
+-- a line: no line feed stands in it
+abbrev pub IsLine : List ℕ → Type 0
+IsLine line = before_first is_feed line ≡ line
+
+-- Whole lines that did not end the conversation were read, and then this much more.
+pub record IsRead (lines : List (List ℕ)) (more : List ℕ) (s : State) (left_old left_new : Option (List ℕ)) : Type 0 where
+  pub read : Consumes left_old left_new (fed lines ++ more)
+  pub are_lines : All IsLine lines
   pub goes_on : goes_on lines s ≡ true
 
--- The replies to the whole lines before were written, and the machine stands after those lines.
-pub record IsCutBeforeReply (old new : State) (left_old left_new held_old held_new : Option (List ℕ)) : Type 0 where
+-- What stands behind a line: its line feed; or nothing, where the input is at its end or as much was heard as a conversation hears.
+abbrev pub Ends : List (List ℕ) → List ℕ → List ℕ → Option (List ℕ) → Type 0
+Ends lines line behind left =
+    (behind ≡ 10 ∷ []) ⊎ ((behind ≡ []) × (0 < length line) × ((length (fed lines ++ line) ≡ most_heard) ⊎ IsAtEnd left))
+
+-- Somewhere in a line: the replies to the lines before were written, and the machine stands after those lines.
+pub record IsCutInLine (old new : State) (left_old left_new held_old held_new : Option (List ℕ)) : Type 0 where
   pub lines : List (List ℕ)
   pub part : List ℕ
   pub is_read : IsRead lines part old left_old left_new
+  pub is_in_line : IsLine part
   pub text : Appends held_old held_new (replies lines old)
   pub state : new ≡ state_after_all lines old
 
--- A beginning of the replies was written, and the machine stands after the line whose reply was cut.
+-- Before the reply to a line: the replies to the lines before were written, and the machine stands after those lines.
+pub record IsCutBeforeReply (old new : State) (left_old left_new held_old held_new : Option (List ℕ)) : Type 0 where
+  pub lines : List (List ℕ)
+  pub line : List ℕ
+  pub behind : List ℕ
+  pub is_read : IsRead lines (line ++ behind) old left_old left_new
+  pub is_line : IsLine line
+  pub ends : Ends lines line behind left_new
+  pub text : Appends held_old held_new (replies lines old)
+  pub state : new ≡ state_after_all lines old
+
+-- In the reply to a line: a beginning of the replies was written, and the machine stands after that line.
 pub record IsCutInReply (old new : State) (left_old left_new held_old held_new : Option (List ℕ)) : Type 0 where
   pub lines : List (List ℕ)
-  pub part : List ℕ
-  pub is_read : IsRead lines part old left_old left_new
-  pub text : AppendsBeginning held_old held_new (replies lines old ++ reply_to (before_first is_feed part) (state_after_all lines old))
-  pub state : new ≡ state_after (before_first is_feed part) (state_after_all lines old)
+  pub line : List ℕ
+  pub behind : List ℕ
+  pub is_read : IsRead lines (line ++ behind) old left_old left_new
+  pub is_line : IsLine line
+  pub ends : Ends lines line behind left_new
+  pub text : AppendsBeginning held_old held_new (replies lines old ++ reply_to line (state_after_all lines old))
+  pub state : new ≡ state_after line (state_after_all lines old)
 
 -- what a fault leaves
 abbrev pub LeavesOff : TalkFault → State → State → Option (List ℕ) → Option (List ℕ) → Option (List ℕ) → Option (List ℕ) → Type 0
-LeavesOff Read old new left_old left_new held_old held_new = IsCutBeforeReply old new left_old left_new held_old held_new
+LeavesOff Read old new left_old left_new held_old held_new = IsCutInLine old new left_old left_new held_old held_new
 LeavesOff Write old new left_old left_new held_old held_new = IsCutInReply old new left_old left_new held_old held_new
 LeavesOff Memory old new left_old left_new held_old held_new = IsCutBeforeReply old new left_old left_new held_old held_new
 

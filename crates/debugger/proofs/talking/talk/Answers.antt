@@ -8,7 +8,7 @@ pub returns-in_err-answer_line-clause-err : goal.returns-in_err-answer_line-clau
 returns-in_err-answer_line-clause-err g c =
     let p = err_from_is_err_and c.from_residual-in_err-answer_line.result c.from_residual-in_err-answer_line.ensures.1 in
     let all = rw c.if-not-is_over.true at c.in_ok-is_over.ensures.ok in
-    rw (p.1, p.2) (cut_at_rest _ _ _ _ _ _ _ _ all.heard _ _ _ (rw c.as_slice.ensures.value at c.in_err-answer_line.ensures.err))
+    rw (p.1, p.2) (cut_at_rest _ _ _ _ _ _ _ _ all.heard all.end (sym c.is_empty.ensures ∙ c.if-not-is_empty.true) _ _ _ (rw c.as_slice.ensures.value at c.in_err-answer_line.ensures.err))
 
 pub returns-in_ok-answer_line-clause-ok : goal.returns-in_ok-answer_line-clause-ok
 returns-in_ok-answer_line-clause-ok g c =
