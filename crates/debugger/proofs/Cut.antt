@@ -2,7 +2,7 @@
 use Rattle.std.proofs.Common.{◌≡◌, ℕ, suc, ◌+◌, ◌<◌, ◌==◌, Bool, true, false, not, List, [], ◌∷◌, length, take, drop, refl, ap, sym, ◌∙◌, subst, arith}
 use Rattle.std.specs.Prelude.{filter}
 use Rattle.std.proofs.lemmas.Bool.Decides.{nat_tests}
-use Rattle.std.specs.List.{prefix_len, slice_split, onto_first}
+use Rattle.std.specs.List.{prefix_len, slice_split}
 use Rattle.asm_lines.specs.Text.{is_blank}
 use Rattle.debugger.specs.Command.{words_of}
 

@@ -1,5 +1,5 @@
 -- How long texts are.
-use Rattle.std.proofs.Common.{◌≡◌, ℕ, zero, suc, ◌+◌, List, [], ◌∷◌, ◌++◌, length, refl, ap, ◌∙◌, length-append, arith}
+use Rattle.std.proofs.Common.{◌≡◌, ℕ, zero, suc, [], ◌∷◌, length, refl, ◌∙◌, length-append, arith}
 use Rattle.std.specs.Prelude.{◌/◌, ◌%◌, false}
 use Rattle.std.specs.Fmt.{digit_glyph}
 use Rattle.disassembler.specs.Hex.{hex_of}

@@ -1,5 +1,5 @@
 -- The answer to a line.
-use Rattle.std.specs.Prelude.{◌≡◌, ℕ, List, Result, Ok, string_bytes}
+use Rattle.std.specs.Prelude.{◌≡◌, ℕ, List, Ok, string_bytes}
 use Rattle.hart.specs.State.{State}
 use Rattle.debugger.specs.declared.reply.Reply.{Reply}
 use Rattle.debugger.specs.declared.reply.Reply.TheVariants.{Text, Quit}

@@ -1,5 +1,5 @@
 -- The text of a register's value: every field of it, whether it is tagged or not (UCAM-CL-TR-987, capability fields).
-use Rattle.std.specs.Prelude.{ℕ, Bool, if◌then◌else◌, List, [], ◌∷◌, ◌++◌, codes}
+use Rattle.std.specs.Prelude.{ℕ, Bool, if◌then◌else◌, List, ◌++◌, codes}
 use Rattle.cap_bounds.specs.CapValue.{CapValue, is_tagged, value_address, value_base, value_top, value_perms, value_flag, value_otype}
 use Rattle.cap_rights.specs.Perms.{hardware_view}
 use Rattle.disassembler.specs.Hex.{hex_of}

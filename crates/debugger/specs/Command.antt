@@ -1,5 +1,5 @@
 -- The commands of a session, as they are written.
-use Rattle.std.specs.Prelude.{◌≡◌, ℕ, ◌-◌, ◌%◌, ◌^◌, Bool, true, false, not, ◌&&◌, ◌||◌, ◌==◌, nat_lt, nat_le, nat_eq, if◌then◌else◌, ℤ, pos, List, [], ◌∷◌, length, filter, Option, Some, None, Result, Ok, Err, codes}
+use Rattle.std.specs.Prelude.{ℕ, ◌-◌, ◌%◌, ◌^◌, Bool, not, ◌||◌, ◌==◌, nat_lt, nat_eq, if◌then◌else◌, ℤ, pos, List, [], ◌∷◌, length, filter, Option, Some, None, Result, Ok, Err, codes}
 use Rattle.std.specs.List.{slice_split, prefix_len}
 use Rattle.std.specs.Cmp.Lexicographic.{pointwise}
 use Rattle.asm_names.specs.Registers.{register_named}
@@ -8,7 +8,7 @@ use Rattle.asm_lines.specs.Text.{is_blank}
 use Rattle.asm_lines.specs.Number.{number_of}
 use Rattle.asm_lines.specs.Operand.{ranged, wrapped}
 use Rattle.debugger.specs.declared.fault.DebugFault.{DebugFault}
-use Rattle.debugger.specs.declared.fault.DebugFault.TheVariants.{B1, B2, B3}
+use Rattle.debugger.specs.declared.fault.DebugFault.TheVariants.{B1, B2}
 
 pub data Command : Type 0 where
   -- so many steps, so many ticks, one byte on the console's line

@@ -1,8 +1,7 @@
 -- The replies of a session, and the state after a command, as functions of the state and the command.
-use Rattle.std.specs.Prelude.{ℕ, zero, suc, ◌+◌, ◌-◌, ◌*◌, ◌/◌, ◌^◌, Bool, true, false, not, ◌&&◌, ◌||◌, ◌==◌, nat_lt, nat_le, if◌then◌else◌, List, [], ◌∷◌, ◌++◌, length, map, take, drop, replicate, Option, Some, None, is_some, option_map, Result, Ok, Err, codes, decimal}
+use Rattle.std.specs.Prelude.{ℕ, zero, suc, ◌+◌, ◌*◌, Bool, true, false, not, ◌||◌, ◌==◌, if◌then◌else◌, List, [], ◌∷◌, ◌++◌, length, take, drop, replicate, Option, Some, None, is_some, Result, Ok, Err, codes, decimal}
 use Rattle.std.specs.List.{flat_map}
-use Rattle.byteorder.specs.Endian.{little_number}
-use Rattle.cap_bounds.specs.CapValue.{CapValue, value_flag, integer}
+use Rattle.cap_bounds.specs.CapValue.{CapValue, value_flag}
 use Rattle.tagged_memory.specs.Memory.{Memory, is_in_ram, bytes_at, number_at}
 use Rattle.special_regs.specs.Scrs.{scr_values}
 use Rattle.special_regs.specs.CsrValues.{csr_values}

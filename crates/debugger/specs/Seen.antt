@@ -1,5 +1,5 @@
 -- What the code's own commands and replies say, and the words of a line as they are cut off.
-use Rattle.std.specs.Prelude.{◌≡◌, ℕ, ◌%◌, ◌<◌, ◌≤◌, ⊤, Bool, true, not, nat_lt, ℤ, List, [], ◌∷◌, Option, Some, None, option_map, Result, Ok, Err}
+use Rattle.std.specs.Prelude.{◌≡◌, ℕ, ◌%◌, ◌<◌, ◌≤◌, ⊤, Bool, not, nat_lt, ℤ, Option, Some, None, Result, Ok, Err}
 use Rattle.asm_lines.specs.declared.fault.LineFault.{LineFault}
 use Rattle.asm_lines.specs.Text.{is_blank}
 use Rattle.asm_lines.specs.Operand.{wrapped}

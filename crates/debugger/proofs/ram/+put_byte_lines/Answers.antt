@@ -1,6 +1,6 @@
 use Rattle.std.proofs.Common.{arith}
 use Rattle.std.proofs.lemmas.Bool.Decides.{nat_tests}
-use Rattle.debugger.proofs.RamLines.{byte_lines_from, no_byte_lines}
+use Rattle.debugger.proofs.RamLines.{byte_lines_from}
 use Rattle.debugger.proofs.ram.+put_byte_lines.Goals as goal
 
 pub returns : goal.returns

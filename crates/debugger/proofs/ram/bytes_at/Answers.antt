@@ -1,4 +1,3 @@
-use Rattle.std.proofs.Common.{◌≡◌, arith}
 use Rattle.debugger.proofs.RamBytes.{one_more_byte}
 use Rattle.debugger.proofs.ram.bytes_at.Goals as goal
 

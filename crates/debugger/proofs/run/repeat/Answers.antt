@@ -1,4 +1,4 @@
-use Rattle.std.proofs.Common.{◌≡◌, ◌-◌, ◌++◌, ◌∙◌, ap, arith}
+use Rattle.std.proofs.Common.{◌-◌, ◌++◌, ◌∙◌, ap, arith}
 use Rattle.std.specs.Prelude.{option_to_list, replicate}
 use Rattle.debugger.proofs.RunSteps.{state_goes_on, bytes_go_on, one_of_many}
 use Rattle.debugger.proofs.run.repeat.Goals as goal

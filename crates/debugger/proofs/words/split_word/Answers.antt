@@ -1,7 +1,5 @@
-use Rattle.std.proofs.Common.{◌≡◌, ◌∷◌, ap, sym, ◌∙◌, take, drop, refl, arith}
-use Rattle.std.specs.List.{prefix_len}
+use Rattle.std.proofs.Common.{ap, sym, ◌∙◌, drop, refl, arith}
 use Rattle.std.proofs.lemmas.Bool.Decides.{nat_tests}
-use Rattle.debugger.specs.Command.{words_of}
 use Rattle.debugger.proofs.Cut.{found_word}
 use Rattle.debugger.proofs.words.split_word.Goals as goal
 
