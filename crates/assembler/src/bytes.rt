@@ -53,7 +53,7 @@ fn push_zeros(bytes: &mut Vec<u8>, count: usize) -> Result<(), AllocError>
     bytes.resize(bytes.len() + count, 0)
 }
 
-/// The word of an instruction that some word is.
+/// The word of an instruction that has one.
 fn word_of(insn: Insn) -> u32
     requires { Fits insn }
     ensures { result ≡ insn_word insn }
@@ -61,7 +61,7 @@ fn word_of(insn: Insn) -> u32
     encode(insn)
 }
 
-/// Places the bytes of an instruction that some word is.
+/// Places the bytes of an instruction that has a word.
 #[tactic(auto, unfolding(crate::specs::Bytes::insn_bytes))]
 fn push_insn(bytes: &mut Vec<u8>, insn: Insn) -> Result<(), AllocError>
     requires { Fits insn }
