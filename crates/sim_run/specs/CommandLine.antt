@@ -1,7 +1,7 @@
 -- The command line: the command that clap reads the words by, and what a plan says of clap's matches.
 use Rattle.std.specs.Prelude.{◌≡◌, ℕ, List, [], ◌∷◌, Option, Some, None, true, codes, option_map, ⊤}
 use Rattle.std.specs.Str.Parse.{IsNumeral, digits_value, without_leading_plus}
-use Rattle.clap.specs.Words.{App, Row, Rule, Text, first_of, one_of, new_app, new_rule, with_rule, with_subcommand}
+use Rattle.clap.specs.Words.{App, Row, Rule, Text, fault_of, first_of, one_of, new_app, new_rule, with_rule, with_subcommand}
 use Rattle.clap.specs.declared.builder.value_parser.ValueParser.TheVariants as parser
 use Rattle.sim_run.specs.declared.plans.Plan.{Plan}
 use Rattle.sim_run.specs.declared.plans.Plan.TheVariants.{Asm, Run, Dis, Debug, First}
@@ -54,6 +54,10 @@ run_commands = with_subcommand (with_subcommand (new_app (codes "cherisim")) asm
 
 abbrev pub program : App
 program = with_subcommand (with_subcommand run_commands dis_command.top) debug_command.top
+
+-- clap finds nothing wrong with the words, the program's name first
+abbrev pub IsTaken : List Text → Type 0
+IsTaken words = fault_of program words ≡ []
 
 -- clap found the number for an argument, in decimal digits
 pub record IsNumber (id : Text) (rows : List Row) (number : ℕ) : Type 0 where

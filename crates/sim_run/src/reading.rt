@@ -1,7 +1,7 @@
-ghost use Rattle.std.specs.Prelude.{◌≡◌, ◌<◌, ◌^◌, ℕ, IfOk, IfNone, IfErr, Some, None, IfSome, true, map, option_map, codes};
-ghost use Rattle.clap.specs.Words.{found_of, rows_of, kind_of, first_of, subcommand_of, subcommand_rows_of, takes};
+ghost use Rattle.std.specs.Prelude.{◌≡◌, ◌<◌, ◌^◌, ℕ, IfOk, IfNone, IfErr, OnOk, Some, None, IfSome, map, option_map, codes};
+ghost use Rattle.clap.specs.Words.{found_of, rows_of, kind_of, first_of, subcommand_of, subcommand_rows_of};
 ghost use Rattle.clap.specs.declared.error.kind.ErrorKind.{ErrorKind};
-ghost use Rattle.sim_run.specs.CommandLine.{program, HasRanges, IsNumber, IsPlanOf, IsPlanOfCommand, IsScheduleOf, NoCommandFits, NoPlanFits};
+ghost use Rattle.sim_run.specs.CommandLine.{program, HasRanges, IsTaken, IsNumber, IsPlanOf, IsPlanOfCommand, IsScheduleOf, NoCommandFits, NoPlanFits};
 ghost use Rattle.sim_run.specs.Schedule.{IsInRange};
 ghost use Rattle.sim_run.specs.declared.fault.PlanFault.TheVariants.{Memory};
 ghost use Rattle.sim_run.specs.declared.schedule.Schedule.{Schedule};
@@ -135,10 +135,11 @@ fn fault_of(alloc: Global, error: Error) -> PlanFault
 
 /// Reads the words of a command line, the program's name first.
 pub fn plan<'a>(alloc: Global, words: &'a [&'a str]) -> Result<Plan<'a>, PlanFault>
+    ensures taken { OnOk result (IsTaken (map (λ word. word.now) words.entry.now)) }
     ensures ok { IfOk result (IsPlanOf (subcommand_of program (map (λ word. word.now) words.entry.now))) }
     ensures ranges { IfOk result HasRanges }
     // Where clap takes the words and finds a plan in its ranges, only memory can be wanting.
-    ensures err { IfErr result (λ fault. takes program (map (λ word. word.now) words.entry.now) ≡ true
+    ensures err { IfErr result (λ fault. IsTaken (map (λ word. word.now) words.entry.now)
         → (NoPlanFits (subcommand_of program (map (λ word. word.now) words.entry.now)) → ⊥)
         → fault ≡ Memory) }
 {

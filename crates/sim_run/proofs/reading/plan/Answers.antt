@@ -1,8 +1,30 @@
-use Rattle.std.proofs.Common.{◌≡◌, true, sym, map, subst}
-use Rattle.clap.specs.Words.{App, takes}
+use Rattle.std.proofs.Common.{◌≡◌, List, [], true, refl, ap, ◌∙◌, subst, sym}
+use Rattle.std.proofs.Common.{inl, inr}
+use Rattle.clap.specs.Words.{App, HasKind, Text, fault_of, is_simple_and_free, kind_of}
+use Rattle.clap.specs.declared.error.Error.{Error}
+use Rattle.clap.specs.declared.error.kind.ErrorKind.{ErrorKind}
+use Rattle.sim_run.specs.CommandLine.{program}
 use Rattle.sim_run.proofs.reading.plan.Goals as goal
+
+-- what clap says of errors holds of a command without rules between its arguments, as the program's
+is_free : (app : App) → app ≡ program → is_simple_and_free app ≡ true
+is_free app e = subst (λ a. is_simple_and_free a ≡ true) (sym e) refl
+
+no_fault : (app : App) (words : List Text) → app ≡ program → fault_of app words ≡ [] → fault_of program words ≡ []
+no_fault app words e h = subst (λ a. fault_of a words ≡ []) e h
+
+-- where nothing is wrong with the words, an error is want of memory
+only_memory : (app : App) (words : List Text) (e : Error) → app ≡ program → fault_of program words ≡ [] → HasKind (fault_of app words) e
+    → kind_of e ≡ ErrorKind.OutOfMemory
+only_memory app words e is none h = go (subst (λ k. HasKind k e) (ap (λ a. fault_of a words) is ∙ none) h)
+  where
+    go : HasKind [] e → kind_of e ≡ ErrorKind.OutOfMemory
+    go (inl memory) = memory
+    go (inr among) = absurd among
+
+pub returns-in-Some-clause-taken : goal.returns-in-Some-clause-taken
+returns-in-Some-clause-taken c = no_fault _ _ c.in_ok-command.ensures (c.in-Ok.ensures.kinds (is_free _ c.in_ok-command.ensures))
 
 pub returns-in-Err-clause-err : goal.returns-in-Err-clause-err
 returns-in-Err-clause-err c = λ taken fits.
-    c.fault_of.ensures (c.in-Err.ensures.passes (subst (λ (app : App). takes app (map (λ word. word.now) c.args.words.now) ≡ true)
-    (sym c.in_ok-command.ensures) taken))
+    c.fault_of.ensures (only_memory _ _ c.in-Err.error c.in_ok-command.ensures taken (c.in-Err.ensures.kinds (is_free _ c.in_ok-command.ensures)))
