@@ -1,4 +1,5 @@
 -- What one line of a text says: a label, a statement, and the first fault that the line alone decides.
+use Rattle.base.specs.Ram.{most_pages}
 use Rattle.std.specs.Prelude.{◌≡◌, ℕ, nat_lt, if◌then◌else◌, List, [], ◌∷◌, length, not, Option, Some, None, option_map, Result, Ok, Err, ℤ, pos, neg_ℤ, ◌<ℤ◌, ◌<◌, ◌≤◌, ◌^◌}
 use Rattle.std.specs.List.{prefix_len}
 use Rattle.isa_rows.specs.declared.formats.Format.{Format}
@@ -75,7 +76,7 @@ HasTargetOffset None = Unit {0}
 abbrev pub IsBounded : Read → Type 0
 IsBounded (Row i target) = HasTargetOffset target
 IsBounded (Load capability rd value) = (rd < 32) × HasOffset value
-IsBounded (Pages n) = n ≤ 4096
+IsBounded (Pages n) = n ≤ most_pages
 IsBounded (Mode m) = Unit {0}
 IsBounded (Entry e) = HasOffset e
 IsBounded (Org n) = Unit {0}

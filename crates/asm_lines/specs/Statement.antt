@@ -1,4 +1,5 @@
 -- Statements: rows and their aliases, the two-row loads of a value, directives.
+use Rattle.base.specs.Ram.{most_pages}
 use Rattle.std.specs.Prelude.{◌≡◌, ◌⊎◌, ℕ, ◌*◌, ◌-◌, ◌^◌, Bool, true, false, not, ◌&&◌, ◌||◌, ◌==◌, nat_eq, if◌then◌else◌, ℤ, pos, neg_ℤ, int_lt, List, [], ◌∷◌, length, take, drop, slice_index, Option, Some, None, Result, Ok, Err, codes}
 use Rattle.std.specs.Cmp.Lexicographic.{pointwise}
 use Rattle.isa_rows.specs.declared.rows.Row.{Row}
@@ -115,9 +116,9 @@ abbrev pub number_said : (ℕ → Statement) → Option Statement → Result ℤ
 number_said make other (Ok n) = said (Some (make (wrapped n))) None
 number_said make other (Err fault) = said (if leaves_statement (Some fault) then other else None) (Some fault)
 
--- a number of 1 to 4096
+-- a number of 1 to the most pages
 abbrev pub page_count : Result ℤ LineFault → Result ℤ LineFault
-page_count (Ok n) = if int_lt n (pos 1) || int_lt (pos 4096) n then Err A3 else Ok n
+page_count (Ok n) = if int_lt n (pos 1) || int_lt (pos most_pages) n then Err A3 else Ok n
 page_count (Err fault) = Err fault
 
 abbrev pub entry_said : Result Expression LineFault → Said

@@ -21,7 +21,7 @@ pub enum Statement<'a> {
         rd: u8,
         value: Expression<'a>,
     },
-    /// `.pages`: RAM's size in pages, 1 to 4096; 0 where the number is out of range.
+    /// `.pages`: RAM's size in pages, 1 to the most; 0 where the number is out of range.
     Pages(u32),
     /// `.mode`: whether the first instruction is done in capability mode.
     Mode(bool),

@@ -16,6 +16,7 @@ use crate::pattern::{Pattern, is_word, pattern_of};
 use crate::quoted::closes;
 use crate::text::split_piece;
 use crate::values::values_fault;
+use base::ram;
 
 /// A statement, unless a fault leaves none, and the first fault that its line decides.
 #[derive(Clone, Copy)]
@@ -137,12 +138,12 @@ fn register_load<'a>(
     Said::unless(load, fault)
 }
 
-/// `.pages`: a number of 1 to 4096; out of range it leaves 0.
+/// `.pages`: a number of 1 to the most pages of RAM; out of range it leaves 0.
 fn pages_said<'a>(operands: &[u8]) -> Said<'a>
     ensures value { seen_said result ≡ number_said pages (Some (pages 0)) (page_count (number_of operands.now)) }
     ensures bounds { IsBoundedIfAny result.statement }
 {
-    match natural(operands, 4096) {
+    match natural(operands, u64::from(ram::MOST_PAGES)) {
         Ok(0) => Said::unless(Statement::Pages(0), Some(LineFault::A3)),
         Ok(pages) => Said::plain(Statement::Pages(pages as u32)),
         Err(fault) => Said::unless(Statement::Pages(0), Some(fault)),

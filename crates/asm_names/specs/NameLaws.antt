@@ -9,7 +9,8 @@ use Rattle.isa_rows.specs.declared.rows.Row.TheVariants.{Lui}
 use Rattle.isa_rows.specs.Name.{name_of}
 use Rattle.asm_names.specs.Mnemonic.{capability_name_of, mnemonic, row_named}
 use Rattle.asm_names.specs.Registers.{register_named, register_name, integer_names, capability_names, integer_numbers, capability_numbers, or_else, place_of, frame_pointer}
-use Rattle.asm_names.specs.SpecialNames.{csr_names, scr_names, number_in, name_in, csr_named, csr_name, scr_named, scr_name}
+use Rattle.base.specs.Registers.{csrs, special_registers}
+use Rattle.asm_names.specs.SpecialNames.{number_in, name_in, csr_named, csr_name, scr_named, scr_name}
 
 -- a row by its name in either mode
 pub row_named-mnemonic : (mode : Bool) (row : Row) → row_named (mnemonic mode row) ≡ Some row
@@ -71,20 +72,20 @@ read-in names (p ∷ ps) n text h e =
     let s = read-in names ps n text rest in
     grind (arith, nat_tests, r, s)
 
-csr_names_read : are_read_in csr_names csr_names ≡ true
+csr_names_read : are_read_in csrs csrs ≡ true
 csr_names_read = refl
 
-scr_names_read : are_read_in scr_names scr_names ≡ true
+scr_names_read : are_read_in special_registers special_registers ≡ true
 scr_names_read = refl
 
 -- a control and status register, a special capability register by its name
 pub csr_named-csr_name : (n : ℕ) (text : List ℕ) → csr_name n ≡ Some text → csr_named text ≡ Some n
 unfolding csr_named csr_name
-csr_named-csr_name n text e = read-in csr_names csr_names n text csr_names_read e
+csr_named-csr_name n text e = read-in csrs csrs n text csr_names_read e
 
 pub scr_named-scr_name : (n : ℕ) (text : List ℕ) → scr_name n ≡ Some text → scr_named text ≡ Some n
 unfolding scr_named scr_name
-scr_named-scr_name n text e = read-in scr_names scr_names n text scr_names_read e
+scr_named-scr_name n text e = read-in special_registers special_registers n text scr_names_read e
 
 -- the place of a name lies inside the list
 place-below : (text : List ℕ) (names : List (List ℕ)) (n : ℕ) → place_of text names ≡ Some n → n < length names
@@ -123,8 +124,8 @@ number_in-below m (p ∷ ps) text n h e =
 -- a control and status register's number is below 4096, a special capability register's below 32
 pub csr_named-below : (text : List ℕ) (n : ℕ) → csr_named text ≡ Some n → n < 4096
 unfolding csr_named
-csr_named-below text n e = number_in-below 4096 csr_names text n refl e
+csr_named-below text n e = number_in-below 4096 csrs text n refl e
 
 pub scr_named-below : (text : List ℕ) (n : ℕ) → scr_named text ≡ Some n → n < 32
 unfolding scr_named
-scr_named-below text n e = number_in-below 32 scr_names text n refl e
+scr_named-below text n e = number_in-below 32 special_registers text n refl e

@@ -2,34 +2,7 @@ ghost use Rattle.std.specs.Prelude.{◌≡◌, ◌<◌, ◌==◌, IfSome, find, 
 ghost use Rattle.std.specs.Cmp.Lexicographic.{pointwise};
 ghost use Rattle.asm_names.specs.SpecialNames.{csr_name as csr_name_of, csr_named as csr_of, scr_name as scr_name_of, scr_named as scr_of};
 
-/// The control and status registers, by number (privileged manual, CSR listing).
-const CSR_NAMES: [(u16, &str); 15] = [
-    (0x300, "mstatus"),
-    (0x301, "misa"),
-    (0x304, "mie"),
-    (0x305, "mtvec"),
-    (0x340, "mscratch"),
-    (0x341, "mepc"),
-    (0x342, "mcause"),
-    (0x343, "mtval"),
-    (0x344, "mip"),
-    (0xB00, "mcycle"),
-    (0xB02, "minstret"),
-    (0xF11, "mvendorid"),
-    (0xF12, "marchid"),
-    (0xF13, "mimpid"),
-    (0xF14, "mhartid"),
-];
-
-/// The special capability registers, by number (CHERI ISA version 9).
-const SCR_NAMES: [(u16, &str); 6] = [
-    (0, "pcc"),
-    (1, "ddc"),
-    (28, "mtcc"),
-    (29, "mtdc"),
-    (30, "mscratchc"),
-    (31, "mepcc"),
-];
+use base::{CSRS, SPECIAL_REGISTERS};
 
 /// The number of the control and status register that a text names, below 4096, or none.
 #[tactic(auto, unfolding(crate::specs::SpecialNames::csr_named))]
@@ -37,7 +10,7 @@ pub fn csr_named(text: &[u8]) -> Option<u16>
     ensures value { result ≡ csr_of text.now }
     ensures below { IfSome result (λ n. n < 4096) }
 {
-    number_in(&CSR_NAMES, text)
+    number_in(&CSRS, text)
 }
 
 /// The name of the control and status register of a number, or none.
@@ -45,7 +18,7 @@ pub fn csr_named(text: &[u8]) -> Option<u16>
 pub fn csr_name(number: u16) -> Option<&'static str>
     ensures { option_map (λ name. name.now) result ≡ csr_name_of number }
 {
-    name_in(&CSR_NAMES, number)
+    name_in(&CSRS, number)
 }
 
 /// The number of the special capability register that a text names, below 32, or none.
@@ -54,7 +27,7 @@ pub fn scr_named(text: &[u8]) -> Option<u8>
     ensures value { result ≡ scr_of text.now }
     ensures below { IfSome result (λ n. n < 32) }
 {
-    match number_in(&SCR_NAMES, text) {
+    match number_in(&SPECIAL_REGISTERS, text) {
         Some(n) => Some(n as u8),
         None => None,
     }
@@ -65,7 +38,7 @@ pub fn scr_named(text: &[u8]) -> Option<u8>
 pub fn scr_name(number: u8) -> Option<&'static str>
     ensures { option_map (λ name. name.now) result ≡ scr_name_of number }
 {
-    name_in(&SCR_NAMES, number as u16)
+    name_in(&SPECIAL_REGISTERS, number as u16)
 }
 
 fn number_in(names: &[(u16, &str)], text: &[u8]) -> Option<u16>

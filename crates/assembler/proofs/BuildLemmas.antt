@@ -4,7 +4,8 @@ use Rattle.std.specs.Int.{bytes_low_first}
 use Rattle.std.specs.List.{flat_map}
 use Rattle.std.proofs.lemmas.List.{length-replicate}
 use Rattle.std.proofs.lemmas.Bool.Decides.{nat_tests}
-use Rattle.image.specs.Image.{Section, ram_base, ram_end, is_good_header, sections_fault, build_fault}
+use Rattle.base.specs.Ram.{ram_base, ram_end, most_pages}
+use Rattle.image.specs.Image.{Section, is_good_header, sections_fault, build_fault}
 use Rattle.asm_lines.specs.Text.{pieces_of}
 use Rattle.asm_lines.specs.Operand.{wrapped}
 use Rattle.asm_lines.specs.Number.{Expression, expression_of}
@@ -83,7 +84,7 @@ good-mode : (count start m : ℕ) → m ≤ 1 → is_good_header count start 0 �
 unfolding is_good_header
 good-mode count start m h g = grind (arith, nat_tests)
 
-good-base : (count : ℕ) → (nat_le 1 count && nat_le count 4096) ≡ true → is_good_header count ram_base 0 ≡ true
+good-base : (count : ℕ) → (nat_le 1 count && nat_le count most_pages) ≡ true → is_good_header count ram_base 0 ≡ true
 unfolding is_good_header
 good-base count h = grind (arith, nat_tests)
 

@@ -1,4 +1,5 @@
--- A line without a fault says a number of pages of 1 to 4096, if it says one.
+-- A line without a fault says a number of pages of 1 to the most, if it says one.
+use Rattle.base.specs.Ram.{most_pages}
 use Rattle.std.proofs.Common.{◌≡◌, ℕ, ◌-◌, ◌%◌, ◌^◌, Bool, true, false, not, ◌&&◌, ◌||◌, ◌==◌, nat_lt, nat_le, if◌then◌else◌, ℤ, pos, negsuc, List, [], ◌∷◌, length, take, drop, Option, Some, None, Result, Ok, Err, codes, refl, arith}
 use Rattle.std.specs.List.{prefix_len}
 use Rattle.std.proofs.lemmas.Bool.Decides.{nat_tests}
@@ -39,12 +40,12 @@ number-paged : (make : ℕ → Statement) (other : Option Statement) (r : Result
 number-paged make other (Ok n) f = f (wrapped n)
 number-paged make other (Err fault) f = refl
 
-pages-within : (n : ℕ) → (nat_lt n 1 || nat_lt 4096 n) ≡ false → (nat_le 1 (n % 2 ^ 64) && nat_le (n % 2 ^ 64) 4096) ≡ true
+pages-within : (n : ℕ) → (nat_lt n 1 || nat_lt most_pages n) ≡ false → (nat_le 1 (n % 2 ^ 64) && nat_le (n % 2 ^ 64) most_pages) ≡ true
 pages-within n h = grind (arith, nat_tests)
 
 pages-paged : (r : Result ℤ LineFault) → IsPaged (number_said pages (Some (pages 0)) (page_count r))
 pages-paged (Ok (pos n)) =
-    elim (nat_lt n 1 || nat_lt 4096 n) as (λ b. (nat_lt n 1 || nat_lt 4096 n) ≡ b → IsPaged (number_said pages (Some (pages 0)) (if b then Err A3 else Ok (pos n)))) [
+    elim (nat_lt n 1 || nat_lt most_pages n) as (λ b. (nat_lt n 1 || nat_lt most_pages n) ≡ b → IsPaged (number_said pages (Some (pages 0)) (if b then Err A3 else Ok (pos n)))) [
       | true ↦ λ e. refl
       | false ↦ λ e. pages-within n e
     ] refl

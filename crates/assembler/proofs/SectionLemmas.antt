@@ -3,7 +3,8 @@ use Rattle.std.proofs.Common.{◌≡◌, ℕ, ◌+◌, ◌<◌, ◌≤◌, true,
 use Rattle.std.specs.Option.{option_or}
 use Rattle.std.proofs.lemmas.Bool.Decides.{nat_tests}
 use Rattle.image.specs.declared.fault.ImageFault.{ImageFault}
-use Rattle.image.specs.Image.{Section, ram_base, ram_end, span_fault, sections_fault}
+use Rattle.base.specs.Ram.{ram_base, ram_end}
+use Rattle.image.specs.Image.{Section, span_fault, sections_fault}
 use Rattle.assembler.specs.Faults.{is_taken, inserted, closed}
 use Rattle.assembler.proofs.TestLemmas.{or-false, false-or, not-nought}
 use Rattle.assembler.specs.Buildable.{AreFilled, HasRoom}

@@ -1,16 +1,17 @@
 -- What is assembled of lines without a fault: an image can be built of it.
 use Rattle.std.specs.Prelude.{◌≡◌, ℕ, ◌+◌, ◌<◌, ◌≤◌, Bool, true, false, ◌&&◌, nat_le, List, [], ◌∷◌, length, Option, Some, None}
-use Rattle.image.specs.Image.{Section, ram_base, ram_end, is_good_header, sections_fault}
+use Rattle.base.specs.Ram.{ram_base, ram_end, most_pages}
+use Rattle.image.specs.Image.{Section, is_good_header, sections_fault}
 use Rattle.asm_lines.specs.declared.fault.LineFault.{LineFault}
 use Rattle.asm_lines.specs.Statement.{Statement, row, load, pages, mode, entry, org, align, zeros, values, text}
 use Rattle.asm_lines.specs.Line.{Line}
 use Rattle.assembler.specs.Faults.{Assembled, given, page_count, is_taken}
 
--- a number of pages, where no fault says that it is none, is 1 to 4096
+-- a number of pages, where no fault says that it is none, is 1 to the most
 abbrev pub is_paged : Statement → Bool
 is_paged (row i target) = true
 is_paged (load capability rd value) = true
-is_paged (pages n) = nat_le 1 n && nat_le n 4096
+is_paged (pages n) = nat_le 1 n && nat_le n most_pages
 is_paged (mode m) = true
 is_paged (entry e) = true
 is_paged (org n) = true

@@ -1,6 +1,7 @@
 -- What is assembled so far, and the first fault of the next line.
 use Rattle.std.specs.Prelude.{ℕ, ◌+◌, ◌-◌, ◌%◌, Bool, true, false, not, ◌&&◌, ◌||◌, ◌==◌, nat_lt, nat_le, if◌then◌else◌, List, [], ◌∷◌, ◌++◌, length, Option, Some, None, is_some}
-use Rattle.image.specs.Image.{Section, ram_base, ram_end}
+use Rattle.base.specs.Ram.{ram_base, ram_end}
+use Rattle.image.specs.Image.{Section}
 use Rattle.asm_lines.specs.declared.fault.LineFault.{LineFault}
 use Rattle.asm_lines.specs.declared.fault.LineFault.TheVariants as line
 use Rattle.asm_lines.specs.Operand.{wrapped}

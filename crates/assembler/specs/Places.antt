@@ -1,4 +1,5 @@
 -- Where the statements of a text stand, and what its labels are worth. Places are whole numbers and exist in faulty texts too.
+use Rattle.base.specs.Ram.{ram_base}
 use Rattle.std.specs.Prelude.{ℕ, ◌+◌, ◌-◌, ◌*◌, ◌/◌, ◌^◌, nat_eq, if◌then◌else◌, List, [], ◌∷◌, ◌++◌, map, length, Option, Some, None, is_some, ◌==◌}
 use Rattle.std.specs.List.{slice_split}
 use Rattle.std.specs.Cmp.Lexicographic.{pointwise}
@@ -58,7 +59,7 @@ all_places (l ∷ ls) p = all_places ls (places_after l p)
 
 -- a text begins at the beginning of RAM
 abbrev pub opening_places : Places
-opening_places = record { place = 0x8000_0000; symbols = [] }
+opening_places = record { place = ram_base; symbols = [] }
 
 abbrev pub symbols_of : List ℕ → Symbols
 symbols_of bytes = (all_places (lines_of bytes) opening_places).symbols

@@ -1,6 +1,7 @@
 -- What a whole text means: the first fault of its first faulty line, or an image and its labels.
 use Rattle.std.specs.Prelude.{ℕ, ◌+◌, false, List, [], ◌∷◌, Option, Some, None}
-use Rattle.image.specs.Image.{Image, ram_base}
+use Rattle.base.specs.Ram.{ram_base}
+use Rattle.image.specs.Image.{Image}
 use Rattle.asm_lines.specs.Line.{Line}
 use Rattle.assembler.specs.declared.fault.AsmCode.{AsmCode}
 use Rattle.assembler.specs.Places.{Symbols, lines_of, symbols_of}

@@ -17,6 +17,7 @@ use crate::fault::AsmCode;
 use crate::labels::Labels;
 use crate::places::{Places, end_of};
 use crate::values::wrapped;
+use base::ram;
 use asm_lines::{LineFault, Parsed, Statement};
 use image::Image;
 use std::alloc::{AllocError, Global};
@@ -76,7 +77,7 @@ impl Builder {
             entry: None,
             begun: false,
             done: Vec::new(alloc),
-            current: Block::new(alloc, 0x8000_0000),
+            current: Block::new(alloc, ram::BASE),
         }
     }
 
@@ -105,9 +106,9 @@ impl Builder {
         requires size { size < 2 ^ 101 }
         ensures { result ≡ lacks_place self.now place size instruction }
     {
-        let ram_end = 0x8000_0000 + 4096 * u128::from(self.page_count());
+        let ram_end = u128::from(ram::BASE) + u128::from(ram::PAGE_BYTES) * u128::from(self.page_count());
         size > 0
-            && (place < 0x8000_0000
+            && (place < u128::from(ram::BASE)
                 || ram_end < place + size
                 || is_taken(place, place + size, &self.done)
                 || self.current.len() == 0 && self.done.len() >= 64
@@ -259,7 +260,7 @@ impl Builder {
         ensures { IfOk result (λ image. image ≡ image_of self) }
     {
         let pages = self.page_count();
-        let entry = self.entry.unwrap_or(0x8000_0000);
+        let entry = self.entry.unwrap_or(ram::BASE);
         let mode = u32::from(self.mode.unwrap_or(false));
         let mut sections = self.done;
         close(&mut sections, self.current)?;

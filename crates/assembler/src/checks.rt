@@ -13,6 +13,7 @@ ghost use Rattle.assembler.specs.Checks.{told, told_value, passes, is_test, name
 use crate::fault::AsmCode;
 use crate::labels::Labels;
 use crate::values::{Worth, value, wrapped};
+use base::ram;
 use asm_lines::{Expression, Statement, expression, split_piece};
 use isa_rows::Format;
 
@@ -134,8 +135,11 @@ fn is_loadable(distance: i128) -> bool
 fn is_good_entry(page_count: u32, entry: u64) -> bool
     ensures { result ≡ is_good_header page_count entry 0 }
 {
-    let end = 0x8000_0000 + 4096 * u64::from(page_count);
-    (1..=4096).contains(&page_count) && entry % 4 == 0 && 0x8000_0000 <= entry && entry <= end - 4
+    let end = ram::BASE + ram::PAGE_BYTES * u64::from(page_count);
+    (1..=ram::MOST_PAGES).contains(&page_count)
+        && entry % 4 == 0
+        && ram::BASE <= entry
+        && entry <= end - 4
 }
 
 /// Whether an image of so many pages can begin at a value.

@@ -8,6 +8,7 @@ ghost use Rattle.assembler.specs.Places.{aligned, end_of, places_after, opening_
 
 use crate::checks::pieces;
 use crate::labels::Labels;
+use base::ram;
 use asm_lines::{Parsed, Statement, split_piece};
 use std::alloc::{AllocError, Global};
 use std::marker::Model;
@@ -110,7 +111,7 @@ impl Places {
         ensures { result ≡ opening_places }
     {
         Places {
-            place: 0x8000_0000,
+            place: u128::from(ram::BASE),
             labels: Labels::new(alloc),
         }
     }

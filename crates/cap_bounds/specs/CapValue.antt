@@ -1,5 +1,6 @@
 -- What a register or a granule holds: a capability, or 128 bits of data.
 use Rattle.std.specs.Prelude.{◌≡◌, ℕ, ◌*◌, ◌^◌, ◌<◌, Bool, true, false, if◌then◌else◌, ◌==◌}
+use Rattle.base.specs.ObjectType.{unsealed_type}
 use Rattle.cap_format.specs.Word.{address_of, perms_of, flag_of, otype_of, with_address_of}
 use Rattle.cap_bounds.specs.Window.{base_of_word, top_of_word}
 use Rattle.cap_bounds.specs.Record.{Record, IsWellFormed, encoded, decoded}
@@ -51,13 +52,6 @@ value_flag (Data n) = flag_of n
 abbrev pub value_otype : CapValue → ℕ
 value_otype (Cap r) = r.otype
 value_otype (Data n) = otype_of n
-
--- object types: no type, and that of a sentry, a sealed entry
-abbrev pub unsealed_type : ℕ
-unsealed_type = 0x3_ffff
-
-abbrev pub sentry_type : ℕ
-sentry_type = 0x3_fffe
 
 abbrev pub is_sealed : CapValue → Bool
 is_sealed v = if value_otype v == unsealed_type then false else true

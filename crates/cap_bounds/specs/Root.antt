@@ -1,7 +1,8 @@
 -- The root capability, from which all others derive: every permission, over the whole address space.
 use Rattle.std.specs.Prelude.{ℕ, ◌^◌, Bool}
 use Rattle.cap_bounds.specs.Record.{Record, record_with}
-use Rattle.cap_bounds.specs.CapValue.{CapValue, Cap, unsealed_type}
+use Rattle.base.specs.ObjectType.{unsealed_type}
+use Rattle.cap_bounds.specs.CapValue.{CapValue, Cap}
 
 -- root's record with an address and a flag
 abbrev pub root_record : ℕ → Bool → Record

@@ -9,6 +9,7 @@ use crate::capability::{Bits, Capability};
 use crate::rep::CapRep;
 use crate::set_bounds::bounded;
 use crate::{decode, encode};
+use base::otype;
 use cap_format::CapWord;
 
 /// A capability as a record of its bounds and fields, or a word without a tag: the plain form, slow and easy to believe.
@@ -69,7 +70,7 @@ fn data_at(c: PlainCap, address: u64) -> PlainCap
 fn moved(c: Capability, address: u64) -> PlainCap
     ensures { plain_value result ≡ at_address (Cap (record_of c)) address }
 {
-    if c.otype == 0x3_ffff && encode::window_holds(c, address) {
+    if c.otype == otype::UNSEALED && encode::window_holds(c, address) {
         PlainCap::Tagged(Capability {
             base: c.base,
             top: c.top,

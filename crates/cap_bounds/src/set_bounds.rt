@@ -10,6 +10,7 @@ use crate::capability::{Bits, Capability};
 use crate::plain_cap::PlainCap;
 use crate::rep::CapRep;
 use crate::{decode, encode, rounding};
+use base::otype;
 use cap_format::CapWord;
 
 /// Whether the value is an unsealed capability whose bounds hold the request.
@@ -18,7 +19,7 @@ fn may_bound(c: PlainCap, length: u64) -> bool
     ensures { result ≡ may_bound (plain_value c) length }
 {
     let end = u128::from(c.address()) + u128::from(length);
-    c.tag() && c.otype() == 0x3_ffff && c.base() <= c.address() && end <= c.top()
+    c.tag() && c.otype() == otype::UNSEALED && c.base() <= c.address() && end <= c.top()
 }
 
 /// The bits of a value with these bounds, encoded at an exponent, internal or not.

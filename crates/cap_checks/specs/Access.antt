@@ -5,11 +5,14 @@ use Rattle.cap_checks.specs.declared.access.Access.{Access}
 use Rattle.cap_checks.specs.declared.access.Access.TheVariants.{Load, Store, LoadCapability, StoreCapability}
 use Rattle.cap_checks.specs.declared.access.Stored.{Stored}
 use Rattle.cap_checks.specs.declared.access.Stored.TheVariants as stored
-use Rattle.cap_checks.specs.Causes.{load_violation, store_violation, misaligned_load, misaligned_store}
+use Rattle.base.specs.declared.cause.Cause.{Cause}
+use Rattle.base.specs.declared.cause.Cause.TheVariants as cause
+use Rattle.base.specs.declared.cause.CheriCause.{CheriCause}
+use Rattle.base.specs.declared.cause.CheriCause.TheVariants as forbids
 use Rattle.cap_rights.specs.Permission.{permits}
 use Rattle.cap_rights.specs.declared.permission.Permission.{Permission}
 use Rattle.cap_rights.specs.declared.permission.Permission.TheVariants as permission
-use Rattle.tagged_memory.specs.Size.{bytes_of}
+use Rattle.base.specs.Size.{bytes_of}
 
 -- what is stored where a capability may be: 128 bits without a tag, or a capability, which is Global or not
 abbrev pub stored_of : CapValue → Stored
@@ -29,11 +32,11 @@ needed (Store size) = permission.Store
 needed LoadCapability = permission.Load
 needed (StoreCapability what) = permission.Store
 
-abbrev pub lacking : Access → ℕ
-lacking (Load size) = load_violation
-lacking (Store size) = store_violation
-lacking LoadCapability = load_violation
-lacking (StoreCapability what) = store_violation
+abbrev pub lacking : Access → CheriCause
+lacking (Load size) = forbids.Load
+lacking (Store size) = forbids.Store
+lacking LoadCapability = forbids.Load
+lacking (StoreCapability what) = forbids.Store
 
 -- it stores a capability with its tag
 abbrev pub stores_capability : Access → Bool
@@ -54,8 +57,8 @@ stores_local (StoreCapability stored.Local) = true
 stores_local (StoreCapability stored.Global) = false
 
 -- the cause of an address that is no multiple of the width
-abbrev pub misaligned : Access → ℕ
-misaligned (Load size) = misaligned_load
-misaligned (Store size) = misaligned_store
-misaligned LoadCapability = misaligned_load
-misaligned (StoreCapability what) = misaligned_store
+abbrev pub misaligned : Access → Cause
+misaligned (Load size) = cause.MisalignedLoad
+misaligned (Store size) = cause.MisalignedStore
+misaligned LoadCapability = cause.MisalignedLoad
+misaligned (StoreCapability what) = cause.MisalignedStore

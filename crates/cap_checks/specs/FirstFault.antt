@@ -1,19 +1,19 @@
 -- The ordered lists of conditions of each check. The fault is that of the first condition that is false.
 -- (UCAM-CL-TR-987, CHERI-RISC-V memory access and jump checks; the order is this profile's.)
-use Rattle.std.specs.Prelude.{ℕ, ◌+◌, ◌*◌, ◌/◌, ◌%◌, ◌^◌, Bool, not, ◌&&◌, ◌||◌, ◌==◌, nat_le, if◌then◌else◌, List, [], ◌∷◌, Option, Some, None}
-use Rattle.cap_bounds.specs.CapValue.{CapValue, is_tagged, is_sealed, value_base, value_top, value_address, value_otype, sentry_type}
+use Rattle.std.specs.Prelude.{ℕ, ◌+◌, ◌*◌, ◌/◌, ◌%◌, ◌^◌, Bool, not, ◌&&◌, ◌||◌, ◌==◌, nat_le, List, [], ◌∷◌, Option}
+use Rattle.base.specs.ObjectType.{sentry_type}
+use Rattle.cap_bounds.specs.CapValue.{CapValue, is_tagged, is_sealed, value_base, value_top, value_address, value_otype}
 use Rattle.cap_rights.specs.Permission.{permits}
 use Rattle.cap_rights.specs.declared.permission.Permission.TheVariants as permission
-use Rattle.cap_rights.specs.ObjectType.{is_reserved}
+use Rattle.base.specs.ObjectType.{is_reserved}
 use Rattle.cap_checks.specs.declared.access.Access.{Access}
-use Rattle.cap_checks.specs.declared.fault.Fault.{Fault}
+use Rattle.base.specs.declared.fault.Fault.{Fault}
 use Rattle.cap_checks.specs.Access.{width_of, needed, lacking, stores_capability, stores_local, misaligned}
-use Rattle.cap_checks.specs.Causes.{fault, cheri, pcc_register, length_violation, tag_violation, seal_violation, type_violation, execute_violation, store_capability_violation, store_local_violation, cinvoke_violation, misaligned_jump}
-
--- the fault of the first condition that is false, or none
-abbrev pub first_fault : List (Bool × Fault) → Option Fault
-first_fault [] = None
-first_fault (check ∷ checks) = if check.0 then first_fault checks else Some check.1
+use Rattle.base.specs.Fault.{fault, cheri}
+use Rattle.base.specs.FirstFault.{first_fault}
+use Rattle.base.specs.Registers.{pcc_register}
+use Rattle.base.specs.declared.cause.Cause.TheVariants as cause
+use Rattle.base.specs.declared.cause.CheriCause.TheVariants as forbids
 
 -- the `size` bytes from an address lie in the value's bounds, in whole numbers
 unfoldable pub holds : CapValue → ℕ → ℕ → Bool
@@ -22,12 +22,12 @@ holds v address size = nat_le (value_base v) address && nat_le (address + size) 
 -- An access of memory through an authority, which a register holds.
 abbrev pub access_checks : CapValue → ℕ → Access → ℕ → List (Bool × Fault)
 access_checks authority register access address =
-    (is_tagged authority, cheri register tag_violation)
-    ∷ (not (is_sealed authority), cheri register seal_violation)
+    (is_tagged authority, cheri register forbids.Tag)
+    ∷ (not (is_sealed authority), cheri register forbids.Seal)
     ∷ (permits authority (needed access), cheri register (lacking access))
-    ∷ (not (stores_capability access) || permits authority permission.StoreCapability, cheri register store_capability_violation)
-    ∷ (not (stores_local access) || permits authority permission.StoreLocalCapability, cheri register store_local_violation)
-    ∷ (holds authority address (width_of access), cheri register length_violation)
+    ∷ (not (stores_capability access) || permits authority permission.StoreCapability, cheri register forbids.StoreCapability)
+    ∷ (not (stores_local access) || permits authority permission.StoreLocalCapability, cheri register forbids.StoreLocalCapability)
+    ∷ (holds authority address (width_of access), cheri register forbids.Length)
     ∷ (address % width_of access == 0, fault (misaligned access) address)
     ∷ []
 
@@ -37,10 +37,10 @@ access_fault authority register access address = first_fault (access_checks auth
 -- The fetch of the instruction at PCC's address, which is a multiple of 4.
 abbrev pub fetch_checks : CapValue → List (Bool × Fault)
 fetch_checks pcc =
-    (is_tagged pcc, cheri pcc_register tag_violation)
-    ∷ (not (is_sealed pcc), cheri pcc_register seal_violation)
-    ∷ (permits pcc permission.Execute, cheri pcc_register execute_violation)
-    ∷ (holds pcc (value_address pcc) 4, cheri pcc_register length_violation)
+    (is_tagged pcc, cheri pcc_register forbids.Tag)
+    ∷ (not (is_sealed pcc), cheri pcc_register forbids.Seal)
+    ∷ (permits pcc permission.Execute, cheri pcc_register forbids.Execute)
+    ∷ (holds pcc (value_address pcc) 4, cheri pcc_register forbids.Length)
     ∷ []
 
 unfoldable pub fetch_fault : CapValue → Option Fault
@@ -53,8 +53,8 @@ jump_target address offset = (address + offset) % 2 ^ 64 / 2 * 2
 -- A jump within PCC: a branch that is taken, JAL, and JALR in integer mode.
 abbrev pub target_checks : CapValue → ℕ → List (Bool × Fault)
 target_checks pcc target =
-    (holds pcc target 4, cheri pcc_register length_violation)
-    ∷ (target % 4 == 0, fault misaligned_jump target)
+    (holds pcc target 4, cheri pcc_register forbids.Length)
+    ∷ (target % 4 == 0, fault cause.MisalignedJump target)
     ∷ []
 
 unfoldable pub target_fault : CapValue → ℕ → Option Fault
@@ -67,11 +67,11 @@ is_entered_sealed v offset = (value_otype v == sentry_type) && (offset == 0)
 -- A jump to a capability that a register holds: JALR in capability mode, and JALR.CAP.
 abbrev pub jump_checks : CapValue → ℕ → ℕ → List (Bool × Fault)
 jump_checks v register offset =
-    (is_tagged v, cheri register tag_violation)
-    ∷ (not (is_sealed v) || is_entered_sealed v offset, cheri register seal_violation)
-    ∷ (permits v permission.Execute, cheri register execute_violation)
-    ∷ (holds v (jump_target (value_address v) offset) 4, cheri register length_violation)
-    ∷ (jump_target (value_address v) offset % 4 == 0, fault misaligned_jump (jump_target (value_address v) offset))
+    (is_tagged v, cheri register forbids.Tag)
+    ∷ (not (is_sealed v) || is_entered_sealed v offset, cheri register forbids.Seal)
+    ∷ (permits v permission.Execute, cheri register forbids.Execute)
+    ∷ (holds v (jump_target (value_address v) offset) 4, cheri register forbids.Length)
+    ∷ (jump_target (value_address v) offset % 4 == 0, fault cause.MisalignedJump (jump_target (value_address v) offset))
     ∷ []
 
 unfoldable pub jump_fault : CapValue → ℕ → ℕ → Option Fault
@@ -84,17 +84,17 @@ invoke_target code = jump_target (value_address code) 0
 -- CInvoke of a pair, code and data, which two registers hold.
 abbrev pub invoke_checks : CapValue → ℕ → CapValue → ℕ → List (Bool × Fault)
 invoke_checks code code_register datum data_register =
-    (is_tagged code, cheri code_register tag_violation)
-    ∷ (is_tagged datum, cheri data_register tag_violation)
-    ∷ (not (is_reserved (value_otype code)), cheri code_register seal_violation)
-    ∷ (not (is_reserved (value_otype datum)), cheri data_register seal_violation)
-    ∷ (value_otype code == value_otype datum, cheri code_register type_violation)
-    ∷ (permits code permission.CInvoke, cheri code_register cinvoke_violation)
-    ∷ (permits datum permission.CInvoke, cheri data_register cinvoke_violation)
-    ∷ (permits code permission.Execute, cheri code_register execute_violation)
-    ∷ (not (permits datum permission.Execute), cheri data_register execute_violation)
-    ∷ (holds code (invoke_target code) 4, cheri code_register length_violation)
-    ∷ (invoke_target code % 4 == 0, fault misaligned_jump (invoke_target code))
+    (is_tagged code, cheri code_register forbids.Tag)
+    ∷ (is_tagged datum, cheri data_register forbids.Tag)
+    ∷ (not (is_reserved (value_otype code)), cheri code_register forbids.Seal)
+    ∷ (not (is_reserved (value_otype datum)), cheri data_register forbids.Seal)
+    ∷ (value_otype code == value_otype datum, cheri code_register forbids.Type)
+    ∷ (permits code permission.CInvoke, cheri code_register forbids.CInvoke)
+    ∷ (permits datum permission.CInvoke, cheri data_register forbids.CInvoke)
+    ∷ (permits code permission.Execute, cheri code_register forbids.Execute)
+    ∷ (not (permits datum permission.Execute), cheri data_register forbids.Execute)
+    ∷ (holds code (invoke_target code) 4, cheri code_register forbids.Length)
+    ∷ (invoke_target code % 4 == 0, fault cause.MisalignedJump (invoke_target code))
     ∷ []
 
 unfoldable pub invoke_fault : CapValue → ℕ → CapValue → ℕ → Option Fault

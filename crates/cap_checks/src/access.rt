@@ -1,7 +1,6 @@
-use crate::causes::{LOAD_VIOLATION, MISALIGNED_LOAD, MISALIGNED_STORE, STORE_VIOLATION};
+use base::{Cause, CheriCause, Size};
 use cap_bounds::CapRep;
 use cap_rights::{Permission, permits};
-use tagged_memory::Size;
 
 /// How many bytes a load or a store of a capability moves.
 const CAPABILITY_BYTES: u64 = 16;
@@ -78,13 +77,12 @@ impl Access {
 
     /// Gives the CHERI cause where its authority lacks that permission.
     #[inline]
-    pub(crate) fn lacking(self) -> u64
-        ensures value { result ≡ lacking self }
-        ensures range { result < 32 }
+    pub(crate) fn lacking(self) -> CheriCause
+        ensures { result ≡ lacking self }
     {
         match self {
-            Access::Load(_) | Access::LoadCapability => LOAD_VIOLATION,
-            Access::Store(_) | Access::StoreCapability(_) => STORE_VIOLATION,
+            Access::Load(_) | Access::LoadCapability => CheriCause::Load,
+            Access::Store(_) | Access::StoreCapability(_) => CheriCause::Store,
         }
     }
 
@@ -109,12 +107,12 @@ impl Access {
 
     /// Gives the RISC-V cause where the address is no multiple of the width.
     #[inline]
-    pub(crate) fn misaligned(self) -> u64
+    pub(crate) fn misaligned(self) -> Cause
         ensures { result ≡ misaligned self }
     {
         match self {
-            Access::Load(_) | Access::LoadCapability => MISALIGNED_LOAD,
-            Access::Store(_) | Access::StoreCapability(_) => MISALIGNED_STORE,
+            Access::Load(_) | Access::LoadCapability => Cause::MisalignedLoad,
+            Access::Store(_) | Access::StoreCapability(_) => Cause::MisalignedStore,
         }
     }
 }

@@ -3,11 +3,8 @@ ghost use Rattle.cap_checks.specs.Access.{width_of};
 ghost use Rattle.cap_checks.specs.FirstFault.{access_fault};
 
 use crate::access::Access;
-use crate::causes::{
-    SEAL_VIOLATION, STORE_CAPABILITY_VIOLATION, STORE_LOCAL_VIOLATION, cheri_fault,
-};
 use crate::conditions::{check, check_bounds, check_permission, check_tag, is_sealed};
-use crate::fault::Fault;
+use base::{CheriCause, Fault};
 use cap_bounds::CapRep;
 use cap_rights::{Permission, permits};
 
@@ -34,22 +31,24 @@ pub fn check_access<C: CapRep>(
         || permits(authority, Permission::StoreCapability);
     let may_store_local = !access.stores_local()
         || permits(authority, Permission::StoreLocalCapability);
-    let misaligned = Fault {
-        mcause: access.misaligned(),
-        mtval: address,
-    };
     check_tag(authority, register)?;
-    check(!is_sealed(authority), cheri_fault(register, SEAL_VIOLATION))?;
+    check(
+        !is_sealed(authority),
+        Fault::cheri(register, CheriCause::Seal),
+    )?;
     check_permission(authority, register, access.needed(), access.lacking())?;
     check(
         may_store_capability,
-        cheri_fault(register, STORE_CAPABILITY_VIOLATION),
+        Fault::cheri(register, CheriCause::StoreCapability),
     )?;
     check(
         may_store_local,
-        cheri_fault(register, STORE_LOCAL_VIOLATION),
+        Fault::cheri(register, CheriCause::StoreLocalCapability),
     )?;
     check_bounds(authority, register, address, access.width())?;
-    check(address % access.width() == 0, misaligned)?;
+    check(
+        address % access.width() == 0,
+        Fault::of(access.misaligned(), address),
+    )?;
     Ok(address)
 }

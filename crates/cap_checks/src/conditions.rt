@@ -3,14 +3,14 @@
 
 ghost use Rattle.std.specs.Prelude.{◌≡◌, ◌<◌, if◌then◌else◌, Ok, Err};
 ghost use Rattle.cap_bounds.specs.CapValue.{is_tagged, is_sealed};
-ghost use Rattle.cap_checks.specs.Causes.{cheri, tag_violation, length_violation};
+ghost use Rattle.base.specs.Fault.{cheri};
+ghost use Rattle.base.specs.declared.cause.CheriCause.TheVariants as forbids;
 ghost use Rattle.cap_checks.specs.FirstFault as spec;
 ghost use Rattle.cap_rights.specs.Permission.{permits};
 
-use crate::causes::{LENGTH_VIOLATION, TAG_VIOLATION, cheri_fault};
-use crate::fault::Fault;
+use base::{CheriCause, Fault, otype};
 use cap_bounds::CapRep;
-use cap_rights::{OType, Permission, permits};
+use cap_rights::{Permission, permits};
 
 /// Reports the fault unless the condition holds.
 #[inline(always)]
@@ -24,24 +24,23 @@ pub(crate) fn check(condition: bool, fault: Fault) -> Result<(), Fault>
 #[inline(always)]
 pub(crate) fn check_tag<C: CapRep>(c: C, register: u64) -> Result<(), Fault>
     requires { register < 64 }
-    ensures { result ≡ if is_tagged (C.value c) then Ok tt else Err (cheri register tag_violation) }
+    ensures { result ≡ if is_tagged (C.value c) then Ok tt else Err (cheri register forbids.Tag) }
 {
-    check(c.tag(), cheri_fault(register, TAG_VIOLATION))
+    check(c.tag(), Fault::cheri(register, CheriCause::Tag))
 }
 
-/// Reports a CHERI cause below 32 unless the value has the permission.
+/// Reports a CHERI cause unless the value has the permission.
 #[inline(always)]
 pub(crate) fn check_permission<C: CapRep>(
     c: C,
     register: u64,
     permission: Permission,
-    cause: u64,
+    cause: CheriCause,
 ) -> Result<(), Fault>
-    requires register { register < 64 }
-    requires cause { cause < 32 }
+    requires { register < 64 }
     ensures { result ≡ if permits (C.value c) permission then Ok tt else Err (cheri register cause) }
 {
-    check(permits(c, permission), cheri_fault(register, cause))
+    check(permits(c, permission), Fault::cheri(register, cause))
 }
 
 /// Reports a length violation unless the `size` bytes from an address lie in the value's bounds.
@@ -53,11 +52,11 @@ pub(crate) fn check_bounds<C: CapRep>(
     size: u64,
 ) -> Result<(), Fault>
     requires { register < 64 }
-    ensures { result ≡ if spec.holds (C.value c) address size then Ok tt else Err (cheri register length_violation) }
+    ensures { result ≡ if spec.holds (C.value c) address size then Ok tt else Err (cheri register forbids.Length) }
 {
     check(
         holds(c, address, size),
-        cheri_fault(register, LENGTH_VIOLATION),
+        Fault::cheri(register, CheriCause::Length),
     )
 }
 
@@ -75,5 +74,5 @@ fn holds<C: CapRep>(c: C, address: u64, size: u64) -> bool
 pub(crate) fn is_sealed<C: CapRep>(c: C) -> bool
     ensures { result ≡ is_sealed (C.value c) }
 {
-    c.otype() != OType::UNSEALED.number()
+    c.otype() != otype::UNSEALED
 }

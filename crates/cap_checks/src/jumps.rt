@@ -1,16 +1,14 @@
 ghost use Rattle.std.specs.Prelude.{◌≡◌, ◌<◌, ◌%◌, if◌then◌else◌, Ok, Err, None, Some, IfOk, IfErr, OnOk};
 ghost use Rattle.cap_bounds.specs.CapValue.{value_address, value_otype};
-ghost use Rattle.cap_checks.specs.Causes.{fault, cheri, seal_violation, misaligned_jump};
+ghost use Rattle.base.specs.Fault.{fault, cheri};
+ghost use Rattle.base.specs.declared.cause.Cause.TheVariants as cause;
+ghost use Rattle.base.specs.declared.cause.CheriCause.TheVariants as forbids;
 ghost use Rattle.cap_checks.specs.FirstFault.{fetch_fault, target_fault, jump_fault, invoke_target, invoke_fault};
 ghost use Rattle.cap_checks.specs.FirstFault as spec;
-ghost use Rattle.cap_rights.specs.ObjectType.{is_reserved};
+ghost use Rattle.base.specs.ObjectType.{is_reserved};
 
-use crate::causes::{
-    CINVOKE_VIOLATION, EXECUTE_VIOLATION, MISALIGNED_JUMP, PCC_REGISTER, SEAL_VIOLATION,
-    TYPE_VIOLATION, cheri_fault,
-};
 use crate::conditions::{check, check_bounds, check_permission, check_tag, is_sealed};
-use crate::fault::Fault;
+use base::{Cause, CheriCause, Fault, PCC_REGISTER, otype};
 use cap_bounds::CapRep;
 use cap_rights::{OType, Permission, permits};
 
@@ -20,12 +18,9 @@ const INSTRUCTION_BYTES: u64 = 4;
 /// Makes the fault of a jump to an address that is no multiple of 4.
 #[inline]
 fn misaligned(target: u64) -> Fault
-    ensures { result ≡ fault misaligned_jump target }
+    ensures { result ≡ fault cause.MisalignedJump target }
 {
-    Fault {
-        mcause: MISALIGNED_JUMP,
-        mtval: target,
-    }
+    Fault::of(Cause::MisalignedJump, target)
 }
 
 /// Checks the fetch of the instruction at PCC's address, and gives the address.
@@ -42,8 +37,11 @@ pub fn check_fetch<C: CapRep>(pcc: C) -> Result<u64, Fault>
 {
     let address = pcc.address();
     check_tag(pcc, PCC_REGISTER)?;
-    check(!is_sealed(pcc), cheri_fault(PCC_REGISTER, SEAL_VIOLATION))?;
-    check_permission(pcc, PCC_REGISTER, Permission::Execute, EXECUTE_VIOLATION)?;
+    check(
+        !is_sealed(pcc),
+        Fault::cheri(PCC_REGISTER, CheriCause::Seal),
+    )?;
+    check_permission(pcc, PCC_REGISTER, Permission::Execute, CheriCause::Execute)?;
     check_bounds(pcc, PCC_REGISTER, address, INSTRUCTION_BYTES)?;
     Ok(address)
 }
@@ -80,7 +78,7 @@ pub fn jump_target(address: u64, offset: u64) -> u64
 fn is_entered_sealed<C: CapRep>(c: C, offset: u64) -> bool
     ensures { result ≡ spec.is_entered_sealed (C.value c) offset }
 {
-    c.otype() == OType::SENTRY.number() && offset == 0
+    c.otype() == otype::SENTRY && offset == 0
 }
 
 /// Checks a jump by an offset to a capability that a register holds, and gives its target.
@@ -100,8 +98,8 @@ pub fn check_jump<C: CapRep>(c: C, register: u64, offset: u64) -> Result<u64, Fa
     let target = jump_target(c.address(), offset);
     let may_enter = !is_sealed(c) || is_entered_sealed(c, offset);
     check_tag(c, register)?;
-    check(may_enter, cheri_fault(register, SEAL_VIOLATION))?;
-    check_permission(c, register, Permission::Execute, EXECUTE_VIOLATION)?;
+    check(may_enter, Fault::cheri(register, CheriCause::Seal))?;
+    check_permission(c, register, Permission::Execute, CheriCause::Execute)?;
     check_bounds(c, register, target, INSTRUCTION_BYTES)?;
     check(target % INSTRUCTION_BYTES == 0, misaligned(target))?;
     Ok(target)
@@ -111,11 +109,11 @@ pub fn check_jump<C: CapRep>(c: C, register: u64, offset: u64) -> Result<u64, Fa
 #[inline(always)]
 fn check_sealing_type<C: CapRep>(c: C, register: u64) -> Result<(), Fault>
     requires { register < 64 }
-    ensures { result ≡ if is_reserved (value_otype (C.value c)) then Err (cheri register seal_violation) else Ok tt }
+    ensures { result ≡ if is_reserved (value_otype (C.value c)) then Err (cheri register forbids.Seal) else Ok tt }
 {
     check(
         !OType::of(c).is_reserved(),
-        cheri_fault(register, SEAL_VIOLATION),
+        Fault::cheri(register, CheriCause::Seal),
     )
 }
 
@@ -148,13 +146,28 @@ pub fn check_invoke<C: CapRep>(
     check_tag(data, data_register)?;
     check_sealing_type(code, code_register)?;
     check_sealing_type(data, data_register)?;
-    check(same_type, cheri_fault(code_register, TYPE_VIOLATION))?;
-    check_permission(code, code_register, Permission::CInvoke, CINVOKE_VIOLATION)?;
-    check_permission(data, data_register, Permission::CInvoke, CINVOKE_VIOLATION)?;
-    check_permission(code, code_register, Permission::Execute, EXECUTE_VIOLATION)?;
+    check(same_type, Fault::cheri(code_register, CheriCause::Type))?;
+    check_permission(
+        code,
+        code_register,
+        Permission::CInvoke,
+        CheriCause::CInvoke,
+    )?;
+    check_permission(
+        data,
+        data_register,
+        Permission::CInvoke,
+        CheriCause::CInvoke,
+    )?;
+    check_permission(
+        code,
+        code_register,
+        Permission::Execute,
+        CheriCause::Execute,
+    )?;
     check(
         !permits(data, Permission::Execute),
-        cheri_fault(data_register, EXECUTE_VIOLATION),
+        Fault::cheri(data_register, CheriCause::Execute),
     )?;
     check_bounds(code, code_register, target, INSTRUCTION_BYTES)?;
     check(target % INSTRUCTION_BYTES == 0, misaligned(target))?;

@@ -3,15 +3,11 @@
 
 mod access;
 mod accesses;
-mod causes;
 mod conditions;
-mod fault;
 mod jumps;
 #[cfg(test)]
 mod tests;
 
 pub use access::{Access, Stored};
 pub use accesses::check_access;
-pub use causes::{DDC_REGISTER, PCC_REGISTER};
-pub use fault::Fault;
 pub use jumps::{check_fetch, check_invoke, check_jump, check_target, jump_target};

@@ -1,13 +1,11 @@
--- Object types: numbers below 2 ^ 18, of which the four greatest are reserved (UCAM-CL-TR-987, object types).
-use Rattle.std.specs.Prelude.{ℕ, ◌+◌, ◌-◌, ◌^◌, Bool, nat_le, if◌then◌else◌}
+-- What seals, and what CGetType shows of an object type (UCAM-CL-TR-987, object types).
+use Rattle.std.specs.Prelude.{ℕ, ◌+◌, ◌-◌, ◌^◌, if◌then◌else◌}
+use Rattle.base.specs.ObjectType.{is_reserved}
+use Rattle.base.specs.declared.otype.TheConstants.{FIRST_RESERVED}
 
 -- the greatest type that seals: those above it are reserved
 abbrev pub greatest_sealing_type : ℕ
-greatest_sealing_type = 0x3_fffb
-
--- 0x3FFFC to 0x3FFFF, the sentry and the unsealed among them
-abbrev pub is_reserved : ℕ → Bool
-is_reserved otype = nat_le 0x3_fffc otype
+greatest_sealing_type = FIRST_RESERVED - 1
 
 -- the number that CGetType shows: a reserved type less 2 ^ 18, as a signed number of 64 bits
 unfoldable pub signed_type : ℕ → ℕ

@@ -1,7 +1,8 @@
 -- A value with another object type, and an unsealed one (UCAM-CL-TR-987, sealed capabilities and sentries).
 use Rattle.std.specs.Prelude.{ℕ}
 use Rattle.cap_format.specs.Word.{with_field}
-use Rattle.cap_bounds.specs.CapValue.{CapValue, Cap, Data, unsealed_type}
+use Rattle.base.specs.ObjectType.{unsealed_type}
+use Rattle.cap_bounds.specs.CapValue.{CapValue, Cap, Data}
 
 -- the value with this type, and its tag as it is
 abbrev pub with_type : CapValue → ℕ → CapValue

@@ -1,11 +1,14 @@
 //! What holds of derivations: each function's contract is a law, and its body is empty.
 
-ghost use Rattle.std.specs.Prelude.{◌≡◌, ℕ, Bool, ◌↔◌, IsTrue};
+ghost use Rattle.std.specs.Prelude.{◌≡◌, ℕ, ◌^◌, Bool, ◌↔◌, IsTrue};
 ghost use Rattle.cap_bounds.specs.CapValue.{CapValue, IsSound, is_tagged};
 ghost use Rattle.cap_rights.specs.Opened.{opened};
 ghost use Rattle.cap_rights.specs.Derivations.{and_perms, set_flags, seal, unseal, seal_entry, subset};
 ghost use Rattle.cap_rights.specs.Within.{IsWithin, IsWithinIfTagged};
-ghost use Rattle.cap_rights.specs.Perms.{PermittedIsAmongThePermissions, ViewNamesItsSet};
+ghost use Rattle.cap_rights.specs.Perms.{set_of_one, PermittedIsAmongThePermissions, ViewNamesItsSet};
+ghost use Rattle.cap_rights.specs.declared.permission.Permission.TheVariants as permission;
+
+use crate::perms::Perms;
 
 /// What is derived of sound values is sound: a tagged result is a well-formed capability, and data has 128 bits.
 pub fn derivations_are_sound()
@@ -34,6 +37,26 @@ pub fn subset_is_within()
 /// A capability has a permission exactly if the set of its permissions has it.
 pub fn permitted_is_among_the_permissions()
     ensures { PermittedIsAmongThePermissions }
+{}
+
+/// Each constant is the set of the permission that its name says, and the user permissions follow the hardware permissions.
+pub fn constants_are_their_permissions()
+    ensures global { Perms.GLOBAL.bits ≡ set_of_one permission.Global }
+    ensures execute { Perms.EXECUTE.bits ≡ set_of_one permission.Execute }
+    ensures load { Perms.LOAD.bits ≡ set_of_one permission.Load }
+    ensures store { Perms.STORE.bits ≡ set_of_one permission.Store }
+    ensures load_capability { Perms.LOAD_CAPABILITY.bits ≡ set_of_one permission.LoadCapability }
+    ensures store_capability { Perms.STORE_CAPABILITY.bits ≡ set_of_one permission.StoreCapability }
+    ensures store_local_capability { Perms.STORE_LOCAL_CAPABILITY.bits ≡ set_of_one permission.StoreLocalCapability }
+    ensures seal { Perms.SEAL.bits ≡ set_of_one permission.Seal }
+    ensures cinvoke { Perms.CINVOKE.bits ≡ set_of_one permission.CInvoke }
+    ensures unseal { Perms.UNSEAL.bits ≡ set_of_one permission.Unseal }
+    ensures access_system_registers { Perms.ACCESS_SYSTEM_REGISTERS.bits ≡ set_of_one permission.AccessSystemRegisters }
+    ensures set_cid { Perms.SET_CID.bits ≡ set_of_one permission.SetCid }
+    ensures user0 { Perms.USER0.bits ≡ 2 ^ 12 }
+    ensures user1 { Perms.USER1.bits ≡ 2 ^ 13 }
+    ensures user2 { Perms.USER2.bits ≡ 2 ^ 14 }
+    ensures user3 { Perms.USER3.bits ≡ 2 ^ 15 }
 {}
 
 /// The number that shows a set of permissions names that set.

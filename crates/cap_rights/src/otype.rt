@@ -1,7 +1,9 @@
 ghost use Rattle.std.specs.Prelude.{◌≡◌, ◌%◌, ◌^◌, ◌<◌, ◌↔◌, IsSome, IfSome};
 ghost use Rattle.cap_bounds.specs.CapValue.{value_otype};
+ghost use Rattle.base.specs.ObjectType.{is_reserved};
 ghost use Rattle.cap_rights.specs.ObjectType as spec;
 
+use base::otype;
 use cap_bounds::CapRep;
 use std::marker::Model;
 
@@ -25,10 +27,14 @@ impl Model for OType {
 
 impl OType {
     /// The type of what isn't sealed.
-    pub const UNSEALED: OType = OType { number: 0x3_ffff };
+    pub const UNSEALED: OType = OType {
+        number: otype::UNSEALED,
+    };
 
     /// The type of a sealed entry, which a jump unseals.
-    pub const SENTRY: OType = OType { number: 0x3_fffe };
+    pub const SENTRY: OType = OType {
+        number: otype::SENTRY,
+    };
 
     /// The type of this number, or `None` from `2^18` on.
     pub fn new(number: u32) -> Option<OType>
@@ -72,9 +78,9 @@ impl OType {
     /// Whether the type is one of `0x3FFFC` to `0x3FFFF`.
     #[inline]
     pub fn is_reserved(self) -> bool
-        ensures { result ≡ spec.is_reserved self }
+        ensures { result ≡ is_reserved self }
     {
-        self.number >= 0x3_fffc
+        self.number >= otype::FIRST_RESERVED
     }
 
     /// The number, of a reserved type less `2^18` as a signed number of 64 bits: `2^64 - 4` to `2^64 - 1`.

@@ -4,10 +4,11 @@ ghost use Rattle.cap_rights.specs.Derivations as spec;
 use crate::fields::{address_in_bounds, is_sealed, tagged_if, with_perms, with_type};
 use crate::otype::OType;
 use crate::permission::{Permission, permits};
+use base::otype;
 use cap_bounds::CapRep;
 
 /// The greatest address that names a type to seal with.
-const GREATEST_SEALING_TYPE: u64 = 0x3_fffb;
+const GREATEST_SEALING_TYPE: u64 = otype::FIRST_RESERVED as u64 - 1;
 
 /// All permissions but Global.
 const ALL_BUT_GLOBAL: u16 = 0xfffe;

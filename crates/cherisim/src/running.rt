@@ -11,7 +11,7 @@ use sim_run::{Schedule, run_scheduled};
 use std::io;
 
 /// Where the first image begins.
-const ENTRY: u64 = 0x8000_0000;
+const ENTRY: u64 = base::ram::BASE;
 
 /// lui a1, 0x10000; addi a0, zero, 65; sb a0, 0(a1); lui a1, 0x100; sd zero, 0(a1)
 const FIRST: [u8; 20] = [

@@ -9,6 +9,7 @@ use Rattle.std.proofs.lemmas.List.{length-append}
 use Rattle.std.proofs.lemmas.List.Elements.{All-nil, All-push}
 use Rattle.std.specs.Io.KnownBytes.{Appends, Consumes, Keeps, IsAtEnd}
 use Rattle.image.specs.Devices.{AppendsBeginning}
+use Rattle.image.specs.BeginningLaws.{beginning_after}
 use Rattle.hart.specs.State.{State}
 use Rattle.debugger.specs.declared.fault.TalkFault.{TalkFault}
 use Rattle.debugger.specs.declared.fault.TalkFault.TheVariants.{Read, Write, Memory}
@@ -19,11 +20,6 @@ use Rattle.debugger.specs.Talk.{most_heard, heard, is_feed, fed, replies, state_
 use Rattle.debugger.specs.Heard.{FailsToReply, IsInLine, IsHeard, IsHeardToEnd}
 use Rattle.debugger.proofs.Pieces.{before_none, in_line_more, whole_lines, fed_more, take_again, take_front, take_behind}
 use Rattle.debugger.proofs.Conversing.{kept_command, same_after_last, goes_on_more, replies_more, state_after_more, told_last, state_last, unread_last, told_end, state_end, unread_end}
-
--- all of some bytes, and a beginning of those after them
-beginning_after : (a b c : Option (List ℕ)) (bytes rest : List ℕ) → Appends a b bytes → AppendsBeginning b c rest → AppendsBeginning a c (bytes ++ rest)
-beginning_after a b c bytes rest all h =
-    (length bytes + h.0, simp length-append (omega (arith, h.1)), rw (take-append-add bytes rest h.0) (Appends-trans a b c bytes (take h.0 rest) all h.2))
 
 -- ---- a line of which a beginning is kept does the same
 

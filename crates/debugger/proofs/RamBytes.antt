@@ -2,7 +2,8 @@
 use Rattle.std.proofs.Common.{◌≡◌, ℕ, zero, suc, ◌+◌, ◌-◌, ◌*◌, ◌<◌, ◌≤◌, List, [], ◌∷◌, ◌++◌, length, take, drop, refl, ap, sym, ◌∙◌, length-drop, arith}
 use Rattle.std.specs.Prelude.{slice_index}
 use Rattle.std.proofs.Math.Seq.{take-add}
-use Rattle.tagged_memory.specs.Memory.{Memory, bytes_at, number_at, ram_base}
+use Rattle.base.specs.Ram.{ram_base}
+use Rattle.tagged_memory.specs.Memory.{Memory, bytes_at, number_at}
 
 first_byte : (xs : List ℕ) → 0 < length xs → take 1 xs ≡ (slice_index xs 0 + 256 * 0) ∷ []
 first_byte [] h = absurd (omega arith)

@@ -7,4 +7,3 @@ pub mod Lines
 pub mod Answers
 pub mod Talk
 pub mod Heard
-pub mod TextBack

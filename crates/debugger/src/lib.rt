@@ -4,7 +4,6 @@
 mod answer;
 mod command;
 mod fault;
-pub mod laws;
 mod ram;
 mod reply;
 mod run;

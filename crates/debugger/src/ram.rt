@@ -1,7 +1,8 @@
 //! Bytes and words of RAM as lines of text.
 ghost use Rattle.std.specs.Prelude.{◌≡◌, ◌+◌, ◌-◌, ◌*◌, ◌/◌, ◌%◌, ◌^◌, ◌<◌, ◌≤◌, ◌++◌, [], ◌∷◌, IsTrue, IfOk, OnOk, string_bytes, length, take, drop};
 ghost use Rattle.std.specs.List.{flat_map};
-ghost use Rattle.tagged_memory.specs.Memory.{is_in_ram, bytes_at, number_at, ram_base};
+ghost use Rattle.base.specs.Ram.{ram_base};
+ghost use Rattle.tagged_memory.specs.Memory.{is_in_ram, bytes_at, number_at};
 ghost use Rattle.disassembler.specs.Hex.{hex_of};
 ghost use Rattle.disassembler.specs.Shown.{word_line as word_line_of};
 ghost use Rattle.debugger.specs.Reply.{byte_line, byte_lines, word_lines};
@@ -9,12 +10,10 @@ ghost use Rattle.debugger.specs.Lines.{spaced};
 
 use crate::text::{put, put_hex};
 use crate::words::{before, behind};
+use base::{Size, ram};
 use disassembler::word_line;
 use std::alloc::{AllocError, Global};
-use tagged_memory::{Memory, RAM_BASE, Size};
-
-/// The bytes of a page.
-const PAGE_BYTES: u64 = 4096;
+use tagged_memory::Memory;
 
 /// The most bytes of a line.
 const LINE_BYTES: usize = 16;
@@ -24,8 +23,8 @@ const LINE_BYTES: usize = 16;
 pub(crate) fn is_in_ram(memory: &Memory, address: u64, count: u64) -> bool
     ensures { result ≡ is_in_ram memory.now address count }
 {
-    let end = RAM_BASE + PAGE_BYTES * u64::from(memory.pages());
-    address >= RAM_BASE && count <= end && address <= end - count
+    let end = ram::BASE + ram::PAGE_BYTES * u64::from(memory.pages());
+    address >= ram::BASE && count <= end && address <= end - count
 }
 
 /// The byte at an address.

@@ -2,7 +2,8 @@
 ghost use Rattle.std.specs.Prelude.{◌≡◌, ◌+◌, ◌<◌, ◌≤◌, ◌++◌, IsTrue, OnOk, string_bytes, codes, Some, length, option_map, unwrap_or};
 ghost use Rattle.std.specs.List.{flat_map};
 ghost use Rattle.cap_bounds.specs.CapValue.{CapValue};
-ghost use Rattle.special_regs.specs.Scrs.{is_scr, scr_value};
+ghost use Rattle.base.specs.Registers.{is_scr};
+ghost use Rattle.special_regs.specs.Scrs.{scr_value};
 ghost use Rattle.disassembler.specs.Hex.{hex_of};
 ghost use Rattle.debugger.specs.Capability.{bit, shown_value, value_line};
 

@@ -2,8 +2,10 @@
 ghost use Rattle.std.specs.Prelude.{◌≡◌, ◌<◌, ◌++◌, ◌≤◌, IsTrue, Some, OnOk, string_bytes, drop};
 ghost use Rattle.std.specs.List.{flat_map, list_all};
 ghost use Rattle.asm_names.specs.Registers.{capability_names};
-ghost use Rattle.special_regs.specs.Scrs.{is_scr, scr_values};
-ghost use Rattle.special_regs.specs.CsrValues.{is_csr, csr_values};
+ghost use Rattle.base.specs.Registers.{is_scr};
+ghost use Rattle.special_regs.specs.Scrs.{scr_values};
+ghost use Rattle.base.specs.Registers.{is_csr};
+ghost use Rattle.special_regs.specs.CsrValues.{csr_values};
 ghost use Rattle.devices.specs.Devices.{interrupts_of};
 ghost use Rattle.debugger.specs.Reply.{register_lines, scr_lines, csr_lines};
 ghost use Rattle.debugger.specs.Lines.{register_line, scr_line, csr_line, number_line};

@@ -2,12 +2,13 @@ ghost use Rattle.std.specs.Prelude.{◌≡◌};
 ghost use Rattle.devices.specs.Devices.{interrupts_of};
 
 use crate::devices::Devices;
+use base::interrupt;
 
 /// The timer's bit in mip.
-const TIMER_INTERRUPT: u64 = 1 << 7;
+const TIMER_INTERRUPT: u64 = 1 << interrupt::TIMER;
 
 /// The console's bit in mip.
-const CONSOLE_INTERRUPT: u64 = 1 << 11;
+const CONSOLE_INTERRUPT: u64 = 1 << interrupt::EXTERNAL;
 
 impl Devices {
     /// Answers what the devices ask for, by the bits of mip: bit 7 while mtime is mtimecmp or more, bit 11 while control allows

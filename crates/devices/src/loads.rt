@@ -1,12 +1,12 @@
 ghost use Rattle.std.specs.Prelude.{◌≡◌, ◌↔◌, IsTrue, OnErr, OnOk, None};
-ghost use Rattle.tagged_memory.specs.Size.{bytes_of};
+ghost use Rattle.base.specs.Size.{bytes_of};
 ghost use Rattle.devices.specs.Devices.{read_fault, value_at, taken_at, unless};
 ghost use Rattle.devices.specs.Map.{address_of};
 
 use crate::devices::Devices;
 use crate::fault::DeviceFault;
 use crate::map::{OVERRUN, Register};
-use tagged_memory::Size;
+use base::Size;
 
 impl Devices {
     /// Tells whether a register at the address may be loaded by this size: 8 bytes.
@@ -59,7 +59,7 @@ impl Devices {
 
     /// Loads from a register, which takes the oldest byte where it is receive. V1 where no register begins at the address,
     /// then V2 where the size is not 8 bytes. A refused load takes nothing.
-    #[tactic(auto, unfolding(crate::specs::Devices::read_fault, crate::specs::Devices::taken_at))]
+    #[tactic(auto, unfolding(crate::specs::Devices::read_fault))]
     pub fn read(&mut self, address: u64, size: Size) -> Result<u64, DeviceFault>
         ensures which { result ≡ unless (read_fault address (bytes_of size)) (value_at address self.old) }
         ensures ok { OnOk result (self.new ≡ taken_at address self.old) }
@@ -72,9 +72,18 @@ impl Devices {
             return Err(DeviceFault::V2);
         }
         let value = self.value(register);
-        if register == Register::Receive {
+        self.take_at(address);
+        Ok(value)
+    }
+
+    /// Takes what a load from the address takes: the oldest byte from receive, and nothing elsewhere.
+    #[inline]
+    #[tactic(auto, unfolding(crate::specs::Devices::taken_at))]
+    pub fn take_at(&mut self, address: u64)
+        ensures { self.new ≡ taken_at address self.old }
+    {
+        if let Some(Register::Receive) = Register::at(address) {
             self.take_oldest();
         }
-        Ok(value)
     }
 }

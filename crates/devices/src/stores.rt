@@ -1,12 +1,12 @@
 ghost use Rattle.std.specs.Prelude.{◌≡◌, ◌%◌, ◌↔◌, IsTrue, OnErr, OnOk, None};
-ghost use Rattle.tagged_memory.specs.Size.{bytes_of};
+ghost use Rattle.base.specs.Size.{bytes_of};
 ghost use Rattle.devices.specs.Devices.{write_fault, effect_of, byte_sent, written, unless};
 ghost use Rattle.devices.specs.Map.{address_of};
 
 use crate::devices::{Devices, Effect};
 use crate::fault::DeviceFault;
 use crate::map::{OVERRUN, Register};
-use tagged_memory::Size;
+use base::Size;
 
 /// Answers the low byte of a number, which transmit sends.
 #[inline]
@@ -101,5 +101,16 @@ impl Devices {
         }
         self.keep(register, value);
         Ok(effect(register, value))
+    }
+
+    /// Keeps what a store of a number at the address leaves there, and nothing where no register begins.
+    #[inline]
+    #[tactic(auto, unfolding(crate::specs::Devices::written))]
+    pub fn store_at(&mut self, address: u64, value: u64)
+        ensures { self.new ≡ written self.old address value }
+    {
+        if let Some(register) = Register::at(address) {
+            self.keep(register, value);
+        }
     }
 }

@@ -1,4 +1,5 @@
 pub mod Hex
 pub mod Shown
 pub mod Widths
-pub mod ReadBack
+pub mod HexLaws
+pub mod LengthLaws

@@ -37,7 +37,7 @@ pub fn word_line(address: u64, word: u32, mode: bool) -> ArrayString<96>
     line
 }
 
-#[tactic(auto, using(crate::proofs::Lengths::mnemonic_short, crate::proofs::Lengths::operands_short))]
+#[tactic(auto, using(crate::specs::LengthLaws::mnemonic_short, crate::specs::LengthLaws::operands_short))]
 fn text_of(insn: &Insn, mode: bool) -> ArrayString<64>
     requires { HasRegisters insn.now }
     ensures { result.bytes ≡ shown_insn mode insn.now }

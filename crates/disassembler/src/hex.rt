@@ -20,7 +20,7 @@ pub fn hex_digits(n: u128, width: usize) -> ArrayString<17>
 }
 
 /// The digits of `n` in lower-case hexadecimal, without leading zeros.
-#[tactic(auto, using(crate::proofs::HexSteps::hex_digit, crate::proofs::HexSteps::hex_step, crate::proofs::HexSteps::length_hex_16))]
+#[tactic(auto, using(crate::specs::HexLaws::hex_digit, crate::specs::HexLaws::hex_step, crate::specs::HexLaws::length_hex_16))]
 pub fn short_digits(n: u64) -> ArrayString<17>
     ensures text { result.bytes ≡ digits 16 false n }
     ensures length { array_string_len result ≤ 16 }

@@ -3,7 +3,6 @@
 
 mod disassembling;
 mod hex;
-pub mod laws;
 mod operands;
 
 pub use disassembling::{disassemble, word_line};

@@ -66,7 +66,7 @@ fn push_slot(text: &mut ArrayString<64>, insn: &Insn, mode: bool, slot: Slot)
     }
 }
 
-#[tactic(auto, using(crate::proofs::Lengths::register_name_short))]
+#[tactic(auto, using(crate::specs::LengthLaws::register_name_short))]
 fn push_register(text: &mut ArrayString<64>, n: u8, naming: Naming, mode: bool)
     requires register { n < 32 }
     requires room { array_string_len text.old + 5 ≤ 64 }
@@ -120,7 +120,7 @@ fn push_short_hex(text: &mut ArrayString<64>, n: u64)
     text.push_str(digits.as_str());
 }
 
-#[tactic(auto, using(crate::proofs::Lengths::csr_name_short, crate::proofs::Lengths::csr_name_none))]
+#[tactic(auto, using(crate::specs::LengthLaws::csr_name_short, crate::specs::LengthLaws::csr_name_none))]
 fn push_csr(text: &mut ArrayString<64>, number: u64)
     requires { array_string_len text.old + 18 ≤ 64 }
     ensures text { text.new.bytes ≡ text.old.bytes ++ name_or (short_hex number) (csr_name_of number) }
@@ -135,7 +135,7 @@ fn push_csr(text: &mut ArrayString<64>, number: u64)
     }
 }
 
-#[tactic(auto, using(crate::proofs::Lengths::scr_name_short))]
+#[tactic(auto, using(crate::specs::LengthLaws::scr_name_short))]
 fn push_special(text: &mut ArrayString<64>, number: u8)
     requires { array_string_len text.old + 20 ≤ 64 }
     ensures text { text.new.bytes ≡ text.old.bytes ++ name_or (decimal number) (scr_name_of number) }

@@ -1,7 +1,8 @@
 -- Loading an image's sections one after the other.
 use Rattle.std.proofs.Common.{◌≡◌, ℕ, suc, ◌+◌, ◌*◌, ◌<◌, ◌≤◌, true, false, cond, not, List, [], ◌∷◌, length, get_or, drop, Option, None, Some, Ok, refl, sym, ap, subst, ◌∙◌, arith, add-one, drop-cons}
 use Rattle.std.specs.Prelude.{IsOk, Result}
-use Rattle.tagged_memory.specs.Memory.{Memory, ram_base, is_in_ram, data_written, fill_fault, unless, zeroed}
+use Rattle.base.specs.Ram.{ram_base}
+use Rattle.tagged_memory.specs.Memory.{Memory, is_in_ram, data_written, fill_fault, unless, zeroed}
 use Rattle.tagged_memory.specs.MemoryLaws.{in_ram-from, length-data_written}
 use Rattle.tagged_memory.specs.declared.fault.MemoryFault.{MemoryFault}
 use Rattle.image.specs.Image.{Section}

@@ -1,10 +1,12 @@
 pub mod Registers
 pub mod State
 pub mod Effect
+pub mod Applying
 pub mod Looks
 pub mod Accesses
 pub mod MemoryRows
 pub mod JumpRows
+pub mod ComputeRows
 pub mod SystemRows
 pub mod Outcome
 pub mod Step

@@ -1,11 +1,11 @@
 //! Which rows move how many bytes, and through which authority.
 
 ghost use Rattle.std.specs.Prelude.{◌≡◌, ◌<◌, ◌^◌};
-ghost use Rattle.tagged_memory.specs.Size.{bytes_of};
+ghost use Rattle.base.specs.Size.{bytes_of};
 ghost use Rattle.hart.specs.Accesses as spec;
 
+use base::Size;
 use isa_rows::Row;
-use tagged_memory::Size;
 
 /// How many bytes a load or store of data moves.
 #[inline]

@@ -3,11 +3,11 @@
 ghost use Rattle.std.specs.Prelude.{◌≡◌};
 ghost use Rattle.isa_rows.specs.Kind.{kind_of};
 ghost use Rattle.isa_rows.specs.declared.kinds.Kind.TheVariants as kind;
-ghost use Rattle.hart.specs.Effect.{meant, CanApply};
+ghost use Rattle.hart.specs.Applying.{meant, CanApply};
 ghost use Rattle.hart.specs.Looks.{HasRegisters};
-ghost use Rattle.hart.specs.Step.{second_of, integer_effect, mul_div_effect, capability_effect, auipc_effect};
+ghost use Rattle.hart.specs.ComputeRows.{integer_effect, mul_div_effect, capability_effect, auipc_effect};
 
-use crate::effect::Effect;
+use crate::effect::{Effect, Write};
 use crate::hart::Hart;
 use alu::{int_op, mul_div};
 use cap_bounds::CapRep;
@@ -17,7 +17,7 @@ use isa_rows::{Format, Insn, Row};
 impl<C: CapRep> Hart<C> {
     /// Integer arithmetic.
     #[inline]
-    #[tactic(auto, unfolding(crate::specs::Step::integer_effect, crate::specs::Effect::CanApply))]
+    #[tactic(auto, unfolding(crate::specs::ComputeRows::integer_effect, crate::specs::Applying::CanApply))]
     pub(crate) fn plan_integer(&self, insn: Insn) -> Effect<C>
         requires kind { kind_of insn.row ≡ kind.Integer }
         requires registers { HasRegisters insn }
@@ -29,14 +29,14 @@ impl<C: CapRep> Hart<C> {
             Format::Register => self.number(insn.rs2),
             _ => insn.imm,
         };
-        Effect::Write {
+        Effect::Write(Write {
             rd: insn.rd,
             value: integer(int_op(insn.row, a, b)),
-        }
+        })
     }
 
     /// Multiplication and division.
-    #[tactic(auto, unfolding(crate::specs::Step::mul_div_effect, crate::specs::Effect::CanApply))]
+    #[tactic(auto, unfolding(crate::specs::ComputeRows::mul_div_effect, crate::specs::Applying::CanApply))]
     pub(crate) fn plan_mul_div(&self, insn: Insn) -> Effect<C>
         requires kind { kind_of insn.row ≡ kind.MulDiv }
         requires registers { HasRegisters insn }
@@ -44,15 +44,15 @@ impl<C: CapRep> Hart<C> {
         ensures can { CanApply result self.now }
     {
         let quotient_or_product = mul_div(insn.row, self.number(insn.rs1), self.number(insn.rs2));
-        Effect::Write {
+        Effect::Write(Write {
             rd: insn.rd,
             value: integer(quotient_or_product),
-        }
+        })
     }
 
     /// A row over capabilities that touches neither memory nor special registers and does not jump.
     #[inline]
-    #[tactic(auto, unfolding(crate::specs::Step::capability_effect, crate::specs::Effect::CanApply))]
+    #[tactic(auto, unfolding(crate::specs::ComputeRows::capability_effect, crate::specs::Applying::CanApply))]
     pub(crate) fn plan_capability(&self, insn: Insn) -> Effect<C>
         requires kind { kind_of insn.row ≡ kind.Capability }
         requires registers { HasRegisters insn }
@@ -64,13 +64,13 @@ impl<C: CapRep> Hart<C> {
         let rd = insn.rd;
         let value = cap_op(insn, cs1, cs2, self.scrs.ddc());
         match insn.row {
-            Row::CUnseal => Effect::Unseal { rd, value },
-            _ => Effect::Write { rd, value },
+            Row::CUnseal => Effect::Unseal(Write { rd, value }),
+            _ => Effect::Write(Write { rd, value }),
         }
     }
 
     /// AUIPC: in capability mode PCC with the address, else the address.
-    #[tactic(auto, unfolding(crate::specs::Step::auipc_effect, crate::specs::Effect::CanApply))]
+    #[tactic(auto, unfolding(crate::specs::ComputeRows::auipc_effect, crate::specs::Applying::CanApply))]
     pub(crate) fn plan_auipc(&self, insn: Insn) -> Effect<C>
         requires registers { HasRegisters insn }
         ensures effect { meant C.value result ≡ auipc_effect insn self.now }
@@ -78,13 +78,13 @@ impl<C: CapRep> Hart<C> {
     {
         let pcc = self.scrs.pcc();
         let address = pcc.address().wrapping_add(insn.imm);
-        Effect::Write {
+        Effect::Write(Write {
             rd: insn.rd,
             value: if pcc.flag() {
                 pcc.set_address(address)
             } else {
                 integer(address)
             },
-        }
+        })
     }
 }

@@ -4,14 +4,17 @@ ghost use Rattle.std.specs.Prelude.{◌≡◌, ◌<◌, IsTrue, Some};
 ghost use Rattle.cap_bounds.specs.CapValue.{IsSound};
 ghost use Rattle.tagged_memory.specs.Memory.{IsMemory};
 ghost use Rattle.devices.specs.Devices.{interrupts_of};
-ghost use Rattle.special_regs.specs.Scrs.{IsAligned, is_scr, scr_value};
-ghost use Rattle.special_regs.specs.CsrValues.{is_csr, csr_value};
+ghost use Rattle.base.specs.Registers.{is_scr};
+ghost use Rattle.special_regs.specs.Scrs.{IsAligned, scr_value};
+ghost use Rattle.base.specs.Registers.{is_csr};
+ghost use Rattle.special_regs.specs.CsrValues.{csr_value};
 ghost use Rattle.hart.specs.Registers.{register};
 ghost use Rattle.hart.specs.State.{HoldsCapabilities};
 
 use crate::hart::Hart;
 use cap_bounds::CapRep;
 use devices::Devices;
+use special_regs::held_csr;
 use tagged_memory::Memory;
 
 impl<C: CapRep> Hart<C> {
@@ -39,7 +42,7 @@ impl<C: CapRep> Hart<C> {
         requires { IsTrue (is_csr n) }
         ensures { csr_value self.now.csrs self.now.scrs (interrupts_of self.now.devices) n ≡ Some result }
     {
-        special_regs::csr_value(&self.csrs, &self.scrs, self.devices.interrupts(), n).unwrap()
+        held_csr(&self.csrs, &self.scrs, self.devices.interrupts(), n)
     }
 
     /// RAM and its tags. The word of each tagged granule is a capability's.

@@ -3,11 +3,11 @@
 ghost use Rattle.std.specs.Prelude.{◌≡◌, ◌<◌};
 ghost use Rattle.isa_rows.specs.Kind.{kind_of};
 ghost use Rattle.isa_rows.specs.declared.kinds.Kind.TheVariants as kind;
-ghost use Rattle.hart.specs.Effect.{meant, CanApply};
+ghost use Rattle.hart.specs.Applying.{meant, CanApply};
 ghost use Rattle.hart.specs.Looks.{HasRegisters};
 ghost use Rattle.hart.specs.JumpRows.{sentry_link, link_of, branch_effect, link_effect, jal_effect, enter_effect, jalr_effect, invoke_effect};
 
-use crate::effect::Effect;
+use crate::effect::{Effect, Enter, Link};
 use crate::hart::Hart;
 use alu::branch_taken;
 use cap_bounds::CapRep;
@@ -22,7 +22,7 @@ const INVOKED_DATA: u8 = 31;
 impl<C: CapRep> Hart<C> {
     /// A branch: where it is taken, its target is checked against PCC.
     #[inline]
-    #[tactic(auto, unfolding(crate::specs::JumpRows::branch_effect, crate::specs::Effect::CanApply))]
+    #[tactic(auto, unfolding(crate::specs::JumpRows::branch_effect, crate::specs::Applying::CanApply))]
     pub(crate) fn plan_branch(&self, insn: Insn) -> Effect<C>
         requires kind { kind_of insn.row ≡ kind.Branch }
         requires registers { HasRegisters insn }
@@ -34,7 +34,7 @@ impl<C: CapRep> Hart<C> {
         }
         let pcc = self.scrs.pcc();
         match check_target(pcc, jump_target(pcc.address(), insn.imm)) {
-            Ok(target) => Effect::Jump { target },
+            Ok(target) => Effect::Jump(target),
             Err(fault) => Effect::Trap(fault),
         }
     }
@@ -61,18 +61,18 @@ impl<C: CapRep> Hart<C> {
 
     /// A jump within PCC with a link.
     #[inline]
-    #[tactic(auto, unfolding(crate::specs::JumpRows::link_effect, crate::specs::Effect::CanApply))]
+    #[tactic(auto, unfolding(crate::specs::JumpRows::link_effect, crate::specs::Applying::CanApply))]
     fn plan_link(&self, rd: u8, target: u64) -> Effect<C>
         requires { rd < 32 }
         ensures effect { meant C.value result ≡ link_effect rd target self.now }
         ensures can { CanApply result self.now }
     {
         match check_target(self.scrs.pcc(), target) {
-            Ok(target) => Effect::Link {
+            Ok(target) => Effect::Link(Link {
                 rd,
                 link: self.link(),
                 target,
-            },
+            }),
             Err(fault) => Effect::Trap(fault),
         }
     }
@@ -89,7 +89,7 @@ impl<C: CapRep> Hart<C> {
     }
 
     /// A jump to the capability in rs1, whose seal, if it has one, is opened: JALR in capability mode, and JALR.CAP.
-    #[tactic(auto, unfolding(crate::specs::JumpRows::enter_effect, crate::specs::Effect::CanApply))]
+    #[tactic(auto, unfolding(crate::specs::JumpRows::enter_effect, crate::specs::Applying::CanApply))]
     pub(crate) fn plan_enter(&self, insn: Insn) -> Effect<C>
         requires registers { HasRegisters insn }
         ensures effect { meant C.value result ≡ enter_effect insn self.now }
@@ -97,13 +97,13 @@ impl<C: CapRep> Hart<C> {
     {
         let entry = self.registers.get(insn.rs1);
         match check_jump(entry, u64::from(insn.rs1), insn.imm) {
-            Ok(target) => Effect::Enter {
+            Ok(target) => Effect::Enter(Enter {
                 rd: insn.rd,
                 link: self.sentry_link(),
                 code: opened(entry),
                 target,
                 sealed: OType::of(entry) != OType::UNSEALED,
-            },
+            }),
             Err(fault) => Effect::Trap(fault),
         }
     }
@@ -124,7 +124,7 @@ impl<C: CapRep> Hart<C> {
     }
 
     /// CInvoke: PCC is the code unsealed, and register 31 is the data unsealed.
-    #[tactic(auto, unfolding(crate::specs::JumpRows::invoke_effect, crate::specs::Effect::CanApply))]
+    #[tactic(auto, unfolding(crate::specs::JumpRows::invoke_effect, crate::specs::Applying::CanApply))]
     pub(crate) fn plan_invoke(&self, insn: Insn) -> Effect<C>
         requires registers { HasRegisters insn }
         ensures effect { meant C.value result ≡ invoke_effect insn self.now }
@@ -133,13 +133,13 @@ impl<C: CapRep> Hart<C> {
         let code = self.registers.get(insn.rs1);
         let data = self.registers.get(insn.rs2);
         match check_invoke(code, u64::from(insn.rs1), data, u64::from(insn.rs2)) {
-            Ok(target) => Effect::Enter {
+            Ok(target) => Effect::Enter(Enter {
                 rd: INVOKED_DATA,
                 link: opened(data),
                 code: opened(code),
                 target,
                 sealed: true,
-            },
+            }),
             Err(fault) => Effect::Trap(fault),
         }
     }

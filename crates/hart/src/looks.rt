@@ -1,23 +1,20 @@
 //! What the hart looks at to decide an instruction's effect.
 
 ghost use Rattle.std.specs.Prelude.{◌≡◌, ◌<◌};
-ghost use Rattle.hart.specs.Effect.{meant, CanApply};
+ghost use Rattle.hart.specs.Applying.{meant, CanApply};
 ghost use Rattle.hart.specs.Looks.{number_in, next_of, illegal, refused};
 
 use crate::effect::Effect;
 use crate::hart::Hart;
+use base::{Cause, CheriCause, Fault};
 use cap_bounds::CapRep;
-use cap_checks::Fault;
 use special_regs::SpecialFault;
 
 /// The trap of a word that is no instruction that may be done.
 pub(crate) fn illegal_effect<C: CapRep>(word: u32) -> Effect<C>
     ensures { meant C.value result ≡ illegal word }
 {
-    Effect::Trap(Fault {
-        mcause: 2,
-        mtval: u64::from(word),
-    })
+    Effect::Trap(Fault::of(Cause::IllegalInstruction, u64::from(word)))
 }
 
 /// The trap where a system register is refused. A refusal for want of access names a register, below 64.
@@ -31,10 +28,7 @@ pub(crate) fn refused_effect<C: CapRep>(
 {
     match refusal {
         SpecialFault::S1 => illegal_effect(word),
-        SpecialFault::S2 => Effect::Trap(Fault {
-            mcause: 28,
-            mtval: 32 * register + 0x18,
-        }),
+        SpecialFault::S2 => Effect::Trap(Fault::cheri(register, CheriCause::AccessSystemRegisters)),
     }
 }
 

@@ -4,29 +4,24 @@ ghost use Rattle.std.specs.Prelude.{◌≡◌, ◌<◌, ◌%◌, ◌&&◌, true,
 ghost use Rattle.cap_bounds.specs.CapValue.{value_of};
 ghost use Rattle.cap_bounds.specs.Record.{IsWordWellFormed};
 ghost use Rattle.tagged_memory.specs.Memory.{is_in_ram};
-ghost use Rattle.tagged_memory.specs.Size.{bytes_of};
+ghost use Rattle.base.specs.Size.{bytes_of};
 ghost use Rattle.hart.specs.Accesses.{size_of};
-ghost use Rattle.hart.specs.Effect.{meant, CanApply};
+ghost use Rattle.hart.specs.Applying.{meant, CanApply};
 ghost use Rattle.hart.specs.Looks.{HasRegisters};
 ghost use Rattle.hart.specs.MemoryRows as spec;
 ghost use Rattle.hart.specs.MemoryRows.{place_of, authority_of, authority_number_of, mapped_load, load_effect, mapped_store, store_effect, mapped_capability_load, load_capability_effect, mapped_capability_store, store_capability_effect};
 
 use crate::accesses::{loaded, size_of, through_rs1};
-use crate::effect::Effect;
+use crate::effect::{DeviceLoad, Effect, Store, StoreCapability, Write};
 use crate::hart::Hart;
+use base::{Cause, DDC_REGISTER, Fault, Size};
 use cap_bounds::CapRep;
-use cap_checks::{Access, DDC_REGISTER, Fault, Stored, check_access};
+use cap_checks::{Access, Stored, check_access};
 use cap_format::CapWord;
 use cap_insns::integer;
 use cap_rights::{Permission, permits};
 use devices::Devices;
 use isa_rows::Insn;
-use tagged_memory::Size;
-
-/// The access faults of what lies neither in RAM nor in a device register that takes the access.
-const LOAD_ACCESS: u64 = 5;
-
-const STORE_ACCESS: u64 = 7;
 
 /// The authority of an access, and the number of its register.
 #[derive(Clone, Copy)]
@@ -81,7 +76,7 @@ impl<C: CapRep> Hart<C> {
 
     /// A load that its authority allows: from RAM, or from a device register that can be loaded.
     #[inline]
-    #[tactic(auto, unfolding(crate::specs::MemoryRows::mapped_load, crate::specs::Effect::CanApply, tagged_memory::specs::Memory::access_fault))]
+    #[tactic(auto, unfolding(crate::specs::MemoryRows::mapped_load, crate::specs::Applying::CanApply, tagged_memory::specs::Memory::access_fault))]
     fn plan_mapped_load(&self, insn: Insn, address: u64, size: Size) -> Effect<C>
         requires registers { HasRegisters insn }
         requires aligned { address % bytes_of size ≡ 0 }
@@ -90,29 +85,26 @@ impl<C: CapRep> Hart<C> {
     {
         let rd = insn.rd;
         if self.memory.holds(address, size) {
-            let number = self.memory.read(address, size).unwrap();
-            Effect::Write {
+            let number = self.memory.load(address, size);
+            Effect::Write(Write {
                 rd,
                 value: integer(loaded(insn.row, size, number)),
-            }
+            })
         } else if Devices::gives(address, size) {
-            Effect::DeviceLoad {
+            Effect::DeviceLoad(DeviceLoad {
                 rd,
                 value: integer(self.devices.value_at(address)),
                 address,
                 size,
-            }
-        } else {
-            Effect::Trap(Fault {
-                mcause: LOAD_ACCESS,
-                mtval: address,
             })
+        } else {
+            Effect::Trap(Fault::of(Cause::LoadAccess, address))
         }
     }
 
     /// A load of data.
     #[inline]
-    #[tactic(auto, unfolding(crate::specs::MemoryRows::load_effect, crate::specs::Effect::CanApply))]
+    #[tactic(auto, unfolding(crate::specs::MemoryRows::load_effect, crate::specs::Applying::CanApply))]
     pub(crate) fn plan_load(&self, insn: Insn) -> Effect<C>
         requires registers { HasRegisters insn }
         ensures effect { meant C.value result ≡ load_effect insn self.now }
@@ -134,35 +126,29 @@ impl<C: CapRep> Hart<C> {
 
     /// A store that its authority allows: into RAM, or into a device register that takes it.
     #[inline]
-    #[tactic(auto, unfolding(crate::specs::MemoryRows::mapped_store, crate::specs::Effect::CanApply, tagged_memory::specs::Memory::access_fault))]
+    #[tactic(auto, unfolding(crate::specs::MemoryRows::mapped_store, crate::specs::Applying::CanApply, tagged_memory::specs::Memory::access_fault))]
     fn plan_mapped_store(&self, address: u64, size: Size, number: u64) -> Effect<C>
         requires { address % bytes_of size ≡ 0 }
         ensures effect { meant C.value result ≡ mapped_store address size number self.now }
         ensures can { CanApply result self.now }
     {
+        let store = Store {
+            address,
+            size,
+            number,
+        };
         if self.memory.holds(address, size) {
-            Effect::Store {
-                address,
-                size,
-                number,
-            }
+            Effect::Store(store)
         } else if Devices::takes(address, size) {
-            Effect::DeviceStore {
-                address,
-                size,
-                number,
-            }
+            Effect::DeviceStore(store)
         } else {
-            Effect::Trap(Fault {
-                mcause: STORE_ACCESS,
-                mtval: address,
-            })
+            Effect::Trap(Fault::of(Cause::StoreAccess, address))
         }
     }
 
     /// A store of data.
     #[inline]
-    #[tactic(auto, unfolding(crate::specs::MemoryRows::store_effect, crate::specs::Effect::CanApply))]
+    #[tactic(auto, unfolding(crate::specs::MemoryRows::store_effect, crate::specs::Applying::CanApply))]
     pub(crate) fn plan_store(&self, insn: Insn) -> Effect<C>
         requires registers { HasRegisters insn }
         ensures effect { meant C.value result ≡ store_effect insn self.now }
@@ -189,12 +175,12 @@ impl<C: CapRep> Hart<C> {
         requires inside { is_in_ram self.now.memory address 16 ≡ true }
         ensures { C.value result ≡ spec.loaded_capability (C.value authority) address self.now.memory }
     {
-        let (word, tag) = self.memory.read_cap(address).unwrap();
+        let (word, tag) = self.memory.load_cap(address);
         kept_if(permits(authority, Permission::LoadCapability), word, tag)
     }
 
     /// A load of a capability that its authority allows: from RAM alone, without its tag where the authority lacks Load_Capability.
-    #[tactic(auto, unfolding(crate::specs::MemoryRows::mapped_capability_load, crate::specs::Effect::CanApply, tagged_memory::specs::Memory::access_fault))]
+    #[tactic(auto, unfolding(crate::specs::MemoryRows::mapped_capability_load, crate::specs::Applying::CanApply, tagged_memory::specs::Memory::access_fault))]
     fn plan_mapped_capability_load(&self, authority: C, rd: u8, address: u64) -> Effect<C>
         requires register { rd < 32 }
         requires aligned { address % 16 ≡ 0 }
@@ -202,19 +188,16 @@ impl<C: CapRep> Hart<C> {
         ensures can { CanApply result self.now }
     {
         if !self.memory.holds_granule(address) {
-            return Effect::Trap(Fault {
-                mcause: LOAD_ACCESS,
-                mtval: address,
-            });
+            return Effect::Trap(Fault::of(Cause::LoadAccess, address));
         }
-        Effect::Write {
+        Effect::Write(Write {
             rd,
             value: self.loaded_capability(authority, address),
-        }
+        })
     }
 
     /// A load of a capability.
-    #[tactic(auto, unfolding(crate::specs::MemoryRows::load_capability_effect, crate::specs::Effect::CanApply))]
+    #[tactic(auto, unfolding(crate::specs::MemoryRows::load_capability_effect, crate::specs::Applying::CanApply))]
     pub(crate) fn plan_load_capability(&self, insn: Insn) -> Effect<C>
         requires registers { HasRegisters insn }
         ensures effect { meant C.value result ≡ load_capability_effect insn self.now }
@@ -234,24 +217,21 @@ impl<C: CapRep> Hart<C> {
     }
 
     /// A store of a capability that its authority allows: into RAM alone.
-    #[tactic(auto, unfolding(crate::specs::MemoryRows::mapped_capability_store, crate::specs::Effect::CanApply, tagged_memory::specs::Memory::access_fault))]
+    #[tactic(auto, unfolding(crate::specs::MemoryRows::mapped_capability_store, crate::specs::Applying::CanApply, tagged_memory::specs::Memory::access_fault))]
     fn plan_mapped_capability_store(&self, address: u64, value: C) -> Effect<C>
         requires { address % 16 ≡ 0 }
         ensures effect { meant C.value result ≡ mapped_capability_store address (C.value value) self.now }
         ensures can { CanApply result self.now }
     {
         if self.memory.holds_granule(address) {
-            Effect::StoreCapability { address, value }
+            Effect::StoreCapability(StoreCapability { address, value })
         } else {
-            Effect::Trap(Fault {
-                mcause: STORE_ACCESS,
-                mtval: address,
-            })
+            Effect::Trap(Fault::of(Cause::StoreAccess, address))
         }
     }
 
     /// A store of a capability, or of 128 bits without a tag.
-    #[tactic(auto, unfolding(crate::specs::MemoryRows::store_capability_effect, crate::specs::Effect::CanApply))]
+    #[tactic(auto, unfolding(crate::specs::MemoryRows::store_capability_effect, crate::specs::Applying::CanApply))]
     pub(crate) fn plan_store_capability(&self, insn: Insn) -> Effect<C>
         requires registers { HasRegisters insn }
         ensures effect { meant C.value result ≡ store_capability_effect insn self.now }

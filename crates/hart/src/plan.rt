@@ -2,20 +2,20 @@
 
 ghost use Rattle.std.specs.Prelude.{◌≡◌};
 ghost use Rattle.isa_rows.specs.Kind.{kind_of};
-ghost use Rattle.hart.specs.Effect.{meant, CanApply};
+ghost use Rattle.hart.specs.Applying.{meant, CanApply};
 ghost use Rattle.hart.specs.Looks.{HasRegisters};
 ghost use Rattle.hart.specs.Step.{kind_effect};
 
 use crate::effect::Effect;
 use crate::hart::Hart;
+use base::{Cause, Fault};
 use cap_bounds::CapRep;
-use cap_checks::Fault;
 use isa_rows::{Insn, Kind};
 
 impl<C: CapRep> Hart<C> {
     /// The effect of an instruction. The word stands in mtval where it is illegal.
     #[inline]
-    #[tactic(auto, unfolding(crate::specs::Step::kind_effect, crate::specs::Effect::CanApply))]
+    #[tactic(auto, unfolding(crate::specs::Step::kind_effect, crate::specs::Applying::CanApply))]
     pub(crate) fn plan(&self, word: u32, insn: Insn) -> Effect<C>
         requires registers { HasRegisters insn }
         ensures effect { meant C.value result ≡ kind_effect (kind_of insn.row) word insn self.now }
@@ -39,14 +39,8 @@ impl<C: CapRep> Hart<C> {
             Kind::SpecialRw => self.plan_special(word, insn),
             Kind::Mret => self.plan_return(word),
             Kind::Fence => Effect::Nothing,
-            Kind::Ecall => Effect::Trap(Fault {
-                mcause: 11,
-                mtval: 0,
-            }),
-            Kind::Ebreak => Effect::Trap(Fault {
-                mcause: 3,
-                mtval: self.scrs.pcc().address(),
-            }),
+            Kind::Ecall => Effect::Trap(Fault::of(Cause::EnvironmentCall, 0)),
+            Kind::Ebreak => Effect::Trap(Fault::of(Cause::Breakpoint, self.scrs.pcc().address())),
         }
     }
 }

@@ -1,18 +1,18 @@
 //! Control and status registers, special capability registers, and the return from a trap.
 
 ghost use Rattle.std.specs.Prelude.{◌≡◌, ◌<◌, ◌%◌, ◌^◌, option_map};
-ghost use Rattle.hart.specs.Effect.{meant, CanApply};
+ghost use Rattle.hart.specs.Applying.{meant, CanApply};
 ghost use Rattle.hart.specs.Looks.{HasRegisters};
 ghost use Rattle.hart.specs.SystemRows as spec;
 
-use crate::effect::Effect;
+use crate::effect::{CsrWrite, Effect, SpecialWrite, Write};
 use crate::hart::Hart;
-use crate::looks::{illegal_effect, refused_effect};
+use crate::looks::refused_effect;
+use base::{FIRST_SPECIAL, PCC_REGISTER};
 use cap_bounds::CapRep;
-use cap_checks::PCC_REGISTER;
 use cap_insns::integer;
 use isa_rows::{Insn, Row};
-use special_regs::{check_csr, check_return, check_scr, csr_value};
+use special_regs::{check_csr, check_return, check_scr, held_csr};
 
 /// Whether a CSR row writes: the set and clear forms don't where their field is 0.
 #[tactic(auto, unfolding(crate::specs::SystemRows::csr_writes))]
@@ -58,7 +58,7 @@ impl<C: CapRep> Hart<C> {
     }
 
     /// A CSR row: its old number goes to rd, and its new one into the register.
-    #[tactic(auto, unfolding(crate::specs::SystemRows::csr_effect, crate::specs::SystemRows::csr_done, crate::specs::Effect::CanApply))]
+    #[tactic(auto, unfolding(crate::specs::SystemRows::csr_effect, crate::specs::SystemRows::csr_done, crate::specs::Applying::CanApply))]
     pub(crate) fn plan_csr(&self, word: u32, insn: Insn) -> Effect<C>
         requires registers { HasRegisters insn }
         ensures effect { meant C.value result ≡ spec.csr_effect word insn self.now }
@@ -69,25 +69,23 @@ impl<C: CapRep> Hart<C> {
         if let Err(refusal) = check_csr(&self.scrs, number, writes) {
             return refused_effect(refusal, PCC_REGISTER, word);
         }
-        let Some(held) = csr_value(&self.csrs, &self.scrs, self.devices.interrupts(), number) else {
-            return illegal_effect(word);
-        };
+        let held = held_csr(&self.csrs, &self.scrs, self.devices.interrupts(), number);
         let rd = insn.rd;
         let old = integer(held);
         if writes {
-            Effect::Csr {
+            Effect::Csr(CsrWrite {
                 rd,
                 old,
                 number,
                 value: csr_new(insn.row, held, self.csr_source(insn)),
-            }
+            })
         } else {
-            Effect::Write { rd, value: old }
+            Effect::Write(Write { rd, value: old })
         }
     }
 
     /// CSpecialRW: what the special register held goes to rd, and rs1 into it unless it is register 0.
-    #[tactic(auto, unfolding(crate::specs::SystemRows::special_effect, crate::specs::SystemRows::special_done, crate::specs::Effect::CanApply))]
+    #[tactic(auto, unfolding(crate::specs::SystemRows::special_effect, crate::specs::SystemRows::special_done, crate::specs::Applying::CanApply))]
     pub(crate) fn plan_special(&self, word: u32, insn: Insn) -> Effect<C>
         requires registers { HasRegisters insn }
         ensures effect { meant C.value result ≡ spec.special_effect word insn self.now }
@@ -96,25 +94,29 @@ impl<C: CapRep> Hart<C> {
         let writes = insn.rs1 != 0;
         let old = match check_scr(&self.scrs, insn.rs2, writes) {
             Ok(old) => old,
-            Err(refusal) => return refused_effect(refusal, 32 + u64::from(insn.rs2), word),
+            Err(refusal) => return refused_effect(
+                refusal,
+                FIRST_SPECIAL + u64::from(insn.rs2),
+                word,
+            ),
         };
         if writes {
-            Effect::Special {
+            Effect::Special(SpecialWrite {
                 rd: insn.rd,
                 old,
                 number: insn.rs2,
                 value: self.registers.get(insn.rs1),
-            }
+            })
         } else {
-            Effect::Write {
+            Effect::Write(Write {
                 rd: insn.rd,
                 value: old,
-            }
+            })
         }
     }
 
     /// MRET.
-    #[tactic(auto, unfolding(crate::specs::SystemRows::return_effect, crate::specs::Effect::CanApply))]
+    #[tactic(auto, unfolding(crate::specs::SystemRows::return_effect, crate::specs::Applying::CanApply))]
     pub(crate) fn plan_return(&self, word: u32) -> Effect<C>
         ensures effect { meant C.value result ≡ spec.return_effect word self.now }
         ensures can { CanApply result self.now }

@@ -5,6 +5,7 @@ use Rattle.std.specs.List.{flat_map, starts_with}
 use Rattle.std.proofs.lemmas.Bool.{le-ltb, eq-eqb}
 use Rattle.std.proofs.lemmas.List.{take_at, drop_at, length-append, append-nil}
 use Rattle.byteorder.specs.Numbers.{little_number-reads_back}
+use Rattle.base.specs.Ram.{most_pages}
 use Rattle.image.specs.declared.fault.ImageFault.{ImageFault}
 use Rattle.image.specs.declared.parts.Header.{Header}
 use Rattle.image.specs.declared.parts.Span.{Span}
@@ -59,7 +60,7 @@ span_again pages free s rest address size fine =
     span_read pages free (span_bytes s.address s.size) rest s refl
     (little_number-reads_back 8 s.address [] (omega arith)) (little_number-reads_back 8 s.size [] (omega arith)) fine
 
-section_again : (pages free : ℕ) (s : Section) (rest : List ℕ) → pages ≤ 4096 → span_fault pages free s.address (length s.bytes) ≡ None
+section_again : (pages free : ℕ) (s : Section) (rest : List ℕ) → pages ≤ most_pages → span_fault pages free s.address (length s.bytes) ≡ None
     → section_at pages free (section_bytes s ++ rest) ≡ Ok (s, rest)
 unfolding section_at
 section_again pages free s rest small fine =
@@ -71,7 +72,7 @@ section_again pages free s rest small fine =
 
 -- ---- sections
 
-sections_again : (pages free : ℕ) (ss : List Section) (rest : List ℕ) → pages ≤ 4096 → sections_fault pages free ss ≡ None
+sections_again : (pages free : ℕ) (ss : List Section) (rest : List ℕ) → pages ≤ most_pages → sections_fault pages free ss ≡ None
     → sections_at pages (length ss) free (flat_map section_bytes ss ++ rest) ≡ Ok (ss, rest)
 unfolding sections_at
 sections_again pages free [] rest small none = refl

@@ -2,6 +2,7 @@
 use Rattle.std.specs.Prelude.{◌≡◌, ℕ, ◌+◌, ◌*◌, ◌%◌, Bool, not, ◌&&◌, ◌||◌, ◌==◌, nat_lt, nat_le, if◌then◌else◌, List, [], ◌∷◌, length, map, Option, Some, None, Result, Ok, Err}
 use Rattle.std.specs.Option.{option_or}
 use Rattle.std.specs.Borrow.{Bor}
+use Rattle.base.specs.Ram.{ram_base, ram_end, most_pages}
 use Rattle.image.specs.declared.fault.ImageFault.{ImageFault}
 use Rattle.image.specs.declared.fault.ImageFault.TheVariants.{L4, L5, L6, L7, L11}
 
@@ -17,17 +18,10 @@ pub record Image : Type 0 where
   pub mode : Bool
   pub sections : List Section
 
--- where RAM begins, and where so many pages of it end
-abbrev pub ram_base : ℕ
-ram_base = 0x8000_0000
-
-abbrev pub ram_end : ℕ → ℕ
-ram_end pages = ram_base + 4096 * pages
-
--- 1 to 4096 pages; an entry that is a multiple of 4 with four bytes in RAM; a mode of 0 or 1
+-- 1 to the most pages; an entry that is a multiple of 4 with four bytes in RAM; a mode of 0 or 1
 unfoldable pub is_good_header : ℕ → ℕ → ℕ → Bool
 is_good_header pages entry mode =
-    (nat_le 1 pages && nat_le pages 4096)
+    (nat_le 1 pages && nat_le pages most_pages)
     && ((entry % 4 == 0) && (nat_le ram_base entry && nat_le (entry + 4) (ram_end pages)))
     && nat_le mode 1
 

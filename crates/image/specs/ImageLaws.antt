@@ -4,7 +4,8 @@ use Rattle.std.specs.Option.{option_or}
 use Rattle.std.proofs.lemmas.Bool.{ltb-false, and_parts, eqb-true, cases_eq, eq-eqb, ne_eqb, leb-true}
 use Rattle.image.specs.declared.fault.ImageFault.{ImageFault}
 use Rattle.image.specs.declared.fault.ImageFault.TheVariants.{L4, L5, L6, L7}
-use Rattle.image.specs.Image.{Section, Image, IsImage, ram_base, ram_end, is_good_header, span_fault, sections_fault, build_fault, mode_number, image_of}
+use Rattle.base.specs.Ram.{ram_base, ram_end, most_pages}
+use Rattle.image.specs.Image.{Section, Image, IsImage, is_good_header, span_fault, sections_fault, build_fault, mode_number, image_of}
 
 -- each section begins and ends in RAM
 abbrev pub AllInRam : ℕ → List Section → Type 0
@@ -57,8 +58,8 @@ entry_aligned i valid =
     let good = (build_parts i.pages i.entry (mode_number i.mode) i.sections valid).0 in
     eqb-true _ _ (and_parts _ _ (and_parts _ _ (and_parts _ _ good).0).1).0
 
--- the numbers of a good header: pages of 1 to 4096, an entry with four bytes in RAM, a mode of 0 or 1
-pub header_ranges : (pages entry mode : ℕ) → is_good_header pages entry mode ≡ true → (pages ≤ 4096) × (entry + 4 ≤ ram_end pages) × (mode ≤ 1)
+-- the numbers of a good header: pages of 1 to the most, an entry with four bytes in RAM, a mode of 0 or 1
+pub header_ranges : (pages entry mode : ℕ) → is_good_header pages entry mode ≡ true → (pages ≤ most_pages) × (entry + 4 ≤ ram_end pages) × (mode ≤ 1)
 unfolding is_good_header
 header_ranges pages entry mode good =
     let p = and_parts _ _ good in

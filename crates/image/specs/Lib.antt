@@ -3,3 +3,4 @@ pub mod Image
 pub mod ImageLaws
 pub mod Grammar
 pub mod Reads
+pub mod BeginningLaws

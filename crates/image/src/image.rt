@@ -1,9 +1,11 @@
 ghost use Rattle.std.specs.Prelude.{◌≡◌, ◌<◌, ◌≤◌, ◌+◌, IfOk, IfNone, IfSome, None, length};
-ghost use Rattle.image.specs.Image.{IsImage, Builds, build_fault, span_fault, image_of, lent_sections, lent_section, is_good_header, sections_fault, ram_end};
+ghost use Rattle.base.specs.Ram.{ram_end};
+ghost use Rattle.image.specs.Image.{IsImage, Builds, build_fault, span_fault, image_of, lent_sections, lent_section, is_good_header, sections_fault};
 ghost use Rattle.image.specs.Reads.{IsOfBytes};
 
 use crate::fault::ImageFault;
 use crate::section::Section;
+use base::ram;
 use std::alloc::{AllocError, Global};
 use std::marker::Model;
 
@@ -26,14 +28,11 @@ impl Model for Image {
     ghost invariant = { λ i. spec.IsImage (record { pages = i.pages; entry = i.entry; mode = i.mode; sections = i.sections.items }) };
 }
 
-/// Where RAM begins.
-const RAM_BASE: u64 = 0x8000_0000;
-
 /// Where this many pages of RAM end.
 fn ram_end_of(pages: u32) -> u64
     ensures { result ≡ ram_end pages }
 {
-    RAM_BASE + 4096 * u64::from(pages)
+    ram::BASE + ram::PAGE_BYTES * u64::from(pages)
 }
 
 /// Whether pages, entry and mode are good.
@@ -42,9 +41,9 @@ pub(crate) fn is_good(pages: u32, entry: u64, mode: u32) -> bool
     ensures { result ≡ is_good_header pages entry mode }
 {
     let end = ram_end_of(pages);
-    (1..=4096).contains(&pages)
+    (1..=ram::MOST_PAGES).contains(&pages)
         && entry % 4 == 0
-        && RAM_BASE <= entry
+        && ram::BASE <= entry
         && entry <= end - 4
         && mode <= 1
 }
@@ -57,7 +56,7 @@ pub(crate) fn fault_of_span(pages: u32, free: u64, address: u64, size: u64) -> O
     ensures inside { IfNone result (address + size ≤ ram_end pages) }
 {
     let end = ram_end_of(pages);
-    if address < RAM_BASE || address > end || size > end - address {
+    if address < ram::BASE || address > end || size > end - address {
         return Some(ImageFault::L6);
     }
     if address < free {

@@ -1,7 +1,8 @@
 //! The parts of an image file.
 
 ghost use Rattle.std.specs.Prelude.{◌≡◌, ◌+◌, ◌≤◌, IfOk, IfErr, length};
-ghost use Rattle.image.specs.Image.{ram_end, span_fault};
+ghost use Rattle.base.specs.Ram.{ram_end};
+ghost use Rattle.image.specs.Image.{span_fault};
 ghost use Rattle.image.specs.Grammar.{unless, number_at, header_fault, header_of};
 ghost use Rattle.image.specs.Reads.{IsOfBytes};
 

@@ -4,7 +4,7 @@ ghost use Rattle.std.specs.Prelude.{◌≡◌, ◌+◌, ◌-◌, ◌^◌, ◌<�
 ghost use Rattle.std.specs.Io.KnownBytes.{Consumes, IsAtEnd};
 ghost use Rattle.image.specs.declared.fault.ImageFault.TheVariants.{L8, L9};
 ghost use Rattle.image.specs.Devices.{Counts};
-ghost use Rattle.image.specs.Image.{ram_end};
+ghost use Rattle.base.specs.Ram.{ram_end};
 ghost use Rattle.image.specs.Grammar.{taken, header_at, span_at, section_at, sections_at, image_at, reading};
 ghost use Rattle.image.specs.Reads.{IsOfBytes, IsNotAtEnd, Answers, ConsumesBeginning, CountsL10, Takes};
 

@@ -1,8 +1,10 @@
 ghost use Rattle.std.specs.Prelude.{◌≡◌, ◌+◌, ◌<◌, ◌≤◌, ◌++◌, length, vec_len, vec_capacity, IsOk, IsTrue, IfOk, IfErr, OnOk, OnErr, Some, option_to_list};
 ghost use Rattle.cap_bounds.specs.CapValue.{IsSound};
 ghost use Rattle.devices.specs.Devices.{interrupts_of};
-ghost use Rattle.special_regs.specs.Scrs.{IsAligned, is_scr, scr_value};
-ghost use Rattle.special_regs.specs.CsrValues.{is_csr, csr_value};
+ghost use Rattle.base.specs.Registers.{is_scr};
+ghost use Rattle.special_regs.specs.Scrs.{IsAligned, scr_value};
+ghost use Rattle.base.specs.Registers.{is_csr};
+ghost use Rattle.special_regs.specs.CsrValues.{csr_value};
 ghost use Rattle.hart.specs.Registers.{register};
 ghost use Rattle.hart.specs.State.{HoldsCapabilities};
 ghost use Rattle.hart.specs.Event.{after, sent};

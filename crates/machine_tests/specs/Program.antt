@@ -2,7 +2,8 @@
 use Rattle.std.specs.Prelude.{ℕ, List, [], ◌∷◌}
 use Rattle.std.specs.List.{flat_map}
 use Rattle.std.specs.Int.{w32, to_le_bytes}
-use Rattle.image.specs.Image.{Image, ram_base, image_of}
+use Rattle.base.specs.Ram.{ram_base}
+use Rattle.image.specs.Image.{Image, image_of}
 
 -- the words' bytes, each word's lowest first
 abbrev pub program_bytes : List ℕ → List ℕ

@@ -5,8 +5,8 @@ use Rattle.special_regs.specs.declared.csrs.Csrs.{Csrs}
 -- as they begin
 abbrev pub zero_csrs : Csrs
 zero_csrs = record {
-  interrupts = false;
-  previous = false;
+  mstatus_mie = false;
+  mstatus_mpie = false;
   mie = 0;
   mscratch = 0;
   mcause = 0;

@@ -4,4 +4,4 @@ use Rattle.std.specs.Prelude.{ℕ, ◌==◌, if◌then◌else◌, List, [], ◌�
 -- what stands beside a number in a list, or none
 abbrev pub value_at : {X : Type 0} → ℕ → List (ℕ × X) → Option X
 value_at n [] = None
-value_at n (entry ∷ entries) = if n == entry.0 then Some entry.1 else value_at n entries
+value_at n (entry ∷ entries) = if entry.0 == n then Some entry.1 else value_at n entries

@@ -4,13 +4,15 @@ use Rattle.std.specs.Prelude.{IsSome}
 use Rattle.std.specs.List.{list_any}
 use Rattle.special_regs.specs.Numbered.{value_at}
 use Rattle.special_regs.specs.declared.csrs.Csrs.{Csrs}
-use Rattle.special_regs.specs.Scrs.{Scrs, is_scr, scr_value, scr_values}
-use Rattle.special_regs.specs.CsrValues.{is_csr, csr_value, csr_values}
+use Rattle.base.specs.Registers.{is_scr}
+use Rattle.special_regs.specs.Scrs.{Scrs, scr_value, scr_values}
+use Rattle.base.specs.Registers.{is_csr}
+use Rattle.special_regs.specs.CsrValues.{csr_value, csr_values}
 
-IsSome-value_at : {X : Type 0} (n : ℕ) (entries : List (ℕ × X)) → list_any (λ e. eqb n e.0) entries ≡ true → IsSome (value_at n entries)
+IsSome-value_at : {X : Type 0} (n : ℕ) (entries : List (ℕ × X)) → list_any (λ e. eqb e.0 n) entries ≡ true → IsSome (value_at n entries)
 IsSome-value_at n [] listed = cc
 IsSome-value_at n (e ∷ entries) listed =
-    elim (eqb n e.0) as (λ b. (b || list_any (λ e. eqb n e.0) entries) ≡ true → IsSome (cond b (Some e.1) (value_at n entries))) [
+    elim (eqb e.0 n) as (λ b. (b || list_any (λ e. eqb e.0 n) entries) ≡ true → IsSome (cond b (Some e.1) (value_at n entries))) [
       | true ↦ λ _. refl
       | false ↦ λ listed. IsSome-value_at n entries listed
     ] listed

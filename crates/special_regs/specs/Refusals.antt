@@ -3,8 +3,10 @@ use Rattle.std.specs.Prelude.{ℕ, Bool, not, ◌&&◌, ◌||◌, ◌==◌, nat_
 use Rattle.std.specs.List.{list_any}
 use Rattle.cap_rights.specs.Permission.{permits}
 use Rattle.cap_rights.specs.declared.permission.Permission.TheVariants as permission
-use Rattle.special_regs.specs.CsrValues.{is_csr}
-use Rattle.special_regs.specs.Scrs.{Scrs, is_scr}
+use Rattle.base.specs.Registers.{is_csr, is_scr}
+use Rattle.base.specs.declared.registers.csr.TheConstants.{MVENDORID, MARCHID, MIMPID, MHARTID}
+use Rattle.base.specs.declared.registers.scr.TheConstants.{PCC, MTCC}
+use Rattle.special_regs.specs.Scrs.{Scrs}
 use Rattle.special_regs.specs.declared.refusal.SpecialFault.{SpecialFault}
 use Rattle.special_regs.specs.declared.refusal.SpecialFault.TheVariants.{S1, S2}
 
@@ -14,7 +16,7 @@ has_system_access s = permits s.pcc permission.AccessSystemRegisters
 
 -- mvendorid, marchid, mimpid and mhartid are only read
 abbrev pub is_read_only : ℕ → Bool
-is_read_only n = list_any (λ k. n == k) (0xf11 ∷ 0xf12 ∷ 0xf13 ∷ 0xf14 ∷ [])
+is_read_only n = list_any (λ k. n == k) (MVENDORID ∷ MARCHID ∷ MIMPID ∷ MHARTID ∷ [])
 
 -- Why control and status register n may not be read or, where `writes` is true, written: no such register or a write to one that is
 -- only read, then no access.
@@ -27,8 +29,8 @@ csr_fault s n writes =
 -- access to MTCC, MTDC, MScratchC or MEPCC.
 unfoldable pub scr_fault : Scrs → ℕ → Bool → Option SpecialFault
 scr_fault s n writes =
-    if not (is_scr n) || (writes && (n == 0)) then Some S1
-    else (if nat_le 28 n && not (has_system_access s) then Some S2 else None)
+    if not (is_scr n) || (writes && (n == PCC)) then Some S1
+    else (if nat_le MTCC n && not (has_system_access s) then Some S2 else None)
 
 -- Why a trap may not be left: no access.
 unfoldable pub return_fault : Scrs → Option SpecialFault

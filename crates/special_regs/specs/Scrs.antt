@@ -1,6 +1,6 @@
 -- The special capability registers (UCAM-CL-TR-987, CHERI-RISC-V special capability registers).
-use Rattle.std.specs.Prelude.{◌≡◌, ℕ, ◌%◌, Bool, ◌==◌, List, [], ◌∷◌, Option}
-use Rattle.std.specs.List.{list_any}
+use Rattle.std.specs.Prelude.{◌≡◌, ℕ, ◌%◌, List, [], ◌∷◌, Option}
+use Rattle.base.specs.declared.registers.scr.TheConstants.{PCC, DDC, MTCC, MTDC, MSCRATCHC, MEPCC}
 use Rattle.special_regs.specs.Numbered.{value_at}
 use Rattle.cap_bounds.specs.CapValue.{CapValue, value_address}
 
@@ -19,10 +19,7 @@ IsAligned v = value_address v % 4 ≡ 0
 -- The special registers by number.
 abbrev pub scr_values : Scrs → List (ℕ × CapValue)
 scr_values s =
-    (0, s.pcc) ∷ (1, s.ddc) ∷ (28, s.mtcc) ∷ (29, s.mtdc) ∷ (30, s.mscratchc) ∷ (31, s.mepcc) ∷ []
-
-abbrev pub is_scr : ℕ → Bool
-is_scr n = list_any (λ k. n == k) (0 ∷ 1 ∷ 28 ∷ 29 ∷ 30 ∷ 31 ∷ [])
+    (PCC, s.pcc) ∷ (DDC, s.ddc) ∷ (MTCC, s.mtcc) ∷ (MTDC, s.mtdc) ∷ (MSCRATCHC, s.mscratchc) ∷ (MEPCC, s.mepcc) ∷ []
 
 unfoldable pub scr_value : Scrs → ℕ → Option CapValue
 scr_value s n = value_at n (scr_values s)

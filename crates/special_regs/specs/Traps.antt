@@ -1,9 +1,10 @@
 -- Entering a trap, and leaving it by MRET (RISC-V privileged manual, machine trap handling; UCAM-CL-TR-987, CHERI-RISC-V exception handling).
 use Rattle.std.specs.Prelude.{◌*◌, ◌/◌, ◌%◌, true, false, Bool, ◌&&◌, ◌==◌, if◌then◌else◌}
-use Rattle.cap_bounds.specs.CapValue.{CapValue, is_tagged, value_otype, value_address, sentry_type}
+use Rattle.base.specs.ObjectType.{sentry_type}
+use Rattle.cap_bounds.specs.CapValue.{CapValue, is_tagged, value_otype, value_address}
 use Rattle.cap_bounds.specs.SetAddress.{at_address}
 use Rattle.cap_rights.specs.Opened.{opened}
-use Rattle.cap_checks.specs.declared.fault.Fault.{Fault}
+use Rattle.base.specs.declared.fault.Fault.{Fault}
 use Rattle.special_regs.specs.declared.csrs.Csrs.{Csrs}
 use Rattle.special_regs.specs.Scrs.{Scrs}
 
@@ -29,7 +30,7 @@ trapped_scrs s = record s { mepcc = s.pcc; pcc = target s.mtcc }
 
 -- The cause is kept, and interrupts are off; whether they were on is kept too.
 abbrev pub trapped_csrs : Fault → Csrs → Csrs
-trapped_csrs f c = record c { mcause = f.mcause; mtval = f.mtval; previous = c.interrupts; interrupts = false }
+trapped_csrs f c = record c { mcause = f.mcause; mtval = f.mtval; mstatus_mpie = c.mstatus_mie; mstatus_mie = false }
 
 -- PCC is where MEPCC says.
 abbrev pub returned_scrs : Scrs → Scrs
@@ -37,4 +38,4 @@ returned_scrs s = record s { pcc = target s.mepcc }
 
 -- Interrupts are on if they were before the trap.
 abbrev pub returned_csrs : Csrs → Csrs
-returned_csrs c = record c { interrupts = c.previous; previous = true }
+returned_csrs c = record c { mstatus_mie = c.mstatus_mpie; mstatus_mpie = true }

@@ -1,14 +1,14 @@
 //! Who may use which system register.
 
 ghost use Rattle.std.specs.Prelude.{◌≡◌, IsTrue, IfErr, IfOk, OnOk, Some, None};
-ghost use Rattle.special_regs.specs.CsrValues.{is_csr};
+ghost use Rattle.base.specs.Registers.{is_csr};
 ghost use Rattle.special_regs.specs.Refusals.{csr_fault, scr_fault};
 ghost use Rattle.special_regs.specs.Refusals as spec;
 ghost use Rattle.special_regs.specs.Scrs.{scr_value};
 
-use crate::numbers::*;
 use crate::refusal::SpecialFault;
 use crate::scrs::Scrs;
+use base::{csr, is_csr, scr};
 use cap_bounds::CapRep;
 use cap_rights::{Permission, permits};
 
@@ -19,36 +19,12 @@ pub(crate) fn has_system_access<C: CapRep>(scrs: &Scrs<C>) -> bool
     permits(scrs.pcc(), Permission::AccessSystemRegisters)
 }
 
-/// Returns whether there is a control and status register of this number.
-fn is_csr(number: u16) -> bool
-    ensures { result ≡ is_csr number }
-{
-    match number {
-        MSTATUS
-        | MISA
-        | MIE
-        | MTVEC
-        | MSCRATCH
-        | MEPC
-        | MCAUSE
-        | MTVAL
-        | MIP
-        | MCYCLE
-        | MINSTRET
-        | MVENDORID
-        | MARCHID
-        | MIMPID
-        | MHARTID => true,
-        _ => false,
-    }
-}
-
 /// Returns whether a write of control and status register `number` is a fault.
 fn is_read_only(number: u16) -> bool
     ensures { result ≡ spec.is_read_only number }
 {
     match number {
-        MVENDORID | MARCHID | MIMPID | MHARTID => true,
+        csr::MVENDORID | csr::MARCHID | csr::MIMPID | csr::MHARTID => true,
         _ => false,
     }
 }
@@ -79,8 +55,10 @@ pub fn check_scr<C: CapRep>(scrs: &Scrs<C>, number: u8, writes: bool) -> Result<
     ensures refused { IfErr result (λ fault. scr_fault scrs.now number writes ≡ Some fault) }
 {
     match number {
-        PCC if writes => Err(SpecialFault::S1),
-        MTCC | MTDC | MSCRATCHC | MEPCC if !has_system_access(scrs) => Err(SpecialFault::S2),
+        scr::PCC if writes => Err(SpecialFault::S1),
+        scr::MTCC | scr::MTDC | scr::MSCRATCHC | scr::MEPCC if !has_system_access(scrs) => Err(
+            SpecialFault::S2,
+        ),
         _ => scrs.get(number).ok_or(SpecialFault::S1),
     }
 }

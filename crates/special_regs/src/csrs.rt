@@ -4,9 +4,9 @@ ghost use Rattle.std.specs.Prelude.{◌≡◌};
 #[derive(Clone, Copy, Debug, PartialEq, Eq)]
 pub struct Csrs {
     /// mstatus.MIE: interrupts are on.
-    pub interrupts: bool,
+    pub mstatus_mie: bool,
     /// mstatus.MPIE: they were on before the last trap.
-    pub previous: bool,
+    pub mstatus_mpie: bool,
     /// The interrupts that may be taken, by bit.
     pub mie: u64,
     /// A number that software keeps.
@@ -29,8 +29,8 @@ impl Csrs {
         ensures { result ≡ zero_csrs }
     {
         Csrs {
-            interrupts: false,
-            previous: false,
+            mstatus_mie: false,
+            mstatus_mpie: false,
             mie: 0,
             mscratch: 0,
             mcause: 0,

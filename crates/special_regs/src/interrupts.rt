@@ -4,7 +4,7 @@ ghost use Rattle.special_regs.specs.Interrupts as spec;
 
 use crate::bits::has_bit;
 use crate::csrs::Csrs;
-use cap_checks::Fault;
+use base::{Fault, interrupt};
 
 /// The bit of mcause that says that the cause is an interrupt.
 const INTERRUPT: u64 = 1 << 63;
@@ -26,8 +26,8 @@ impl Interrupt {
         ensures range { result < 63 }
     {
         match self {
-            Interrupt::External => 11,
-            Interrupt::Timer => 7,
+            Interrupt::External => interrupt::EXTERNAL,
+            Interrupt::Timer => interrupt::TIMER,
         }
     }
 
@@ -58,7 +58,7 @@ fn is_asked(csrs: &Csrs, mip: u64, interrupt: Interrupt) -> bool
 pub fn pending(csrs: &Csrs, mip: u64) -> Option<Interrupt>
     ensures { result ≡ spec.pending csrs.now mip }
 {
-    if !csrs.interrupts {
+    if !csrs.mstatus_mie {
         None
     } else if is_asked(csrs, mip, Interrupt::External) {
         Some(Interrupt::External)

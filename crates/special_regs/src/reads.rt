@@ -1,22 +1,29 @@
-ghost use Rattle.std.specs.Prelude.{◌≡◌, IfErr, IfOk, OnOk, Some, None, false};
+ghost use Rattle.std.specs.Prelude.{◌≡◌, IfErr, IfOk, IsTrue, OnOk, Some, None, false};
+ghost use Rattle.base.specs.Registers.{is_csr};
 ghost use Rattle.special_regs.specs.CsrValues as spec;
 ghost use Rattle.special_regs.specs.Refusals.{csr_fault};
 
 use crate::access::check_csr;
 use crate::csrs::Csrs;
-use crate::numbers::*;
 use crate::refusal::SpecialFault;
 use crate::scrs::Scrs;
+use crate::writes::{MIE_BIT, MPIE_BIT};
+use base::csr;
 use cap_bounds::CapRep;
 
 /// What misa reads: 64-bit registers, the base set I and the extension M.
 const INSTRUCTION_SET: u64 = 0x8000_0000_0000_1100;
 
-/// Reads mstatus: MIE at bit 3, MPIE at bit 7, and machine mode in bits 12..11.
+/// What mstatus reads at bits 12..11: machine mode.
+const MACHINE_MODE: u64 = 3 << 11;
+
+/// Reads mstatus: MIE, MPIE, and machine mode in bits 12..11.
 fn mstatus(csrs: &Csrs) -> u64
     ensures { result ≡ spec.mstatus csrs.now }
 {
-    0x1800 + 128 * u64::from(csrs.previous) + 8 * u64::from(csrs.interrupts)
+    MACHINE_MODE
+        + (u64::from(csrs.mstatus_mpie) << MPIE_BIT)
+        + (u64::from(csrs.mstatus_mie) << MIE_BIT)
 }
 
 /// Returns what control and status register `number` holds, or `None` where there is no such register; a debugger needs no access.
@@ -25,18 +32,18 @@ pub fn csr_value<C: CapRep>(csrs: &Csrs, scrs: &Scrs<C>, mip: u64, number: u16) 
     ensures { result ≡ spec.csr_value csrs.now scrs.now mip number }
 {
     match number {
-        MSTATUS => Some(mstatus(csrs)),
-        MISA => Some(INSTRUCTION_SET),
-        MIE => Some(csrs.mie),
-        MTVEC => Some(scrs.mtcc().address() / 4 * 4),
-        MSCRATCH => Some(csrs.mscratch),
-        MEPC => Some(scrs.mepcc().address() / 4 * 4),
-        MCAUSE => Some(csrs.mcause),
-        MTVAL => Some(csrs.mtval),
-        MIP => Some(mip),
-        MCYCLE => Some(csrs.mcycle),
-        MINSTRET => Some(csrs.minstret),
-        MVENDORID | MARCHID | MIMPID | MHARTID => Some(0),
+        csr::MSTATUS => Some(mstatus(csrs)),
+        csr::MISA => Some(INSTRUCTION_SET),
+        csr::MIE => Some(csrs.mie),
+        csr::MTVEC => Some(scrs.mtcc().address() / 4 * 4),
+        csr::MSCRATCH => Some(csrs.mscratch),
+        csr::MEPC => Some(scrs.mepcc().address() / 4 * 4),
+        csr::MCAUSE => Some(csrs.mcause),
+        csr::MTVAL => Some(csrs.mtval),
+        csr::MIP => Some(mip),
+        csr::MCYCLE => Some(csrs.mcycle),
+        csr::MINSTRET => Some(csrs.minstret),
+        csr::MVENDORID | csr::MARCHID | csr::MIMPID | csr::MHARTID => Some(0),
         _ => None,
     }
 }
@@ -54,5 +61,13 @@ pub fn read_csr<C: CapRep>(
     ensures refused { IfErr result (λ fault. csr_fault scrs.now number false ≡ Some fault) }
 {
     check_csr(scrs, number, false)?;
-    Ok(csr_value(csrs, scrs, mip, number).unwrap())
+    Ok(held_csr(csrs, scrs, mip, number))
+}
+
+/// Returns what control and status register `number`, which is to exist, holds while devices ask for the interrupts in `mip`.
+pub fn held_csr<C: CapRep>(csrs: &Csrs, scrs: &Scrs<C>, mip: u64, number: u16) -> u64
+    requires { IsTrue (is_csr number) }
+    ensures { spec.csr_value csrs.now scrs.now mip number ≡ Some result }
+{
+    csr_value(csrs, scrs, mip, number).unwrap()
 }

@@ -2,7 +2,7 @@ ghost use Rattle.std.specs.Prelude.{◌≡◌, option_map};
 ghost use Rattle.special_regs.specs.Scrs.{IsAligned, scr_value};
 ghost use Rattle.special_regs.specs.Writes.{scr_written};
 
-use crate::numbers::{DDC, MEPCC, MSCRATCHC, MTCC, MTDC, PCC};
+use base::scr;
 use cap_bounds::CapRep;
 use std::marker::Model;
 
@@ -109,12 +109,12 @@ impl<C: CapRep> Scrs<C> {
         ensures aligned { IsAligned self.now.pcc }
     {
         match number {
-            PCC => Some(self.pcc),
-            DDC => Some(self.ddc),
-            MTCC => Some(self.mtcc),
-            MTDC => Some(self.mtdc),
-            MSCRATCHC => Some(self.mscratchc),
-            MEPCC => Some(self.mepcc),
+            scr::PCC => Some(self.pcc),
+            scr::DDC => Some(self.ddc),
+            scr::MTCC => Some(self.mtcc),
+            scr::MTDC => Some(self.mtdc),
+            scr::MSCRATCHC => Some(self.mscratchc),
+            scr::MEPCC => Some(self.mepcc),
             _ => None,
         }
     }
@@ -130,15 +130,15 @@ impl<C: CapRep> Scrs<C> {
 
     /// Replaces special register `number`. PCC is not replaced, and where there is no such register nothing changes.
     #[tactic(auto, unfolding(crate::specs::Writes::scr_written))]
-    pub(crate) fn set(&mut self, number: u8, value: C)
+    pub fn set(&mut self, number: u8, value: C)
         ensures { self.new ≡ scr_written number (C.value value) self.old }
     {
         match number {
-            DDC => self.ddc = value,
-            MTCC => self.mtcc = value,
-            MTDC => self.mtdc = value,
-            MSCRATCHC => self.mscratchc = value,
-            MEPCC => self.mepcc = value,
+            scr::DDC => self.ddc = value,
+            scr::MTCC => self.mtcc = value,
+            scr::MTDC => self.mtdc = value,
+            scr::MSCRATCHC => self.mscratchc = value,
+            scr::MEPCC => self.mepcc = value,
             _ => {}
         }
     }

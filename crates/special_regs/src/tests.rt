@@ -32,8 +32,8 @@ const NO_SYSTEM_ACCESS: u16 = 0xfbff;
 
 /// Control registers with another number in each.
 const NUMBERED: Csrs = Csrs {
-    interrupts: true,
-    previous: false,
+    mstatus_mie: true,
+    mstatus_mpie: false,
     mie: 0x880,
     mscratch: 3,
     mcause: 4,

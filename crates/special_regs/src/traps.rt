@@ -6,22 +6,18 @@ ghost use Rattle.special_regs.specs.Traps as spec;
 
 use crate::access::has_system_access;
 use crate::csrs::Csrs;
-use crate::numbers::MEPCC;
 use crate::refusal::SpecialFault;
 use crate::scrs::Scrs;
+use base::{Fault, otype, scr};
 use cap_bounds::CapRep;
-use cap_checks::Fault;
 use cap_rights::opened;
-
-/// The object type of a sentry, a sealed entry.
-const SENTRY: u32 = 0x3_fffe;
 
 /// Returns whether a value is a tagged sentry.
 #[tactic(auto, unfolding(crate::specs::Traps::is_sentry))]
 fn is_sentry<C: CapRep>(c: C) -> bool
     ensures { result ≡ spec.is_sentry (C.value c) }
 {
-    c.tag() && c.otype() == SENTRY
+    c.tag() && c.otype() == otype::SENTRY
 }
 
 /// Returns a tagged sentry without its seal; any other value as it is.
@@ -55,12 +51,12 @@ pub fn enter_trap<C: CapRep>(scrs: &mut Scrs<C>, csrs: &mut Csrs, fault: Fault)
     ensures csrs { csrs.new ≡ trapped_csrs fault csrs.old }
 {
     let pcc = scrs.pcc();
-    scrs.set(MEPCC, pcc);
+    scrs.set(scr::MEPCC, pcc);
     scrs.set_pcc(target(scrs.mtcc()));
     csrs.mcause = fault.mcause;
     csrs.mtval = fault.mtval;
-    csrs.previous = csrs.interrupts;
-    csrs.interrupts = false;
+    csrs.mstatus_mpie = csrs.mstatus_mie;
+    csrs.mstatus_mie = false;
 }
 
 /// Returns whether a return would unseal a sentry in MEPCC. S2 without access.
@@ -88,8 +84,16 @@ pub fn leave_trap<C: CapRep>(scrs: &mut Scrs<C>, csrs: &mut Csrs) -> Result<(), 
     ensures csrs_on_err { OnErr result (csrs.new ≡ csrs.old) }
 {
     check_return(scrs)?;
-    scrs.set_pcc(target(scrs.mepcc()));
-    csrs.interrupts = csrs.previous;
-    csrs.previous = true;
+    return_from_trap(scrs, csrs);
     Ok(())
+}
+
+/// Leaves a trap where a check has allowed it: PCC becomes MEPCC's target, and interrupts are on if they were before the trap.
+pub fn return_from_trap<C: CapRep>(scrs: &mut Scrs<C>, csrs: &mut Csrs)
+    ensures scrs { scrs.new ≡ returned_scrs scrs.old }
+    ensures csrs { csrs.new ≡ returned_csrs csrs.old }
+{
+    scrs.set_pcc(target(scrs.mepcc()));
+    csrs.mstatus_mie = csrs.mstatus_mpie;
+    csrs.mstatus_mpie = true;
 }

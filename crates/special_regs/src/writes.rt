@@ -6,26 +6,25 @@ ghost use Rattle.special_regs.specs.Writes.{csrs_written, views_written, scr_wri
 use crate::access::{check_csr, check_scr};
 use crate::bits::has_bit;
 use crate::csrs::Csrs;
-use crate::numbers::*;
 use crate::refusal::SpecialFault;
 use crate::scrs::Scrs;
+use base::{csr, interrupt, scr};
 use cap_bounds::CapRep;
 
 /// Where MIE stands in mstatus.
-const MIE_BIT: u32 = 3;
+pub(crate) const MIE_BIT: u32 = 3;
 
 /// Where MPIE stands in mstatus.
-const MPIE_BIT: u32 = 7;
+pub(crate) const MPIE_BIT: u32 = 7;
 
 /// The bits of mie that software may set: the timer's and the external interrupt's.
-const INTERRUPT_BITS: u64 = 0x880;
+const INTERRUPT_BITS: u64 = 1 << interrupt::TIMER | 1 << interrupt::EXTERNAL;
 
 /// Writes control and status register `number`. S1 where there is no such register or it is only read, then S2 without access; a
 /// refused write changes nothing.
 ///
 /// Of mstatus MIE and MPIE are kept, of mie two bits. mtvec and mepc set the address of MTCC and MEPCC to a multiple of 4. misa and
 /// mip stay as they are.
-#[tactic(auto, unfolding(crate::specs::Writes::csrs_written, crate::specs::Writes::views_written, crate::specs::Writes::scr_written))]
 pub fn write_csr<C: CapRep>(
     csrs: &mut Csrs,
     scrs: &mut Scrs<C>,
@@ -40,22 +39,32 @@ pub fn write_csr<C: CapRep>(
     ensures scrs_on_err { OnErr result (scrs.new ≡ scrs.old) }
 {
     check_csr(scrs, number, true)?;
+    set_csr(csrs, scrs, number, value);
+    Ok(())
+}
+
+/// Writes control and status register `number` where a check has allowed it, as `write_csr` says; a number that is none changes
+/// nothing.
+#[tactic(auto, unfolding(crate::specs::Writes::csrs_written, crate::specs::Writes::views_written, crate::specs::Writes::scr_written))]
+pub fn set_csr<C: CapRep>(csrs: &mut Csrs, scrs: &mut Scrs<C>, number: u16, value: u64)
+    ensures csrs { csrs.new ≡ csrs_written number value csrs.old }
+    ensures scrs { scrs.new ≡ views_written number value scrs.old }
+{
     match number {
-        MSTATUS => {
-            csrs.interrupts = has_bit(value, MIE_BIT);
-            csrs.previous = has_bit(value, MPIE_BIT);
+        csr::MSTATUS => {
+            csrs.mstatus_mie = has_bit(value, MIE_BIT);
+            csrs.mstatus_mpie = has_bit(value, MPIE_BIT);
         }
-        MIE => csrs.mie = value & INTERRUPT_BITS,
-        MTVEC => scrs.set(MTCC, scrs.mtcc().set_address(value / 4 * 4)),
-        MSCRATCH => csrs.mscratch = value,
-        MEPC => scrs.set(MEPCC, scrs.mepcc().set_address(value / 4 * 4)),
-        MCAUSE => csrs.mcause = value,
-        MTVAL => csrs.mtval = value,
-        MCYCLE => csrs.mcycle = value,
-        MINSTRET => csrs.minstret = value,
+        csr::MIE => csrs.mie = value & INTERRUPT_BITS,
+        csr::MTVEC => scrs.set(scr::MTCC, scrs.mtcc().set_address(value / 4 * 4)),
+        csr::MSCRATCH => csrs.mscratch = value,
+        csr::MEPC => scrs.set(scr::MEPCC, scrs.mepcc().set_address(value / 4 * 4)),
+        csr::MCAUSE => csrs.mcause = value,
+        csr::MTVAL => csrs.mtval = value,
+        csr::MCYCLE => csrs.mcycle = value,
+        csr::MINSTRET => csrs.minstret = value,
         _ => {}
     }
-    Ok(())
 }
 
 /// Replaces special capability register `number` where there is a new value, and gives what it held. S1 where there is no such

@@ -3,7 +3,8 @@ use Rattle.std.proofs.Common.{◌≡◌, ℕ, ◌+◌, ◌%◌, ◌<◌, ◌≤�
 use Rattle.std.proofs.lemmas.Bool.Decides.{nat_tests}
 use Rattle.tagged_memory.specs.declared.fault.MemoryFault.{MemoryFault}
 use Rattle.tagged_memory.specs.declared.fault.MemoryFault.TheVariants.{M3, M4}
-use Rattle.tagged_memory.specs.Memory.{Memory, ram_base, unless, is_in_ram, fill_fault, access_fault}
+use Rattle.base.specs.Ram.{ram_base}
+use Rattle.tagged_memory.specs.Memory.{Memory, unless, is_in_ram, fill_fault, access_fault}
 use Rattle.tagged_memory.specs.Layout.{memory_of}
 
 pub fill_fault-below : (m : Memory) (address size : ℕ) → address < ram_base → fill_fault m address size ≡ Some M3

@@ -3,7 +3,8 @@ use Rattle.std.proofs.Common.{◌≡◌, ℕ, zero, suc, ◌+◌, ◌-◌, ◌*�
 use Rattle.std.proofs.lemmas.Bool.{le-leb, lt-leb, lt-ltb, le-ltb, and_from, and_left, and_right}
 use Rattle.std.specs.List.{filter, position, position_from, range_with_len}
 use Rattle.std.proofs.lemmas.Iterator.Adapters.{position_from-zero}
-use Rattle.tagged_memory.specs.Memory.{Memory, ram_base, is_tagged, tagged_between}
+use Rattle.base.specs.Ram.{ram_base}
+use Rattle.tagged_memory.specs.Memory.{Memory, is_tagged, tagged_between}
 use Rattle.tagged_memory.specs.Layout.{memory_of, IsLaidOut}
 use Rattle.tagged_memory.specs.Tagged.{addresses_of}
 use Rattle.tagged_memory.proofs.Tags.{contains_at}

@@ -2,7 +2,8 @@
 use Rattle.std.proofs.Common.{◌≡◌, ℕ, zero, suc, ◌+◌, ◌*◌, ◌<◌, ◌≤◌, Bool, true, false, List, length, replicate, slice_index, sym, ap, ◌∙◌, subst, arith}
 use Rattle.std.proofs.lemmas.List.{length-replicate}
 use Rattle.std.proofs.lemmas.Bool.{and_from, le-leb}
-use Rattle.tagged_memory.specs.Memory.{ram_base, is_in_ram, is_tagged, zeroed, IsMemory}
+use Rattle.base.specs.Ram.{ram_base}
+use Rattle.tagged_memory.specs.Memory.{is_in_ram, is_tagged, zeroed, IsMemory}
 use Rattle.tagged_memory.specs.Layout.{memory_of, tags_from, IsLaidOut}
 use Rattle.tagged_memory.proofs.Tags.{place_of_contained, tags_from-replicate}
 

@@ -6,12 +6,13 @@ use Rattle.std.specs.FinSet as finite
 use Rattle.std.specs.Vec.{with_items}
 use Rattle.byteorder.specs.Endian.{little_number}
 use Rattle.cap_format.specs.Word.{memory_bytes, word_of_memory}
-use Rattle.tagged_memory.specs.Memory.{Memory, ram_base, number_at, word_at, is_tagged, touches, data_written, capability_written}
+use Rattle.base.specs.Ram.{ram_base}
+use Rattle.tagged_memory.specs.Memory.{Memory, number_at, word_at, is_tagged, touches, data_written, capability_written}
 use Rattle.tagged_memory.specs.Layout.{memory_of, tags_from}
 use Rattle.tagged_memory.specs.Replaced.{replaced, length-same, element-kept, element-new}
-use Rattle.tagged_memory.specs.Size.{bytes_of}
-use Rattle.tagged_memory.specs.declared.size.Size.{Size}
-use Rattle.tagged_memory.specs.declared.size.Size.TheVariants.{Byte, Half, Word, Double}
+use Rattle.base.specs.Size.{bytes_of}
+use Rattle.base.specs.declared.size.Size.{Size}
+use Rattle.base.specs.declared.size.Size.TheVariants.{Byte, Half, Word, Double}
 use Rattle.tagged_memory.proofs.Tags.{contains_at, tags_from-retained, tags_from-inserted, tags_from-removed}
 
 -- a number that is read at its place is the number at its address

@@ -3,7 +3,8 @@ use Rattle.std.specs.Prelude.{◌≡◌, ℕ, ◌+◌, ◌*◌, ◌<◌, ◌≤�
 use Rattle.std.specs.Ordering.{nat_cmp}
 use Rattle.std.specs.FinSet as set
 use Rattle.std.specs.Coded.{Coded, code_by, coded×, coded_list, coded_ℕ}
-use Rattle.tagged_memory.specs.Memory.{Memory, ram_base, page_bytes}
+use Rattle.base.specs.Ram.{ram_base, page_bytes, most_pages}
+use Rattle.tagged_memory.specs.Memory.{Memory}
 
 -- the addresses of the granules whose truth value is true, the first granule at an address
 unfoldable pub tags_from : ℕ → List Bool → set.FinSet nat_cmp
@@ -19,13 +20,13 @@ abbrev pub memory_code : Coded Memory
 memory_code =
     code_by (List ℕ × set.FinSet nat_cmp) (coded× (coded_list coded_ℕ) (set.code coded_ℕ)) (λ m. (m.bytes, m.tags)) (λ p. record { bytes = p.0; tags = p.1 }) (λ _. refl)
 
--- 1 to 4096 whole pages of bytes, and a truth value for each of their granules
+-- 1 to the most whole pages of bytes, and a truth value for each of their granules
 pub record IsLaidOut (bytes : List ℕ) (tags : List Bool) : Type 0 where
   pub pages : ℕ
   pub whole_pages : length bytes ≡ page_bytes * pages
   pub tag_each : length tags ≡ 256 * pages
   pub some_page : 1 ≤ pages
-  pub not_too_many : pages ≤ 4096
+  pub not_too_many : pages ≤ most_pages
   pub are_bytes : (k : ℕ) → slice_index bytes k < 256
 
 -- the place of the `size` bytes from an address, among so many bytes of RAM

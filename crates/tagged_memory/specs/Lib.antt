@@ -2,6 +2,5 @@ pub mod Layout
 pub mod Replaced
 pub mod MemoryLaws
 pub mod Memory
-pub mod Size
 pub mod Tagged
 pub mod AccessLaws

@@ -5,6 +5,7 @@ use Rattle.std.specs.Ordering.{nat_cmp}
 use Rattle.std.specs.List.{range_with_len}
 use Rattle.std.specs.FinSet as set
 use Rattle.byteorder.specs.Endian.{little_number}
+use Rattle.base.specs.Ram.{ram_base, page_bytes, most_pages}
 use Rattle.cap_format.specs.Word.{memory_bytes, word_of_memory}
 use Rattle.tagged_memory.specs.declared.fault.MemoryFault.{MemoryFault}
 use Rattle.tagged_memory.specs.declared.fault.MemoryFault.TheVariants.{M3, M4}
@@ -13,21 +14,6 @@ use Rattle.tagged_memory.specs.declared.fault.MemoryFault.TheVariants.{M3, M4}
 pub record Memory : Type 0 where
   pub bytes : List ℕ
   pub tags : set.FinSet nat_cmp
-
--- where RAM begins
-abbrev pub ram_base : ℕ
-ram_base = 0x8000_0000
-
--- the bytes of a page, and of a granule
-abbrev pub page_bytes : ℕ
-page_bytes = 4096
-
-abbrev pub granule_bytes : ℕ
-granule_bytes = 16
-
--- the first address of the granule that holds an address
-abbrev pub granule_of : ℕ → ℕ
-granule_of address = address / 16 * 16
 
 -- the `size` bytes from an address lie in RAM
 unfoldable pub is_in_ram : Memory → ℕ → ℕ → Bool
@@ -102,12 +88,12 @@ StoredIsLoaded =
 abbrev pub zeroed : ℕ → Memory
 zeroed pages = record { bytes = replicate (page_bytes * pages) 0; tags = set.empty }
 
--- What is true of every memory: 1 to 4096 whole pages of bytes, and only whole granules of RAM are tagged.
+-- What is true of every memory: 1 to the most whole pages of bytes, and only whole granules of RAM are tagged.
 pub record IsMemory (m : Memory) : Type 0 where
   pub pages : ℕ
   pub whole_pages : length m.bytes ≡ page_bytes * pages
   pub some_page : 1 ≤ pages
-  pub not_too_many : pages ≤ 4096
+  pub not_too_many : pages ≤ most_pages
   pub are_bytes : (k : ℕ) → slice_index m.bytes k < 256
   pub granules_aligned : (a : ℕ) → is_tagged m a ≡ true → a % 16 ≡ 0
   pub granules_in_ram : (a : ℕ) → is_tagged m a ≡ true → is_in_ram m a 16 ≡ true

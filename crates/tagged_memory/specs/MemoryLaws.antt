@@ -5,7 +5,8 @@ use Rattle.std.proofs.lemmas.Bool.{and_from, le-leb, and_parts, and_cases, not-t
 use Rattle.std.specs.Cmp.{nat_cmp_total, unsigned_tied}
 use Rattle.std.specs.FinSet as set
 use Rattle.std.specs.FinSet.{nat_cmp-IsAntisymmetric}
-use Rattle.tagged_memory.specs.Memory.{Memory, ram_base, is_in_ram, is_tagged, word_at, touches, data_written, capability_written, IsMemory}
+use Rattle.base.specs.Ram.{ram_base}
+use Rattle.tagged_memory.specs.Memory.{Memory, is_in_ram, is_tagged, word_at, touches, data_written, capability_written, IsMemory}
 use Rattle.tagged_memory.specs.Replaced.{replaced, length-same, element-kept, element-new, part-kept, part-untouched, part-new, low_first-lt}
 use Rattle.cap_format.specs.Word.{memory_bytes, word_of_memory, null_pattern}
 use Rattle.cap_format.specs.WordLaws.{word_of_memory-memory_bytes}

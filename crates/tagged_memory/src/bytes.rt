@@ -1,11 +1,12 @@
 ghost use Rattle.std.specs.Prelude.{◌≡◌, ℕ, ◌+◌, ◌*◌, ◌^◌, ◌<◌, ◌≤◌, ◌++◌, ◌&&◌, not, false, drop, take, length, slice_index_or};
-ghost use Rattle.tagged_memory.specs.Memory.{ram_base, touches};
+ghost use Rattle.base.specs.Ram.{ram_base};
+ghost use Rattle.tagged_memory.specs.Memory.{touches};
 ghost use Rattle.tagged_memory.specs.Replaced.{replaced};
 ghost use Rattle.byteorder.specs.Endian.{little_bytes, little_number};
 ghost use Rattle.cap_format.specs.Word.{memory_bytes, word_of_memory};
-ghost use Rattle.tagged_memory.specs.Size.{bytes_of};
+ghost use Rattle.base.specs.Size.{bytes_of};
 
-use crate::size::Size;
+use base::Size;
 use byteorder::{ByteOrder, LittleEndian};
 use cap_format::CapWord;
 

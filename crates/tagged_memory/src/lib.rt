@@ -6,12 +6,10 @@ mod fault;
 pub mod laws;
 mod memory;
 mod place;
-mod size;
 mod tagged;
 
 pub use fault::MemoryFault;
-pub use memory::{Memory, RAM_BASE};
-pub use size::Size;
+pub use memory::Memory;
 pub use tagged::Tagged;
 
 #[cfg(test)]

@@ -1,11 +1,11 @@
 ghost use Rattle.std.specs.Prelude.{◌≡◌, ◌==◌, ◌+◌, ◌-◌, ◌^◌, ◌/◌, ◌%◌, ◌<◌, ◌≤◌, [], length, min, IfOk, OnOk};
-ghost use Rattle.tagged_memory.specs.Memory.{ram_base, unless, access_fault, fill_fault};
+ghost use Rattle.base.specs.Ram.{ram_base};
+ghost use Rattle.tagged_memory.specs.Memory.{unless, access_fault, fill_fault};
 ghost use Rattle.tagged_memory.specs.Layout.{memory_of, IsPlace};
-ghost use Rattle.tagged_memory.specs.Size.{bytes_of};
+ghost use Rattle.base.specs.Size.{bytes_of};
 
 use crate::fault::MemoryFault;
-use crate::memory::RAM_BASE;
-use crate::size::Size;
+use base::{Size, ram};
 
 /// The place in RAM's bytes of the `size` bytes from `address`, or M3 outside RAM.
 ///
@@ -17,7 +17,7 @@ pub fn ram_place(bytes: &[u8], address: u64, size: usize) -> Result<usize, Memor
     ensures value { result ≡ unless (fill_fault (memory_of bytes.now []) address size) (address - ram_base) }
     ensures within { IfOk result (IsPlace address size (length bytes.now)) }
 {
-    let place = address.wrapping_sub(RAM_BASE);
+    let place = address.wrapping_sub(ram::BASE);
     if place > (bytes.len() - size) as u64 {
         return Err(MemoryFault::M3);
     }
@@ -80,7 +80,7 @@ pub fn granules_below(count: usize, address: u64) -> usize
     requires { count < 2 ^ 32 }
     ensures { result ≡ min count ((address - ram_base + 15) / 16) }
 {
-    let below = address.saturating_sub(RAM_BASE);
+    let below = address.saturating_sub(ram::BASE);
     below.div_ceil(16).min(count as u64) as usize
 }
 

@@ -1,6 +1,6 @@
 use super::{CONTROL, RECEIVE, STATUS};
 use crate::{Devices, Effect};
-use tagged_memory::Size;
+use base::Size;
 
 #[test]
 fn bytes_are_taken_in_the_order_in_which_they_came(rt: HostRuntime) {

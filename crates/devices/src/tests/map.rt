@@ -1,6 +1,6 @@
 use super::{CONTROL, HALT, RECEIVE, STATUS, TIMER, TIMER_COMPARE, TRANSMIT};
 use crate::{DeviceFault, Devices, Effect};
-use tagged_memory::Size;
+use base::Size;
 
 /// Each register, and what a load gives at the beginning.
 const REGISTERS: [(u64, u64); 7] = [

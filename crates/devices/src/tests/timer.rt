@@ -1,6 +1,6 @@
 use super::{CONTROL, TIMER, TIMER_COMPARE};
 use crate::{Devices, Effect};
-use tagged_memory::Size;
+use base::Size;
 
 #[test]
 fn a_tick_counts_modulo_2_to_the_64(rt: HostRuntime) {

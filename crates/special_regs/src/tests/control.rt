@@ -21,8 +21,8 @@ fn counters_go_round_and_leave_each_other(rt: HostRuntime) {
 #[test]
 fn control_registers_begin_as_zeros(rt: HostRuntime) {
     let wanted = Csrs {
-        interrupts: false,
-        previous: false,
+        mstatus_mie: false,
+        mstatus_mpie: false,
         mie: 0,
         mscratch: 0,
         mcause: 0,

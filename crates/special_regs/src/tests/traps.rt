@@ -38,8 +38,8 @@ fn a_trap_saves_pcc_and_goes_to_mtcc(rt: HostRuntime) -> Result<(), Fail> {
         let entered = root(PCC_ADDRESS, UNSEALED)?;
         assert!(rt; contents(&scrs) == [mtcc, mtcc, mtcc, other, other, entered]);
         let wanted = Csrs {
-            interrupts: false,
-            previous: interrupts,
+            mstatus_mie: false,
+            mstatus_mpie: interrupts,
             mcause: 28,
             mtval: 0x421,
             ..NUMBERED
@@ -123,8 +123,8 @@ fn a_return_goes_to_mepcc(rt: HostRuntime) -> Result<(), Fail> {
         assert_eq!(rt; leave_trap(&mut scrs, &mut csrs), Ok(()));
         assert!(rt; contents(&scrs) == [mepcc, mepcc, mepcc, other, other, mepcc]);
         let wanted = Csrs {
-            interrupts: previous,
-            previous: true,
+            mstatus_mie: previous,
+            mstatus_mpie: true,
             ..NUMBERED
         };
         assert_eq!(rt; csrs, wanted);

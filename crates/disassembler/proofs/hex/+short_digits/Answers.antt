@@ -1,5 +1,5 @@
 use Rattle.std.proofs.Common.{◌≡◌, ◌++◌, ◌%◌, [], ◌∷◌, ap, sym, ◌∙◌, arith}
-use Rattle.disassembler.proofs.HexSteps.{hex_step, length_hex_16}
+use Rattle.disassembler.specs.HexLaws.{hex_step, length_hex_16}
 use Rattle.std.specs.Prelude.{length, false}
 use Rattle.std.specs.Fmt.{digit_glyph, digits}
 use Rattle.disassembler.proofs.hex.+short_digits.Goals as goal

@@ -3,7 +3,7 @@ use Rattle.std.proofs.lemmas.Result.{on_err_weaker}
 use Rattle.std.specs.List.{flat_map}
 use Rattle.image.specs.Image.{mode_number}
 use Rattle.image.specs.Grammar.{header_bytes, section_bytes, spelling}
-use Rattle.image.proofs.Written.{beginning_after}
+use Rattle.image.specs.BeginningLaws.{beginning_after}
 use Rattle.image.proofs.writing.write_image.Goals as goal
 
 pub returns-clause-err : goal.returns-clause-err

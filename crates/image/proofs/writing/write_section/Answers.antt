@@ -2,7 +2,7 @@ use Rattle.std.proofs.Common.{length}
 use Rattle.std.proofs.KnownBytes.{Appends-trans}
 use Rattle.std.proofs.lemmas.Result.{err_from_is_err_and, on_ok_weaker, on_err_weaker}
 use Rattle.image.specs.Grammar.{span_bytes}
-use Rattle.image.proofs.Written.{beginning_more, beginning_after}
+use Rattle.image.specs.BeginningLaws.{beginning_more, beginning_after}
 use Rattle.image.proofs.writing.write_section.Goals as goal
 
 pub returns-in_err-write_all-clause-err : goal.returns-in_err-write_all-clause-err

@@ -3,7 +3,7 @@ use Rattle.std.specs.List.{flat_map}
 use Rattle.std.proofs.lemmas.Result.{err_from_is_err_and}
 use Rattle.image.specs.Devices.{AppendsBeginning}
 use Rattle.image.specs.Grammar.{section_bytes}
-use Rattle.image.proofs.Written.{beginning_more, beginning_after, cut_at}
+use Rattle.image.specs.BeginningLaws.{beginning_more, beginning_after, cut_at}
 use Rattle.image.proofs.writing.write_sections.Goals as goal
 
 pub returns-in_err-write_section-clause-err : goal.returns-in_err-write_section-clause-err

@@ -1,6 +1,7 @@
 use Rattle.std.proofs.Common.{◌≡◌, List, [], ◌∷◌, ℕ, Option, None, Some, Ok, ap, ◌∙◌}
 use Rattle.image.specs.declared.fault.ImageFault.{ImageFault}
-use Rattle.image.specs.Image.{Image, Section, Builds, image_of, ram_base}
+use Rattle.base.specs.Ram.{ram_base}
+use Rattle.image.specs.Image.{Image, Section, Builds, image_of}
 use Rattle.hart.specs.Opening.{opening}
 use Rattle.machine_tests.proofs.running.machine_of.Goals as goal
 

@@ -5,7 +5,8 @@ use Rattle.std.proofs.KnownBytes.{Appends-trans}
 use Rattle.std.proofs.lemmas.Result.{err_from_is_err_and}
 use Rattle.image.specs.Devices.{AppendsBeginning}
 use Rattle.sim_run.specs.Listing.{section_listing}
-use Rattle.sim_run.proofs.Listed.{beginning_more, beginning_after, cut_at, next_item, ends_below}
+use Rattle.image.specs.BeginningLaws.{beginning_more, beginning_after, cut_at}
+use Rattle.sim_run.proofs.Listed.{next_item, ends_below}
 use Rattle.sim_run.proofs.listing.list.Goals as goal
 
 pub list_section-requires-clause-fits : goal.list_section-requires-clause-fits

@@ -4,7 +4,8 @@ use Rattle.std.proofs.lemmas.Result.{on_ok_weaker, on_err_weaker}
 use Rattle.std.specs.Io.KnownBytes.{Appends}
 use Rattle.image.specs.Devices.{AppendsBeginning}
 use Rattle.sim_run.specs.Listing.{byte_lines, lines_from}
-use Rattle.sim_run.proofs.Listed.{beginning_after, section_cut, to_the_end}
+use Rattle.image.specs.BeginningLaws.{beginning_after}
+use Rattle.sim_run.proofs.Listed.{section_cut, to_the_end}
 use Rattle.sim_run.proofs.listing.list_section.Goals as goal
 
 pub returns-clause-ok : goal.returns-clause-ok

@@ -6,7 +6,8 @@ use Rattle.byteorder.specs.Endian.{little_number}
 use Rattle.image.specs.Devices.{AppendsBeginning}
 use Rattle.disassembler.specs.Shown.{word_line}
 use Rattle.sim_run.specs.Listing.{lines_from}
-use Rattle.sim_run.proofs.Listed.{beginning_more, beginning_after, lines_cut, next_word, to_the_end}
+use Rattle.image.specs.BeginningLaws.{beginning_more, beginning_after}
+use Rattle.sim_run.proofs.Listed.{lines_cut, next_word, to_the_end}
 use Rattle.sim_run.proofs.listing.list_words.Goals as goal
 
 pub returns-in_err-write_all-clause-err : goal.returns-in_err-write_all-clause-err

@@ -1,6 +1,6 @@
 use Rattle.std.proofs.Common.{◌≡◌, ◌+◌, ◌-◌, ◌/◌, ◌≤◌, false, length, replicate, drop, refl, ap, ◌∙◌, arith}
 use Rattle.std.proofs.lemmas.List.{length-take-le, length-drop}
-use Rattle.tagged_memory.specs.Memory.{ram_base}
+use Rattle.base.specs.Ram.{ram_base}
 use Rattle.tagged_memory.proofs.Written.{none_cleared, granules_cleared}
 use Rattle.tagged_memory.proofs.bytes.clear_granules.Goals as goal
 

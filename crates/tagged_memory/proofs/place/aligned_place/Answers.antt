@@ -1,6 +1,7 @@
 use Rattle.std.proofs.Common.{◌≡◌, ◌-◌, ◌%◌, true, false, eqb, [], ap, sym, ◌∙◌}
 use Rattle.std.proofs.lemmas.Bool.{eqb-true, eqb-false}
-use Rattle.tagged_memory.specs.Memory.{ram_base, unless}
+use Rattle.base.specs.Ram.{ram_base}
+use Rattle.tagged_memory.specs.Memory.{unless}
 use Rattle.tagged_memory.specs.Layout.{memory_of}
 use Rattle.tagged_memory.proofs.Faults.{access_fault-aligned, access_fault-misaligned}
 use Rattle.tagged_memory.proofs.place.aligned_place.Goals as goal

@@ -3,9 +3,9 @@ use Rattle.std.proofs.lemmas.Bool.{false≢true}
 use Rattle.cap_bounds.specs.CapValue.{integer}
 use Rattle.devices.specs.Devices.{value_at}
 use Rattle.tagged_memory.specs.Memory.{is_in_ram}
-use Rattle.tagged_memory.specs.Size.{bytes_of}
+use Rattle.base.specs.Size.{bytes_of}
 use Rattle.hart.specs.State.{State}
-use Rattle.hart.specs.declared.effect.Effect.TheVariants.{DeviceLoad}
+use Rattle.hart.specs.declared.effect.Effect.TheVariants.{Trap, DeviceLoad}
 use Rattle.hart.proofs.Loads.{mapped_load-device, mapped_load-refused}
 use Rattle.hart.proofs.hart.Hart.plan_mapped_load.Goals as goal
 
@@ -15,7 +15,7 @@ returns-then-gives-clause-effect g c =
     let outside : is_in_ram now.memory c.args.address (bytes_of c.args.size) ≡ false =
     ap (λ s. is_in_ram s.memory c.args.address (bytes_of c.args.size)) (sym c.self.view_is) ∙ sym c.holds.ensures ∙ c.if-holds.false in
     let value = c.integer-then-gives.ensures ∙ ap integer (c.value_at.ensures ∙ ap (λ s. value_at c.args.address s.devices) c.self.view_is) in
-    ap (λ v. DeviceLoad c.args.insn.rd v c.args.address c.args.size) value
+    ap (λ v. DeviceLoad (record { rd = c.args.insn.rd; value = v; address = c.args.address; size = c.args.size })) value
     ∙ sym (mapped_load-device c.args.insn c.args.address c.args.size now outside (c.gives.ensures.0 c.if-gives.true))
 
 pub returns-else-gives-clause-effect : goal.returns-else-gives-clause-effect
@@ -23,4 +23,4 @@ returns-else-gives-clause-effect g c =
     let now : State = c.args.self.now in
     let outside : is_in_ram now.memory c.args.address (bytes_of c.args.size) ≡ false =
     ap (λ s. is_in_ram s.memory c.args.address (bytes_of c.args.size)) (sym c.self.view_is) ∙ sym c.holds.ensures ∙ c.if-holds.false in
-    sym (mapped_load-refused c.args.insn c.args.address c.args.size now outside (λ none. false≢true (sym c.if-gives.false ∙ c.gives.ensures.1 none)))
+    ap Trap c.of.ensures ∙ sym (mapped_load-refused c.args.insn c.args.address c.args.size now outside (λ none. false≢true (sym c.if-gives.false ∙ c.gives.ensures.1 none)))

@@ -17,16 +17,8 @@ returns-in_err-place-clause-sound c = subst IsMemory c.self.view_is (sound _ _ c
 
 pub returns-clause-value : goal.returns-clause-value
 returns-clause-value c =
-    let p = c.in_ok-place.place in
-    let bytes = c.self.inside.bytes.items in
-    let tags = c.self.inside.tags.items in
-    let place = c.in_ok-place.ensures.within in
-    let room : length c.deref.result.now ≡ length bytes = ap length c.deref.ensures.value in
-    let inside : p / 16 < length tags = omega (arith, place.within, room, c.self.invariant.whole_pages, c.self.invariant.tag_each) in
-    let word : c.read_word.result ≡ word_at c.args.self.now c.args.address = c.read_word.ensures ∙ word_here bytes tags c.deref-2.result.now c.args.address p c.self.view_is c.deref-2.ensures.value place.from_base in
-    let tag : c.index.result.now ≡ is_tagged c.args.self.now c.args.address = get_or_read tags (p / 16) c.index.result.now inside c.index.ensures _ ∙ tag_here bytes tags c.args.address p c.self.view_is place.from_base c.in_ok-place.ensures.aligned in
-    (λ i. Ok (word i, tag i))
-    ∙ access-given _ tags c.deref.result.now c.args.address _ _ p _ c.self.view_is c.deref.ensures.value c.in_ok-place.ensures.value
+    ap Ok c.get_cap.ensures
+    ∙ access-given _ c.self.inside.tags.items c.deref.result.now c.args.address _ _ c.in_ok-place.place _ c.self.view_is c.deref.ensures.value c.in_ok-place.ensures.value
 
 pub returns-clause-sound : goal.returns-clause-sound
 returns-clause-sound c = subst IsMemory c.self.view_is (sound _ _ c.self.invariant)

@@ -1,5 +1,5 @@
 use Rattle.std.proofs.Common.{◌≡◌, ◌+◌, ◌-◌, ◌*◌, ◌/◌, max, min, take, drop, length, ap, ◌∙◌, arith}
-use Rattle.tagged_memory.specs.Memory.{ram_base}
+use Rattle.base.specs.Ram.{ram_base}
 use Rattle.tagged_memory.specs.Tagged.{addresses_of}
 use Rattle.tagged_memory.proofs.Granules.{addresses_of-is}
 use Rattle.tagged_memory.proofs.memory.Memory.tagged.Goals as goal

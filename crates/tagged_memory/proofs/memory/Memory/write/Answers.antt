@@ -5,7 +5,7 @@ use Rattle.byteorder.specs.Endian.{little_bytes}
 use Rattle.byteorder.specs.Numbers.{length-bytes_low_first}
 use Rattle.tagged_memory.specs.Layout.{memory_of}
 use Rattle.tagged_memory.specs.MemoryLaws.{in_ram-from, IsMemory-data_written}
-use Rattle.tagged_memory.specs.Size.{bytes_of}
+use Rattle.base.specs.Size.{bytes_of}
 use Rattle.tagged_memory.proofs.Written.{stored, data_written-is, granule_cleared, number_in_granule}
 use Rattle.tagged_memory.specs.Replaced.{low_first-lt}
 use Rattle.tagged_memory.specs.Memory.{IsMemory}
@@ -24,29 +24,6 @@ returns-in_err-place-clause-sound c = subst IsMemory c.self.view_is (sound _ _ c
 pub returns-clause-which : goal.returns-clause-which
 returns-clause-which c =
     access-given _ c.self.inside.tags.items c.deref.result.now c.args.address _ _ c.in_ok-place.place _ c.self.view_is c.deref.ensures.value c.in_ok-place.ensures.value
-
-pub returns-clause-ok : goal.returns-clause-ok
-returns-clause-ok c =
-    let p = c.in_ok-place.place in
-    let new = little_bytes (bytes_of c.args.size) c.args.value in
-    let place = c.in_ok-place.ensures.within in
-    let size : length new ≡ bytes_of c.args.size = length-bytes_low_first 0 (bytes_of c.args.size) c.args.value in
-    let room : length c.deref.result.now ≡ length c.self.inside.bytes.items = ap length c.deref.ensures.value in
-    let fits : p + bytes_of c.args.size ≤ length c.self.inside.bytes.items = omega (arith, place.within) in
-    let granule = number_in_granule c.args.size c.args.address p place.from_base c.in_ok-place.ensures.aligned in
-    ap (λ xs. memory_of xs (set c.self.inside.tags.items (p / 16) false)) (stored c.self.inside.bytes c.deref_mut.result.now c.write_number.new.bytes p (bytes_of c.args.size) new c.deref_mut.ensures.value c.self.inside.bytes.ok.0 size fits c.write_number.ensures)
-    ∙ data_written-is c.self.inside.bytes.items c.self.inside.tags.items (set c.self.inside.tags.items (p / 16) false) c.args.address p new c.self.view_is place.from_base (length-set c.self.inside.tags.items (p / 16) false)
-    (granule_cleared c.self.inside.tags.items p (length new) c.args.address (p / 16) place.from_base (omega (arith, granule.0, size)) (omega arith) (omega (arith, granule.1, size)) (omega (arith, fits, granule.0, c.self.invariant.whole_pages, c.self.invariant.tag_each)))
-
-pub returns-clause-sound : goal.returns-clause-sound
-returns-clause-sound c =
-    let new = little_bytes (bytes_of c.args.size) c.args.value in
-    let place = c.in_ok-place.ensures.within in
-    let size : length new ≡ bytes_of c.args.size = length-bytes_low_first 0 (bytes_of c.args.size) c.args.value in
-    let room : length c.deref.result.now ≡ length c.self.inside.bytes.items = ap length c.deref.ensures.value in
-    let same : length c.self.inside.bytes.items ≡ length c.args.self.now.bytes = ap (λ m. length m.bytes) c.self.view_is in
-    let inside = in_ram-from c.args.self.now c.args.address (length new) (omega (arith, place.from_base)) (omega (arith, place.from_base, place.within)) in
-    subst IsMemory (sym (returns-clause-ok c)) (IsMemory-data_written c.args.self.now c.args.address new (subst IsMemory c.self.view_is (sound _ _ c.self.invariant)) inside (low_first-lt 0 (bytes_of c.args.size) c.args.value))
 
 pub returns-in_err-place-clause-was_sound : goal.returns-in_err-place-clause-was_sound
 returns-in_err-place-clause-was_sound c = subst IsMemory c.self.view_is (sound _ _ c.self.invariant)

@@ -1,0 +1,6 @@
+pub mod Size
+pub mod Fault
+pub mod FirstFault
+pub mod Ram
+pub mod ObjectType
+pub mod Registers

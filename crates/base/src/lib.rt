@@ -1,0 +1,18 @@
+//! What several crates speak of: sizes of accesses, faults and their causes, the numbers and names of special registers, where RAM
+//! lies, and the object types that are reserved.
+#![tactic(auto)]
+
+mod cause;
+mod fault;
+pub mod interrupt;
+pub mod otype;
+pub mod ram;
+mod registers;
+mod size;
+
+pub use cause::{Cause, CheriCause};
+pub use fault::Fault;
+pub use registers::{
+    CSRS, DDC_REGISTER, FIRST_SPECIAL, PCC_REGISTER, SPECIAL_REGISTERS, csr, is_csr, is_scr, scr,
+};
+pub use size::Size;

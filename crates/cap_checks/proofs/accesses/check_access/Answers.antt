@@ -1,0 +1,23 @@
+use Rattle.std.proofs.Common.{◌≡◌, Bool, true, false, Result, Ok, Err, refl, rules}
+use Rattle.std.specs.Prelude.{if◌then◌else◌}
+use Rattle.base.specs.declared.fault.Fault.{Fault}
+use Rattle.cap_checks.specs.FirstFault.{access_fault}
+use Rattle.cap_checks.proofs.accesses.check_access.Goals as goal
+
+-- a check that passed had a true condition
+passed : (condition : Bool) (fault : Fault) (result : Result (Unit {0}) Fault) (unit : Unit {0}) → result ≡ (if condition then Ok tt else Err fault) → result ≡ Ok unit → condition ≡ true
+passed true fault result unit is was = refl
+passed false fault result unit is was = cc
+
+-- src/accesses.rt:16:1
+pub returns-clause-allowed : goal.returns-clause-allowed
+unfolding access_fault
+returns-clause-allowed g c =
+    let tagged = passed _ _ _ _ (c.check_tag.ensures) (c.in_ok-check_tag.was) in
+    let unsealed = passed _ _ _ _ (c.check.ensures) (c.in_ok-check.was) in
+    let permitted = passed _ _ _ _ (c.check_permission.ensures) (c.in_ok-check_permission.was) in
+    let storing = passed _ _ _ _ (c.check-2.ensures) (c.in_ok-check-2.was) in
+    let local = passed _ _ _ _ (c.check-3.ensures) (c.in_ok-check-3.was) in
+    let bounded = passed _ _ _ _ (c.check_bounds.ensures) (c.in_ok-check_bounds.was) in
+    let aligned = passed _ _ _ _ (c.check-4.ensures) (c.in_ok-check-4.was) in
+    search rules

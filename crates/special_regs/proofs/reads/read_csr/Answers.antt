@@ -1,6 +1,0 @@
-use Rattle.special_regs.specs.NumberedLaws.{IsSome-csr_value}
-use Rattle.special_regs.proofs.reads.read_csr.Goals as goal
-
-pub unwrap-requires : goal.unwrap-requires
-unwrap-requires g c =
-    rw c.csr_value.ensures (IsSome-csr_value c.args.csrs.now c.args.scrs.now c.args.mip c.args.number c.in_ok-check_csr.ensures.exists)

@@ -1,0 +1,12 @@
+mod Cut
+mod Lines
+mod Numbers
+mod NamesBack
+mod Bracketed
+mod SlotBack
+mod Fields
+mod Filled
+mod LineBack
+mod TextBackLine
+mod TextBackTarget
+mod TextBack
