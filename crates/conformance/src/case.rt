@@ -1,6 +1,6 @@
 //! A case of a file, and why a case cannot be tried.
 
-use std::alloc::AllocError;
+use std::alloc::{AllocError, AllocFailed};
 use std::fmt;
 
 /// A line of a file of cases.
@@ -47,6 +47,12 @@ impl CaseError {
 
 impl From<AllocError> for CaseError {
     fn from(_: AllocError) -> Self {
+        CaseError::Memory
+    }
+}
+
+impl<T: Drop> From<AllocFailed<T>> for CaseError {
+    fn from(_: AllocFailed<T>) -> Self {
         CaseError::Memory
     }
 }

@@ -4,12 +4,29 @@
 //! text, and the case holds where that is the line's. Cases over capabilities are tried with every form of them.
 #![tactic(auto)]
 
+mod bytes;
+mod capability_rows;
 mod case;
+mod checks;
+mod device_script;
+mod encodings;
+mod images;
+mod integers;
+mod memory_script;
 mod numbers;
+mod register_script;
 mod requests;
+mod rights;
+mod rows;
+mod script;
+mod sizes;
+mod text;
+mod values;
+mod windows;
+mod words;
 
-use case::{Case, CaseError};
 use cap_bounds::{CapRep, PlainCap};
+use case::{Case, CaseError};
 use std::alloc::Global;
 use std::io::Read;
 use std::process::ExitCode;
@@ -18,24 +35,86 @@ use std::{fs, io};
 /// A file of cases.
 #[derive(Clone, Copy, Debug)]
 enum Table {
+    Words,
+    Windows,
     Requests,
+    Rights,
+    CapabilityRows,
+    Accesses,
+    Jumps,
+    Invocations,
+    Csrs,
+    Special,
+    Traps,
+    Devices,
+    Memory,
+    Integers,
+    Encodings,
+    Images,
 }
 
 /// The files in the order in which they are tried.
-const TABLES: [Table; 1] = [Table::Requests];
+const TABLES: [Table; 16] = [
+    Table::Words,
+    Table::Windows,
+    Table::Requests,
+    Table::Rights,
+    Table::CapabilityRows,
+    Table::Accesses,
+    Table::Jumps,
+    Table::Invocations,
+    Table::Csrs,
+    Table::Special,
+    Table::Traps,
+    Table::Devices,
+    Table::Memory,
+    Table::Integers,
+    Table::Encodings,
+    Table::Images,
+];
 
 impl Table {
     /// The file's name, without its ending.
     fn name(self) -> &'static str {
         match self {
+            Table::Words => "words",
+            Table::Windows => "windows",
             Table::Requests => "requests",
+            Table::Rights => "rights",
+            Table::CapabilityRows => "capability_rows",
+            Table::Accesses => "accesses",
+            Table::Jumps => "jumps",
+            Table::Invocations => "invocations",
+            Table::Csrs => "csrs",
+            Table::Special => "special",
+            Table::Traps => "traps",
+            Table::Devices => "devices",
+            Table::Memory => "memory",
+            Table::Integers => "integers",
+            Table::Encodings => "encodings",
+            Table::Images => "images",
         }
     }
 
     /// What the crates answer to a case's inputs, with this form of capabilities where there are any.
     fn answer<C: CapRep>(self, alloc: Global, inputs: &str) -> Result<String, CaseError> {
         match self {
+            Table::Words => words::answer::<C>(alloc, inputs),
+            Table::Windows => windows::answer::<C>(alloc, inputs),
             Table::Requests => requests::answer::<C>(alloc, inputs),
+            Table::Rights => rights::answer::<C>(alloc, inputs),
+            Table::CapabilityRows => capability_rows::answer::<C>(alloc, inputs),
+            Table::Accesses => checks::access::<C>(alloc, inputs),
+            Table::Jumps => checks::jump::<C>(alloc, inputs),
+            Table::Invocations => checks::invocation::<C>(alloc, inputs),
+            Table::Csrs => register_script::answer::<C>(alloc, inputs),
+            Table::Special => register_script::answer::<C>(alloc, inputs),
+            Table::Traps => register_script::answer::<C>(alloc, inputs),
+            Table::Devices => device_script::answer(alloc, inputs),
+            Table::Memory => memory_script::answer(alloc, inputs),
+            Table::Integers => integers::answer(alloc, inputs),
+            Table::Encodings => encodings::answer(alloc, inputs),
+            Table::Images => images::answer(alloc, inputs),
         }
     }
 }
@@ -53,7 +132,9 @@ fn tell(rt: &HostRuntime, table: Table, case: &Case, form: &str, came: &str) -> 
     let line = case.line;
     let inputs = case.inputs;
     let expected = case.expected;
-    println!(rt; "{name}.txt, line {line} ({form}): {inputs}\n  expected {expected}\n  came     {came}")
+    println!(rt;
+        "{name}.txt, line {line} ({form}): {inputs}\n  expected {expected}\n  came     {came}"
+    )
 }
 
 /// Tries a case with one form of capabilities, and says whether it held.

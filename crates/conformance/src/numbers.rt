@@ -16,6 +16,16 @@ impl<'a> Words<'a> {
         }
     }
 
+    /// The words that are left.
+    pub(crate) fn rest(self) -> SplitWhitespace<'a> {
+        self.rest
+    }
+
+    /// The next word, if there is one.
+    pub(crate) fn next(&mut self) -> Option<&'a str> {
+        self.rest.next()
+    }
+
     /// The next word.
     pub(crate) fn word(&mut self) -> Result<&'a str, CaseError> {
         self.rest.next().ok_or(CaseError::Unreadable)
@@ -33,5 +43,20 @@ impl<'a> Words<'a> {
             "1" => Ok(true),
             _ => Err(CaseError::Unreadable),
         }
+    }
+
+    /// The next word as hexadecimal digits of a number of 32 bits.
+    pub(crate) fn hex32(&mut self) -> Result<u32, CaseError> {
+        u32::try_from(self.hex()?).map_err(|_| CaseError::Unreadable)
+    }
+
+    /// The next word as hexadecimal digits of a number of 16 bits.
+    pub(crate) fn hex16(&mut self) -> Result<u16, CaseError> {
+        u16::try_from(self.hex()?).map_err(|_| CaseError::Unreadable)
+    }
+
+    /// The next word as a number of 8 bits with decimal digits.
+    pub(crate) fn small(&mut self) -> Result<u8, CaseError> {
+        self.word()?.parse().map_err(|_| CaseError::Unreadable)
     }
 }

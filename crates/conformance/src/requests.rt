@@ -2,25 +2,23 @@
 
 use crate::case::CaseError;
 use crate::numbers::Words;
-use cap_bounds::{CapRep, is_well_formed};
-use cap_format::CapWord;
+use crate::values::{text, value};
+use cap_bounds::CapRep;
 use std::alloc::Global;
 
-/// The operand's word (its two halves) and tag and a length; answered by the result's high half and tag, whether rounding changed
-/// nothing, and the result's base and top.
+/// A value and a length; answered by the value with the bounds of that many bytes from its address, whether rounding changed
+/// nothing, and the result's permissions, flag, object type, base and top.
 pub(crate) fn answer<C: CapRep>(alloc: Global, inputs: &str) -> Result<String, CaseError> {
     let mut words = Words::of(inputs);
-    let high = words.hex()?;
-    let address = words.hex()?;
-    let tag = words.bit()?;
+    let operand = value::<C>(&mut words)?;
     let length = words.hex()?;
-    let word = CapWord::from_logical(u128::from(high) << 64 | u128::from(address));
-    let operand = C::from_word(word, tag && is_well_formed(word));
     let (bounded, exact) = operand.set_bounds(length);
-    let high = (bounded.word().logical() >> 64) as u64;
-    let tag = u8::from(bounded.tag());
+    let value = text(alloc, bounded)?;
     let exact = u8::from(exact);
+    let perms = bounded.perms();
+    let flag = u8::from(bounded.flag());
+    let otype = bounded.otype();
     let base = bounded.base();
     let top = bounded.top();
-    Ok(format!(in alloc; "{high:016x} {tag} {exact} {base:x} {top:x}")?)
+    Ok(format!(in alloc; "{value} {exact} {perms:x} {flag} {otype:x} {base:x} {top:x}")?)
 }
