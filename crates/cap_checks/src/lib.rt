@@ -7,8 +7,6 @@ mod causes;
 mod conditions;
 mod fault;
 mod jumps;
-#[cfg(test)]
-mod tests;
 
 pub use access::{Access, Stored};
 pub use accesses::check_access;

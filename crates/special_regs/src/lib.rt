@@ -9,8 +9,6 @@ mod numbers;
 mod reads;
 mod refusal;
 mod scrs;
-#[cfg(test)]
-mod tests;
 mod traps;
 mod writes;
 

@@ -13,6 +13,3 @@ pub use fault::MemoryFault;
 pub use memory::{Memory, RAM_BASE};
 pub use size::Size;
 pub use tagged::Tagged;
-
-#[cfg(test)]
-mod tests;
