@@ -178,5 +178,20 @@ def lines():
         yield from group()
 
 
+def failures():
+    file = text(FIRST)
+    yield "# the file is read a byte a call: a call for each byte and one that meets the end, and any of them may fail"
+    for call in range(len(FIRST) + 1):
+        yield f"read {call:x} {file} => 1 L10"
+    yield f"read {len(FIRST) + 1:x} {file} => 0 1 80000000 0 80000000:{FIRST[48:].hex()}"
+    yield "# the image is written a byte a call, and any of them may fail"
+    for call in range(len(FIRST)):
+        yield f"write {call:x} {file} => 1 L10 {text(FIRST[:call])}"
+    yield f"write {len(FIRST):x} {file} => 0 ok {file}"
+    yield "# a device of std fails where a call of it does, or where it takes no byte of some"
+    yield from ("stuckread => failed 1", "stuckwrite - => 0 0", "stuckwriteall 74657874 => failed 1", "part 3 74657874 => 3 0 746578")
+
+
 def files():
     yield "images.txt", list(lines())
+    yield "failures.txt", list(failures())

@@ -8,7 +8,7 @@ use image::{FromRead, Image, ImageFault, ToWrite, read, write};
 use std::alloc::Global;
 
 /// The fault's name.
-fn fault_name(fault: ImageFault) -> &'static str {
+pub(crate) fn fault_name(fault: ImageFault) -> &'static str {
     match fault {
         ImageFault::L1 => "L1",
         ImageFault::L2 => "L2",
@@ -25,7 +25,7 @@ fn fault_name(fault: ImageFault) -> &'static str {
 }
 
 /// The pages, entry and mode of an image, and its sections by address and bytes.
-fn image_text(alloc: Global, image: &Image) -> Result<String, CaseError> {
+pub(crate) fn image_text(alloc: Global, image: &Image) -> Result<String, CaseError> {
     let pages = image.pages();
     let entry = image.entry();
     let mode = u8::from(image.mode());

@@ -10,6 +10,8 @@ mod case;
 mod checks;
 mod device_script;
 mod encodings;
+mod failing;
+mod failures;
 mod images;
 mod integers;
 mod memory_script;
@@ -51,10 +53,11 @@ enum Table {
     Integers,
     Encodings,
     Images,
+    Failures,
 }
 
 /// The files in the order in which they are tried.
-const TABLES: [Table; 16] = [
+const TABLES: [Table; 17] = [
     Table::Words,
     Table::Windows,
     Table::Requests,
@@ -71,6 +74,7 @@ const TABLES: [Table; 16] = [
     Table::Integers,
     Table::Encodings,
     Table::Images,
+    Table::Failures,
 ];
 
 impl Table {
@@ -93,6 +97,7 @@ impl Table {
             Table::Integers => "integers",
             Table::Encodings => "encodings",
             Table::Images => "images",
+            Table::Failures => "failures",
         }
     }
 
@@ -115,6 +120,7 @@ impl Table {
             Table::Integers => integers::answer(alloc, inputs),
             Table::Encodings => encodings::answer(alloc, inputs),
             Table::Images => images::answer(alloc, inputs),
+            Table::Failures => failures::answer(alloc, inputs),
         }
     }
 }
