@@ -1,7 +1,4 @@
-#!/usr/bin/env python3
-"""Prints crates/alu/src/tests/vectors.rt: a few values for every row of integer arithmetic.
-
-    tools/alu_vectors.py > crates/alu/src/tests/vectors.rt
+"""Cases of integer arithmetic: a few values for every row.
 
 The results are those of Python's whole numbers, by the unprivileged manual's words on each instruction.
 """
@@ -57,7 +54,8 @@ BRANCH = {
     "Bltu": lambda a, b: a < b, "Bgeu": lambda a, b: a >= b,
 }
 M = {
-    "Mul": lambda a, b: u(a * b), "Mulh": lambda a, b: u(s(a) * s(b) >> 64), "Mulhsu": lambda a, b: u(s(a) * b >> 64), "Mulhu": lambda a, b: a * b >> 64,
+    "Mul": lambda a, b: u(a * b), "Mulh": lambda a, b: u(s(a) * s(b) >> 64),
+    "Mulhsu": lambda a, b: u(s(a) * b >> 64), "Mulhu": lambda a, b: a * b >> 64,
     "Div": lambda a, b: div(a, b, 64), "Divu": lambda a, b: ALL if b == 0 else a // b,
     "Rem": lambda a, b: rem(a, b, 64), "Remu": lambda a, b: a if b == 0 else a % b,
     "Mulw": lambda a, b: w(a * b), "Divw": lambda a, b: div(a, b, 32), "Divuw": lambda a, b: ALL if low(b) == 0 else w(low(a) // low(b)),
@@ -65,7 +63,8 @@ M = {
 }
 NUMBERS = [(7, 3), (u(-7), 3), (u(-7), u(-3)), (LEAST, ALL), (ALL, ALL), (7, u(-3)), (0x123456789ABCDEF0, 0x0FEDCBA987654321),
            (0x80000000, 0xFFFFFFFF), (u(-2**31), u(-1)), (5, 0), (0xFFFFFFFF80000005, 0x100000000), (LEAST, LEAST)]
-SHIFTS = [(1, 63), (LEAST, 63), (LEAST, 1), (0x123456789ABCDEF0, 68), (u(-5), 1), (0xFFFFFFFF80000000, 31), (0x80000001, 33), (ALL, 0), (0x7FFFFFFF, 4)]
+SHIFTS = [(1, 63), (LEAST, 63), (LEAST, 1), (0x123456789ABCDEF0, 68), (u(-5), 1),
+          (0xFFFFFFFF80000000, 31), (0x80000001, 33), (ALL, 0), (0x7FFFFFFF, 4)]
 
 # results that the unprivileged manual prints, or that follow from its words by hand
 assert M["Div"](LEAST, ALL) == LEAST and M["Divu"](7, 0) == ALL and M["Rem"](7, 0) == 7
@@ -73,28 +72,30 @@ assert M["Divw"](u(-2**31), ALL) == 0xFFFFFFFF80000000 and M["Remw"](u(-2**31), 
 assert M["Mulh"](LEAST, LEAST) == 0x4000000000000000 and M["Mulhu"](ALL, ALL) == 0xFFFFFFFFFFFFFFFE and M["Mulhsu"](ALL, ALL) == ALL
 
 
-def table(name, doc, rows):
-    print(f"/// {doc}")
-    print(f"pub(super) static {name}: [(Row, u64, u64, u64); {len(rows)}] = [")
-    for row, a, b, want in rows:
-        parts = (f"Row::{row}", f"0x{a:x}", f"0x{b:x}", f"0x{want:x}")
-        line = ", ".join(parts)
-        print(f"    ({line})," if len(line) <= 60 else "    (\n" + "".join(f"        {part},\n" for part in parts) + "    ),")
-    print("];")
-
-
 def rows(functions, count):
     return [(row, a, b, int(f(a, b))) for row, f in functions.items()
             for a, b in (SHIFTS if row.startswith(("Sll", "Srl", "Sra")) else NUMBERS)[:count]]
 
 
-print("//! Values of integer rows, made by tools/alu_vectors.py. Not written by hand.")
-print()
-print("use isa_rows::Row;")
-print()
-table("INTEGER", "Rows, two numbers and the result.", [("Lui", 9, 0x12345000, 0x12345000)]
-      + rows(ONE, 9) + rows({row: ONE[like] for row, like in OTHER.items()}, 4))
-print()
-table("BRANCHES", "Branches, two numbers and whether they are taken.", rows(BRANCH, 6))
-print()
-table("PRODUCTS", "Rows of multiplication and division, two numbers and the result.", rows(M, 12))
+def lines():
+    yield "# a mnemonic, rs1's number, and rs2's or the immediate => the result; of a branch 1 where it is taken"
+    values = [("Lui", 9, 0x12345000, 0x12345000)] + rows(ONE, 9) + rows({row: ONE[like] for row, like in OTHER.items()}, 4)
+    for row, a, b, want in values + rows(BRANCH, 6) + rows(M, 12):
+        yield f"{row.lower()} {a:x} {b:x} => {want:x}"
+    yield "# zero divisors, overflow and high halves of products, by the unprivileged manual's words"
+    yield from AT_THE_ENDS
+
+
+AT_THE_ENDS = """\
+div 8000000000000000 ffffffffffffffff => 8000000000000000
+divu 7 0 => ffffffffffffffff
+rem 7 0 => 7
+divw ffffffff80000000 ffffffffffffffff => ffffffff80000000
+remw ffffffff80000000 ffffffffffffffff => 0
+mulh 8000000000000000 8000000000000000 => 4000000000000000
+mulhu ffffffffffffffff ffffffffffffffff => fffffffffffffffe
+mulhsu ffffffffffffffff ffffffffffffffff => ffffffffffffffff""".splitlines()
+
+
+def files():
+    yield "integers.txt", list(lines())

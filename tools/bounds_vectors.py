@@ -1,11 +1,8 @@
-#!/usr/bin/env python3
-"""Writes crates/bounds_vectors/src/words.rt: capability words and what they decode to.
+"""Cases of words and windows: capability words, what they decode to, and the addresses with which their bounds stay.
 
 The decoding is that of CHERI Concentrate (UCAM-CL-TR-987, 128-bit format), by its own formulas: the three top bits of the
 address, of B and of T against an edge, the corrections of base and top, and bit 64 of the top inverted. It shares nothing with
 the definitions of cap_bounds, which go by windows.
-
-    python3 tools/bounds_vectors.py > crates/bounds_vectors/src/words.rt
 """
 
 SPACE = 1 << 64
@@ -163,66 +160,70 @@ def words():
         yield high, [0, SPACE - 1, numbers.below(SPACE)][k % 3]
 
 
-HEADER = """//! Words and what they decode to, written by `python3 tools/bounds_vectors.py > crates/bounds_vectors/src/words.rt`.
-//!
-//! The script decodes by the formulas of CHERI Concentrate (UCAM-CL-TR-987): edge, corrections and the inverted bit 64 of the
-//! top. A row is the word's high half and address, its base, its top, its exponent, whether it is well-formed, and the first
-//! and the last address with which its bounds stay.
-
-/// A word and what it decodes to.
-#[derive(Clone, Copy, Debug)]
-pub struct Vector {
-    /// Bits 127..64 of the word in logical form.
-    pub high: u64,
-    /// Bits 63..0.
-    pub address: u64,
-    pub base: u64,
-    pub top: u128,
-    pub exponent: u32,
-    pub well_formed: bool,
-    /// The bounds stay with the addresses from this one on, round the end of the address space.
-    pub first: u64,
-    /// The last of them.
-    pub last: u64,
-}
-
-macro_rules! vectors {
-    ($($high:literal $address:literal $base:literal $top:literal $exponent:literal $well_formed:literal $first:literal $last:literal;)*) => {
-        [$(Vector {
-            high: $high,
-            address: $address,
-            base: $base,
-            top: $top,
-            exponent: $exponent,
-            well_formed: $well_formed,
-            first: $first,
-            last: $last,
-        }),*]
-    };
-}
-"""
+def memory(high, address):
+    """A word's bytes in memory, the lowest first, as hexadecimal digits."""
+    return ((high ^ NULL_HIGH) << 64 | address).to_bytes(16, "little").hex()
 
 
-def main():
-    rows = []
-    seen = set()
-    for high, address in words():
-        if (high, address) in seen:
-            continue
-        seen.add((high, address))
-        base, top = decoded(high, address)
-        e = exponent_and_mantissas(high)[0]
-        well = "true" if is_well_formed(high, address) else "false"
+def distinct_words():
+    return list(dict.fromkeys(words()))
+
+
+def word_line(high, address, tag):
+    """What a word decodes to, as data or as a capability."""
+    base, top = decoded(high, address)
+    e = exponent_and_mantissas(high)[0]
+    length = (top - base) % (2 * SPACE)
+    # the length's mantissa stands at the exponent
+    assert e > 50 or length % (1 << e) == 0 and (length >> e) // 4096 == high >> 26 & 1
+    fields = f"{high >> 48:x} {high >> 45 & 1} {high >> 27 & 0x3FFFF:x} {high >> 26 & 1} {high >> 14 & 0xFFF:x} {high & 0x3FFF:x}"
+    well_formed = int(is_well_formed(high, address))
+    return f"{memory(high, address)} {int(tag)} => {high:016x} {address:x} {int(tag)} {well_formed} {fields} {base:x} {top:x}"
+
+
+def word_lines():
+    yield "# a word's bytes in memory and a tag"
+    yield "# => its high half, address and tag, whether it is well-formed, perms, flag, otype, IE, T, B, base, top"
+    for high, address in distinct_words():
+        yield word_line(high, address, False)
+        if is_well_formed(high, address):
+            yield word_line(high, address, True)
+
+
+def window_line(high, address, tag, new):
+    """What another address leaves of a value."""
+    stays = decoded(high, new) == decoded(high, address)
+    unsealed = high >> 27 & 0x3FFFF == UNSEALED
+    base, top = decoded(high, new)
+    left = f"{high:016x} {new:x} {int(tag and stays and unsealed)}"
+    return f"{high:016x} {address:x} {int(tag)} {new:x} => {int(stays)} {left} {base:x} {top:x}"
+
+
+WORKED_WINDOWS = """\
+# 4095 bytes from 0x8000_1000, whose window is 0x8000_0800 to 0x8000_47ff
+ffff1ffffbffd000 80001000 1 800047ff => 1 ffff1ffffbffd000 800047ff 1 80001000 80001fff
+ffff1ffffbffd000 80001000 1 80000800 => 1 ffff1ffffbffd000 80000800 1 80001000 80001fff
+ffff1ffffbffd000 80001000 1 80004800 => 0 ffff1ffffbffd000 80004800 0 80005000 80005fff
+ffff1ffffbffd000 80001000 1 800007ff => 0 ffff1ffffbffd000 800007ff 0 7fffd000 7fffdfff
+# 16 bytes at 0, whose window goes round the end of the address space
+ffff1ffff8040000 0 1 ffffffffffffffff => 1 ffff1ffff8040000 ffffffffffffffff 1 0 10
+ffff1ffff8040000 0 1 fffffffffffff7ff => 0 ffff1ffff8040000 fffffffffffff7ff 0 ffffffffffffc000 ffffffffffffc010
+# a sentry at its own address
+ffff1ffff3ffd000 80001000 1 80001000 => 1 ffff1ffff3ffd000 80001000 0 80001000 80001fff""".splitlines()
+
+
+def window_lines():
+    yield "# a value, and an address => whether its bounds stay with that address, and the value with it, its base and its top"
+    yield from WORKED_WINDOWS
+    yield "# each word with the first and the last address of its window, its own, and those next to the ends"
+    lines = []
+    for high, address in distinct_words():
         first, last = kept(high, address)
-        rows.append(
-            f"    0x{high:016x} 0x{address:016x} 0x{base:016x} 0x{top:017x} {e:2} {well:5} 0x{first:016x} 0x{last:016x};"
-        )
-    print(HEADER)
-    print("/// Words of every exponent, well-formed and malformed, with addresses at the ends of windows and of the address space.")
-    print(f"pub static WORDS: [Vector; {len(rows)}] = vectors! {{")
-    print("\n".join(rows))
-    print("};")
+        for new in (first, last, address, (first - 1) % SPACE, (last + 1) % SPACE):
+            lines.append(window_line(high, address, is_well_formed(high, address), new))
+    yield from dict.fromkeys(lines)
 
 
-if __name__ == "__main__":
-    main()
+def files():
+    yield "words.txt", list(word_lines())
+    yield "windows.txt", list(window_lines())

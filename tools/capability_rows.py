@@ -1,15 +1,16 @@
-#!/usr/bin/env python3
-"""Writes crates/cap_insns/src/tests/vectors.rt: what each row over capabilities gives of capabilities and of data.
-
-    python3 tools/capability_rows.py > crates/cap_insns/src/tests/vectors.rt
+"""Cases of what each row over capabilities gives of capabilities and of data.
 
 A value is its word's high half, its address and its tag, and rows change bits of the high half in place, so what a row does not
 name stays, reserved bits too. Bounds are decoded by the formulas of bounds_vectors and set by the formula of requests. It
 shares nothing with the definitions of cap_insns, cap_rights and cap_bounds.
 """
 
+import re
+
+import capability_worked
 from bounds_vectors import NULL_HIGH, ROOT_HIGH, SPACE, UNSEALED, canonical, decoded, is_well_formed
 from requests import SENTRY, expected, mantissas
+from values import text
 
 GREATEST_SEALING_TYPE = 0x3FFFB
 GLOBAL, EXECUTE, SEAL, UNSEAL = 0, 1, 7, 9
@@ -163,35 +164,42 @@ def cases():
             yield name, v, "", f(GIVEN[v][1])
 
 
-HEADER = """//! What rows give of capabilities and of data, written by
-//! `python3 tools/capability_rows.py > crates/cap_insns/src/tests/vectors.rt`.
-//!
-//! The script has each row over bits of the word, and bounds by the published formulas of CHERI Concentrate
-//! (UCAM-CL-TR-987).
-
-use super::{Bits, Line};
-"""
+IMMEDIATES = [name.lower() for name in IMMEDIATE]
 
 
-def number_or_bits(v):
-    high, address, tag = v
-    assert not tag or is_well_formed(high, address)
-    return f"0x{address:016x}" if v == integer(address) else f"0x{high:016x} 0x{address:016x} {str(tag).lower()}"
+def value(words, names):
+    """The value that some words are: a number, or a name or a high half, an address and a tag."""
+    words = words.split()
+    if len(words) == 1:
+        return integer(int(words[0], 16))
+    high, address, tag = words
+    return names[high] if high in names else int(high, 16), int(address, 16), tag == "1"
 
 
-def main():
-    print(HEADER)
-    for name, (doc, (high, address, tag)) in GIVEN.items():
-        assert not tag or is_well_formed(high, address)
-        print(f"/// {doc}\nconst {name}: Bits = (0x{high:016x}, 0x{address:016x}, {str(tag).lower()});\n")
-    print("/// Each of the 28 rows over three capabilities, a malformed word, and one with reserved bits.")
-    print("pub(super) static ROWS: &[Line] = &lines! {")
+def worked_line(line, names):
+    """A line of hand-written cases with its names replaced."""
+    row, first, second, rs1, ddc, result = re.fullmatch(r"(\w+) \((.*?)\) \((.*?)\)(?: (\d+) \((.*?)\))? => (.*)", line).groups()
+    other = second if row in IMMEDIATES else text(value(second, names))
+    rest = "" if rs1 is None else f" {rs1} {text(value(ddc, names))}"
+    return f"{row} {text(value(first, names))} {other}{rest} => {text(value(result, names))}"
+
+
+def lines():
+    yield "# a mnemonic, the value in rs1, the value in rs2 or the immediate, and the number of rs1 and DDC where they count => the result"
+    for topic, names, table in capability_worked.GROUPS:
+        yield f"# {topic}"
+        for line in table.splitlines():
+            yield line if line.startswith("#") else worked_line(line, capability_worked.NAMES | names)
+    yield "# each of the 28 rows over three capabilities, a malformed word, and one with reserved bits"
     rows = list(cases())
     assert len({name for name, *_ in rows}) == 28
     for name, first, second, result in rows:
-        print(f"    {name} ({first}) ({second}) => ({number_or_bits(result)});")
-    print("};")
+        if name in IMMEDIATE:
+            other = second[2:]
+        else:
+            other = text(GIVEN[second][1] if second else integer(0))
+        yield f"{name.lower()} {text(GIVEN[first][1])} {other} => {text(result)}"
 
 
-if __name__ == "__main__":
-    main()
+def files():
+    yield "capability_rows.txt", list(lines())

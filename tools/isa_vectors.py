@@ -1,7 +1,4 @@
-#!/usr/bin/env python3
-"""Prints crates/isa_vectors/src/table.rt: words with their rows and operands, from outside the program.
-
-    tools/isa_vectors.py > crates/isa_vectors/src/table.rt
+"""Cases of encodings: words with their rows and operands, from outside the program.
 
 Words of RV64IM, Zicsr, Zifencei and the privileged rows are made by GNU as (Debian's package
 binutils-riscv64-linux-gnu); the operands are those of the assembly text. Words of opcode 0x5B, LC and SC
@@ -135,11 +132,13 @@ NONE = [
     (0xFED5055B, "funct7 0x7F, rs2 field 0x0D"), (0xFF05055B, "funct7 0x7F, rs2 field 0x10"), (0xFFF5055B, "funct7 0x7F, rs2 field 0x1F"),
     (0xF8B502DB, "funct7 0x7C, rd field 5"), (0xF8B506DB, "funct7 0x7C, rd field 0x0D"),
     (0xFA75055B, "funct7 0x7D, rs2 field 7"), (0xFB05055B, "funct7 0x7D, rs2 field 0x10"), (0xFB65055B, "funct7 0x7D, rs2 field 0x16"),
-    (0x0000005B, "opcode 0x5B, funct7 0"), (0x2600005B, "opcode 0x5B, funct7 0x13"), (0x0000305B, "opcode 0x5B, funct3 3"), (0x0000705B, "opcode 0x5B, funct3 7"),
+    (0x0000005B, "opcode 0x5B, funct7 0"), (0x2600005B, "opcode 0x5B, funct7 0x13"), (0x0000305B, "opcode 0x5B, funct3 3"),
+    (0x0000705B, "opcode 0x5B, funct3 7"),
     (0x00001067, "opcode 0x67, funct3 1"), (0x00002063, "opcode 0x63, funct3 2"), (0x00003063, "opcode 0x63, funct3 3"),
     (0x00007003, "opcode 0x03, funct3 7"), (0x00005023, "opcode 0x23, funct3 5"), (0x0000300F, "opcode 0x0F, funct3 3"),
     (0x0000201B, "opcode 0x1B, funct3 2"), (0x40001033, "opcode 0x33, funct7 0x20, funct3 1"), (0x04000033, "opcode 0x33, funct7 2"),
-    (0x0000203B, "opcode 0x3B, funct3 2"), (0x0200103B, "opcode 0x3B, funct7 1, funct3 1"), (0x4000103B, "opcode 0x3B, funct7 0x20, funct3 1"),
+    (0x0000203B, "opcode 0x3B, funct3 2"), (0x0200103B, "opcode 0x3B, funct7 1, funct3 1"),
+    (0x4000103B, "opcode 0x3B, funct7 0x20, funct3 1"),
     (0x00004073, "opcode 0x73, funct3 4"), (0x10200073, "sret"), (0x00200073, "uret"), (0x12000073, "sfence.vma"),
     (0x000000F3, "ecall with rd field 1"), (0x00008073, "ecall with rs1 field 1"), (0x30200173, "mret with rd field 2"),
     (0x1005252F, "lr.w, of an extension that is left out"), (0x00053507, "fld, likewise"), (0x00000013 ^ 0x3, "a word of compressed form"),
@@ -162,30 +161,17 @@ assert len({m[1] for m in made}) == 133
 assert all(sum(m[1] == row for m in made) >= 2 for row in {m[1] for m in made} - {"Ecall", "Ebreak", "Mret", "Wfi"})
 assert set(ROWS) <= {m[1] for m in made}
 
-print("//! Words with their rows and operands, made by tools/isa_vectors.py: words of the base instruction set by")
-print("//! GNU as, words of CHERI-RISC-V from the fields of its encodings. Not written by hand.")
-print()
-print("use crate::Vector;")
-print("use isa_rows::Row;")
-print()
-print("/// Each row has two words at least, but for those that are one word.")
-print(f"pub static VECTORS: [Vector; {len(made)}] = [")
-for word, row, _, rd, rs1, rs2, imm in made:
-    print(f"    (0x{word:08x}, Row::{row}, {rd}, {rs1}, {rs2}, 0x{imm:x}),")
-print("];")
-print()
-print("/// Words that are no row.")
-print(f"pub static NO_ROWS: [u32; {len(NONE)}] = [")
-for word, why in NONE:
-    print(f"    // {why[0].upper() + why[1:]}")
-    print(f"    0x{word:08x},")
-print("];")
-print()
-names = {}
-for m in made:
-    names.setdefault(m[1], m[2])
-print("/// The mnemonic of each row.")
-print(f"pub static NAMES: [(Row, &str); {len(names)}] = [")
-for row, name in names.items():
-    print(f'    (Row::{row}, "{name}"),')
-print("];")
+
+
+def lines():
+    yield "# a word => the mnemonic, the numbers of rd, rs1 and rs2, the immediate, and the word again"
+    for word, _, mnemonic, rd, rs1, rs2, imm in made:
+        yield f"{word:08x} => {mnemonic} {rd} {rs1} {rs2} {imm:x} {word:08x}"
+    yield "# a word that is no row => none"
+    for word, why in NONE:
+        yield f"# {why}"
+        yield f"{word:08x} => none"
+
+
+def files():
+    yield "encodings.txt", list(lines())

@@ -1,12 +1,9 @@
-#!/usr/bin/env python3
-"""Writes crates/bounds_vectors/src/requests.rt: requests for bounds, and what setting the bounds is to give.
+"""Cases of requests for bounds, and what setting the bounds is to give.
 
 Bounds are set by the published formula of CHERI Concentrate (UCAM-CL-TR-987, 128-bit format; setCapBounds in the Sail
 model of CHERI-RISC-V): the exponent comes from the leading zeros of the length, and is raised by one where rounding carries.
 The bounds expected are those that the word decodes to, by the formulas of bounds_vectors. It shares nothing with the
 definitions of cap_bounds, which take the least exponent that serves; that this rule agrees is asserted of every request.
-
-    python3 tools/requests.py > crates/bounds_vectors/src/requests.rt
 """
 
 from bounds_vectors import NULL_HIGH, ROOT_HIGH, SPACE, UNSEALED, Numbers, decoded, is_well_formed, kept
@@ -205,79 +202,15 @@ def requests():
         yield from group(numbers)
 
 
-HEADER = """//! Requests for bounds, written by `python3 tools/requests.py > crates/bounds_vectors/src/requests.rt`.
-//!
-//! The script sets bounds by the formula of CHERI Concentrate (UCAM-CL-TR-987): the exponent comes from the leading zeros of the
-//! length, and is raised by one where rounding carries. A row is the operand's high half, address and tag and the length; and
-//! the result's high half and tag, whether rounding changed nothing, and the result's base and top.
-
-/// An operand, a length, and what setting the bounds is to give.
-#[derive(Clone, Copy, Debug)]
-pub struct Request {
-    /// Bits 127..64 of the operand's word in logical form.
-    pub high: u64,
-    /// Bits 63..0 of the operand's word, and of the result's.
-    pub address: u64,
-    /// Whether the operand is a capability.
-    pub tag: bool,
-    /// How many bytes from the address on are requested.
-    pub length: u64,
-    pub expected: Expected,
-}
-
-/// What setting the bounds is to give.
-#[derive(Clone, Copy, Debug)]
-pub struct Expected {
-    /// Bits 127..64 of the result's word in logical form.
-    pub high: u64,
-    /// Whether the result is a capability.
-    pub tag: bool,
-    /// Whether rounding changed nothing.
-    pub exact: bool,
-    pub base: u64,
-    /// Below 2^65.
-    pub top: u128,
-}
-
-macro_rules! requests {
-    ($($high:literal $address:literal $tag:literal $length:literal => $new_high:literal $new_tag:literal $exact:literal $base:literal $top:literal;)*) => {
-        [$(Request {
-            high: $high,
-            address: $address,
-            tag: $tag,
-            length: $length,
-            expected: Expected {
-                high: $new_high,
-                tag: $new_tag,
-                exact: $exact,
-                base: $base,
-                top: $top,
-            },
-        }),*]
-    };
-}
-"""
-
-
-def truth(value):
-    return "true " if value else "false"
-
-
-def main():
-    rows = []
+def lines():
+    yield "# a value, and a length => the value with these bounds, whether rounding changed nothing, perms, flag, otype, base, top"
     # in their order, each once
     for high, address, tag, length in dict.fromkeys(requests()):
         result, result_tag, exact, base, top = expected(high, address, tag, length)
-        rows.append(
-            f"    0x{high:016x} 0x{address:016x} {truth(tag)} 0x{length:016x} => "
-            f"0x{result:016x} {truth(result_tag)} {truth(exact)} 0x{base:016x} 0x{top:017x};"
-        )
-    print(HEADER)
-    print("/// Requests at every exponent, on and off granules, at the ends of the operand and of the address space, and of data.")
-    print(f"pub static REQUESTS: [Request; {len(rows)}] = requests! {{")
-    print("\n".join(rows))
-    print("};")
+        fields = f"{high >> 48:x} {high >> 45 & 1} {high >> 27 & 0x3FFFF:x}"
+        yield (f"{high:016x} {address:x} {int(tag)} {length:x} => "
+               f"{result:016x} {address:x} {int(result_tag)} {int(exact)} {fields} {base:x} {top:x}")
 
 
-if __name__ == "__main__":
-    main()
+def files():
+    yield "requests.txt", list(lines())

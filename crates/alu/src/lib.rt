@@ -10,6 +10,3 @@ mod readings;
 pub use arithmetic::int_op;
 pub use branches::branch_taken;
 pub use products::mul_div;
-
-#[cfg(test)]
-mod tests;

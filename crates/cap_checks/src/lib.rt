@@ -5,8 +5,6 @@ mod access;
 mod accesses;
 mod conditions;
 mod jumps;
-#[cfg(test)]
-mod tests;
 
 pub use access::{Access, Stored};
 pub use accesses::check_access;

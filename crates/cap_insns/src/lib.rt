@@ -4,8 +4,6 @@
 mod derived;
 mod numbers;
 mod rows;
-#[cfg(test)]
-mod tests;
 
 pub use numbers::integer;
 pub use rows::cap_op;

@@ -20,6 +20,4 @@ pub use seals::{seal, seal_entry, unseal};
 pub use unsealed::opened;
 
 #[cfg(test)]
-mod permission_tests;
-#[cfg(test)]
 mod tests;

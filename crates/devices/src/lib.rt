@@ -8,8 +8,6 @@ mod interrupts;
 mod loads;
 mod map;
 mod stores;
-#[cfg(test)]
-mod tests;
 mod timer;
 
 pub use devices::{Devices, Effect};

@@ -9,8 +9,6 @@ pub mod laws;
 mod parts;
 mod reading;
 mod section;
-#[cfg(test)]
-mod tests;
 mod to_write;
 mod writing;
 

@@ -8,8 +8,6 @@ mod interrupts;
 mod reads;
 mod refusal;
 mod scrs;
-#[cfg(test)]
-mod tests;
 mod traps;
 mod writes;
 

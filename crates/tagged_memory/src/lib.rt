@@ -11,6 +11,3 @@ mod tagged;
 pub use fault::MemoryFault;
 pub use memory::Memory;
 pub use tagged::Tagged;
-
-#[cfg(test)]
-mod tests;

@@ -1,0 +1,113 @@
+//! The checks before accesses, jumps and invocations: an address that is allowed, or a fault's `mcause` and `mtval`.
+
+ghost use Rattle.std.specs.Prelude.{◌<◌, IfOk};
+
+use crate::case::CaseError;
+use crate::numbers::Words;
+use crate::sizes::size;
+use crate::text::{hex, name};
+use crate::values::value;
+use base::Fault;
+use cap_bounds::CapRep;
+use cap_checks::{
+    Access, Stored, check_access, check_fetch, check_invoke, check_jump, check_target, jump_target,
+};
+use std::alloc::Global;
+
+/// A fault by its two numbers.
+pub(crate) fn fault_text(alloc: Global, fault: Fault) -> Result<String, CaseError> {
+    let mcause = fault.mcause;
+    let mtval = fault.mtval;
+    Ok(format!(in alloc; "{mcause:x} {mtval:x}")?)
+}
+
+/// The address that is allowed, or the fault.
+fn outcome(alloc: Global, checked: Result<u64, Fault>) -> Result<String, CaseError> {
+    match checked {
+        Ok(address) => hex(alloc, address),
+        Err(fault) => fault_text(alloc, fault),
+    }
+}
+
+/// The next word as a register's number in a fault, below 64.
+fn register(words: &mut Words) -> Result<u64, CaseError>
+    ensures { IfOk result (λ number. number < 64) }
+{
+    let number = words.small()?;
+    if number < 64 {
+        Ok(u64::from(number))
+    } else {
+        Err(CaseError::Unreadable)
+    }
+}
+
+/// What is stored where a capability may be, by its name.
+fn stored(words: &mut Words) -> Result<Stored, CaseError> {
+    match words.word()? {
+        "untagged" => Ok(Stored::Untagged),
+        "local" => Ok(Stored::Local),
+        "global" => Ok(Stored::Global),
+        _ => Err(CaseError::Unreadable),
+    }
+}
+
+/// What a store of the next value stores.
+fn stored_text<C: CapRep>(alloc: Global, words: &mut Words) -> Result<String, CaseError> {
+    let stored = match Stored::of(value::<C>(words)?) {
+        Stored::Untagged => "untagged",
+        Stored::Local => "local",
+        Stored::Global => "global",
+    };
+    name(alloc, stored)
+}
+
+/// `load SIZE`, `store SIZE`, `loadc`, or `storec` and what is stored; then the authority's register, the authority and the address.
+/// Or `stored` and a value, answered by what its store stores.
+pub(crate) fn access<C: CapRep>(alloc: Global, inputs: &str) -> Result<String, CaseError> {
+    let mut words = Words::of(inputs);
+    let access = match words.word()? {
+        "load" => Access::Load(size(&mut words)?),
+        "store" => Access::Store(size(&mut words)?),
+        "loadc" => Access::LoadCapability,
+        "storec" => Access::StoreCapability(stored(&mut words)?),
+        "stored" => return stored_text::<C>(alloc, &mut words),
+        _ => return Err(CaseError::Unreadable),
+    };
+    let register = register(&mut words)?;
+    let authority = value::<C>(&mut words)?;
+    let address = words.hex()?;
+    outcome(alloc, check_access(authority, register, access, address))
+}
+
+/// `fetch PCC`, `target PCC TARGET` or `jump REGISTER VALUE OFFSET`. Or `to ADDRESS OFFSET`, answered by where such a jump goes.
+pub(crate) fn jump<C: CapRep>(alloc: Global, inputs: &str) -> Result<String, CaseError> {
+    let mut words = Words::of(inputs);
+    match words.word()? {
+        "fetch" => outcome(alloc, check_fetch(value::<C>(&mut words)?)),
+        "target" => {
+            let pcc = value::<C>(&mut words)?;
+            outcome(alloc, check_target(pcc, words.hex()?))
+        }
+        "jump" => {
+            let register = register(&mut words)?;
+            let c = value::<C>(&mut words)?;
+            outcome(alloc, check_jump(c, register, words.hex()?))
+        }
+        "to" => {
+            let address = words.hex()?;
+            hex(alloc, jump_target(address, words.hex()?))
+        }
+        _ => Err(CaseError::Unreadable),
+    }
+}
+
+/// A register and the code in it, and a register and the data in it.
+pub(crate) fn invocation<C: CapRep>(alloc: Global, inputs: &str) -> Result<String, CaseError> {
+    let mut words = Words::of(inputs);
+    let code_register = register(&mut words)?;
+    let code = value::<C>(&mut words)?;
+    let data_register = register(&mut words)?;
+    let data = value::<C>(&mut words)?;
+    let checked = check_invoke(code, code_register, data, data_register);
+    outcome(alloc, checked)
+}

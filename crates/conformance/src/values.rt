@@ -1,0 +1,32 @@
+//! Capabilities and data in cases, each by three words: bits 127..64 of its capability word, its address, and its tag.
+
+use crate::case::CaseError;
+use crate::numbers::Words;
+use cap_bounds::{CapRep, is_well_formed};
+use cap_format::CapWord;
+use std::alloc::Global;
+
+/// The value that the next three words are; what is tagged is to be well-formed.
+pub(crate) fn value<C: CapRep>(words: &mut Words) -> Result<C, CaseError> {
+    let high = words.hex()?;
+    let address = words.hex()?;
+    let tag = words.bit()?;
+    let word = CapWord::from_logical(u128::from(high) << 64 | u128::from(address));
+    if tag && !is_well_formed(word) {
+        return Err(CaseError::Unreadable);
+    }
+    Ok(C::from_word(word, tag))
+}
+
+/// Bits 127..64 of a capability word.
+pub(crate) fn high_half(word: CapWord) -> u64 {
+    (word.logical() >> 64) as u64
+}
+
+/// The three words of a value.
+pub(crate) fn text<C: CapRep>(alloc: Global, c: C) -> Result<String, CaseError> {
+    let high = high_half(c.word());
+    let address = c.address();
+    let tag = u8::from(c.tag());
+    Ok(format!(in alloc; "{high:016x} {address:x} {tag}")?)
+}

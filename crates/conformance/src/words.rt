@@ -1,0 +1,34 @@
+//! Words in memory, and what they decode to.
+
+use crate::bytes::bytes;
+use crate::case::CaseError;
+use crate::numbers::Words;
+use crate::values::{high_half, text};
+use cap_bounds::{CapRep, is_well_formed};
+use cap_format::CapWord;
+use std::alloc::Global;
+
+/// The word's sixteen bytes in memory and its tag; answered by the value, whether the word is well-formed, permissions, flag and
+/// object type, the fields IE, T and B as they stand in the word, base and top.
+pub(crate) fn answer<C: CapRep>(alloc: Global, inputs: &str) -> Result<String, CaseError> {
+    let mut words = Words::of(inputs);
+    let bytes = bytes(alloc, words.word()?)?;
+    let memory = <[u8; 16]>::try_from(bytes.as_slice()).map_err(|_| CaseError::Unreadable)?;
+    let word = CapWord::from_memory(memory);
+    let tag = words.bit()?;
+    let well_formed = is_well_formed(word);
+    let c = C::from_word(word, tag && well_formed);
+    let value = text(alloc, c)?;
+    let well_formed = u8::from(well_formed);
+    let perms = c.perms();
+    let flag = u8::from(c.flag());
+    let otype = c.otype();
+    let ie = u8::from(word.ie());
+    let t = word.t_field();
+    let b = word.b_field();
+    let base = c.base();
+    let top = c.top();
+    Ok(format!(in alloc;
+        "{value} {well_formed} {perms:x} {flag} {otype:x} {ie} {t:x} {b:x} {base:x} {top:x}"
+    )?)
+}
