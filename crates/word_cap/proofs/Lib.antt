@@ -1,0 +1,4 @@
+pub mod Lengths
+pub mod Corrections
+pub mod Windows
+pub mod PartsLemmas

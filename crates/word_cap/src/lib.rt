@@ -1,0 +1,9 @@
+//! Capabilities as 128-bit words: bounds are read off the word's mantissas each time that they are asked for.
+#![tactic(auto)]
+
+mod decoding;
+mod mantissas;
+mod word_parts;
+
+pub use decoding::parts;
+pub use word_parts::Parts;
