@@ -37,7 +37,7 @@ length_mantissa-clear word t b clear high low =
     and_mask ((t + (2 ^ 64 - b)) % 2 ^ 64) 12 ∙ omega arith
 
 -- T is B and L, modulo 2 ^ 14
-top_mantissa-below : (word : ℕ) → top_mantissa word < 16384
+pub top_mantissa-below : (word : ℕ) → top_mantissa word < 16384
 unfolding top_mantissa
 top_mantissa-below word = omega (arith, low_top_mantissa-below word)
 

@@ -23,7 +23,7 @@ pub(crate) fn window(e: u32, b: u64, address: u64) -> u64
         >> 14
 }
 
-/// The base that an exponent and B give with an address.
+/// The base that an exponent and B give with an address: its window's number and B, in units of `2^e`.
 #[inline(always)]
 fn base_at(e: u32, b: u64, address: u64) -> u64
     requires exponent { e ≤ 52 }
@@ -140,4 +140,28 @@ pub fn parts(word: CapWord) -> Parts
         top_step: correction(top_high, address_high),
         flip: is_flipped(e, base_at(e, b, address), top),
     }
+}
+
+/// The base of a word.
+#[inline(always)]
+#[tactic(auto, unfolding(cap_bounds::specs::Window::base_of_word))]
+pub(crate) fn base(word: CapWord) -> u64
+    ensures { result ≡ base_of_word word }
+{
+    let parts = parts(word);
+    base_at(u32::from(parts.e), u64::from(parts.b), word.address())
+}
+
+/// The top of a word, below `2^65`: its base and its length. The corrected top with bit 64 inverted where that is wrong is the
+/// same number.
+#[inline(always)]
+#[tactic(auto, unfolding(cap_bounds::specs::Window::top_of_word))]
+pub(crate) fn top(word: CapWord) -> u128
+    ensures value { result ≡ top_of_word word }
+    ensures range { result < 2 ^ 65 }
+{
+    let parts = parts(word);
+    let b = u64::from(parts.b);
+    let length = u64::from(parts.t).wrapping_sub(b) & 0x3fff;
+    top_at(u32::from(parts.e), b, length, word.address())
 }
