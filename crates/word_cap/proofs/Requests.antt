@@ -36,8 +36,11 @@ rounded_top-held : (v : CapValue) (length : ℕ) → IsSound v → may_bound v l
 unfolding may_bound
 rounded_top-held (Cap r) length well may =
     let unsealed : (not (is_sealed (Cap r)) && (leb r.base r.address && leb (r.address + length) r.top)) ≡ true = may in
-    let held = and_parts _ _ (and_parts _ _ unsealed).1 in
-    let inside = rounded-inside_record r r.address (r.address + length) well (omega arith) (leb-true _ _ held.0) (leb-true _ _ held.1) in
+    let low : Bool = leb r.base r.address in
+    let high : Bool = leb (r.address + length) r.top in
+    let held = and_parts low high (and_parts (not (is_sealed (Cap r))) (low && high) unsealed).1 in
+    let ordered : r.address ≤ r.address + length = omega arith in
+    let inside = rounded-inside_record r r.address (r.address + length) well ordered (leb-true r.base r.address held.0) (leb-true (r.address + length) r.top held.1) in
     let in_space = well.in_space in
     omega (arith, inside.1)
 rounded_top-held (Data n) length sound may = cc

@@ -1,14 +1,16 @@
 -- A word's bounds stay with another address exactly where its window is that of the word's own.
-use Rattle.std.proofs.Common.{◌≡◌, ℕ, ◌+◌, ◌*◌, ◌/◌, ◌%◌, ◌^◌, ◌<◌, eqb, bit_xor, ◌↔◌, IsTrue, refl, sym, ap, ◌∙◌, inl, inr, arith}
+use Rattle.std.proofs.Common.{◌≡◌, ℕ, ◌+◌, ◌*◌, ◌/◌, ◌%◌, ◌^◌, ◌<◌, ◌≤◌, eqb, bit_xor, ◌↔◌, IsTrue, refl, sym, ap, ◌∙◌, inl, inr, arith}
 use Rattle.std.proofs.Math.Nat.{mul_assoc}
 use Rattle.std.specs.Int.Bits.{xor_assoc, xor_self, xor_zero_l, xor_zero_r}
-use Rattle.std.proofs.lemmas.Nat.{pow-add, pow_pos, xor_block, xor_mod, mul-mod_first}
+use Rattle.std.proofs.lemmas.Nat.{pow-add, pow_pos, shr-shr, xor_block, xor_mod, xor_shr, mul-mod_first}
 use Rattle.std.proofs.lemmas.Bool.{cases_lt, eqb-true, eq-eqb}
 use Rattle.cap_format.specs.Word.{address_of, ie_of, t_field_of, b_field_of, with_address_of}
 use Rattle.cap_bounds.specs.Mantissa.{exponent_of, base_mantissa, low_top_mantissa, top_mantissa, length_mantissa}
+use Rattle.cap_bounds.specs.MantissaLaws.{exponent_of-high, base_mantissa-below}
 use Rattle.cap_bounds.specs.Window.{decoded_base, decoded_top, base_of_word, top_of_word}
 use Rattle.cap_bounds.specs.SetAddress.{KeepsBounds}
 use Rattle.cap_bounds.specs.BaseLaws.{decoded_top-low, decoded_top-high}
+use Rattle.word_cap.proofs.Windows.{window_number, window_number-base}
 
 -- numbers whose exclusive or is 0 are one
 same_from_xor : (x y : ℕ) → bit_xor x y ≡ 0 → x ≡ y
@@ -98,3 +100,33 @@ keeps_bounds-windows word address x y e b own fits exponent mantissa place from 
       λ none. bases.0 (sym from ∙ windows.0 (eqb-true _ 0 none) ∙ to),
       λ kept. eq-eqb _ 0 (windows.1 (from ∙ bases.1 kept ∙ sym to)),
     )
+
+-- ---- a short way
+
+window_number-same : (x y b : ℕ) → x / 2048 ≡ y / 2048 → window_number x b ≡ window_number y b
+window_number-same x y b same = omega arith
+
+-- addresses in the same 2048 bytes give one base
+decoded_base-near : (e b own address : ℕ) → e ≤ 52 → b < 16384 → own < 2 ^ 64 → address < 2 ^ 64 → bit_xor own address < 2048
+    → decoded_base e b own ≡ decoded_base e b address
+decoded_base-near e b own address most mantissa own_fits fits near =
+    let none : bit_xor (own / 2 ^ 11) (address / 2 ^ 11) ≡ 0 = sym (xor_shr own address 11) ∙ omega arith in
+    let same : own / 2 ^ 11 ≡ address / 2 ^ 11 = same_from_xor (own / 2 ^ 11) (address / 2 ^ 11) none in
+    let turned : e + 11 ≡ 11 + e = omega arith in
+    let eighths : own / 2 ^ e / 2 ^ 11 ≡ address / 2 ^ e / 2 ^ 11 =
+    shr-shr own e 11
+    ∙ ap (λ k. own / 2 ^ k) turned
+    ∙ sym (shr-shr own 11 e)
+    ∙ ap (λ n. n / 2 ^ e) same
+    ∙ shr-shr address 11 e
+    ∙ ap (λ k. address / 2 ^ k) (sym turned)
+    ∙ sym (shr-shr address e 11) in
+    sym (window_number-base e b own most mantissa own_fits)
+    ∙ ap (λ n. (n * 16384 + b) * 2 ^ e % 2 ^ 64) (window_number-same (own / 2 ^ e) (address / 2 ^ e) b eighths)
+    ∙ window_number-base e b address most mantissa fits
+
+pub keeps_bounds-near : (word own address : ℕ) → address < 2 ^ 64 → own ≡ address_of word → bit_xor own address < 2048 → KeepsBounds word address
+keeps_bounds-near word own address fits place near =
+    let own_fits : own < 2 ^ 64 = omega arith in
+    let same = decoded_base-near (exponent_of word) (base_mantissa word) own address (exponent_of-high word) (base_mantissa-below word) own_fits fits near in
+    (keeps_bounds-base word address fits).0 (rw place at same)

@@ -142,26 +142,30 @@ pub fn parts(word: CapWord) -> Parts
     }
 }
 
-/// The base of a word.
-#[inline(always)]
-#[tactic(auto, unfolding(cap_bounds::specs::Window::base_of_word))]
-pub(crate) fn base(word: CapWord) -> u64
-    ensures { result ≡ base_of_word word }
-{
-    let parts = parts(word);
-    base_at(u32::from(parts.e), u64::from(parts.b), word.address())
+/// The bounds of a word.
+#[derive(Clone, Copy)]
+pub(crate) struct Bounds {
+    pub(crate) base: u64,
+    /// Below `2^65`.
+    pub(crate) top: u128,
 }
 
-/// The top of a word, below `2^65`: its base and its length. The corrected top with bit 64 inverted where that is wrong is the
-/// same number.
+/// The bounds of a word: its base, and the top that lies its length behind it. The top by its correction, with bit 64 inverted
+/// where that is wrong, is the same number.
 #[inline(always)]
-#[tactic(auto, unfolding(cap_bounds::specs::Window::top_of_word))]
-pub(crate) fn top(word: CapWord) -> u128
-    ensures value { result ≡ top_of_word word }
-    ensures range { result < 2 ^ 65 }
+#[tactic(auto, unfolding(cap_bounds::specs::Window::base_of_word, cap_bounds::specs::Window::top_of_word))]
+pub(crate) fn bounds_of(word: CapWord) -> Bounds
+    ensures base { result.base ≡ base_of_word word }
+    ensures top { result.top ≡ top_of_word word }
+    ensures range { result.top < 2 ^ 65 }
 {
     let parts = parts(word);
+    let e = u32::from(parts.e);
     let b = u64::from(parts.b);
     let length = u64::from(parts.t).wrapping_sub(b) & 0x3fff;
-    top_at(u32::from(parts.e), b, length, word.address())
+    let address = word.address();
+    Bounds {
+        base: base_at(e, b, address),
+        top: top_at(e, b, length, address),
+    }
 }

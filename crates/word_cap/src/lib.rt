@@ -2,10 +2,13 @@
 #![tactic(auto)]
 
 mod decoding;
+pub mod laws;
 mod mantissas;
 mod rep;
 mod rounding;
 mod set_bounds;
+#[cfg(test)]
+mod tests;
 mod window;
 mod word_cap;
 mod word_parts;

@@ -5,7 +5,7 @@ ghost use Rattle.cap_bounds.specs.Record.{IsWordWellFormed};
 ghost use Rattle.cap_bounds.specs.CapValue.{value_of, word_of, is_tagged, value_base, value_top, value_address, value_perms, value_flag, value_otype, without_tag};
 ghost use Rattle.cap_bounds.specs.SetAddress.{at_address};
 
-use crate::decoding::{base, top};
+use crate::decoding::bounds_of;
 use crate::rounding::encoding_of;
 use crate::set_bounds::{may_bound, word_with};
 use crate::window::keeps_tag;
@@ -44,12 +44,12 @@ impl CapRep for WordCap {
 
     #[inline(always)]
     fn base(self) -> u64 {
-        base(self.word)
+        bounds_of(self.word).base
     }
 
     #[inline(always)]
     fn top(self) -> u128 {
-        top(self.word)
+        bounds_of(self.word).top
     }
 
     #[inline(always)]

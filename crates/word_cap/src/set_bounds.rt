@@ -7,7 +7,7 @@ ghost use Rattle.cap_bounds.specs.SetBounds.{may_bound};
 ghost use Rattle.cap_bounds.specs.WordLaws.{joined};
 ghost use Rattle.word_cap.specs.WordCap.{word_value};
 
-use crate::decoding::{base, top};
+use crate::decoding::bounds_of;
 use crate::rounding::Encoding;
 use crate::word_cap::WordCap;
 use cap_format::CapWord;
@@ -17,8 +17,9 @@ use cap_format::CapWord;
 fn bounds_hold(word: CapWord, length: u64) -> bool
     ensures { result ≡ (nat_le (base_of_word word) (address_of word) && nat_le (address_of word + length) (top_of_word word)) }
 {
+    let bounds = bounds_of(word);
     let end = u128::from(word.address()) + u128::from(length);
-    base(word) <= word.address() && end <= top(word)
+    bounds.base <= word.address() && end <= bounds.top
 }
 
 /// Whether the value is an unsealed capability whose bounds hold the request.

@@ -13,11 +13,15 @@ use cap_format::CapWord;
 
 /// Whether a word's bounds stay with this address in place of its own: where it lies in the window of the old one.
 ///
-/// The numbers of windows go round at `2^(50 - e)`, and with an exponent of 50 or more there is one window.
+/// The numbers of windows go round at `2^(50 - e)`, and with an exponent of 50 or more there is one window. An address in the same
+/// 2048 bytes as the old one is in the same eighth of a window at every exponent.
 #[inline(always)]
 pub(crate) fn keeps_bounds(word: CapWord, address: u64) -> bool
     ensures { IsTrue result ↔ KeepsBounds word address }
 {
+    if (word.address() ^ address) < 2048 {
+        return true;
+    }
     let mantissas = mantissas_of(word);
     let (e, b) = (mantissas.exponent, mantissas.base);
     (window(e, b, word.address()) ^ window(e, b, address)) << 14 << e == 0
