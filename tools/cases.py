@@ -1,0 +1,63 @@
+#!/usr/bin/env python3
+"""Makes the files of cases in crates/conformance/data anew.
+
+    python3 tools/cases.py            writes them
+    python3 tools/cases.py --check    says which differ from those that stand there, and ends with 1 if any does
+
+Each module of SOURCES has a function `files()` that gives pairs: a file's name, and its lines. A module that needs a program which is
+not installed is left out, and its Debian package is named.
+"""
+import importlib
+import os
+import sys
+
+DATA = os.path.join(os.path.dirname(os.path.abspath(__file__)), "..", "crates", "conformance", "data")
+
+# The modules that make files, one a line.
+SOURCES = [
+]
+
+# The programs that some modules need, and Debian's packages that have them.
+PACKAGES = {
+    "riscv64-linux-gnu-as": "binutils-riscv64-linux-gnu",
+    "riscv64-linux-gnu-objcopy": "binutils-riscv64-linux-gnu",
+}
+
+
+def made():
+    """The names of the files with what is to stand in them."""
+    for source in SOURCES:
+        try:
+            yield from ((name, "".join(line + "\n" for line in lines)) for name, lines in importlib.import_module(source).files())
+        except FileNotFoundError as missing:
+            if missing.filename not in PACKAGES:
+                raise
+            package = PACKAGES[missing.filename]
+            print(f"tools/{source}.py is left out: it needs {missing.filename}, of Debian's package {package}", file=sys.stderr)
+
+
+def standing(path):
+    """What stands in a file, or nothing."""
+    if not os.path.exists(path):
+        return ""
+    with open(path, encoding="utf-8", newline="") as file:
+        return file.read()
+
+
+def main():
+    check = sys.argv[1:] == ["--check"]
+    differing = 0
+    for name, text in made():
+        path = os.path.join(DATA, name)
+        if standing(path) == text:
+            continue
+        differing += 1
+        print(f"{name} differs" if check else f"{name} is written")
+        if not check:
+            with open(path, "w", encoding="utf-8", newline="") as file:
+                file.write(text)
+    return 1 if check and differing else 0
+
+
+if __name__ == "__main__":
+    sys.exit(main())
