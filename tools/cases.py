@@ -15,6 +15,12 @@ DATA = os.path.join(os.path.dirname(os.path.abspath(__file__)), "..", "crates", 
 
 # The modules that make files, one a line.
 SOURCES = [
+    "programs",
+    "asm_texts",
+    "asm_vectors",
+    "asm_lines",
+    "asm_names",
+    "shown_vectors",
 ]
 
 # The programs that some modules need, and Debian's packages that have them.

@@ -1,7 +1,4 @@
-#!/usr/bin/env python3
-"""Prints crates/isa_vectors/src/table.rt: words with their rows and operands, from outside the program.
-
-    tools/isa_vectors.py > crates/isa_vectors/src/table.rt
+"""Cases of encodings: words with their rows and operands, from outside the program.
 
 Words of RV64IM, Zicsr, Zifencei and the privileged rows are made by GNU as (Debian's package
 binutils-riscv64-linux-gnu); the operands are those of the assembly text. Words of opcode 0x5B, LC and SC
@@ -162,30 +159,17 @@ assert len({m[1] for m in made}) == 133
 assert all(sum(m[1] == row for m in made) >= 2 for row in {m[1] for m in made} - {"Ecall", "Ebreak", "Mret", "Wfi"})
 assert set(ROWS) <= {m[1] for m in made}
 
-print("//! Words with their rows and operands, made by tools/isa_vectors.py: words of the base instruction set by")
-print("//! GNU as, words of CHERI-RISC-V from the fields of its encodings. Not written by hand.")
-print()
-print("use crate::Vector;")
-print("use isa_rows::Row;")
-print()
-print("/// Each row has two words at least, but for those that are one word.")
-print(f"pub static VECTORS: [Vector; {len(made)}] = [")
-for word, row, _, rd, rs1, rs2, imm in made:
-    print(f"    (0x{word:08x}, Row::{row}, {rd}, {rs1}, {rs2}, 0x{imm:x}),")
-print("];")
-print()
-print("/// Words that are no row.")
-print(f"pub static NO_ROWS: [u32; {len(NONE)}] = [")
-for word, why in NONE:
-    print(f"    // {why[0].upper() + why[1:]}")
-    print(f"    0x{word:08x},")
-print("];")
-print()
-names = {}
-for m in made:
-    names.setdefault(m[1], m[2])
-print("/// The mnemonic of each row.")
-print(f"pub static NAMES: [(Row, &str); {len(names)}] = [")
-for row, name in names.items():
-    print(f'    (Row::{row}, "{name}"),')
-print("];")
+
+
+def lines():
+    yield "# a word => the mnemonic, the numbers of rd, rs1 and rs2, the immediate, and the word again"
+    for word, _, mnemonic, rd, rs1, rs2, imm in made:
+        yield f"{word:08x} => {mnemonic} {rd} {rs1} {rs2} {imm:x} {word:08x}"
+    yield "# a word that is no row => none"
+    for word, why in NONE:
+        yield f"# {why}"
+        yield f"{word:08x} => none"
+
+
+def files():
+    yield "encodings.txt", list(lines())

@@ -5,11 +5,16 @@
 #![tactic(auto)]
 
 mod case;
+mod forms;
 mod numbers;
+mod programs;
 mod requests;
+mod seen;
+mod texts;
 
-use case::{Case, CaseError};
 use cap_bounds::{CapRep, PlainCap};
+use case::{Case, CaseError};
+use forms::Form;
 use std::alloc::Global;
 use std::io::Read;
 use std::process::ExitCode;
@@ -19,23 +24,31 @@ use std::{fs, io};
 #[derive(Clone, Copy, Debug)]
 enum Table {
     Requests,
+    Programs,
 }
 
 /// The files in the order in which they are tried.
-const TABLES: [Table; 1] = [Table::Requests];
+const TABLES: [Table; 2] = [Table::Requests, Table::Programs];
 
 impl Table {
     /// The file's name, without its ending.
     fn name(self) -> &'static str {
         match self {
             Table::Requests => "requests",
+            Table::Programs => "programs",
         }
     }
 
     /// What the crates answer to a case's inputs, with this form of capabilities where there are any.
-    fn answer<C: CapRep>(self, alloc: Global, inputs: &str) -> Result<String, CaseError> {
+    fn answer<C: CapRep>(
+        self,
+        alloc: Global,
+        form: Form,
+        inputs: &str,
+    ) -> Result<String, CaseError> {
         match self {
             Table::Requests => requests::answer::<C>(alloc, inputs),
+            Table::Programs => programs::answer(alloc, form, inputs),
         }
     }
 }
@@ -48,17 +61,20 @@ struct Tally {
 }
 
 /// Tells of a case that failed: its file and line, the form of capabilities, what was expected and what came.
-fn tell(rt: &HostRuntime, table: Table, case: &Case, form: &str, came: &str) -> io::Result<()> {
+fn tell(rt: &HostRuntime, table: Table, case: &Case, form: Form, came: &str) -> io::Result<()> {
     let name = table.name();
+    let form = form.name();
     let line = case.line;
     let inputs = case.inputs;
     let expected = case.expected;
-    println!(rt; "{name}.txt, line {line} ({form}): {inputs}\n  expected {expected}\n  came     {came}")
+    println!(rt;
+        "{name}.txt, line {line} ({form}): {inputs}\n  expected {expected}\n  came     {came}"
+    )
 }
 
 /// Tries a case with one form of capabilities, and says whether it held.
-fn holds<C: CapRep>(rt: &HostRuntime, table: Table, case: &Case, form: &str) -> io::Result<bool> {
-    match table.answer::<C>(rt.alloc(), case.inputs) {
+fn holds<C: CapRep>(rt: &HostRuntime, table: Table, case: &Case, form: Form) -> io::Result<bool> {
+    match table.answer::<C>(rt.alloc(), form, case.inputs) {
         Ok(came) if came.as_str() == case.expected => Ok(true),
         Ok(came) => {
             tell(rt, table, case, form, &came)?;
@@ -82,7 +98,7 @@ fn try_lines(rt: &HostRuntime, table: Table, text: &str) -> io::Result<Tally> {
         number = number.wrapping_add(1);
         if let Some(case) = Case::of(number, line) {
             tally.cases = tally.cases.wrapping_add(1);
-            if !holds::<PlainCap>(rt, table, &case, "records")? {
+            if !holds::<PlainCap>(rt, table, &case, Form::Records)? {
                 tally.failed = tally.failed.wrapping_add(1);
             }
         }
