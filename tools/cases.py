@@ -21,6 +21,8 @@ SOURCES = [
     "asm_lines",
     "asm_names",
     "shown_vectors",
+    "sessions",
+    "command_lines",
 ]
 
 # The programs that some modules need, and Debian's packages that have them.

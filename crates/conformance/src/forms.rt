@@ -1,10 +1,13 @@
 //! The forms of capabilities that there are, and machines that work with each.
 
 use crate::case::CaseError;
-use crate::programs::answers;
+use crate::programs::{Outcome, Timetable};
+use crate::sessions::{Said, conversed};
 use cap_bounds::PlainCap;
-use image::Image;
-use machine::Machine;
+use debugger::Session;
+use image::{Image, ToWrite};
+use machine::{End, Machine};
+use sim_run::run_scheduled;
 use std::alloc::Global;
 
 /// A form of capabilities.
@@ -17,6 +20,23 @@ pub(crate) enum Form {
 /// A machine of records, in the opening state of an image.
 fn machine_of_records(alloc: Global, image: &Image) -> Result<Machine<PlainCap>, CaseError> {
     Machine::new(alloc, image).map_err(|_| CaseError::Memory)
+}
+
+/// What a machine of records sends on a schedule, and its end.
+fn on_schedule(
+    alloc: Global,
+    machine: &mut Machine<PlainCap>,
+    timetable: Timetable,
+) -> Result<Outcome, CaseError> {
+    if !timetable.schedule.is_in_range() || machine.halted().is_some() {
+        return Err(CaseError::Unreadable);
+    }
+    let mut sent = Vec::new(alloc);
+    let mut sink = ToWrite::new(&mut sent);
+    match run_scheduled(machine, timetable.schedule, timetable.keys, &mut sink) {
+        Ok(end) => Ok(Outcome { sent, end }),
+        Err(_) => Err(CaseError::Memory),
+    }
 }
 
 impl Form {
@@ -35,7 +55,45 @@ impl Form {
         deeds: &str,
     ) -> Result<String, CaseError> {
         match self {
-            Form::Records => answers(alloc, &mut machine_of_records(alloc, image)?, deeds),
+            Form::Records => {
+                let mut outcome = Outcome {
+                    sent: Vec::new(alloc),
+                    end: End::Running,
+                };
+                outcome.answers(alloc, &mut machine_of_records(alloc, image)?, deeds)
+            }
+        }
+    }
+
+    /// The same behind a run on a schedule.
+    pub(crate) fn run_scheduled(
+        self,
+        alloc: Global,
+        image: &Image,
+        timetable: Timetable,
+        deeds: &str,
+    ) -> Result<String, CaseError> {
+        match self {
+            Form::Records => {
+                let mut machine = machine_of_records(alloc, image)?;
+                let mut outcome = on_schedule(alloc, &mut machine, timetable)?;
+                outcome.answers(alloc, &mut machine, deeds)
+            }
+        }
+    }
+
+    /// What a session with the machine of an image answers to what is typed.
+    pub(crate) fn talk(
+        self,
+        alloc: Global,
+        image: &Image,
+        typed: &[u8],
+    ) -> Result<Said, CaseError> {
+        match self {
+            Form::Records => {
+                let machine = machine_of_records(alloc, image)?;
+                conversed(alloc, &mut Session::new(alloc, machine), typed)
+            }
         }
     }
 }

@@ -4,12 +4,19 @@
 //! text, and the case holds where that is the line's. Cases over capabilities are tried with every form of them.
 #![tactic(auto)]
 
+mod assemblies;
 mod case;
 mod forms;
+mod lines;
+mod names;
 mod numbers;
+mod plans;
 mod programs;
+mod quoted;
 mod requests;
 mod seen;
+mod sessions;
+mod shown;
 mod texts;
 
 use cap_bounds::{CapRep, PlainCap};
@@ -25,10 +32,37 @@ use std::{fs, io};
 enum Table {
     Requests,
     Programs,
+    Assembled,
+    Faults,
+    Assemblies,
+    ImageFiles,
+    Lines,
+    Names,
+    Shown,
+    Digits,
+    Sessions,
+    Runs,
+    Plans,
+    Listings,
 }
 
 /// The files in the order in which they are tried.
-const TABLES: [Table; 2] = [Table::Requests, Table::Programs];
+const TABLES: [Table; 14] = [
+    Table::Requests,
+    Table::Programs,
+    Table::Assembled,
+    Table::Faults,
+    Table::Assemblies,
+    Table::ImageFiles,
+    Table::Lines,
+    Table::Names,
+    Table::Shown,
+    Table::Digits,
+    Table::Sessions,
+    Table::Runs,
+    Table::Plans,
+    Table::Listings,
+];
 
 impl Table {
     /// The file's name, without its ending.
@@ -36,6 +70,18 @@ impl Table {
         match self {
             Table::Requests => "requests",
             Table::Programs => "programs",
+            Table::Assembled => "assembled",
+            Table::Faults => "faults",
+            Table::Assemblies => "assemblies",
+            Table::ImageFiles => "image_files",
+            Table::Lines => "lines",
+            Table::Names => "names",
+            Table::Shown => "shown",
+            Table::Digits => "digits",
+            Table::Sessions => "sessions",
+            Table::Runs => "runs",
+            Table::Plans => "plans",
+            Table::Listings => "listings",
         }
     }
 
@@ -49,6 +95,18 @@ impl Table {
         match self {
             Table::Requests => requests::answer::<C>(alloc, inputs),
             Table::Programs => programs::answer(alloc, form, inputs),
+            Table::Assembled => assemblies::words(alloc, inputs),
+            Table::Faults => assemblies::words(alloc, inputs),
+            Table::Assemblies => assemblies::parts(alloc, inputs),
+            Table::ImageFiles => assemblies::image_file(alloc, inputs),
+            Table::Lines => lines::answer(alloc, inputs),
+            Table::Names => names::answer(alloc, inputs),
+            Table::Shown => shown::word(alloc, inputs),
+            Table::Digits => shown::digits(alloc, inputs),
+            Table::Sessions => sessions::answer(alloc, form, inputs),
+            Table::Runs => programs::answer(alloc, form, inputs),
+            Table::Plans => plans::answer(alloc, inputs),
+            Table::Listings => plans::listing(alloc, inputs),
         }
     }
 }
@@ -65,7 +123,7 @@ fn tell(rt: &HostRuntime, table: Table, case: &Case, form: Form, came: &str) -> 
     let name = table.name();
     let form = form.name();
     let line = case.line;
-    let inputs = case.inputs;
+    let inputs = case.inputs.lines().next().unwrap_or("");
     let expected = case.expected;
     println!(rt;
         "{name}.txt, line {line} ({form}): {inputs}\n  expected {expected}\n  came     {came}"
@@ -87,6 +145,15 @@ fn holds<C: CapRep>(rt: &HostRuntime, table: Table, case: &Case, form: Form) -> 
     }
 }
 
+/// Tries a case with each form of capabilities, and counts it.
+fn count(rt: &HostRuntime, table: Table, case: &Case, tally: Tally) -> io::Result<Tally> {
+    let held = holds::<PlainCap>(rt, table, case, Form::Records)?;
+    Ok(Tally {
+        cases: tally.cases.wrapping_add(1),
+        failed: tally.failed.wrapping_add(u64::from(!held)),
+    })
+}
+
 /// Tries the lines of a file.
 fn try_lines(rt: &HostRuntime, table: Table, text: &str) -> io::Result<Tally> {
     let mut tally = Tally {
@@ -97,11 +164,25 @@ fn try_lines(rt: &HostRuntime, table: Table, text: &str) -> io::Result<Tally> {
     for line in text.lines() {
         number = number.wrapping_add(1);
         if let Some(case) = Case::of(number, line) {
-            tally.cases = tally.cases.wrapping_add(1);
-            if !holds::<PlainCap>(rt, table, &case, Form::Records)? {
-                tally.failed = tally.failed.wrapping_add(1);
-            }
+            tally = count(rt, table, &case, tally)?;
         }
+    }
+    Ok(tally)
+}
+
+/// Tries the blocks of a file, which empty lines part: each that has a program is a case.
+fn try_blocks(rt: &HostRuntime, table: Table, text: &str) -> io::Result<Tally> {
+    let mut tally = Tally {
+        cases: 0,
+        failed: 0,
+    };
+    let mut number: u64 = 1;
+    for block in text.split("\n\n") {
+        if block.contains("\n@") {
+            tally = count(rt, table, &Case::block(number, block), tally)?;
+        }
+        let lines = block.split('\n').count() as u64;
+        number = number.wrapping_add(lines).wrapping_add(1);
     }
     Ok(tally)
 }
@@ -112,7 +193,10 @@ fn try_file(rt: &HostRuntime, table: Table) -> io::Result<Tally> {
     let path = format!(in rt.alloc(); "{name}.txt")?;
     let mut text = String::new(rt.alloc());
     fs::open(rt, &path)?.read_to_string(&mut text)?;
-    let tally = try_lines(rt, table, &text)?;
+    let tally = match table {
+        Table::Sessions => try_blocks(rt, table, &text)?,
+        _ => try_lines(rt, table, &text)?,
+    };
     let cases = tally.cases;
     println!(rt; "{name}: {cases} cases")?;
     Ok(tally)
