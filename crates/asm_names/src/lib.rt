@@ -13,6 +13,3 @@ pub use mnemonics::{mnemonic, row_named};
 pub use registers::{register_name, register_named};
 pub use slots::{Naming, Slot};
 pub use special_names::{csr_name, csr_named, scr_name, scr_named};
-
-#[cfg(test)]
-mod tests;
