@@ -48,11 +48,8 @@ fn exponent(address: u64, length: u64) -> u32
     ensures range { result ≤ 52 }
 {
     let e = 51 - length.leading_zeros();
-    if spans_few(e, address, length) {
-        e
-    } else {
-        e + 1
-    }
+    let raise = if spans_few(e, address, length) { 0 } else { 1 };
+    e + raise
 }
 
 /// The bounds of a request, rounded out, as they stand in a word.
