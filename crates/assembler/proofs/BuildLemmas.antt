@@ -15,7 +15,8 @@ use Rattle.asm_lines.specs.Line.{Line}
 use Rattle.assembler.specs.Places.{Symbols, aligned, end_of, end_after}
 use Rattle.assembler.specs.Values.{value_of, known_and, is_entry, has_unknown_name, is_out_of_reach}
 use Rattle.assembler.specs.Bytes.{or_zero, value_at, bytes_at, insn_bytes, value_bytes}
-use Rattle.assembler.specs.Faults.{Assembled, given, page_count, is_misplaced, is_statement_misplaced, fault_in_text, line_fault, lacks_place, size_at, is_instruction, closed, filled, empty_at, with_bytes, with_statement, with_statement_of, assembled_after, opening}
+use Rattle.assembler.specs.Faults.{Assembled, given, page_count, is_misplaced, is_statement_misplaced, line_fault, lacks_place, size_at, is_instruction, closed, filled, empty_at, with_bytes, with_statement, with_statement_of, assembled_after, opening}
+use Rattle.assembler.specs.FaultLaws.{fault_in_text}
 use Rattle.assembler.specs.Buildable.{is_paged, is_paged_or_none, is_paged_line, is_paged_unless, IsUnbegun, IsBuildable}
 use Rattle.assembler.proofs.TestLemmas.{or-false, and-second, and-rest, not-false, not-below, true-false}
 use Rattle.assembler.proofs.SectionLemmas.{AreGood, closed-good, IsFree, grown}

@@ -21,7 +21,8 @@ use Rattle.assembler.specs.declared.fault.AsmCode.TheVariants.{A1, A2, A3, A4, A
 use Rattle.assembler.specs.Places.{Symbols}
 use Rattle.assembler.specs.Values.{value_of, any_value, known_and, is_beyond, has_value_beyond, has_unknown_name, is_out_of_reach, is_reached, reach_of}
 use Rattle.assembler.specs.Bytes.{or_zero}
-use Rattle.assembler.specs.Faults.{Assembled, page_count, line_fault, fault_by, fault_in_text, statement_fault, is_statement_misplaced, lacks_place, size_at, is_instruction}
+use Rattle.assembler.specs.Faults.{Assembled, page_count, line_fault, is_statement_misplaced, lacks_place, size_at, is_instruction}
+use Rattle.assembler.specs.FaultLaws.{fault_by, fault_in_text, statement_fault, line_fault-by}
 use Rattle.assembler.proofs.TestLemmas.{or-false, not-false}
 use Rattle.assembler.specs.Sound.{IsKnown, ArePiecesKnown, IsValued, HasWords}
 
@@ -66,7 +67,7 @@ fault_by-none symbols s l None h = let a = if-none _ A4 _ h in let b = if-none _
 
 pub line_fault-none : (symbols : Symbols) (s : Assembled) (l : Line) → line_fault symbols s l ≡ None → IsLineFaultless symbols s l
 line_fault-none symbols s l h =
-    let a = fault_by-none symbols s l l.fault h in
+    let a = fault_by-none symbols s l l.fault (sym (line_fault-by symbols s l) ∙ h) in
     record { parsed = a.0; timely = a.1; in_text = a.2 }
 
 -- a value that is neither unknown nor beyond the limits

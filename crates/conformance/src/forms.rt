@@ -3,7 +3,7 @@
 use crate::case::CaseError;
 use crate::programs::{Outcome, Timetable};
 use crate::sessions::{Said, conversed};
-use cap_bounds::{CapRep, PlainCap};
+use cap_bounds::PlainCap;
 use debugger::Session;
 use image::{Image, ToWrite};
 use machine::{End, Machine};
@@ -20,54 +20,47 @@ pub(crate) enum Form {
     Words,
 }
 
-/// A machine in the opening state of an image.
-fn machine_of<C: CapRep>(alloc: Global, image: &Image) -> Result<Machine<C>, CaseError> {
+/// A machine of records, in the opening state of an image.
+fn machine_of_records(alloc: Global, image: &Image) -> Result<Machine<PlainCap>, CaseError> {
     Machine::new(alloc, image).map_err(|_| CaseError::Memory)
 }
 
-/// What is told to the queries among the deeds of a case over an image's program.
-fn run<C: CapRep>(alloc: Global, image: &Image, deeds: &str) -> Result<String, CaseError> {
-    let mut machine: Machine<C> = machine_of(alloc, image)?;
-    let mut outcome = Outcome {
-        sent: Vec::new(alloc),
-        end: End::Running,
-    };
-    outcome.answers(alloc, &mut machine, deeds)
+/// A machine of words, in the opening state of an image.
+fn machine_of_words(alloc: Global, image: &Image) -> Result<Machine<WordCap>, CaseError> {
+    Machine::new(alloc, image).map_err(|_| CaseError::Memory)
 }
 
-/// What a machine sends on a schedule, and its end.
-fn on_schedule<C: CapRep>(
+/// What a machine sends on a schedule, and its end. A macro, since the size of a machine is known for each form alone.
+macro_rules! on_schedule {
+    ($alloc:expr, $machine:expr, $timetable:expr) => {{
+        let machine = $machine;
+        let timetable: Timetable = $timetable;
+        if !timetable.schedule.is_in_range() || machine.halted().is_some() {
+            return Err(CaseError::Unreadable);
+        }
+        let mut sent = Vec::new($alloc);
+        let mut sink = ToWrite::new(&mut sent);
+        match run_scheduled(machine, timetable.schedule, timetable.keys, &mut sink) {
+            Ok(end) => Ok(Outcome { sent, end }),
+            Err(_) => Err(CaseError::Memory),
+        }
+    }};
+}
+
+fn records_on_schedule(
     alloc: Global,
-    machine: &mut Machine<C>,
+    machine: &mut Machine<PlainCap>,
     timetable: Timetable,
 ) -> Result<Outcome, CaseError> {
-    if !timetable.schedule.is_in_range() || machine.halted().is_some() {
-        return Err(CaseError::Unreadable);
-    }
-    let mut sent = Vec::new(alloc);
-    let mut sink = ToWrite::new(&mut sent);
-    match run_scheduled(machine, timetable.schedule, timetable.keys, &mut sink) {
-        Ok(end) => Ok(Outcome { sent, end }),
-        Err(_) => Err(CaseError::Memory),
-    }
+    on_schedule!(alloc, machine, timetable)
 }
 
-/// The same behind a run on a schedule.
-fn run_timed<C: CapRep>(
+fn words_on_schedule(
     alloc: Global,
-    image: &Image,
+    machine: &mut Machine<WordCap>,
     timetable: Timetable,
-    deeds: &str,
-) -> Result<String, CaseError> {
-    let mut machine: Machine<C> = machine_of(alloc, image)?;
-    let mut outcome = on_schedule(alloc, &mut machine, timetable)?;
-    outcome.answers(alloc, &mut machine, deeds)
-}
-
-/// What a session with the machine of an image answers to what is typed.
-fn talk<C: CapRep>(alloc: Global, image: &Image, typed: &[u8]) -> Result<Said, CaseError> {
-    let machine: Machine<C> = machine_of(alloc, image)?;
-    conversed(alloc, &mut Session::new(alloc, machine), typed)
+) -> Result<Outcome, CaseError> {
+    on_schedule!(alloc, machine, timetable)
 }
 
 impl Form {
@@ -86,9 +79,15 @@ impl Form {
         image: &Image,
         deeds: &str,
     ) -> Result<String, CaseError> {
+        let mut outcome = Outcome {
+            sent: Vec::new(alloc),
+            end: End::Running,
+        };
         match self {
-            Form::Records => run::<PlainCap>(alloc, image, deeds),
-            Form::Words => run::<WordCap>(alloc, image, deeds),
+            Form::Records => {
+                outcome.answers(alloc, &mut machine_of_records(alloc, image)?, deeds)
+            }
+            Form::Words => outcome.answers(alloc, &mut machine_of_words(alloc, image)?, deeds),
         }
     }
 
@@ -101,8 +100,16 @@ impl Form {
         deeds: &str,
     ) -> Result<String, CaseError> {
         match self {
-            Form::Records => run_timed::<PlainCap>(alloc, image, timetable, deeds),
-            Form::Words => run_timed::<WordCap>(alloc, image, timetable, deeds),
+            Form::Records => {
+                let mut machine = machine_of_records(alloc, image)?;
+                let mut outcome = records_on_schedule(alloc, &mut machine, timetable)?;
+                outcome.answers(alloc, &mut machine, deeds)
+            }
+            Form::Words => {
+                let mut machine = machine_of_words(alloc, image)?;
+                let mut outcome = words_on_schedule(alloc, &mut machine, timetable)?;
+                outcome.answers(alloc, &mut machine, deeds)
+            }
         }
     }
 
@@ -114,8 +121,14 @@ impl Form {
         typed: &[u8],
     ) -> Result<Said, CaseError> {
         match self {
-            Form::Records => talk::<PlainCap>(alloc, image, typed),
-            Form::Words => talk::<WordCap>(alloc, image, typed),
+            Form::Records => {
+                let machine = machine_of_records(alloc, image)?;
+                conversed(alloc, &mut Session::new(alloc, machine), typed)
+            }
+            Form::Words => {
+                let machine = machine_of_words(alloc, image)?;
+                conversed(alloc, &mut Session::new(alloc, machine), typed)
+            }
         }
     }
 }

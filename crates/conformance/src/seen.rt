@@ -6,10 +6,10 @@ use crate::case::CaseError;
 use crate::numbers::Words;
 use crate::texts::{halves, put_bytes, put_granule, put_value};
 use asm_names::{csr_named, register_name, register_named, scr_named};
+use base::Size;
 use cap_bounds::CapRep;
 use machine::Machine;
 use std::alloc::AllocError;
-use tagged_memory::Size;
 
 const MCAUSE: u16 = 0x342;
 

@@ -20,7 +20,8 @@ use Rattle.asm_lines.specs.Statement.{Statement, row, values, is_in_size, expres
 use Rattle.assembler.specs.Places.{lines_of, all_places, opening_places, end_of}
 use Rattle.assembler.specs.Values.{value_of, known_and, any_value, reach_of, has_value_beyond, has_unknown_name, is_out_of_reach}
 use Rattle.assembler.specs.Bytes.{or_zero, insn_bytes, value_bytes, bytes_at, aimed}
-use Rattle.assembler.specs.Faults.{closed, filled, empty_at, opening, line_fault, fault_by, statement_fault, assembled_after}
+use Rattle.assembler.specs.Faults.{closed, filled, empty_at, opening, line_fault, assembled_after}
+use Rattle.assembler.specs.FaultLaws.{fault_by, statement_fault, line_fault-by}
 use Rattle.assembler.specs.Text.{found_or, first_fault, all_assembled, image_of}
 use Rattle.disassembler.specs.Shown.{shown_word}
 use Rattle.text_laws.specs.ReadBack.{has_target, distance_to, statement_of, statement_of_word, sound_line, word_text}
@@ -48,7 +49,7 @@ values_image word operands e = ap (λ bytes. record { pages = 1; entry = ram_bas
 -- an instruction without a target
 plain_fault : (i : Insn) → line_fault [] opening (sound_line (row i None)) ≡ None
 unfolding fault_by statement_fault has_value_beyond has_unknown_name is_out_of_reach
-plain_fault i = refl
+plain_fault i = line_fault-by [] opening (sound_line (row i None)) ∙ refl
 
 plain_bytes : (word : ℕ) (i : Insn) → word ≡ insn_word i → bytes_at [] ram_base (row i None) ≡ little_bytes 4 word
 unfolding bytes_at insn_bytes
@@ -57,7 +58,7 @@ plain_bytes word i e = ap (little_bytes 4) (sym e)
 -- an instruction with one
 target_fault : (i : Insn) (imm : ℕ) → IsNear (reach_of (line_of i.row).format) (cast_signed w64 imm) → line_fault [] opening (sound_line (row i (Some (distance_to imm)))) ≡ None
 unfolding fault_by statement_fault has_value_beyond has_unknown_name is_out_of_reach value_of
-target_fault i imm h = rw (h.in_limits, h.reached) refl
+target_fault i imm h = line_fault-by [] opening (sound_line (row i (Some (distance_to imm)))) ∙ rw (h.in_limits, h.reached) refl
 
 aimed_back : (i : Insn) (imm : ℕ) → wrapped (cast_signed w64 imm) ≡ imm → aimed [] ram_base i (Some (distance_to imm)) ≡ record i { imm = imm }
 unfolding value_of
@@ -101,7 +102,7 @@ module _ (word : ℕ) (below : word < 2 ^ 32) (text : List ℕ) (one : pieces_of
   word_fault =
       let a = no_value (known_and (λ v. not (is_in_size 4 v))) (ap not in_size) in
       let b = no_value is_none refl in
-      rw (a, b, one) refl
+      line_fault-by [] opening (sound_line (values 4 text)) ∙ rw (a, b, one) refl
 
   word_bytes : bytes_at [] ram_base (values 4 text) ≡ little_bytes 4 word
   unfolding bytes_at value_bytes
