@@ -4,7 +4,7 @@ ghost use Rattle.std.specs.Prelude.{◌<◌};
 
 use crate::case::CaseError;
 use crate::numbers::Words;
-use crate::texts::{halves, put_bytes, put_granule, put_value};
+use crate::telling::{halves, put_bytes, put_granule, put_value};
 use asm_names::{csr_named, register_name, register_named, scr_named};
 use cap_bounds::CapRep;
 use machine::Machine;
