@@ -1,7 +1,8 @@
 //! Tries the cases of the files in `data/`, a line a case, and prints how many each file has.
 //!
 //! A line is `inputs => answer`; `#` begins a line that is none. A reader makes of the inputs the answer that the crates give, as a
-//! text, and the case holds where that is the line's. Cases over capabilities are tried with every form of them.
+//! text, and the case holds where that is the line's. Cases over capabilities are tried with every form of them. A conversation is a
+//! block of lines, which an empty line ends.
 #![tactic(auto)]
 
 mod assemblies;
@@ -32,8 +33,8 @@ mod seen;
 mod sessions;
 mod shown;
 mod sizes;
+mod telling;
 mod text;
-mod texts;
 mod values;
 mod windows;
 mod words;

@@ -4,7 +4,7 @@ use crate::case::CaseError;
 use crate::forms::Form;
 use crate::numbers::Words;
 use crate::seen::put_seen;
-use crate::texts::put_bytes;
+use crate::telling::put_bytes;
 use assembler::assemble;
 use cap_bounds::CapRep;
 use machine::{End, Event, Machine};

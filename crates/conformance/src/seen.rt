@@ -4,7 +4,7 @@ ghost use Rattle.std.specs.Prelude.{◌<◌};
 
 use crate::case::CaseError;
 use crate::numbers::Words;
-use crate::texts::{halves, put_bytes, put_granule, put_value};
+use crate::telling::{halves, put_bytes, put_granule, put_value};
 use asm_names::{csr_named, register_name, register_named, scr_named};
 use base::Size;
 use cap_bounds::CapRep;
@@ -156,6 +156,30 @@ fn put_named<C: CapRep>(
     Ok(())
 }
 
+/// Puts the granule at an address, and its tag, behind a text.
+fn put_granule_at<C: CapRep>(
+    text: &mut String,
+    machine: &Machine<C>,
+    address: u64,
+) -> Result<(), CaseError> {
+    match machine.memory().read_cap(address) {
+        Ok((word, tag)) => Ok(put_granule(text, word.to_memory(), tag)?),
+        Err(_) => Err(CaseError::Unreadable),
+    }
+}
+
+/// Puts the word at an address behind a text.
+fn put_word_at<C: CapRep>(
+    text: &mut String,
+    machine: &Machine<C>,
+    address: u64,
+) -> Result<(), CaseError> {
+    match machine.memory().read(address, Size::Word) {
+        Ok(number) => Ok(write!(text, "{number:x}")?),
+        Err(_) => Err(CaseError::Unreadable),
+    }
+}
+
 /// Puts what a query tells behind a text.
 ///
 /// `trap`; `registers`; `ram`; `waiting`, the bytes in the console's queue; `halted`; `granule AT` and `word AT` of memory;
@@ -177,22 +201,8 @@ pub(crate) fn put_seen<C: CapRep>(
             Some(number) => write!(text, "{number:x}")?,
             None => text.push_str("no")?,
         },
-        "granule" => {
-            let address = words.hex()?;
-            let (word, tag) = machine
-                .memory()
-                .read_cap(address)
-                .map_err(|_| CaseError::Unreadable)?;
-            put_granule(text, word.to_memory(), tag)?;
-        }
-        "word" => {
-            let address = words.hex()?;
-            let number = machine
-                .memory()
-                .read(address, Size::Word)
-                .map_err(|_| CaseError::Unreadable)?;
-            write!(text, "{number:x}")?;
-        }
+        "granule" => put_granule_at(text, machine, words.hex()?)?,
+        "word" => put_word_at(text, machine, words.hex()?)?,
         "same" => {
             let first = value_of(machine, words.word()?)?;
             let second = value_of(machine, words.word()?)?;
