@@ -1,7 +1,5 @@
-use Rattle.std.proofs.Common.{◌<◌, ◌^◌, sym, subst}
 use Rattle.cap_format.specs.Word.{address_of}
 use Rattle.cap_bounds.specs.Mantissa.{exponent_of, base_mantissa, length_mantissa}
-use Rattle.cap_bounds.specs.Window.{top_of_word}
 use Rattle.cap_bounds.specs.MantissaLaws.{length_mantissa-below}
 use Rattle.cap_bounds.specs.BaseLaws.{decoded_top-below}
 use Rattle.cap_bounds.proofs.decode.top.Goals as goal
