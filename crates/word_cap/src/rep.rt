@@ -1,10 +1,5 @@
 //! What a word and a tag stand for.
 
-ghost use Rattle.std.specs.Prelude.{◌≡◌, IsTrue};
-ghost use Rattle.cap_bounds.specs.Record.{IsWordWellFormed};
-ghost use Rattle.cap_bounds.specs.CapValue.{value_of, word_of, is_tagged, value_base, value_top, value_address, value_perms, value_flag, value_otype, without_tag};
-ghost use Rattle.cap_bounds.specs.SetAddress.{at_address};
-
 use crate::decoding::bounds_of;
 use crate::rounding::encoding_of;
 use crate::set_bounds::{may_bound, word_with};

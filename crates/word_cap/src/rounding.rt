@@ -1,6 +1,6 @@
 //! Rounding a request out to what a word can say, the exponent found from the length's leading zeros.
 
-ghost use Rattle.std.specs.Prelude.{◌≡◌, ◌+◌, ◌-◌, ◌*◌, ◌/◌, ◌%◌, ◌^◌, ◌<◌, ◌≤◌, nat_lt};
+ghost use Rattle.std.specs.Prelude.{◌≡◌, ◌+◌, ◌-◌, ◌%◌, ◌^◌, ◌<◌, ◌≤◌, nat_lt};
 ghost use Rattle.cap_bounds.specs.Record.{has_exponent, encoded_b, encoded_t};
 ghost use Rattle.cap_bounds.specs.Rounding.{granules_up_to, granules_spanned, rounding_exponent, rounded_base, rounded_top, is_exact};
 

@@ -1,7 +1,7 @@
 use Rattle.std.proofs.Common.{◌-◌, add-zero, sym, ◌∙◌}
 use Rattle.std.proofs.lemmas.Bool.{ltb-true, ltb-false}
 use Rattle.std.specs.Int.{leading_zeros, w64}
-use Rattle.word_cap.proofs.Granules.{leading_zeros-low, length_exponent-leading, granules_spanned-low, granules_spanned-high, rounding_exponent-length, rounding_exponent-raised}
+use Rattle.cap_bounds.specs.LengthExponentLaws.{leading_zeros-low, length_exponent-leading, granules_spanned-low, granules_spanned-high, rounding_exponent-length, rounding_exponent-raised}
 use Rattle.word_cap.proofs.rounding.exponent.Goals as goal
 use Rattle.word_cap.proofs.rounding.exponent.Goals.{then-spans_few, else-spans_few}
 
