@@ -12,7 +12,8 @@ use Rattle.assembler.specs.Places.{Symbols}
 use Rattle.assembler.specs.Values.{has_value_beyond, has_unknown_name, is_out_of_reach}
 use Rattle.assembler.specs.Faults.{Assembled, page_count, lacks_place_for, is_repeated, is_statement_misplaced, line_checks, line_fault}
 
--- the first fault of a statement that stands in the text, whose line alone has none: of the values, of the names, of the reach, of the place
+-- the first fault of a statement that stands in the text, whose line alone has none: of the values, of the names, of the reach, of the
+-- place
 unfoldable pub statement_fault : Symbols → Assembled → Statement → Option AsmCode
 statement_fault symbols s statement =
     if has_value_beyond symbols s.places.place statement then Some A3
@@ -51,7 +52,8 @@ in_order false false false true = refl
 in_order false false false false = refl
 
 placed : (repeated misplaced : Bool) (rest other : Option AsmCode) → rest ≡ other
-    → (if not repeated then (if not misplaced then rest else Some A2) else Some A4) ≡ (if repeated then Some A4 else (if misplaced then Some A2 else other))
+    → (if not repeated then (if not misplaced then rest else Some A2) else Some A4)
+    ≡ (if repeated then Some A4 else (if misplaced then Some A2 else other))
 placed true misplaced rest other same = refl
 placed false true rest other same = refl
 placed false false rest other same = same

@@ -18,8 +18,8 @@ use crate::fault::AsmCode;
 use crate::labels::Labels;
 use crate::places::{Places, end_of};
 use crate::values::wrapped;
-use base::ram;
 use asm_lines::{LineFault, Parsed, Statement};
+use base::ram;
 use image::Image;
 use std::alloc::{AllocError, Global};
 use std::marker::Model;
@@ -107,7 +107,8 @@ impl Builder {
         requires size { size < 2 ^ 101 }
         ensures { result ≡ lacks_place self.now place size instruction }
     {
-        let ram_end = u128::from(ram::BASE) + u128::from(ram::PAGE_BYTES) * u128::from(self.page_count());
+        let ram_end = u128::from(ram::BASE)
+            + u128::from(ram::PAGE_BYTES) * u128::from(self.page_count());
         size > 0
             && (place < u128::from(ram::BASE)
                 || ram_end < place + size

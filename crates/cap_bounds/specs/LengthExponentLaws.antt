@@ -63,19 +63,22 @@ module _ (base length e : ℕ) (is : IsLengthExponent length e) where
 
   pub granules_spanned-high : granules_spanned e base (base + length) ≤ 1025
   granules_spanned-high =
-      spanned-high (2 ^ (e + 3)) 1024 base (base + length) (pow_pos (e + 3)) (omega arith) (rw size (omega (arith, is.high, pow-add 2 e 13, pow-add 2 e 3)))
+      spanned-high (2 ^ (e + 3)) 1024 base (base + length) (pow_pos (e + 3)) (omega arith)
+      (rw size (omega (arith, is.high, pow-add 2 e 13, pow-add 2 e 3)))
 
   -- at a smaller one 1024 at least
   granules_spanned-smaller : (j : ℕ) → j < e → 1024 ≤ granules_spanned j base (base + length)
   granules_spanned-smaller j below =
       let le : j + 13 ≤ e + 12 = omega arith in
-      spanned-low (2 ^ (j + 3)) 1024 base (base + length) (pow_pos (j + 3)) (rw size (omega (arith, is.low, pow_mono le, pow-add 2 j 13, pow-add 2 j 3)))
+      spanned-low (2 ^ (j + 3)) 1024 base (base + length) (pow_pos (j + 3))
+      (rw size (omega (arith, is.low, pow_mono le, pow-add 2 j 13, pow-add 2 j 3)))
 
   -- at the next one 513 at most
   granules_spanned-next : granules_spanned (e + 1) base (base + length) ≤ 513
   granules_spanned-next =
       let sum : e + 1 + 3 ≡ e + 4 = omega arith in
-      rw sum (spanned-high (2 ^ (e + 4)) 512 base (base + length) (pow_pos (e + 4)) (omega arith) (rw size (omega (arith, is.high, pow-add 2 e 13, pow-add 2 e 4))))
+      rw sum (spanned-high (2 ^ (e + 4)) 512 base (base + length) (pow_pos (e + 4)) (omega arith)
+      (rw size (omega (arith, is.high, pow-add 2 e 13, pow-add 2 e 4))))
 
   -- where the request touches fewer than 1024, it is the least that serves
   pub rounding_exponent-length : granules_spanned e base (base + length) < 1024 → e ≡ rounding_exponent base (base + length)
@@ -100,21 +103,25 @@ granules_spanned-from_zero e length some =
     let g : ℕ = 2 ^ (e + 3) in
     let positive : 0 < 2 ^ (e + 3) = pow_pos (e + 3) in
     let none : 0 / 2 ^ (e + 3) ≡ 0 = omega (arith, shr_le 0 (e + 3)) in
-    let whole : length + 2 ^ (e + 3) - 1 ≡ ((length - 1) / 2 ^ (e + 3) + 1) * 2 ^ (e + 3) + (length - 1) % 2 ^ (e + 3) = omega (arith, shr_split (length - 1) (e + 3)) in
+    let whole : length + 2 ^ (e + 3) - 1 ≡ ((length - 1) / 2 ^ (e + 3) + 1) * 2 ^ (e + 3) + (length - 1) % 2 ^ (e + 3) =
+    omega (arith, shr_split (length - 1) (e + 3)) in
     let count : granules_up_to (2 ^ (e + 3)) length ≡ (length - 1) / 2 ^ (e + 3) + 1 =
-    ap (λ n. n / 2 ^ (e + 3)) whole ∙ div-mul-add ((length - 1) / 2 ^ (e + 3) + 1) g ((length - 1) % 2 ^ (e + 3)) (mod_below (length - 1) g positive) in
+    ap (λ n. n / 2 ^ (e + 3)) whole
+    ∙ div-mul-add ((length - 1) / 2 ^ (e + 3) + 1) g ((length - 1) % 2 ^ (e + 3)) (mod_below (length - 1) g positive) in
     let same : granules_up_to (2 ^ (e + 3)) length - 0 / 2 ^ (e + 3) ≡ granules_up_to (2 ^ (e + 3)) length = omega arith in
     same ∙ count ∙ ap (λ n. n + 1) (sym (shr-shr (length - 1) e 3))
 
 -- so a length's exponent
-pub rounding_exponent-few : (length e : ℕ) → IsLengthExponent length e → (length - 1) / 2 ^ e / 8 + 1 < 1024 → e ≡ rounding_exponent 0 length
+pub rounding_exponent-few : (length e : ℕ) → IsLengthExponent length e → (length - 1) / 2 ^ e / 8 + 1 < 1024
+    → e ≡ rounding_exponent 0 length
 rounding_exponent-few length e is few =
     let low = is.low in
     let positive = pow_pos (e + 12) in
     let count = granules_spanned-from_zero e length (omega arith) in
     rw (zero-add length) at (rounding_exponent-length 0 length e is (rw (zero-add length, count) few))
 
-pub rounding_exponent-many : (length e : ℕ) → IsLengthExponent length e → 1024 ≤ (length - 1) / 2 ^ e / 8 + 1 → e + 1 ≡ rounding_exponent 0 length
+pub rounding_exponent-many : (length e : ℕ) → IsLengthExponent length e → 1024 ≤ (length - 1) / 2 ^ e / 8 + 1
+    → e + 1 ≡ rounding_exponent 0 length
 rounding_exponent-many length e is many =
     let low = is.low in
     let positive = pow_pos (e + 12) in

@@ -1,5 +1,6 @@
 -- The mantissas of a request as they stand in its word.
-use Rattle.std.proofs.Common.{◌≡◌, ℕ, ◌+◌, ◌-◌, ◌*◌, ◌/◌, ◌%◌, ◌^◌, ◌<◌, ◌≤◌, true, false, eqb, bit_and, bit_or, refl, sym, ap, ◌∙◌, inl, inr, arith}
+use Rattle.std.proofs.Common.{◌≡◌, ℕ, ◌+◌, ◌-◌, ◌*◌, ◌/◌, ◌%◌, ◌^◌, ◌<◌, ◌≤◌, true, false, eqb, bit_and, bit_or, refl, sym, ap, ◌∙◌, inl}
+use Rattle.std.proofs.Common.{inr, arith}
 use Rattle.std.proofs.Math.Nat.{mod-eq_of_lt, mul-div_left, mod-mod_of_dvd, dvd-mul_left}
 use Rattle.std.proofs.lemmas.Nat.{pow-add, pow_pos, field_of, shr-shr, and_mask, or_mod, or_shifted, div-mul-add, le_or_l, le_or_r}
 use Rattle.std.proofs.lemmas.Bool.{cases_Bool, eqb-true, eqb-false, eq-eqb, and_from, and_parts, false_from_ne_true, lt-leb, le-leb}
@@ -19,24 +20,37 @@ has_exponent-long length long = le-leb 4096 length long
 -- ---- below 4096 bytes
 
 pub encoded_t-short : (base length : ℕ) → length < 4096
-    → bit_and ((base + length) % 2 ^ 64) 4095 ≡ encoded_t (rounded_top base (base + length) % 2 ^ 65) (rounding_exponent base (base + length)) (has_exponent length)
+    → bit_and ((base + length) % 2 ^ 64) 4095
+    ≡ encoded_t (rounded_top base (base + length) % 2 ^ 65) (rounding_exponent base (base + length)) (has_exponent length)
 encoded_t-short base length short =
     let small : base + length - base < 4096 = omega arith in
     and_mask ((base + length) % 2 ^ 64) 12
-    ∙ rw (rounded_top-short base (base + length) small, rounding_exponent-short base (base + length) small, has_exponent-short length short) (omega arith)
+    ∙ rw (rounded_top-short base (base + length) small, rounding_exponent-short base (base + length) small, has_exponent-short length short)
+    (omega arith)
 
 pub encoded_b-short : (base length : ℕ) → length < 4096
     → bit_and base 16383 ≡ encoded_b (rounded_base base (base + length)) (rounding_exponent base (base + length)) (has_exponent length)
 encoded_b-short base length short =
     let small : base + length - base < 4096 = omega arith in
     and_mask base 14
-    ∙ rw (rounded_base-short base (base + length) small, rounding_exponent-short base (base + length) small, has_exponent-short length short) (omega arith)
+    ∙ rw (
+      rounded_base-short base (base + length) small,
+      rounding_exponent-short base
+          (base + length) small,
+      has_exponent-short length short,
+    ) (omega arith)
 
 pub is_exact-short : (base length : ℕ) → length < 4096 → true ≡ is_exact base (base + length)
 unfolding is_exact
 is_exact-short base length short =
     let small : base + length - base < 4096 = omega arith in
-    rw (rounded_base-short base (base + length) small, rounded_top-short base (base + length) small, eq-eqb base base refl, eq-eqb (base + length) (base + length) refl) refl
+    rw (
+      rounded_base-short base (base + length) small,
+      rounded_top-short base (base + length) small,
+      eq-eqb base base refl,
+      eq-eqb
+          (base + length) (base + length) refl,
+    ) refl
 
 -- ---- from 4096 bytes on
 
@@ -72,38 +86,48 @@ joined_bits x h small low =
 
 pub encoded_t-long : (base length e below_end high : ℕ) → 4096 ≤ length → e ≤ 52 → e ≡ rounding_exponent base (base + length)
     → below_end ≡ granules_up_to (2 ^ (e + 3)) (base + length) % 2 ^ (61 - e) → high ≡ e / 8
-    → bit_or (bit_and below_end 511 * 8 % 2 ^ 64) high ≡ encoded_t (rounded_top base (base + length) % 2 ^ 65) (rounding_exponent base (base + length)) (has_exponent length)
+    → bit_or (bit_and below_end 511 * 8 % 2 ^ 64) high
+    ≡ encoded_t (rounded_top base (base + length) % 2 ^ 65) (rounding_exponent base (base + length)) (has_exponent length)
 unfolding rounded_top
 encoded_t-long base length e below_end high long most is below halves =
     let n : ℕ = granules_up_to (2 ^ (e + 3)) (base + length) in
     let size : 4096 ≤ base + length - base = omega arith in
-    let granule : rounding_granule base (base + length) ≡ 2 ^ (e + 3) = rounding_granule-long base (base + length) size ∙ ap (λ k. 2 ^ (k + 3)) (sym is) in
-    let mantissa : granules_up_to (2 ^ (e + 3)) (base + length) * 2 ^ (e + 3) % 2 ^ 65 / 2 ^ e % 4096 ≡ granules_up_to (2 ^ (e + 3)) (base + length) * 8 % 4096 =
+    let granule : rounding_granule base (base + length) ≡ 2 ^ (e + 3) = rounding_granule-long base (base + length) size
+    ∙ ap (λ k. 2 ^ (k + 3)) (sym is) in
+    let mantissa : granules_up_to (2 ^ (e + 3)) (base + length) * 2 ^ (e + 3) % 2 ^ 65 / 2 ^ e % 4096
+    ≡ granules_up_to (2 ^ (e + 3)) (base + length) * 8 % 4096 =
     mantissa-mod (n * 2 ^ (e + 3)) e most ∙ ap (λ k. k % 4096) (units-granules n e) in
-    let bits : bit_and below_end 511 ≡ granules_up_to (2 ^ (e + 3)) (base + length) % 512 = and_mask below_end 9 ∙ ap (λ k. k % 512) below ∙ nine_bits n e most in
+    let bits : bit_and below_end 511 ≡ granules_up_to (2 ^ (e + 3)) (base + length) % 512 = and_mask below_end 9 ∙ ap (λ k. k % 512) below
+    ∙ nine_bits n e most in
     rw (has_exponent-long length long, sym is, granule, mantissa, bits, halves)
     (joined_bits (n % 512) (e / 8) (omega arith) (omega arith) ∙ omega arith)
 
 pub encoded_b-long : (base length e low : ℕ) → 4096 ≤ length → e ≤ 52 → e ≡ rounding_exponent base (base + length) → low ≡ e % 8
-    → bit_or (bit_and (base / 2 ^ e / 8) 2047 * 8 % 2 ^ 64) low ≡ encoded_b (rounded_base base (base + length)) (rounding_exponent base (base + length)) (has_exponent length)
+    → bit_or (bit_and (base / 2 ^ e / 8) 2047 * 8 % 2 ^ 64) low
+    ≡ encoded_b (rounded_base base (base + length)) (rounding_exponent base (base + length)) (has_exponent length)
 unfolding rounded_base
 encoded_b-long base length e low long most is halves =
     let n : ℕ = base / 2 ^ (e + 3) in
     let size : 4096 ≤ base + length - base = omega arith in
-    let granule : rounding_granule base (base + length) ≡ 2 ^ (e + 3) = rounding_granule-long base (base + length) size ∙ ap (λ k. 2 ^ (k + 3)) (sym is) in
-    let bits : bit_and (base / 2 ^ e / 8) 2047 ≡ base / 2 ^ (e + 3) % 2048 = and_mask (base / 2 ^ e / 8) 11 ∙ ap (λ k. k % 2048) (shr-shr base e 3) in
+    let granule : rounding_granule base (base + length) ≡ 2 ^ (e + 3) = rounding_granule-long base (base + length) size
+    ∙ ap (λ k. 2 ^ (k + 3)) (sym is) in
+    let bits : bit_and (base / 2 ^ e / 8) 2047 ≡ base / 2 ^ (e + 3) % 2048 = and_mask (base / 2 ^ e / 8) 11
+    ∙ ap (λ k. k % 2048) (shr-shr base e 3) in
     rw (has_exponent-long length long, sym is, granule, units-granules n e, bits, halves)
     (joined_bits (n % 2048) (e % 8) (omega arith) (omega arith) ∙ omega arith)
 
 -- a request is aligned where its address and its length are
-aligned_request : (base length g : ℕ) → 0 < g → base % g ≡ 0 → length % g ≡ 0 → (base / g * g ≡ base) × (granules_up_to g (base + length) * g ≡ base + length)
+aligned_request : (base length g : ℕ) → 0 < g → base % g ≡ 0 → length % g ≡ 0
+    → (base / g * g ≡ base) × (granules_up_to g (base + length) * g ≡ base + length)
 aligned_request base length g positive first size =
     let whole : base + length + g - 1 ≡ (base / g + length / g) * g + (g - 1) = omega arith in
-    let count : granules_up_to g (base + length) ≡ base / g + length / g = ap (λ n. n / g) whole ∙ div-mul-add (base / g + length / g) g (g - 1) (omega arith) in
+    let count : granules_up_to g (base + length) ≡ base / g + length / g = ap (λ n. n / g) whole
+    ∙ div-mul-add (base / g + length / g) g (g - 1) (omega arith) in
     (omega arith, rw count (omega arith))
 
 -- and only there
-request_aligned : (base length g : ℕ) → 0 < g → base / g * g ≡ base → granules_up_to g (base + length) * g ≡ base + length → (base % g ≡ 0) × (length % g ≡ 0)
+request_aligned : (base length g : ℕ) → 0 < g → base / g * g ≡ base → granules_up_to g (base + length) * g ≡ base + length
+    → (base % g ≡ 0) × (length % g ≡ 0)
 request_aligned base length g positive first last =
     (omega arith, mod-is length 0 (base / g) (granules_up_to g (base + length)) g positive (omega arith))
 
@@ -123,8 +147,10 @@ is_exact-long base length e mask long is low =
     let g : ℕ = 2 ^ (e + 3) in
     let positive : 0 < 2 ^ (e + 3) = pow_pos (e + 3) in
     let size : 4096 ≤ base + length - base = omega arith in
-    let granule : rounding_granule base (base + length) ≡ 2 ^ (e + 3) = rounding_granule-long base (base + length) size ∙ ap (λ k. 2 ^ (k + 3)) (sym is) in
-    let bits : bit_and (bit_or base length) mask ≡ bit_or base length % 2 ^ (e + 3) = ap (bit_and (bit_or base length)) low ∙ and_mask (bit_or base length) (e + 3) in
+    let granule : rounding_granule base (base + length) ≡ 2 ^ (e + 3) = rounding_granule-long base (base + length) size
+    ∙ ap (λ k. 2 ^ (k + 3)) (sym is) in
+    let bits : bit_and (bit_or base length) mask ≡ bit_or base length % 2 ^ (e + 3) = ap (bit_and (bit_or base length)) low
+    ∙ and_mask (bit_or base length) (e + 3) in
     rw (bits, granule) (elim (cases_Bool (eqb (bit_or base length % 2 ^ (e + 3)) 0)) [
       | inl none ↦
           let parts = none_of_both base length (e + 3) (eqb-true _ 0 none) in

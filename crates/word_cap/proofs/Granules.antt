@@ -1,5 +1,6 @@
 -- Granules counted modulo 2 ^ 64.
-use Rattle.std.proofs.Common.{◌≡◌, ℕ, ◌+◌, ◌-◌, ◌*◌, ◌/◌, ◌%◌, ◌^◌, ◌<◌, ◌≤◌, Bool, true, false, ltb, eqb, bit_and, refl, sym, ap, ◌∙◌, arith}
+use Rattle.std.proofs.Common.{◌≡◌, ℕ, ◌+◌, ◌-◌, ◌*◌, ◌/◌, ◌%◌, ◌^◌, ◌<◌, ◌≤◌, Bool, true, false, ltb, eqb, bit_and, refl, sym, ap, ◌∙◌}
+use Rattle.std.proofs.Common.{arith}
 use Rattle.std.proofs.lemmas.Nat.{pow-add, pow_pos, shr-shr, shr_le, field_of, and_mask}
 use Rattle.std.proofs.lemmas.Bool.{ltb-true, ltb-false}
 use Rattle.cap_bounds.specs.Rounding.{granules_up_to, granules_spanned}
@@ -16,7 +17,8 @@ granules_below_end-is e address length rest most is =
     ∙ field_of (address + length + 2 ^ (e + 3) - 1) (61 - e) (e + 3)
 
 -- bit 9 of a number from 512 to 1025 tells whether it is below 1024, whatever is known of it modulo a multiple of 1024
-few_by_bit : (n first m k : ℕ) (few : Bool) → m ≡ 1024 * k → 512 ≤ n - first → n - first ≤ 1025 → first < 2 ^ 64 → ltb (n - first) 1024 ≡ few
+few_by_bit : (n first m k : ℕ) (few : Bool) → m ≡ 1024 * k → 512 ≤ n - first → n - first ≤ 1025 → first < 2 ^ 64
+    → ltb (n - first) 1024 ≡ few
     → eqb ((n % m + (2 ^ 64 - first)) % 2 ^ 64 / 512 % 2) 1 ≡ few
 few_by_bit n first m k true whole low high fits is =
     let few = ltb-true _ _ is in

@@ -17,7 +17,8 @@ length_mantissa-difference : (word : ℕ)
     → length_mantissa word ≡ (low_top_mantissa word + (2 ^ 64 - base_mantissa word)) % 2 ^ 64 % 4096 + bit (ie_of word) * 4096
 unfolding length_mantissa top_mantissa
 length_mantissa-difference word =
-    length_by_difference (base_mantissa word) (low_top_mantissa word) (bit (ie_of word)) (ltb (low_top_mantissa word) (base_mantissa word % 4096))
+    length_by_difference (base_mantissa word) (low_top_mantissa word) (bit (ie_of word))
+    (ltb (low_top_mantissa word) (base_mantissa word % 4096))
     (base_mantissa-below word) (low_top_mantissa-below word) (bit-small (ie_of word)) refl
 
 -- with an internal exponent, whose bits stand in the fields' low three

@@ -34,7 +34,8 @@ mod-cancel : (x y b : ℕ) → (x + b) % 2 ^ 64 ≡ (y + b) % 2 ^ 64 → x % 2 ^
 mod-cancel x y b e = omega arith
 
 -- two numbers of windows give one base exactly where their difference is shifted out
-pub same_window : (x y b e : ℕ) → (bit_xor x y * 16384 % 2 ^ 64 * 2 ^ e % 2 ^ 64 ≡ 0) ↔ ((x * 2 ^ 14 + b) * 2 ^ e % 2 ^ 64 ≡ (y * 2 ^ 14 + b) * 2 ^ e % 2 ^ 64)
+pub same_window : (x y b e : ℕ)
+    → (bit_xor x y * 16384 % 2 ^ 64 * 2 ^ e % 2 ^ 64 ≡ 0) ↔ ((x * 2 ^ 14 + b) * 2 ^ e % 2 ^ 64 ≡ (y * 2 ^ 14 + b) * 2 ^ e % 2 ^ 64)
 same_window x y b e =
     let power : 2 ^ (14 + e) ≡ 16384 * 2 ^ e = pow-add 2 14 e in
     let whole : bit_xor x y * 16384 % 2 ^ 64 * 2 ^ e % 2 ^ 64 ≡ bit_xor (x * 2 ^ (14 + e) % 2 ^ 64) (y * 2 ^ (14 + e) % 2 ^ 64) =
@@ -45,12 +46,14 @@ same_window x y b e =
     let right : (y * 2 ^ 14 + b) * 2 ^ e ≡ y * 2 ^ (14 + e) + b * 2 ^ e = rw power (omega arith) in
     let same = same_from_xor (x * 2 ^ (14 + e) % 2 ^ 64) (y * 2 ^ (14 + e) % 2 ^ 64) in (
       λ none. rw (left, right) (mod-add (x * 2 ^ (14 + e)) (y * 2 ^ (14 + e)) (b * 2 ^ e) (same (sym whole ∙ none))),
-      λ one. whole ∙ rw (mod-cancel (x * 2 ^ (14 + e)) (y * 2 ^ (14 + e)) (b * 2 ^ e) (rw (left, right) at one)) (xor_self (y * 2 ^ (14 + e) % 2 ^ 64)),
+      λ one. whole
+          ∙ rw (mod-cancel (x * 2 ^ (14 + e)) (y * 2 ^ (14 + e)) (b * 2 ^ e) (rw (left, right) at one)) (xor_self (y * 2 ^ (14 + e) % 2 ^ 64)),
     )
 
 -- a word with another address has the same mantissas
 mantissas-with_address_of : (word address : ℕ) → address < 2 ^ 64
-    → (ie_of (with_address_of word address) ≡ ie_of word) × (t_field_of (with_address_of word address) ≡ t_field_of word) × (b_field_of (with_address_of word address) ≡ b_field_of word)
+    → (ie_of (with_address_of word address) ≡ ie_of word) × (t_field_of (with_address_of word address) ≡ t_field_of word)
+    × (b_field_of (with_address_of word address) ≡ b_field_of word)
 mantissas-with_address_of word address fits =
     let ie : with_address_of word address / 2 ^ 90 % 2 ≡ word / 2 ^ 90 % 2 = omega arith in
     (ap (λ n. eqb n 1) ie, omega arith, omega arith)
@@ -72,7 +75,8 @@ top_of_word-with_address_of word address fits =
     rw (same.0, same.1, same.2, own) refl
 
 -- the top stays with the base
-decoded_top-same : (e b l address own : ℕ) → decoded_base e b address ≡ decoded_base e b own → decoded_top e b l address ≡ decoded_top e b l own
+decoded_top-same : (e b l address own : ℕ) → decoded_base e b address ≡ decoded_base e b own
+    → decoded_top e b l address ≡ decoded_top e b l own
 decoded_top-same e b l address own same = elim (cases_lt 50 e) [
   | inl above ↦ decoded_top-high e b l address above ∙ sym (decoded_top-high e b l own above)
   | inr low ↦ decoded_top-low e b l address low ∙ ap (λ n. n + l * 2 ^ e) same ∙ sym (decoded_top-low e b l own low)
@@ -80,18 +84,21 @@ decoded_top-same e b l address own same = elim (cases_lt 50 e) [
 
 -- a word's bounds stay with another address exactly where the base stays
 pub keeps_bounds-base : (word address : ℕ) → address < 2 ^ 64
-    → (decoded_base (exponent_of word) (base_mantissa word) (address_of word) ≡ decoded_base (exponent_of word) (base_mantissa word) address) ↔ KeepsBounds word address
+    → (decoded_base (exponent_of word) (base_mantissa word) (address_of word)
+    ≡ decoded_base (exponent_of word) (base_mantissa word) address) ↔ KeepsBounds word address
 unfolding base_of_word top_of_word
 keeps_bounds-base word address fits = (
   λ same. (
     base_of_word-with_address_of word address fits ∙ sym same,
-    top_of_word-with_address_of word address fits ∙ decoded_top-same (exponent_of word) (base_mantissa word) (length_mantissa word) address (address_of word) (sym same),
+    top_of_word-with_address_of word address fits
+        ∙ decoded_top-same (exponent_of word) (base_mantissa word) (length_mantissa word) address (address_of word) (sym same),
   ),
   λ kept. sym (kept.0) ∙ base_of_word-with_address_of word address fits,
 )
 
 -- so the numbers of the windows decide it
-pub keeps_bounds-windows : (word address x y e b own : ℕ) → address < 2 ^ 64 → e ≡ exponent_of word → b ≡ base_mantissa word → own ≡ address_of word
+pub keeps_bounds-windows : (word address x y e b own : ℕ) → address < 2 ^ 64 → e ≡ exponent_of word → b ≡ base_mantissa word
+    → own ≡ address_of word
     → (x * 2 ^ 14 + b) * 2 ^ e % 2 ^ 64 ≡ decoded_base e b own → (y * 2 ^ 14 + b) * 2 ^ e % 2 ^ 64 ≡ decoded_base e b address
     → IsTrue (eqb (bit_xor x y * 16384 % 2 ^ 64 * 2 ^ e % 2 ^ 64) 0) ↔ KeepsBounds word address
 keeps_bounds-windows word address x y e b own fits exponent mantissa place from to =
@@ -125,8 +132,11 @@ decoded_base-near e b own address most mantissa own_fits fits near =
     ∙ ap (λ n. (n * 16384 + b) * 2 ^ e % 2 ^ 64) (window_number-same (own / 2 ^ e) (address / 2 ^ e) b eighths)
     ∙ window_number-base e b address most mantissa fits
 
-pub keeps_bounds-near : (word own address : ℕ) → address < 2 ^ 64 → own ≡ address_of word → bit_xor own address < 2048 → KeepsBounds word address
+pub keeps_bounds-near : (word own address : ℕ) → address < 2 ^ 64 → own ≡ address_of word → bit_xor own address < 2048
+    → KeepsBounds word address
 keeps_bounds-near word own address fits place near =
     let own_fits : own < 2 ^ 64 = omega arith in
-    let same = decoded_base-near (exponent_of word) (base_mantissa word) own address (exponent_of-high word) (base_mantissa-below word) own_fits fits near in
+    let same =
+    decoded_base-near (exponent_of word) (base_mantissa word) own address (exponent_of-high word)
+    (base_mantissa-below word) own_fits fits near in
     (keeps_bounds-base word address fits).0 (rw place at same)

@@ -37,7 +37,10 @@ window_number-base e b address most mantissa fits =
     let by = eighths (address / 2 ^ e / 2048 % 8) (b / 2048 % 8) (omega arith) (omega arith) in
     let block : address / 2 ^ (e + 14) ≡ address / 2 ^ e / 16384 = sym (shr-shr address e 14) in
     let small : address / 2 ^ e < 2 ^ 64 = omega (arith, shr_le address e) in
-    let number = window_number-block (address / 2 ^ e) b (high (edge_of b) b) (high (edge_of b) (address / 2 ^ e)) k mantissa small (omega arith) (omega (arith, by)) in
-    window_number-unrounded (window_number mid b) (address / 2 ^ (e + 14)) h1 h0 b (rounds mid b) (2 ^ e) (2 ^ (e + 14)) (rw block number) (pow-add 2 e 14)
+    let number =
+    window_number-block (address / 2 ^ e) b (high (edge_of b) b) (high (edge_of b) (address / 2 ^ e)) k mantissa small (omega arith)
+    (omega (arith, by)) in
+    window_number-unrounded (window_number mid b) (address / 2 ^ (e + 14)) h1 h0 b (rounds mid b) (2 ^ e) (2 ^ (e + 14)) (rw block number)
+    (pow-add 2 e 14)
     (block_fits e h0 most (high-small (edge_of b) (address / 2 ^ e)))
     ∙ sym (decoded_base-corrected e b address most mantissa fits)

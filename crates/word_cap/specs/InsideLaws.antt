@@ -13,7 +13,8 @@ BoundsLieInTheWindow =
     (r : Record) (address : ℕ) → IsWellFormed r → address < 2 ^ 64 → r.base ≤ address → address ≤ r.top → IsTrue (window_holds r address)
 
 -- bounds of less than half a window, from base on
-is_in_window-inside : (e base top address : ℕ) → top - base < 2 ^ (e + 13) → base ≤ address → address ≤ top → is_in_window e base address ≡ true
+is_in_window-inside : (e base top address : ℕ) → top - base < 2 ^ (e + 13) → base ≤ address → address ≤ top
+    → is_in_window e base address ≡ true
 unfolding is_in_window
 is_in_window-inside e base top address short low high = elim (cases_lt e 50) [
   | inl below ↦

@@ -1,6 +1,7 @@
 -- The bounds of any word by corrections (UCAM-CL-TR-987, CHERI Concentrate, decoding). The address, the base and the top are cut
 -- at bit E + 14 and their 14 bits from E on compared by their highest three: each is high if those are below the edge.
-use Rattle.std.specs.Prelude.{◌≡◌, ℕ, ℤ, pos, ◌+◌, ◌-◌, ◌*◌, ◌/◌, ◌%◌, ◌^◌, ◌+ℤ◌, ◌-ℤ◌, ◌*ℤ◌, Bool, ◌&&◌, nat_lt, unsigned_abs, if◌then◌else◌}
+use Rattle.std.specs.Prelude.{◌≡◌, ℕ, ℤ, pos, ◌+◌, ◌-◌, ◌*◌, ◌/◌, ◌%◌, ◌^◌, ◌+ℤ◌, ◌-ℤ◌, ◌*ℤ◌, Bool, ◌&&◌, nat_lt, unsigned_abs}
+use Rattle.std.specs.Prelude.{if◌then◌else◌}
 use Rattle.std.specs.Int.{int_rem_euclid}
 use Rattle.cap_format.specs.Word.{bit, address_of}
 use Rattle.cap_bounds.specs.Mantissa.{exponent_of, base_mantissa, top_mantissa}
@@ -63,7 +64,8 @@ pub record ArePartsOf (word : ℕ) (parts : Parts) : Type 0 where
   pub edge : parts.edge ≡ edge_of parts.b
   pub base_step : parts.base_step ≡ correction parts.edge parts.e (address_of word) parts.b
   pub top_step : parts.top_step ≡ correction parts.edge parts.e (address_of word) parts.t
-  pub flip : parts.flip ≡ is_flipped parts.e (base_by_parts parts (address_of word)) (corrected_top parts.e (address_of word) parts.top_step parts.t)
+  pub flip : parts.flip
+      ≡ is_flipped parts.e (base_by_parts parts (address_of word)) (corrected_top parts.e (address_of word) parts.top_step parts.t)
 
 -- The bounds that they give are those of the word, by windows.
 pub record GiveBoundsOf (word : ℕ) (parts : Parts) : Type 0 where

@@ -3,7 +3,8 @@ use Rattle.std.proofs.Common.{◌≡◌, ℕ, ◌^◌, ◌<◌, Bool, true, fals
 use Rattle.cap_format.specs.Word.{address_of, perms_of, flag_of, otype_of}
 use Rattle.cap_bounds.specs.Window.{base_of_word, top_of_word}
 use Rattle.cap_bounds.specs.Record.{IsWordWellFormed, decoded}
-use Rattle.cap_bounds.specs.CapValue.{IsSound, value_of, word_of, is_tagged, value_base, value_top, value_address, value_perms, value_flag, value_otype}
+use Rattle.cap_bounds.specs.CapValue.{IsSound, value_of, word_of, is_tagged, value_base, value_top, value_address, value_perms, value_flag}
+use Rattle.cap_bounds.specs.CapValue.{value_otype}
 
 pub IsSound-value_of : (word : ℕ) (tag : Bool) → word < 2 ^ 128 → (IsTrue tag → IsWordWellFormed word) → IsSound (value_of word tag)
 IsSound-value_of word true fits well = (well refl).decodes
@@ -47,4 +48,12 @@ unfolding decoded
 value_otype-value_of word true = refl
 value_otype-value_of word false = refl
 
-pub ruleset value_laws = (is_tagged-value_of, value_base-value_of, value_top-value_of, value_address-value_of, value_perms-value_of, value_flag-value_of, value_otype-value_of)
+pub ruleset value_laws = (
+  is_tagged-value_of,
+  value_base-value_of,
+  value_top-value_of,
+  value_address-value_of,
+  value_perms-value_of,
+  value_flag-value_of,
+  value_otype-value_of,
+)

@@ -11,6 +11,8 @@ pub returns-clause-value : goal.returns-clause-value
 returns-clause-value c =
     let is = length_exponent-leading c.args.length c.requires c.ranges.length.fits in
     elim c.if-granules-lt1024.branch [
-      | then-granules-lt1024 w ↦ rw (w.raise-is, add-zero) (rounding_exponent-few c.args.length (51 - leading_zeros w64 c.args.length) is w.if-granules-lt1024.true)
-      | else-granules-lt1024 w ↦ rw w.raise-is (rounding_exponent-many c.args.length (51 - leading_zeros w64 c.args.length) is w.if-granules-lt1024.false)
+      | then-granules-lt1024 w ↦ rw (w.raise-is, add-zero)
+          (rounding_exponent-few c.args.length (51 - leading_zeros w64 c.args.length) is w.if-granules-lt1024.true)
+      | else-granules-lt1024 w ↦ rw w.raise-is
+          (rounding_exponent-many c.args.length (51 - leading_zeros w64 c.args.length) is w.if-granules-lt1024.false)
     ]

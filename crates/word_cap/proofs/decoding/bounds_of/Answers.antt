@@ -9,7 +9,8 @@ use Rattle.word_cap.proofs.decoding.bounds_of.Goals as goal
 use Rattle.word_cap.proofs.decoding.bounds_of.Goals.{After-address-address}
 
 -- the difference of T and B is L
-length-is : (c : After-address-address) → bit_and ((c.from.result + (2 ^ 64 - c.from-b.result)) % 2 ^ 64) 16383 ≡ length_mantissa c.args.word
+length-is : (c : After-address-address)
+    → bit_and ((c.from.result + (2 ^ 64 - c.from-b.result)) % 2 ^ 64) 16383 ≡ length_mantissa c.args.word
 unfolding length_mantissa
 length-is c =
     let numbers = c.parts-parts.ensures.numbers in
@@ -26,7 +27,8 @@ pub base_at-requires-clause-mantissa : goal.base_at-requires-clause-mantissa
 base_at-requires-clause-mantissa c = rw (c.from-b.ensures, c.parts-parts.ensures.numbers.base_mantissa) (base_mantissa-below c.args.word)
 
 pub top_at-requires-clause-length : goal.top_at-requires-clause-length
-top_at-requires-clause-length c = rw (length-is (goal.at.top_at-requires-clause-length c).After-address-address) (length_mantissa-short c.args.word)
+top_at-requires-clause-length c =
+    rw (length-is (goal.at.top_at-requires-clause-length c).After-address-address) (length_mantissa-short c.args.word)
 
 pub returns-clause-top : goal.returns-clause-top
 unfolding top_of_word

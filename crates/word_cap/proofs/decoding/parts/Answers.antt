@@ -14,14 +14,16 @@ pub is_flipped-requires : goal.is_flipped-requires
 is_flipped-requires c = c.corrected_top-top.ensures.range
 
 -- what is kept of the numbers is the numbers
-top_mantissa-is : (c : After-is_flipped) → bit_and (c.mantissas_of-mantissas.result.base + c.mantissas_of-mantissas.result.length) 16383 ≡ top_mantissa c.args.word
+top_mantissa-is : (c : After-is_flipped)
+    → bit_and (c.mantissas_of-mantissas.result.base + c.mantissas_of-mantissas.result.length) 16383 ≡ top_mantissa c.args.word
 top_mantissa-is c =
     and_mask (c.mantissas_of-mantissas.result.base + c.mantissas_of-mantissas.result.length) 14
     ∙ rw (c.mantissas_of-mantissas.ensures.base, c.mantissas_of-mantissas.ensures.length) (sym (top_mantissa-sum c.args.word))
 
 base_step-is : (c : After-is_flipped)
     → to_z w8 (of_z w8 c.correction.result)
-    ≡ correction c.edge_of-edge.result c.mantissas_of-mantissas.result.exponent (address_of c.args.word) c.mantissas_of-mantissas.result.base
+    ≡ correction c.edge_of-edge.result c.mantissas_of-mantissas.result.exponent
+    (address_of c.args.word) c.mantissas_of-mantissas.result.base
 base_step-is c =
     to_z-of_z w8 c.correction.result (record { sfits = c.correction.type_inv })
     ∙ c.correction.ensures
@@ -29,7 +31,8 @@ base_step-is c =
 
 top_step-is : (c : After-is_flipped)
     → to_z w8 (of_z w8 c.correction-2.result)
-    ≡ correction c.edge_of-edge.result c.mantissas_of-mantissas.result.exponent (address_of c.args.word) (bit_and (c.mantissas_of-mantissas.result.base + c.mantissas_of-mantissas.result.length) 16383)
+    ≡ correction c.edge_of-edge.result c.mantissas_of-mantissas.result.exponent (address_of c.args.word)
+    (bit_and (c.mantissas_of-mantissas.result.base + c.mantissas_of-mantissas.result.length) 16383)
 top_step-is c =
     to_z-of_z w8 c.correction-2.result (record { sfits = c.correction-2.type_inv })
     ∙ c.correction-2.ensures
@@ -38,7 +41,8 @@ top_step-is c =
 -- and the base that bit 64 of the top is compared with is the base by its correction
 base-is : (c : After-is_flipped)
     → c.base_at.result
-    ≡ corrected_base c.mantissas_of-mantissas.result.exponent (address_of c.args.word) (to_z w8 (of_z w8 c.correction.result)) c.mantissas_of-mantissas.result.base
+    ≡ corrected_base c.mantissas_of-mantissas.result.exponent (address_of c.args.word)
+    (to_z w8 (of_z w8 c.correction.result)) c.mantissas_of-mantissas.result.base
 unfolding base_of_word
 base-is c =
     let e = c.mantissas_of-mantissas.result.exponent in
@@ -47,14 +51,20 @@ base-is c =
     c.base_at.ensures
     ∙ rw (by.exponent, by.base, c.address-address.ensures) refl
     ∙ sym (corrected_base-word c.args.word e b c.edge_of-edge.result by.exponent by.base c.edge_of-edge.ensures.value)
-    ∙ ap (λ step. corrected_base c.mantissas_of-mantissas.result.exponent (address_of c.args.word) step c.mantissas_of-mantissas.result.base) (sym (base_step-is c))
+    ∙ ap (λ step. corrected_base c.mantissas_of-mantissas.result.exponent
+    (address_of c.args.word) step c.mantissas_of-mantissas.result.base) (sym (base_step-is c))
 
 top-is : (c : After-is_flipped)
     → c.corrected_top-top.result
-    ≡ corrected_top c.mantissas_of-mantissas.result.exponent (address_of c.args.word) (to_z w8 (of_z w8 c.correction-2.result)) (bit_and (c.mantissas_of-mantissas.result.base + c.mantissas_of-mantissas.result.length) 16383)
+    ≡ corrected_top c.mantissas_of-mantissas.result.exponent (address_of c.args.word) (to_z w8 (of_z w8 c.correction-2.result))
+    (bit_and (c.mantissas_of-mantissas.result.base + c.mantissas_of-mantissas.result.length) 16383)
 top-is c =
     c.corrected_top-top.ensures.value
-    ∙ rw (sym (to_z-of_z w8 c.correction-2.result (record { sfits = c.correction-2.type_inv }) ∙ c.correction-2.ensures), c.address-address.ensures) refl
+    ∙ rw (
+      sym
+          (to_z-of_z w8 c.correction-2.result (record { sfits = c.correction-2.type_inv }) ∙ c.correction-2.ensures),
+      c.address-address.ensures,
+    ) refl
 
 pub returns-clause-numbers : goal.returns-clause-numbers
 returns-clause-numbers c = record {

@@ -10,8 +10,10 @@ returns-then-e-le50-clause-value c =
     let e = c.args.e in
     let l = c.args.l in
     let low = c.if-e-le50.true in
-    let small : c.args.l * 2 ^ c.args.e < 2 ^ 64 = omega (arith, mul-le c.args.l (2 ^ c.args.e) 8191 (2 ^ 50) (omega arith) (pow_mono low)) in
-    rw (c.from-then-e-le50.ensures, mod-eq_of_lt small, c.from.ensures, c.base_at.ensures) (sym (decoded_top-low e c.args.b l c.args.address low))
+    let small : c.args.l * 2 ^ c.args.e < 2 ^ 64 =
+    omega (arith, mul-le c.args.l (2 ^ c.args.e) 8191 (2 ^ 50) (omega arith) (pow_mono low)) in
+    rw (c.from-then-e-le50.ensures, mod-eq_of_lt small, c.from.ensures, c.base_at.ensures)
+    (sym (decoded_top-low e c.args.b l c.args.address low))
 
 pub returns-else-e-le50-clause-value : goal.returns-else-e-le50-clause-value
 returns-else-e-le50-clause-value c =

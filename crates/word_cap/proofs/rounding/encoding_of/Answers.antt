@@ -1,6 +1,7 @@
 use Rattle.std.proofs.Common.{sym, ◌∙◌}
 use Rattle.std.proofs.lemmas.Nat.{and_mask}
-use Rattle.word_cap.proofs.Encodings.{has_exponent-short, has_exponent-long, encoded_t-short, encoded_t-long, encoded_b-short, encoded_b-long, is_exact-short, is_exact-long}
+use Rattle.word_cap.proofs.Encodings.{has_exponent-short, has_exponent-long, encoded_t-short, encoded_t-long, encoded_b-short}
+use Rattle.word_cap.proofs.Encodings.{encoded_b-long, is_exact-short, is_exact-long}
 use Rattle.word_cap.proofs.rounding.encoding_of.Goals as goal
 
 pub returns-then-length-lt4096-clause-ie : goal.returns-then-length-lt4096-clause-ie

@@ -4,7 +4,8 @@ use Rattle.word_cap.proofs.window.keeps_bounds.Goals as goal
 
 pub returns-then-address-lt2048 : goal.returns-then-address-lt2048
 returns-then-address-lt2048 c =
-    let kept = keeps_bounds-near c.args.word c.address.result c.args.address c.ranges.address.fits c.address.ensures c.if-address-lt2048.true in
+    let kept =
+    keeps_bounds-near c.args.word c.address.result c.args.address c.ranges.address.fits c.address.ensures c.if-address-lt2048.true in
     (λ _. kept, λ _. refl)
 
 pub returns : goal.returns

@@ -8,7 +8,8 @@ use Rattle.word_cap.proofs.window.keeps_tag.Goals as goal
 
 pub returns-then-not-c-clause-value : goal.returns-then-not-c-clause-value
 returns-then-not-c-clause-value c =
-    ap (λ tag. at_address (value_of c.args.c.word tag) c.args.address) (not-true c.args.c.tag c.if-not-c.true) ∙ at_address-data c.args.c.word c.args.address
+    ap (λ tag. at_address (value_of c.args.c.word tag) c.args.address) (not-true c.args.c.tag c.if-not-c.true)
+    ∙ at_address-data c.args.c.word c.args.address
 
 pub returns-then-otype-ne-UNSEALED-clause-value : goal.returns-then-otype-ne-UNSEALED-clause-value
 returns-then-otype-ne-UNSEALED-clause-value c =

@@ -12,7 +12,8 @@ use Rattle.word_cap.proofs.rep.WordCapCapRep.set_bounds.Goals.{After-may_bound}
 -- the word of the result
 word-is : (c : After-may_bound)
     → c.word_with.result
-    ≡ encoded_at (rounding_exponent (value_address (word_value c.args.self)) (request_top (word_value c.args.self) c.args.length)) (has_exponent c.args.length)
+    ≡ encoded_at (rounding_exponent (value_address (word_value c.args.self)) (request_top (word_value c.args.self) c.args.length))
+    (has_exponent c.args.length)
     (bounded (word_value c.args.self) c.args.length)
 word-is c =
     let encoding = c.encoding_of-encoding.ensures in
@@ -30,7 +31,8 @@ pub invariant_of-set : goal.invariant_of-set
 invariant_of-set c = record {
   in_range = c.word_with.ensures.range;
   well_formed =
-      λ tagged. IsWordWellFormed-bounded (word_value c.args.self) c.args.length c.word_with.result (word_sound c.args.self) c.ranges.length.fits (word-is c)
+      λ tagged. IsWordWellFormed-bounded (word_value c.args.self) c.args.length c.word_with.result
+      (word_sound c.args.self) c.ranges.length.fits (word-is c)
       (sym c.may_bound.ensures ∙ tagged);
 }
 
@@ -40,8 +42,10 @@ returns-clause-value c = value-is (goal.at.returns-clause-value c).After-may_bou
 pub returns-clause-bounds : goal.returns-clause-bounds
 returns-clause-bounds c =
     let v = word_value c.args.self in
-    rw (value-is (goal.at.returns-clause-bounds c).After-may_bound) (bounds-with_bounds (word_value c.args.self) c.args.length (word_sound c.args.self) c.ranges.length.fits)
+    rw (value-is (goal.at.returns-clause-bounds c).After-may_bound)
+    (bounds-with_bounds (word_value c.args.self) c.args.length (word_sound c.args.self) c.ranges.length.fits)
 
 pub returns-clause-within : goal.returns-clause-within
 returns-clause-within c =
-    rw (value-is (goal.at.returns-clause-within c).After-may_bound) (within-with_bounds (word_value c.args.self) c.args.length (word_sound c.args.self))
+    rw (value-is (goal.at.returns-clause-within c).After-may_bound)
+    (within-with_bounds (word_value c.args.self) c.args.length (word_sound c.args.self))
