@@ -1,5 +1,7 @@
 //! The command `run`, and the run without a command.
 
+ghost use Rattle.std.specs.Prelude.{◌≡◌, IfOk};
+ghost use Rattle.hart.specs.Opening.{opening};
 ghost use Rattle.sim_run.specs.Schedule.{IsInRange};
 
 use crate::fault::ProgramFault;
@@ -20,8 +22,10 @@ const FIRST: [u8; 20] = [
     0x23, 0xb0, 0x05, 0x00,
 ];
 
-/// The program's machine: over capabilities as 128-bit words.
-pub fn machine_of<'a>(alloc: Global, image: &Image) -> Result<Machine<WordCap>, ProgramFault<'a>> {
+/// The program's machine, in the opening state of an image: over capabilities as 128-bit words.
+pub fn machine_of<'a>(alloc: Global, image: &Image) -> Result<Machine<WordCap>, ProgramFault<'a>>
+    ensures { IfOk result (λ machine. machine ≡ opening image.now) }
+{
     Ok(Machine::new(alloc, image)?)
 }
 
