@@ -6,8 +6,8 @@ use Rattle.std.proofs.lemmas.Nat.{pow_pos}
 use Rattle.isa_rows.specs.declared.rows.Row.{Row}
 use Rattle.isa_rows.specs.Insn.{sign_extended}
 use Rattle.isa_rows.specs.Operands.{IsSignedOf, IsUpperImmediate}
-use Rattle.asm_names.specs.declared.slots.Slot.{Slot}
-use Rattle.asm_names.specs.declared.slots.Slot.TheVariants.{Rd, Rs1, Rs2, Signed, Unsigned, Upper, Small, Csr, Special, Address, Authority, Target}
+use Rattle.isa_rows.specs.declared.slots.Slot.{Slot}
+use Rattle.isa_rows.specs.declared.slots.Slot.TheVariants.{Rd, Rs1, Rs2, Signed, Unsigned, Upper, Small, Csr, Special, Address, Authority, Target}
 use Rattle.asm_names.specs.Registers.{register_named}
 use Rattle.asm_names.specs.SpecialNames.{csr_named, scr_named}
 use Rattle.asm_names.specs.NameLaws.{register_named-below, csr_named-below, scr_named-below}

@@ -6,8 +6,8 @@ use Rattle.isa_rows.specs.declared.formats.Format.{Format}
 use Rattle.isa_rows.specs.declared.formats.Format.TheVariants.{Upper as FUpper, Jump as FJump, Immediate as FImmediate, Unsigned as FUnsigned, Store as FStore, Branch as FBranch, Shift6 as FShift6, Shift5 as FShift5, Register as FRegister, Whole as FWhole, Unary as FUnary, Pair as FPair}
 use Rattle.isa_rows.specs.declared.operands.Insn.{Insn}
 use Rattle.isa_rows.specs.Operands.{IsSignedOf, IsUpperImmediate, OperandsFit}
-use Rattle.asm_names.specs.declared.slots.Slot.{Slot}
-use Rattle.asm_names.specs.declared.slots.Slot.TheVariants.{Rd, Rs1, Rs2, Signed, Unsigned, Upper, Small, Csr, Special, Address, Authority, Target}
+use Rattle.isa_rows.specs.declared.slots.Slot.{Slot}
+use Rattle.isa_rows.specs.declared.slots.Slot.TheVariants.{Rd, Rs1, Rs2, Signed, Unsigned, Upper, Small, Csr, Special, Address, Authority, Target}
 use Rattle.asm_lines.specs.Operand.{Draft, fault_of, told_fault, draft_after, filled_draft, filled_fault}
 use Rattle.disassembler.specs.Shown.{shown_slot}
 use Rattle.text_laws.proofs.SlotBack.{SlotFits, with_slot, slot_back}

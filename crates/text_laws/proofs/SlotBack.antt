@@ -6,9 +6,9 @@ use Rattle.std.proofs.lemmas.Bool.Decides.{nat_tests}
 use Rattle.isa_rows.specs.declared.operands.Insn.{Insn}
 use Rattle.isa_rows.specs.Insn.{sign_extended}
 use Rattle.isa_rows.specs.Operands.{IsSignedOf, IsUpperImmediate}
-use Rattle.asm_names.specs.declared.slots.Naming.{Naming}
-use Rattle.asm_names.specs.declared.slots.Slot.{Slot}
-use Rattle.asm_names.specs.declared.slots.Slot.TheVariants.{Rd, Rs1, Rs2, Signed, Unsigned, Upper, Small, Csr, Special, Address, Authority, Target}
+use Rattle.isa_rows.specs.declared.slots.Naming.{Naming}
+use Rattle.isa_rows.specs.declared.slots.Slot.{Slot}
+use Rattle.isa_rows.specs.declared.slots.Slot.TheVariants.{Rd, Rs1, Rs2, Signed, Unsigned, Upper, Small, Csr, Special, Address, Authority, Target}
 use Rattle.asm_lines.specs.Text.{here_name}
 use Rattle.asm_lines.specs.Number.{expression, number_of, expression_of, named_plus, named_minus}
 use Rattle.asm_lines.specs.Operand.{Draft, wrapped, up_to, signed_12, with_rd, with_rs1, with_rs2, with_imm, with_upper, with_small, with_special, with_target, with_address, filled_slot}
