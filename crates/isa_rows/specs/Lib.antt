@@ -10,4 +10,5 @@ pub mod WordLaws
 pub mod Decoded
 pub mod DecodedLaws
 pub mod RowLaws
+pub mod Shape
 pub mod Transfers
