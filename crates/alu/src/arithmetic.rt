@@ -8,7 +8,7 @@ use isa_rows::Row;
 
 /// What a row of integer arithmetic computes (unprivileged manual, RV64I, Integer Computational
 /// Instructions): `a` is rs1's number, `b` is rs2's or the immediate. For LUI the result is `b`.
-#[tactic(auto, unfolding(crate::specs::Integer::int_result, isa_rows::specs::Kind::kind_of))]
+#[tactic(auto, unfolding(crate::specs::Integer::int_result, isa_rows::specs::Line::line_of))]
 #[inline]
 pub fn int_op(row: Row, a: u64, b: u64) -> u64
     requires { kind_of row ≡ kind.Integer }

@@ -7,7 +7,7 @@ use isa_rows::Row;
 
 /// Whether a branch is taken (unprivileged manual, RV64I, Conditional Branches): `a` and `b` are the
 /// numbers in rs1 and rs2.
-#[tactic(auto, unfolding(crate::specs::Integer::branch_result, isa_rows::specs::Kind::kind_of))]
+#[tactic(auto, unfolding(crate::specs::Integer::branch_result, isa_rows::specs::Line::line_of))]
 #[inline]
 pub fn branch_taken(row: Row, a: u64, b: u64) -> bool
     requires { kind_of row ≡ kind.Branch }

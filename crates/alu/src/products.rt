@@ -9,7 +9,7 @@ use isa_rows::Row;
 
 /// What a row of multiplication or division computes (unprivileged manual, M): `a` and `b` are the
 /// numbers in rs1 and rs2.
-#[tactic(auto, unfolding(crate::specs::Integer::mul_div_result, isa_rows::specs::Kind::kind_of))]
+#[tactic(auto, unfolding(crate::specs::Integer::mul_div_result, isa_rows::specs::Line::line_of))]
 pub fn mul_div(row: Row, a: u64, b: u64) -> u64
     requires { kind_of row ≡ kind.MulDiv }
     ensures { result ≡ mul_div_result row a b }

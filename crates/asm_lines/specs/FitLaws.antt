@@ -7,9 +7,9 @@ use Rattle.isa_rows.specs.declared.rows.Row.{Row}
 use Rattle.isa_rows.specs.declared.rows.Row.TheVariants.{Lui, Addi, Jal, Jalr, Fence, FenceI}
 use Rattle.isa_rows.specs.Line.{line_of}
 use Rattle.isa_rows.specs.Insn.{insn}
-use Rattle.asm_names.specs.declared.slots.Naming.TheVariants.{Integer}
-use Rattle.asm_names.specs.declared.slots.Slot.{Slot}
-use Rattle.asm_names.specs.declared.slots.Slot.TheVariants.{Rd, Rs1, Signed, Target}
+use Rattle.isa_rows.specs.declared.slots.Naming.TheVariants.{Integer}
+use Rattle.isa_rows.specs.declared.slots.Slot.{Slot}
+use Rattle.isa_rows.specs.declared.slots.Slot.TheVariants.{Rd, Rs1, Signed, Target}
 use Rattle.asm_names.specs.Mnemonic.{row_named}
 use Rattle.asm_names.specs.Registers.{register_named}
 use Rattle.asm_names.specs.Slots.{slots_of}
@@ -35,7 +35,7 @@ zero_start = record { rd = 1; rs1 = 1; rs2 = 1; imm = below 1; target = false }
 
 -- the slots of each row suit its format
 rows-suit : (r : Row) → suits (line_of r).format (bounds_of (slots_of r) zero_start) ≡ true
-unfolding line_of slots_of
+unfolding line_of
 rows-suit Lui = refl
 rows-suit _ = refl
 

@@ -4,9 +4,9 @@ use Rattle.std.specs.Prelude.{int_lt, List, [], ◌∷◌, length, take, slice_i
 use Rattle.std.specs.List.{prefix_len, before_first, after_first}
 use Rattle.isa_rows.specs.declared.operands.Insn.{Insn}
 use Rattle.isa_rows.specs.Insn.{sign_extended}
-use Rattle.asm_names.specs.declared.slots.Slot.{Slot}
-use Rattle.asm_names.specs.declared.slots.Slot.TheVariants.{Rd, Rs1, Rs2, Signed, Unsigned, Upper, Small, Csr, Special, Address, Authority}
-use Rattle.asm_names.specs.declared.slots.Slot.TheVariants.{Target}
+use Rattle.isa_rows.specs.declared.slots.Slot.{Slot}
+use Rattle.isa_rows.specs.declared.slots.Slot.TheVariants.{Rd, Rs1, Rs2, Signed, Unsigned, Upper, Small, Csr, Special, Address, Authority}
+use Rattle.isa_rows.specs.declared.slots.Slot.TheVariants.{Target}
 use Rattle.asm_names.specs.Registers.{register_named}
 use Rattle.asm_names.specs.SpecialNames.{csr_named, scr_named}
 use Rattle.asm_lines.specs.declared.fault.LineFault.{LineFault}

@@ -7,9 +7,9 @@ use Rattle.std.proofs.lemmas.Nat.{pow_pos}
 use Rattle.isa_rows.specs.declared.rows.Row.{Row}
 use Rattle.isa_rows.specs.Insn.{sign_extended}
 use Rattle.isa_rows.specs.Operands.{IsSignedOf, IsUpperImmediate}
-use Rattle.asm_names.specs.declared.slots.Slot.{Slot}
-use Rattle.asm_names.specs.declared.slots.Slot.TheVariants.{Rd, Rs1, Rs2, Signed, Unsigned, Upper, Small, Csr, Special, Address, Authority}
-use Rattle.asm_names.specs.declared.slots.Slot.TheVariants.{Target}
+use Rattle.isa_rows.specs.declared.slots.Slot.{Slot}
+use Rattle.isa_rows.specs.declared.slots.Slot.TheVariants.{Rd, Rs1, Rs2, Signed, Unsigned, Upper, Small, Csr, Special, Address, Authority}
+use Rattle.isa_rows.specs.declared.slots.Slot.TheVariants.{Target}
 use Rattle.asm_names.specs.Registers.{register_named}
 use Rattle.asm_names.specs.SpecialNames.{csr_named, scr_named}
 use Rattle.asm_names.specs.NameLaws.{register_named-below, csr_named-below, scr_named-below}
@@ -150,15 +150,8 @@ imm-leads row b d kind (Err fault) f w e = cc
 upper-leads : (row : Row) (b : Bounds) (d : Draft) (r : Result ℤ LineFault) → Numbers (below (2 ^ 20)) r → IsWithin row b d
     → Leads row (record b { imm = upper }) d (with_upper d r)
 upper-leads row b d (Ok z) f w e =
-    record {
-      row_is = w.row_is;
-      rd_below = w.rd_below;
-      rs1_below = w.rs1_below;
-      rs2_below = w.rs2_below;
-      imm_is = upper-number (wrapped z)
-          (f z refl);
-      target_is = w.target_is;
-    }
+    record { row_is = w.row_is; rd_below = w.rd_below; rs1_below = w.rs1_below; rs2_below = w.rs2_below; imm_is = upper-number (wrapped z)
+        (f z refl); target_is = w.target_is }
 upper-leads row b d (Err fault) f w e = cc
 
 small-leads : (row : Row) (b : Bounds) (d : Draft) (r : Result ℤ LineFault) → Numbers (below 32) r → IsWithin row b d

@@ -7,9 +7,9 @@ use Rattle.isa_rows.specs.declared.rows.Row.{Row}
 use Rattle.isa_rows.specs.declared.rows.Row.TheVariants.{Addi, Jal, Jalr, Fence, FenceI}
 use Rattle.isa_rows.specs.declared.operands.Insn.{Insn}
 use Rattle.isa_rows.specs.Insn.{insn}
-use Rattle.asm_names.specs.declared.slots.Naming.TheVariants.{Integer}
-use Rattle.asm_names.specs.declared.slots.Slot.{Slot}
-use Rattle.asm_names.specs.declared.slots.Slot.TheVariants.{Rd, Rs1, Signed, Target}
+use Rattle.isa_rows.specs.declared.slots.Naming.TheVariants.{Integer}
+use Rattle.isa_rows.specs.declared.slots.Slot.{Slot}
+use Rattle.isa_rows.specs.declared.slots.Slot.TheVariants.{Rd, Rs1, Signed, Target}
 use Rattle.asm_names.specs.Mnemonic.{row_named}
 use Rattle.asm_names.specs.Registers.{register_named}
 use Rattle.asm_names.specs.Slots.{slots_of}

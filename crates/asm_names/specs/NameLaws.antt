@@ -1,20 +1,20 @@
 -- Laws of names: what is shown is read back, and the numbers that names have.
 use Rattle.std.proofs.Common.{◌≡◌, ℕ, zero, suc, ◌+◌, ◌<◌, Bool, true, false, ◌==◌, ◌&&◌, List, [], ◌∷◌, Option, Some, None, refl, ap, ◌∙◌, arith}
 use Rattle.std.specs.Cmp.Lexicographic.{pointwise}
-use Rattle.std.specs.Prelude.{length, nat_eq, nat_lt, position, slice_get}
+use Rattle.std.specs.Prelude.{length, nat_eq, nat_lt, slice_get}
 use Rattle.std.proofs.lemmas.Bool.Decides.{nat_tests}
 use Rattle.std.proofs.lemmas.List.Quantifiers.{position-Some}
 use Rattle.isa_rows.specs.declared.rows.Row.{Row}
 use Rattle.isa_rows.specs.declared.rows.Row.TheVariants.{Lui}
-use Rattle.isa_rows.specs.Name.{name_of}
-use Rattle.asm_names.specs.Mnemonic.{capability_name_of, mnemonic, row_named}
+use Rattle.isa_rows.specs.Line.{line_of}
+use Rattle.asm_names.specs.Mnemonic.{mnemonic, row_named}
 use Rattle.asm_names.specs.Registers.{register_named, register_name, integer_names, capability_names, integer_numbers, capability_numbers, or_else, place_of, frame_pointer}
 use Rattle.base.specs.Registers.{csrs, special_registers}
 use Rattle.asm_names.specs.SpecialNames.{number_in, name_in, csr_named, csr_name, scr_named, scr_name}
 
 -- a row by its name in either mode
 pub row_named-mnemonic : (mode : Bool) (row : Row) → row_named (mnemonic mode row) ≡ Some row
-unfolding name_of capability_name_of
+unfolding line_of
 row_named-mnemonic true Lui = refl
 row_named-mnemonic true _ = refl
 row_named-mnemonic false Lui = refl

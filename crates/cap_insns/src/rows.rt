@@ -18,7 +18,7 @@ use isa_rows::{Insn, Row};
 /// `cs1` and `cs2` are what the registers rs1 and rs2 hold, and `ddc` is the default data capability. A number is a null
 /// capability with that address. A derivation that may not be made answers the fields that success would have given, without the
 /// tag.
-#[tactic(auto, unfolding(crate::specs::CapabilityRows::row_value, isa_rows::specs::Kind::kind_of))]
+#[tactic(auto, unfolding(crate::specs::CapabilityRows::row_value, isa_rows::specs::Line::line_of))]
 #[inline]
 pub fn cap_op<C: CapRep>(insn: Insn, cs1: C, cs2: C, ddc: C) -> C
     requires { kind_of insn.row ≡ kind.Capability }

@@ -4,8 +4,8 @@ use Rattle.std.specs.Prelude.{length, nat_le, slice_get}
 use Rattle.std.proofs.lemmas.Bool.Decides.{nat_tests}
 use Rattle.isa_rows.specs.declared.rows.Row.{Row}
 use Rattle.isa_rows.specs.declared.rows.Row.TheVariants.{Lui}
-use Rattle.isa_rows.specs.Name.{name_of}
-use Rattle.asm_names.specs.Mnemonic.{capability_name_of, mnemonic}
+use Rattle.isa_rows.specs.Line.{line_of}
+use Rattle.asm_names.specs.Mnemonic.{mnemonic}
 use Rattle.asm_names.specs.Registers.{register_name, integer_names, capability_names}
 use Rattle.base.specs.Registers.{csrs, special_registers}
 use Rattle.asm_names.specs.SpecialNames.{name_in, csr_name, scr_name}
@@ -57,7 +57,7 @@ csr_name_none n above =
     ] refl
 
 mnemonic_within : (mode : Bool) (row : Row) → nat_le (length (mnemonic mode row)) 15 ≡ true
-unfolding name_of capability_name_of
+unfolding line_of
 mnemonic_within true Lui = refl
 mnemonic_within true _ = refl
 mnemonic_within false Lui = refl
@@ -67,7 +67,7 @@ pub mnemonic_short : (mode : Bool) (row : Row) → length (mnemonic mode row) �
 mnemonic_short mode row = let h = mnemonic_within mode row in grind (arith, nat_tests)
 
 operands_within : (row : Row) → nat_le (operands_width (slots_of row)) 49 ≡ true
-unfolding slots_of
+unfolding line_of
 operands_within Lui = refl
 operands_within _ = refl
 

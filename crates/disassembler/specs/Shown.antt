@@ -6,11 +6,11 @@ use Rattle.std.specs.Int.{w64, cast_signed}
 use Rattle.std.specs.List.{join_by}
 use Rattle.isa_rows.specs.declared.operands.Insn.{Insn}
 use Rattle.isa_rows.specs.Decoded.{insn_of}
-use Rattle.asm_names.specs.declared.slots.Naming.{Naming}
-use Rattle.asm_names.specs.declared.slots.Naming.TheVariants.{Integer, Capability, ByMode}
-use Rattle.asm_names.specs.declared.slots.Slot.{Slot}
-use Rattle.asm_names.specs.declared.slots.Slot.TheVariants.{Rd, Rs1, Rs2, Signed, Unsigned, Upper, Small, Csr, Special, Address, Authority}
-use Rattle.asm_names.specs.declared.slots.Slot.TheVariants.{Target}
+use Rattle.isa_rows.specs.declared.slots.Naming.{Naming}
+use Rattle.isa_rows.specs.declared.slots.Naming.TheVariants.{Integer, Capability, ByMode}
+use Rattle.isa_rows.specs.declared.slots.Slot.{Slot}
+use Rattle.isa_rows.specs.declared.slots.Slot.TheVariants.{Rd, Rs1, Rs2, Signed, Unsigned, Upper, Small, Csr, Special, Address, Authority}
+use Rattle.isa_rows.specs.declared.slots.Slot.TheVariants.{Target}
 use Rattle.asm_names.specs.Mnemonic.{mnemonic}
 use Rattle.asm_names.specs.Registers.{register_name}
 use Rattle.asm_names.specs.SpecialNames.{csr_name, scr_name}

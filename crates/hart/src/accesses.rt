@@ -1,11 +1,11 @@
-//! Which rows move how many bytes, and through which authority.
+//! What a load or store moves, and through which authority, read off its row's line.
 
 ghost use Rattle.std.specs.Prelude.{◌≡◌, ◌<◌, ◌^◌};
 ghost use Rattle.base.specs.Size.{bytes_of};
 ghost use Rattle.hart.specs.Accesses as spec;
 
 use base::Size;
-use isa_rows::Row;
+use isa_rows::{Row, Through, Transfer, Width};
 
 /// How many bytes a load or store of data moves.
 #[inline]
@@ -13,30 +13,30 @@ use isa_rows::Row;
 pub(crate) fn size_of(row: Row) -> Size
     ensures { result ≡ spec.size_of row }
 {
-    match row {
-        Row::Lb | Row::Lbu | Row::Sb => Size::Byte,
-        Row::LbDdc | Row::LbuDdc | Row::SbDdc => Size::Byte,
-        Row::LbCap | Row::LbuCap | Row::SbCap => Size::Byte,
-        Row::Lh | Row::Lhu | Row::Sh => Size::Half,
-        Row::LhDdc | Row::LhuDdc | Row::ShDdc => Size::Half,
-        Row::LhCap | Row::LhuCap | Row::ShCap => Size::Half,
-        Row::Lw | Row::Lwu | Row::Sw => Size::Word,
-        Row::LwDdc | Row::LwuDdc | Row::SwDdc => Size::Word,
-        Row::LwCap | Row::LwuCap | Row::SwCap => Size::Word,
+    match row.transfer() {
+        Some(
+            Transfer {
+                width: Width::Data(size, _),
+                ..
+            },
+        ) => size,
         _ => Size::Double,
     }
 }
 
-/// Whether a load sign-extends: LB, LH and LW, and their explicit forms.
+/// Whether a load sign-extends.
 #[inline]
 #[tactic(auto, unfolding(crate::specs::Accesses::sign_extends))]
 fn sign_extends(row: Row) -> bool
     ensures { result ≡ spec.sign_extends row }
 {
-    match row {
-        Row::Lb | Row::Lh | Row::Lw => true,
-        Row::LbDdc | Row::LhDdc | Row::LwDdc => true,
-        Row::LbCap | Row::LhCap | Row::LwCap => true,
+    match row.transfer() {
+        Some(
+            Transfer {
+                width: Width::Data(_, signed),
+                ..
+            },
+        ) => signed,
         _ => false,
     }
 }
@@ -76,13 +76,12 @@ pub(crate) fn loaded(row: Row, size: Size, number: u64) -> u64
 pub(crate) fn through_rs1(row: Row, capability_mode: bool) -> bool
     ensures { result ≡ spec.through_rs1 row capability_mode }
 {
-    match row {
-        Row::LbDdc | Row::LhDdc | Row::LwDdc | Row::LdDdc => false,
-        Row::LbuDdc | Row::LhuDdc | Row::LwuDdc | Row::LcDdc => false,
-        Row::SbDdc | Row::ShDdc | Row::SwDdc | Row::SdDdc | Row::ScDdc => false,
-        Row::LbCap | Row::LhCap | Row::LwCap | Row::LdCap => true,
-        Row::LbuCap | Row::LhuCap | Row::LwuCap | Row::LcCap => true,
-        Row::SbCap | Row::ShCap | Row::SwCap | Row::SdCap | Row::ScCap => true,
-        _ => capability_mode,
+    match row.transfer() {
+        Some(transfer) => match transfer.through {
+            Through::ByMode => capability_mode,
+            Through::Ddc => false,
+            Through::Rs1 => true,
+        },
+        None => false,
     }
 }

@@ -68,13 +68,13 @@ is_signed_32 : (n : ℕ) → n < 2 ^ 32 → IsSignedOf 32 (sign_extended 32 n)
 is_signed_32 n h = elim (sign_cases 32 n) [ inl p ↦ inl (omega arith) | inr p ↦ inr (omega arith, omega arith) ]
 
 -- the parts of a branch's offset and of a jump's
-branch-parts : (b12 b11 high low m : ℕ) → b12 < 2 ^ 1 → b11 < 2 ^ 1 → high < 2 ^ 6 → low < 2 ^ 4 → m % 2 ^ 13 ≡ b12 * 2 ^ 12 + b11 * 2 ^ 11 + high * 2 ^ 5 + low * 2 → (field m 11 1 ≡ b11) × (field m 1 4 ≡ low) × (field m 5 6 ≡ high) × (field m 12 1 ≡ b12)
+branch-parts : (b12 b11 high low m : ℕ) → b12 < 2 ^ 1 → b11 < 2 ^ 1 → high < 2 ^ 6 → low < 2 ^ 4 → m % 2 ^ 13 ≡ b11 * 2 ^ 11 + low * 2 + high * 2 ^ 5 + b12 * 2 ^ 12 → (field m 11 1 ≡ b11) × (field m 1 4 ≡ low) × (field m 5 6 ≡ high) × (field m 12 1 ≡ b12)
 branch-parts b12 b11 high low m h0 h1 h2 h3 e = (omega arith, omega arith, omega arith, omega arith)
 
-jump-parts : (b20 high b11 low m : ℕ) → b20 < 2 ^ 1 → high < 2 ^ 8 → b11 < 2 ^ 1 → low < 2 ^ 10 → m % 2 ^ 21 ≡ b20 * 2 ^ 20 + high * 2 ^ 12 + b11 * 2 ^ 11 + low * 2 → (field m 12 8 ≡ high) × (field m 11 1 ≡ b11) × (field m 1 10 ≡ low) × (field m 20 1 ≡ b20)
+jump-parts : (b20 high b11 low m : ℕ) → b20 < 2 ^ 1 → high < 2 ^ 8 → b11 < 2 ^ 1 → low < 2 ^ 10 → m % 2 ^ 21 ≡ high * 2 ^ 12 + b11 * 2 ^ 11 + low * 2 + b20 * 2 ^ 20 → (field m 12 8 ≡ high) × (field m 11 1 ≡ b11) × (field m 1 10 ≡ low) × (field m 20 1 ≡ b20)
 jump-parts b20 high b11 low m h0 h1 h2 h3 e = (omega arith, omega arith, omega arith, omega arith)
 
-store-parts : (high low m : ℕ) → high < 2 ^ 7 → low < 2 ^ 5 → m % 2 ^ 12 ≡ high * 2 ^ 5 + low → (m % 2 ^ 5 ≡ low) × (field m 5 7 ≡ high)
+store-parts : (high low m : ℕ) → high < 2 ^ 7 → low < 2 ^ 5 → m % 2 ^ 12 ≡ low + high * 2 ^ 5 → (m % 2 ^ 5 ≡ low) × (field m 5 7 ≡ high)
 store-parts high low m h0 h1 e = (omega arith, omega arith)
 
 upper-parts : (high m : ℕ) → high < 2 ^ 20 → m % 2 ^ 32 ≡ high * 2 ^ 12 → field m 12 20 ≡ high
@@ -88,7 +88,7 @@ word_of-insn_at Upper row w h =
     let p = upper-parts (field w 12 20) (sign_extended 32 n) (omega arith) (sign-mod_32 n (omega arith)) in
     omega (arith, p)
 word_of-insn_at Jump row w h =
-    let n = field w 31 1 * 2 ^ 20 + field w 12 8 * 2 ^ 12 + field w 20 1 * 2 ^ 11 + field w 21 10 * 2 in
+    let n = field w 12 8 * 2 ^ 12 + field w 20 1 * 2 ^ 11 + field w 21 10 * 2 + field w 31 1 * 2 ^ 20 in
     let p = jump-parts (field w 31 1) (field w 12 8) (field w 20 1) (field w 21 10) (sign_extended 21 n) (omega arith) (omega arith) (omega arith) (omega arith) (sign-mod_21 n (omega arith)) in
     omega (arith, p.0, p.1, p.2, p.3)
 word_of-insn_at Immediate row w h =
@@ -96,11 +96,11 @@ word_of-insn_at Immediate row w h =
     omega (arith, p)
 word_of-insn_at Unsigned row w h = omega arith
 word_of-insn_at Store row w h =
-    let n = field w 25 7 * 2 ^ 5 + field w 7 5 in
+    let n = field w 7 5 + field w 25 7 * 2 ^ 5 in
     let p = store-parts (field w 25 7) (field w 7 5) (sign_extended 12 n) (omega arith) (omega arith) (sign-mod_12 n (omega arith)) in
     omega (arith, p.0, p.1)
 word_of-insn_at Branch row w h =
-    let n = field w 31 1 * 2 ^ 12 + field w 7 1 * 2 ^ 11 + field w 25 6 * 2 ^ 5 + field w 8 4 * 2 in
+    let n = field w 7 1 * 2 ^ 11 + field w 8 4 * 2 + field w 25 6 * 2 ^ 5 + field w 31 1 * 2 ^ 12 in
     let p = branch-parts (field w 31 1) (field w 7 1) (field w 25 6) (field w 8 4) (sign_extended 13 n) (omega arith) (omega arith) (omega arith) (omega arith) (sign-mod_13 n (omega arith)) in
     omega (arith, p.0, p.1, p.2, p.3)
 word_of-insn_at Shift6 row w h = omega arith
@@ -118,7 +118,7 @@ OperandsFit-insn_at Upper row w =
     let p = sign-mod_32 n (omega arith) in
     record { rd_below = omega arith; rs1_below = omega arith; rs2_below = omega arith; imm_is = (omega (arith, p), is_signed_32 n (omega arith)) }
 OperandsFit-insn_at Jump row w =
-    let n = field w 31 1 * 2 ^ 20 + field w 12 8 * 2 ^ 12 + field w 20 1 * 2 ^ 11 + field w 21 10 * 2 in
+    let n = field w 12 8 * 2 ^ 12 + field w 20 1 * 2 ^ 11 + field w 21 10 * 2 + field w 31 1 * 2 ^ 20 in
     let p = sign-mod_21 n (omega arith) in
     record { rd_below = omega arith; rs1_below = omega arith; rs2_below = omega arith; imm_is = (omega (arith, p), is_signed_21 n (omega arith)) }
 OperandsFit-insn_at Immediate row w =
@@ -126,9 +126,9 @@ OperandsFit-insn_at Immediate row w =
 OperandsFit-insn_at Unsigned row w =
     record { rd_below = omega arith; rs1_below = omega arith; rs2_below = omega arith; imm_is = omega arith }
 OperandsFit-insn_at Store row w =
-    record { rd_below = omega arith; rs1_below = omega arith; rs2_below = omega arith; imm_is = is_signed_12 (field w 25 7 * 2 ^ 5 + field w 7 5) (omega arith) }
+    record { rd_below = omega arith; rs1_below = omega arith; rs2_below = omega arith; imm_is = is_signed_12 (field w 7 5 + field w 25 7 * 2 ^ 5) (omega arith) }
 OperandsFit-insn_at Branch row w =
-    let n = field w 31 1 * 2 ^ 12 + field w 7 1 * 2 ^ 11 + field w 25 6 * 2 ^ 5 + field w 8 4 * 2 in
+    let n = field w 7 1 * 2 ^ 11 + field w 8 4 * 2 + field w 25 6 * 2 ^ 5 + field w 31 1 * 2 ^ 12 in
     let p = sign-mod_13 n (omega arith) in
     record { rd_below = omega arith; rs1_below = omega arith; rs2_below = omega arith; imm_is = (omega (arith, p), is_signed_13 n (omega arith)) }
 OperandsFit-insn_at Shift6 row w =
@@ -179,7 +179,7 @@ word_of-made Jump v i e f =
     let m = i.imm in
     let w = v + i.rd * 2 ^ 7 + field m 12 8 * 2 ^ 12 + field m 11 1 * 2 ^ 20 + field m 1 10 * 2 ^ 21 + field m 20 1 * 2 ^ 31 in
     let g = jump-word v i.rd (field m 12 8) (field m 11 1) (field m 1 10) (field m 20 1) w (omega arith) f.rd_below (omega arith) (omega arith) (omega arith) (omega arith) refl in
-    let number : field w 31 1 * 2 ^ 20 + field w 12 8 * 2 ^ 12 + field w 20 1 * 2 ^ 11 + field w 21 10 * 2 ≡ m % 2 ^ 21 = omega (arith, g, f.imm_is.0) in
+    let number : field w 12 8 * 2 ^ 12 + field w 20 1 * 2 ^ 11 + field w 21 10 * 2 + field w 31 1 * 2 ^ 20 ≡ m % 2 ^ 21 = omega (arith, g, f.imm_is.0) in
     record {
       below = omega (arith, f.rd_below);
       value_is = g.0;
@@ -196,7 +196,7 @@ word_of-made Immediate v i e f =
       operands_are = same_insn i _ _ _ _ (omega arith) (omega arith) (omega (arith, f.rs2_below)) (ap (sign_extended 12) number ∙ sign_12-mod i.imm f.imm_is);
     }
 word_of-made Unsigned v i e f =
-    let w = v + i.rd * 2 ^ 7 + i.rs1 * 2 ^ 15 + i.imm * 2 ^ 20 in
+    let w = v + i.rd * 2 ^ 7 + i.rs1 * 2 ^ 15 + i.imm % 2 ^ 12 * 2 ^ 20 in
     let b : i.rd < 2 ^ 5 = f.rd_below in
     let b1 : i.rs1 < 2 ^ 5 = f.rs1_below in
     let b2 : i.imm < 2 ^ 12 = f.imm_is in
@@ -205,7 +205,7 @@ word_of-made Store v i e f =
     let m = i.imm in
     let w = v + m % 2 ^ 5 * 2 ^ 7 + i.rs1 * 2 ^ 15 + i.rs2 * 2 ^ 20 + field m 5 7 * 2 ^ 25 in
     let g = fields-word (v % 2 ^ 7) (m % 2 ^ 5) (field v 12 3) i.rs1 i.rs2 (field m 5 7) w (omega arith) (omega arith) (omega arith) f.rs1_below f.rs2_below (omega arith) (omega arith) in
-    let number : field w 25 7 * 2 ^ 5 + field w 7 5 ≡ m % 2 ^ 12 = omega (arith, g) in
+    let number : field w 7 5 + field w 25 7 * 2 ^ 5 ≡ m % 2 ^ 12 = omega (arith, g) in
     record {
       below = omega (arith, f.rs1_below, f.rs2_below);
       value_is = omega (arith, g);
@@ -216,22 +216,22 @@ word_of-made Branch v i e f =
     let w = v + field m 11 1 * 2 ^ 7 + field m 1 4 * 2 ^ 8 + i.rs1 * 2 ^ 15 + i.rs2 * 2 ^ 20 + field m 5 6 * 2 ^ 25 + field m 12 1 * 2 ^ 31 in
     let g = fields-word (v % 2 ^ 7) (field m 11 1 + field m 1 4 * 2) (field v 12 3) i.rs1 i.rs2 (field m 5 6 + field m 12 1 * 2 ^ 6) w (omega arith) (omega arith) (omega arith) f.rs1_below f.rs2_below (omega arith) (omega arith) in
     let k = branch-word (v % 2 ^ 7) (field v 12 3) (field m 11 1) (field m 1 4) i.rs1 i.rs2 (field m 5 6) (field m 12 1) w (omega arith) (omega arith) (omega arith) (omega arith) f.rs1_below f.rs2_below (omega arith) (omega arith) (omega arith) in
-    let number : field w 31 1 * 2 ^ 12 + field w 7 1 * 2 ^ 11 + field w 25 6 * 2 ^ 5 + field w 8 4 * 2 ≡ m % 2 ^ 13 = omega (arith, k, f.imm_is.0) in
+    let number : field w 7 1 * 2 ^ 11 + field w 8 4 * 2 + field w 25 6 * 2 ^ 5 + field w 31 1 * 2 ^ 12 ≡ m % 2 ^ 13 = omega (arith, k, f.imm_is.0) in
     record {
       below = omega (arith, f.rs1_below, f.rs2_below);
       value_is = omega (arith, g);
       operands_are = same_insn i _ _ _ _ (omega (arith, f.rd_below)) g.3 g.4 (ap (sign_extended 13) number ∙ sign_13-mod m f.imm_is.1);
     }
 word_of-made Shift6 v i e f =
-    let w = v + i.rd * 2 ^ 7 + i.rs1 * 2 ^ 15 + i.imm * 2 ^ 20 in
+    let w = v + i.rd * 2 ^ 7 + i.rs1 * 2 ^ 15 + i.imm % 2 ^ 6 * 2 ^ 20 in
     let b : i.rd < 2 ^ 5 = f.rd_below in
     let b1 : i.rs1 < 2 ^ 5 = f.rs1_below in
     let b2 : i.imm < 2 ^ 6 = f.imm_is in
     record { below = omega arith; value_is = omega arith; operands_are = same_insn i _ _ _ _ (omega arith) (omega arith) (omega (arith, f.rs2_below)) (omega arith) }
 word_of-made Shift5 v i e f =
-    let w = v + i.rd * 2 ^ 7 + i.rs1 * 2 ^ 15 + i.imm * 2 ^ 20 in
-    let g = fields-word (v % 2 ^ 7) i.rd (field v 12 3) i.rs1 i.imm (field v 25 7) w (omega arith) f.rd_below (omega arith) f.rs1_below f.imm_is (omega arith) (omega arith) in
-    record { below = omega (arith, f.rd_below, f.rs1_below, f.imm_is); value_is = omega (arith, g); operands_are = same_insn i _ _ _ _ g.1 g.3 (omega (arith, f.rs2_below)) g.4 }
+    let w = v + i.rd * 2 ^ 7 + i.rs1 * 2 ^ 15 + i.imm % 2 ^ 5 * 2 ^ 20 in
+    let g = fields-word (v % 2 ^ 7) i.rd (field v 12 3) i.rs1 (i.imm % 2 ^ 5) (field v 25 7) w (omega arith) f.rd_below (omega arith) f.rs1_below (omega arith) (omega arith) (omega arith) in
+    record { below = omega (arith, f.rd_below, f.rs1_below, f.imm_is); value_is = omega (arith, g); operands_are = same_insn i _ _ _ _ g.1 g.3 (omega (arith, f.rs2_below)) (omega (arith, g, f.imm_is)) }
 word_of-made Register v i e f =
     let w = v + i.rd * 2 ^ 7 + i.rs1 * 2 ^ 15 + i.rs2 * 2 ^ 20 in
     let g = fields-word (v % 2 ^ 7) i.rd (field v 12 3) i.rs1 i.rs2 (field v 25 7) w (omega arith) f.rd_below (omega arith) f.rs1_below f.rs2_below (omega arith) (omega arith) in

@@ -1,3 +1,4 @@
+pub mod Forms
 pub mod Insn
 pub mod InsnLaws
 pub mod Kind
@@ -9,3 +10,5 @@ pub mod WordLaws
 pub mod Decoded
 pub mod DecodedLaws
 pub mod RowLaws
+pub mod Shape
+pub mod Transfers

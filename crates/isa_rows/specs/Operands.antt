@@ -1,9 +1,9 @@
 -- The operands that a format can have, and the word made of a row's value and its operands.
-use Rattle.std.specs.Prelude.{◌≡◌, ℕ, ◌+◌, ◌-◌, ◌*◌, ◌%◌, ◌^◌, ◌<◌, ◌≤◌, ◌⊎◌}
+use Rattle.std.specs.Prelude.{◌≡◌, ℕ, zero, suc, ◌+◌, ◌-◌, ◌*◌, ◌/◌, ◌%◌, ◌^◌, ◌<◌, ◌≤◌, ◌⊎◌}
+use Rattle.std.specs.Prelude.{Bool, true, false, List, [], ◌∷◌, if◌then◌else◌}
 use Rattle.isa_rows.specs.declared.formats.Format.{Format}
-use Rattle.isa_rows.specs.declared.formats.Format.TheVariants.{Upper, Jump, Immediate, Unsigned, Store, Branch, Shift6, Shift5, Register, Whole, Unary, Pair}
 use Rattle.isa_rows.specs.declared.operands.Insn.{Insn}
-use Rattle.isa_rows.specs.Insn.{field}
+use Rattle.isa_rows.specs.Shape.{Field, Rd, Rs1, Rs2, Imm, fields_of, is_signed, has_rd, has_rs1, has_rs2, bits_of, zeros_below}
 
 -- a number modulo 2 ^ 64 whose signed reading needs so many bits
 abbrev pub IsSignedOf : ℕ → ℕ → Type 0
@@ -26,35 +26,42 @@ pub record Operands (rd rs1 rs2 : ℕ) (imm : Type 0) (insn : Insn) : Type 0 whe
   pub rs2_below : insn.rs2 < rs2
   pub imm_is : imm
 
--- the operands that a format can have: a field that it has not holds 0, the one number below 1
+-- the bound of a register: one that a word has not is 0, the one number below 1
+abbrev pub bound : Bool → ℕ
+bound has = if has then 32 else 1
+
+-- a signed number of so many bits, of which some low ones are 0
+abbrev pub IsSignedAbove : ℕ → ℕ → ℕ → Type 0
+IsSignedAbove zero bits n = IsSignedOf bits n
+IsSignedAbove (suc zeros) bits n = (n % 2 ^ (suc zeros) ≡ 0) × IsSignedOf bits n
+
+-- the immediates that the fields of a word can hold, read as signed or not
+abbrev pub IsInRange : Bool → List Field → ℕ → Type 0
+IsInRange true fields n = IsSignedAbove (zeros_below (bits_of fields) fields) (bits_of fields) n
+IsInRange false fields n = n < 2 ^ bits_of fields
+
+-- the operands that a format can have
 unfoldable pub OperandsFit : Format → Insn → Type 0
-OperandsFit Upper i = Operands 32 1 1 (IsUpperImmediate i.imm) i
-OperandsFit Jump i = Operands 32 1 1 (IsJumpOffset i.imm) i
-OperandsFit Immediate i = Operands 32 32 1 (IsSignedOf 12 i.imm) i
-OperandsFit Unsigned i = Operands 32 32 1 (i.imm < 2 ^ 12) i
-OperandsFit Store i = Operands 1 32 32 (IsSignedOf 12 i.imm) i
-OperandsFit Branch i = Operands 1 32 32 (IsBranchOffset i.imm) i
-OperandsFit Shift6 i = Operands 32 32 1 (i.imm < 2 ^ 6) i
-OperandsFit Shift5 i = Operands 32 32 1 (i.imm < 2 ^ 5) i
-OperandsFit Register i = Operands 32 32 32 (i.imm < 1) i
-OperandsFit Whole i = Operands 1 1 1 (i.imm < 1) i
-OperandsFit Unary i = Operands 32 32 1 (i.imm < 1) i
-OperandsFit Pair i = Operands 1 32 32 (i.imm < 1) i
+OperandsFit format i =
+    Operands (bound (has_rd (fields_of format))) (bound (has_rs1 (fields_of format))) (bound (has_rs2 (fields_of format)))
+    (IsInRange (is_signed format) (fields_of format) i.imm) i
+
+-- a number moved down by some bits (apart for none, as n / 1 does not compute to n)
+abbrev pub moved_down : ℕ → ℕ → ℕ
+moved_down zero n = n
+moved_down (suc bits) n = n / 2 ^ (suc bits)
+
+-- an operand in its field
+abbrev pub placed : Field → Insn → ℕ
+placed Rd i = i.rd * 2 ^ 7
+placed Rs1 i = i.rs1 * 2 ^ 15
+placed Rs2 i = i.rs2 * 2 ^ 20
+placed (Imm at low count) i = moved_down low i.imm % 2 ^ count * 2 ^ at
+
+abbrev pub all_placed : List Field → ℕ → Insn → ℕ
+all_placed [] value i = value
+all_placed (field ∷ fields) value i = all_placed fields (value + placed field i) i
 
 -- a row's value with the operands put into the fields of its format
 unfoldable pub word_of : Format → ℕ → Insn → ℕ
-word_of Upper value i = value + i.rd * 2 ^ 7 + field i.imm 12 20 * 2 ^ 12
-word_of Jump value i =
-    value + i.rd * 2 ^ 7 + field i.imm 12 8 * 2 ^ 12 + field i.imm 11 1 * 2 ^ 20 + field i.imm 1 10 * 2 ^ 21 + field i.imm 20 1 * 2 ^ 31
-word_of Immediate value i = value + i.rd * 2 ^ 7 + i.rs1 * 2 ^ 15 + i.imm % 2 ^ 12 * 2 ^ 20
-word_of Unsigned value i = value + i.rd * 2 ^ 7 + i.rs1 * 2 ^ 15 + i.imm * 2 ^ 20
-word_of Store value i =
-    value + i.imm % 2 ^ 5 * 2 ^ 7 + i.rs1 * 2 ^ 15 + i.rs2 * 2 ^ 20 + field i.imm 5 7 * 2 ^ 25
-word_of Branch value i =
-    value + field i.imm 11 1 * 2 ^ 7 + field i.imm 1 4 * 2 ^ 8 + i.rs1 * 2 ^ 15 + i.rs2 * 2 ^ 20 + field i.imm 5 6 * 2 ^ 25 + field i.imm 12 1 * 2 ^ 31
-word_of Shift6 value i = value + i.rd * 2 ^ 7 + i.rs1 * 2 ^ 15 + i.imm * 2 ^ 20
-word_of Shift5 value i = value + i.rd * 2 ^ 7 + i.rs1 * 2 ^ 15 + i.imm * 2 ^ 20
-word_of Register value i = value + i.rd * 2 ^ 7 + i.rs1 * 2 ^ 15 + i.rs2 * 2 ^ 20
-word_of Whole value i = value
-word_of Unary value i = value + i.rd * 2 ^ 7 + i.rs1 * 2 ^ 15
-word_of Pair value i = value + i.rs1 * 2 ^ 15 + i.rs2 * 2 ^ 20
+word_of format value i = all_placed (fields_of format) value i

@@ -3,26 +3,12 @@ use Rattle.std.proofs.Common.{◌≡◌, ℕ, ◌+◌, ◌*◌, ◌/◌, ◌%◌
 use Rattle.std.specs.Prelude.{bit_and}
 use Rattle.std.proofs.lemmas.Nat.{and_block, and_mask, shr_split, mod_below, pow_pos}
 use Rattle.isa_rows.specs.declared.formats.Format.{Format}
-use Rattle.isa_rows.specs.declared.formats.Format.TheVariants.{Upper, Jump, Immediate, Unsigned, Store, Branch, Shift6, Shift5, Register, Whole, Unary, Pair}
+use Rattle.isa_rows.specs.declared.formats.Format.TheVariants.{Upper, Jump, Immediate, Unsigned, Store, Branch, Shift6, Shift5, Register}
+use Rattle.isa_rows.specs.declared.formats.Format.TheVariants.{Whole, Unary, Pair}
 use Rattle.isa_rows.specs.declared.rows.Row.{Row}
 use Rattle.isa_rows.specs.declared.rows.Row.TheVariants.{Lui}
-use Rattle.isa_rows.specs.Line.{line_of, IsRow}
+use Rattle.isa_rows.specs.Line.{mask_of, line_of, IsRow}
 use Rattle.isa_rows.specs.Insn.{field}
-
--- the mask of a format's lines
-abbrev pub mask_of : Format → ℕ
-mask_of Upper = 0x0000007F
-mask_of Jump = 0x0000007F
-mask_of Immediate = 0x0000707F
-mask_of Unsigned = 0x0000707F
-mask_of Store = 0x0000707F
-mask_of Branch = 0x0000707F
-mask_of Shift6 = 0xFC00707F
-mask_of Shift5 = 0xFE00707F
-mask_of Register = 0xFE00707F
-mask_of Whole = 0xFFFFFFFF
-mask_of Unary = 0xFFF0707F
-mask_of Pair = 0xFE007FFF
 
 -- opcode and funct3
 abbrev pub low_fields : ℕ → ℕ

@@ -7,7 +7,7 @@ use crate::fields::field;
 use isa_rows::Row;
 
 // Opcode 0x5B, by funct3.
-#[tactic(auto, unfolding(crate::specs::Decision::capability_rows))]
+#[tactic(auto, unfolding(crate::specs::Decision::capability_rows, isa_rows::specs::Line::line_of))]
 #[inline]
 pub(crate) fn capability_row(word: u32) -> Option<Row>
     ensures { result ≡ row_by capability_rows word }
@@ -21,7 +21,7 @@ pub(crate) fn capability_row(word: u32) -> Option<Row>
 }
 
 // Opcode 0x5B, funct3 0, by funct7.
-#[tactic(auto, unfolding(crate::specs::Decision::by_funct7))]
+#[tactic(auto, unfolding(crate::specs::Decision::by_funct7, isa_rows::specs::Line::line_of))]
 #[inline]
 fn funct7_row(word: u32) -> Option<Row>
     ensures { result ≡ row_by by_funct7 word }
@@ -49,7 +49,7 @@ fn funct7_row(word: u32) -> Option<Row>
 }
 
 // Opcode 0x5B, funct3 0, funct7 0x7C, by the rd field.
-#[tactic(auto, unfolding(crate::specs::Decision::explicit_stores))]
+#[tactic(auto, unfolding(crate::specs::Decision::explicit_stores, isa_rows::specs::Line::line_of))]
 #[inline]
 fn explicit_store_row(word: u32) -> Option<Row>
     ensures { result ≡ row_by explicit_stores word }
@@ -70,7 +70,7 @@ fn explicit_store_row(word: u32) -> Option<Row>
 }
 
 // Opcode 0x5B, funct3 0, funct7 0x7D, by the rs2 field.
-#[tactic(auto, unfolding(crate::specs::Decision::explicit_loads))]
+#[tactic(auto, unfolding(crate::specs::Decision::explicit_loads, isa_rows::specs::Line::line_of))]
 #[inline]
 fn explicit_load_row(word: u32) -> Option<Row>
     ensures { result ≡ row_by explicit_loads word }
@@ -97,7 +97,7 @@ fn explicit_load_row(word: u32) -> Option<Row>
 }
 
 // Opcode 0x5B, funct3 0, funct7 0x7E, by the rd field.
-#[tactic(auto, unfolding(crate::specs::Decision::invocations))]
+#[tactic(auto, unfolding(crate::specs::Decision::invocations, isa_rows::specs::Line::line_of))]
 #[inline]
 fn invocation_row(word: u32) -> Option<Row>
     ensures { result ≡ row_by invocations word }
@@ -109,7 +109,7 @@ fn invocation_row(word: u32) -> Option<Row>
 }
 
 // Opcode 0x5B, funct3 0, funct7 0x7F, by the rs2 field.
-#[tactic(auto, unfolding(crate::specs::Decision::one_operand))]
+#[tactic(auto, unfolding(crate::specs::Decision::one_operand, isa_rows::specs::Line::line_of))]
 #[inline]
 fn one_operand_row(word: u32) -> Option<Row>
     ensures { result ≡ row_by one_operand word }

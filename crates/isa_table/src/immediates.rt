@@ -1,14 +1,15 @@
 //! The immediates of a word's formats (unprivileged manual, Immediate Encoding Variants).
 
 ghost use Rattle.std.specs.Prelude.{◌≡◌, ◌^◌, ◌<◌};
-ghost use Rattle.isa_rows.specs.Insn.{sign_extended, immediate_at, store_immediate_at, branch_offset_at, upper_immediate_at, jump_offset_at};
+ghost use Rattle.isa_rows.specs.Insn.{sign_extended, immediate_at};
+ghost use Rattle.isa_rows.specs.declared.formats.Format.TheVariants as format;
 
 use crate::fields::field;
 
 /// The 12 bits of the I form.
 #[inline]
 pub(crate) fn immediate(word: u32) -> u64
-    ensures { result ≡ immediate_at word }
+    ensures { result ≡ immediate_at format.Immediate word }
 {
     sign_extended_12(field(word, 20, 12))
 }
@@ -16,7 +17,7 @@ pub(crate) fn immediate(word: u32) -> u64
 /// The 12 bits of the S form.
 #[inline]
 pub(crate) fn store_immediate(word: u32) -> u64
-    ensures { result ≡ store_immediate_at word }
+    ensures { result ≡ immediate_at format.Store word }
 {
     sign_extended_12((field(word, 25, 7) << 5) + field(word, 7, 5))
 }
@@ -24,7 +25,7 @@ pub(crate) fn store_immediate(word: u32) -> u64
 /// The 13 bits of the B form, of which the lowest is 0.
 #[inline]
 pub(crate) fn branch_offset(word: u32) -> u64
-    ensures { result ≡ branch_offset_at word }
+    ensures { result ≡ immediate_at format.Branch word }
 {
     let high = (field(word, 31, 1) << 12) + (field(word, 7, 1) << 11);
     let low = (field(word, 25, 6) << 5) + (field(word, 8, 4) << 1);
@@ -34,7 +35,7 @@ pub(crate) fn branch_offset(word: u32) -> u64
 /// The 32 bits of the U form, of which the low 12 are 0.
 #[inline]
 pub(crate) fn upper_immediate(word: u32) -> u64
-    ensures { result ≡ upper_immediate_at word }
+    ensures { result ≡ immediate_at format.Upper word }
 {
     sign_extended_32(field(word, 12, 20) << 12)
 }
@@ -42,7 +43,7 @@ pub(crate) fn upper_immediate(word: u32) -> u64
 /// The 21 bits of the J form, of which the lowest is 0.
 #[inline]
 pub(crate) fn jump_offset(word: u32) -> u64
-    ensures { result ≡ jump_offset_at word }
+    ensures { result ≡ immediate_at format.Jump word }
 {
     let high = (field(word, 31, 1) << 20) + (field(word, 12, 8) << 12);
     let low = (field(word, 20, 1) << 11) + (field(word, 21, 10) << 1);

@@ -7,7 +7,7 @@ use crate::fields::field;
 use isa_rows::Row;
 
 // Opcode 0x13, by funct3.
-#[tactic(auto, unfolding(crate::specs::Decision::immediates))]
+#[tactic(auto, unfolding(crate::specs::Decision::immediates, isa_rows::specs::Line::line_of))]
 #[inline]
 pub(crate) fn immediate_row(word: u32) -> Option<Row>
     ensures { result ≡ row_by immediates word }
@@ -26,7 +26,7 @@ pub(crate) fn immediate_row(word: u32) -> Option<Row>
 }
 
 // Opcode 0x13, funct3 1, by bits 31..26.
-#[tactic(auto, unfolding(crate::specs::Decision::left_shifts))]
+#[tactic(auto, unfolding(crate::specs::Decision::left_shifts, isa_rows::specs::Line::line_of))]
 #[inline]
 fn left_shift_row(word: u32) -> Option<Row>
     ensures { result ≡ row_by left_shifts word }
@@ -38,7 +38,7 @@ fn left_shift_row(word: u32) -> Option<Row>
 }
 
 // Opcode 0x13, funct3 5, by bits 31..26.
-#[tactic(auto, unfolding(crate::specs::Decision::right_shifts))]
+#[tactic(auto, unfolding(crate::specs::Decision::right_shifts, isa_rows::specs::Line::line_of))]
 #[inline]
 fn right_shift_row(word: u32) -> Option<Row>
     ensures { result ≡ row_by right_shifts word }
@@ -51,7 +51,7 @@ fn right_shift_row(word: u32) -> Option<Row>
 }
 
 // Opcode 0x1B, by funct3.
-#[tactic(auto, unfolding(crate::specs::Decision::word_immediates))]
+#[tactic(auto, unfolding(crate::specs::Decision::word_immediates, isa_rows::specs::Line::line_of))]
 #[inline]
 pub(crate) fn word_immediate_row(word: u32) -> Option<Row>
     ensures { result ≡ row_by word_immediates word }
@@ -65,7 +65,7 @@ pub(crate) fn word_immediate_row(word: u32) -> Option<Row>
 }
 
 // Opcode 0x1B, funct3 1, by funct7.
-#[tactic(auto, unfolding(crate::specs::Decision::left_word_shifts))]
+#[tactic(auto, unfolding(crate::specs::Decision::left_word_shifts, isa_rows::specs::Line::line_of))]
 #[inline]
 fn left_word_shift_row(word: u32) -> Option<Row>
     ensures { result ≡ row_by left_word_shifts word }
@@ -77,7 +77,7 @@ fn left_word_shift_row(word: u32) -> Option<Row>
 }
 
 // Opcode 0x1B, funct3 5, by funct7.
-#[tactic(auto, unfolding(crate::specs::Decision::right_word_shifts))]
+#[tactic(auto, unfolding(crate::specs::Decision::right_word_shifts, isa_rows::specs::Line::line_of))]
 #[inline]
 fn right_word_shift_row(word: u32) -> Option<Row>
     ensures { result ≡ row_by right_word_shifts word }
@@ -104,7 +104,7 @@ pub(crate) fn operation_row(word: u32) -> Option<Row>
 }
 
 // Opcode 0x33, funct7 0, by funct3.
-#[tactic(auto, unfolding(crate::specs::Decision::registers))]
+#[tactic(auto, unfolding(crate::specs::Decision::registers, isa_rows::specs::Line::line_of))]
 #[inline]
 fn register_row(word: u32) -> Option<Row>
     ensures { result ≡ row_by registers word }
@@ -123,7 +123,7 @@ fn register_row(word: u32) -> Option<Row>
 }
 
 // Opcode 0x33, funct7 1, by funct3.
-#[tactic(auto, unfolding(crate::specs::Decision::products))]
+#[tactic(auto, unfolding(crate::specs::Decision::products, isa_rows::specs::Line::line_of))]
 #[inline]
 fn product_row(word: u32) -> Option<Row>
     ensures { result ≡ row_by products word }
@@ -142,7 +142,7 @@ fn product_row(word: u32) -> Option<Row>
 }
 
 // Opcode 0x33, funct7 0x20, by funct3.
-#[tactic(auto, unfolding(crate::specs::Decision::other_registers))]
+#[tactic(auto, unfolding(crate::specs::Decision::other_registers, isa_rows::specs::Line::line_of))]
 #[inline]
 fn other_register_row(word: u32) -> Option<Row>
     ensures { result ≡ row_by other_registers word }
@@ -169,7 +169,7 @@ pub(crate) fn word_operation_row(word: u32) -> Option<Row>
 }
 
 // Opcode 0x3B, funct7 0, by funct3.
-#[tactic(auto, unfolding(crate::specs::Decision::word_registers))]
+#[tactic(auto, unfolding(crate::specs::Decision::word_registers, isa_rows::specs::Line::line_of))]
 #[inline]
 fn word_register_row(word: u32) -> Option<Row>
     ensures { result ≡ row_by word_registers word }
@@ -183,7 +183,7 @@ fn word_register_row(word: u32) -> Option<Row>
 }
 
 // Opcode 0x3B, funct7 1, by funct3.
-#[tactic(auto, unfolding(crate::specs::Decision::word_products))]
+#[tactic(auto, unfolding(crate::specs::Decision::word_products, isa_rows::specs::Line::line_of))]
 #[inline]
 fn word_product_row(word: u32) -> Option<Row>
     ensures { result ≡ row_by word_products word }
@@ -199,7 +199,7 @@ fn word_product_row(word: u32) -> Option<Row>
 }
 
 // Opcode 0x3B, funct7 0x20, by funct3.
-#[tactic(auto, unfolding(crate::specs::Decision::other_word_registers))]
+#[tactic(auto, unfolding(crate::specs::Decision::other_word_registers, isa_rows::specs::Line::line_of))]
 #[inline]
 fn other_word_register_row(word: u32) -> Option<Row>
     ensures { result ≡ row_by other_word_registers word }

@@ -7,7 +7,7 @@ use crate::fields::field;
 use isa_rows::Row;
 
 // Opcode 0x67, by funct3.
-#[tactic(auto, unfolding(crate::specs::Decision::jumps))]
+#[tactic(auto, unfolding(crate::specs::Decision::jumps, isa_rows::specs::Line::line_of))]
 #[inline]
 pub(crate) fn jump_row(word: u32) -> Option<Row>
     ensures { result ≡ row_by jumps word }
@@ -19,7 +19,7 @@ pub(crate) fn jump_row(word: u32) -> Option<Row>
 }
 
 // Opcode 0x63, by funct3.
-#[tactic(auto, unfolding(crate::specs::Decision::branches))]
+#[tactic(auto, unfolding(crate::specs::Decision::branches, isa_rows::specs::Line::line_of))]
 #[inline]
 pub(crate) fn branch_row(word: u32) -> Option<Row>
     ensures { result ≡ row_by branches word }
@@ -36,7 +36,7 @@ pub(crate) fn branch_row(word: u32) -> Option<Row>
 }
 
 // Opcode 0x03, by funct3.
-#[tactic(auto, unfolding(crate::specs::Decision::loads))]
+#[tactic(auto, unfolding(crate::specs::Decision::loads, isa_rows::specs::Line::line_of))]
 #[inline]
 pub(crate) fn load_row(word: u32) -> Option<Row>
     ensures { result ≡ row_by loads word }
@@ -54,7 +54,7 @@ pub(crate) fn load_row(word: u32) -> Option<Row>
 }
 
 // Opcode 0x23, by funct3.
-#[tactic(auto, unfolding(crate::specs::Decision::stores))]
+#[tactic(auto, unfolding(crate::specs::Decision::stores, isa_rows::specs::Line::line_of))]
 #[inline]
 pub(crate) fn store_row(word: u32) -> Option<Row>
     ensures { result ≡ row_by stores word }
@@ -70,7 +70,7 @@ pub(crate) fn store_row(word: u32) -> Option<Row>
 }
 
 // Opcode 0x0F, by funct3.
-#[tactic(auto, unfolding(crate::specs::Decision::fences))]
+#[tactic(auto, unfolding(crate::specs::Decision::fences, isa_rows::specs::Line::line_of))]
 #[inline]
 pub(crate) fn fence_row(word: u32) -> Option<Row>
     ensures { result ≡ row_by fences word }

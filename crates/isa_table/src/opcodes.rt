@@ -11,7 +11,7 @@ use crate::system_rows::system_row;
 use isa_rows::Row;
 
 // By opcode.
-#[tactic(auto, unfolding(crate::specs::Decision::table))]
+#[tactic(auto, unfolding(crate::specs::Decision::table, isa_rows::specs::Line::line_of))]
 #[inline]
 pub(crate) fn row_of(word: u32) -> Option<Row>
     ensures { result ≡ row_by table word }

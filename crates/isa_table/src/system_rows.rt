@@ -7,7 +7,7 @@ use crate::fields::field;
 use isa_rows::Row;
 
 // Opcode 0x73, by funct3.
-#[tactic(auto, unfolding(crate::specs::Decision::system))]
+#[tactic(auto, unfolding(crate::specs::Decision::system, isa_rows::specs::Line::line_of))]
 #[inline]
 pub(crate) fn system_row(word: u32) -> Option<Row>
     ensures { result ≡ row_by system word }
@@ -25,7 +25,7 @@ pub(crate) fn system_row(word: u32) -> Option<Row>
 }
 
 // Opcode 0x73, funct3 0, by the whole word.
-#[tactic(auto, unfolding(crate::specs::Decision::whole_words))]
+#[tactic(auto, unfolding(crate::specs::Decision::whole_words, isa_rows::specs::Line::line_of))]
 #[inline]
 fn whole_word_row(word: u32) -> Option<Row>
     ensures { result ≡ row_by whole_words word }

@@ -4,8 +4,8 @@ use Rattle.std.proofs.Common.{length-append}
 use Rattle.std.specs.Prelude.{Err, ◌==◌, nat_lt, slice_index}
 use Rattle.std.specs.List.{prefix_len}
 use Rattle.std.proofs.lemmas.Bool.Decides.{nat_tests}
-use Rattle.asm_names.specs.declared.slots.Naming.{Naming}
-use Rattle.asm_names.specs.declared.slots.Slot.TheVariants.{Address, Authority}
+use Rattle.isa_rows.specs.declared.slots.Naming.{Naming}
+use Rattle.isa_rows.specs.declared.slots.Slot.TheVariants.{Address, Authority}
 use Rattle.asm_names.specs.Registers.{register_named}
 use Rattle.asm_lines.specs.declared.fault.LineFault.TheVariants.{A2}
 use Rattle.asm_lines.specs.Text.{trimmed, trimmed_start}

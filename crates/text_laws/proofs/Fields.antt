@@ -10,9 +10,9 @@ use Rattle.isa_rows.specs.declared.formats.Format.TheVariants.{Shift5 as FShift5
 use Rattle.isa_rows.specs.declared.formats.Format.TheVariants.{Pair as FPair}
 use Rattle.isa_rows.specs.declared.operands.Insn.{Insn}
 use Rattle.isa_rows.specs.Operands.{IsSignedOf, IsUpperImmediate, OperandsFit}
-use Rattle.asm_names.specs.declared.slots.Slot.{Slot}
-use Rattle.asm_names.specs.declared.slots.Slot.TheVariants.{Rd, Rs1, Rs2, Signed, Unsigned, Upper, Small, Csr, Special, Address, Authority}
-use Rattle.asm_names.specs.declared.slots.Slot.TheVariants.{Target}
+use Rattle.isa_rows.specs.declared.slots.Slot.{Slot}
+use Rattle.isa_rows.specs.declared.slots.Slot.TheVariants.{Rd, Rs1, Rs2, Signed, Unsigned, Upper, Small, Csr, Special, Address, Authority}
+use Rattle.isa_rows.specs.declared.slots.Slot.TheVariants.{Target}
 use Rattle.asm_lines.specs.Operand.{Draft, fault_of, told_fault, draft_after, filled_draft, filled_fault}
 use Rattle.disassembler.specs.Shown.{shown_slot}
 use Rattle.text_laws.proofs.SlotBack.{SlotFits, with_slot, slot_back}

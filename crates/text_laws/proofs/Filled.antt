@@ -10,9 +10,9 @@ use Rattle.isa_rows.specs.declared.rows.Row.TheVariants.{Lui}
 use Rattle.isa_rows.specs.Line.{line_of}
 use Rattle.isa_rows.specs.Insn.{insn}
 use Rattle.isa_rows.specs.Operands.{OperandsFit}
-use Rattle.asm_names.specs.declared.slots.Slot.{Slot}
-use Rattle.asm_names.specs.declared.slots.Slot.TheVariants.{Rd, Rs1, Rs2, Signed, Unsigned, Upper, Small, Csr, Special, Address, Authority}
-use Rattle.asm_names.specs.declared.slots.Slot.TheVariants.{Target}
+use Rattle.isa_rows.specs.declared.slots.Slot.{Slot}
+use Rattle.isa_rows.specs.declared.slots.Slot.TheVariants.{Rd, Rs1, Rs2, Signed, Unsigned, Upper, Small, Csr, Special, Address, Authority}
+use Rattle.isa_rows.specs.declared.slots.Slot.TheVariants.{Target}
 use Rattle.asm_names.specs.Slots.{slots_of}
 use Rattle.asm_lines.specs.Number.{Expression}
 use Rattle.asm_lines.specs.Operand.{Draft}
@@ -147,7 +147,7 @@ row_suits r =
     (covers (line_of r).format (slots_of r) && (covers_imm (line_of r).format (slots_of r) && nat_le (length (slots_of r)) 3))
 
 rows_suit : (r : Row) → row_suits r ≡ true
-unfolding line_of slots_of
+unfolding line_of
 rows_suit Lui = refl
 rows_suit _ = refl
 

@@ -13,10 +13,9 @@ use Rattle.isa_rows.specs.DecodedLaws.{insn_of-IsInsn}
 use Rattle.isa_rows.specs.Insn.{IsInsn}
 use Rattle.isa_rows.specs.InsnLaws.{OperandsFit-Fits}
 use Rattle.isa_rows.specs.Line.{line_of}
-use Rattle.isa_rows.specs.Name.{name_of}
 use Rattle.isa_rows.specs.Operands.{OperandsFit}
-use Rattle.asm_names.specs.declared.slots.Slot.{Slot}
-use Rattle.asm_names.specs.Mnemonic.{capability_name_of, mnemonic}
+use Rattle.isa_rows.specs.declared.slots.Slot.{Slot}
+use Rattle.asm_names.specs.Mnemonic.{mnemonic}
 use Rattle.asm_names.specs.Slots.{slots_of}
 use Rattle.asm_lines.specs.declared.fault.LineFault.TheVariants.{A3}
 use Rattle.asm_lines.specs.Text.{pieces_of}
@@ -38,7 +37,7 @@ use Rattle.text_laws.proofs.Filled.{nought, statement_of_draft, statement_back, 
 
 -- a row's name is a word, no directive, and no alias but for one that is told from the row by its operands
 mnemonic_is_plain : (mode : Bool) (r : Row) → (nat_lt 0 (length (mnemonic mode r)) && every is_plain (mnemonic mode r)) ≡ true
-unfolding name_of capability_name_of
+unfolding line_of
 mnemonic_is_plain true Lui = refl
 mnemonic_is_plain true _ = refl
 mnemonic_is_plain false Lui = refl
@@ -52,7 +51,7 @@ plain_mnemonic mode r = plain_parts (mnemonic mode r) (mnemonic_is_plain mode r)
 
 no_directive : (mode : Bool) (r : Row) (operands : List ℕ)
     → said_by (mnemonic mode r) operands ≡ pattern_said (pattern_of (mnemonic mode r) (length operands == 0)) operands
-unfolding said_by name_of capability_name_of
+unfolding said_by line_of
 no_directive true Lui operands = refl
 no_directive true _ operands = refl
 no_directive false Lui operands = refl
@@ -63,7 +62,7 @@ is_empty [] = true
 is_empty (s ∷ ss) = false
 
 pattern_back : (mode : Bool) (r : Row) → pattern_of (mnemonic mode r) (is_empty (slots_of r)) ≡ Some (plain r (slots_of r))
-unfolding pattern_of name_of capability_name_of slots_of
+unfolding pattern_of line_of
 pattern_back true Lui = refl
 pattern_back true _ = refl
 pattern_back false Lui = refl
@@ -170,7 +169,7 @@ word_back word h =
     let size = length_word word in
     ap (λ l. line_meaning (codes ".word" ++ 32 ∷ l)) (sym (append_nil (word_text word)))
     ∙ operands_line (codes ".word") (word_text word) [] (record { some = omega arith; bytes = refl }) (plain_word word) tt
-    (omega (arith, length-append (word_text word) []))
+        (omega (arith, length-append (word_text word) []))
     ∙ ap (λ l. labelled None (said_by (codes ".word") l)) (append_nil (word_text word))
     ∙ ap (labelled None) (word_said 48 (120 ∷ hex_of 8 word))
     ∙ ap (λ f. labelled None (said_unless (values 4 (word_text word)) f)) (no_fault word h)

@@ -5,7 +5,7 @@ use Rattle.std.specs.Prelude.{pos, Ok, nat_lt, is_none, slice_get, decimal}
 use Rattle.std.specs.Fmt.{digits}
 use Rattle.std.proofs.lemmas.Bool.Decides.{nat_tests}
 use Rattle.std.proofs.Math.Nat.{eq-or-lt_of_le}
-use Rattle.asm_names.specs.declared.slots.Naming.{Naming}
+use Rattle.isa_rows.specs.declared.slots.Naming.{Naming}
 use Rattle.asm_names.specs.Registers.{register_name, register_named, integer_names, capability_names}
 use Rattle.base.specs.Registers.{csrs, special_registers}
 use Rattle.asm_names.specs.SpecialNames.{name_in, csr_name, csr_named, scr_name, scr_named}

@@ -7,10 +7,10 @@ use Rattle.std.proofs.lemmas.Bool.Decides.{nat_tests}
 use Rattle.isa_rows.specs.declared.operands.Insn.{Insn}
 use Rattle.isa_rows.specs.Insn.{sign_extended}
 use Rattle.isa_rows.specs.Operands.{IsSignedOf, IsUpperImmediate}
-use Rattle.asm_names.specs.declared.slots.Naming.{Naming}
-use Rattle.asm_names.specs.declared.slots.Slot.{Slot}
-use Rattle.asm_names.specs.declared.slots.Slot.TheVariants.{Rd, Rs1, Rs2, Signed, Unsigned, Upper, Small, Csr, Special, Address, Authority}
-use Rattle.asm_names.specs.declared.slots.Slot.TheVariants.{Target}
+use Rattle.isa_rows.specs.declared.slots.Naming.{Naming}
+use Rattle.isa_rows.specs.declared.slots.Slot.{Slot}
+use Rattle.isa_rows.specs.declared.slots.Slot.TheVariants.{Rd, Rs1, Rs2, Signed, Unsigned, Upper, Small, Csr, Special, Address, Authority}
+use Rattle.isa_rows.specs.declared.slots.Slot.TheVariants.{Target}
 use Rattle.asm_lines.specs.Text.{here_name}
 use Rattle.asm_lines.specs.Number.{expression, number_of, expression_of, named_plus, named_minus}
 use Rattle.asm_lines.specs.Operand.{Draft, wrapped, up_to, signed_12, with_rd, with_rs1, with_rs2, with_imm, with_upper, with_small}
@@ -72,10 +72,10 @@ signed_12_back n h =
     let below = signed_range n h in
     elim (signed_reading n below) [
       | inl p ↦ ap (λ z. signed_12 (Ok z)) p.1 ∙ signed_12_pos n (elim h [ inl q ↦ omega arith | inr q ↦ absurd (omega (arith, p.0, q.0)) ])
-          ∙ ap Ok (sym p.1)
+      ∙ ap Ok (sym p.1)
       | inr p ↦ ap (λ z. signed_12 (Ok z)) p.1
-          ∙ signed_12_negsuc (2 ^ 64 - 1 - n) (elim h [ inl q ↦ absurd (omega (arith, p.0, q)) | inr q ↦ omega (arith, q.0, q.1) ])
-          ∙ ap Ok (sym p.1)
+      ∙ signed_12_negsuc (2 ^ 64 - 1 - n) (elim h [ inl q ↦ absurd (omega (arith, p.0, q)) | inr q ↦ omega (arith, q.0, q.1) ])
+      ∙ ap Ok (sym p.1)
     ]
 
 -- a number of 20 bits in the upper bits, and back

@@ -11,9 +11,8 @@ use Rattle.isa_rows.specs.DecodedLaws.{insn_of-IsInsn}
 use Rattle.isa_rows.specs.Insn.{IsInsn}
 use Rattle.isa_rows.specs.InsnLaws.{OperandsFit-Fits}
 use Rattle.isa_rows.specs.Line.{line_of}
-use Rattle.isa_rows.specs.Name.{name_of}
-use Rattle.asm_names.specs.declared.slots.Slot.{Slot}
-use Rattle.asm_names.specs.Mnemonic.{capability_name_of, mnemonic}
+use Rattle.isa_rows.specs.declared.slots.Slot.{Slot}
+use Rattle.asm_names.specs.Mnemonic.{mnemonic}
 use Rattle.asm_names.specs.Slots.{slots_of}
 use Rattle.asm_lines.specs.Line.{line_meaning}
 use Rattle.assembler.specs.Places.{lines_of}
@@ -34,7 +33,7 @@ inside_plain : (text : List ℕ) → every is_plain text ≡ true → every is_i
 inside_plain text h = every_weaker is_plain is_inside text (λ b k. grind (arith, nat_tests)) h
 
 mnemonic_inside : (mode : Bool) (r : Row) → every is_inside (mnemonic mode r) ≡ true
-unfolding name_of capability_name_of
+unfolding line_of
 mnemonic_inside true Lui = refl
 mnemonic_inside true _ = refl
 mnemonic_inside false Lui = refl

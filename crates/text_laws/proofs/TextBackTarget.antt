@@ -26,7 +26,7 @@ is_target_format Jump = true
 is_target_format _ = false
 
 pub target_format : (r : Row) → has_target (slots_of r) ≡ is_target_format (line_of r).format
-unfolding slots_of line_of
+unfolding line_of
 target_format Lui = refl
 target_format _ = refl
 

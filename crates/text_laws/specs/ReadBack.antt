@@ -3,8 +3,8 @@ use Rattle.std.specs.Prelude.{◌≡◌, ℕ, Bool, true, false, ◌||◌, if◌
 use Rattle.std.specs.Int.{w64, cast_signed}
 use Rattle.isa_rows.specs.declared.operands.Insn.{Insn}
 use Rattle.isa_rows.specs.Decoded.{insn_of}
-use Rattle.asm_names.specs.declared.slots.Slot.{Slot}
-use Rattle.asm_names.specs.declared.slots.Slot.TheVariants.{Target}
+use Rattle.isa_rows.specs.declared.slots.Slot.{Slot}
+use Rattle.isa_rows.specs.declared.slots.Slot.TheVariants.{Target}
 use Rattle.asm_names.specs.Slots.{slots_of}
 use Rattle.asm_lines.specs.Text.{here_name, pieces_of}
 use Rattle.asm_lines.specs.Number.{Expression, expression, expression_of}

@@ -1,6 +1,6 @@
 use Rattle.std.proofs.Common.{arith, ◌≡◌, ◌+◌, refl, ◌∙◌, drop, get_or, []}
-use Rattle.asm_names.specs.declared.slots.Naming.TheVariants.{Integer}
-use Rattle.asm_names.specs.declared.slots.Slot.TheVariants.{Rd}
+use Rattle.isa_rows.specs.declared.slots.Naming.TheVariants.{Integer}
+use Rattle.isa_rows.specs.declared.slots.Slot.TheVariants.{Rd}
 use Rattle.asm_lines.specs.Text.{pieces_between, pieces_left}
 use Rattle.asm_lines.specs.Operand.{fault_of, filled_slot, filled_fault}
 use Rattle.asm_lines.specs.Seen.{seen_draft, seen_rest}

@@ -1,5 +1,5 @@
 use Rattle.std.proofs.Common.{arith}
-use Rattle.isa_rows.specs.declared.rows.TheConstants.{ROWS}
+use Rattle.isa_rows.specs.declared.table.TheConstants.{ROWS}
 use Rattle.isa_rows.specs.RowLaws.{number_of, numbered-at, all_numbered, ROWS-number_of}
 use Rattle.isa_rows.proofs.laws.rows_hold_each_row_once.Goals as goal
 
