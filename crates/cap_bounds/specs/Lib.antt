@@ -24,3 +24,4 @@ pub mod Rounding
 pub mod SetBounds
 pub mod RoundingLaws
 pub mod SetBoundsLaws
+pub mod SoundLaws

@@ -9,3 +9,4 @@ pub mod WordLaws
 pub mod Decoded
 pub mod DecodedLaws
 pub mod RowLaws
+pub mod OperandLaws
