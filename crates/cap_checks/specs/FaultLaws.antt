@@ -10,7 +10,7 @@ use Rattle.base.specs.FaultLaws.{IsInRange, IsInRange-fault, IsInRange-cheri, Ea
 use Rattle.base.specs.Registers.{pcc_register}
 use Rattle.cap_bounds.specs.CapValue.{CapValue, value_address}
 use Rattle.cap_checks.specs.declared.access.Access.{Access}
-use Rattle.cap_checks.specs.Access.{lacking, misaligned}
+use Rattle.cap_checks.specs.Access.{width_of, lacking, misaligned}
 use Rattle.cap_checks.specs.FirstFault.{access_checks, access_fault, fetch_checks, fetch_fault, jump_target, target_checks, target_fault, jump_checks, jump_fault, invoke_target, invoke_checks, invoke_fault}
 
 -- a target has 64 bits
@@ -25,6 +25,12 @@ access_fault-range authority register access address exists fits =
     first_fault-each IsInRange (access_checks authority register access address)
     (at forbids.Tag, (at forbids.Seal, (at (lacking access), (at forbids.StoreCapability, (at forbids.StoreLocalCapability, (at forbids.Length,
     (IsInRange-fault (misaligned access) address fits, tt)))))))
+
+pub access_fault-aligned : (authority : CapValue) (register : ℕ) (access : Access) (address : ℕ) → access_fault authority register access address ≡ None → address % width_of access ≡ 0
+unfolding access_fault
+access_fault-aligned authority register access address none =
+    let all : EachHolds (access_checks authority register access address) = first_fault-none (access_checks authority register access address) none in
+    eqb-true (address % width_of access) 0 all.1.1.1.1.1.1.0
 
 pub fetch_fault-range : (pcc : CapValue) → IfSome (fetch_fault pcc) IsInRange
 unfolding fetch_fault
