@@ -17,3 +17,5 @@ pub mod OpeningLaws
 pub mod IsState
 pub mod IsEvent
 pub mod AppliedLaws
+pub mod PlannedLaws
+pub mod EventLaws
