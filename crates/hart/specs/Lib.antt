@@ -19,3 +19,4 @@ pub mod IsEvent
 pub mod AppliedLaws
 pub mod PlannedLaws
 pub mod EventLaws
+pub mod OpeningStateLaws

@@ -1,14 +1,17 @@
--- What is read of a memory is in range: a number of n bytes is below 256 ^ n, and a word has 128 bits.
-use Rattle.std.proofs.Common.{◌≡◌, ℕ, zero, suc, ◌+◌, ◌-◌, ◌*◌, ◌^◌, ◌<◌, List, [], ◌∷◌, take, drop, arith, lit<}
-use Rattle.std.specs.Prelude.{slice_index}
+-- What is read of a memory is in range: a number of n bytes is below 256 ^ n, and a word has 128 bits. Zeros are a memory.
+use Rattle.std.proofs.Common.{◌≡◌, ℕ, zero, suc, ◌+◌, ◌-◌, ◌*◌, ◌^◌, ◌<◌, ◌≤◌, true, false, List, [], ◌∷◌, take, drop, arith, lit<}
+use Rattle.std.specs.Prelude.{slice_index, replicate}
+use Rattle.std.specs.FinSet as set
+use Rattle.std.specs.Ordering.{nat_cmp}
+use Rattle.std.proofs.lemmas.Bool.{both_ways}
 use Rattle.std.specs.Int.{w128, from_le_bytes}
 use Rattle.std.proofs.Math.Nat.{pow-succ'}
-use Rattle.std.proofs.lemmas.List.{get_or-drop}
+use Rattle.std.proofs.lemmas.List.{get_or-drop, length-replicate}
 use Rattle.std.proofs.lemmas.Nat.{xor_lt}
 use Rattle.byteorder.specs.Endian.{little_from}
-use Rattle.base.specs.Ram.{ram_base}
+use Rattle.base.specs.Ram.{ram_base, page_bytes, most_pages}
 use Rattle.cap_format.specs.Word.{null_pattern}
-use Rattle.tagged_memory.specs.Memory.{Memory, IsMemory, number_at, bytes_at, word_at}
+use Rattle.tagged_memory.specs.Memory.{Memory, IsMemory, number_at, bytes_at, word_at, is_tagged, zeroed}
 
 -- each element is a byte
 abbrev AreBytes : List ℕ → Type 0
@@ -43,3 +46,24 @@ pub word_at-below : (m : Memory) (address : ℕ) → IsMemory m → word_at m ad
 word_at-below m address memory =
     let bytes = AreBytes-take 16 (drop (address - ram_base) m.bytes) (AreBytes-drop (address - ram_base) m.bytes memory.are_bytes) in
     xor_lt 128 (from_le_bytes w128 (bytes_at m address 16)) null_pattern (from_le_bytes-below (bytes_at m address 16) bytes) (lit< tt)
+
+-- ---- memory as it begins
+
+bytes_of_zeros : (n k : ℕ) → slice_index (replicate n 0) k < 256
+bytes_of_zeros zero k = lit< tt
+bytes_of_zeros (suc n) zero = lit< tt
+bytes_of_zeros (suc n) (suc k) = bytes_of_zeros n k
+
+untagged : (pages granule : ℕ) → is_tagged (zeroed pages) granule ≡ true → ⊥
+untagged pages granule tagged = both_ways _ (set.contains-empty nat_cmp granule) tagged
+
+pub IsMemory-zeroed : (pages : ℕ) → 1 ≤ pages → pages ≤ most_pages → IsMemory (zeroed pages)
+IsMemory-zeroed pages some few = record {
+  pages = pages;
+  whole_pages = length-replicate (page_bytes * pages) 0;
+  some_page = some;
+  not_too_many = few;
+  are_bytes = bytes_of_zeros (page_bytes * pages);
+  granules_aligned = λ granule tagged. absurd (untagged pages granule tagged);
+  granules_in_ram = λ granule tagged. absurd (untagged pages granule tagged);
+}
