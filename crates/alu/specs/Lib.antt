@@ -1,1 +1,2 @@
 pub mod Integer
+pub mod IntegerLaws

@@ -4,3 +4,4 @@ pub mod FirstFault
 pub mod Ram
 pub mod ObjectType
 pub mod Registers
+pub mod FaultLaws

@@ -25,3 +25,4 @@ pub mod SetBounds
 pub mod RoundingLaws
 pub mod LengthExponentLaws
 pub mod SetBoundsLaws
+pub mod SoundLaws

@@ -1,2 +1,3 @@
 pub mod Access
 pub mod FirstFault
+pub mod FaultLaws

@@ -1,1 +1,2 @@
 pub mod CapabilityRows
+pub mod RowLaws

@@ -1,3 +1,5 @@
 pub mod Devices
 pub mod Held
 pub mod Map
+pub mod Sound
+pub mod SoundLaws

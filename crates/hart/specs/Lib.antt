@@ -14,3 +14,9 @@ pub mod Event
 pub mod StateLaws
 pub mod Opening
 pub mod OpeningLaws
+pub mod IsState
+pub mod IsEvent
+pub mod AppliedLaws
+pub mod PlannedLaws
+pub mod EventLaws
+pub mod OpeningStateLaws

@@ -9,6 +9,7 @@ mod event;
 mod getters;
 mod hart;
 mod jump_rows;
+pub mod laws;
 mod looks;
 mod memory_rows;
 mod opening;

@@ -95,3 +95,11 @@ IsImage-image_of pages entry mode sections none =
 -- an image has at most 64 sections
 pub few_sections : (i : Image) → IsImage i → length i.sections ≤ 64
 few_sections i valid = ltb-false _ _ (build_parts i.pages i.entry (mode_number i.mode) i.sections valid).1
+
+-- and at least one page
+pub pages_some : (pages entry mode : ℕ) → is_good_header pages entry mode ≡ true → 1 ≤ pages
+unfolding is_good_header
+pages_some pages entry mode good =
+    let p = and_parts _ _ good in
+    let q = and_parts _ _ p.0 in
+    leb-true _ _ (and_parts _ _ q.0).0

@@ -12,3 +12,4 @@ pub mod DecodedLaws
 pub mod RowLaws
 pub mod Shape
 pub mod Transfers
+pub mod OperandLaws

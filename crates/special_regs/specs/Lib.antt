@@ -7,3 +7,5 @@ pub mod NumberedLaws
 pub mod Refusals
 pub mod Writes
 pub mod Interrupts
+pub mod Sound
+pub mod SoundLaws

@@ -4,3 +4,4 @@ pub mod MemoryLaws
 pub mod Memory
 pub mod Tagged
 pub mod AccessLaws
+pub mod ReadLaws

@@ -1,0 +1,110 @@
+-- Sound devices give numbers of 64 bits, and whatever happens leaves them sound.
+use Rattle.std.proofs.Common.{◌≡◌, ℕ, zero, suc, ◌+◌, ◌*◌, ◌/◌, ◌%◌, ◌^◌, ◌<◌, ◌≤◌, Bool, true, false, eqb, ltb, not, List, [], ◌∷◌, ◌++◌, length, Option, Some, None, refl, length-append, arith, lit<, lit≤}
+use Rattle.std.specs.Prelude.{nat_le, slice_index, IfSome, ◌&&◌}
+use Rattle.std.proofs.lemmas.Nat.{mod_below, pow_pos}
+use Rattle.std.proofs.lemmas.Bool.{cond_both, ltb-true}
+use Rattle.cap_format.specs.Word.{bit}
+use Rattle.devices.specs.Devices.{Devices, AreDevices, idle, waits, oldest, without_oldest, status_of, value_at, taken_at, written, ticked, received, interrupts_of, timer_compare, timer, receive, status, control_register, halt}
+use Rattle.devices.specs.Sound.{AreSound}
+
+bit-small : (b : Bool) → bit b < 2
+bit-small true = omega arith
+bit-small false = omega arith
+
+-- ---- what they give
+
+oldest-below : (q : List ℕ) → ((k : ℕ) → slice_index q k < 256) → oldest q < 256
+oldest-below [] bytes = lit< tt
+oldest-below (b ∷ bs) bytes = bytes 0
+
+status_of-below : (d : Devices) → status_of d < 2 ^ 64
+status_of-below d = omega (arith, bit-small (waits d.queue), bit-small d.overrun)
+
+pub value_at-below : (address : ℕ) (d : Devices) → AreSound d → value_at address d < 2 ^ 64
+unfolding value_at
+value_at-below address d sound =
+    let P : ℕ → Type 0 = λ n. n < 2 ^ 64 in
+    cond_both (eqb address timer_compare) _ _ P (λ _. sound.devices.mtimecmp)
+    (λ _. cond_both (eqb address timer) _ _ P (λ _. sound.devices.mtime)
+    (λ _. cond_both (eqb address receive) _ _ P (λ _. let small = oldest-below d.queue sound.waiting in omega arith)
+    (λ _. cond_both (eqb address status) _ _ P (λ _. status_of-below d)
+    (λ _. cond_both (eqb address control_register) (bit d.control) 0 P (λ _. let small = bit-small d.control in omega arith) (λ _. lit< tt)))))
+
+pub interrupts_of-below : (d : Devices) → interrupts_of d < 2 ^ 64
+unfolding interrupts_of
+interrupts_of-below d = omega (arith, bit-small (nat_le d.mtimecmp d.mtime), bit-small (d.control && waits d.queue))
+
+-- ---- what leaves them sound
+
+pub AreSound-idle : AreSound idle
+AreSound-idle = record {
+  devices = record { mtime = lit< tt; mtimecmp = lit< tt; few = lit≤ tt };
+  waiting = λ k. lit< tt;
+  halted = tt;
+}
+
+pub AreSound-ticked : (d : Devices) → AreSound d → AreSound (ticked d)
+AreSound-ticked d sound = record {
+  devices = record { mtime = mod_below (d.mtime + 1) (2 ^ 64) (pow_pos 64); mtimecmp = sound.devices.mtimecmp; few = sound.devices.few };
+  waiting = sound.waiting;
+  halted = sound.halted;
+}
+
+bytes-appended : (q : List ℕ) (b : ℕ) → b < 256 → ((k : ℕ) → slice_index q k < 256) → (k : ℕ) → slice_index (q ++ (b ∷ [])) k < 256
+bytes-appended [] b byte bytes zero = byte
+bytes-appended [] b byte bytes (suc k) = lit< tt
+bytes-appended (x ∷ q) b byte bytes zero = bytes 0
+bytes-appended (x ∷ q) b byte bytes (suc k) = bytes-appended q b byte (λ k. bytes (suc k)) k
+
+not-false : (b : Bool) → not b ≡ false → b ≡ true
+not-false true e = refl
+not-false false e = cc
+
+pub AreSound-received : (b : ℕ) (d : Devices) → b < 256 → AreSound d → AreSound (received b d)
+unfolding received
+AreSound-received b d byte sound =
+    let full : Bool = not (ltb (length d.queue) 64) in
+    record {
+      devices = record {
+        mtime = sound.devices.mtime;
+        mtimecmp = sound.devices.mtimecmp;
+        few = cond_both full d.queue (d.queue ++ (b ∷ [])) (λ q. length q ≤ 64) (λ _. sound.devices.few)
+            (λ room. let below = ltb-true (length d.queue) 64 (not-false _ room) in omega (arith, length-append d.queue (b ∷ [])));
+      };
+      waiting = cond_both full d.queue (d.queue ++ (b ∷ [])) (λ q. (k : ℕ) → slice_index q k < 256) (λ _. sound.waiting) (λ _. bytes-appended d.queue b byte sound.waiting);
+      halted = sound.halted;
+    }
+
+fewer : (q : List ℕ) → length q ≤ 64 → length (without_oldest q) ≤ 64
+fewer [] few = few
+fewer (b ∷ bs) few = omega arith
+
+bytes-without : (q : List ℕ) → ((k : ℕ) → slice_index q k < 256) → (k : ℕ) → slice_index (without_oldest q) k < 256
+bytes-without [] bytes k = bytes k
+bytes-without (b ∷ bs) bytes k = bytes (suc k)
+
+pub AreSound-taken_at : (address : ℕ) (d : Devices) → AreSound d → AreSound (taken_at address d)
+unfolding taken_at
+AreSound-taken_at address d sound = record {
+  devices = record {
+    mtime = sound.devices.mtime;
+    mtimecmp = sound.devices.mtimecmp;
+    few = cond_both (eqb address receive) (without_oldest d.queue) d.queue (λ q. length q ≤ 64) (λ _. fewer d.queue sound.devices.few) (λ _. sound.devices.few);
+  };
+  waiting = cond_both (eqb address receive) (without_oldest d.queue) d.queue (λ q. (k : ℕ) → slice_index q k < 256) (λ _. bytes-without d.queue sound.waiting) (λ _. sound.waiting);
+  halted = sound.halted;
+}
+
+pub AreSound-written : (d : Devices) (address value : ℕ) → value < 2 ^ 64 → AreSound d → AreSound (written d address value)
+unfolding written
+AreSound-written d address value fits sound =
+    let P : ℕ → Type 0 = λ n. n < 2 ^ 64 in
+    record {
+      devices = record {
+        mtime = cond_both (eqb address timer) value d.mtime P (λ _. fits) (λ _. sound.devices.mtime);
+        mtimecmp = cond_both (eqb address timer_compare) value d.mtimecmp P (λ _. fits) (λ _. sound.devices.mtimecmp);
+        few = sound.devices.few;
+      };
+      waiting = sound.waiting;
+      halted = cond_both (eqb address halt) (Some value) d.halted (λ o. IfSome o P) (λ _. fits) (λ _. sound.halted);
+    }

@@ -1,0 +1,82 @@
+-- The state in which a valid image is opened is a state.
+use Rattle.std.proofs.Common.{◌≡◌, ℕ, zero, suc, ◌+◌, ◌*◌, ◌%◌, ◌^◌, ◌<◌, ◌≤◌, true, false, List, [], ◌∷◌, length, refl, sym, ap, ◌∙◌, arith, lit<, lit≤}
+use Rattle.std.specs.Prelude.{All, slice_index, replicate}
+use Rattle.std.proofs.lemmas.List.{length-replicate}
+use Rattle.std.proofs.lemmas.Bool.{and_parts, both_ways, leb-true}
+use Rattle.base.specs.Ram.{ram_base, page_bytes, most_pages, ram_end}
+use Rattle.cap_bounds.specs.CapValue.{CapValue, IsSound, value_address}
+use Rattle.cap_bounds.specs.Root.{root}
+use Rattle.cap_bounds.specs.RootLaws.{IsWellFormed-root}
+use Rattle.cap_bounds.specs.SoundLaws.{IsSound-integer}
+use Rattle.tagged_memory.specs.Memory.{Memory, IsMemory, is_in_ram, zeroed, data_written}
+use Rattle.tagged_memory.specs.MemoryLaws.{in_ram-from, length-data_written, IsMemory-data_written}
+use Rattle.tagged_memory.specs.ReadLaws.{IsMemory-zeroed}
+use Rattle.devices.specs.SoundLaws.{AreSound-idle}
+use Rattle.special_regs.specs.Sound.{AreSound}
+use Rattle.special_regs.specs.SoundLaws.{AreInRange-zero}
+use Rattle.image.specs.Image.{Image, Section, IsImage, is_good_header, mode_number}
+use Rattle.image.specs.ImageLaws.{AllInRam, AllInRam-image, build_parts, entry_aligned, header_ranges, pages_some}
+use Rattle.hart.specs.Registers.{null, register, AreRegisters}
+use Rattle.hart.specs.Opening.{loaded, opening_memory, opening_scrs, opening}
+use Rattle.hart.specs.OpeningLaws.{HoldsCapabilities-opening_memory}
+use Rattle.hart.specs.IsState.{IsState}
+
+IsSound-null : IsSound null
+IsSound-null = IsSound-integer 0 (lit< tt)
+
+nulls : (n k : ℕ) → IsSound (register (replicate n null) k)
+nulls zero k = IsSound-null
+nulls (suc n) zero = IsSound-null
+nulls (suc n) (suc k) = nulls n k
+
+-- the bytes of each section are bytes
+abbrev HoldBytes : List Section → Type 0
+HoldBytes sections = All (λ section. (k : ℕ) → slice_index section.bytes k < 256) sections
+
+IsMemory-loaded : (sections : List Section) (m : Memory) (pages : ℕ) → IsMemory m → length m.bytes ≡ 4096 * pages → AllInRam pages sections → HoldBytes sections → IsMemory (loaded sections m)
+IsMemory-loaded [] m pages memory whole inside bytes = memory
+IsMemory-loaded (s ∷ ss) m pages memory whole inside bytes =
+    let here : is_in_ram m s.address (length s.bytes) ≡ true = in_ram-from m s.address (length s.bytes) inside.0.0 (rw whole inside.0.1) in
+    IsMemory-loaded ss (data_written m s.address s.bytes) pages (IsMemory-data_written m s.address s.bytes memory here (bytes 0 s (omega arith)))
+    (length-data_written m s.address s.bytes here ∙ whole) inside.1 (λ k d below. bytes (suc k) d (omega arith))
+
+module _ (i : Image) (valid : IsImage i) where
+  good : is_good_header i.pages i.entry (mode_number i.mode) ≡ true
+  good = (build_parts i.pages i.entry (mode_number i.mode) i.sections valid).0
+
+  entry-below : i.entry < 2 ^ 64
+  entry-below =
+      let ranges = header_ranges i.pages i.entry (mode_number i.mode) good in
+      let few : i.pages ≤ 4096 = ranges.0 in
+      let inside : i.entry + 4 ≤ ram_end i.pages = ranges.1 in
+      omega arith
+
+  AreSound-opening : AreSound (opening_scrs i)
+  AreSound-opening =
+      let root_sound : IsSound (root 0 false) = IsWellFormed-root 0 false (lit< tt) in
+      record {
+        pcc = IsWellFormed-root i.entry i.mode entry-below;
+        ddc = root_sound;
+        mtcc = root_sound;
+        mtdc = IsSound-null;
+        mscratchc = IsSound-null;
+        mepcc = root_sound;
+        aligned = entry_aligned i valid;
+      }
+
+  IsMemory-opening : HoldBytes i.sections → IsMemory (opening_memory i)
+  IsMemory-opening bytes =
+      let ranges = header_ranges i.pages i.entry (mode_number i.mode) good in
+      let some = pages_some i.pages i.entry (mode_number i.mode) good in
+      IsMemory-loaded i.sections (zeroed i.pages) i.pages (IsMemory-zeroed i.pages some ranges.0) (length-replicate (4096 * i.pages) 0) (AllInRam-image i valid) bytes
+
+  pub IsState-opening : HoldBytes i.sections → IsState (opening i)
+  IsState-opening bytes = record {
+    registers = record { count = refl; first = refl };
+    values = nulls 32;
+    scrs = AreSound-opening;
+    csrs = AreInRange-zero;
+    memory = IsMemory-opening bytes;
+    capabilities = HoldsCapabilities-opening_memory i;
+    devices = AreSound-idle;
+  }

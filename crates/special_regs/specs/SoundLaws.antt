@@ -1,0 +1,206 @@
+-- Special registers that are sound and in range give what is sound and in range, and stay so.
+use Rattle.std.proofs.Common.{◌≡◌, ℕ, ◌+◌, ◌*◌, ◌/◌, ◌%◌, ◌^◌, ◌<◌, ◌≤◌, Bool, true, false, eqb, cond, List, [], ◌∷◌, Option, Some, None, refl, arith, lit<}
+use Rattle.std.specs.Prelude.{IfSome, bit_and}
+use Rattle.std.proofs.lemmas.Nat.{and_le_l, mod_below, pow_pos}
+use Rattle.std.proofs.lemmas.Bool.{cond_both, eqb-true}
+use Rattle.base.specs.declared.fault.Fault.{Fault}
+use Rattle.base.specs.FaultLaws.{IsInRange}
+use Rattle.base.specs.declared.registers.csr.TheConstants.{MSTATUS, MIE, MTVEC, MSCRATCH, MEPC, MCAUSE, MTVAL, MCYCLE, MINSTRET}
+use Rattle.base.specs.declared.registers.scr.TheConstants.{DDC, MTCC, MTDC, MSCRATCHC, MEPCC}
+use Rattle.cap_format.specs.Word.{bit}
+use Rattle.cap_bounds.specs.CapValue.{CapValue, IsSound, value_address}
+use Rattle.cap_bounds.specs.WordLaws.{bit-small}
+use Rattle.cap_bounds.specs.SetAddress.{at_address}
+use Rattle.cap_bounds.specs.AddressLaws.{value_address-at_address}
+use Rattle.cap_bounds.specs.SoundLaws.{value_address-below, IsSound-at_address}
+use Rattle.cap_rights.specs.Opened.{opened}
+use Rattle.cap_rights.specs.DerivationLaws.{IsSound-opened}
+use Rattle.special_regs.specs.declared.csrs.Csrs.{Csrs}
+use Rattle.special_regs.specs.declared.interrupts.Interrupt.{Interrupt}
+use Rattle.special_regs.specs.declared.interrupts.Interrupt.TheVariants.{External, Timer}
+use Rattle.special_regs.specs.Csrs.{zero_csrs, cycle_counted, instruction_counted}
+use Rattle.special_regs.specs.CsrValues.{mstatus, csr_values, csr_value}
+use Rattle.special_regs.specs.Interrupts.{cause_of}
+use Rattle.special_regs.specs.Numbered.{value_at}
+use Rattle.special_regs.specs.Scrs.{Scrs, IsAligned, scr_values, scr_value}
+use Rattle.special_regs.specs.Traps.{is_sentry, sentry_opened, aligned, target, trapped_scrs, trapped_csrs, returned_scrs, returned_csrs}
+use Rattle.special_regs.specs.Writes.{interrupt_bits, csrs_written, views_written, scr_written}
+use Rattle.special_regs.specs.Sound.{AreSound, AreInRange}
+
+-- ---- what they give
+
+-- what is true of each value of a list
+abbrev OfEach : {X : Type 0} → (X → Type 0) → List (ℕ × X) → Type 0
+OfEach P [] = Unit {0}
+OfEach P (entry ∷ entries) = P entry.1 × OfEach P entries
+
+value_at-each : {X : Type 0} (P : X → Type 0) (n : ℕ) (entries : List (ℕ × X)) → OfEach P entries → IfSome (value_at n entries) P
+value_at-each P n [] each = tt
+value_at-each P n (entry ∷ entries) each =
+    elim (eqb entry.0 n) as (λ b. IfSome (cond b (Some entry.1) (value_at n entries)) P) [ true ↦ each.0 | false ↦ value_at-each P n entries each.1 ]
+
+pub IsSound-scr_value : (s : Scrs) (n : ℕ) → AreSound s → IfSome (scr_value s n) IsSound
+unfolding scr_value
+IsSound-scr_value s n sound =
+    value_at-each IsSound n (scr_values s) (sound.pcc, (sound.ddc, (sound.mtcc, (sound.mtdc, (sound.mscratchc, (sound.mepcc, tt))))))
+
+mstatus-below : (c : Csrs) → mstatus c < 2 ^ 64
+mstatus-below c = omega (arith, bit-small c.mstatus_mpie, bit-small c.mstatus_mie)
+
+view-below : (v : CapValue) → IsSound v → value_address v / 4 * 4 < 2 ^ 64
+view-below v sound = let fits = value_address-below v sound in omega arith
+
+pub csr_value-below : (c : Csrs) (s : Scrs) (mip n : ℕ) → AreInRange c → AreSound s → mip < 2 ^ 64 → IfSome (csr_value c s mip n) (λ v. v < 2 ^ 64)
+unfolding csr_value
+csr_value-below c s mip n range sound fits =
+    let zero : 0 < 2 ^ 64 = lit< tt in
+    value_at-each (λ v. v < 2 ^ 64) n (csr_values c s mip)
+    (mstatus-below c, (lit< tt, (range.mie, (view-below s.mtcc sound.mtcc, (range.mscratch, (view-below s.mepcc sound.mepcc, (range.mcause, (range.mtval, (fits,
+    (range.mcycle, (range.minstret, (zero, (zero, (zero, (zero, tt)))))))))))))))
+
+pub IsInRange-cause_of : (interrupt : Interrupt) → IsInRange (cause_of interrupt)
+IsInRange-cause_of External = record { mcause = lit< tt; mtval = lit< tt }
+IsInRange-cause_of Timer = record { mcause = lit< tt; mtval = lit< tt }
+
+-- ---- special capability registers
+
+IsSound-sentry_opened : (v : CapValue) → IsSound v → IsSound (sentry_opened v)
+unfolding sentry_opened
+IsSound-sentry_opened v sound = cond_both (is_sentry v) (opened v) v IsSound (λ _. IsSound-opened v sound) (λ _. sound)
+
+IsSound-aligned : (v : CapValue) → IsSound v → IsSound (aligned v)
+unfolding aligned
+IsSound-aligned v sound =
+    cond_both (eqb (value_address v % 4) 0) v (at_address v (value_address v / 4 * 4)) IsSound (λ _. sound) (λ _. IsSound-at_address v _ sound (view-below v sound))
+
+-- an address that is set to a multiple of 4 is one
+pub IsAligned-at_address : (v : CapValue) (address : ℕ) → address < 2 ^ 64 → address % 4 ≡ 0 → IsAligned (at_address v address)
+IsAligned-at_address v address fits multiple = rw (value_address-at_address v address fits) multiple
+
+IsAligned-aligned : (v : CapValue) → IsSound v → IsAligned (aligned v)
+unfolding aligned
+IsAligned-aligned v sound =
+    cond_both (eqb (value_address v % 4) 0) v (at_address v (value_address v / 4 * 4)) IsAligned (λ e. eqb-true _ _ e)
+    (λ _. IsAligned-at_address v (value_address v / 4 * 4) (view-below v sound) (omega arith))
+
+pub AreSound-pcc : (s : Scrs) (v : CapValue) → AreSound s → IsSound v → IsAligned v → AreSound (record s { pcc = v })
+AreSound-pcc s v sound value multiple = record {
+  pcc = value;
+  ddc = sound.ddc;
+  mtcc = sound.mtcc;
+  mtdc = sound.mtdc;
+  mscratchc = sound.mscratchc;
+  mepcc = sound.mepcc;
+  aligned = multiple;
+}
+
+pub AreSound-trapped : (s : Scrs) → AreSound s → AreSound (trapped_scrs s)
+AreSound-trapped s sound = record {
+  pcc = IsSound-aligned _ (IsSound-sentry_opened s.mtcc sound.mtcc);
+  ddc = sound.ddc;
+  mtcc = sound.mtcc;
+  mtdc = sound.mtdc;
+  mscratchc = sound.mscratchc;
+  mepcc = sound.pcc;
+  aligned = IsAligned-aligned _ (IsSound-sentry_opened s.mtcc sound.mtcc);
+}
+
+pub AreSound-returned : (s : Scrs) → AreSound s → AreSound (returned_scrs s)
+AreSound-returned s sound =
+    AreSound-pcc s (target s.mepcc) sound (IsSound-aligned _ (IsSound-sentry_opened s.mepcc sound.mepcc)) (IsAligned-aligned _ (IsSound-sentry_opened s.mepcc sound.mepcc))
+
+written_if : (b : Bool) (v old : CapValue) → IsSound v → IsSound old → IsSound (cond b v old)
+written_if true v old new kept = new
+written_if false v old new kept = kept
+
+pub AreSound-scr_written : (n : ℕ) (v : CapValue) (s : Scrs) → IsSound v → AreSound s → AreSound (scr_written n v s)
+unfolding scr_written
+AreSound-scr_written n v s value sound = record {
+  pcc = sound.pcc;
+  ddc = written_if (eqb n DDC) v s.ddc value sound.ddc;
+  mtcc = written_if (eqb n MTCC) v s.mtcc value sound.mtcc;
+  mtdc = written_if (eqb n MTDC) v s.mtdc value sound.mtdc;
+  mscratchc = written_if (eqb n MSCRATCHC) v s.mscratchc value sound.mscratchc;
+  mepcc = written_if (eqb n MEPCC) v s.mepcc value sound.mepcc;
+  aligned = sound.aligned;
+}
+
+pub AreSound-views_written : (n value : ℕ) (s : Scrs) → value < 2 ^ 64 → AreSound s → AreSound (views_written n value s)
+unfolding views_written
+AreSound-views_written n value s fits sound =
+    let low : value / 4 * 4 < 2 ^ 64 = omega arith in
+    record {
+      pcc = sound.pcc;
+      ddc = sound.ddc;
+      mtcc = written_if (eqb n MTVEC) (at_address s.mtcc (value / 4 * 4)) s.mtcc (IsSound-at_address s.mtcc _ sound.mtcc low) sound.mtcc;
+      mtdc = sound.mtdc;
+      mscratchc = sound.mscratchc;
+      mepcc = written_if (eqb n MEPC) (at_address s.mepcc (value / 4 * 4)) s.mepcc (IsSound-at_address s.mepcc _ sound.mepcc low) sound.mepcc;
+      aligned = sound.aligned;
+    }
+
+-- ---- control and status registers
+
+pub AreInRange-zero : AreInRange zero_csrs
+AreInRange-zero = record { mie = lit< tt; mscratch = lit< tt; mcause = lit< tt; mtval = lit< tt; mcycle = lit< tt; minstret = lit< tt }
+
+one_more-below : (n : ℕ) → (n + 1) % 2 ^ 64 < 2 ^ 64
+one_more-below n = mod_below (n + 1) (2 ^ 64) (pow_pos 64)
+
+pub AreInRange-cycle_counted : (c : Csrs) → AreInRange c → AreInRange (cycle_counted c)
+AreInRange-cycle_counted c range = record {
+  mie = range.mie;
+  mscratch = range.mscratch;
+  mcause = range.mcause;
+  mtval = range.mtval;
+  mcycle = one_more-below c.mcycle;
+  minstret = range.minstret;
+}
+
+pub AreInRange-instruction_counted : (c : Csrs) → AreInRange c → AreInRange (instruction_counted c)
+AreInRange-instruction_counted c range = record {
+  mie = range.mie;
+  mscratch = range.mscratch;
+  mcause = range.mcause;
+  mtval = range.mtval;
+  mcycle = range.mcycle;
+  minstret = one_more-below c.minstret;
+}
+
+pub AreInRange-trapped : (f : Fault) (c : Csrs) → IsInRange f → AreInRange c → AreInRange (trapped_csrs f c)
+AreInRange-trapped f c fault range = record {
+  mie = range.mie;
+  mscratch = range.mscratch;
+  mcause = fault.mcause;
+  mtval = fault.mtval;
+  mcycle = range.mcycle;
+  minstret = range.minstret;
+}
+
+pub AreInRange-returned : (c : Csrs) → AreInRange c → AreInRange (returned_csrs c)
+AreInRange-returned c range = record {
+  mie = range.mie;
+  mscratch = range.mscratch;
+  mcause = range.mcause;
+  mtval = range.mtval;
+  mcycle = range.mcycle;
+  minstret = range.minstret;
+}
+
+number_if : (b : Bool) (v old : ℕ) → v < 2 ^ 64 → old < 2 ^ 64 → cond b v old < 2 ^ 64
+number_if true v old new kept = new
+number_if false v old new kept = kept
+
+pub AreInRange-written : (n value : ℕ) (c : Csrs) → value < 2 ^ 64 → AreInRange c → AreInRange (csrs_written n value c)
+unfolding csrs_written
+AreInRange-written n value c fits range =
+    let low = and_le_l value interrupt_bits in
+    let bits : bit_and value interrupt_bits < 2 ^ 64 = omega arith in
+    record {
+      mie = number_if (eqb n MIE) (bit_and value interrupt_bits) c.mie bits range.mie;
+      mscratch = number_if (eqb n MSCRATCH) value c.mscratch fits range.mscratch;
+      mcause = number_if (eqb n MCAUSE) value c.mcause fits range.mcause;
+      mtval = number_if (eqb n MTVAL) value c.mtval fits range.mtval;
+      mcycle = number_if (eqb n MCYCLE) value c.mcycle fits range.mcycle;
+      minstret = number_if (eqb n MINSTRET) value c.minstret fits range.minstret;
+    }
