@@ -1,16 +1,10 @@
-#!/usr/bin/env python3
-"""Prints crates/asm_vectors/src/table.rt: lines of assembly with the words that they mean, from outside the program.
+"""Lines of assembly with the words that they mean, from outside the program.
 
-    tools/asm_vectors.py > crates/asm_vectors/src/table.rt
-
-The words are those of tools/isa_vectors.py: of GNU as for RV64IM, Zicsr, Zifencei and the privileged rows, and put
-together from the fields of CHERI-RISC-V's encodings for the others. The lines are written here, each row by each of its names.
+The words are those of isa_vectors.py: of GNU as for RV64IM, Zicsr, Zifencei and the privileged rows, and put together from the fields of
+CHERI-RISC-V's encodings for the others. The lines are written here, each row by each of its names.
 """
-import contextlib
-import io
-
-with contextlib.redirect_stdout(io.StringIO()):
-    from isa_vectors import made
+from asm_texts import PROGRAMS, assembled
+from isa_vectors import made
 
 X = ("zero ra sp gp tp t0 t1 t2 s0 s1 a0 a1 a2 a3 a4 a5 a6 a7 s2 s3 s4 s5 s6 s7 s8 s9 s10 s11 t3 t4 t5 t6").split()
 C = ["cnull"] + ["c" + name for name in X[1:]]
@@ -18,6 +12,7 @@ CSRS = {0x300: "mstatus", 0x305: "mtvec", 0x344: "mip", 0xF14: "mhartid"}
 SCRS = {0: "pcc", 1: "ddc", 28: "mtcc", 29: "mtdc", 30: "mscratchc", 31: "mepcc"}
 LOADS = ("lb", "lh", "lw", "ld", "lbu", "lhu", "lwu")
 STORES = ("sb", "sh", "sw", "sd")
+IMMEDIATES = ("fence", "fence.i", "addi", "slti", "sltiu", "xori", "ori", "andi", "addiw")
 
 
 def signed(number):
@@ -50,7 +45,7 @@ def lines(mnemonic, rd, rs1, rs2, imm):
         return [f"lc {C[rd]}, {n}({X[rs1]})", f"clc {C[rd]}, {n}({C[rs1]})"]
     if mnemonic == "sc":
         return [f"sc {C[rs2]}, {n}({X[rs1]})", f"csc {C[rs2]}, {n}({C[rs1]})"]
-    if mnemonic in ("fence", "fence.i", "addi", "slti", "sltiu", "xori", "ori", "andi", "addiw") or mnemonic.rstrip("w") in ("slli", "srli", "srai"):
+    if mnemonic in IMMEDIATES or mnemonic.rstrip("w") in ("slli", "srli", "srai"):
         return [f"{mnemonic} {X[rd]}, {X[rs1]}, {n}"]
     if mnemonic in ("csrrw", "csrrs", "csrrc", "csrrwi", "csrrsi", "csrrci"):
         source = str(rs1) if mnemonic.endswith("i") else X[rs1]
@@ -80,18 +75,14 @@ def lines(mnemonic, rd, rs1, rs2, imm):
 
 table = [(word, line) for word, _, mnemonic, rd, rs1, rs2, imm in made for line in lines(mnemonic, rd, rs1, rs2, imm)]
 table += [(0x01 << 25 | number << 20 | 11 << 15 | 10 << 7 | 0x5B, f"cspecialrw ca0, {name}, ca1") for number, name in SCRS.items()]
-assert len({row for _, row, *_ in made}) == 133
-print("//! Lines of assembly with their words, made by tools/asm_vectors.py: words of the base instruction set by GNU as, words of")
-print("//! CHERI-RISC-V from the fields of its encodings. Not written by hand.")
-print()
-print("/// Lines of assembly: each row by each of its names.")
-print('pub const TEXT: &str = "\\')
-for _, line in table:
-    print(f"    {line}\\n\\")
-print('";')
-print()
-print("/// The words that the lines mean, in order.")
-print(f"pub static WORDS: [u32; {len(table)}] = [")
-for first in range(0, len(table), 8):
-    print("    " + " ".join(f"0x{word:08x}," for word, _ in table[first:first + 8]))
-print("];")
+
+
+def cases():
+    yield "# a text => the words of its first section"
+    yield from (assembled(text, words) for text, words in PROGRAMS)
+    yield "# lines with their words: each row by each of its names"
+    yield from (assembled(line, [word]) for word, line in table)
+
+
+def files():
+    yield "assembled.txt", cases()

@@ -25,6 +25,14 @@ SOURCES = [
     "alu_vectors",
     "isa_vectors",
     "images",
+    "programs",
+    "asm_texts",
+    "asm_vectors",
+    "asm_lines",
+    "asm_names",
+    "shown_vectors",
+    "sessions",
+    "command_lines",
 ]
 
 # The programs that some modules need, and Debian's packages that have them.

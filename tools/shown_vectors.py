@@ -1,77 +1,33 @@
 #!/usr/bin/env python3
-"""Prints crates/shown_vectors/src/table.rt: words with the texts that they are shown as in both modes, from outside the program.
+"""Words with the texts that they are shown as in both modes, from outside the program; and numbers with their digits.
 
-    tools/shown_vectors.py > crates/shown_vectors/src/table.rt
     tools/shown_vectors.py --compare
 
-The words are those of crates/isa_vectors/src/table.rt (of GNU as for RV64IM, Zicsr, Zifencei and the privileged rows, put
-together from the fields of CHERI-RISC-V's encodings for the others), and these words with other operands in their fields.
-The texts are written here by the rules of the assembly language. The first form takes nothing but Python.
+The words are those of isa_vectors.py (of GNU as for RV64IM, Zicsr, Zifencei and the privileged rows, put together from the fields of
+CHERI-RISC-V's encodings for the others), and these words with other operands in their fields. The texts are written here by the rules
+of the assembly language.
 
---compare prints no table. It compares the texts of integer mode with those of GNU objdump (Debian's package
-binutils-riscv64-linux-gnu) over the words of RV64IM, Zicsr, Zifencei and the privileged rows, and stops at a difference.
+--compare compares the texts of integer mode with those of GNU objdump (Debian's package binutils-riscv64-linux-gnu) over the words of
+RV64IM, Zicsr, Zifencei and the privileged rows, and stops at a difference.
 These differences are of form, and both sides are brought to one: white space round commas; targets, which objdump gives
 as addresses; numbers of lui, auipc and shifts, decimal here and hexadecimal there or the other way round; names of CSRs
 that objdump knows and the language doesn't; fence's sets, which the language writes as a number, and fence.i's zeros.
 A fence or fence.i whose fields the manual reserves is left out: objdump shows it as no row, or without its operands.
 """
-import os
 import re
 import subprocess
 import sys
 import tempfile
 
-VECTORS = os.path.join(os.path.dirname(__file__), "..", "crates", "isa_vectors", "src", "table.rt")
+import isa_vectors
+from row_forms import FORM, SECOND
+
 X = ("zero ra sp gp tp t0 t1 t2 s0 s1 a0 a1 a2 a3 a4 a5 a6 a7 s2 s3 s4 s5 s6 s7 s8 s9 s10 s11 t3 t4 t5 t6").split()
 C = ["cnull"] + ["c" + name for name in X[1:]]
 CSRS = {0x300: "mstatus", 0x301: "misa", 0x304: "mie", 0x305: "mtvec", 0x340: "mscratch", 0x341: "mepc", 0x342: "mcause",
         0x343: "mtval", 0x344: "mip", 0xB00: "mcycle", 0xB02: "minstret", 0xF11: "mvendorid", 0xF12: "marchid",
         0xF13: "mimpid", 0xF14: "mhartid"}
 SCRS = {0: "pcc", 1: "ddc", 28: "mtcc", 29: "mtdc", 30: "mscratchc", 31: "mepcc"}
-
-# ---- how a row is written: each form with its rows; `rd` as an integer register, `cd` as a capability, and so on
-
-LOADS = "lb lh lw ld lbu lhu lwu"
-STORES = "sb sh sw sd"
-FORMS = {
-    "rd, rs1, rs2": "add sll slt sltu xor srl or and sub sra mul mulh mulhsu mulhu div divu rem remu "
-                    "addw sllw srlw subw sraw mulw divw divuw remw remuw",
-    "rd, rs1, signed": "addi slti sltiu xori ori andi addiw fence fence.i",
-    "rd, rs1, shift6": "slli srli srai",
-    "rd, rs1, shift5": "slliw srliw sraiw",
-    "rd, upper": "lui auipc",
-    "rs1, rs2, branch": "beq bne blt bge bltu bgeu",
-    "rd, jump": "jal",
-    "rd, signed(rs1)": "jalr " + LOADS,
-    "cd, signed(rs1)": "lc",
-    "rs2, stored(rs1)": STORES,
-    "cs2, stored(rs1)": "sc",
-    "rd, csr, rs1": "csrrw csrrs csrrc",
-    "rd, csr, five": "csrrwi csrrsi csrrci",
-    "cd, cs1, rs2": "csetbounds csetboundsexact candperm csetflags csetoffset csetaddr cincoffset",
-    "cd, cs1, signed": "cincoffsetimm",
-    "cd, cs1, unsigned": "csetboundsimm",
-    "cd, cs1, cs2": "cseal cunseal",
-    "rd, cs1, cs2": "csub ctestsubset csetequalexact",
-    "rd, cs1": "cgetperm cgettype cgetbase cgetlen cgettag cgetsealed cgetoffset cgetflags cgetaddr",
-    "rd, rs1": "crrl cram",
-    "cd, cs1": "cmove ccleartag csealentry jalr.cap",
-    "cs1, cs2": "cinvoke",
-    "cd, scr, cs1": "cspecialrw",
-    "rd, (rs1)": " ".join(f"{name}.ddc" for name in LOADS.split()),
-    "rd, (cs1)": " ".join(f"{name}.cap" for name in LOADS.split()),
-    "cd, (rs1)": "lc.ddc",
-    "cd, (cs1)": "lc.cap",
-    "rs2, (rs1)": " ".join(f"{name}.ddc" for name in STORES.split()),
-    "rs2, (cs1)": " ".join(f"{name}.cap" for name in STORES.split()),
-    "cs2, (rs1)": "sc.ddc",
-    "cs2, (cs1)": "sc.cap",
-    "": "ecall ebreak mret wfi",
-}
-FORM = {name: form for form, names in FORMS.items() for name in names.split()}
-SECOND = {name: ("c" + name, FORM[name].replace("rs1", "cs1")) for name in (LOADS + " " + STORES + " lc sc").split()}
-SECOND |= {"jal": ("cjal", "cd, jump"), "jalr": ("cjalr", "cd, signed(cs1)"), "auipc": ("auipcc", "cd, upper")}
-assert len(FORM) == 133
 
 # ---- words and their operands
 
@@ -82,12 +38,8 @@ def signed(number):
 
 def vectors():
     """The words of the table of the instruction set, as (word, mnemonic, operands), and those that are no row."""
-    text = open(VECTORS).read()
-    names = dict(re.findall(r'\(Row::(\w+), "([\w.]+)"\)', text))
-    rows = re.findall(r"\(0x(\w+), Row::(\w+), (\d+), (\d+), (\d+), 0x(\w+)\)", text)
-    made = [(int(word, 16), names[row], {"rd": int(rd), "rs1": int(rs1), "rs2": int(rs2), "imm": signed(int(imm, 16))})
-            for word, row, rd, rs1, rs2, imm in rows]
-    return made, [int(word, 16) for word in re.findall(r"^    0x(\w+),$", text, re.M)]
+    made = [(word, name, {"rd": rd, "rs1": rs1, "rs2": rs2, "imm": signed(imm)}) for word, _, name, rd, rs1, rs2, imm in isa_vectors.made]
+    return made, [word for word, _ in isa_vectors.NONE]
 
 
 # For each operand the fields that it fills, as (lowest bit of the word, lowest bit of the operand, count of bits).
@@ -239,27 +191,45 @@ def compare(table):
     print(f"{len(known)} words of {rows} rows compared, {len(reserved)} reserved forms of fence left out", file=sys.stderr)
 
 
-def printed(table, none):
-    """Prints the table."""
-    lines = [(word, [shown(name, operands, mode) for mode in (False, True)]) for word, name, operands in table]
-    lines += [(word, [f".word 0x{word:08x}"] * 2) for word in none]
-    print("//! Words with the texts that they are shown as, made by tools/shown_vectors.py from the rules of the assembly language.")
-    print("//! Not written by hand.")
-    print()
-    print("/// For each word a line: its text in integer mode, a bar, its text in capability mode.")
-    print('pub const TEXT: &str = "\\')
-    for _, texts in lines:
-        print("    " + "|".join(texts) + "\\n\\")
-    print('";')
-    print()
-    print("/// The words, in order: those of rows, then words that are no row.")
-    print(f"pub static WORDS: [u32; {len(lines)}] = [")
-    for at in range(0, len(lines), 8):
-        print("    " + " ".join(f"0x{word:08x}," for word, _ in lines[at:at + 8]))
-    print("];")
+# Words whose texts the manuals' listings and the rules of the language give at sight, in both modes.
+LISTED = [
+    (0x00A58023, "sb a0, 0(a1)", "csb a0, 0(ca1)"),
+    (0x00002517, "auipc a0, 0x2", "auipcc ca0, 0x2"),
+    (0x100005B7, "lui a1, 0x10000", "lui a1, 0x10000"),
+    (0x22B5055B, "cincoffset ca0, ca0, a1", "cincoffset ca0, ca0, a1"),
+    (0x00000073, "ecall", "ecall"),
+    (0x00000000, ".word 0x00000000", ".word 0x00000000"),
+    (0x00B50863, "beq a0, a1, .+16", "beq a0, a1, .+16"),
+    (0xFEB508E3, "beq a0, a1, .-16", "beq a0, a1, .-16"),
+    (0x00B500E3, "beq a0, a1, .+2048", "beq a0, a1, .+2048"),
+    (0x0000006F, "jal zero, .+0", "cjal cnull, .+0"),
+    (0x30051573, "csrrw a0, mstatus, a0", "csrrw a0, mstatus, a0"),
+    (0xFFF51573, "csrrw a0, 0xfff, a0", "csrrw a0, 0xfff, a0"),
+    (0x00051573, "csrrw a0, 0x0, a0", "csrrw a0, 0x0, a0"),
+    (0x0250855B, "cspecialrw ca0, 5, cra", "cspecialrw ca0, 5, cra"),
+]
+
+# Numbers, how many digits, and the digits.
+DIGITS = [(1 << 64, 17, "10000000000000000"), (0xBEEF, 5, "0beef"), (0x12345, 2, "45")]
 
 
-def main():
+def cases(table, none):
+    yield "# a word => its text in integer mode | its text in capability mode"
+    yield "# as they are listed"
+    yield from (f"{word:08x} => {integer} | {capability}" for word, integer, capability in LISTED)
+    yield "# words of rows"
+    yield from (f"{word:08x} => {shown(name, operands, False)} | {shown(name, operands, True)}" for word, name, operands in table)
+    yield "# words that are no row"
+    yield from (f"{word:08x} => .word 0x{word:08x} | .word 0x{word:08x}" for word in none)
+
+
+def digits():
+    yield "# a number, and how many of its digits => the digits"
+    yield from (f"{number:x} {width} => {text}" for number, width, text in DIGITS)
+
+
+def whole():
+    """The words of rows, each once, and those that are no row."""
     made, none = vectors()
     for vector in made:
         own = {slot: vector[2][HOLDS.get(slot, slot)] for slot in slots(FORM[vector[1]])}
@@ -272,7 +242,13 @@ def main():
     assert {vector[1] for vector in table} == set(FORM)
     assert all(sum(vector[1] == name for vector in table) >= 2 for name in FORM if FORM[name])
     assert not set(none) & set(known)
-    compare(table) if sys.argv[1:] == ["--compare"] else printed(table, none)
+    return table, none
 
 
-main()
+def files():
+    yield "shown.txt", cases(*whole())
+    yield "digits.txt", digits()
+
+
+if __name__ == "__main__" and sys.argv[1:] == ["--compare"]:
+    compare(whole()[0])

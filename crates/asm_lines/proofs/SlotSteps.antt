@@ -1,5 +1,6 @@
 -- Operands, slot by slot.
-use Rattle.std.proofs.Common.{◌≡◌, ℕ, ◌+◌, ◌<◌, List, [], ◌∷◌, Option, Some, None, length, drop, get_or, ◌≤◌, refl, sym, ◌∙◌, map, cond, Bool, true, false, ◌==◌}
+use Rattle.std.proofs.Common.{◌≡◌, ℕ, ◌+◌, ◌<◌, List, [], ◌∷◌, Option, Some, None, length, drop, get_or, ◌≤◌, refl, sym, ◌∙◌, map, cond}
+use Rattle.std.proofs.Common.{Bool, true, false, ◌==◌}
 use Rattle.std.proofs.lemmas.List.{drop_more, drop_all}
 use Rattle.std.specs.List.{slice_split, onto_first}
 use Rattle.isa_rows.specs.declared.slots.Slot.{Slot}
@@ -16,7 +17,8 @@ draft_step slots i z p ps d h = rw (drop_more slots i z h) refl
 
 pub fault_step : (slots : List Slot) (i : ℕ) (z : Slot) (p : List ℕ) (ps : List (List ℕ)) (d : Draft) → i < length slots
     → filled_fault (drop i slots) (p ∷ ps) d
-    ≡ told_fault (fault_of (filled_slot (get_or slots i z) p d)) (filled_fault (drop (i + 1) slots) ps (draft_after d (filled_slot (get_or slots i z) p d)))
+    ≡ told_fault (fault_of (filled_slot (get_or slots i z) p d))
+    (filled_fault (drop (i + 1) slots) ps (draft_after d (filled_slot (get_or slots i z) p d)))
 fault_step slots i z p ps d h = rw (drop_more slots i z h) refl
 
 -- a slot without an operand
@@ -48,7 +50,8 @@ fault_of_more slots i rest text fault whole d h some e =
     rw (gone, some, more) at e
 
 -- where slots and operands end together, the fault so far is that of all
-pub fault_at_end : (slots : List Slot) (i : ℕ) (rest : Option (List ℕ)) (fault whole : Option LineFault) (d : Draft) → length slots ≤ i → rest ≡ None
+pub fault_at_end : (slots : List Slot) (i : ℕ) (rest : Option (List ℕ)) (fault whole : Option LineFault) (d : Draft) → length slots ≤ i
+    → rest ≡ None
     → told_fault fault (filled_fault (drop i slots) (pieces_left rest) d) ≡ whole → fault ≡ whole
 fault_at_end slots i rest fault whole d h none e =
     let gone : drop i slots ≡ [] = drop_all i slots h in
@@ -57,7 +60,8 @@ fault_at_end slots i rest fault whole d h none e =
     sym same ∙ ended
 
 -- a third operand of a load
-load_onto : (capability : Bool) (r e : List ℕ) (x : ℕ) (parts : List (List ℕ)) → load_said capability (r ∷ e ∷ map trimmed (onto_first x parts)) ≡ said None (Some A2)
+load_onto : (capability : Bool) (r e : List ℕ) (x : ℕ) (parts : List (List ℕ))
+    → load_said capability (r ∷ e ∷ map trimmed (onto_first x parts)) ≡ said None (Some A2)
 load_onto capability r e x [] = refl
 load_onto capability r e x (part ∷ parts) = refl
 

@@ -18,7 +18,10 @@ use Rattle.asm_lines.specs.declared.fault.LineFault.TheVariants.{A2, A8, A9}
 use Rattle.asm_lines.specs.Text.{pieces_of, mnemonic_of, operands_of, is_foreign, label_of, statement_text, trimmed, uncommented}
 use Rattle.asm_lines.specs.Number.{Expression, number_of, expression_of}
 use Rattle.asm_lines.specs.Operand.{Draft, up_to, wrapped, filled_draft, filled_fault}
-use Rattle.asm_lines.specs.Statement.{Statement, row, pages, mode, org, align, zeros, values, text, Said, said, said_unless, said_by, is_word, Pattern, pattern, plain, row_pattern, pattern_of, pattern_said, draft_of, row_said, load_said, register_load, number_said, page_count, entry_said, values_said, values_fault, text_said, is_quoted}
+use Rattle.asm_lines.specs.Statement.{Statement, row, pages, mode, org, align, zeros, values, text, Said, said, said_unless, said_by}
+use Rattle.asm_lines.specs.Statement.{is_word, Pattern, pattern, plain, row_pattern, pattern_of, pattern_said, draft_of, row_said}
+use Rattle.asm_lines.specs.Statement.{load_said, register_load, number_said, page_count, entry_said, values_said, values_fault, text_said}
+use Rattle.asm_lines.specs.Statement.{is_quoted}
 use Rattle.asm_lines.specs.Line.{Line, labelled, line_said, line_of_text, line_meaning, FitsAt, RowFits}
 use Rattle.asm_lines.specs.SlotLaws.{Kind, below, Bounds, IsWithin, bounds_of, filled-within}
 use Rattle.asm_lines.specs.FormatLaws.{suits, fits-at}
@@ -73,17 +76,38 @@ j-suits = record { bounds = zero_start; within = plain-within Jal (Target 21 ∷
 
 ret-suits : PatternSuits (pattern (insn Jalr 0 1 0 0) [])
 unfolding line_of
-ret-suits = record { bounds = start (below 1); within = record { row_is = refl; rd_below = omega arith; rs1_below = omega arith; rs2_below = omega arith; imm_is = omega arith; target_is = tt }; suited = refl }
+ret-suits =
+    record {
+      bounds = start
+          (below 1);
+      within =
+          record { row_is = refl; rd_below = omega arith; rs1_below = omega arith; rs2_below = omega arith; imm_is = omega arith; target_is = tt };
+      suited = refl;
+    }
 
 fence-suits : PatternSuits (pattern (insn Fence 0 0 0 255) [])
 unfolding line_of
-fence-suits = record { bounds = start (below 256); within = record { row_is = refl; rd_below = omega arith; rs1_below = omega arith; rs2_below = omega arith; imm_is = omega arith; target_is = tt }; suited = refl }
+fence-suits =
+    record {
+      bounds = start
+          (below 256);
+      within =
+          record { row_is = refl; rd_below = omega arith; rs1_below = omega arith; rs2_below = omega arith; imm_is = omega arith; target_is = tt };
+      suited = refl;
+    }
 
 fence_i-suits : PatternSuits (plain FenceI [])
 unfolding line_of
 fence_i-suits = record { bounds = zero_start; within = plain-within FenceI []; suited = refl }
 
-aliases-suit : (a b c d e f g : Bool) (rest : Option Pattern) → ThePatternSuits rest → ThePatternSuits (if a then Some (plain Addi []) else (if b then Some (plain Addi (Rd Integer ∷ Signed ∷ [])) else (if c then Some (plain Addi (Rd Integer ∷ Rs1 Integer ∷ [])) else (if d then Some (plain Jal (Target 21 ∷ [])) else (if e then Some (pattern (insn Jalr 0 1 0 0) []) else (if f then Some (pattern (insn Fence 0 0 0 255) []) else (if g then Some (plain FenceI []) else (rest))))))))
+aliases-suit : (a b c d e f g : Bool) (rest : Option Pattern) → ThePatternSuits rest
+    → ThePatternSuits
+    (if a then Some (plain Addi []) else
+    (if b then Some (plain Addi (Rd Integer ∷ Signed ∷ [])) else
+    (if c then Some (plain Addi (Rd Integer ∷ Rs1 Integer ∷ [])) else
+    (if d then Some (plain Jal (Target 21 ∷ [])) else
+    (if e then Some (pattern (insn Jalr 0 1 0 0) []) else
+    (if f then Some (pattern (insn Fence 0 0 0 255) []) else (if g then Some (plain FenceI []) else (rest))))))))
 aliases-suit true b c d e f g rest h = nop-suits
 aliases-suit false true c d e f g rest h = li-suits
 aliases-suit false false true d e f g rest h = mv-suits
@@ -96,22 +120,27 @@ aliases-suit false false false false false false false rest h = h
 pattern-suits : (word : List ℕ) (alone : Bool) → ThePatternSuits (pattern_of word alone)
 unfolding pattern_of
 pattern-suits word alone =
-    aliases-suit (is_word word (codes "nop")) (is_word word (codes "li")) (is_word word (codes "mv")) (is_word word (codes "j")) (is_word word (codes "ret")) (alone && is_word word (codes "fence")) (alone && is_word word (codes "fence.i")) (row_pattern (row_named word)) (row-suits (row_named word))
+    aliases-suit (is_word word (codes "nop")) (is_word word (codes "li")) (is_word word (codes "mv")) (is_word word (codes "j"))
+    (is_word word (codes "ret")) (alone && is_word word (codes "fence")) (alone && is_word word (codes "fence.i"))
+    (row_pattern (row_named word)) (row-suits (row_named word))
 
 -- an instruction that is said without a fault fits
 abbrev pub SaidFits : Said → Type 0
 SaidFits s = (i : Insn) (target : Option Expression) → s.statement ≡ Some (row i target) → s.fault ≡ None → FitsAt i target
 
 -- a pattern whose operands could be read says an instruction that fits
-pattern-fits : (p : Pattern) (ps : List (List ℕ)) → PatternSuits p → filled_fault p.slots ps (draft_of p) ≡ None → FitsAt (filled_draft p.slots ps (draft_of p)).insn (filled_draft p.slots ps (draft_of p)).target
+pattern-fits : (p : Pattern) (ps : List (List ℕ)) → PatternSuits p → filled_fault p.slots ps (draft_of p) ≡ None
+    → FitsAt (filled_draft p.slots ps (draft_of p)).insn (filled_draft p.slots ps (draft_of p)).target
 pattern-fits p ps k e =
     let d = filled_draft p.slots ps (draft_of p) in
     let w = filled-within p.slots ps p.insn.row k.bounds (draft_of p) k.within e in
     let suited : suits (line_of d.insn.row).format (bounds_of p.slots k.bounds) ≡ true = rw w.row_is k.suited in
-    fits-at (bounds_of p.slots k.bounds) d.insn d.target suited (record { row_is = refl; rd_below = w.rd_below; rs1_below = w.rs1_below; rs2_below = w.rs2_below; imm_is = w.imm_is; target_is = w.target_is })
+    fits-at (bounds_of p.slots k.bounds) d.insn d.target suited
+    (record { row_is = refl; rd_below = w.rd_below; rs1_below = w.rs1_below; rs2_below = w.rs2_below; imm_is = w.imm_is; target_is = w.target_is })
 
 -- where a fault leaves a statement, there is none or it is the first
-unless-fits : (s : Statement) (fault : Option LineFault) → ((i : Insn) (target : Option Expression) → s ≡ row i target → fault ≡ None → FitsAt i target) → SaidFits (said_unless s fault)
+unless-fits : (s : Statement) (fault : Option LineFault)
+    → ((i : Insn) (target : Option Expression) → s ≡ row i target → fault ≡ None → FitsAt i target) → SaidFits (said_unless s fault)
 unless-fits s None f i target e h = f i target (cc) h
 unless-fits s (Some fault) f i target e h = cc
 
@@ -127,11 +156,13 @@ row-fits d fault f = unless-fits (row d.insn d.target) fault (λ i target e h. s
 
 the-pattern-fits : (p : Option Pattern) (operands : List ℕ) → ThePatternSuits p → SaidFits (pattern_said p operands)
 the-pattern-fits (Some p) operands k i target e h =
-    row-fits (filled_draft p.slots (pieces_of operands) (draft_of p)) (filled_fault p.slots (pieces_of operands) (draft_of p)) (pattern-fits p (pieces_of operands) k) i target e h
+    row-fits (filled_draft p.slots (pieces_of operands) (draft_of p)) (filled_fault p.slots (pieces_of operands) (draft_of p))
+    (pattern-fits p (pieces_of operands) k) i target e h
 the-pattern-fits None operands k i target e h = cc
 
 -- what says no instruction
-register_load-fits : (capability : Bool) (rd : Option ℕ) (value : Result Expression LineFault) → SaidFits (register_load capability rd value)
+register_load-fits : (capability : Bool) (rd : Option ℕ) (value : Result Expression LineFault)
+    → SaidFits (register_load capability rd value)
 register_load-fits capability (Some rd) (Ok x) i target e h = cc
 register_load-fits capability (Some rd) (Err fault) i target e h = cc
 register_load-fits capability None value i target e h = cc
@@ -142,7 +173,8 @@ load-fits capability (r ∷ []) i target e h = cc
 load-fits capability (r ∷ x ∷ []) i target e h = register_load-fits capability (register_named r) (expression_of x) i target e h
 load-fits capability (r ∷ x ∷ y ∷ rest) i target e h = cc
 
-number-fits : (make : ℕ → Statement) (other : Option Statement) (r : Result ℤ LineFault) → ((n : ℕ) (i : Insn) (target : Option Expression) → make n ≡ row i target → ⊥) → SaidFits (number_said make other r)
+number-fits : (make : ℕ → Statement) (other : Option Statement) (r : Result ℤ LineFault)
+    → ((n : ℕ) (i : Insn) (target : Option Expression) → make n ≡ row i target → ⊥) → SaidFits (number_said make other r)
 number-fits make other (Ok n) f i target e h = absurd (f (wrapped n) i target (cc))
 number-fits make other (Err fault) f i target e h = cc
 
@@ -152,7 +184,8 @@ entry-fits (Err fault) i target e h = cc
 
 values-fits : (size : ℕ) (operands : List ℕ) → SaidFits (values_said size operands)
 values-fits size [] i target e h = cc
-values-fits size (b ∷ bs) i target e h = unless-fits (values size (b ∷ bs)) (values_fault size (pieces_of (b ∷ bs))) (λ j t p q. cc) i target e h
+values-fits size (b ∷ bs) i target e h =
+    unless-fits (values size (b ∷ bs)) (values_fault size (pieces_of (b ∷ bs))) (λ j t p q. cc) i target e h
 
 quoted-fits : (test : Bool) (between : List ℕ) → SaidFits (if test then said (Some (text between)) None else said None (Some A2))
 quoted-fits true between i target e h = cc
@@ -169,28 +202,36 @@ unfolding said_by
 said-fits word operands =
     one-fits (is_word word (codes "la")) (load_said false (pieces_of operands)) _ (load-fits false (pieces_of operands)) (
     one-fits (is_word word (codes "cla")) (load_said true (pieces_of operands)) _ (load-fits true (pieces_of operands)) (
-    one-fits (is_word word (codes ".pages")) (number_said pages (Some (pages 0)) (page_count (number_of operands))) _ (number-fits pages (Some (pages 0)) (page_count (number_of operands)) (λ n i t q. cc)) (
-    one-fits (is_word word (codes ".mode")) (number_said (λ n. mode (n == 1)) (Some (mode false)) (up_to 1 (number_of operands))) _ (number-fits (λ n. mode (n == 1)) (Some (mode false)) (up_to 1 (number_of operands)) (λ n i t q. cc)) (
+    one-fits (is_word word (codes ".pages")) (number_said pages (Some (pages 0)) (page_count (number_of operands))) _
+    (number-fits pages (Some (pages 0)) (page_count (number_of operands)) (λ n i t q. cc)) (
+    one-fits (is_word word (codes ".mode")) (number_said (λ n. mode (n == 1)) (Some (mode false)) (up_to 1 (number_of operands))) _
+    (number-fits (λ n. mode (n == 1)) (Some (mode false)) (up_to 1 (number_of operands)) (λ n i t q. cc)) (
     one-fits (is_word word (codes ".entry")) (entry_said (expression_of operands)) _ (entry-fits (expression_of operands)) (
-    one-fits (is_word word (codes ".org")) (number_said org None (up_to (2 ^ 64 - 1) (number_of operands))) _ (number-fits org None (up_to (2 ^ 64 - 1) (number_of operands)) (λ n i t q. cc)) (
-    one-fits (is_word word (codes ".align")) (number_said align None (up_to 12 (number_of operands))) _ (number-fits align None (up_to 12 (number_of operands)) (λ n i t q. cc)) (
-    one-fits (is_word word (codes ".zero")) (number_said zeros None (up_to 268435456 (number_of operands))) _ (number-fits zeros None (up_to 268435456 (number_of operands)) (λ n i t q. cc)) (
+    one-fits (is_word word (codes ".org")) (number_said org None (up_to (2 ^ 64 - 1) (number_of operands))) _
+    (number-fits org None (up_to (2 ^ 64 - 1) (number_of operands)) (λ n i t q. cc)) (
+    one-fits (is_word word (codes ".align")) (number_said align None (up_to 12 (number_of operands))) _
+    (number-fits align None (up_to 12 (number_of operands)) (λ n i t q. cc)) (
+    one-fits (is_word word (codes ".zero")) (number_said zeros None (up_to 268435456 (number_of operands))) _
+    (number-fits zeros None (up_to 268435456 (number_of operands)) (λ n i t q. cc)) (
     one-fits (is_word word (codes ".byte")) (values_said 1 operands) _ (values-fits 1 operands) (
     one-fits (is_word word (codes ".half")) (values_said 2 operands) _ (values-fits 2 operands) (
     one-fits (is_word word (codes ".word")) (values_said 4 operands) _ (values-fits 4 operands) (
     one-fits (is_word word (codes ".dword")) (values_said 8 operands) _ (values-fits 8 operands) (
-    one-fits (is_word word (codes ".ascii")) (text_said operands) _ (quoted-fits (is_quoted operands) (take (length operands - 2) (drop 1 operands))) (
+    one-fits (is_word word (codes ".ascii")) (text_said operands) _
+    (quoted-fits (is_quoted operands) (take (length operands - 2) (drop 1 operands))) (
     the-pattern-fits (pattern_of word (length operands == 0)) operands (pattern-suits word (length operands == 0)))))))))))))))
 
 -- the same, where what is said is one equation
-pub said_by-fits : (word operands : List ℕ) (i : Insn) (target : Option Expression) → said_by word operands ≡ said (Some (row i target)) None → FitsAt i target
+pub said_by-fits : (word operands : List ℕ) (i : Insn) (target : Option Expression)
+    → said_by word operands ≡ said (Some (row i target)) None → FitsAt i target
 said_by-fits word operands i target e = said-fits word operands i target (ap (λ s. s.statement) e) (ap (λ s. s.fault) e)
 
 line_said-fits : (label : Option (List ℕ)) (statement : List ℕ) → RowFits (line_said label statement)
 line_said-fits label [] i target e h = cc
 line_said-fits label (b ∷ bs) i target e h = said-fits (mnemonic_of (b ∷ bs)) (operands_of (b ∷ bs)) i target e h
 
-checked-fits : (foreign long : Bool) (l : Line) → RowFits l → RowFits (if foreign then labelled None (said None (Some A8)) else (if long then labelled None (said None (Some A9)) else l))
+checked-fits : (foreign long : Bool) (l : Line) → RowFits l
+    → RowFits (if foreign then labelled None (said None (Some A8)) else (if long then labelled None (said None (Some A9)) else l))
 checked-fits true long l f i target e h = cc
 checked-fits false true l f i target e h = cc
 checked-fits false false l f i target e h = f i target e h
@@ -200,4 +241,5 @@ pub line_meaning-fits : (line : List ℕ) → RowFits (line_meaning line)
 unfolding line_meaning
 line_meaning-fits line =
     let statement = trimmed (uncommented line) in
-    checked-fits (nat_lt (prefix_len (λ b. not (is_foreign b)) line) (length line)) (nat_lt 255 (length line)) (line_of_text statement) (line_said-fits (label_of statement) (statement_text statement))
+    checked-fits (nat_lt (prefix_len (λ b. not (is_foreign b)) line) (length line)) (nat_lt 255 (length line)) (line_of_text statement)
+    (line_said-fits (label_of statement) (statement_text statement))

@@ -3,7 +3,8 @@ use Rattle.std.proofs.Common.{◌≡◌, ℕ, ◌<◌, ◌≤◌, inl, Bool, tru
 use Rattle.std.specs.Prelude.{nat_le}
 use Rattle.std.proofs.lemmas.Bool.Decides.{nat_tests}
 use Rattle.isa_rows.specs.declared.formats.Format.{Format}
-use Rattle.isa_rows.specs.declared.formats.Format.TheVariants.{Upper, Jump, Immediate, Unsigned, Store, Branch, Shift6, Shift5, Register, Whole, Unary, Pair}
+use Rattle.isa_rows.specs.declared.formats.Format.TheVariants.{Upper, Jump, Immediate, Unsigned, Store, Branch, Shift6, Shift5, Register}
+use Rattle.isa_rows.specs.declared.formats.Format.TheVariants.{Whole, Unary, Pair}
 use Rattle.isa_rows.specs.declared.operands.Insn.{Insn}
 use Rattle.isa_rows.specs.declared.rows.Row.{Row}
 use Rattle.isa_rows.specs.Line.{line_of}
@@ -95,7 +96,8 @@ record AreBelow (rd rs1 rs2 : ℕ) (i : Insn) : Type 0 where
   rs1_below : i.rs1 < rs1
   rs2_below : i.rs2 < rs2
 
-registers-below : (r : Row) (rd rs1 rs2 : ℕ) (b : Bounds) (d : Draft) → are_registers_below rd rs1 rs2 b ≡ true → IsWithin r b d → AreBelow rd rs1 rs2 d.insn
+registers-below : (r : Row) (rd rs1 rs2 : ℕ) (b : Bounds) (d : Draft) → are_registers_below rd rs1 rs2 b ≡ true → IsWithin r b d
+    → AreBelow rd rs1 rs2 d.insn
 registers-below r rd rs1 rs2 b d t w =
     let a : b.rd ≤ rd = grind (arith, nat_tests) in
     let k : b.rs1 ≤ rs1 = grind (arith, nat_tests) in
@@ -107,49 +109,110 @@ operands-fit : (format : Format) (r : Row) (b : Bounds) (d : Draft) → suits fo
 unfolding OperandsFit
 operands-fit Upper r b d t w =
     let a = registers-below r 32 1 1 b d (grind (arith, nat_tests)) w in
-    record { rd_below = a.rd_below; rs1_below = a.rs1_below; rs2_below = a.rs2_below; imm_is = kind-upper d.insn.imm b.imm (grind (arith, nat_tests)) w.imm_is }
+    record {
+      rd_below = a.rd_below;
+      rs1_below = a.rs1_below;
+      rs2_below = a.rs2_below;
+      imm_is = kind-upper d.insn.imm b.imm
+          (grind (arith, nat_tests)) w.imm_is;
+    }
 operands-fit Jump r b d t w =
     let a = registers-below r 32 1 1 b d (grind (arith, nat_tests)) w in
     let z : d.insn.imm < 1 = kind-below 1 d.insn.imm b.imm (grind (arith, nat_tests)) w.imm_is in
     record { rd_below = a.rd_below; rs1_below = a.rs1_below; rs2_below = a.rs2_below; imm_is = (omega arith, inl (omega arith)) }
 operands-fit Immediate r b d t w =
     let a = registers-below r 32 32 1 b d (grind (arith, nat_tests)) w in
-    record { rd_below = a.rd_below; rs1_below = a.rs1_below; rs2_below = a.rs2_below; imm_is = kind-signed d.insn.imm b.imm (grind (arith, nat_tests)) w.imm_is }
+    record {
+      rd_below = a.rd_below;
+      rs1_below = a.rs1_below;
+      rs2_below = a.rs2_below;
+      imm_is = kind-signed d.insn.imm b.imm
+          (grind (arith, nat_tests)) w.imm_is;
+    }
 operands-fit Unsigned r b d t w =
     let a = registers-below r 32 32 1 b d (grind (arith, nat_tests)) w in
-    record { rd_below = a.rd_below; rs1_below = a.rs1_below; rs2_below = a.rs2_below; imm_is = kind-below 4096 d.insn.imm b.imm (grind (arith, nat_tests)) w.imm_is }
+    record {
+      rd_below = a.rd_below;
+      rs1_below = a.rs1_below;
+      rs2_below = a.rs2_below;
+      imm_is = kind-below 4096 d.insn.imm b.imm
+          (grind (arith, nat_tests)) w.imm_is;
+    }
 operands-fit Store r b d t w =
     let a = registers-below r 1 32 32 b d (grind (arith, nat_tests)) w in
-    record { rd_below = a.rd_below; rs1_below = a.rs1_below; rs2_below = a.rs2_below; imm_is = kind-signed d.insn.imm b.imm (grind (arith, nat_tests)) w.imm_is }
+    record {
+      rd_below = a.rd_below;
+      rs1_below = a.rs1_below;
+      rs2_below = a.rs2_below;
+      imm_is = kind-signed d.insn.imm b.imm
+          (grind (arith, nat_tests)) w.imm_is;
+    }
 operands-fit Branch r b d t w =
     let a = registers-below r 1 32 32 b d (grind (arith, nat_tests)) w in
     let z : d.insn.imm < 1 = kind-below 1 d.insn.imm b.imm (grind (arith, nat_tests)) w.imm_is in
     record { rd_below = a.rd_below; rs1_below = a.rs1_below; rs2_below = a.rs2_below; imm_is = (omega arith, inl (omega arith)) }
 operands-fit Shift6 r b d t w =
     let a = registers-below r 32 32 1 b d (grind (arith, nat_tests)) w in
-    record { rd_below = a.rd_below; rs1_below = a.rs1_below; rs2_below = a.rs2_below; imm_is = kind-below 64 d.insn.imm b.imm (grind (arith, nat_tests)) w.imm_is }
+    record {
+      rd_below = a.rd_below;
+      rs1_below = a.rs1_below;
+      rs2_below = a.rs2_below;
+      imm_is = kind-below 64 d.insn.imm b.imm
+          (grind (arith, nat_tests)) w.imm_is;
+    }
 operands-fit Shift5 r b d t w =
     let a = registers-below r 32 32 1 b d (grind (arith, nat_tests)) w in
-    record { rd_below = a.rd_below; rs1_below = a.rs1_below; rs2_below = a.rs2_below; imm_is = kind-below 32 d.insn.imm b.imm (grind (arith, nat_tests)) w.imm_is }
+    record {
+      rd_below = a.rd_below;
+      rs1_below = a.rs1_below;
+      rs2_below = a.rs2_below;
+      imm_is = kind-below 32 d.insn.imm b.imm
+          (grind (arith, nat_tests)) w.imm_is;
+    }
 operands-fit Register r b d t w =
     let a = registers-below r 32 32 32 b d (grind (arith, nat_tests)) w in
-    record { rd_below = a.rd_below; rs1_below = a.rs1_below; rs2_below = a.rs2_below; imm_is = kind-below 1 d.insn.imm b.imm (grind (arith, nat_tests)) w.imm_is }
+    record {
+      rd_below = a.rd_below;
+      rs1_below = a.rs1_below;
+      rs2_below = a.rs2_below;
+      imm_is = kind-below 1 d.insn.imm b.imm
+          (grind (arith, nat_tests)) w.imm_is;
+    }
 operands-fit Whole r b d t w =
     let a = registers-below r 1 1 1 b d (grind (arith, nat_tests)) w in
-    record { rd_below = a.rd_below; rs1_below = a.rs1_below; rs2_below = a.rs2_below; imm_is = kind-below 1 d.insn.imm b.imm (grind (arith, nat_tests)) w.imm_is }
+    record {
+      rd_below = a.rd_below;
+      rs1_below = a.rs1_below;
+      rs2_below = a.rs2_below;
+      imm_is = kind-below 1 d.insn.imm b.imm
+          (grind (arith, nat_tests)) w.imm_is;
+    }
 operands-fit Unary r b d t w =
     let a = registers-below r 32 32 1 b d (grind (arith, nat_tests)) w in
-    record { rd_below = a.rd_below; rs1_below = a.rs1_below; rs2_below = a.rs2_below; imm_is = kind-below 1 d.insn.imm b.imm (grind (arith, nat_tests)) w.imm_is }
+    record {
+      rd_below = a.rd_below;
+      rs1_below = a.rs1_below;
+      rs2_below = a.rs2_below;
+      imm_is = kind-below 1 d.insn.imm b.imm
+          (grind (arith, nat_tests)) w.imm_is;
+    }
 operands-fit Pair r b d t w =
     let a = registers-below r 1 32 32 b d (grind (arith, nat_tests)) w in
-    record { rd_below = a.rd_below; rs1_below = a.rs1_below; rs2_below = a.rs2_below; imm_is = kind-below 1 d.insn.imm b.imm (grind (arith, nat_tests)) w.imm_is }
+    record {
+      rd_below = a.rd_below;
+      rs1_below = a.rs1_below;
+      rs2_below = a.rs2_below;
+      imm_is = kind-below 1 d.insn.imm b.imm
+          (grind (arith, nat_tests)) w.imm_is;
+    }
 
 -- no target where there may be none
 no-target : (target : Bool) (e : Expression) → not target ≡ true → IsMarked target (Some e) → ⊥
 no-target true e t m = cc
 no-target false e t m = m
 
-target-fits : (format : Format) (r : Row) (b : Bounds) (d : Draft) (e : Expression) (distance : ℕ) → suits format b ≡ true → IsWithin r b d → IsMarked b.target (Some e) → IsTargetOffset format distance → OperandsFit format (record d.insn { imm = distance })
+target-fits : (format : Format) (r : Row) (b : Bounds) (d : Draft) (e : Expression) (distance : ℕ) → suits format b ≡ true → IsWithin r b d
+    → IsMarked b.target (Some e) → IsTargetOffset format distance → OperandsFit format (record d.insn { imm = distance })
 unfolding OperandsFit
 target-fits Upper r b d e n t w m h = absurd (no-target b.target e (grind (arith, nat_tests)) m)
 target-fits Jump r b d e n t w m h =
@@ -168,6 +231,8 @@ target-fits Whole r b d e n t w m h = absurd (no-target b.target e (grind (arith
 target-fits Unary r b d e n t w m h = absurd (no-target b.target e (grind (arith, nat_tests)) m)
 target-fits Pair r b d e n t w m h = absurd (no-target b.target e (grind (arith, nat_tests)) m)
 
-pub fits-at : (b : Bounds) (i : Insn) (target : Option Expression) → suits (line_of i.row).format b ≡ true → IsWithin i.row b (record { insn = i; target = target }) → FitsAt i target
+pub fits-at : (b : Bounds) (i : Insn) (target : Option Expression) → suits (line_of i.row).format b ≡ true
+    → IsWithin i.row b (record { insn = i; target = target }) → FitsAt i target
 fits-at b i None t w = Fits-OperandsFit i (operands-fit (line_of i.row).format i.row b _ t w)
-fits-at b i (Some e) t w = λ n h. Fits-OperandsFit (record i { imm = n }) (target-fits (line_of i.row).format i.row b _ e n t w w.target_is h)
+fits-at b i (Some e) t w =
+    λ n h. Fits-OperandsFit (record i { imm = n }) (target-fits (line_of i.row).format i.row b _ e n t w w.target_is h)

@@ -1,6 +1,7 @@
 -- What one line of a text says: a label, a statement, and the first fault that the line alone decides.
 use Rattle.base.specs.Ram.{most_pages}
-use Rattle.std.specs.Prelude.{◌≡◌, ℕ, nat_lt, if◌then◌else◌, List, [], ◌∷◌, length, not, Option, Some, None, option_map, Result, Ok, Err, ℤ, pos, neg_ℤ, ◌<ℤ◌, ◌<◌, ◌≤◌, ◌^◌}
+use Rattle.std.specs.Prelude.{◌≡◌, ℕ, nat_lt, if◌then◌else◌, List, [], ◌∷◌, length, not, Option, Some, None, option_map, Result, Ok, Err, ℤ}
+use Rattle.std.specs.Prelude.{pos, neg_ℤ, ◌<ℤ◌, ◌<◌, ◌≤◌, ◌^◌}
 use Rattle.std.specs.List.{prefix_len}
 use Rattle.isa_rows.specs.declared.formats.Format.{Format}
 use Rattle.isa_rows.specs.declared.formats.Format.TheVariants.{Branch}
@@ -16,7 +17,8 @@ use Rattle.asm_lines.specs.declared.parsed.Statement.TheVariants.{Row, Load, Pag
 use Rattle.asm_lines.specs.declared.parsed.Expression.{Expression as Written}
 use Rattle.asm_lines.specs.Text.{is_foreign, trimmed, uncommented, label_of, statement_text, mnemonic_of, operands_of}
 use Rattle.asm_lines.specs.Number.{Expression, expression}
-use Rattle.asm_lines.specs.Statement.{IsSize, Statement, row, load, pages, mode, entry, org, align, zeros, values, text, Said, said, said_by}
+use Rattle.asm_lines.specs.Statement.{IsSize, Statement, row, load, pages, mode, entry, org, align, zeros, values, text, Said, said}
+use Rattle.asm_lines.specs.Statement.{said_by}
 
 pub record Line : Type 0 where
   pub label : Option (List ℕ)

@@ -1,10 +1,12 @@
 -- Operands as they are written, slot by slot, and what they make of an instruction.
-use Rattle.std.specs.Prelude.{ℕ, ◌*◌, ◌-◌, ◌%◌, ◌^◌, Bool, true, false, not, ◌&&◌, ◌||◌, ◌==◌, nat_lt, if◌then◌else◌, ℤ, pos, negsuc, neg_ℤ, int_lt, List, [], ◌∷◌, length, take, slice_index, Option, Some, None, Result, Ok, Err}
+use Rattle.std.specs.Prelude.{ℕ, ◌*◌, ◌-◌, ◌%◌, ◌^◌, Bool, true, false, not, ◌&&◌, ◌||◌, ◌==◌, nat_lt, if◌then◌else◌, ℤ, pos, negsuc, neg_ℤ}
+use Rattle.std.specs.Prelude.{int_lt, List, [], ◌∷◌, length, take, slice_index, Option, Some, None, Result, Ok, Err}
 use Rattle.std.specs.List.{prefix_len, before_first, after_first}
 use Rattle.isa_rows.specs.declared.operands.Insn.{Insn}
 use Rattle.isa_rows.specs.Insn.{sign_extended}
 use Rattle.isa_rows.specs.declared.slots.Slot.{Slot}
-use Rattle.isa_rows.specs.declared.slots.Slot.TheVariants.{Rd, Rs1, Rs2, Signed, Unsigned, Upper, Small, Csr, Special, Address, Authority, Target}
+use Rattle.isa_rows.specs.declared.slots.Slot.TheVariants.{Rd, Rs1, Rs2, Signed, Unsigned, Upper, Small, Csr, Special, Address, Authority}
+use Rattle.isa_rows.specs.declared.slots.Slot.TheVariants.{Target}
 use Rattle.asm_names.specs.Registers.{register_named}
 use Rattle.asm_names.specs.SpecialNames.{csr_named, scr_named}
 use Rattle.asm_lines.specs.declared.fault.LineFault.{LineFault}
@@ -99,7 +101,8 @@ with_address d None r = Err A2
 -- `imm(rs1)` and `(rs1)`
 abbrev pub filled_address : List ℕ → Draft → Result Draft LineFault
 filled_address text d =
-    if has_brackets text then with_address d (register_named (in_brackets text)) (signed_12 (displacement (before_bracket text))) else Err A2
+    if has_brackets text then with_address d (register_named (in_brackets text))
+    (signed_12 (displacement (before_bracket text))) else Err A2
 
 abbrev pub filled_authority : List ℕ → Draft → Result Draft LineFault
 filled_authority text d =

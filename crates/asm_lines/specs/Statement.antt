@@ -1,6 +1,7 @@
 -- Statements: rows and their aliases, the two-row loads of a value, directives.
 use Rattle.base.specs.Ram.{most_pages}
-use Rattle.std.specs.Prelude.{◌≡◌, ◌⊎◌, ℕ, ◌*◌, ◌-◌, ◌^◌, Bool, true, false, not, ◌&&◌, ◌||◌, ◌==◌, nat_eq, if◌then◌else◌, ℤ, pos, neg_ℤ, int_lt, List, [], ◌∷◌, length, take, drop, slice_index, Option, Some, None, Result, Ok, Err, codes}
+use Rattle.std.specs.Prelude.{◌≡◌, ◌⊎◌, ℕ, ◌*◌, ◌-◌, ◌^◌, Bool, true, false, not, ◌&&◌, ◌||◌, ◌==◌, nat_eq, if◌then◌else◌, ℤ, pos, neg_ℤ}
+use Rattle.std.specs.Prelude.{int_lt, List, [], ◌∷◌, length, take, drop, slice_index, Option, Some, None, Result, Ok, Err, codes}
 use Rattle.std.specs.Cmp.Lexicographic.{pointwise}
 use Rattle.isa_rows.specs.declared.rows.Row.{Row}
 use Rattle.isa_rows.specs.declared.rows.Row.TheVariants.{Addi, Jal, Jalr, Fence, FenceI}
@@ -179,7 +180,8 @@ abbrev pub text_bytes : List ℕ → List ℕ
 text_bytes between = text_bytes_from false between
 
 abbrev pub text_said : List ℕ → Said
-text_said operands = if is_quoted operands then said (Some (text (take (length operands - 2) (drop 1 operands)))) None else said None (Some A2)
+text_said operands =
+    if is_quoted operands then said (Some (text (take (length operands - 2) (drop 1 operands)))) None else said None (Some A2)
 
 -- what a mnemonic and its operands say
 unfoldable pub said_by : List ℕ → List ℕ → Said

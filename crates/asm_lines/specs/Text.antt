@@ -1,5 +1,6 @@
 -- How a line is cut: white space, comments, the label, the mnemonic, operands between commas.
-use Rattle.std.specs.Prelude.{ℕ, ◌-◌, Bool, false, not, ◌&&◌, ◌||◌, ◌==◌, nat_lt, nat_le, if◌then◌else◌, List, [], ◌∷◌, map, length, take, drop, slice_index, Option, Some, None}
+use Rattle.std.specs.Prelude.{ℕ, ◌-◌, Bool, false, not, ◌&&◌, ◌||◌, ◌==◌, nat_lt, nat_le, if◌then◌else◌, List, [], ◌∷◌, map, length, take}
+use Rattle.std.specs.Prelude.{drop, slice_index, Option, Some, None}
 use Rattle.std.specs.List.{prefix_len, suffix_len, before_first, after_first, slice_split}
 use Rattle.asm_lines.specs.declared.comment.Quoting.{Quoting}
 use Rattle.asm_lines.specs.declared.comment.Quoting.TheVariants.{Outside, Inside, Escaped}

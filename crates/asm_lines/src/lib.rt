@@ -21,6 +21,3 @@ pub use number::expression;
 pub use operand::natural;
 pub use parsed::{Expression, Parsed, Statement};
 pub use text::split_piece;
-
-#[cfg(test)]
-mod tests;

@@ -12,6 +12,3 @@ pub use mnemonics::{mnemonic, row_named};
 pub use operands::slots_of;
 pub use registers::{register_name, register_named};
 pub use special_names::{csr_name, csr_named, scr_name, scr_named};
-
-#[cfg(test)]
-mod tests;

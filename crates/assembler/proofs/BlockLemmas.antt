@@ -12,11 +12,14 @@ insert-later t ts i s = grind (arith, common_steps)
 pub inserted-insert : (s : Section) (ts : List Section) → insert ts (position_or_len (λ t. nat_lt s.address t.address) ts) s ≡ inserted s ts
 inserted-insert s [] = refl
 inserted-insert s (t ∷ ts) =
-    elim (nat_lt s.address t.address) as (λ b. insert (t ∷ ts) (cond (not b) (1 + position_or_len (λ u. nat_lt s.address u.address) ts) 0) s ≡ cond b (s ∷ t ∷ ts) (t ∷ inserted s ts)) [
+    elim (nat_lt s.address t.address) as
+    (λ b. insert (t ∷ ts) (cond (not b) (1 + position_or_len (λ u. nat_lt s.address u.address) ts) 0) s
+    ≡ cond b (s ∷ t ∷ ts) (t ∷ inserted s ts)) [
       | true ↦ refl
       | false ↦ insert-later t ts _ s ∙ ap (λ r. t ∷ r) (inserted-insert s ts)
     ]
 
-pub inserted-at : (s : Section) (ts new : List Section) (a r : ℕ) → a ≡ s.address → r ≡ position_or_len (λ t. nat_lt a t.address) ts → new ≡ insert ts r s → new ≡ inserted s ts
+pub inserted-at : (s : Section) (ts new : List Section) (a r : ℕ) → a ≡ s.address → r ≡ position_or_len (λ t. nat_lt a t.address) ts
+    → new ≡ insert ts r s → new ≡ inserted s ts
 inserted-at s ts new a r e f g =
     g ∙ ap (λ i. insert ts i s) (f ∙ ap (λ b. position_or_len (λ t. nat_lt b t.address) ts) e) ∙ inserted-insert s ts

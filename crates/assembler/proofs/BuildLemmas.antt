@@ -1,5 +1,7 @@
 -- Of lines without a fault an image can be built.
-use Rattle.std.proofs.Common.{◌≡◌, ℕ, ◌+◌, ◌-◌, ◌*◌, ◌/◌, ◌^◌, ◌<◌, ◌≤◌, Bool, true, false, not, ◌&&◌, ◌||◌, ◌==◌, nat_lt, nat_le, ℤ, List, [], ◌∷◌, ◌++◌, length, length-append, zero, suc, Option, Some, None, is_some, is_none, refl, sym, ap, ◌∙◌, subst, pow_pos, arith}
+use Rattle.std.proofs.Common.{◌≡◌, ℕ, ◌+◌, ◌-◌, ◌*◌, ◌/◌, ◌^◌, ◌<◌, ◌≤◌, Bool, true, false, not, ◌&&◌, ◌||◌, ◌==◌, nat_lt, nat_le, ℤ, List}
+use Rattle.std.proofs.Common.{[], ◌∷◌, ◌++◌, length, length-append, zero, suc, Option, Some, None, is_some, is_none, refl, sym, ap, ◌∙◌}
+use Rattle.std.proofs.Common.{subst, pow_pos, arith}
 use Rattle.std.specs.Int.{bytes_low_first}
 use Rattle.std.specs.List.{flat_map}
 use Rattle.std.proofs.lemmas.List.{length-replicate}
@@ -15,7 +17,10 @@ use Rattle.asm_lines.specs.Line.{Line}
 use Rattle.assembler.specs.Places.{Symbols, aligned, end_of, end_after}
 use Rattle.assembler.specs.Values.{value_of, known_and, is_entry, has_unknown_name, is_out_of_reach}
 use Rattle.assembler.specs.Bytes.{or_zero, value_at, bytes_at, insn_bytes, value_bytes}
-use Rattle.assembler.specs.Faults.{Assembled, given, page_count, is_misplaced, is_statement_misplaced, fault_in_text, line_fault, lacks_place, size_at, is_instruction, closed, filled, empty_at, with_bytes, with_statement, with_statement_of, assembled_after, opening}
+use Rattle.assembler.specs.Faults.{Assembled, given, page_count, is_misplaced, is_statement_misplaced, line_fault, lacks_place, size_at}
+use Rattle.assembler.specs.Faults.{is_instruction, closed, filled, empty_at, with_bytes, with_statement, with_statement_of, assembled_after}
+use Rattle.assembler.specs.Faults.{opening}
+use Rattle.assembler.specs.FaultLaws.{fault_in_text}
 use Rattle.assembler.specs.Buildable.{is_paged, is_paged_or_none, is_paged_line, is_paged_unless, IsUnbegun, IsBuildable}
 use Rattle.assembler.proofs.TestLemmas.{or-false, and-second, and-rest, not-false, not-below, true-false}
 use Rattle.assembler.proofs.SectionLemmas.{AreGood, closed-good, IsFree, grown}
@@ -37,11 +42,18 @@ length-low : (n i x : ℕ) → length (bytes_low_first i n x) ≡ n
 length-low zero i x = refl
 length-low (suc n) i x = ap (λ k. suc k) (length-low n (suc i) x)
 
-length-values : (symbols : Symbols) (here size : ℕ) (ps : List (List ℕ)) → length (flat_map (value_bytes symbols here size) ps) ≡ size * length ps
+length-values : (symbols : Symbols) (here size : ℕ) (ps : List (List ℕ))
+    → length (flat_map (value_bytes symbols here size) ps) ≡ size * length ps
 unfolding value_bytes
 length-values symbols here size [] = omega arith
 length-values symbols here size (p ∷ ps) =
-    omega (arith, length-append (value_bytes symbols here size p) (flat_map (value_bytes symbols here size) ps), length-low size 0 (wrapped (value_at symbols here (expression_or_nought (expression_of p)))), length-values symbols here size ps)
+    omega (
+      arith,
+      length-append (value_bytes symbols here size p) (flat_map (value_bytes symbols here size) ps),
+      length-low size 0
+          (wrapped (value_at symbols here (expression_or_nought (expression_of p)))),
+      length-values symbols here size ps,
+    )
 
 aligned-behind : (place unit : ℕ) → 0 < unit → place ≤ (place + unit - 1) / unit * unit
 aligned-behind place unit h = omega arith
@@ -55,7 +67,8 @@ placed-row : (symbols : Symbols) (here : ℕ) (i : Insn) (target : Option Expres
 unfolding bytes_at end_of insn_bytes
 placed-row symbols here i target = record { bytes = refl; end = refl }
 
-placed-load : (symbols : Symbols) (here : ℕ) (capability : Bool) (rd : ℕ) (value : Expression) → IsPlaced symbols here (load capability rd value)
+placed-load : (symbols : Symbols) (here : ℕ) (capability : Bool) (rd : ℕ) (value : Expression)
+    → IsPlaced symbols here (load capability rd value)
 unfolding bytes_at end_of insn_bytes
 placed-load symbols here capability rd value = record { bytes = refl; end = refl }
 
@@ -88,7 +101,8 @@ good-base : (count : ℕ) → (nat_le 1 count && nat_le count most_pages) ≡ tr
 unfolding is_good_header
 good-base count h = grind (arith, nat_tests)
 
-good-entry : (count : ℕ) (value : Option ℤ) → is_none value ≡ false → known_and (λ v. not (is_entry count v)) value ≡ false → is_good_header count (wrapped (or_zero value)) 0 ≡ true
+good-entry : (count : ℕ) (value : Option ℤ) → is_none value ≡ false → known_and (λ v. not (is_entry count v)) value ≡ false
+    → is_good_header count (wrapped (or_zero value)) 0 ≡ true
 good-entry count None h g = cc
 good-entry count (Some v) h g = and-second _ _ (not-false (is_entry count v) g)
 
@@ -98,7 +112,8 @@ good-entry count (Some v) h g = and-second _ _ (not-false (is_entry count v) g)
 abbrev at-place : Assembled → ℕ → Symbols → Assembled
 at-place s end symbols = record s { places = record { place = end; symbols = symbols } }
 
-is-free : (s : Assembled) (n : ℕ) (instruction : Bool) → lacks_place s s.places.place n instruction ≡ false → 0 < n → IsFree (page_count s) s.done s.current s.places.place n
+is-free : (s : Assembled) (n : ℕ) (instruction : Bool) → lacks_place s s.places.place n instruction ≡ false → 0 < n
+    → IsFree (page_count s) s.done s.current s.places.place n
 is-free s n instruction h f =
     let some : nat_lt 0 n ≡ true = grind (arith, nat_tests) in
     let a = or-false _ _ (and-rest _ _ some h) in
@@ -112,7 +127,9 @@ is-free s n instruction h f =
       few = room-left (length s.current.bytes) (length s.done) d.0;
     }
 
-grown-buildable : (s : Assembled) (bytes : List ℕ) (n end : ℕ) (symbols : Symbols) (instruction : Bool) → IsBuildable s → length bytes ≡ n → end ≡ s.places.place + n → lacks_place s s.places.place n instruction ≡ false → IsBuildable (at-place (with_bytes s bytes) end symbols)
+grown-buildable : (s : Assembled) (bytes : List ℕ) (n end : ℕ) (symbols : Symbols) (instruction : Bool) → IsBuildable s → length bytes ≡ n
+    → end ≡ s.places.place + n → lacks_place s s.places.place n instruction ≡ false
+    → IsBuildable (at-place (with_bytes s bytes) end symbols)
 grown-buildable s bytes n end symbols instruction b e g h =
     let both : length (s.current.bytes ++ bytes) ≡ length s.current.bytes + n = omega (arith, length-append s.current.bytes bytes) in
     record {
@@ -121,15 +138,21 @@ grown-buildable s bytes n end symbols instruction b e g h =
       filled = b.filled;
       few = b.few;
       place = omega (arith, b.place);
-      current = grown (page_count s) s.done s.current (filled s.current bytes) n s.places.place refl both b.place b.filled (is-free s n instruction h) b.current;
+      current =
+          grown (page_count s) s.done s.current (filled s.current bytes) n s.places.place refl both b.place b.filled
+          (is-free s n instruction h) b.current;
       unbegun = λ x. absurd (true-false x);
     }
 
-statement-grown : (symbols new : Symbols) (s : Assembled) (t : Statement) → IsBuildable s → IsFaultless symbols s t → IsPlaced symbols s.places.place t → IsBuildable (at-place (with_bytes s (bytes_at symbols s.places.place t)) (end_of t s.places.place) new)
+statement-grown : (symbols new : Symbols) (s : Assembled) (t : Statement) → IsBuildable s → IsFaultless symbols s t
+    → IsPlaced symbols s.places.place t
+    → IsBuildable (at-place (with_bytes s (bytes_at symbols s.places.place t)) (end_of t s.places.place) new)
 statement-grown symbols new s t b f p =
-    grown-buildable s (bytes_at symbols s.places.place t) (size_at t s.places.place) (end_of t s.places.place) new (is_instruction t) b p.bytes p.end f.placed
+    grown-buildable s (bytes_at symbols s.places.place t) (size_at t s.places.place) (end_of t s.places.place) new
+    (is_instruction t) b p.bytes p.end f.placed
 
-pages-buildable : (s : Assembled) (n : ℕ) (new : Symbols) → IsBuildable s → (is_some s.pages || s.begun) ≡ false → is_paged (pages n) ≡ true → IsBuildable (at-place (record s { pages = Some n }) s.places.place new)
+pages-buildable : (s : Assembled) (n : ℕ) (new : Symbols) → IsBuildable s → (is_some s.pages || s.begun) ≡ false → is_paged (pages n) ≡ true
+    → IsBuildable (at-place (record s { pages = Some n }) s.places.place new)
 pages-buildable s n new b h p =
     let u : IsUnbegun s = b.unbegun (or-false _ _ h).1 in
     record {
@@ -142,7 +165,8 @@ pages-buildable s n new b h p =
       unbegun = λ x. record { done = u.done; current = u.current; entry = u.entry };
     }
 
-entry-buildable : (s : Assembled) (e : ℕ) (new : Symbols) → IsBuildable s → is_good_header (page_count s) e 0 ≡ true → IsBuildable (at-place (record s { begun = true; entry = Some e }) s.places.place new)
+entry-buildable : (s : Assembled) (e : ℕ) (new : Symbols) → IsBuildable s → is_good_header (page_count s) e 0 ≡ true
+    → IsBuildable (at-place (record s { begun = true; entry = Some e }) s.places.place new)
 entry-buildable s e new b h =
     record {
       header = h;
@@ -154,7 +178,8 @@ entry-buildable s e new b h =
       unbegun = λ x. absurd (true-false x);
     }
 
-org-buildable : (s : Assembled) (n : ℕ) (new : Symbols) → IsBuildable s → IsBuildable (at-place (record s { begun = true; done = closed s.done s.current; current = empty_at n }) n new)
+org-buildable : (s : Assembled) (n : ℕ) (new : Symbols) → IsBuildable s
+    → IsBuildable (at-place (record s { begun = true; done = closed s.done s.current; current = empty_at n }) n new)
 org-buildable s n new b =
     let good = closed-good (page_count s) s.done s.current (record { apart = b.apart; filled = b.filled; few = b.few }) b.current in
     record {
@@ -167,7 +192,8 @@ org-buildable s n new b =
       unbegun = λ x. absurd (true-false x);
     }
 
-same-buildable : (s : Assembled) (m : Option Bool) (new : Symbols) → IsBuildable s → IsBuildable (at-place (record s { mode = m }) s.places.place new)
+same-buildable : (s : Assembled) (m : Option Bool) (new : Symbols) → IsBuildable s
+    → IsBuildable (at-place (record s { mode = m }) s.places.place new)
 same-buildable s m new b =
     record {
       header = b.header;
@@ -179,26 +205,36 @@ same-buildable s m new b =
       unbegun = λ x. let u = b.unbegun x in record { done = u.done; current = u.current; entry = u.entry };
     }
 
-statement-buildable : (symbols new : Symbols) (s : Assembled) (t : Statement) → IsBuildable s → IsFaultless symbols s t → is_misplaced s t ≡ false → is_paged t ≡ true → IsBuildable (at-place (with_statement symbols s t) (end_of t s.places.place) new)
+statement-buildable : (symbols new : Symbols) (s : Assembled) (t : Statement) → IsBuildable s → IsFaultless symbols s t
+    → is_misplaced s t ≡ false → is_paged t ≡ true → IsBuildable (at-place (with_statement symbols s t) (end_of t s.places.place) new)
 unfolding end_of has_unknown_name is_out_of_reach
-statement-buildable symbols new s (row i target) b f m p = statement-grown symbols new s (row i target) b f (placed-row symbols s.places.place i target)
-statement-buildable symbols new s (load capability rd value) b f m p = statement-grown symbols new s (load capability rd value) b f (placed-load symbols s.places.place capability rd value)
+statement-buildable symbols new s (row i target) b f m p =
+    statement-grown symbols new s (row i target) b f (placed-row symbols s.places.place i target)
+statement-buildable symbols new s (load capability rd value) b f m p =
+    statement-grown symbols new s (load capability rd value) b f (placed-load symbols s.places.place capability rd value)
 statement-buildable symbols new s (pages n) b f m p = pages-buildable s n new b m p
 statement-buildable symbols new s (mode x) b f m p = same-buildable s (Some x) new b
 statement-buildable symbols new s (entry e) b f m p =
-    entry-buildable s (wrapped (value_at symbols s.places.place e)) new b (good-entry (page_count s) (value_of symbols s.places.place e) f.named f.near)
+    entry-buildable s (wrapped (value_at symbols s.places.place e)) new b
+    (good-entry (page_count s) (value_of symbols s.places.place e) f.named f.near)
 statement-buildable symbols new s (org n) b f m p = org-buildable s n new b
-statement-buildable symbols new s (align bits) b f m p = statement-grown symbols new s (align bits) b f (placed-align symbols s.places.place bits)
+statement-buildable symbols new s (align bits) b f m p =
+    statement-grown symbols new s (align bits) b f (placed-align symbols s.places.place bits)
 statement-buildable symbols new s (zeros n) b f m p = statement-grown symbols new s (zeros n) b f (placed-zeros symbols s.places.place n)
-statement-buildable symbols new s (values size operands) b f m p = statement-grown symbols new s (values size operands) b f (placed-values symbols s.places.place size operands)
-statement-buildable symbols new s (text between) b f m p = statement-grown symbols new s (text between) b f (placed-text symbols s.places.place between)
+statement-buildable symbols new s (values size operands) b f m p =
+    statement-grown symbols new s (values size operands) b f (placed-values symbols s.places.place size operands)
+statement-buildable symbols new s (text between) b f m p =
+    statement-grown symbols new s (text between) b f (placed-text symbols s.places.place between)
 
-any-buildable : (symbols new : Symbols) (s : Assembled) (t : Option Statement) → IsBuildable s → is_statement_misplaced s t ≡ false → fault_in_text symbols s t ≡ None → is_paged_or_none t ≡ true → IsBuildable (at-place (with_statement_of symbols s t) (end_after t s.places.place) new)
+any-buildable : (symbols new : Symbols) (s : Assembled) (t : Option Statement) → IsBuildable s → is_statement_misplaced s t ≡ false
+    → fault_in_text symbols s t ≡ None → is_paged_or_none t ≡ true
+    → IsBuildable (at-place (with_statement_of symbols s t) (end_after t s.places.place) new)
 any-buildable symbols new s None b m f p = same-buildable s s.mode new b
 any-buildable symbols new s (Some t) b m f p = statement-buildable symbols new s t b (statement_fault-none symbols s t f) m p
 
 -- a line without a fault leaves what an image can be built of
-after-buildable : (symbols : Symbols) (s : Assembled) (l : Line) → IsBuildable s → line_fault symbols s l ≡ None → is_paged_line l ≡ true → IsBuildable (assembled_after symbols s l)
+after-buildable : (symbols : Symbols) (s : Assembled) (l : Line) → IsBuildable s → line_fault symbols s l ≡ None → is_paged_line l ≡ true
+    → IsBuildable (assembled_after symbols s l)
 unfolding assembled_after
 after-buildable symbols s l b h p =
     let n = line_fault-none symbols s l h in
@@ -216,7 +252,8 @@ opening-buildable =
       unbegun = λ x. record { done = refl; current = refl; entry = refl };
     }
 
-parts-none : (count start m : ℕ) (sections : List Section) → is_good_header count start m ≡ true → AreGood count sections → build_fault count start m sections ≡ None
+parts-none : (count start m : ℕ) (sections : List Section) → is_good_header count start m ≡ true → AreGood count sections
+    → build_fault count start m sections ≡ None
 unfolding build_fault
 parts-none count start m sections h good =
     let a : nat_lt 64 (length sections) ≡ false = not-above (length sections) good.few in
@@ -224,16 +261,20 @@ parts-none count start m sections h good =
     cc
 
 -- an image can be built of it
-buildable-none : (s : Assembled) (m : ℕ) → m ≤ 1 → IsBuildable s → build_fault (page_count s) (given ram_base s.entry) m (closed s.done s.current) ≡ None
+buildable-none : (s : Assembled) (m : ℕ) → m ≤ 1 → IsBuildable s
+    → build_fault (page_count s) (given ram_base s.entry) m (closed s.done s.current) ≡ None
 buildable-none s m h b =
-    parts-none (page_count s) (given ram_base s.entry) m (closed s.done s.current) (good-mode (page_count s) (given ram_base s.entry) m h b.header)
+    parts-none (page_count s) (given ram_base s.entry) m (closed s.done s.current)
+    (good-mode (page_count s) (given ram_base s.entry) m h b.header)
     (closed-good (page_count s) s.done s.current (record { apart = b.apart; filled = b.filled; few = b.few }) b.current)
 
 pub new_buildable : (s : Assembled) → s ≡ opening → IsBuildable s
 new_buildable s e = subst IsBuildable (sym e) opening-buildable
 
-pub kept_buildable : (symbols : Symbols) (s new : Assembled) (l : Line) → new ≡ assembled_after symbols s l → IsBuildable s → line_fault symbols s l ≡ None → is_paged_line l ≡ true → IsBuildable new
+pub kept_buildable : (symbols : Symbols) (s new : Assembled) (l : Line) → new ≡ assembled_after symbols s l → IsBuildable s
+    → line_fault symbols s l ≡ None → is_paged_line l ≡ true → IsBuildable new
 kept_buildable symbols s new l e b h p = subst IsBuildable (sym e) (after-buildable symbols s l b h p)
 
-pub finished_none : (s : Assembled) (count start m : ℕ) (sections : List Section) → count ≡ page_count s → start ≡ given ram_base s.entry → m ≤ 1 → sections ≡ closed s.done s.current → IsBuildable s → build_fault count start m sections ≡ None
+pub finished_none : (s : Assembled) (count start m : ℕ) (sections : List Section) → count ≡ page_count s → start ≡ given ram_base s.entry
+    → m ≤ 1 → sections ≡ closed s.done s.current → IsBuildable s → build_fault count start m sections ≡ None
 finished_none s count start m sections e f h g b = rw (e, f, g) (buildable-none s m h b)

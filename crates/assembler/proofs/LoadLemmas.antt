@@ -9,15 +9,18 @@ use Rattle.isa_rows.specs.Operands.{IsSignedOf, IsUpperImmediate, OperandsFit}
 
 pub based_fits : (rd imm : ℕ) → rd < 32 → IsUpperImmediate imm → Fits (insn Auipc rd 0 0 imm)
 unfolding line_of OperandsFit
-based_fits rd imm r h = Fits-OperandsFit (insn Auipc rd 0 0 imm) (record { rd_below = r; rs1_below = omega arith; rs2_below = omega arith; imm_is = h })
+based_fits rd imm r h =
+    Fits-OperandsFit (insn Auipc rd 0 0 imm) (record { rd_below = r; rs1_below = omega arith; rs2_below = omega arith; imm_is = h })
 
 pub number_fits : (rd imm : ℕ) → rd < 32 → IsSignedOf 12 imm → Fits (insn Addi rd rd 0 imm)
 unfolding line_of OperandsFit
-number_fits rd imm r h = Fits-OperandsFit (insn Addi rd rd 0 imm) (record { rd_below = r; rs1_below = r; rs2_below = omega arith; imm_is = h })
+number_fits rd imm r h =
+    Fits-OperandsFit (insn Addi rd rd 0 imm) (record { rd_below = r; rs1_below = r; rs2_below = omega arith; imm_is = h })
 
 pub capability_fits : (rd imm : ℕ) → rd < 32 → IsSignedOf 12 imm → Fits (insn CIncOffsetImm rd rd 0 imm)
 unfolding line_of OperandsFit
-capability_fits rd imm r h = Fits-OperandsFit (insn CIncOffsetImm rd rd 0 imm) (record { rd_below = r; rs1_below = r; rs2_below = omega arith; imm_is = h })
+capability_fits rd imm r h =
+    Fits-OperandsFit (insn CIncOffsetImm rd rd 0 imm) (record { rd_below = r; rs1_below = r; rs2_below = omega arith; imm_is = h })
 
 pub upper_fits : (n : ℕ) → IsUpperImmediate (sign_extended 32 (n % 2 ^ 20 * 2 ^ 12))
 unfolding sign_extended

@@ -1,14 +1,19 @@
 -- The statement of a line has a size of values, an alignment to at most 4096 bytes, at most 2 ^ 28 zeros, and texts within the line.
-use Rattle.std.proofs.Common.{◌≡◌, ℕ, ◌+◌, ◌≤◌, ◌-◌, ◌%◌, ◌^◌, Bool, true, false, not, ◌||◌, ◌==◌, nat_lt, nat_le, if◌then◌else◌, ℤ, pos, negsuc, List, [], ◌∷◌, length, take, drop, Option, Some, None, Result, Ok, Err, codes, refl, arith}
+use Rattle.std.proofs.Common.{◌≡◌, ℕ, ◌+◌, ◌≤◌, ◌-◌, ◌%◌, ◌^◌, Bool, true, false, not, ◌||◌, ◌==◌, nat_lt, nat_le, if◌then◌else◌, ℤ, pos}
+use Rattle.std.proofs.Common.{negsuc, List, [], ◌∷◌, length, take, drop, Option, Some, None, Result, Ok, Err, codes, refl, arith}
 use Rattle.std.specs.List.{prefix_len, suffix_len, position_or_len, after_first}
 use Rattle.std.proofs.lemmas.List.{length-drop, length-take}
 use Rattle.std.proofs.lemmas.Bool.Decides.{nat_tests}
 use Rattle.asm_lines.specs.declared.fault.LineFault.{LineFault}
 use Rattle.asm_lines.specs.declared.fault.LineFault.TheVariants.{A1, A2, A3, A8, A9}
-use Rattle.asm_lines.specs.Text.{is_blank, trimmed_start, uncommented_from, quoting_after, begins_comment, has_label, pieces_of, is_foreign, trimmed, uncommented, label_of, statement_text, mnemonic_of, operands_of}
+use Rattle.asm_lines.specs.Text.{is_blank, trimmed_start, uncommented_from, quoting_after, begins_comment, has_label, pieces_of, is_foreign}
+use Rattle.asm_lines.specs.Text.{trimmed, uncommented, label_of, statement_text, mnemonic_of, operands_of}
 use Rattle.asm_lines.specs.Number.{Expression, number_of, expression_of}
 use Rattle.asm_lines.specs.Operand.{up_to, wrapped, filled_draft, filled_fault}
-use Rattle.asm_lines.specs.Statement.{Statement, row, load, pages, mode, entry, org, align, zeros, values, text, Said, said, said_by, is_word, Pattern, pattern_of, pattern_said, draft_of, said_unless, leaves_statement, register_load, load_said, number_said, page_count, entry_said, values_said, values_fault, text_said, is_quoted, expression_or_nought}
+use Rattle.asm_lines.specs.Statement.{Statement, row, load, pages, mode, entry, org, align, zeros, values, text, Said, said, said_by}
+use Rattle.asm_lines.specs.Statement.{is_word, Pattern, pattern_of, pattern_said, draft_of, said_unless, leaves_statement, register_load}
+use Rattle.asm_lines.specs.Statement.{load_said, number_said, page_count, entry_said, values_said, values_fault, text_said, is_quoted}
+use Rattle.asm_lines.specs.Statement.{expression_or_nought}
 use Rattle.asm_lines.specs.Line.{Line, line_meaning, line_said, line_of_text, labelled}
 use Rattle.assembler.proofs.TestLemmas.{both-true, not-below}
 use Rattle.assembler.specs.Modest.{is_size, is_modest, is_modest_or_none, is_modest_line}
@@ -30,9 +35,11 @@ pattern-modest (Some p) operands =
     unless-modest (row d.insn d.target) (filled_fault p.slots (pieces_of operands) (draft_of p)) refl
 pattern-modest None operands = refl
 
-register_load-modest : (capability : Bool) (rd : Option ℕ) (value : Result Expression LineFault) → IsModest (register_load capability rd value)
+register_load-modest : (capability : Bool) (rd : Option ℕ) (value : Result Expression LineFault)
+    → IsModest (register_load capability rd value)
 register_load-modest capability (Some rd) (Ok x) = refl
-register_load-modest capability (Some rd) (Err fault) = unless-modest (load capability rd (expression_or_nought (Err fault))) (Some fault) refl
+register_load-modest capability (Some rd) (Err fault) =
+    unless-modest (load capability rd (expression_or_nought (Err fault))) (Some fault) refl
 register_load-modest capability None value = refl
 
 load-modest : (capability : Bool) (ps : List (List ℕ)) → IsModest (load_said capability ps)
@@ -41,14 +48,16 @@ load-modest capability (r ∷ []) = refl
 load-modest capability (r ∷ x ∷ []) = register_load-modest capability _ _
 load-modest capability (r ∷ x ∷ y ∷ rest) = refl
 
-other-modest : (other : Option Statement) (fault : LineFault) → is_modest_or_none other ≡ true → IsModest (said (if leaves_statement (Some fault) then other else None) (Some fault))
+other-modest : (other : Option Statement) (fault : LineFault) → is_modest_or_none other ≡ true
+    → IsModest (said (if leaves_statement (Some fault) then other else None) (Some fault))
 other-modest other A1 h = refl
 other-modest other A2 h = refl
 other-modest other A3 h = h
 other-modest other A8 h = refl
 other-modest other A9 h = refl
 
-number-modest : (make : ℕ → Statement) (other : Option Statement) (r : Result ℤ LineFault) → ((n : ℕ) → is_modest (make n) ≡ true) → is_modest_or_none other ≡ true → IsModest (number_said make other r)
+number-modest : (make : ℕ → Statement) (other : Option Statement) (r : Result ℤ LineFault) → ((n : ℕ) → is_modest (make n) ≡ true)
+    → is_modest_or_none other ≡ true → IsModest (number_said make other r)
 number-modest make other (Ok n) f h = f (wrapped n)
 number-modest make other (Err fault) f h = other-modest other fault h
 
@@ -60,7 +69,8 @@ zeros-within n h = grind (arith, nat_tests)
 
 zeros-modest : (r : Result ℤ LineFault) → IsModest (number_said zeros None (up_to 268435456 r))
 zeros-modest (Ok (pos n)) =
-    elim (nat_lt n 0 || nat_lt 268435456 n) as (λ b. (nat_lt n 0 || nat_lt 268435456 n) ≡ b → IsModest (number_said zeros None (if b then Err A3 else Ok (pos n)))) [
+    elim (nat_lt n 0 || nat_lt 268435456 n) as
+    (λ b. (nat_lt n 0 || nat_lt 268435456 n) ≡ b → IsModest (number_said zeros None (if b then Err A3 else Ok (pos n)))) [
       | true ↦ λ e. refl
       | false ↦ λ e. zeros-within n e
     ] refl
@@ -69,7 +79,8 @@ zeros-modest (Err fault) = other-modest None fault refl
 
 align-modest : (r : Result ℤ LineFault) → IsModest (number_said align None (up_to 12 r))
 align-modest (Ok (pos n)) =
-    elim (nat_lt n 0 || nat_lt 12 n) as (λ b. (nat_lt n 0 || nat_lt 12 n) ≡ b → IsModest (number_said align None (if b then Err A3 else Ok (pos n)))) [
+    elim (nat_lt n 0 || nat_lt 12 n) as
+    (λ b. (nat_lt n 0 || nat_lt 12 n) ≡ b → IsModest (number_said align None (if b then Err A3 else Ok (pos n)))) [
       | true ↦ λ e. refl
       | false ↦ λ e. align-within n e
     ] refl
@@ -86,9 +97,11 @@ short n h = grind (arith, nat_tests)
 values-modest : (size : ℕ) (operands : List ℕ) → is_size size ≡ true → length operands ≤ 255 → IsModest (values_said size operands)
 values-modest size [] h g = refl
 values-modest size (b ∷ bs) h g =
-    unless-modest (values size (b ∷ bs)) (values_fault size (pieces_of (b ∷ bs))) (both-true (is_size size) (nat_le (length (b ∷ bs)) 255) h (short _ g))
+    unless-modest (values size (b ∷ bs)) (values_fault size (pieces_of (b ∷ bs)))
+    (both-true (is_size size) (nat_le (length (b ∷ bs)) 255) h (short _ g))
 
-quoted-modest : (test : Bool) (between : List ℕ) → length between ≤ 255 → IsModest (if test then said (Some (text between)) None else said None (Some A2))
+quoted-modest : (test : Bool) (between : List ℕ) → length between ≤ 255
+    → IsModest (if test then said (Some (text between)) None else said None (Some A2))
 quoted-modest true between h = short _ h
 quoted-modest false between h = refl
 
@@ -108,17 +121,22 @@ said-modest word operands short-enough =
     let n = number_of operands in
     one-modest (is_word word (codes "la")) (load_said false (pieces_of operands)) _ (load-modest false (pieces_of operands)) (
     one-modest (is_word word (codes "cla")) (load_said true (pieces_of operands)) _ (load-modest true (pieces_of operands)) (
-    one-modest (is_word word (codes ".pages")) (number_said pages (Some (pages 0)) (page_count n)) _ (number-modest pages (Some (pages 0)) (page_count n) (λ _. refl) refl) (
-    one-modest (is_word word (codes ".mode")) (number_said (λ m. mode (m == 1)) (Some (mode false)) (up_to 1 n)) _ (number-modest (λ m. mode (m == 1)) (Some (mode false)) (up_to 1 n) (λ _. refl) refl) (
+    one-modest (is_word word (codes ".pages")) (number_said pages (Some (pages 0)) (page_count n)) _
+    (number-modest pages (Some (pages 0)) (page_count n) (λ _. refl) refl) (
+    one-modest (is_word word (codes ".mode")) (number_said (λ m. mode (m == 1)) (Some (mode false)) (up_to 1 n)) _
+    (number-modest (λ m. mode (m == 1)) (Some (mode false)) (up_to 1 n) (λ _. refl) refl) (
     one-modest (is_word word (codes ".entry")) (entry_said (expression_of operands)) _ (entry-modest (expression_of operands)) (
-    one-modest (is_word word (codes ".org")) (number_said org None (up_to (2 ^ 64 - 1) n)) _ (number-modest org None (up_to (2 ^ 64 - 1) n) (λ _. refl) refl) (
+    one-modest (is_word word (codes ".org")) (number_said org None (up_to (2 ^ 64 - 1) n)) _
+    (number-modest org None (up_to (2 ^ 64 - 1) n) (λ _. refl) refl) (
     one-modest (is_word word (codes ".align")) (number_said align None (up_to 12 n)) _ (align-modest n) (
     one-modest (is_word word (codes ".zero")) (number_said zeros None (up_to 268435456 n)) _ (zeros-modest n) (
     one-modest (is_word word (codes ".byte")) (values_said 1 operands) _ (values-modest 1 operands refl short-enough) (
     one-modest (is_word word (codes ".half")) (values_said 2 operands) _ (values-modest 2 operands refl short-enough) (
     one-modest (is_word word (codes ".word")) (values_said 4 operands) _ (values-modest 4 operands refl short-enough) (
     one-modest (is_word word (codes ".dword")) (values_said 8 operands) _ (values-modest 8 operands refl short-enough) (
-    one-modest (is_word word (codes ".ascii")) (text_said operands) _ (quoted-modest (is_quoted operands) (take (length operands - 2) (drop 1 operands)) (omega (arith, length-take-most (length operands - 2) (drop 1 operands), length-drop-le 1 operands))) (
+    one-modest (is_word word (codes ".ascii")) (text_said operands) _
+    (quoted-modest (is_quoted operands) (take (length operands - 2) (drop 1 operands))
+    (omega (arith, length-take-most (length operands - 2) (drop 1 operands), length-drop-le 1 operands))) (
     pattern-modest (pattern_of word (length operands == 0)) operands)))))))))))))
 
 operands-shorter : (statement : List ℕ) → length (operands_of statement) ≤ length statement
@@ -126,11 +144,14 @@ operands-shorter statement =
     let behind = after_first is_blank statement in
     omega (arith, length-drop-le (prefix_len is_blank behind) behind, length-drop-le (position_or_len is_blank statement + 1) statement)
 
-line_said-modest : (label : Option (List ℕ)) (statement : List ℕ) → length statement ≤ 255 → is_modest_line (line_said label statement) ≡ true
+line_said-modest : (label : Option (List ℕ)) (statement : List ℕ) → length statement ≤ 255
+    → is_modest_line (line_said label statement) ≡ true
 line_said-modest label [] h = refl
 line_said-modest label (b ∷ bs) h = said-modest (mnemonic_of (b ∷ bs)) (operands_of (b ∷ bs)) (omega (arith, h, operands-shorter (b ∷ bs)))
 
-checked-modest : (foreign long : Bool) (l : Line) → (long ≡ false → is_modest_line l ≡ true) → is_modest_line (if foreign then labelled None (said None (Some A8)) else (if long then labelled None (said None (Some A9)) else l)) ≡ true
+checked-modest : (foreign long : Bool) (l : Line) → (long ≡ false → is_modest_line l ≡ true)
+    → is_modest_line (if foreign then labelled None (said None (Some A8)) else (if long then labelled None (said None (Some A9)) else l))
+    ≡ true
 checked-modest true long l h = refl
 checked-modest false true l h = refl
 checked-modest false false l h = h refl
@@ -140,7 +161,8 @@ uncommented-shorter : (quoting : _) (line : List ℕ) → length (uncommented_fr
 uncommented-shorter quoting [] = omega arith
 uncommented-shorter quoting (b ∷ bs) =
     let later = uncommented-shorter (quoting_after b quoting) bs in
-    elim (begins_comment b quoting) as (λ t. length (if t then [] else (b ∷ uncommented_from (quoting_after b quoting) bs)) ≤ length (b ∷ bs)) [
+    elim (begins_comment b quoting) as
+    (λ t. length (if t then [] else (b ∷ uncommented_from (quoting_after b quoting) bs)) ≤ length (b ∷ bs)) [
       | true ↦ omega arith
       | false ↦ omega arith
     ]
@@ -156,7 +178,8 @@ trimmed-shorter line =
 statement-shorter : (line : List ℕ) → length (statement_text line) ≤ length line
 statement-shorter line =
     elim (has_label line) as (λ t. length (if t then trimmed_start (after_first (λ b. b == 58) line) else line) ≤ length line) [
-      | true ↦ omega (arith, trimmed_start-shorter (after_first (λ b. b == 58) line), length-drop-le (position_or_len (λ b. b == 58) line + 1) line)
+      | true ↦ omega
+          (arith, trimmed_start-shorter (after_first (λ b. b == 58) line), length-drop-le (position_or_len (λ b. b == 58) line + 1) line)
       | false ↦ omega arith
     ]
 

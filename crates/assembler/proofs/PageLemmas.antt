@@ -1,6 +1,7 @@
 -- A line without a fault says a number of pages of 1 to the most, if it says one.
 use Rattle.base.specs.Ram.{most_pages}
-use Rattle.std.proofs.Common.{◌≡◌, ℕ, ◌-◌, ◌%◌, ◌^◌, Bool, true, false, not, ◌&&◌, ◌||◌, ◌==◌, nat_lt, nat_le, if◌then◌else◌, ℤ, pos, negsuc, List, [], ◌∷◌, length, take, drop, Option, Some, None, Result, Ok, Err, codes, refl, arith}
+use Rattle.std.proofs.Common.{◌≡◌, ℕ, ◌-◌, ◌%◌, ◌^◌, Bool, true, false, not, ◌&&◌, ◌||◌, ◌==◌, nat_lt, nat_le, if◌then◌else◌, ℤ, pos}
+use Rattle.std.proofs.Common.{negsuc, List, [], ◌∷◌, length, take, drop, Option, Some, None, Result, Ok, Err, codes, refl, arith}
 use Rattle.std.specs.List.{prefix_len}
 use Rattle.std.proofs.lemmas.Bool.Decides.{nat_tests}
 use Rattle.asm_lines.specs.declared.fault.LineFault.{LineFault}
@@ -8,7 +9,9 @@ use Rattle.asm_lines.specs.declared.fault.LineFault.TheVariants.{A2, A3, A8, A9}
 use Rattle.asm_lines.specs.Text.{pieces_of, is_foreign, trimmed, uncommented, label_of, statement_text, mnemonic_of, operands_of}
 use Rattle.asm_lines.specs.Number.{Expression, number_of, expression_of}
 use Rattle.asm_lines.specs.Operand.{up_to, wrapped, filled_draft, filled_fault}
-use Rattle.asm_lines.specs.Statement.{Statement, row, pages, mode, org, align, zeros, values, text, Said, said, said_by, is_word, Pattern, pattern_of, pattern_said, draft_of, said_unless, register_load, load_said, number_said, page_count, entry_said, values_said, values_fault, text_said, is_quoted}
+use Rattle.asm_lines.specs.Statement.{Statement, row, pages, mode, org, align, zeros, values, text, Said, said, said_by, is_word, Pattern}
+use Rattle.asm_lines.specs.Statement.{pattern_of, pattern_said, draft_of, said_unless, register_load, load_said, number_said, page_count}
+use Rattle.asm_lines.specs.Statement.{entry_said, values_said, values_fault, text_said, is_quoted}
 use Rattle.asm_lines.specs.Line.{Line, line_meaning, line_said, line_of_text, labelled}
 use Rattle.assembler.specs.Buildable.{is_paged, is_paged_unless, is_paged_line}
 
@@ -25,7 +28,8 @@ pattern-paged (Some p) operands =
     unless-paged (row d.insn d.target) (filled_fault p.slots (pieces_of operands) (draft_of p)) refl
 pattern-paged None operands = refl
 
-register_load-paged : (capability : Bool) (rd : Option ℕ) (value : Result Expression LineFault) → IsPaged (register_load capability rd value)
+register_load-paged : (capability : Bool) (rd : Option ℕ) (value : Result Expression LineFault)
+    → IsPaged (register_load capability rd value)
 register_load-paged capability (Some rd) (Ok x) = refl
 register_load-paged capability (Some rd) (Err fault) = refl
 register_load-paged capability None value = refl
@@ -36,7 +40,8 @@ load-paged capability (r ∷ []) = refl
 load-paged capability (r ∷ x ∷ []) = register_load-paged capability _ _
 load-paged capability (r ∷ x ∷ y ∷ rest) = refl
 
-number-paged : (make : ℕ → Statement) (other : Option Statement) (r : Result ℤ LineFault) → ((n : ℕ) → is_paged (make n) ≡ true) → IsPaged (number_said make other r)
+number-paged : (make : ℕ → Statement) (other : Option Statement) (r : Result ℤ LineFault) → ((n : ℕ) → is_paged (make n) ≡ true)
+    → IsPaged (number_said make other r)
 number-paged make other (Ok n) f = f (wrapped n)
 number-paged make other (Err fault) f = refl
 
@@ -45,7 +50,8 @@ pages-within n h = grind (arith, nat_tests)
 
 pages-paged : (r : Result ℤ LineFault) → IsPaged (number_said pages (Some (pages 0)) (page_count r))
 pages-paged (Ok (pos n)) =
-    elim (nat_lt n 1 || nat_lt most_pages n) as (λ b. (nat_lt n 1 || nat_lt most_pages n) ≡ b → IsPaged (number_said pages (Some (pages 0)) (if b then Err A3 else Ok (pos n)))) [
+    elim (nat_lt n 1 || nat_lt most_pages n) as
+    (λ b. (nat_lt n 1 || nat_lt most_pages n) ≡ b → IsPaged (number_said pages (Some (pages 0)) (if b then Err A3 else Ok (pos n)))) [
       | true ↦ λ e. refl
       | false ↦ λ e. pages-within n e
     ] refl
@@ -75,23 +81,29 @@ said-paged word operands =
     one-paged (is_word word (codes "la")) (load_said false (pieces_of operands)) _ (load-paged false (pieces_of operands)) (
     one-paged (is_word word (codes "cla")) (load_said true (pieces_of operands)) _ (load-paged true (pieces_of operands)) (
     one-paged (is_word word (codes ".pages")) (number_said pages (Some (pages 0)) (page_count n)) _ (pages-paged n) (
-    one-paged (is_word word (codes ".mode")) (number_said (λ m. mode (m == 1)) (Some (mode false)) (up_to 1 n)) _ (number-paged (λ m. mode (m == 1)) (Some (mode false)) (up_to 1 n) (λ _. refl)) (
+    one-paged (is_word word (codes ".mode")) (number_said (λ m. mode (m == 1)) (Some (mode false)) (up_to 1 n)) _
+    (number-paged (λ m. mode (m == 1)) (Some (mode false)) (up_to 1 n) (λ _. refl)) (
     one-paged (is_word word (codes ".entry")) (entry_said (expression_of operands)) _ (entry-paged (expression_of operands)) (
-    one-paged (is_word word (codes ".org")) (number_said org None (up_to (2 ^ 64 - 1) n)) _ (number-paged org None (up_to (2 ^ 64 - 1) n) (λ _. refl)) (
+    one-paged (is_word word (codes ".org")) (number_said org None (up_to (2 ^ 64 - 1) n)) _
+    (number-paged org None (up_to (2 ^ 64 - 1) n) (λ _. refl)) (
     one-paged (is_word word (codes ".align")) (number_said align None (up_to 12 n)) _ (number-paged align None (up_to 12 n) (λ _. refl)) (
-    one-paged (is_word word (codes ".zero")) (number_said zeros None (up_to 268435456 n)) _ (number-paged zeros None (up_to 268435456 n) (λ _. refl)) (
+    one-paged (is_word word (codes ".zero")) (number_said zeros None (up_to 268435456 n)) _
+    (number-paged zeros None (up_to 268435456 n) (λ _. refl)) (
     one-paged (is_word word (codes ".byte")) (values_said 1 operands) _ (values-paged 1 operands) (
     one-paged (is_word word (codes ".half")) (values_said 2 operands) _ (values-paged 2 operands) (
     one-paged (is_word word (codes ".word")) (values_said 4 operands) _ (values-paged 4 operands) (
     one-paged (is_word word (codes ".dword")) (values_said 8 operands) _ (values-paged 8 operands) (
-    one-paged (is_word word (codes ".ascii")) (text_said operands) _ (quoted-paged (is_quoted operands) (take (length operands - 2) (drop 1 operands))) (
+    one-paged (is_word word (codes ".ascii")) (text_said operands) _
+    (quoted-paged (is_quoted operands) (take (length operands - 2) (drop 1 operands))) (
     pattern-paged (pattern_of word (length operands == 0)) operands)))))))))))))
 
 line_said-paged : (label : Option (List ℕ)) (statement : List ℕ) → is_paged_line (line_said label statement) ≡ true
 line_said-paged label [] = refl
 line_said-paged label (b ∷ bs) = said-paged (mnemonic_of (b ∷ bs)) (operands_of (b ∷ bs))
 
-checked-paged : (foreign long : Bool) (l : Line) → is_paged_line l ≡ true → is_paged_line (if foreign then labelled None (said None (Some A8)) else (if long then labelled None (said None (Some A9)) else l)) ≡ true
+checked-paged : (foreign long : Bool) (l : Line) → is_paged_line l ≡ true
+    → is_paged_line (if foreign then labelled None (said None (Some A8)) else (if long then labelled None (said None (Some A9)) else l))
+    ≡ true
 checked-paged true long l h = refl
 checked-paged false true l h = refl
 checked-paged false false l h = h
@@ -100,4 +112,5 @@ pub line_meaning-paged : (line : List ℕ) → is_paged_line (line_meaning line)
 unfolding line_meaning
 line_meaning-paged line =
     let statement = trimmed (uncommented line) in
-    checked-paged (nat_lt (prefix_len (λ b. not (is_foreign b)) line) (length line)) (nat_lt 255 (length line)) (line_of_text statement) (line_said-paged (label_of statement) (statement_text statement))
+    checked-paged (nat_lt (prefix_len (λ b. not (is_foreign b)) line) (length line)) (nat_lt 255 (length line)) (line_of_text statement)
+    (line_said-paged (label_of statement) (statement_text statement))

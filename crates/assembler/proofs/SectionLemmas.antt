@@ -1,5 +1,6 @@
 -- Sections in RAM, in ascending order and apart, stay so when one that lies apart is put among them.
-use Rattle.std.proofs.Common.{◌≡◌, ℕ, ◌+◌, ◌<◌, ◌≤◌, true, false, ◌&&◌, ◌==◌, nat_lt, if◌then◌else◌, List, [], ◌∷◌, length, Option, Some, None, refl, subst, arith}
+use Rattle.std.proofs.Common.{◌≡◌, ℕ, ◌+◌, ◌<◌, ◌≤◌, true, false, ◌&&◌, ◌==◌, nat_lt, if◌then◌else◌, List, [], ◌∷◌, length, Option, Some}
+use Rattle.std.proofs.Common.{None, refl, subst, arith}
 use Rattle.std.specs.Option.{option_or}
 use Rattle.std.proofs.lemmas.Bool.Decides.{nat_tests}
 use Rattle.image.specs.declared.fault.ImageFault.{ImageFault}
@@ -31,18 +32,24 @@ before a n b m h g = grind (arith, nat_tests)
 behind : (a n b m : ℕ) → nat_lt a b ≡ false → 0 < n → (nat_lt a (b + m) && nat_lt b (a + n)) ≡ false → b + m ≤ a
 behind a n b m h f g = grind (arith, nat_tests)
 
-inserted-none : (pages free : ℕ) (s : Section) (ss : List Section) → 0 < length s.bytes → ram_base ≤ s.address → s.address + length s.bytes ≤ ram_end pages → free ≤ s.address → is_taken s.address (s.address + length s.bytes) ss ≡ false → sections_fault pages free ss ≡ None → sections_fault pages free (inserted s ss) ≡ None
+inserted-none : (pages free : ℕ) (s : Section) (ss : List Section) → 0 < length s.bytes → ram_base ≤ s.address
+    → s.address + length s.bytes ≤ ram_end pages → free ≤ s.address → is_taken s.address (s.address + length s.bytes) ss ≡ false
+    → sections_fault pages free ss ≡ None → sections_fault pages free (inserted s ss) ≡ None
 inserted-none pages free s [] f a b g p h = none-both _ None (span-none pages free s.address (length s.bytes) a b g) refl
 inserted-none pages free s (t ∷ ts) f a b g p h =
     let apart = or-false _ _ p in
     let both = both-none (span_fault pages free t.address (length t.bytes)) (sections_fault pages (t.address + length t.bytes) ts) h in
-    elim (nat_lt s.address t.address) as (λ x. nat_lt s.address t.address ≡ x → sections_fault pages free (if x then s ∷ t ∷ ts else (t ∷ inserted s ts)) ≡ None) [
+    elim (nat_lt s.address t.address) as
+    (λ x. nat_lt s.address t.address ≡ x → sections_fault pages free (if x then s ∷ t ∷ ts else (t ∷ inserted s ts)) ≡ None) [
       | true ↦ λ e.
           none-both _ _ (span-none pages free s.address (length s.bytes) a b g)
-          (none-both _ _ (span-moved pages free (s.address + length s.bytes) t.address (length t.bytes) both.0 (before s.address (length s.bytes) t.address (length t.bytes) e apart.0)) both.1)
+          (none-both _ _
+          (span-moved pages free (s.address + length s.bytes) t.address (length t.bytes) both.0
+          (before s.address (length s.bytes) t.address (length t.bytes) e apart.0)) both.1)
       | false ↦ λ e.
           none-both _ _ both.0
-          (inserted-none pages (t.address + length t.bytes) s ts f a b (behind s.address (length s.bytes) t.address (length t.bytes) e f apart.0) apart.1 both.1)
+          (inserted-none pages (t.address + length t.bytes) s ts f a b
+          (behind s.address (length s.bytes) t.address (length t.bytes) e f apart.0) apart.1 both.1)
     ] refl
 
 length-inserted : (s : Section) (ss : List Section) → length (inserted s ss) ≡ length ss + 1
@@ -67,7 +74,8 @@ pub record AreGood (pages : ℕ) (done : List Section) : Type 0 where
   pub filled : AreFilled done
   pub few : length done ≤ 64
 
-pub closed-good : (pages : ℕ) (done : List Section) (current : Section) → AreGood pages done → (0 < length current.bytes → HasRoom pages done current) → AreGood pages (closed done current)
+pub closed-good : (pages : ℕ) (done : List Section) (current : Section) → AreGood pages done
+    → (0 < length current.bytes → HasRoom pages done current) → AreGood pages (closed done current)
 closed-good pages done current good room =
     elim (length current.bytes == 0) as (λ x. (length current.bytes == 0) ≡ x → AreGood pages (if x then done else inserted current done)) [
       | true ↦ λ e. good
@@ -81,10 +89,12 @@ closed-good pages done current good room =
           }
     ] refl
 
-joined-one : (a b c x n : ℕ) → a < b → b < c → 0 < n → (nat_lt a (x + n) && nat_lt x b) ≡ false → (nat_lt b (x + n) && nat_lt x c) ≡ false → (nat_lt a (x + n) && nat_lt x c) ≡ false
+joined-one : (a b c x n : ℕ) → a < b → b < c → 0 < n → (nat_lt a (x + n) && nat_lt x b) ≡ false → (nat_lt b (x + n) && nat_lt x c) ≡ false
+    → (nat_lt a (x + n) && nat_lt x c) ≡ false
 joined-one a b c x n h g f p q = grind (arith, nat_tests)
 
-taken-joined : (a b c : ℕ) (ss : List Section) → a < b → b < c → AreFilled ss → is_taken a b ss ≡ false → is_taken b c ss ≡ false → is_taken a c ss ≡ false
+taken-joined : (a b c : ℕ) (ss : List Section) → a < b → b < c → AreFilled ss → is_taken a b ss ≡ false → is_taken b c ss ≡ false
+    → is_taken a c ss ≡ false
 taken-joined a b c [] h g f p q = refl
 taken-joined a b c (t ∷ ts) h g f p q =
     let x = or-false _ _ p in
@@ -98,7 +108,8 @@ pub record IsFree (pages : ℕ) (done : List Section) (s : Section) (place n : �
   pub apart : is_taken place (place + n) done ≡ false
   pub few : length s.bytes ≡ 0 → length done < 64
 
-grown-empty : (pages : ℕ) (done : List Section) (s t : Section) (n : ℕ) → t.address ≡ s.address → length t.bytes ≡ n → length s.bytes ≡ 0 → IsFree pages done s s.address n → HasRoom pages done t
+grown-empty : (pages : ℕ) (done : List Section) (s t : Section) (n : ℕ) → t.address ≡ s.address → length t.bytes ≡ n → length s.bytes ≡ 0
+    → IsFree pages done s s.address n → HasRoom pages done t
 grown-empty pages done s t n e g z f =
     record {
       above = omega (arith, f.above);
@@ -107,10 +118,14 @@ grown-empty pages done s t n e g z f =
       few = f.few z;
     }
 
-grown-filled : (pages : ℕ) (done : List Section) (s t : Section) (n : ℕ) → t.address ≡ s.address → length t.bytes ≡ length s.bytes + n → 0 < length s.bytes → 0 < n → AreFilled done → IsFree pages done s (s.address + length s.bytes) n → HasRoom pages done s → HasRoom pages done t
+grown-filled : (pages : ℕ) (done : List Section) (s t : Section) (n : ℕ) → t.address ≡ s.address → length t.bytes ≡ length s.bytes + n
+    → 0 < length s.bytes → 0 < n → AreFilled done → IsFree pages done s (s.address + length s.bytes) n → HasRoom pages done s
+    → HasRoom pages done t
 grown-filled pages done s t n e g z y filled f r =
     let end : t.address + length t.bytes ≡ s.address + length s.bytes + n = omega arith in
-    let joined = taken-joined s.address (s.address + length s.bytes) (s.address + length s.bytes + n) done (omega arith) (omega arith) filled r.apart f.apart in
+    let joined =
+    taken-joined s.address (s.address + length s.bytes) (s.address + length s.bytes + n) done (omega arith)
+    (omega arith) filled r.apart f.apart in
     record {
       above = omega (arith, r.above);
       below = omega (arith, f.below);
@@ -118,11 +133,14 @@ grown-filled pages done s t n e g z y filled f r =
       few = r.few;
     }
 
-same-room : (pages : ℕ) (done : List Section) (s t : Section) → t.address ≡ s.address → length t.bytes ≡ length s.bytes → HasRoom pages done s → HasRoom pages done t
+same-room : (pages : ℕ) (done : List Section) (s t : Section) → t.address ≡ s.address → length t.bytes ≡ length s.bytes
+    → HasRoom pages done s → HasRoom pages done t
 same-room pages done s t e g r =
     record { above = omega (arith, r.above); below = omega (arith, r.below); apart = cc (r.apart, e, g); few = r.few }
 
-pub grown : (pages : ℕ) (done : List Section) (s t : Section) (n place : ℕ) → t.address ≡ s.address → length t.bytes ≡ length s.bytes + n → place ≡ s.address + length s.bytes → AreFilled done → (0 < n → IsFree pages done s place n) → (0 < length s.bytes → HasRoom pages done s) → 0 < length t.bytes → HasRoom pages done t
+pub grown : (pages : ℕ) (done : List Section) (s t : Section) (n place : ℕ) → t.address ≡ s.address → length t.bytes ≡ length s.bytes + n
+    → place ≡ s.address + length s.bytes → AreFilled done → (0 < n → IsFree pages done s place n)
+    → (0 < length s.bytes → HasRoom pages done s) → 0 < length t.bytes → HasRoom pages done t
 grown pages done s t n place e g at filled free room h =
     elim (n == 0) as (λ x. (n == 0) ≡ x → HasRoom pages done t) [
       | true ↦ λ z.

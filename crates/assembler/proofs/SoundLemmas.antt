@@ -1,9 +1,11 @@
 -- A line without a fault: its values are known, and its instructions have words.
-use Rattle.std.proofs.Common.{option_map, ◌≡◌, ℕ, Bool, true, false, not, inl, inr, if◌then◌else◌, ℤ, pos, negsuc, ◌-ℤ◌, List, [], ◌∷◌, Option, Some, None, is_none, refl, sym, ap, ◌∙◌, subst, arith}
+use Rattle.std.proofs.Common.{option_map, ◌≡◌, ℕ, Bool, true, false, not, inl, inr, if◌then◌else◌, ℤ, pos, negsuc, ◌-ℤ◌, List, [], ◌∷◌}
+use Rattle.std.proofs.Common.{Option, Some, None, is_none, refl, sym, ap, ◌∙◌, subst, arith}
 use Rattle.std.proofs.lemmas.Bool.Decides.{nat_tests}
 use Rattle.std.proofs.lemmas.Int.{ints}
 use Rattle.isa_rows.specs.declared.formats.Format.{Format}
-use Rattle.isa_rows.specs.declared.formats.Format.TheVariants.{Upper, Jump, Immediate, Unsigned, Store, Branch, Shift6, Shift5, Register, Whole, Unary, Pair}
+use Rattle.isa_rows.specs.declared.formats.Format.TheVariants.{Upper, Jump, Immediate, Unsigned, Store, Branch, Shift6, Shift5, Register}
+use Rattle.isa_rows.specs.declared.formats.Format.TheVariants.{Whole, Unary, Pair}
 use Rattle.isa_rows.specs.Line.{line_of}
 use Rattle.isa_rows.specs.Operands.{IsBranchOffset, IsJumpOffset}
 use Rattle.asm_lines.specs.declared.fault.LineFault.{LineFault}
@@ -19,9 +21,11 @@ use Rattle.asm_lines.specs.Line.{Line, RowFits, IsTargetOffset, IsBounded, IsBou
 use Rattle.assembler.specs.declared.fault.AsmCode.{AsmCode}
 use Rattle.assembler.specs.declared.fault.AsmCode.TheVariants.{A1, A2, A3, A4, A5, A6, A7}
 use Rattle.assembler.specs.Places.{Symbols}
-use Rattle.assembler.specs.Values.{value_of, any_value, known_and, is_beyond, has_value_beyond, has_unknown_name, is_out_of_reach, is_reached, reach_of}
+use Rattle.assembler.specs.Values.{value_of, any_value, known_and, is_beyond, has_value_beyond, has_unknown_name, is_out_of_reach}
+use Rattle.assembler.specs.Values.{is_reached, reach_of}
 use Rattle.assembler.specs.Bytes.{or_zero}
-use Rattle.assembler.specs.Faults.{Assembled, page_count, line_fault, fault_by, fault_in_text, statement_fault, is_statement_misplaced, lacks_place, size_at, is_instruction}
+use Rattle.assembler.specs.Faults.{Assembled, page_count, line_fault, is_statement_misplaced, lacks_place, size_at, is_instruction}
+use Rattle.assembler.specs.FaultLaws.{fault_by, fault_in_text, statement_fault, line_fault-by}
 use Rattle.assembler.proofs.TestLemmas.{or-false, not-false}
 use Rattle.assembler.specs.Sound.{IsKnown, ArePiecesKnown, IsValued, HasWords}
 
@@ -40,7 +44,8 @@ pub record IsFaultless (symbols : Symbols) (s : Assembled) (statement : Statemen
   pub near : is_out_of_reach (page_count s) symbols s.places.place statement ≡ false
   pub placed : lacks_place s s.places.place (size_at statement s.places.place) (is_instruction statement) ≡ false
 
-pub statement_fault-none : (symbols : Symbols) (s : Assembled) (statement : Statement) → statement_fault symbols s statement ≡ None → IsFaultless symbols s statement
+pub statement_fault-none : (symbols : Symbols) (s : Assembled) (statement : Statement) → statement_fault symbols s statement ≡ None
+    → IsFaultless symbols s statement
 unfolding statement_fault
 statement_fault-none symbols s statement h =
     let a = if-none _ A3 _ h in
@@ -55,7 +60,8 @@ pub record IsLineFaultless (symbols : Symbols) (s : Assembled) (l : Line) : Type
   pub timely : is_statement_misplaced s l.statement ≡ false
   pub in_text : fault_in_text symbols s l.statement ≡ None
 
-fault_by-none : (symbols : Symbols) (s : Assembled) (l : Line) (fault : Option LineFault) → fault_by symbols s l fault ≡ None → (fault ≡ None) × (is_statement_misplaced s l.statement ≡ false) × (fault_in_text symbols s l.statement ≡ None)
+fault_by-none : (symbols : Symbols) (s : Assembled) (l : Line) (fault : Option LineFault) → fault_by symbols s l fault ≡ None
+    → (fault ≡ None) × (is_statement_misplaced s l.statement ≡ false) × (fault_in_text symbols s l.statement ≡ None)
 unfolding fault_by
 fault_by-none symbols s l (Some line.A8) h = cc
 fault_by-none symbols s l (Some line.A9) h = cc
@@ -66,7 +72,7 @@ fault_by-none symbols s l None h = let a = if-none _ A4 _ h in let b = if-none _
 
 pub line_fault-none : (symbols : Symbols) (s : Assembled) (l : Line) → line_fault symbols s l ≡ None → IsLineFaultless symbols s l
 line_fault-none symbols s l h =
-    let a = fault_by-none symbols s l l.fault h in
+    let a = fault_by-none symbols s l l.fault (sym (line_fault-by symbols s l) ∙ h) in
     record { parsed = a.0; timely = a.1; in_text = a.2 }
 
 -- a value that is neither unknown nor beyond the limits
@@ -80,11 +86,14 @@ in-size-limits size v (inr (inl e)) h = let g = rw e at h in grind (arith, ints,
 in-size-limits size v (inr (inr (inl e))) h = let g = rw e at h in grind (arith, ints, nat_tests)
 in-size-limits size v (inr (inr (inr e))) h = let g = rw e at h in grind (arith, ints, nat_tests)
 
-sized-value : (size : ℕ) (value : Option ℤ) → IsSize size → known_and (λ v. not (is_in_size size v)) value ≡ false → is_none value ≡ false → IsKnown value
+sized-value : (size : ℕ) (value : Option ℤ) → IsSize size → known_and (λ v. not (is_in_size size v)) value ≡ false → is_none value ≡ false
+    → IsKnown value
 sized-value size None s h g = cc
 sized-value size (Some v) s h g = in-size-limits size v s h
 
-known-pieces : (size : ℕ) (symbols : Symbols) (here : ℕ) (ps : List (List ℕ)) → IsSize size → any_value (known_and (λ v. not (is_in_size size v))) symbols here ps ≡ false → any_value is_none symbols here ps ≡ false → ArePiecesKnown symbols here ps
+known-pieces : (size : ℕ) (symbols : Symbols) (here : ℕ) (ps : List (List ℕ)) → IsSize size
+    → any_value (known_and (λ v. not (is_in_size size v))) symbols here ps ≡ false → any_value is_none symbols here ps ≡ false
+    → ArePiecesKnown symbols here ps
 known-pieces size symbols here [] s h g = tt
 known-pieces size symbols here (p ∷ ps) s h g =
     let a = or-false _ _ h in
@@ -92,7 +101,8 @@ known-pieces size symbols here (p ∷ ps) s h g =
     (sized-value size _ s a.0 b.0, known-pieces size symbols here ps s a.1 b.1)
 
 -- each value of a statement without a fault is known
-faultless-valued : (symbols : Symbols) (s : Assembled) (r : Read) → IsBounded r → IsFaultless symbols s (seen_statement r) → IsValued symbols s.places.place (seen_statement r)
+faultless-valued : (symbols : Symbols) (s : Assembled) (r : Read) → IsBounded r → IsFaultless symbols s (seen_statement r)
+    → IsValued symbols s.places.place (seen_statement r)
 unfolding has_value_beyond has_unknown_name
 faultless-valued symbols s (Row i None) b f = tt
 faultless-valued symbols s (Row i (Some e)) b f = known-value _ f.in_range f.named
@@ -103,7 +113,8 @@ faultless-valued symbols s (Entry e) b f = known-value _ f.in_range f.named
 faultless-valued symbols s (Org n) b f = tt
 faultless-valued symbols s (Align n) b f = tt
 faultless-valued symbols s (Zero n) b f = tt
-faultless-valued symbols s (Values size operands) b f = known-pieces size symbols s.places.place (pieces_of operands.now) b f.in_range f.named
+faultless-valued symbols s (Values size operands) b f =
+    known-pieces size symbols s.places.place (pieces_of operands.now) b f.in_range f.named
 faultless-valued symbols s (Text between) b f = tt
 
 -- an even distance within reach is one that the format holds
@@ -129,16 +140,21 @@ reached-offset Whole d h = jump-offset d h
 reached-offset Unary d h = jump-offset d h
 reached-offset Pair d h = jump-offset d h
 
-near-offset : (format : Format) (here : ℕ) (value : Option ℤ) → is_none value ≡ false → known_and (λ v. not (is_reached (reach_of format) (v -ℤ pos here))) value ≡ false → IsTargetOffset format (wrapped (or_zero value -ℤ pos here))
+near-offset : (format : Format) (here : ℕ) (value : Option ℤ) → is_none value ≡ false
+    → known_and (λ v. not (is_reached (reach_of format) (v -ℤ pos here))) value ≡ false
+    → IsTargetOffset format (wrapped (or_zero value -ℤ pos here))
 near-offset format here None g h = cc
 near-offset format here (Some v) g h = reached-offset format (v -ℤ pos here) (not-false _ h)
 
 -- each instruction of a statement without a fault has a word
-faultless-words : (symbols : Symbols) (s : Assembled) (l : Line) (r : Read) → IsBounded r → RowFits l → l.statement ≡ Some (seen_statement r) → l.fault ≡ None → IsFaultless symbols s (seen_statement r) → HasWords symbols s.places.place (seen_statement r)
+faultless-words : (symbols : Symbols) (s : Assembled) (l : Line) (r : Read) → IsBounded r → RowFits l
+    → l.statement ≡ Some (seen_statement r) → l.fault ≡ None → IsFaultless symbols s (seen_statement r)
+    → HasWords symbols s.places.place (seen_statement r)
 unfolding has_unknown_name is_out_of_reach
 faultless-words symbols s l (Row i None) b fits e p f = fits i None e p
 faultless-words symbols s l (Row i (Some x)) b fits e p f =
-    fits i (Some (seen_expression x)) e p _ (near-offset (line_of i.row).format s.places.place (value_of symbols s.places.place (seen_expression x)) f.named f.near)
+    fits i (Some (seen_expression x)) e p _
+    (near-offset (line_of i.row).format s.places.place (value_of symbols s.places.place (seen_expression x)) f.named f.near)
 faultless-words symbols s l (Load capability rd value) b fits e p f = b.0
 faultless-words symbols s l (Pages n) b fits e p f = tt
 faultless-words symbols s l (Mode m) b fits e p f = tt
@@ -155,10 +171,16 @@ pub record IsSound (symbols : Symbols) (s : Assembled) (r : Read) : Type 0 where
   pub valued : IsValued symbols s.places.place (seen_statement r)
   pub words : HasWords symbols s.places.place (seen_statement r)
 
-pub sound : (symbols : Symbols) (s : Assembled) (p : Parsed) (r : Read) → p.statement ≡ Some r → IsBoundedIfAny p.statement → RowFits (seen_line p) → line_fault symbols s (seen_line p) ≡ None → IsSound symbols s r
+pub sound : (symbols : Symbols) (s : Assembled) (p : Parsed) (r : Read) → p.statement ≡ Some r → IsBoundedIfAny p.statement
+    → RowFits (seen_line p) → line_fault symbols s (seen_line p) ≡ None → IsSound symbols s r
 sound symbols s p r e b fits h =
     let n = line_fault-none symbols s (seen_line p) h in
     let seen : (seen_line p).statement ≡ Some (seen_statement r) = ap (option_map seen_statement) e in
     let f = statement_fault-none symbols s (seen_statement r) (sym (ap (fault_in_text symbols s) seen) ∙ n.in_text) in
     let bound : IsBounded r = subst IsBoundedIfAny e b in
-    record { faultless = f; valued = faultless-valued symbols s r bound f; words = faultless-words symbols s (seen_line p) r bound fits seen n.parsed f }
+    record {
+      faultless = f;
+      valued = faultless-valued symbols s r bound f;
+      words = faultless-words symbols s
+          (seen_line p) r bound fits seen n.parsed f;
+    }

@@ -1,5 +1,7 @@
 -- What is assembled so far, and the first fault of the next line.
-use Rattle.std.specs.Prelude.{ℕ, ◌+◌, ◌-◌, ◌%◌, Bool, true, false, not, ◌&&◌, ◌||◌, ◌==◌, nat_lt, nat_le, if◌then◌else◌, List, [], ◌∷◌, ◌++◌, length, Option, Some, None, is_some}
+use Rattle.std.specs.Prelude.{ℕ, ◌+◌, ◌-◌, ◌%◌, Bool, true, false, not, ◌&&◌, ◌||◌, ◌==◌, nat_lt, nat_le, if◌then◌else◌, List, [], ◌∷◌}
+use Rattle.std.specs.Prelude.{◌++◌, length, Option, Some, None, is_some}
+use Rattle.base.specs.FirstFault.{first_fault}
 use Rattle.base.specs.Ram.{ram_base, ram_end}
 use Rattle.image.specs.Image.{Section}
 use Rattle.asm_lines.specs.declared.fault.LineFault.{LineFault}
@@ -84,40 +86,50 @@ lacks_place s place size instruction =
     && (nat_lt place ram_base || (nat_lt (ram_end (page_count s)) (place + size) || (is_taken place (place + size) s.done
     || (((length s.current.bytes == 0) && nat_le 64 (length s.done)) || (instruction && not (place % 4 == 0))))))
 
--- The first fault of a statement that stands in the text, whose line alone has none: of the values, of the names, of the reach, of the place.
-unfoldable pub statement_fault : Symbols → Assembled → Statement → Option AsmCode
-statement_fault symbols s statement =
-    if has_value_beyond symbols s.places.place statement then Some A3
-    else (if has_unknown_name symbols s.places.place statement then Some A5
-    else (if is_out_of_reach (page_count s) symbols s.places.place statement then Some A6
-    else (if lacks_place s s.places.place (size_at statement s.places.place) (is_instruction statement) then Some A7 else None)))
+abbrev pub lacks_place_for : Assembled → Statement → Bool
+lacks_place_for s statement = lacks_place s s.places.place (size_at statement s.places.place) (is_instruction statement)
 
+-- a test of the statement that a line leaves, if it leaves one
+abbrev pub does : (Statement → Bool) → Option Statement → Bool
+does test None = false
+does test (Some statement) = test statement
+
+-- the label was defined before
 abbrev pub is_repeated : Assembled → Option (List ℕ) → Bool
 is_repeated s None = false
 is_repeated s (Some name) = is_some (value_in s.places.symbols name)
 
 abbrev pub is_statement_misplaced : Assembled → Option Statement → Bool
-is_statement_misplaced s None = false
-is_statement_misplaced s (Some statement) = is_misplaced s statement
+is_statement_misplaced s statement = does (is_misplaced s) statement
 
-abbrev pub fault_in_text : Symbols → Assembled → Option Statement → Option AsmCode
-fault_in_text symbols s None = None
-fault_in_text symbols s (Some statement) = statement_fault symbols s statement
+-- the line alone has another first fault, or none
+abbrev pub number_of : LineFault → ℕ
+number_of line.A1 = 1
+number_of line.A2 = 2
+number_of line.A3 = 3
+number_of line.A8 = 8
+number_of line.A9 = 9
 
--- The first fault of a line: A8, A9, A4, A1, A2, A3, A5, A6, A7. `symbols` are those of the whole text.
-unfoldable pub fault_by : Symbols → Assembled → Line → Option LineFault → Option AsmCode
-fault_by symbols s l (Some line.A8) = Some A8
-fault_by symbols s l (Some line.A9) = Some A9
-fault_by symbols s l (Some line.A1) = if is_repeated s l.label then Some A4 else Some A1
-fault_by symbols s l (Some line.A2) = if is_repeated s l.label then Some A4 else Some A2
-fault_by symbols s l (Some line.A3) =
-    if is_repeated s l.label then Some A4 else (if is_statement_misplaced s l.statement then Some A2 else Some A3)
-fault_by symbols s l None =
-    if is_repeated s l.label then Some A4
-    else (if is_statement_misplaced s l.statement then Some A2 else fault_in_text symbols s l.statement)
+abbrev pub lacks : LineFault → Option LineFault → Bool
+lacks fault None = true
+lacks fault (Some other) = not (number_of other == number_of fault)
 
-abbrev pub line_fault : Symbols → Assembled → Line → Option AsmCode
-line_fault symbols s l = fault_by symbols s l l.fault
+-- The conditions on a line, in the order in which their faults are reported. `symbols` are those of the whole text.
+abbrev pub line_checks : Symbols → Assembled → Line → List (Bool × AsmCode)
+line_checks symbols s l =
+    (lacks line.A8 l.fault, A8)
+    ∷ (lacks line.A9 l.fault, A9)
+    ∷ (not (is_repeated s l.label), A4)
+    ∷ (lacks line.A1 l.fault, A1)
+    ∷ (lacks line.A2 l.fault && not (is_statement_misplaced s l.statement), A2)
+    ∷ (lacks line.A3 l.fault && not (does (has_value_beyond symbols s.places.place) l.statement), A3)
+    ∷ (not (does (has_unknown_name symbols s.places.place) l.statement), A5)
+    ∷ (not (does (is_out_of_reach (page_count s) symbols s.places.place) l.statement), A6)
+    ∷ (not (does (lacks_place_for s) l.statement), A7)
+    ∷ []
+
+unfoldable pub line_fault : Symbols → Assembled → Line → Option AsmCode
+line_fault symbols s l = first_fault (line_checks symbols s l)
 
 -- ---- what a line without a fault does
 

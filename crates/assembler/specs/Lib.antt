@@ -8,6 +8,7 @@ pub mod Checks
 pub mod Bytes
 pub mod Sound
 pub mod Faults
+pub mod FaultLaws
 pub mod Buildable
 pub mod Text
 pub mod Left

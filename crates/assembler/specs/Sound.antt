@@ -19,7 +19,8 @@ IsTargetKnown symbols here (Some e) = IsKnown (value_of symbols here e)
 
 abbrev pub ArePiecesKnown : Symbols → ℕ → List (List ℕ) → Type 0
 ArePiecesKnown symbols here [] = Unit {0}
-ArePiecesKnown symbols here (p ∷ ps) = IsKnown (value_of symbols here (expression_or_nought (expression_of p))) × ArePiecesKnown symbols here ps
+ArePiecesKnown symbols here (p ∷ ps) =
+    IsKnown (value_of symbols here (expression_or_nought (expression_of p))) × ArePiecesKnown symbols here ps
 
 -- each value of a statement is known
 abbrev pub IsValued : Symbols → ℕ → Statement → Type 0

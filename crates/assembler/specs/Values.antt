@@ -1,5 +1,6 @@
 -- The values of expressions, and whether they are in range.
-use Rattle.std.specs.Prelude.{ℕ, ◌-◌, ◌%◌, ◌^◌, Bool, false, not, ◌&&◌, ◌||◌, ◌==◌, if◌then◌else◌, ℤ, pos, neg_ℤ, ◌+ℤ◌, ◌-ℤ◌, int_lt, List, [], ◌∷◌, Option, Some, None, is_none}
+use Rattle.std.specs.Prelude.{ℕ, ◌-◌, ◌%◌, ◌^◌, Bool, false, not, ◌&&◌, ◌||◌, ◌==◌, if◌then◌else◌, ℤ, pos, neg_ℤ, ◌+ℤ◌, ◌-ℤ◌, int_lt, List}
+use Rattle.std.specs.Prelude.{[], ◌∷◌, Option, Some, None, is_none}
 use Rattle.isa_rows.specs.declared.formats.Format.{Format}
 use Rattle.isa_rows.specs.declared.formats.Format.TheVariants.{Branch}
 use Rattle.isa_rows.specs.declared.operands.Insn.{Insn}
@@ -8,7 +9,8 @@ use Rattle.image.specs.Image.{is_good_header}
 use Rattle.asm_lines.specs.Text.{pieces_of, is_dot}
 use Rattle.asm_lines.specs.Number.{Expression, expression_of, is_in_limits}
 use Rattle.asm_lines.specs.Operand.{wrapped}
-use Rattle.asm_lines.specs.Statement.{Statement, row, load, pages, mode, entry, org, align, zeros, values, text, is_in_size, expression_or_nought}
+use Rattle.asm_lines.specs.Statement.{Statement, row, load, pages, mode, entry, org, align, zeros, values, text, is_in_size}
+use Rattle.asm_lines.specs.Statement.{expression_or_nought}
 use Rattle.assembler.specs.Places.{Symbols, value_in}
 
 -- the value of an expression of a statement at a place; none where its name is unknown. The name `.` is worth the place.
@@ -31,7 +33,8 @@ known_and test (Some value) = test value
 -- the expressions between commas, all of which are written well
 abbrev pub any_value : (Option ℤ → Bool) → Symbols → ℕ → List (List ℕ) → Bool
 any_value test symbols here [] = false
-any_value test symbols here (p ∷ ps) = test (value_of symbols here (expression_or_nought (expression_of p))) || any_value test symbols here ps
+any_value test symbols here (p ∷ ps) =
+    test (value_of symbols here (expression_or_nought (expression_of p))) || any_value test symbols here ps
 
 -- A value beyond the limits of numbers, or of its size (A3).
 abbrev pub is_beyond : Option ℤ → Bool

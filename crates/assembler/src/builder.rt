@@ -8,7 +8,8 @@ ghost use Rattle.std.specs.Option.{option_map};
 ghost use Rattle.assembler.specs.Bytes.{bytes_at};
 ghost use Rattle.assembler.specs.Blocks.{begun_at};
 ghost use Rattle.assembler.specs.Text.{image_of};
-ghost use Rattle.assembler.specs.Faults.{page_count, is_misplaced, size_at, is_instruction, lacks_place, statement_fault, line_fault, fault_by, assembled_after, with_statement, opening, is_repeated, is_statement_misplaced, fault_in_text, with_bytes};
+ghost use Rattle.assembler.specs.Faults.{page_count, is_misplaced, size_at, is_instruction, lacks_place, line_fault, assembled_after, with_statement, opening, is_repeated, is_statement_misplaced, with_bytes};
+ghost use Rattle.assembler.specs.FaultLaws.{statement_fault, fault_by, fault_in_text};
 
 use crate::blocks::{Block, built, close, is_taken};
 use crate::bytes::known;
@@ -17,8 +18,8 @@ use crate::fault::AsmCode;
 use crate::labels::Labels;
 use crate::places::{Places, end_of};
 use crate::values::wrapped;
-use base::ram;
 use asm_lines::{LineFault, Parsed, Statement};
+use base::ram;
 use image::Image;
 use std::alloc::{AllocError, Global};
 use std::marker::Model;
@@ -106,7 +107,8 @@ impl Builder {
         requires size { size < 2 ^ 101 }
         ensures { result ≡ lacks_place self.now place size instruction }
     {
-        let ram_end = u128::from(ram::BASE) + u128::from(ram::PAGE_BYTES) * u128::from(self.page_count());
+        let ram_end = u128::from(ram::BASE)
+            + u128::from(ram::PAGE_BYTES) * u128::from(self.page_count());
         size > 0
             && (place < u128::from(ram::BASE)
                 || ram_end < place + size
@@ -116,7 +118,7 @@ impl Builder {
     }
 
     /// The first fault of a statement whose line alone has none.
-    #[tactic(auto, unfolding(crate::specs::Faults::statement_fault, crate::specs::Checks::named_fault))]
+    #[tactic(auto, unfolding(crate::specs::FaultLaws::statement_fault, crate::specs::Checks::named_fault))]
     fn statement_fault(&self, labels: &Labels, statement: &Statement<'_>) -> Option<AsmCode>
         requires { IsTrue (is_modest (seen_statement statement.now)) }
         ensures { result ≡ statement_fault labels.now self.now (seen_statement statement.now) }
@@ -162,11 +164,19 @@ impl Builder {
         }
     }
 
-    /// The first fault of a line, in the order A8, A9, A4, A1, A2, A3, A5, A6, A7. `labels` are those of the whole text.
-    #[tactic(auto, unfolding(crate::specs::Faults::fault_by))]
+    /// The first fault of a line. `labels` are those of the whole text.
     pub(crate) fn line_fault(&self, labels: &Labels, line: &Parsed<'_>) -> Option<AsmCode>
         requires { IsTrue (is_modest_line (seen_line line.now)) }
         ensures { result ≡ line_fault labels.now self.now (seen_line line.now) }
+    {
+        self.fault_by(labels, line)
+    }
+
+    /// The same by cases.
+    #[tactic(auto, unfolding(crate::specs::FaultLaws::fault_by))]
+    fn fault_by(&self, labels: &Labels, line: &Parsed<'_>) -> Option<AsmCode>
+        requires { IsTrue (is_modest_line (seen_line line.now)) }
+        ensures { result ≡ fault_by labels.now self.now (seen_line line.now) (seen_line line.now).fault }
     {
         let repeated = self.is_repeated(line.label);
         let misplaced = self.is_line_misplaced(&line.statement);

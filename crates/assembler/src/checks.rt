@@ -13,8 +13,8 @@ ghost use Rattle.assembler.specs.Checks.{told, told_value, passes, is_test, name
 use crate::fault::AsmCode;
 use crate::labels::Labels;
 use crate::values::{Worth, value, wrapped};
-use base::ram;
 use asm_lines::{Expression, Statement, expression, split_piece};
+use base::ram;
 use isa_rows::Format;
 
 /// What is asked of the values of a list.

@@ -10,8 +10,6 @@ mod fault;
 mod labels;
 mod lines;
 mod places;
-#[cfg(test)]
-mod tests;
 mod values;
 
 pub use assembly::{Assembly, assemble};

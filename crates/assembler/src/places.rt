@@ -8,8 +8,8 @@ ghost use Rattle.assembler.specs.Places.{aligned, end_of, places_after, opening_
 
 use crate::checks::pieces;
 use crate::labels::Labels;
-use base::ram;
 use asm_lines::{Parsed, Statement, split_piece};
+use base::ram;
 use std::alloc::{AllocError, Global};
 use std::marker::Model;
 

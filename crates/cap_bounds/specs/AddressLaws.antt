@@ -11,5 +11,6 @@ address_of-with_address_of w a fits = omega arith
 pub value_address-at_address : (v : CapValue) (a : ℕ) → a < 2 ^ 64 → value_address (at_address v a) ≡ a
 unfolding at_address
 value_address-at_address (Cap r) a fits =
-    cond_both _ (Cap (record r { address = a })) (data_at (Cap r) a) (λ v. value_address v ≡ a) (λ _. refl) (λ _. address_of-with_address_of (word_of (Cap r)) a fits)
+    cond_both _ (Cap (record r { address = a })) (data_at (Cap r) a) (λ v. value_address v ≡ a) (λ _. refl)
+    (λ _. address_of-with_address_of (word_of (Cap r)) a fits)
 value_address-at_address (Data n) a fits = address_of-with_address_of n a fits

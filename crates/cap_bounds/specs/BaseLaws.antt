@@ -3,10 +3,13 @@ use Rattle.std.proofs.Common.{◌≡◌, ℕ, ◌+◌, ◌-◌, ◌*◌, ◌/◌
 use Rattle.std.proofs.Math.Nat.{mod-lt, mod-eq_of_lt}
 use Rattle.std.proofs.Math.Pow.{pow_mono}
 use Rattle.std.proofs.lemmas.Nat.{pow_pos, mul-le, div-mul-add}
-use Rattle.std.proofs.lemmas.Bool.{le-leb, lt-leb, lt-ltb, or_left, or_right, or_cases, ltb-true, leb-true, cases_lt, cases_order, cond-true, cond-false, cond_both}
+use Rattle.std.proofs.lemmas.Bool.{le-leb, lt-leb, lt-ltb, or_left, or_right, or_cases, ltb-true, leb-true, cases_lt, cases_order}
+use Rattle.std.proofs.lemmas.Bool.{cond-true, cond-false, cond_both}
 use Rattle.cap_bounds.specs.Window.{step_of, decoded_base, decoded_top, place_in_window, IsBase, BaseIsByWindows}
 use Rattle.cap_bounds.specs.Record.{is_in_window}
-use Rattle.cap_bounds.specs.WindowLaws.{place_of, base_at, distance_of, place_of-below, place_of-near, base_at-distance, base_at-unique, base_at-congruent, distance_of-place, distance_of-own_base, start-mod, start-holds_address, start-holds_base}
+use Rattle.cap_bounds.specs.WindowLaws.{place_of, base_at, distance_of, place_of-below, place_of-near, base_at-distance, base_at-unique}
+use Rattle.cap_bounds.specs.WindowLaws.{base_at-congruent, distance_of-place, distance_of-own_base, start-mod, start-holds_address}
+use Rattle.cap_bounds.specs.WindowLaws.{start-holds_base}
 use Rattle.cap_bounds.specs.PowerLaws.{window-steps, space-windows, window_fits, mantissa-steps, rest_below_step}
 
 -- how far the base of a mantissa lies behind a step
@@ -28,10 +31,13 @@ decoded_base-high e b address high = cond-false _ _ _ (lt-leb e 50 high)
 IsBase-unique : (e b address base : ℕ) → e ≤ 50 → b < 2 ^ 14 → IsBase e b address base → base ≡ decoded_base e b address
 IsBase-unique e b address base low mantissa is =
     let steps = window-steps e in
-    let congruent : base % (8 * step_of e) ≡ (b / 2048 * step_of e + rest_of e b) % (8 * step_of e) = rw (← (mantissa-steps e b)) (rw steps at is.congruent) in
+    let congruent : base % (8 * step_of e) ≡ (b / 2048 * step_of e + rest_of e b) % (8 * step_of e) =
+    rw (← (mantissa-steps e b)) (rw steps at is.congruent) in
     let begins = rw steps at is.window.begins in
-    sym (decoded_base-low e b address low ∙ base_at-unique (step_of e) (2 ^ (50 - e)) (2 ^ 64) (space-windows e low) address (b / 2048) (rest_of e b) base is.start
-    (omega arith) (rest_below_step e b) is.in_space is.window.in_space begins congruent (rw steps at is.holds_address) (rw steps at is.holds_base))
+    sym (decoded_base-low e b address low
+    ∙ base_at-unique (step_of e) (2 ^ (50 - e)) (2 ^ 64) (space-windows e low) address (b / 2048) (rest_of e b) base is.start
+    (omega arith) (rest_below_step e b) is.in_space is.window.in_space begins congruent (rw steps at is.holds_address)
+    (rw steps at is.holds_base))
 
 -- the decoded base is one by windows
 IsBase-decoded : (e b address base : ℕ) → e ≤ 50 → b < 2 ^ 14 → address < 2 ^ 64 → base ≡ decoded_base e b address → IsBase e b address base
@@ -49,7 +55,8 @@ IsBase-decoded e b address base low mantissa fits same =
     let space = space-windows e low in
     record {
       in_space = rw at_place (mod-lt (address + 2 ^ 64 - y + s + q) (omega arith));
-      congruent = rw (window-steps e, mantissa-steps e b, at_place) (base_at-congruent s M (2 ^ 64) space address h q (omega arith) positive room);
+      congruent =
+          rw (window-steps e, mantissa-steps e b, at_place) (base_at-congruent s M (2 ^ 64) space address h q (omega arith) positive room);
       start = (address + 2 ^ 64 - y) % 2 ^ 64;
       window = record {
         in_space = mod-lt (address + 2 ^ 64 - y) (omega arith);
@@ -61,13 +68,15 @@ IsBase-decoded e b address base low mantissa fits same =
 
 -- one number is a base by windows, and it is the decoded one
 pub base_by_windows : BaseIsByWindows
-base_by_windows e b address base low mantissa fits = (IsBase-unique e b address base low mantissa, IsBase-decoded e b address base low mantissa fits)
+base_by_windows e b address base low mantissa fits =
+    (IsBase-unique e b address base low mantissa, IsBase-decoded e b address base low mantissa fits)
 
 -- a decoded base is an address
 pub decoded_base-below : (e b address : ℕ) → decoded_base e b address < 2 ^ 64
 unfolding decoded_base
 decoded_base-below e b address =
-    cond_both (leb e 50) ((address + 2 ^ 64 - place_in_window e b address + step_of e + rest_of e b) % 2 ^ 64) (b * 2 ^ e % 2 ^ 64) (λ n. n < 2 ^ 64)
+    cond_both (leb e 50) ((address + 2 ^ 64 - place_in_window e b address + step_of e + rest_of e b) % 2 ^ 64) (b * 2 ^ e % 2 ^ 64)
+    (λ n. n < 2 ^ 64)
     (λ _. mod-lt _ (omega arith)) (λ _. mod-lt _ (omega arith))
 
 -- up to exponent 50 the top is the length behind the base
@@ -86,7 +95,8 @@ decoded_top-below e b l address small = elim (cases_lt 50 e) [
   | inl high ↦ rw (decoded_top-high e b l address high) (mod-lt ((b + l) * 2 ^ e) (omega arith))
   | inr low ↦
       let unit = pow_mono low in
-      rw (decoded_top-low e b l address low) (omega (arith, decoded_base-below e b address, mul-le l (2 ^ e) 16383 (2 ^ 50) (omega arith) unit))
+      rw (decoded_top-low e b l address low)
+      (omega (arith, decoded_base-below e b address, mul-le l (2 ^ e) 16383 (2 ^ 50) (omega arith) unit))
 ]
 
 -- every address lies in the window of the base that it gives
@@ -99,8 +109,10 @@ is_in_window-own e b address mantissa = elim (cases_lt e 50) [
       let low : e ≤ 50 = omega arith in
       let inside : place_of s h address < 8 * s = place_of-below s h address (pow_pos (e + 11)) in
       let distance =
-      distance_of-own_base s (2 ^ (50 - e)) (2 ^ 64) (space-windows e low) address h (rest_of e b) (omega arith) (rest_below_step e b) (window_fits e low) in
-      let near : distance_of (2 ^ 64) s (decoded_base e b address / s) address < 8 * s = rw (decoded_base-low e b address low, distance) inside in
+      distance_of-own_base s (2 ^ (50 - e)) (2 ^ 64) (space-windows e low) address h (rest_of e b) (omega arith) (rest_below_step e b)
+      (window_fits e low) in
+      let near : distance_of (2 ^ 64) s (decoded_base e b address / s) address < 8 * s =
+      rw (decoded_base-low e b address low, distance) inside in
       or_right _ _ (lt-ltb _ _ near)
   | inr wide ↦ or_left _ _ (le-leb 50 e wide)
 ]
@@ -117,7 +129,8 @@ units_below e p above fits = elim (cases_lt p 16384) [
 ]
 
 -- a base of p units is found again from an address near it
-decoded_base-near : (e p address : ℕ) → e ≤ 50 → p * 2 ^ e < 2 ^ 64 → distance_of (2 ^ 64) (step_of e) (p * 2 ^ e / step_of e) address < 8 * step_of e
+decoded_base-near : (e p address : ℕ) → e ≤ 50 → p * 2 ^ e < 2 ^ 64
+    → distance_of (2 ^ 64) (step_of e) (p * 2 ^ e / step_of e) address < 8 * step_of e
     → decoded_base e (p % 16384) address ≡ p * 2 ^ e
 decoded_base-near e p address low fits near =
     let s : ℕ = step_of e in
@@ -152,7 +165,8 @@ decoded_base-in_window e p address high fits holds = elim (cases_order e 50) [
 ]
 
 -- an address from which a base of p units is found again lies in its window
-pub is_in_window-from_base : (e p address : ℕ) → p * 2 ^ e < 2 ^ 64 → decoded_base e (p % 16384) address ≡ p * 2 ^ e → is_in_window e (p * 2 ^ e) address ≡ true
+pub is_in_window-from_base : (e p address : ℕ) → p * 2 ^ e < 2 ^ 64 → decoded_base e (p % 16384) address ≡ p * 2 ^ e
+    → is_in_window e (p * 2 ^ e) address ≡ true
 unfolding is_in_window
 is_in_window-from_base e p address fits same = elim (cases_lt e 50) [
   | inl below ↦
@@ -165,7 +179,8 @@ is_in_window-from_base e p address fits same = elim (cases_lt e 50) [
       let split = mantissa-steps e p in
       let found = rw (same_eighth, same_rest) at (decoded_base-low e (p % 16384) address low) in
       let placed : base_at (2 ^ 64) s (rest_of e p) address y ≡ p / 2048 * s + rest_of e p = sym found ∙ same ∙ split in
-      let distance = distance_of-place address s (p / 2048) (rest_of e p) y (2 ^ 64) (omega arith) (omega (arith, window_fits e low)) placed in
+      let distance =
+      distance_of-place address s (p / 2048) (rest_of e p) y (2 ^ 64) (omega arith) (omega (arith, window_fits e low)) placed in
       let near : distance_of (2 ^ 64) s (p * 2 ^ e / s) address < 8 * s = rw (div-step e p, distance) inside in
       or_right _ _ (lt-ltb _ _ near)
   | inr wide ↦ or_left _ _ (le-leb 50 e wide)

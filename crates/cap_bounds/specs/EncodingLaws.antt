@@ -1,5 +1,6 @@
 -- Bounds that an exponent can encode, and the mantissas that it gives them.
-use Rattle.std.proofs.Common.{◌≡◌, ℕ, ◌+◌, ◌-◌, ◌*◌, ◌/◌, ◌%◌, ◌^◌, ◌<◌, ◌≤◌, Bool, true, false, ltb, leb, refl, sym, ap, ◌∙◌, inl, inr, arith}
+use Rattle.std.proofs.Common.{◌≡◌, ℕ, ◌+◌, ◌-◌, ◌*◌, ◌/◌, ◌%◌, ◌^◌, ◌<◌, ◌≤◌, Bool, true, false, ltb, leb, refl, sym, ap, ◌∙◌, inl, inr}
+use Rattle.std.proofs.Common.{arith}
 use Rattle.std.proofs.Math.Nat.{mul-div_left, lt_of_mul-lt-mul_right, le_of_mul-le-mul_right}
 use Rattle.std.proofs.lemmas.Nat.{pow-add, pow_pos}
 use Rattle.std.proofs.lemmas.Bool.{leb-true, leb-false, cases_Bool}
@@ -78,7 +79,8 @@ encodable r well =
           let large : 4096 ≤ r.top - r.base = leb-true 4096 n long in
           let ordered = well.ordered in
           let in_space = well.in_space in
-          rw long (encodable-internal (exponent_for n) r.base r.top (exponent_for-high n) ordered well.base_fits (rw long at well.base_aligned) (rw long at well.top_aligned)
+          rw long (encodable-internal (exponent_for n) r.base r.top (exponent_for-high n) ordered well.base_fits
+          (rw long at well.base_aligned) (rw long at well.top_aligned)
           (exponent_for-long n large) (exponent_for-holds n (omega arith)))
       | inr short ↦
           let small : r.top - r.base < 4096 = leb-false 4096 n short in
@@ -95,17 +97,20 @@ pub record HasMantissas (word e : ℕ) (ie : Bool) (base top : ℕ) : Type 0 whe
 -- its exponent is theirs
 exponent_of-encoded : (word e : ℕ) (ie : Bool) (base top : ℕ) → HasMantissas word e ie base top → exponent_of word ≡ e
 unfolding exponent_of
-exponent_of-encoded word e true base top is = let high = is.encodable.exponent_high in rw (is.internal, is.t_field, is.b_field) (omega arith)
+exponent_of-encoded word e true base top is = let high =
+    is.encodable.exponent_high in rw (is.internal, is.t_field, is.b_field) (omega arith)
 exponent_of-encoded word e false base top is = rw is.internal (sym (is.encodable.clear refl))
 
 -- B is the base's units modulo 2 ^ 14
-base_mantissa-encoded : (word e : ℕ) (ie : Bool) (base top : ℕ) → HasMantissas word e ie base top → base_mantissa word ≡ base / 2 ^ e % 16384
+base_mantissa-encoded : (word e : ℕ) (ie : Bool) (base top : ℕ) → HasMantissas word e ie base top
+    → base_mantissa word ≡ base / 2 ^ e % 16384
 unfolding base_mantissa
 base_mantissa-encoded word e true base top is = let eighths = is.encodable.base_eighths refl in rw (is.internal, is.b_field) (omega arith)
 base_mantissa-encoded word e false base top is = rw is.internal is.b_field
 
 -- the low bits of T are those of the top's units
-low_top_mantissa-encoded : (word e : ℕ) (ie : Bool) (base top : ℕ) → HasMantissas word e ie base top → low_top_mantissa word ≡ top / 2 ^ e % 4096
+low_top_mantissa-encoded : (word e : ℕ) (ie : Bool) (base top : ℕ) → HasMantissas word e ie base top
+    → low_top_mantissa word ≡ top / 2 ^ e % 4096
 unfolding low_top_mantissa
 low_top_mantissa-encoded word e true base top is =
     let eighths = is.encodable.top_eighths refl in
@@ -114,7 +119,8 @@ low_top_mantissa-encoded word e true base top is =
 low_top_mantissa-encoded word e false base top is = rw is.internal is.t_field
 
 -- L is the length in units
-length_mantissa-encoded : (word e : ℕ) (ie : Bool) (base top : ℕ) → HasMantissas word e ie base top → length_mantissa word ≡ top / 2 ^ e - base / 2 ^ e
+length_mantissa-encoded : (word e : ℕ) (ie : Bool) (base top : ℕ) → HasMantissas word e ie base top
+    → length_mantissa word ≡ top / 2 ^ e - base / 2 ^ e
 unfolding length_mantissa top_mantissa
 length_mantissa-encoded word e ie base top is =
     let p : ℕ = base / 2 ^ e in
@@ -126,10 +132,12 @@ length_mantissa-encoded word e ie base top is =
 pub base_of_word-encoded : (word e : ℕ) (ie : Bool) (base top : ℕ) → HasMantissas word e ie base top
     → base_of_word word ≡ decoded_base e (base / 2 ^ e % 16384) (address_of word)
 unfolding base_of_word
-base_of_word-encoded word e ie base top is = rw (exponent_of-encoded word e ie base top is, base_mantissa-encoded word e ie base top is) refl
+base_of_word-encoded word e ie base top is =
+    rw (exponent_of-encoded word e ie base top is, base_mantissa-encoded word e ie base top is) refl
 
 -- where it decodes to their base, it decodes to their top modulo 2 ^ 65
-pub top_of_word-encoded : (word e : ℕ) (ie : Bool) (base top : ℕ) → HasMantissas word e ie base top → base_of_word word ≡ base → top_of_word word ≡ top % 2 ^ 65
+pub top_of_word-encoded : (word e : ℕ) (ie : Bool) (base top : ℕ) → HasMantissas word e ie base top → base_of_word word ≡ base
+    → top_of_word word ≡ top % 2 ^ 65
 unfolding top_of_word
 top_of_word-encoded word e ie base top is same =
     let p : ℕ = base / 2 ^ e in
@@ -139,8 +147,13 @@ top_of_word-encoded word e ie base top is same =
     let units = is.encodable.base_units in
     let end : p + l ≡ top / 2 ^ e = omega arith in
     let whole : (p + l) * 2 ^ e ≡ top = rw end is.encodable.top_units in
-    let found : decoded_base e (p % 16384) (address_of word) ≡ p * 2 ^ e = sym (base_of_word-encoded word e ie base top is) ∙ same ∙ sym units in
-    rw (exponent_of-encoded word e ie base top is, base_mantissa-encoded word e ie base top is, length_mantissa-encoded word e ie base top is)
+    let found : decoded_base e (p % 16384) (address_of word) ≡ p * 2 ^ e = sym (base_of_word-encoded word e ie base top is) ∙ same
+    ∙ sym units in
+    rw (
+      exponent_of-encoded word e ie base top is,
+      base_mantissa-encoded word e ie base top is,
+      length_mantissa-encoded word e ie base top is,
+    )
     (decoded_top-units e p l (address_of word) short (rw units is.encodable.base_fits) found ∙ ap (λ n. n % 2 ^ 65) whole)
 
 -- an encoded T has 12 bits

@@ -7,7 +7,8 @@ use Rattle.cap_bounds.specs.Record.{exponent_for}
 pub exponent_for-is : (n e : ℕ) → e ≤ 52 → ((j : ℕ) → j < e → 2 ^ (j + 13) ≤ n) → (e < 52 → n < 2 ^ (e + 13)) → exponent_for n ≡ e
 unfolding exponent_for
 exponent_for-is n e high large small =
-    least_up_to-is 52 e (λ e. ltb n (2 ^ (e + 13))) high (λ j below. le-ltb n (2 ^ (j + 13)) (large j below)) (λ below. lt-ltb n (2 ^ (e + 13)) (small below))
+    least_up_to-is 52 e (λ e. ltb n (2 ^ (e + 13))) high (λ j below. le-ltb n (2 ^ (j + 13)) (large j below))
+    (λ below. lt-ltb n (2 ^ (e + 13)) (small below))
 
 pub exponent_for-high : (n : ℕ) → exponent_for n ≤ 52
 unfolding exponent_for

@@ -6,7 +6,8 @@ use Rattle.cap_bounds.specs.EncodingLaws.{encodable, encoded_t-below, encoded_b-
 use Rattle.cap_bounds.specs.WordLaws.{joined, bit-small, with_address_of-joined}
 
 -- the fields of a joined word replaced
-module _ (perms : ℕ) (flag : Bool) (otype : ℕ) (ie : Bool) (t b address : ℕ) (otype_fits : otype < 2 ^ 18) (t_fits : t < 2 ^ 12) (b_fits : b < 2 ^ 14) (address_fits : address < 2 ^ 64) where
+module _ (perms : ℕ) (flag : Bool) (otype : ℕ) (ie : Bool) (t b address : ℕ) (otype_fits : otype < 2 ^ 18) (t_fits : t < 2 ^ 12)
+    (b_fits : b < 2 ^ 14) (address_fits : address < 2 ^ 64) where
   otype-joined : (v : ℕ) → with_field (joined perms flag otype ie t b address) 91 18 v ≡ joined perms flag v ie t b address
   unfolding joined
   otype-joined v = omega (arith, bit-small flag, bit-small ie)
@@ -15,7 +16,8 @@ module _ (perms : ℕ) (flag : Bool) (otype : ℕ) (ie : Bool) (t b address : �
   unfolding joined
   flag-joined v = omega (arith, bit-small flag, bit-small ie)
 
-  perms-joined : (v : ℕ) → perms < 2 ^ 16 → with_field (joined perms flag otype ie t b address) 112 16 v ≡ joined v flag otype ie t b address
+  perms-joined : (v : ℕ) → perms < 2 ^ 16
+      → with_field (joined perms flag otype ie t b address) 112 16 v ≡ joined v flag otype ie t b address
   unfolding joined
   perms-joined v fits = omega (arith, bit-small flag, bit-small ie)
 

@@ -4,7 +4,8 @@ use Rattle.std.proofs.lemmas.Bool.{cases_lt, both_ways}
 use Rattle.std.proofs.Common.{inl, inr}
 use Rattle.cap_bounds.specs.Least.{least_from, least_up_to}
 
-least_from-is : (n k e : ℕ) (p : ℕ → Bool) → k ≤ e → e ≤ k + n → ((j : ℕ) → k ≤ j → j < e → p j ≡ false) → (e < k + n → p e ≡ true) → least_from k n p ≡ e
+least_from-is : (n k e : ℕ) (p : ℕ → Bool) → k ≤ e → e ≤ k + n → ((j : ℕ) → k ≤ j → j < e → p j ≡ false) → (e < k + n → p e ≡ true)
+    → least_from k n p ≡ e
 least_from-is zero k e p low high none here = omega arith
 least_from-is (suc n) k e p low high none here =
     elim (p k) as (λ b. p k ≡ b → cond b k (least_from (suc k) n p) ≡ e) [
@@ -13,15 +14,19 @@ least_from-is (suc n) k e p low high none here =
         | inr after ↦ omega arith
       ]
       | false ↦ λ miss. elim (cases_lt k e) [
-        | inl before ↦ least_from-is n (suc k) e p (omega arith) (omega arith) (λ j from below. none j (omega arith) below) (λ below. here (omega arith))
-        | inr after ↦ let same : e ≡ k = omega arith in absurd (both_ways (p k) miss (let hit : p k ≡ true = rw same at (here (omega arith)) in hit))
+        | inl before ↦ least_from-is n (suc k) e p (omega arith) (omega arith) (λ j from below. none j (omega arith) below)
+            (λ below. here (omega arith))
+        | inr after ↦ let same : e ≡ k =
+            omega arith in absurd (both_ways (p k) miss (let hit : p k ≡ true = rw same at (here (omega arith)) in hit))
       ]
     ] refl
 
 -- a number before which none passes, and which passes itself or is the bound
-pub least_up_to-is : (bound e : ℕ) (p : ℕ → Bool) → e ≤ bound → ((j : ℕ) → j < e → p j ≡ false) → (e < bound → p e ≡ true) → least_up_to bound p ≡ e
+pub least_up_to-is : (bound e : ℕ) (p : ℕ → Bool) → e ≤ bound → ((j : ℕ) → j < e → p j ≡ false) → (e < bound → p e ≡ true)
+    → least_up_to bound p ≡ e
 unfolding least_up_to
-least_up_to-is bound e p high none here = least_from-is bound 0 e p (omega arith) (omega arith) (λ j _ below. none j below) (λ below. here (omega arith))
+least_up_to-is bound e p high none here =
+    least_from-is bound 0 e p (omega arith) (omega arith) (λ j _ below. none j below) (λ below. here (omega arith))
 
 least_from-low : (n k : ℕ) (p : ℕ → Bool) → k ≤ least_from k n p
 least_from-low zero k p = omega arith
@@ -31,7 +36,8 @@ least_from-low (suc n) k p =
 least_from-high : (n k : ℕ) (p : ℕ → Bool) → least_from k n p ≤ k + n
 least_from-high zero k p = omega arith
 least_from-high (suc n) k p =
-    elim (p k) as (λ b. cond b k (least_from (suc k) n p) ≤ k + suc n) [ true ↦ omega arith | false ↦ omega (arith, least_from-high n (suc k) p) ]
+    elim (p k) as (λ b. cond b k (least_from (suc k) n p) ≤ k + suc n)
+    [ true ↦ omega arith | false ↦ omega (arith, least_from-high n (suc k) p) ]
 
 least_from-none : (n k j : ℕ) (p : ℕ → Bool) → k ≤ j → j < least_from k n p → p j ≡ false
 least_from-none zero k j p low below = absurd (omega arith)

@@ -23,4 +23,5 @@ pub mod RootLaws
 pub mod Rounding
 pub mod SetBounds
 pub mod RoundingLaws
+pub mod LengthExponentLaws
 pub mod SetBoundsLaws

@@ -7,7 +7,8 @@ use Rattle.std.proofs.lemmas.Bool.{ltb-true, ltb-false, lt-ltb, le-ltb, le-leb, 
 use Rattle.cap_bounds.specs.LeastLaws.{least_up_to-is, least_up_to-high, least_up_to-none, least_up_to-holds}
 use Rattle.cap_bounds.specs.Record.{Record, IsWellFormed, has_exponent, exponent_for, alignment_for}
 use Rattle.cap_bounds.specs.ExponentLaws.{exponent_for-is, exponent_for-holds, exponent_for-short}
-use Rattle.cap_bounds.specs.Rounding.{granules_up_to, granules_spanned, rounding_exponent, rounding_granule, rounded_base, rounded_top, RoundingTakesTheLeastGranule}
+use Rattle.cap_bounds.specs.Rounding.{granules_up_to, granules_spanned, rounding_exponent, rounding_granule, rounded_base, rounded_top}
+use Rattle.cap_bounds.specs.Rounding.{RoundingTakesTheLeastGranule}
 use Rattle.cap_bounds.specs.SetBounds.{BoundsStayInsideTheAuthority}
 
 -- granules up to a number hold it
@@ -32,7 +33,8 @@ granules-doubled g base top positive many =
     let m : ℕ = base / g in
     let double : ℕ = granules_up_to (2 * g) top in
     let half : ℕ = base / (2 * g) in
-    let ends : n * g < (2 * double + 1) * g = omega (arith, granules_up_to-near g top positive, granules_up_to-holds (2 * g) top (omega arith)) in
+    let ends : n * g < (2 * double + 1) * g =
+    omega (arith, granules_up_to-near g top positive, granules_up_to-holds (2 * g) top (omega arith)) in
     let begins : 2 * half * g < (m + 1) * g = omega arith in
     let last : n < 2 * double + 1 = lt_of_mul-lt-mul_right g ends in
     let first : 2 * half < m + 1 = lt_of_mul-lt-mul_right g begins in
@@ -58,7 +60,8 @@ unfolding rounding_exponent
 rounding_exponent-below base top below = ltb-true _ 1024 (least_up_to-holds 52 (λ e. ltb (granules_spanned e base top) 1024) below)
 
 -- at it the range touches fewer
-pub rounding_exponent-few : (base top : ℕ) → base ≤ top → top - base ≤ 2 ^ 64 → granules_spanned (rounding_exponent base top) base top < 1024
+pub rounding_exponent-few : (base top : ℕ) → base ≤ top → top - base ≤ 2 ^ 64
+    → granules_spanned (rounding_exponent base top) base top < 1024
 rounding_exponent-few base top ordered small = elim (cases_lt (rounding_exponent base top) 52) [
   | inl below ↦ rounding_exponent-below base top below
   | inr last ↦
@@ -67,11 +70,13 @@ rounding_exponent-few base top ordered small = elim (cases_lt (rounding_exponent
 ]
 
 -- the exponent by what it is for
-pub rounding_exponent-is : (base top e : ℕ) → e ≤ 52 → ((j : ℕ) → j < e → 1024 ≤ granules_spanned j base top) → (e < 52 → granules_spanned e base top < 1024)
+pub rounding_exponent-is : (base top e : ℕ) → e ≤ 52 → ((j : ℕ) → j < e → 1024 ≤ granules_spanned j base top)
+    → (e < 52 → granules_spanned e base top < 1024)
     → rounding_exponent base top ≡ e
 unfolding rounding_exponent
 rounding_exponent-is base top e high many few =
-    least_up_to-is 52 e (λ e. ltb (granules_spanned e base top) 1024) high (λ j below. le-ltb _ 1024 (many j below)) (λ below. lt-ltb _ 1024 (few below))
+    least_up_to-is 52 e (λ e. ltb (granules_spanned e base top) 1024) high (λ j below. le-ltb _ 1024 (many j below))
+    (λ below. lt-ltb _ 1024 (few below))
 
 -- it is no greater than one at which the range touches fewer than 1024 granules
 pub rounding_exponent-least : (base top e : ℕ) → granules_spanned e base top < 1024 → rounding_exponent base top ≤ e
@@ -145,7 +150,9 @@ granules_spanned-long base top long = elim (cases_lt 0 (rounding_exponent base t
   | inl some ↦
       let before : rounding_exponent base top - 1 < rounding_exponent base top = omega arith in
       let same : rounding_exponent base top - 1 + 1 ≡ rounding_exponent base top = omega arith in
-      rw same at (granules_spanned-next (rounding_exponent base top - 1) base top (rounding_exponent-none base top (rounding_exponent base top - 1) before))
+      rw same at
+      (granules_spanned-next (rounding_exponent base top - 1) base top
+      (rounding_exponent-none base top (rounding_exponent base top - 1) before))
   | inr none ↦
       let zero : rounding_exponent base top ≡ 0 = omega arith in
       rw zero (omega arith)
@@ -153,18 +160,26 @@ granules_spanned-long base top long = elim (cases_lt 0 (rounding_exponent base t
 
 -- so many granules are the rounded length
 rounded_length-granules : (base top : ℕ) → 4096 ≤ top - base
-    → rounded_top base top - rounded_base base top ≡ granules_spanned (rounding_exponent base top) base top * 2 ^ (rounding_exponent base top + 3)
+    → rounded_top base top - rounded_base base top
+    ≡ granules_spanned (rounding_exponent base top) base top * 2 ^ (rounding_exponent base top + 3)
 unfolding rounded_base rounded_top
 rounded_length-granules base top long =
     let g : ℕ = 2 ^ (rounding_exponent base top + 3) in
     rw (rounding_granule-long base top long) (omega (arith, mul-sub g (granules_up_to g top) (base / g)))
 
 -- a range from 4096 bytes on is rounded out to a length that takes all the 13 bits of its exponent
-pub rounded_length-low : (base top : ℕ) → 4096 ≤ top - base → 2 ^ (rounding_exponent base top + 12) ≤ rounded_top base top - rounded_base base top
+pub rounded_length-low : (base top : ℕ) → 4096 ≤ top - base
+    → 2 ^ (rounding_exponent base top + 12) ≤ rounded_top base top - rounded_base base top
 rounded_length-low base top long =
     let e : ℕ = rounding_exponent base top in
     rw (rounded_length-granules base top long)
-    (omega (arith, pow-add 2 e 12, pow-add 2 e 3, mul-le 512 (2 ^ (e + 3)) (granules_spanned e base top) (2 ^ (e + 3)) (granules_spanned-long base top long) (omega arith)))
+    (omega (
+      arith,
+      pow-add 2 e 12,
+      pow-add 2 e 3,
+      mul-le 512 (2 ^ (e + 3)) (granules_spanned e base top) (2 ^ (e + 3))
+          (granules_spanned-long base top long) (omega arith),
+    ))
 
 pub rounded_length-below : (base top : ℕ) → base ≤ top → top - base ≤ 2 ^ 64 → 4096 ≤ top - base
     → rounded_top base top - rounded_base base top < 2 ^ (rounding_exponent base top + 13)
@@ -172,7 +187,14 @@ rounded_length-below base top ordered small long =
     let e : ℕ = rounding_exponent base top in
     let few : granules_spanned e base top ≤ 1023 = omega (arith, rounding_exponent-few base top ordered small) in
     rw (rounded_length-granules base top long)
-    (omega (arith, pow-add 2 e 13, pow-add 2 e 3, pow_pos e, mul-le (granules_spanned e base top) (2 ^ (e + 3)) 1023 (2 ^ (e + 3)) few (omega arith)))
+    (omega (
+      arith,
+      pow-add 2 e 13,
+      pow-add 2 e 3,
+      pow_pos e,
+      mul-le (granules_spanned e base top) (2 ^ (e + 3)) 1023 (2 ^ (e + 3)) few
+          (omega arith),
+    ))
 
 -- the rounded length has an exponent where the range has one
 pub has_exponent-rounded : (base top : ℕ) → has_exponent (rounded_top base top - rounded_base base top) ≡ has_exponent (top - base)
@@ -180,15 +202,18 @@ unfolding has_exponent
 has_exponent-rounded base top = elim (cases_lt (top - base) 4096) [
   | inl short ↦ rw (rounded_base-short base top short, rounded_top-short base top short) refl
   | inr long ↦
-      let longer : 4096 ≤ rounded_top base top - rounded_base base top = omega (arith, rounded_base-low base top, rounded_top-high base top) in
+      let longer : 4096 ≤ rounded_top base top - rounded_base base top =
+      omega (arith, rounded_base-low base top, rounded_top-high base top) in
       le-leb 4096 _ longer ∙ sym (le-leb 4096 (top - base) long)
 ]
 
 -- the rounded length's exponent is the one that it was rounded out for
-pub exponent_for-rounded : (base top : ℕ) → base ≤ top → top - base ≤ 2 ^ 64 → exponent_for (rounded_top base top - rounded_base base top) ≡ rounding_exponent base top
+pub exponent_for-rounded : (base top : ℕ) → base ≤ top → top - base ≤ 2 ^ 64
+    → exponent_for (rounded_top base top - rounded_base base top) ≡ rounding_exponent base top
 exponent_for-rounded base top ordered small = elim (cases_lt (top - base) 4096) [
   | inl short ↦
-      rw (rounded_base-short base top short, rounded_top-short base top short) (exponent_for-short (top - base) short ∙ sym (rounding_exponent-short base top short))
+      rw (rounded_base-short base top short, rounded_top-short base top short)
+      (exponent_for-short (top - base) short ∙ sym (rounding_exponent-short base top short))
   | inr long ↦
       let e : ℕ = rounding_exponent base top in
       exponent_for-is _ e (rounding_exponent-high base top)
@@ -197,15 +222,18 @@ exponent_for-rounded base top ordered small = elim (cases_lt (top - base) 4096) 
 ]
 
 -- its alignment is the granule
-pub alignment_for-rounded : (base top : ℕ) → base ≤ top → top - base ≤ 2 ^ 64 → alignment_for (rounded_top base top - rounded_base base top) ≡ rounding_granule base top
+pub alignment_for-rounded : (base top : ℕ) → base ≤ top → top - base ≤ 2 ^ 64
+    → alignment_for (rounded_top base top - rounded_base base top) ≡ rounding_granule base top
 unfolding alignment_for has_exponent
 alignment_for-rounded base top ordered small = elim (cases_lt (top - base) 4096) [
   | inl short ↦
       rw (rounded_base-short base top short, rounded_top-short base top short)
       (cond-false _ _ _ (lt-leb 4096 (top - base) short) ∙ sym (rounding_granule-short base top short))
   | inr long ↦
-      let longer : 4096 ≤ rounded_top base top - rounded_base base top = omega (arith, rounded_base-low base top, rounded_top-high base top) in
-      cond-true _ _ _ (le-leb 4096 _ longer) ∙ ap (λ e. 2 ^ (e + 3)) (exponent_for-rounded base top ordered small) ∙ sym (rounding_granule-long base top long)
+      let longer : 4096 ≤ rounded_top base top - rounded_base base top =
+      omega (arith, rounded_base-low base top, rounded_top-high base top) in
+      cond-true _ _ _ (le-leb 4096 _ longer) ∙ ap (λ e. 2 ^ (e + 3)) (exponent_for-rounded base top ordered small)
+      ∙ sym (rounding_granule-long base top long)
 ]
 
 -- a range in whole granules of a size touches no more of them than lie between
@@ -256,7 +284,8 @@ rounded-inside_record r base top well ordered low high = elim (cases_lt (top - b
       let g : ℕ = 2 ^ (e + 3) in
       let k : ℕ = 2 ^ (exponent_for (r.top - r.base) - e) in
       let sum : exponent_for (r.top - r.base) - e + (e + 3) ≡ exponent_for (r.top - r.base) + 3 = omega arith in
-      let whole : 2 ^ (exponent_for (r.top - r.base) + 3) ≡ k * g = sym (ap (λ i. 2 ^ i) sum) ∙ pow-add 2 (exponent_for (r.top - r.base) - e) (e + 3) in
+      let whole : 2 ^ (exponent_for (r.top - r.base) + 3) ≡ k * g = sym (ap (λ i. 2 ^ i) sum)
+      ∙ pow-add 2 (exponent_for (r.top - r.base) - e) (e + 3) in
       let wide = le-leb 4096 n wider in
       let base_aligned : r.base % (k * g) ≡ 0 = rw whole at (rw wide at well.base_aligned) in
       let top_aligned : r.top % (k * g) ≡ 0 = rw whole at (rw wide at well.top_aligned) in

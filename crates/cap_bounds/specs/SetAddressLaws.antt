@@ -5,7 +5,8 @@ use Rattle.cap_bounds.specs.Record.{Record, window_holds}
 use Rattle.cap_bounds.specs.CapValue.{Cap}
 use Rattle.cap_bounds.specs.SetAddress.{at_address, data_at}
 
-pub at_address-moved : (r : Record) (address : ℕ) → r.otype ≡ 0x3_ffff → window_holds r address ≡ true → at_address (Cap r) address ≡ Cap (record r { address = address })
+pub at_address-moved : (r : Record) (address : ℕ) → r.otype ≡ 0x3_ffff → window_holds r address ≡ true
+    → at_address (Cap r) address ≡ Cap (record r { address = address })
 unfolding at_address
 at_address-moved r address open_type inside =
     let unsealed : eqb r.otype 0x3_ffff ≡ true = rw open_type refl in

@@ -1,7 +1,8 @@
 -- Setting bounds (UCAM-CL-TR-987, CSetBounds and CSetBoundsExact).
 use Rattle.std.specs.Prelude.{◌≡◌, ℕ, ◌+◌, ◌%◌, ◌^◌, ◌≤◌, Bool, ◌&&◌, not, nat_le, if◌then◌else◌}
 use Rattle.cap_bounds.specs.Record.{Record, IsWellFormed, record_with, has_exponent, encoded_at}
-use Rattle.cap_bounds.specs.CapValue.{CapValue, Cap, Data, is_tagged, is_sealed, value_base, value_top, value_address, value_perms, value_flag, value_otype}
+use Rattle.cap_bounds.specs.CapValue.{CapValue, Cap, Data, is_tagged, is_sealed, value_base, value_top, value_address, value_perms}
+use Rattle.cap_bounds.specs.CapValue.{value_flag, value_otype}
 use Rattle.cap_bounds.specs.Rounding.{rounding_exponent, rounded_base, rounded_top, is_exact}
 
 -- the end of a request of so many bytes from the value's address, in whole numbers
@@ -11,7 +12,8 @@ request_top v length = value_address v + length
 -- the rounded bounds, the top modulo 2 ^ 65, with the value's other fields
 unfoldable pub bounded : CapValue → ℕ → Record
 bounded v length =
-    record_with (rounded_base (value_address v) (request_top v length)) (rounded_top (value_address v) (request_top v length) % 2 ^ 65) (value_address v)
+    record_with (rounded_base (value_address v) (request_top v length)) (rounded_top (value_address v) (request_top v length) % 2 ^ 65)
+    (value_address v)
     (value_perms v) (value_flag v) (value_otype v)
 
 -- The bounds may be set: the value is an unsealed capability, whose bounds hold the request.

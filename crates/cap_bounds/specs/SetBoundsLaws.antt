@@ -1,19 +1,26 @@
 -- A value with its bounds set has the rounded bounds of the request, tagged or not, and a capability's lie in the operand's.
-use Rattle.std.proofs.Common.{◌≡◌, ℕ, ◌+◌, ◌-◌, ◌*◌, ◌/◌, ◌%◌, ◌^◌, ◌<◌, ◌≤◌, Bool, true, false, leb, cond, not, ◌&&◌, IsTrue, refl, sym, ap, ◌∙◌, inl, inr, arith}
+use Rattle.std.proofs.Common.{◌≡◌, ℕ, ◌+◌, ◌-◌, ◌*◌, ◌/◌, ◌%◌, ◌^◌, ◌<◌, ◌≤◌, Bool, true, false, leb, cond, not, ◌&&◌, IsTrue, refl, sym}
+use Rattle.std.proofs.Common.{ap, ◌∙◌, inl, inr, arith}
 use Rattle.std.proofs.Math.Nat.{mod-eq_of_lt, mul-div_left, mod-mod_of_dvd, dvd-mul_left, div-div-eq-div-mul}
 use Rattle.std.proofs.lemmas.Nat.{pow-add, pow_pos, field_of}
-use Rattle.std.proofs.lemmas.Bool.{leb-true, lt-ltb, le-leb, lt-leb, and_parts, or_left, or_right, cases_lt, cases_Bool, cond-true, cond-false}
+use Rattle.std.proofs.lemmas.Bool.{leb-true, lt-ltb, le-leb, lt-leb, and_parts, or_left, or_right, cases_lt, cases_Bool, cond-true}
+use Rattle.std.proofs.lemmas.Bool.{cond-false}
 use Rattle.cap_bounds.specs.Window.{decoded_base, base_of_word, top_of_word}
 use Rattle.cap_bounds.specs.Record.{Record, IsWellFormed, record_with, has_exponent, is_in_window, encoded_b, encoded_t, encoded_at}
-use Rattle.cap_bounds.specs.CapValue.{CapValue, Cap, Data, IsSound, is_tagged, is_sealed, value_address, value_perms, value_flag, value_otype}
+use Rattle.cap_bounds.specs.CapValue.{CapValue, Cap, Data, IsSound, is_tagged, is_sealed, value_address, value_perms, value_flag}
+use Rattle.cap_bounds.specs.CapValue.{value_otype}
 use Rattle.cap_bounds.specs.Rounding.{rounding_exponent, rounded_base, rounded_top}
 use Rattle.cap_bounds.specs.SetBounds.{request_top, bounded, may_bound, with_bounds, HasRoundedBounds, LiesWithin}
 use Rattle.cap_bounds.specs.PowerLaws.{window_fits}
 use Rattle.cap_bounds.specs.RemainderLaws.{mod-is}
 use Rattle.cap_bounds.specs.BaseLaws.{decoded_base-in_window}
-use Rattle.cap_bounds.specs.EncodingLaws.{IsEncodable, HasMantissas, encodable-clear, encodable-internal, base_of_word-encoded, top_of_word-encoded, encoded_t-below, encoded_b-below}
+use Rattle.cap_bounds.specs.EncodingLaws.{IsEncodable, HasMantissas, encodable-clear, encodable-internal, base_of_word-encoded}
+use Rattle.cap_bounds.specs.EncodingLaws.{top_of_word-encoded, encoded_t-below, encoded_b-below}
 use Rattle.cap_bounds.specs.WordLaws.{joined, address_of-joined, b_field_of-joined, t_field_of-joined, ie_of-joined}
-use Rattle.cap_bounds.specs.RoundingLaws.{rounding_exponent-high, rounding_exponent-short, rounding_granule-short, rounding_granule-long, rounded_base-low, rounded_base-mod, rounded_base-short, rounded_top-high, rounded_top-mod, rounded_top-short, rounded_length-low, rounded_length-below, exponent_for-rounded, alignment_for-rounded, rounded-inside_record}
+use Rattle.cap_bounds.specs.RoundingLaws.{rounding_exponent-high, rounding_exponent-short, rounding_granule-short, rounding_granule-long}
+use Rattle.cap_bounds.specs.RoundingLaws.{rounded_base-low, rounded_base-mod, rounded_base-short, rounded_top-high, rounded_top-mod}
+use Rattle.cap_bounds.specs.RoundingLaws.{rounded_top-short, rounded_length-low, rounded_length-below, exponent_for-rounded}
+use Rattle.cap_bounds.specs.RoundingLaws.{alignment_for-rounded, rounded-inside_record}
 
 -- an address lies in the window of a base in the same step
 is_in_window-same_step : (e base address : ℕ) → address / 2 ^ (e + 11) ≡ base / 2 ^ (e + 11) → is_in_window e base address ≡ true
@@ -31,7 +38,8 @@ is_in_window-same_step e base address same = elim (cases_lt e 50) [
 ]
 
 -- a range begins in the step of its rounded base
-rounded_base-step : (base top : ℕ) → base / 2 ^ (rounding_exponent base top + 11) ≡ rounded_base base top / 2 ^ (rounding_exponent base top + 11)
+rounded_base-step : (base top : ℕ)
+    → base / 2 ^ (rounding_exponent base top + 11) ≡ rounded_base base top / 2 ^ (rounding_exponent base top + 11)
 unfolding rounded_base
 rounded_base-step base top = elim (cases_lt (top - base) 4096) [
   | inl short ↦ rw (rounding_granule-short base top short) (ap (λ n. n / 2 ^ (rounding_exponent base top + 11)) (omega arith))
@@ -46,10 +54,12 @@ rounded_base-step base top = elim (cases_lt (top - base) 4096) [
 
 -- and so lies in its window
 is_in_window-rounded : (base top : ℕ) → is_in_window (rounding_exponent base top) (rounded_base base top) base ≡ true
-is_in_window-rounded base top = is_in_window-same_step (rounding_exponent base top) (rounded_base base top) base (rounded_base-step base top)
+is_in_window-rounded base top =
+    is_in_window-same_step (rounding_exponent base top) (rounded_base base top) base (rounded_base-step base top)
 
 -- rounded bounds at most 2 ^ 64 have a word
-IsWellFormed-rounded : (base top perms : ℕ) (flag : Bool) (otype : ℕ) → base < 2 ^ 64 → base ≤ top → top - base ≤ 2 ^ 64 → rounded_top base top ≤ 2 ^ 64
+IsWellFormed-rounded : (base top perms : ℕ) (flag : Bool) (otype : ℕ) → base < 2 ^ 64 → base ≤ top → top - base ≤ 2 ^ 64
+    → rounded_top base top ≤ 2 ^ 64
     → perms < 2 ^ 16 → otype < 2 ^ 18 → IsWellFormed (record_with (rounded_base base top) (rounded_top base top) base perms flag otype)
 IsWellFormed-rounded base top perms flag otype fits ordered small in_space perms_fit otype_fits = record {
   ordered = omega (arith, rounded_base-low base top, rounded_top-high base top);
@@ -69,13 +79,20 @@ encodable-rounded : (base top : ℕ) → base < 2 ^ 64 → base ≤ top → top 
 unfolding has_exponent
 encodable-rounded base top fits ordered small = elim (cases_lt (top - base) 4096) [
   | inl short ↦
-      rw (lt-leb 4096 (top - base) short, rounding_exponent-short base top short, rounded_base-short base top short, rounded_top-short base top short)
+      rw (
+        lt-leb 4096
+            (top - base) short,
+        rounding_exponent-short base top short,
+        rounded_base-short base top short,
+        rounded_top-short base top short,
+      )
       (encodable-clear base top ordered fits short)
   | inr long ↦
       let granule = rounding_granule-long base top long in
       rw (le-leb 4096 (top - base) long)
       (encodable-internal (rounding_exponent base top) (rounded_base base top) (rounded_top base top) (rounding_exponent-high base top)
-      (omega (arith, rounded_base-low base top, rounded_top-high base top)) (omega (arith, rounded_base-low base top)) (rw granule at (rounded_base-mod base top))
+      (omega (arith, rounded_base-low base top, rounded_top-high base top)) (omega (arith, rounded_base-low base top))
+      (rw granule at (rounded_base-mod base top))
       (rw granule at (rounded_top-mod base top)) (rounded_length-low base top long) (rounded_length-below base top ordered small long))
 ]
 
@@ -93,10 +110,12 @@ encoded_t-mod top e ie high =
 -- the word of rounded bounds
 abbrev rounded_word : ℕ → ℕ → ℕ → Bool → ℕ → ℕ
 rounded_word base top perms flag otype =
-    joined perms flag otype (has_exponent (top - base)) (encoded_t (rounded_top base top % 2 ^ 65) (rounding_exponent base top) (has_exponent (top - base)))
+    joined perms flag otype (has_exponent (top - base))
+    (encoded_t (rounded_top base top % 2 ^ 65) (rounding_exponent base top) (has_exponent (top - base)))
     (encoded_b (rounded_base base top) (rounding_exponent base top) (has_exponent (top - base))) base
 
-module _ (base top perms : ℕ) (flag : Bool) (otype : ℕ) (fits : base < 2 ^ 64) (ordered : base ≤ top) (small : top - base ≤ 2 ^ 64) (otype_fits : otype < 2 ^ 18) where
+module _ (base top perms : ℕ) (flag : Bool) (otype : ℕ) (fits : base < 2 ^ 64) (ordered : base ≤ top) (small : top - base ≤ 2 ^ 64)
+    (otype_fits : otype < 2 ^ 18) where
   t_fits : encoded_t (rounded_top base top % 2 ^ 65) (rounding_exponent base top) (has_exponent (top - base)) < 4096
   t_fits = encoded_t-below _ (rounding_exponent base top) (has_exponent (top - base)) (rounding_exponent-high base top)
 
@@ -104,7 +123,8 @@ module _ (base top perms : ℕ) (flag : Bool) (otype : ℕ) (fits : base < 2 ^ 6
   b_fits = encoded_b-below (rounded_base base top) (rounding_exponent base top) (has_exponent (top - base))
 
   -- it has the mantissas of the rounded bounds
-  mantissas-rounded : HasMantissas (rounded_word base top perms flag otype) (rounding_exponent base top) (has_exponent (top - base)) (rounded_base base top) (rounded_top base top)
+  mantissas-rounded : HasMantissas (rounded_word base top perms flag otype) (rounding_exponent base top) (has_exponent (top - base))
+      (rounded_base base top) (rounded_top base top)
   mantissas-rounded = record {
     encodable = encodable-rounded base top fits ordered small;
     internal = ie_of-joined perms flag otype _ _ _ base otype_fits t_fits b_fits fits;
@@ -120,14 +140,18 @@ module _ (base top perms : ℕ) (flag : Bool) (otype : ℕ) (fits : base < 2 ^ 6
       let e : ℕ = rounding_exponent base top in
       let units = (encodable-rounded base top fits ordered small).base_units in
       let base_fits : rounded_base base top < 2 ^ 64 = omega (arith, rounded_base-low base top) in
-      base_of_word-encoded (rounded_word base top perms flag otype) e (has_exponent (top - base)) (rounded_base base top) (rounded_top base top) mantissas-rounded
-      ∙ ap (λ a. decoded_base e (rounded_base base top / 2 ^ e % 16384) a) (address_of-joined perms flag otype _ _ _ base otype_fits t_fits b_fits fits)
-      ∙ decoded_base-in_window e (rounded_base base top / 2 ^ e) base (rounding_exponent-high base top) (rw units base_fits) (rw units (is_in_window-rounded base top))
+      base_of_word-encoded (rounded_word base top perms flag otype) e (has_exponent (top - base)) (rounded_base base top)
+      (rounded_top base top) mantissas-rounded
+      ∙ ap (λ a. decoded_base e (rounded_base base top / 2 ^ e % 16384) a)
+      (address_of-joined perms flag otype _ _ _ base otype_fits t_fits b_fits fits)
+      ∙ decoded_base-in_window e (rounded_base base top / 2 ^ e) base (rounding_exponent-high base top) (rw units base_fits)
+      (rw units (is_in_window-rounded base top))
       ∙ units
 
   top_of_word-rounded : top_of_word (rounded_word base top perms flag otype) ≡ rounded_top base top % 2 ^ 65
   top_of_word-rounded =
-      top_of_word-encoded (rounded_word base top perms flag otype) (rounding_exponent base top) (has_exponent (top - base)) (rounded_base base top) (rounded_top base top)
+      top_of_word-encoded (rounded_word base top perms flag otype) (rounding_exponent base top) (has_exponent (top - base))
+      (rounded_base base top) (rounded_top base top)
       mantissas-rounded base_of_word-rounded
 
 -- a sound value's fields are in range
@@ -141,7 +165,8 @@ value_otype-below (Data n) sound = omega arith
 
 -- the bounds of the data that a request gives
 bounds-data : (v : CapValue) (length : ℕ) → IsSound v → length < 2 ^ 64
-    → HasRoundedBounds v length (Data (encoded_at (rounding_exponent (value_address v) (request_top v length)) (has_exponent length) (bounded v length)))
+    → HasRoundedBounds v length
+    (Data (encoded_at (rounding_exponent (value_address v) (request_top v length)) (has_exponent length) (bounded v length)))
 unfolding bounded encoded_at joined
 bounds-data v length sound short =
     let base : ℕ = value_address v in
@@ -150,8 +175,10 @@ bounds-data v length sound short =
     let ordered : base ≤ top = omega arith in
     let small : top - base ≤ 2 ^ 64 = omega arith in
     let same : top - base ≡ length = omega arith in (
-      rw same at (base_of_word-rounded base top (value_perms v) (value_flag v) (value_otype v) fits ordered small (value_otype-below v sound)),
-      rw same at (top_of_word-rounded base top (value_perms v) (value_flag v) (value_otype v) fits ordered small (value_otype-below v sound)),
+      rw same at
+          (base_of_word-rounded base top (value_perms v) (value_flag v) (value_otype v) fits ordered small (value_otype-below v sound)),
+      rw same at
+          (top_of_word-rounded base top (value_perms v) (value_flag v) (value_otype v) fits ordered small (value_otype-below v sound)),
     )
 
 -- where the bounds may be set, the result is a capability
@@ -161,7 +188,8 @@ with_bounds-set v length may = cond-true _ _ _ may
 
 -- where they may not, it is data
 pub with_bounds-refused : (v : CapValue) (length : ℕ) → may_bound v length ≡ false
-    → with_bounds v length ≡ Data (encoded_at (rounding_exponent (value_address v) (request_top v length)) (has_exponent length) (bounded v length))
+    → with_bounds v length
+    ≡ Data (encoded_at (rounding_exponent (value_address v) (request_top v length)) (has_exponent length) (bounded v length))
 unfolding with_bounds
 with_bounds-refused v length may = cond-false _ _ _ may
 
@@ -191,7 +219,8 @@ bounded-inside r length well may =
     rounded-inside_record r r.address (r.address + length) well (omega arith) held.0 held.1
 
 -- the capability that is made is well-formed
-pub IsWellFormed-bounded : (v : CapValue) (length : ℕ) → IsSound v → length < 2 ^ 64 → may_bound v length ≡ true → IsWellFormed (bounded v length)
+pub IsWellFormed-bounded : (v : CapValue) (length : ℕ) → IsSound v → length < 2 ^ 64 → may_bound v length ≡ true
+    → IsWellFormed (bounded v length)
 unfolding bounded may_bound
 IsWellFormed-bounded (Cap r) length well short may =
     let base : ℕ = r.address in
@@ -200,7 +229,8 @@ IsWellFormed-bounded (Cap r) length well short may =
     let inside = bounded-inside r length well may in
     let fits : rounded_top r.address (r.address + length) < 2 ^ 65 = omega arith in
     rw (mod-eq_of_lt fits)
-    (IsWellFormed-rounded base top r.perms r.flag r.otype well.address_fits (omega arith) (omega arith) (omega arith) well.perms_fit well.otype_fits)
+    (IsWellFormed-rounded base top r.perms r.flag r.otype well.address_fits (omega arith) (omega arith)
+    (omega arith) well.perms_fit well.otype_fits)
 IsWellFormed-bounded (Data n) length sound short may = cc
 
 -- a capability's bounds lie in the operand's
@@ -211,7 +241,8 @@ within-bounded (Cap r) length sound may =
     (inside.0, omega arith)
 within-bounded (Data n) length sound may = cc
 
-pub within-with_bounds : (v : CapValue) (length : ℕ) → IsSound v → IsTrue (is_tagged (with_bounds v length)) → LiesWithin (with_bounds v length) v
+pub within-with_bounds : (v : CapValue) (length : ℕ) → IsSound v → IsTrue (is_tagged (with_bounds v length))
+    → LiesWithin (with_bounds v length) v
 within-with_bounds v length sound = elim (cases_Bool (may_bound v length)) [
   | inl may ↦ rw (with_bounds-set v length may) (λ _. within-bounded v length sound may)
   | inr not_allowed ↦ rw (with_bounds-refused v length not_allowed) (λ tagged. cc)

@@ -74,7 +74,8 @@ module _ (s M N : ℕ) (space : N ≡ M * (8 * s)) where
       mod-is (base_at N s q a y) q (k * M * 8 + (8 - h)) (M * 8 + j * 8) s small (omega (arith, ap (λ n. k * n) space))
 
   -- from the base that its own place gives, an address has that place as its distance
-  pub distance_of-own_base : (a h q : ℕ) → h ≤ 8 → q < s → 8 * s ≤ N → distance_of N s (base_at N s q a (place_of s h a) / s) a ≡ place_of s h a
+  pub distance_of-own_base : (a h q : ℕ) → h ≤ 8 → q < s → 8 * s ≤ N
+      → distance_of N s (base_at N s q a (place_of s h a) / s) a ≡ place_of s h a
   distance_of-own_base a h q eighth small fits =
       let y : ℕ = place_of s h a in
       let base : ℕ = base_at N s q a y in
@@ -126,7 +127,8 @@ module _ (s M N : ℕ) (space : N ≡ M * (8 * s)) where
       let j : ℕ = (a + s + (8 - h) * s) / (8 * s) in
       let k : ℕ = (a + N - y) / N in
       let low : y < 8 * s = place_of-below s h a positive in
-      mod-apart ((a + N - y) % N + s) (h * s) (k * M + 1) (M + j) (8 * s) (omega (arith, ap (λ n. k * n) space, mul-rest_of_eight h s eighth))
+      mod-apart ((a + N - y) % N + s) (h * s) (k * M + 1) (M + j) (8 * s)
+      (omega (arith, ap (λ n. k * n) space, mul-rest_of_eight h s eighth))
 
   -- the base that a place gives is congruent to h steps and q
   pub base_at-congruent : (a h q : ℕ) → h ≤ 8 → 0 < s → 8 * s ≤ N → base_at N s q a (place_of s h a) % (8 * s) ≡ (h * s + q) % (8 * s)
@@ -135,4 +137,5 @@ module _ (s M N : ℕ) (space : N ≡ M * (8 * s)) where
       let j : ℕ = (a + s + (8 - h) * s) / (8 * s) in
       let k : ℕ = (a + N - y + s + q) / N in
       let low : y < 8 * s = place_of-below s h a positive in
-      mod-apart (base_at N s q a y) (h * s + q) (k * M + 1) (M + j) (8 * s) (omega (arith, ap (λ n. k * n) space, mul-rest_of_eight h s eighth))
+      mod-apart (base_at N s q a y) (h * s + q) (k * M + 1) (M + j) (8 * s)
+      (omega (arith, ap (λ n. k * n) space, mul-rest_of_eight h s eighth))

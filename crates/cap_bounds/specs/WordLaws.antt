@@ -18,7 +18,8 @@ bit-test true = refl
 bit-test false = refl
 
 -- each field of a word put together is what went into it
-module _ (perms : ℕ) (flag : Bool) (otype : ℕ) (ie : Bool) (t b address : ℕ) (otype_fits : otype < 2 ^ 18) (t_fits : t < 2 ^ 12) (b_fits : b < 2 ^ 14) (address_fits : address < 2 ^ 64) where
+module _ (perms : ℕ) (flag : Bool) (otype : ℕ) (ie : Bool) (t b address : ℕ) (otype_fits : otype < 2 ^ 18) (t_fits : t < 2 ^ 12)
+    (b_fits : b < 2 ^ 14) (address_fits : address < 2 ^ 64) where
   pub address_of-joined : address_of (joined perms flag otype ie t b address) ≡ address
   unfolding joined
   address_of-joined = omega arith
@@ -59,6 +60,7 @@ module _ (perms : ℕ) (flag : Bool) (otype : ℕ) (ie : Bool) (t b address : �
   joined-below fits = omega (arith, bit-small flag, bit-small ie)
 
   -- another address replaces the address alone
-  pub with_address_of-joined : (other : ℕ) → with_address_of (joined perms flag otype ie t b address) other ≡ joined perms flag otype ie t b other
+  pub with_address_of-joined : (other : ℕ)
+      → with_address_of (joined perms flag otype ie t b address) other ≡ joined perms flag otype ie t b other
   unfolding joined
   with_address_of-joined other = omega arith

@@ -1,4 +1,4 @@
-//! Rounding requested bounds out to what a word can say, by trying one exponent after the other.
+//! Rounding requested bounds out to what a word can say, by trying one exponent after the other; a length alone by its leading zeros.
 
 ghost use Rattle.std.specs.Prelude.{◌≡◌, ◌+◌, ◌^◌, ◌<◌, ◌≤◌};
 ghost use Rattle.cap_bounds.specs.Rounding.{granules_spanned, granules_up_to, is_exact, length_granule, rounded_base, rounded_top, rounding_exponent, rounding_granule};
@@ -94,6 +94,20 @@ pub(crate) fn rounded_out(base: u64, top: u128) -> Rounded
     }
 }
 
+/// The least exponent at which a length of 4096 bytes or more takes fewer than 1024 granules.
+///
+/// That of its leading zeros, at which it takes 512 granules at least, or the next one where it is rounded up to 1024.
+fn length_exponent(length: u64) -> u32
+    requires { 4096 ≤ length }
+    ensures value { result ≡ rounding_exponent 0 length }
+    ensures high { result ≤ 52 }
+{
+    let e = 51 - length.leading_zeros();
+    let granules = ((length - 1) >> e >> 3) + 1;
+    let raise = if granules < 1024 { 0 } else { 1 };
+    e + raise
+}
+
 /// The granule of a length: what the base and the length of a capability of so many bytes are multiples of, where its base is
 /// aligned.
 ///
@@ -103,5 +117,8 @@ pub fn granule(length: u64) -> u128
     ensures some { 1 ≤ result }
     ensures size { result ≤ 2 ^ 55 }
 {
-    granule_of_range(0, u128::from(length))
+    if length < 4096 {
+        return 1;
+    }
+    granule_at(length_exponent(length))
 }

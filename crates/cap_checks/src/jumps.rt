@@ -3,17 +3,16 @@ ghost use Rattle.cap_bounds.specs.CapValue.{value_address, value_otype};
 ghost use Rattle.base.specs.Fault.{fault, cheri};
 ghost use Rattle.base.specs.declared.cause.Cause.TheVariants as cause;
 ghost use Rattle.base.specs.declared.cause.CheriCause.TheVariants as forbids;
-ghost use Rattle.cap_checks.specs.FirstFault.{fetch_fault, target_fault, jump_fault, invoke_target, invoke_fault};
+ghost use Rattle.cap_checks.specs.FirstFault.{target_fault, jump_fault, invoke_target, invoke_fault};
 ghost use Rattle.cap_checks.specs.FirstFault as spec;
 ghost use Rattle.base.specs.ObjectType.{is_reserved};
 
-use crate::conditions::{check, check_bounds, check_permission, check_tag, is_sealed};
+use crate::conditions::{
+    INSTRUCTION_BYTES, check, check_bounds, check_permission, check_tag, is_sealed,
+};
 use base::{Cause, CheriCause, Fault, PCC_REGISTER, otype};
 use cap_bounds::CapRep;
 use cap_rights::{OType, Permission, permits};
-
-/// How many bytes an instruction has; its address is a multiple of them.
-const INSTRUCTION_BYTES: u64 = 4;
 
 /// Makes the fault of a jump to an address that is no multiple of 4.
 #[inline]
@@ -21,29 +20,6 @@ fn misaligned(target: u64) -> Fault
     ensures { result ≡ fault cause.MisalignedJump target }
 {
     Fault::of(Cause::MisalignedJump, target)
-}
-
-/// Checks the fetch of the instruction at PCC's address, and gives the address.
-///
-/// # Errors
-///
-/// The first fault: tag, seal, Execute, bounds of 4 bytes.
-#[inline]
-#[tactic(auto, unfolding(crate::specs::FirstFault::fetch_fault))]
-pub fn check_fetch<C: CapRep>(pcc: C) -> Result<u64, Fault>
-    ensures value { IfOk result (λ allowed. allowed ≡ value_address (C.value pcc)) }
-    ensures allowed { OnOk result (fetch_fault (C.value pcc) ≡ None) }
-    ensures refused { IfErr result (λ fault. fetch_fault (C.value pcc) ≡ Some fault) }
-{
-    let address = pcc.address();
-    check_tag(pcc, PCC_REGISTER)?;
-    check(
-        !is_sealed(pcc),
-        Fault::cheri(PCC_REGISTER, CheriCause::Seal),
-    )?;
-    check_permission(pcc, PCC_REGISTER, Permission::Execute, CheriCause::Execute)?;
-    check_bounds(pcc, PCC_REGISTER, address, INSTRUCTION_BYTES)?;
-    Ok(address)
 }
 
 /// Checks the target of a jump within PCC, and gives it.

@@ -4,8 +4,10 @@
 mod access;
 mod accesses;
 mod conditions;
+mod fetches;
 mod jumps;
 
 pub use access::{Access, Stored};
 pub use accesses::check_access;
-pub use jumps::{check_fetch, check_invoke, check_jump, check_target, jump_target};
+pub use fetches::check_fetch;
+pub use jumps::{check_invoke, check_jump, check_target, jump_target};

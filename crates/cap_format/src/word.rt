@@ -7,45 +7,76 @@ use std::marker::Model;
 ///
 /// Bit 127 downwards: user permissions (4), hardware permissions (12), reserved (2), flag (1),
 /// object type (18), IE (1), T (12), B (14), address (64).
-#[derive(Clone, Copy, Debug, PartialEq, Eq, Hash)]
+///
+/// It is kept in two halves, so that a field is read by a shift of 64 bits and a replaced address costs nothing.
+#[derive(Clone, Copy, Debug, Eq, Hash)]
 pub struct CapWord {
-    bits: u128,
+    /// The address.
+    low: u64,
+    /// All other fields.
+    high: u64,
 }
 
 impl Model for CapWord {
-    ghost use Rattle.std.specs.Prelude.{ℕ};
+    ghost use Rattle.std.specs.Prelude.{ℕ, ◌+◌, ◌*◌, ◌/◌, ◌%◌, ◌^◌, ◌<◌};
+    ghost use Rattle.cap_format.specs.Halves.{halves_of_joined};
 
     ghost Value = { ℕ };
 
-    ghost view = { λ w. w.bits };
+    ghost view = { λ w. w.high * 2 ^ 64 + w.low };
 
-    ghost inverse = { λ n. record { bits = n } };
+    ghost invariant = { λ w. w.low < 2 ^ 64 };
+
+    ghost inverse = { λ n. record { low = n % 2 ^ 64; high = n / 2 ^ 64 } };
+
+    ghost inverse_ok = { λ a h. halves_of_joined a h };
+}
+
+impl PartialEq for CapWord {
+    ghost use Rattle.std.specs.Prelude.{nat_eq};
+    ghost use Rattle.std.proofs.Common.{rules};
+    ghost use Rattle.std.specs.Cmp.Rules.{comparing};
+
+    ghost eq = { nat_eq };
+
+    ghost laws = { Prim.search (comparing, rules) };
+
+    fn eq(&self, other: &CapWord) -> bool {
+        self.high == other.high && self.low == other.low
+    }
 }
 
 impl CapWord {
     /// The word of the null capability: all zeros in memory.
     pub const NULL: CapWord = CapWord {
-        bits: 0x1fff_fc01_8004 << 64,
+        low: 0,
+        high: 0x1fff_fc01_8004,
     };
 
     /// Null with all sixteen permissions: the capability from which all others derive.
     pub const ROOT: CapWord = CapWord {
-        bits: 0xffff_1fff_fc01_8004 << 64,
+        low: 0,
+        high: 0xffff_1fff_fc01_8004,
     };
 
     /// The word of these bits.
+    #[inline]
     pub fn from_logical(bits: u128) -> Self
         ensures { result ≡ bits }
     {
-        CapWord { bits }
+        CapWord {
+            low: (bits & 0xffff_ffff_ffff_ffff) as u64,
+            high: (bits >> 64) as u64,
+        }
     }
 
     /// The word's bits, below `2^128`.
+    #[inline]
     pub fn logical(self) -> u128
         ensures value { result ≡ self }
         ensures range { self < 2 ^ 128 }
     {
-        self.bits
+        (self.high as u128) << 64 | self.low as u128
     }
 
     /// The word that these bytes of memory are, the lowest first. Sixteen zeros are null.
@@ -53,9 +84,7 @@ impl CapWord {
     pub fn from_memory(bytes: [u8; 16]) -> Self
         ensures { result ≡ word_of_memory bytes }
     {
-        CapWord {
-            bits: u128::from_le_bytes(bytes) ^ Self::NULL.bits,
-        }
+        Self::from_logical(u128::from_le_bytes(bytes) ^ Self::NULL.logical())
     }
 
     /// The word's bytes in memory, the lowest first.
@@ -63,7 +92,7 @@ impl CapWord {
     pub fn to_memory(self) -> [u8; 16]
         ensures { result ≡ memory_bytes self }
     {
-        (self.bits ^ Self::NULL.bits).to_le_bytes()
+        (self.logical() ^ Self::NULL.logical()).to_le_bytes()
     }
 
     /// Bits 63..0.
@@ -71,7 +100,7 @@ impl CapWord {
     pub fn address(self) -> u64
         ensures { result ≡ address_of self }
     {
-        (self.bits & 0xffff_ffff_ffff_ffff) as u64
+        self.low
     }
 
     /// Bits 127..112: hardware permissions at bits 0 to 11, user permissions at bits 12 to 15.
@@ -79,7 +108,7 @@ impl CapWord {
     pub fn perms(self) -> u16
         ensures { result ≡ perms_of self }
     {
-        (self.bits >> 112) as u16
+        (self.high >> 48) as u16
     }
 
     /// Bit 109: set in a program counter capability, it selects capability mode.
@@ -87,7 +116,7 @@ impl CapWord {
     pub fn flag(self) -> bool
         ensures { result ≡ flag_of self }
     {
-        (self.bits >> 109) & 1 == 1
+        (self.high >> 45) & 1 == 1
     }
 
     /// Bits 108..91: the object type, below `2^18`.
@@ -95,7 +124,7 @@ impl CapWord {
     pub fn otype(self) -> u32
         ensures { result ≡ otype_of self }
     {
-        ((self.bits >> 91) & 0x3_ffff) as u32
+        ((self.high >> 27) & 0x3_ffff) as u32
     }
 
     /// Bit 90: the exponent stands in the low bits of T and B.
@@ -103,7 +132,7 @@ impl CapWord {
     pub fn ie(self) -> bool
         ensures { result ≡ ie_of self }
     {
-        (self.bits >> 90) & 1 == 1
+        (self.high >> 26) & 1 == 1
     }
 
     /// Bits 89..78, as they stand in the word.
@@ -111,7 +140,7 @@ impl CapWord {
     pub fn t_field(self) -> u16
         ensures { result ≡ t_field_of self }
     {
-        ((self.bits >> 78) & 0xfff) as u16
+        ((self.high >> 14) & 0xfff) as u16
     }
 
     /// Bits 77..64, as they stand in the word.
@@ -119,7 +148,7 @@ impl CapWord {
     pub fn b_field(self) -> u16
         ensures { result ≡ b_field_of self }
     {
-        ((self.bits >> 64) & 0x3fff) as u16
+        (self.high & 0x3fff) as u16
     }
 
     /// The word with this address and all other fields as they are.
@@ -128,7 +157,8 @@ impl CapWord {
         ensures { result ≡ with_address_of self address }
     {
         CapWord {
-            bits: (self.bits >> 64) << 64 | address as u128,
+            low: address,
+            high: self.high,
         }
     }
 
@@ -138,7 +168,8 @@ impl CapWord {
         ensures { result ≡ with_field self 112 16 perms }
     {
         CapWord {
-            bits: (perms as u128) << 112 | self.bits & ((1 << 112) - 1),
+            low: self.low,
+            high: (perms as u64) << 48 | self.high & ((1 << 48) - 1),
         }
     }
 
@@ -148,7 +179,8 @@ impl CapWord {
         ensures { result ≡ with_field self 109 1 (bit flag) }
     {
         CapWord {
-            bits: ((self.bits >> 110) << 1 | flag as u128) << 109 | self.bits & ((1 << 109) - 1),
+            low: self.low,
+            high: ((self.high >> 46) << 1 | flag as u64) << 45 | self.high & ((1 << 45) - 1),
         }
     }
 
@@ -159,7 +191,8 @@ impl CapWord {
         ensures { result ≡ with_field self 91 18 otype }
     {
         CapWord {
-            bits: ((self.bits >> 109) << 18 | otype as u128) << 91 | self.bits & ((1 << 91) - 1),
+            low: self.low,
+            high: ((self.high >> 45) << 18 | otype as u64) << 27 | self.high & ((1 << 27) - 1),
         }
     }
 }

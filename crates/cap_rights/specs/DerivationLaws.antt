@@ -11,7 +11,8 @@ use Rattle.cap_bounds.specs.RecordLaws.{encoded-well_formed}
 use Rattle.cap_rights.specs.declared.permission.Permission.TheVariants.{Global}
 use Rattle.cap_rights.specs.Permission.{permits}
 use Rattle.cap_rights.specs.Opened.{with_type, opened}
-use Rattle.cap_rights.specs.Derivations.{tagged_if, with_perms, with_flag, and_perms, set_flags, seal, unsealed_perms, unseal, seal_entry, is_within, subset}
+use Rattle.cap_rights.specs.Derivations.{tagged_if, with_perms, with_flag, and_perms, set_flags, seal, unsealed_perms, unseal, seal_entry}
+use Rattle.cap_rights.specs.Derivations.{is_within, subset}
 use Rattle.cap_rights.specs.Within.{IsWithin, IsWithinIfTagged}
 use Rattle.cap_rights.specs.FieldLaws.{IsSound-with_type, IsSound-with_perms, IsSound-with_flag, value_perms-below, masked_perms-below}
 
@@ -35,7 +36,8 @@ IsSound-set_flags v flag sound = IsSound-tagged_if _ _ (IsSound-with_flag v flag
 
 pub IsSound-seal : (v authority : CapValue) → IsSound v → IsSound (seal v authority)
 unfolding seal
-IsSound-seal v authority sound = IsSound-tagged_if _ _ (IsSound-with_type v _ sound (mod_below (value_address authority) (2 ^ 18) (pow_pos 18)))
+IsSound-seal v authority sound =
+    IsSound-tagged_if _ _ (IsSound-with_type v _ sound (mod_below (value_address authority) (2 ^ 18) (pow_pos 18)))
 
 pub unsealed_perms-below : (v authority : CapValue) → IsSound v → unsealed_perms v authority < 2 ^ 16
 unfolding unsealed_perms
@@ -45,7 +47,8 @@ unsealed_perms-below v authority sound =
 pub IsSound-unseal : (v authority : CapValue) → IsSound v → IsSound (unseal v authority)
 unfolding unseal
 IsSound-unseal v authority sound =
-    IsSound-tagged_if _ _ (IsSound-with_type _ unsealed_type (IsSound-with_perms v _ sound (unsealed_perms-below v authority sound)) (lit< tt))
+    IsSound-tagged_if _ _
+    (IsSound-with_type _ unsealed_type (IsSound-with_perms v _ sound (unsealed_perms-below v authority sound)) (lit< tt))
 
 pub IsSound-seal_entry : (v : CapValue) → IsSound v → IsSound (seal_entry v)
 unfolding seal_entry
@@ -105,14 +108,16 @@ unfolding seal_entry
 IsWithin-seal_entry v = IsWithin-tagged_if _ _ v (IsWithin-with_type v sentry_type)
 
 -- permissions that lie within the value's
-IsWithin-opened_with : (v : CapValue) (perms : ℕ) → bit_and perms (value_perms v) ≡ perms → IsWithinIfTagged (with_type (with_perms v perms) unsealed_type) v
+IsWithin-opened_with : (v : CapValue) (perms : ℕ) → bit_and perms (value_perms v) ≡ perms
+    → IsWithinIfTagged (with_type (with_perms v perms) unsealed_type) v
 IsWithin-opened_with (Cap r) perms among = λ t. record { base = omega arith; top = omega arith; perms = among }
 IsWithin-opened_with (Data n) perms among = λ t. cc
 
 unsealed_perms-among : (v authority : CapValue) → bit_and (unsealed_perms v authority) (value_perms v) ≡ unsealed_perms v authority
 unfolding unsealed_perms
 unsealed_perms-among v authority =
-    cond_both (permits authority Global) _ _ (λ p. bit_and p (value_perms v) ≡ p) (λ e. and_self (value_perms v)) (λ e. masked-again (value_perms v) 0xfffe)
+    cond_both (permits authority Global) _ _ (λ p. bit_and p (value_perms v) ≡ p) (λ e. and_self (value_perms v))
+    (λ e. masked-again (value_perms v) 0xfffe)
 
 pub IsWithin-unseal : (v authority : CapValue) → IsWithinIfTagged (unseal v authority) v
 unfolding unseal

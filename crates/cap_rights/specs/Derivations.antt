@@ -7,7 +7,8 @@ use Rattle.std.specs.Prelude.{ℕ, ◌%◌, ◌^◌, Bool, ◌&&◌, not, nat_le
 use Rattle.std.specs.Bool.{beq}
 use Rattle.cap_format.specs.Word.{with_field, bit}
 use Rattle.base.specs.ObjectType.{unsealed_type, sentry_type}
-use Rattle.cap_bounds.specs.CapValue.{CapValue, Cap, Data, is_tagged, word_of, value_base, value_top, value_address, value_perms, value_otype, is_sealed, without_tag}
+use Rattle.cap_bounds.specs.CapValue.{CapValue, Cap, Data, is_tagged, word_of, value_base, value_top, value_address, value_perms}
+use Rattle.cap_bounds.specs.CapValue.{value_otype, is_sealed, without_tag}
 use Rattle.cap_rights.specs.declared.permission.Permission.TheVariants.{Global, Execute, Seal, Unseal}
 use Rattle.cap_rights.specs.Permission.{permits}
 use Rattle.cap_rights.specs.ObjectType.{greatest_sealing_type}

@@ -13,22 +13,26 @@ use Rattle.cap_rights.specs.Derivations.{with_perms, with_flag}
 
 -- ---- the bits
 
-pub with_perms-well_formed : (v : CapValue) (perms : ℕ) → IsSound v → perms < 2 ^ 16 → is_tagged v ≡ true → IsWordWellFormed (with_field (word_of v) 112 16 perms)
+pub with_perms-well_formed : (v : CapValue) (perms : ℕ) → IsSound v → perms < 2 ^ 16 → is_tagged v ≡ true
+    → IsWordWellFormed (with_field (word_of v) 112 16 perms)
 with_perms-well_formed (Cap r) perms sound fits tagged =
     rw (perms-encoded r sound perms) ((encoded-well_formed _ (IsWellFormed-perms r sound perms fits)).1)
 with_perms-well_formed (Data n) perms sound fits tagged = cc
 
-pub value_of-with_perms : (v : CapValue) (perms : ℕ) → IsSound v → perms < 2 ^ 16 → value_of (with_field (word_of v) 112 16 perms) (is_tagged v) ≡ with_perms v perms
+pub value_of-with_perms : (v : CapValue) (perms : ℕ) → IsSound v → perms < 2 ^ 16
+    → value_of (with_field (word_of v) 112 16 perms) (is_tagged v) ≡ with_perms v perms
 value_of-with_perms (Cap r) perms sound fits =
     ap Cap (ap decoded (perms-encoded r sound perms) ∙ decoded-encoded _ (IsWellFormed-perms r sound perms fits))
 value_of-with_perms (Data n) perms sound fits = refl
 
-pub with_flag-well_formed : (v : CapValue) (flag : Bool) → IsSound v → is_tagged v ≡ true → IsWordWellFormed (with_field (word_of v) 109 1 (bit flag))
+pub with_flag-well_formed : (v : CapValue) (flag : Bool) → IsSound v → is_tagged v ≡ true
+    → IsWordWellFormed (with_field (word_of v) 109 1 (bit flag))
 with_flag-well_formed (Cap r) flag sound tagged =
     rw (flag-encoded r sound flag) ((encoded-well_formed _ (IsWellFormed-flag r sound flag)).1)
 with_flag-well_formed (Data n) flag sound tagged = cc
 
-pub value_of-with_flag : (v : CapValue) (flag : Bool) → IsSound v → value_of (with_field (word_of v) 109 1 (bit flag)) (is_tagged v) ≡ with_flag v flag
+pub value_of-with_flag : (v : CapValue) (flag : Bool) → IsSound v
+    → value_of (with_field (word_of v) 109 1 (bit flag)) (is_tagged v) ≡ with_flag v flag
 value_of-with_flag (Cap r) flag sound =
     ap Cap (ap decoded (flag-encoded r sound flag) ∙ decoded-encoded _ (IsWellFormed-flag r sound flag))
 value_of-with_flag (Data n) flag sound = refl

@@ -2,7 +2,9 @@
 use Rattle.std.specs.Prelude.{ℕ, ◌/◌, ◌%◌, ◌^◌, Bool, ◌==◌}
 use Rattle.cap_bounds.specs.CapValue.{CapValue, value_perms}
 use Rattle.cap_rights.specs.declared.permission.Permission.{Permission}
-use Rattle.cap_rights.specs.declared.permission.Permission.TheVariants.{Global, Execute, Load, Store, LoadCapability, StoreCapability, StoreLocalCapability, Seal, CInvoke, Unseal, AccessSystemRegisters, SetCid}
+use Rattle.cap_rights.specs.declared.permission.Permission.TheVariants.{Global, Execute, Load, Store, LoadCapability, StoreCapability}
+use Rattle.cap_rights.specs.declared.permission.Permission.TheVariants.{StoreLocalCapability, Seal, CInvoke, Unseal, AccessSystemRegisters}
+use Rattle.cap_rights.specs.declared.permission.Permission.TheVariants.{SetCid}
 
 -- the bit of a permission
 abbrev pub bit_of : Permission → ℕ

@@ -1,14 +1,17 @@
 //! The command `run`, and the run without a command.
 
+ghost use Rattle.std.specs.Prelude.{◌≡◌, IfOk};
+ghost use Rattle.hart.specs.Opening.{opening};
 ghost use Rattle.sim_run.specs.Schedule.{IsInRange};
 
 use crate::fault::ProgramFault;
 use crate::files::{read_file, read_image};
-use cap_bounds::PlainCap;
 use image::{Image, ToWrite};
 use machine::{End, Machine};
 use sim_run::{Schedule, run_scheduled};
+use std::alloc::Global;
 use std::io;
+use word_cap::WordCap;
 
 /// Where the first image begins.
 const ENTRY: u64 = base::ram::BASE;
@@ -19,6 +22,13 @@ const FIRST: [u8; 20] = [
     0x23, 0xb0, 0x05, 0x00,
 ];
 
+/// The program's machine, in the opening state of an image: over capabilities as 128-bit words.
+pub fn machine_of<'a>(alloc: Global, image: &Image) -> Result<Machine<WordCap>, ProgramFault<'a>>
+    ensures { IfOk result (λ machine. machine ≡ opening image.now) }
+{
+    Ok(Machine::new(alloc, image)?)
+}
+
 /// Runs a machine from its image, and writes to standard output what it sends.
 fn run_machine<'a>(
     rt: &HostRuntime,
@@ -28,7 +38,7 @@ fn run_machine<'a>(
 ) -> Result<End, ProgramFault<'a>>
     requires { IsInRange schedule }
 {
-    let mut machine: Machine<PlainCap> = Machine::new(rt.alloc(), image)?;
+    let mut machine = machine_of(rt.alloc(), image)?;
     let mut output = ToWrite::new(io::writer(rt));
     Ok(run_scheduled(&mut machine, schedule, input, &mut output)?)
 }

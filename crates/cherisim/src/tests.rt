@@ -1,11 +1,16 @@
 //! The texts that stand on standard error, word for word.
 
 use crate::fault::ProgramFault;
+use crate::running::machine_of;
 use assembler::{AsmCode, AsmFault};
+use base::ram;
+use cap_bounds::CapRep;
 use debugger::TalkFault;
-use image::{DeviceFailed, ImageFault};
-use machine::MachineFault;
+use image::{DeviceFailed, Image, ImageFault};
+use machine::{Machine, MachineFault};
+use std::mem::size_of;
 use std::test::Fail;
+use word_cap::WordCap;
 
 static ASM_TEXTS: &[(AsmCode, &str)] = &[
     (AsmCode::A1, "line 7: A1 unknown mnemonic"),
@@ -75,5 +80,15 @@ fn each_fault_has_its_text(rt: HostRuntime) -> Result<(), Fail> {
     assert!(rt; has_text(&rt, ProgramFault::Read, "read failed")?);
     assert!(rt; has_text(&rt, ProgramFault::Write(DeviceFailed), "write failed")?);
     assert!(rt; has_text(&rt, ProgramFault::Memory, "no memory")?);
+    Ok(())
+}
+
+/// The program's machine is one over words, not over records, and a word with its tag takes no more room than that.
+#[test]
+fn the_program_runs_on_words(rt: HostRuntime) -> Result<(), Fail> {
+    let image = Image::build(rt.alloc(), 1, ram::BASE, 0, &[])?;
+    let machine: Machine<WordCap> = machine_of(rt.alloc(), &image)?;
+    assert_eq!(rt; machine.scr(0).address(), ram::BASE);
+    assert!(rt; size_of::<WordCap>() <= 32);
     Ok(())
 }

@@ -3,7 +3,10 @@
 use std::alloc::{AllocError, AllocFailed};
 use std::fmt;
 
-/// A line of a file of cases.
+/// The answer to a block of lines that hold.
+pub(crate) const HELD: &str = "as it stands";
+
+/// A line of a file of cases, or a block of lines.
 #[derive(Clone, Copy, Debug)]
 pub(crate) struct Case<'a> {
     /// The line's number in its file, from 1.
@@ -24,6 +27,15 @@ impl<'a> Case<'a> {
             inputs,
             expected,
         })
+    }
+
+    /// The case of a block of lines from this one on, which say themselves what is expected.
+    pub(crate) fn block(line: u64, text: &'a str) -> Self {
+        Case {
+            line,
+            inputs: text,
+            expected: HELD,
+        }
     }
 }
 

@@ -1,9 +1,11 @@
 //! Tries the cases of the files in `data/`, a line a case, and prints how many each file has.
 //!
 //! A line is `inputs => answer`; `#` begins a line that is none. A reader makes of the inputs the answer that the crates give, as a
-//! text, and the case holds where that is the line's. Cases over capabilities are tried with every form of them.
+//! text, and the case holds where that is the line's. Cases over capabilities are tried with every form of them. A conversation is a
+//! block of lines, which an empty line ends.
 #![tactic(auto)]
 
+mod assemblies;
 mod bytes;
 mod capability_rows;
 mod case;
@@ -12,16 +14,26 @@ mod device_script;
 mod encodings;
 mod failing;
 mod failures;
+mod forms;
 mod images;
 mod integers;
+mod lines;
 mod memory_script;
+mod names;
 mod numbers;
+mod plans;
+mod programs;
+mod quoted;
 mod register_script;
 mod requests;
 mod rights;
 mod rows;
 mod script;
+mod seen;
+mod sessions;
+mod shown;
 mod sizes;
+mod telling;
 mod text;
 mod values;
 mod windows;
@@ -29,10 +41,12 @@ mod words;
 
 use cap_bounds::{CapRep, PlainCap};
 use case::{Case, CaseError};
+use forms::Form;
 use std::alloc::Global;
 use std::io::Read;
 use std::process::ExitCode;
 use std::{fs, io};
+use word_cap::WordCap;
 
 /// A file of cases.
 #[derive(Clone, Copy, Debug)]
@@ -54,10 +68,23 @@ enum Table {
     Encodings,
     Images,
     Failures,
+    Programs,
+    Assembled,
+    Faults,
+    Assemblies,
+    ImageFiles,
+    Lines,
+    Names,
+    Shown,
+    Digits,
+    Sessions,
+    Runs,
+    Plans,
+    Listings,
 }
 
 /// The files in the order in which they are tried.
-const TABLES: [Table; 17] = [
+const TABLES: [Table; 30] = [
     Table::Words,
     Table::Windows,
     Table::Requests,
@@ -75,6 +102,19 @@ const TABLES: [Table; 17] = [
     Table::Encodings,
     Table::Images,
     Table::Failures,
+    Table::Programs,
+    Table::Assembled,
+    Table::Faults,
+    Table::Assemblies,
+    Table::ImageFiles,
+    Table::Lines,
+    Table::Names,
+    Table::Shown,
+    Table::Digits,
+    Table::Sessions,
+    Table::Runs,
+    Table::Plans,
+    Table::Listings,
 ];
 
 impl Table {
@@ -98,11 +138,42 @@ impl Table {
             Table::Encodings => "encodings",
             Table::Images => "images",
             Table::Failures => "failures",
+            Table::Programs => "programs",
+            Table::Assembled => "assembled",
+            Table::Faults => "faults",
+            Table::Assemblies => "assemblies",
+            Table::ImageFiles => "image_files",
+            Table::Lines => "lines",
+            Table::Names => "names",
+            Table::Shown => "shown",
+            Table::Digits => "digits",
+            Table::Sessions => "sessions",
+            Table::Runs => "runs",
+            Table::Plans => "plans",
+            Table::Listings => "listings",
+        }
+    }
+
+    /// Whether its cases are tried with every form of capabilities.
+    fn is_over_capabilities(self) -> bool {
+        match self {
+            Table::Devices | Table::Memory | Table::Integers | Table::Encodings | Table::Images => {
+                false
+            }
+            Table::Failures | Table::Assembled | Table::Faults | Table::Assemblies => false,
+            Table::ImageFiles | Table::Lines | Table::Names | Table::Shown => false,
+            Table::Digits | Table::Plans | Table::Listings => false,
+            _ => true,
         }
     }
 
     /// What the crates answer to a case's inputs, with this form of capabilities where there are any.
-    fn answer<C: CapRep>(self, alloc: Global, inputs: &str) -> Result<String, CaseError> {
+    fn answer<C: CapRep>(
+        self,
+        alloc: Global,
+        form: Form,
+        inputs: &str,
+    ) -> Result<String, CaseError> {
         match self {
             Table::Words => words::answer::<C>(alloc, inputs),
             Table::Windows => windows::answer::<C>(alloc, inputs),
@@ -121,6 +192,19 @@ impl Table {
             Table::Encodings => encodings::answer(alloc, inputs),
             Table::Images => images::answer(alloc, inputs),
             Table::Failures => failures::answer(alloc, inputs),
+            Table::Programs => programs::answer(alloc, form, inputs),
+            Table::Assembled => assemblies::words(alloc, inputs),
+            Table::Faults => assemblies::words(alloc, inputs),
+            Table::Assemblies => assemblies::parts(alloc, inputs),
+            Table::ImageFiles => assemblies::image_file(alloc, inputs),
+            Table::Lines => lines::answer(alloc, inputs),
+            Table::Names => names::answer(alloc, inputs),
+            Table::Shown => shown::word(alloc, inputs),
+            Table::Digits => shown::digits(alloc, inputs),
+            Table::Sessions => sessions::answer(alloc, form, inputs),
+            Table::Runs => programs::answer(alloc, form, inputs),
+            Table::Plans => plans::answer(alloc, inputs),
+            Table::Listings => plans::listing(alloc, inputs),
         }
     }
 }
@@ -133,10 +217,11 @@ struct Tally {
 }
 
 /// Tells of a case that failed: its file and line, the form of capabilities, what was expected and what came.
-fn tell(rt: &HostRuntime, table: Table, case: &Case, form: &str, came: &str) -> io::Result<()> {
+fn tell(rt: &HostRuntime, table: Table, case: &Case, form: Form, came: &str) -> io::Result<()> {
     let name = table.name();
+    let form = form.name();
     let line = case.line;
-    let inputs = case.inputs;
+    let inputs = case.inputs.lines().next().unwrap_or("");
     let expected = case.expected;
     println!(rt;
         "{name}.txt, line {line} ({form}): {inputs}\n  expected {expected}\n  came     {came}"
@@ -144,8 +229,8 @@ fn tell(rt: &HostRuntime, table: Table, case: &Case, form: &str, came: &str) -> 
 }
 
 /// Tries a case with one form of capabilities, and says whether it held.
-fn holds<C: CapRep>(rt: &HostRuntime, table: Table, case: &Case, form: &str) -> io::Result<bool> {
-    match table.answer::<C>(rt.alloc(), case.inputs) {
+fn holds<C: CapRep>(rt: &HostRuntime, table: Table, case: &Case, form: Form) -> io::Result<bool> {
+    match table.answer::<C>(rt.alloc(), form, case.inputs) {
         Ok(came) if came.as_str() == case.expected => Ok(true),
         Ok(came) => {
             tell(rt, table, case, form, &came)?;
@@ -158,6 +243,18 @@ fn holds<C: CapRep>(rt: &HostRuntime, table: Table, case: &Case, form: &str) -> 
     }
 }
 
+/// Tries a case with each form of capabilities, and counts it.
+fn count(rt: &HostRuntime, table: Table, case: &Case, tally: Tally) -> io::Result<Tally> {
+    let mut held = holds::<PlainCap>(rt, table, case, Form::Records)?;
+    if table.is_over_capabilities() {
+        held = holds::<WordCap>(rt, table, case, Form::Words)? && held;
+    }
+    Ok(Tally {
+        cases: tally.cases.wrapping_add(1),
+        failed: tally.failed.wrapping_add(u64::from(!held)),
+    })
+}
+
 /// Tries the lines of a file.
 fn try_lines(rt: &HostRuntime, table: Table, text: &str) -> io::Result<Tally> {
     let mut tally = Tally {
@@ -168,11 +265,25 @@ fn try_lines(rt: &HostRuntime, table: Table, text: &str) -> io::Result<Tally> {
     for line in text.lines() {
         number = number.wrapping_add(1);
         if let Some(case) = Case::of(number, line) {
-            tally.cases = tally.cases.wrapping_add(1);
-            if !holds::<PlainCap>(rt, table, &case, "records")? {
-                tally.failed = tally.failed.wrapping_add(1);
-            }
+            tally = count(rt, table, &case, tally)?;
         }
+    }
+    Ok(tally)
+}
+
+/// Tries the blocks of a file, which empty lines part: each that has a program is a case.
+fn try_blocks(rt: &HostRuntime, table: Table, text: &str) -> io::Result<Tally> {
+    let mut tally = Tally {
+        cases: 0,
+        failed: 0,
+    };
+    let mut number: u64 = 1;
+    for block in text.split("\n\n") {
+        if block.contains("\n@") {
+            tally = count(rt, table, &Case::block(number, block), tally)?;
+        }
+        let lines = block.split('\n').count() as u64;
+        number = number.wrapping_add(lines).wrapping_add(1);
     }
     Ok(tally)
 }
@@ -183,7 +294,10 @@ fn try_file(rt: &HostRuntime, table: Table) -> io::Result<Tally> {
     let path = format!(in rt.alloc(); "{name}.txt")?;
     let mut text = String::new(rt.alloc());
     fs::open(rt, &path)?.read_to_string(&mut text)?;
-    let tally = try_lines(rt, table, &text)?;
+    let tally = match table {
+        Table::Sessions => try_blocks(rt, table, &text)?,
+        _ => try_lines(rt, table, &text)?,
+    };
     let cases = tally.cases;
     println!(rt; "{name}: {cases} cases")?;
     Ok(tally)

@@ -36,6 +36,16 @@ impl<'a> Words<'a> {
         u64::from_str_radix(self.word()?, 16).map_err(|_| CaseError::Unreadable)
     }
 
+    /// The next word as the hexadecimal digits of a byte.
+    pub(crate) fn byte(&mut self) -> Result<u8, CaseError> {
+        u8::from_str_radix(self.word()?, 16).map_err(|_| CaseError::Unreadable)
+    }
+
+    /// The next word as decimal digits.
+    pub(crate) fn decimal(&mut self) -> Result<u64, CaseError> {
+        u64::from_str_radix(self.word()?, 10).map_err(|_| CaseError::Unreadable)
+    }
+
     /// The next word as a truth value, 0 or 1.
     pub(crate) fn bit(&mut self) -> Result<bool, CaseError> {
         match self.word()? {

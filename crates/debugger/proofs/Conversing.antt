@@ -1,5 +1,6 @@
 -- Whole lines that do not end a conversation, and the piece behind them.
-use Rattle.std.proofs.Common.{◌≡◌, ℕ, ◌<◌, Bool, true, false, List, [], ◌∷◌, ◌++◌, All, length, take, Result, Ok, Err, refl, sym, ap, ◌∙◌, append_assoc, append-nil, take_all, arith}
+use Rattle.std.proofs.Common.{◌≡◌, ℕ, ◌<◌, Bool, true, false, List, [], ◌∷◌, ◌++◌, All, length, take, Result, Ok, Err, refl, sym, ap, ◌∙◌}
+use Rattle.std.proofs.Common.{append_assoc, append-nil, take_all, arith}
 use Rattle.std.specs.Prelude.{not, ◌&&◌, ◌==◌, nat_lt, if◌then◌else◌}
 use Rattle.std.proofs.lemmas.Bool.{false≢true}
 use Rattle.std.proofs.lemmas.Bool.Decides.{nat_tests}
@@ -12,7 +13,8 @@ use Rattle.debugger.specs.declared.fault.DebugFault.{DebugFault}
 use Rattle.debugger.specs.declared.fault.DebugFault.TheVariants.{B2}
 use Rattle.debugger.specs.Command.{Command, step, tick, byte, until, reg, regs, scr, csr, mem, dis, quit, command_of}
 use Rattle.debugger.specs.Reply.{answer_to, events_of, command_in, state_by, state_after}
-use Rattle.debugger.specs.Conversation.{reply_to, is_end, ends_by, is_last, replies_to, state_after_lines, unread_lines, conversation, state_after_conversation, unread}
+use Rattle.debugger.specs.Conversation.{reply_to, is_end, ends_by, is_last, replies_to, state_after_lines, unread_lines, conversation}
+use Rattle.debugger.specs.Conversation.{state_after_conversation, unread}
 use Rattle.debugger.specs.Talk.{is_feed, fed, replies, state_after_all, goes_on}
 use Rattle.debugger.specs.Heard.{IsInLine}
 use Rattle.debugger.proofs.Pieces.{pieces_at_end, pieces_at_feed, joined}
@@ -68,19 +70,22 @@ goes_later false q h = h
 goes_both : (p q : Bool) → p ≡ false → q ≡ true → not p && q ≡ true
 goes_both p q h k = ap (λ b. not b && q) h ∙ k
 
-pub goes_on_more : (lines : List (List ℕ)) (line : List ℕ) (s : State) → goes_on lines s ≡ true → is_last line (state_after_all lines s) ≡ false
+pub goes_on_more : (lines : List (List ℕ)) (line : List ℕ) (s : State) → goes_on lines s ≡ true
+    → is_last line (state_after_all lines s) ≡ false
     → goes_on (lines ++ line ∷ []) s ≡ true
 goes_on_more [] line s h e = goes_both (is_last line s) true e refl
 goes_on_more (l ∷ lines) line s h e =
     goes_both (is_last l s) _ (goes_first (is_last l s) _ h) (goes_on_more lines line (state_after l s) (goes_later (is_last l s) _ h) e)
 
-pub replies_more : (lines : List (List ℕ)) (line : List ℕ) (s : State) → replies (lines ++ line ∷ []) s ≡ replies lines s ++ reply_to line (state_after_all lines s)
+pub replies_more : (lines : List (List ℕ)) (line : List ℕ) (s : State)
+    → replies (lines ++ line ∷ []) s ≡ replies lines s ++ reply_to line (state_after_all lines s)
 replies_more [] line s = append-nil (reply_to line s)
 replies_more (l ∷ lines) line s =
     ap (λ text. reply_to l s ++ text) (replies_more lines line (state_after l s))
     ∙ sym (append_assoc (reply_to l s) (replies lines (state_after l s)) (reply_to line (state_after_all lines (state_after l s))))
 
-pub state_after_more : (lines : List (List ℕ)) (line : List ℕ) (s : State) → state_after_all (lines ++ line ∷ []) s ≡ state_after line (state_after_all lines s)
+pub state_after_more : (lines : List (List ℕ)) (line : List ℕ) (s : State)
+    → state_after_all (lines ++ line ∷ []) s ≡ state_after line (state_after_all lines s)
 state_after_more [] line s = refl
 state_after_more (l ∷ lines) line s = state_after_more lines line (state_after l s)
 
@@ -88,18 +93,21 @@ state_after_more (l ∷ lines) line s = state_after_more lines line (state_after
 
 module _ (next : List ℕ) (rest : List (List ℕ)) where
   one_reply : (line : List ℕ) (lines : List (List ℕ)) (s : State)
-      → replies_to (line ∷ (lines ++ next ∷ rest)) s ≡ reply_to line s ++ (if is_last line s then [] else replies_to (lines ++ next ∷ rest) (state_after line s))
+      → replies_to (line ∷ (lines ++ next ∷ rest)) s ≡ reply_to line s
+      ++ (if is_last line s then [] else replies_to (lines ++ next ∷ rest) (state_after line s))
   one_reply line [] s = refl
   one_reply line (l ∷ lines) s = refl
 
   one_state : (line : List ℕ) (lines : List (List ℕ)) (s : State)
-      → state_after_lines (line ∷ (lines ++ next ∷ rest)) s ≡ (if is_last line s then s else state_after_lines (lines ++ next ∷ rest) (state_after line s))
+      → state_after_lines (line ∷ (lines ++ next ∷ rest)) s
+      ≡ (if is_last line s then s else state_after_lines (lines ++ next ∷ rest) (state_after line s))
   one_state line [] s = refl
   one_state line (l ∷ lines) s = refl
 
   one_unread : (line : List ℕ) (lines : List (List ℕ)) (s : State)
       → unread_lines (line ∷ (lines ++ next ∷ rest)) s
-      ≡ (if is_last line s then join_by (λ l. l) (10 ∷ []) (lines ++ next ∷ rest) else unread_lines (lines ++ next ∷ rest) (state_after line s))
+      ≡ (if is_last line s then join_by (λ l. l) (10 ∷ []) (lines ++ next ∷ rest) else unread_lines (lines ++ next ∷ rest)
+      (state_after line s))
   one_unread line [] s = refl
   one_unread line (l ∷ lines) s = refl
 
@@ -128,17 +136,20 @@ module _ (next : List ℕ) (rest : List (List ℕ)) where
   unread_through (line ∷ lines) s h =
       let t = state_after line s in
       one_unread line lines s
-      ∙ ap (λ b. if b then join_by (λ l. l) (10 ∷ []) (lines ++ next ∷ rest) else unread_lines (lines ++ next ∷ rest) t) (goes_first (is_last line s) _ h)
+      ∙ ap (λ b. if b then join_by (λ l. l) (10 ∷ []) (lines ++ next ∷ rest) else unread_lines (lines ++ next ∷ rest) t)
+      (goes_first (is_last line s) _ h)
       ∙ unread_through lines t (goes_later (is_last line s) _ h)
 
 -- ---- the piece that ends a conversation, with others behind it
 
-ends_reply : (line : List ℕ) (pieces : List (List ℕ)) (s : State) → 0 < length pieces → is_last line s ≡ true → replies_to (line ∷ pieces) s ≡ reply_to line s
+ends_reply : (line : List ℕ) (pieces : List (List ℕ)) (s : State) → 0 < length pieces → is_last line s ≡ true
+    → replies_to (line ∷ pieces) s ≡ reply_to line s
 ends_reply line [] s some h = absurd (omega arith)
 ends_reply line (next ∷ rest) s some h =
     ap (λ b. reply_to line s ++ (if b then [] else replies_to (next ∷ rest) (state_after line s))) h ∙ append-nil (reply_to line s)
 
-ends_state : (line : List ℕ) (pieces : List (List ℕ)) (s : State) → 0 < length pieces → is_last line s ≡ true → state_after_lines (line ∷ pieces) s ≡ s
+ends_state : (line : List ℕ) (pieces : List (List ℕ)) (s : State) → 0 < length pieces → is_last line s ≡ true
+    → state_after_lines (line ∷ pieces) s ≡ s
 ends_state line [] s some h = absurd (omega arith)
 ends_state line (next ∷ rest) s some h = ap (λ b. if b then s else state_after_lines (next ∷ rest) (state_after line s)) h
 
@@ -150,7 +161,8 @@ ends_unread line (next ∷ rest) s some h =
 
 -- ---- whole conversations: lines that go on, and then a part of a line, the line's feed and a rest or nothing
 
-module _ (lines : List (List ℕ)) (part : List ℕ) (s : State) (whole : All IsInLine lines) (one : IsInLine part) (go : goes_on lines s ≡ true) where
+module _ (lines : List (List ℕ)) (part : List ℕ) (s : State) (whole : All IsInLine lines) (one : IsInLine part)
+    (go : goes_on lines s ≡ true) where
   abbrev t : State
   t = state_after_all lines s
 

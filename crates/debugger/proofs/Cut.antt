@@ -1,5 +1,6 @@
 -- Words, cut off a line one after the other.
-use Rattle.std.proofs.Common.{◌≡◌, ℕ, suc, ◌+◌, ◌<◌, ◌==◌, Bool, true, false, not, List, [], ◌∷◌, length, take, drop, refl, ap, sym, ◌∙◌, subst, arith}
+use Rattle.std.proofs.Common.{◌≡◌, ℕ, suc, ◌+◌, ◌<◌, ◌==◌, Bool, true, false, not, List, [], ◌∷◌, length, take, drop, refl, ap, sym, ◌∙◌}
+use Rattle.std.proofs.Common.{subst, arith}
 use Rattle.std.specs.Prelude.{filter}
 use Rattle.std.proofs.lemmas.Bool.Decides.{nat_tests}
 use Rattle.std.specs.List.{prefix_len, slice_split}
@@ -42,7 +43,8 @@ module _ (p : ℕ → Bool) where
   solid : (x : ℕ) (xs : List ℕ) → p x ≡ false → Found (x ∷ xs) (x ∷ xs)
   solid x xs e =
       let c = cut (x ∷ xs) in
-      rw c.first (rw (e, one_more, not_zero (length (take (run xs) xs))) (ap (λ ws. (x ∷ take (run xs) xs) ∷ ws) (c.others ∙ rw (e, one_more) refl)))
+      rw c.first
+      (rw (e, one_more, not_zero (length (take (run xs) xs))) (ap (λ ws. (x ∷ take (run xs) xs) ∷ ws) (c.others ∙ rw (e, one_more) refl)))
 
   text_blank : (x : ℕ) (xs : List ℕ) → p x ≡ true → text (x ∷ xs) ≡ text xs
   text_blank x xs e = rw (e, one_more) refl

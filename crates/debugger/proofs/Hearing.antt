@@ -1,5 +1,6 @@
 -- What was heard and answered so far, one step further; what is left where it is cut short; and the whole conversation.
-use Rattle.std.proofs.Common.{◌≡◌, ℕ, zero, suc, ◌+◌, ◌-◌, ◌<◌, ◌≤◌, true, false, List, [], ◌∷◌, ◌++◌, length, take, drop, Option, Some, None, refl, sym, ap, subst, ◌∙◌, append_assoc, append-nil, arith}
+use Rattle.std.proofs.Common.{◌≡◌, ℕ, zero, suc, ◌+◌, ◌-◌, ◌<◌, ◌≤◌, true, false, List, [], ◌∷◌, ◌++◌, length, take, drop, Option, Some}
+use Rattle.std.proofs.Common.{None, refl, sym, ap, subst, ◌∙◌, append_assoc, append-nil, arith}
 use Rattle.std.specs.Prelude.{◌==◌, if◌then◌else◌, IfSome, ◌⊎◌}
 use Rattle.std.proofs.Common.{inl, inr}
 use Rattle.std.proofs.KnownBytes.{Appends-nil, Appends-trans, Consumes-nil, Consumes-trans, Consumes-kept}
@@ -19,7 +20,8 @@ use Rattle.debugger.specs.Conversation.{reply_by, ends_by, reply_to, is_last, co
 use Rattle.debugger.specs.Talk.{most_heard, heard, is_feed, fed, replies, state_after_all, Ends, IsTold, IsRead, IsCutInLine, LeavesOff}
 use Rattle.debugger.specs.Heard.{FailsToReply, IsInLine, IsHeard, IsHeardToEnd}
 use Rattle.debugger.proofs.Pieces.{before_none, in_line_more, whole_lines, fed_more, take_again, take_front, take_behind}
-use Rattle.debugger.proofs.Conversing.{kept_command, same_after_last, goes_on_more, replies_more, state_after_more, told_last, state_last, unread_last, told_end, state_end, unread_end}
+use Rattle.debugger.proofs.Conversing.{kept_command, same_after_last, goes_on_more, replies_more, state_after_more, told_last, state_last}
+use Rattle.debugger.proofs.Conversing.{unread_last, told_end, state_end, unread_end}
 
 -- ---- a line of which a beginning is kept does the same
 
@@ -150,7 +152,8 @@ module _ (n : ℕ) (line : List ℕ) (old new : State) (lo ln ho hn : Option (Li
             kept = k;
           }
 
-      told_of : (input rest : List ℕ) → input ≡ (bytes ++ 10 ∷ []) ++ rest → n < most_heard → is_last line new ≡ true → IsTold input old new' (Some rest) ho hn'
+      told_of : (input rest : List ℕ) → input ≡ (bytes ++ 10 ∷ []) ++ rest → n < most_heard → is_last line new ≡ true
+          → IsTold input old new' (Some rest) ho hn'
       told_of input rest e small last =
           let short : length (bytes ++ 10 ∷ []) ≤ most_heard = omega (arith, longer ln' 10 next) in
           let more : List ℕ = take (most_heard - length (bytes ++ 10 ∷ [])) rest in
@@ -160,25 +163,30 @@ module _ (n : ℕ) (line : List ℕ) (old new : State) (lo ln ho hn : Option (Li
           ap (λ l. more ++ drop most_heard l) e ∙ take_behind most_heard (bytes ++ 10 ∷ []) rest short in
           let ended : is_last h.part t ≡ true = sym last_here ∙ last in
           record {
-            text = subst (Appends ho hn') (sym (ap (λ l. conversation l old) is ∙ told_last h.lines h.part old h.in_lines h.in_line h.goes_on more ended)) written;
+            text = subst (Appends ho hn')
+                (sym (ap (λ l. conversation l old) is ∙ told_last h.lines h.part old h.in_lines h.in_line h.goes_on more ended)) written;
             state =
                 state ∙ state_here ∙ same_after_last h.part t ended
-                ∙ sym (ap (λ l. state_after_conversation l old) is ∙ state_last h.lines h.part old h.in_lines h.in_line h.goes_on more ended);
+                ∙ sym (ap (λ l. state_after_conversation l old) is
+                ∙ state_last h.lines h.part old h.in_lines h.in_line h.goes_on more ended);
             rest =
                 ap (λ l. Some l) (sym others
-                ∙ ap (λ l. l ++ drop most_heard input) (sym (ap (λ l. unread l old) is ∙ unread_last h.lines h.part old h.in_lines h.in_line h.goes_on more ended)));
+                ∙ ap (λ l. l ++ drop most_heard input)
+                (sym (ap (λ l. unread l old) is ∙ unread_last h.lines h.part old h.in_lines h.in_line h.goes_on more ended)));
           }
 
       -- the line that ended the conversation was answered
       pub heard_last : n < most_heard → is_last line new ≡ true → IfSome lo (λ input. IsTold input old new' ln' ho hn')
       heard_last small last =
-          if_known lo ln' (bytes ++ 10 ∷ []) (λ input left. IsTold input old new' left ho hn') (consumed ln' 10 next) (λ input rest _ e. told_of input rest e small last)
+          if_known lo ln' (bytes ++ 10 ∷ []) (λ input left. IsTold input old new' left ho hn') (consumed ln' 10 next)
+          (λ input rest _ e. told_of input rest e small last)
 
     -- the line could not be answered
     read_feed : IsRead h.lines (h.part ++ 10 ∷ []) old lo ln'
     read_feed = record { read = consumed_part ln' 10 next; are_lines = whole_lines h.lines h.in_lines; goes_on = h.goes_on }
 
-    pub cut_at_feed : (fault : TalkFault) (new' : State) (hn' : Option (List ℕ)) → FailsToReply fault line new new' hn hn' → LeavesOff fault old new' lo ln' ho hn'
+    pub cut_at_feed : (fault : TalkFault) (new' : State) (hn' : Option (List ℕ)) → FailsToReply fault line new new' hn hn'
+        → LeavesOff fault old new' lo ln' ho hn'
     cut_at_feed Read new' hn' f = absurd f
     cut_at_feed Write new' hn' f = record {
       lines = h.lines;
@@ -248,7 +256,8 @@ module _ (n : ℕ) (line : List ℕ) (old new : State) (lo ln ho hn : Option (Li
     ends_rest : Ends h.lines h.part [] ln
     ends_rest = inr (refl, is_some (length h.part) (sym same_test ∙ some), reached n (length bytes) h.count ln end)
 
-    pub cut_at_rest : (fault : TalkFault) (new' : State) (hn' : Option (List ℕ)) → FailsToReply fault line new new' hn hn' → LeavesOff fault old new' lo ln ho hn'
+    pub cut_at_rest : (fault : TalkFault) (new' : State) (hn' : Option (List ℕ)) → FailsToReply fault line new new' hn hn'
+        → LeavesOff fault old new' lo ln ho hn'
     cut_at_rest Read new' hn' f = absurd f
     cut_at_rest Write new' hn' f = record {
       lines = h.lines;
@@ -280,31 +289,38 @@ module _ (n : ℕ) (line : List ℕ) (old new : State) (lo ln ho hn : Option (Li
       (text : Appends ho hn' (replies h.lines old ++ (if length h.part == 0 then [] else reply_to h.part t))) where
     told_of_all : (input rest : List ℕ) → ln ≡ Some rest → input ≡ bytes ++ rest → IsTold input old new' (Some rest) ho hn'
     told_of_all input rest is e =
-        let none : take (most_heard - length bytes) rest ≡ [] = no_more rest (subst (λ left. (n ≡ most_heard) ⊎ ((n < most_heard) × IsAtEnd left)) is end) in
+        let none : take (most_heard - length bytes) rest ≡ [] =
+        no_more rest (subst (λ left. (n ≡ most_heard) ⊎ ((n < most_heard) × IsAtEnd left)) is end) in
         let short : length bytes ≤ most_heard = at_most n (length bytes) h.count ln end in
-        let all : heard input ≡ bytes = ap (take most_heard) e ∙ take_front most_heard bytes rest short ∙ ap (λ l. bytes ++ l) none ∙ append-nil bytes in
+        let all : heard input ≡ bytes = ap (take most_heard) e ∙ take_front most_heard bytes rest short ∙ ap (λ l. bytes ++ l) none
+        ∙ append-nil bytes in
         let others : drop most_heard input ≡ rest =
         ap (drop most_heard) e ∙ ap (λ l. l ++ drop most_heard (bytes ++ rest)) (sym none) ∙ take_behind most_heard bytes rest short in
         record {
-          text = subst (Appends ho hn') (sym (ap (λ l. conversation l old) all ∙ told_end h.lines h.part old h.in_lines h.in_line h.goes_on)) text;
+          text = subst (Appends ho hn')
+              (sym (ap (λ l. conversation l old) all ∙ told_end h.lines h.part old h.in_lines h.in_line h.goes_on)) text;
           state = state ∙ sym (ap (λ l. state_after_conversation l old) all ∙ state_end h.lines h.part old h.in_lines h.in_line h.goes_on);
           rest =
               ap (λ l. Some l) (sym others
-              ∙ ap (λ l. l ++ drop most_heard input) (sym (ap (λ l. unread l old) all ∙ unread_end h.lines h.part old h.in_lines h.in_line h.goes_on)));
+              ∙ ap (λ l. l ++ drop most_heard input)
+              (sym (ap (λ l. unread l old) all ∙ unread_end h.lines h.part old h.in_lines h.in_line h.goes_on)));
         }
 
     told_all : IfSome lo (λ input. IsTold input old new' ln ho hn')
     told_all = if_known lo ln bytes (λ input left. IsTold input old new' left ho hn') h.read told_of_all
 
   -- there is no last line
-  pub told_without_rest : (n ≡ most_heard) ⊎ ((n < most_heard) × IsAtEnd ln) → (length line == 0) ≡ true → IfSome lo (λ input. IsTold input old new ln ho hn)
+  pub told_without_rest : (n ≡ most_heard) ⊎ ((n < most_heard) × IsAtEnd ln) → (length line == 0) ≡ true
+      → IfSome lo (λ input. IsTold input old new ln ho hn)
   told_without_rest end none =
       let test : (length h.part == 0) ≡ true = sym same_test ∙ none in
       told_all end new hn (h.state ∙ sym (ap (λ b. if b then t else state_after h.part t) test))
-      (subst (Appends ho hn) (sym (ap (λ b. replies h.lines old ++ (if b then [] else reply_to h.part t)) test ∙ append-nil (replies h.lines old))) h.text)
+      (subst (Appends ho hn)
+      (sym (ap (λ b. replies h.lines old ++ (if b then [] else reply_to h.part t)) test ∙ append-nil (replies h.lines old))) h.text)
 
   -- it was answered
-  pub told_with_rest : (n ≡ most_heard) ⊎ ((n < most_heard) × IsAtEnd ln) → (length line == 0) ≡ false → (new' : State) (hn' : Option (List ℕ))
+  pub told_with_rest : (n ≡ most_heard) ⊎ ((n < most_heard) × IsAtEnd ln) → (length line == 0) ≡ false
+      → (new' : State) (hn' : Option (List ℕ))
       → new' ≡ state_after line new → Appends hn hn' (reply_to line new) → IfSome lo (λ input. IsTold input old new' ln ho hn')
   told_with_rest end some new' hn' state text =
       let test : (length h.part == 0) ≡ false = sym same_test ∙ some in

@@ -1,5 +1,6 @@
 -- Lines of an input: its pieces between line feeds, and a line's beginning.
-use Rattle.std.proofs.Common.{◌≡◌, ℕ, zero, suc, ◌+◌, ◌-◌, ◌<◌, ◌≤◌, false, List, [], ◌∷◌, ◌++◌, All, length, take, drop, refl, sym, ap, ◌∙◌, append_assoc, append-nil, take_all, arith}
+use Rattle.std.proofs.Common.{◌≡◌, ℕ, zero, suc, ◌+◌, ◌-◌, ◌<◌, ◌≤◌, false, List, [], ◌∷◌, ◌++◌, All, length, take, drop, refl, sym, ap}
+use Rattle.std.proofs.Common.{◌∙◌, append_assoc, append-nil, take_all, arith}
 use Rattle.std.proofs.lemmas.List.{take-append-drop, append_cancel_left, length-append}
 use Rattle.std.proofs.lemmas.List.Elements.{All-head, All-tail, All-weaker, All-push}
 use Rattle.std.proofs.lemmas.List.Sums.{position_or_len_is}
@@ -32,14 +33,16 @@ fed_more (line ∷ lines) part =
     ∙ sym (append_assoc (line ++ 10 ∷ []) (fed lines ++ part) (10 ∷ []))
     ∙ ap (λ text. text ++ 10 ∷ []) (sym (append_assoc (line ++ 10 ∷ []) (fed lines) part))
 
-pub split_fed : (lines : List (List ℕ)) (rest : List ℕ) → All IsInLine lines → slice_split is_feed (fed lines ++ rest) ≡ lines ++ slice_split is_feed rest
+pub split_fed : (lines : List (List ℕ)) (rest : List ℕ) → All IsInLine lines
+    → slice_split is_feed (fed lines ++ rest) ≡ lines ++ slice_split is_feed rest
 split_fed [] rest h = refl
 split_fed (line ∷ lines) rest h =
     ap (slice_split is_feed) (append_assoc (line ++ 10 ∷ []) (fed lines) rest ∙ append_assoc line (10 ∷ []) (fed lines ++ rest))
     ∙ slice_split_at is_feed line 10 (fed lines ++ rest) (All-head IsInLine line lines h) refl
     ∙ ap (λ pieces. line ∷ pieces) (split_fed lines rest (All-tail IsInLine line lines h))
 
-pub pieces_at_end : (lines : List (List ℕ)) (part : List ℕ) → All IsInLine lines → IsInLine part → slice_split is_feed (fed lines ++ part) ≡ lines ++ part ∷ []
+pub pieces_at_end : (lines : List (List ℕ)) (part : List ℕ) → All IsInLine lines → IsInLine part
+    → slice_split is_feed (fed lines ++ part) ≡ lines ++ part ∷ []
 pieces_at_end lines part h p = split_fed lines part h ∙ ap (λ pieces. lines ++ pieces) (slice_split_none is_feed part p)
 
 pub pieces_at_feed : (lines : List (List ℕ)) (part rest : List ℕ) → All IsInLine lines → IsInLine part
@@ -73,7 +76,8 @@ take_front n xs ys h =
 pub take_behind : (n : ℕ) (xs ys : List ℕ) → length xs ≤ n → take (n - length xs) ys ++ drop n (xs ++ ys) ≡ ys
 take_behind n xs ys h =
     append_cancel_left xs _ ys
-    (sym (append_assoc xs (take (n - length xs) ys) (drop n (xs ++ ys))) ∙ ap (λ l. l ++ drop n (xs ++ ys)) (sym (take_front n xs ys h)) ∙ take-append-drop n (xs ++ ys))
+    (sym (append_assoc xs (take (n - length xs) ys) (drop n (xs ++ ys))) ∙ ap (λ l. l ++ drop n (xs ++ ys)) (sym (take_front n xs ys h))
+    ∙ take-append-drop n (xs ++ ys))
 
 pub push_room : (n : ℕ) (old new : List ℕ) (b : ℕ) → new ≡ old ++ b ∷ [] → length old < n → new ≡ take n (old ++ b ∷ [])
 push_room n old new b e h = e ∙ sym (take_all n (old ++ b ∷ []) (omega (arith, length-append old (b ∷ []))))

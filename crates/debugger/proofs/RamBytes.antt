@@ -1,5 +1,6 @@
 -- Bytes of RAM, one more at a time.
-use Rattle.std.proofs.Common.{◌≡◌, ℕ, zero, suc, ◌+◌, ◌-◌, ◌*◌, ◌<◌, ◌≤◌, List, [], ◌∷◌, ◌++◌, length, take, drop, refl, ap, sym, ◌∙◌, length-drop, arith}
+use Rattle.std.proofs.Common.{◌≡◌, ℕ, zero, suc, ◌+◌, ◌-◌, ◌*◌, ◌<◌, ◌≤◌, List, [], ◌∷◌, ◌++◌, length, take, drop, refl, ap, sym, ◌∙◌}
+use Rattle.std.proofs.Common.{length-drop, arith}
 use Rattle.std.specs.Prelude.{slice_index}
 use Rattle.std.proofs.Math.Seq.{take-add}
 use Rattle.base.specs.Ram.{ram_base}
@@ -30,5 +31,7 @@ pub one_more_byte : (m : Memory) (address i : ℕ) (b : ℕ) → bytes_at m (add
     → bytes_at m address (i + 1) ≡ bytes_at m address i ++ b ∷ []
 one_more_byte m address i b one low =
     let place : (address - ram_base) + i ≡ (address + i) - ram_base = omega arith in
-    let later : drop i (drop (address - ram_base) m.bytes) ≡ drop ((address + i) - ram_base) m.bytes = drop_more (address - ram_base) i m.bytes ∙ ap (λ n. drop n m.bytes) place in
-    take-add i 1 (drop (address - ram_base) m.bytes) ∙ ap (λ xs. bytes_at m address i ++ take 1 xs) later ∙ ap (λ xs. bytes_at m address i ++ xs) one
+    let later : drop i (drop (address - ram_base) m.bytes) ≡ drop ((address + i) - ram_base) m.bytes =
+    drop_more (address - ram_base) i m.bytes ∙ ap (λ n. drop n m.bytes) place in
+    take-add i 1 (drop (address - ram_base) m.bytes) ∙ ap (λ xs. bytes_at m address i ++ take 1 xs) later
+    ∙ ap (λ xs. bytes_at m address i ++ xs) one

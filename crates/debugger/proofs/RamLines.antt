@@ -1,5 +1,6 @@
 -- The lines of bytes and of words are the first line and those behind it.
-use Rattle.std.proofs.Common.{◌≡◌, ℕ, zero, suc, ◌+◌, ◌-◌, ◌<◌, ◌≤◌, Bool, List, [], ◌++◌, length, take, drop, refl, ap, sym, ◌∙◌, append_assoc, arith}
+use Rattle.std.proofs.Common.{◌≡◌, ℕ, zero, suc, ◌+◌, ◌-◌, ◌<◌, ◌≤◌, Bool, List, [], ◌++◌, length, take, drop, refl, ap, sym, ◌∙◌}
+use Rattle.std.proofs.Common.{append_assoc, arith}
 use Rattle.std.specs.Prelude.{◌==◌, false}
 use Rattle.std.proofs.lemmas.Bool.Decides.{nat_tests}
 use Rattle.tagged_memory.specs.Memory.{Memory, number_at}
@@ -44,5 +45,6 @@ pub word_lines_from : (mode : Bool) (m : Memory) (n address word : ℕ) (old mid
     → mid ≡ old ++ word_line mode address word → new ≡ mid ++ word_lines mode m (n - 1) (address + 4)
     → new ≡ old ++ word_lines mode m n address
 word_lines_from mode m n address word old mid new some is one more =
-    joined old mid new (word_line mode address (number_at m address 4)) (word_lines mode m (n - 1) (address + 4)) (word_lines mode m n address)
+    joined old mid new (word_line mode address (number_at m address 4)) (word_lines mode m (n - 1) (address + 4))
+    (word_lines mode m n address)
     (word_step mode m n address some) (one ∙ ap (λ w. old ++ word_line mode address w) is) more

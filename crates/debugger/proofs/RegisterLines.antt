@@ -13,9 +13,12 @@ use Rattle.debugger.specs.Reply.{register_lines}
 pub register_step : (s : State) (n : ℕ) → n < 32
     → register_lines s n (drop n capability_names) ≡ register_line s n ++ register_lines s (n + 1) (drop (n + 1) capability_names)
 register_step s n below =
-    let first : drop n capability_names ≡ get_or capability_names n [] ∷ drop (n + 1) capability_names = rw add-one (drop-cons capability_names n [] below) in
-    let name : name_or [] (register_name true n) ≡ get_or capability_names n [] = ap (name_or []) (slice_get-get_or capability_names n [] below) in
-    ap (register_lines s n) first ∙ ap (λ text. value_line text (register s.registers n) ++ register_lines s (n + 1) (drop (n + 1) capability_names)) (sym name)
+    let first : drop n capability_names ≡ get_or capability_names n [] ∷ drop (n + 1) capability_names =
+    rw add-one (drop-cons capability_names n [] below) in
+    let name : name_or [] (register_name true n) ≡ get_or capability_names n [] =
+    ap (name_or []) (slice_get-get_or capability_names n [] below) in
+    ap (register_lines s n) first
+    ∙ ap (λ text. value_line text (register s.registers n) ++ register_lines s (n + 1) (drop (n + 1) capability_names)) (sym name)
 
 -- a text with the line of one register, and then the lines of the others
 pub register_lines_from : (s : State) (n : ℕ) (old mid new : List ℕ) → n < 32 → mid ≡ old ++ register_line s n

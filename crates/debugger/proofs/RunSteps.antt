@@ -14,7 +14,8 @@ module _ (es : List Event) (e : Event) (rest : List Event) (first : es ≡ e ∷
   pub state_goes_on : (all : State) → run_after es s ≡ all → run_after rest n ≡ all
   state_goes_on all whole = ap (run_after rest) step ∙ sym (ap (λ l. run_after l s) first) ∙ whole
 
-  pub bytes_go_on : (bytes out all : List ℕ) → bytes ≡ out ++ option_to_list (sent e s) → out ++ run_sent es s ≡ all → bytes ++ run_sent rest n ≡ all
+  pub bytes_go_on : (bytes out all : List ℕ) → bytes ≡ out ++ option_to_list (sent e s) → out ++ run_sent es s ≡ all
+      → bytes ++ run_sent rest n ≡ all
   bytes_go_on bytes out all emitted whole =
       ap (λ b. b ++ run_sent rest n) emitted
       ∙ append_assoc out (option_to_list (sent e s)) (run_sent rest n)

@@ -1,5 +1,6 @@
 -- The commands of a session, as they are written.
-use Rattle.std.specs.Prelude.{ℕ, ◌-◌, ◌%◌, ◌^◌, Bool, not, ◌||◌, ◌==◌, nat_lt, nat_eq, if◌then◌else◌, ℤ, pos, List, [], ◌∷◌, length, filter, Option, Some, None, Result, Ok, Err, codes}
+use Rattle.std.specs.Prelude.{ℕ, ◌-◌, ◌%◌, ◌^◌, Bool, not, ◌||◌, ◌==◌, nat_lt, nat_eq, if◌then◌else◌, ℤ, pos, List, [], ◌∷◌, length, filter}
+use Rattle.std.specs.Prelude.{Option, Some, None, Result, Ok, Err, codes}
 use Rattle.std.specs.List.{slice_split, prefix_len}
 use Rattle.std.specs.Cmp.Lexicographic.{pointwise}
 use Rattle.asm_names.specs.Registers.{register_named}

@@ -1,5 +1,6 @@
 -- A conversation over a source and a sink: what was read, what was written, and where the machine stands.
-use Rattle.std.specs.Prelude.{◌≡◌, ◌⊎◌, ℕ, ◌-◌, ◌^◌, ◌+◌, ◌<◌, ◌==◌, length, not, ◌&&◌, Bool, true, List, All, [], ◌∷◌, ◌++◌, take, drop, Option, Some, Result, Err}
+use Rattle.std.specs.Prelude.{◌≡◌, ◌⊎◌, ℕ, ◌-◌, ◌^◌, ◌+◌, ◌<◌, ◌==◌, length, not, ◌&&◌, Bool, true, List, All, [], ◌∷◌, ◌++◌, take, drop}
+use Rattle.std.specs.Prelude.{Option, Some, Result, Err}
 use Rattle.std.specs.List.{before_first, flat_map}
 use Rattle.std.specs.Io.KnownBytes.{Appends, Consumes, IsAtEnd}
 use Rattle.image.specs.Devices.{AppendsBeginning}

@@ -1,123 +1,112 @@
-//! Sessions on small programs: replies from the rows of the instruction set and the state that a machine begins with.
+//! A session's calls, and conversations over devices that give and take one byte a call and fail at a call.
 
-mod talking;
-
-use crate::{DebugFault, Reply, Session};
+use crate::{DebugFault, Reply, Session, TalkFault, talk};
 use cap_bounds::{CapRep, PlainCap};
-use image::Image;
+use image::{DeviceFailed, Image, Sink, Source};
 use machine::Machine;
-use std::alloc::{AllocError, Global};
+use std::alloc::Global;
 use std::process::Abort;
 use std::test::Fail;
 
 /// Where RAM begins.
 const RAM: u64 = 0x8000_0000;
 
-/// lui a1, 0x10000; addi a0, zero, 65; sb a0, 0(a1); lui a1, 0x100; sd zero, 0(a1): sends `A` and halts with 0.
-const SENDS_AND_HALTS: [u32; 5] = [
-    0x1000_05b7,
-    0x0410_0513,
-    0x00a5_8023,
-    0x0010_05b7,
-    0x0005_b023,
-];
+/// A call that never comes.
+const NEVER: u64 = u64::MAX;
 
 /// lui a1, 0x10000; ld a0, 8(a1) from the receive register
 const RECEIVES: [u32; 2] = [0x1000_05b7, 0x0085_b503];
 
-/// auipc a1, 0x1; cspecialrw ca0, ddc, cnull; csetaddr ca0, ca0, a1; csetboundsimm ca0, ca0, 4095
-const BOUNDS: [u32; 4] = [0x0000_1597, 0x0210_055b, 0x20b5_055b, 0xfff5_255b];
-
-/// The first image, row after row: a line, and its reply, `quit` or a fault.
-static FIRST_IMAGE: &[(&str, &str)] = &[
+/// Lines, each with its reply, PCC's address after it, and how many bytes wait for the load then.
+static PIECES: &[(&str, &str, u64, usize)] = &[
     (
-        "until 0x80000000 5",
-        "events 0 out - pc 0000000080000000 running\n",
-    ),
-    ("mem 0x80000000 4", "0000000080000000: b7 05 00 10\n"),
-    (
-        "mem 0x80000002 18",
-        "0000000080000002: 00 10 13 05 10 04 23 80 a5 00 b7 05 10 00 23 b0\n0000000080000012: 05 00\n",
-    ),
-    (
-        "dis 0x80000000 1",
-        "0000000080000000 100005b7 lui a1, 0x10000\n",
-    ),
-    (
-        "dis 0x80000008 2",
-        "0000000080000008 00a58023 sb a0, 0(a1)\n000000008000000c 001005b7 lui a1, 0x100\n",
-    ),
-    (
-        " \tstep\r5 ",
-        "events 5 out 41 pc 0000000080000014 halted 0\n",
-    ),
-    (
-        "step 1000000",
-        "events 1000000 out - pc 0000000080000014 halted 0\n",
-    ),
-    ("until 0 1", "events 0 out - pc 0000000080000014 halted 0\n"),
-    ("step 1000001", "B2"),
-    ("tick 1000001", "B2"),
-    ("until 0 1000001", "B2"),
-    ("until 0x10000000000000000 1", "B2"),
-    ("step 0", "B2"),
-    ("step", "B2"),
-    ("step 1 1", "B2"),
-    ("step x", "B2"),
-    ("byte 256", "B2"),
-    ("reg x32", "B2"),
-    ("regs 1", "B2"),
-    ("mem 0x80000000 4097", "B2"),
-    ("mem 0x10000008 8", "B3"),
-    ("mem 0x80000001 4096", "B3"),
-    ("dis 0x80000000 1025", "B2"),
-    ("dis 0x80000002 1", "B2"),
-    ("dis 0x80000004 1024", "B3"),
-    ("dis 0xfffffffffffffffc 1024", "B3"),
-    ("frob", "B1"),
-    ("caps", "B1"),
-    ("Step 1", "B1"),
-    ("", "B1"),
-    ("frob \u{e9}", "B2"),
-    ("quit now", "B2"),
-    ("quit", "quit"),
-];
-
-/// A byte waits while everything is shown, and is there for the load; steps end where PCC's address is the one asked for.
-static RECEIVED: &[(&str, &str)] = &[
-    (
-        "until 0x80000004 10",
+        "step 1\n",
         "events 1 out - pc 0000000080000004 running\n",
+        0x8000_0004,
+        0,
     ),
-    ("byte 0x41", "events 1 out - pc 0000000080000004 running\n"),
-    ("tick 3", "events 3 out - pc 0000000080000004 running\n"),
+    ("frob\n", "fault B1\n", 0x8000_0004, 0),
     (
-        "reg ca1",
-        "ca1 v:0 a:0000000010000000 b:0000000000000000 t:10000000000000000 p:00000 f:0 o:3ffff\n",
+        "byte 0x41\n",
+        "events 1 out - pc 0000000080000004 running\n",
+        0x8000_0004,
+        1,
     ),
-    ("mem 0x80000000 1", "0000000080000000: b7\n"),
     (
-        "dis 0x80000004 1",
-        "0000000080000004 0085b503 ld a0, 8(a1)\n",
+        "step 1",
+        "events 1 out - pc 0000000080000008 running\n",
+        0x8000_0008,
+        0,
     ),
 ];
 
-/// What a session answers: its text, `quit`, or its fault's code.
-fn said(reply: &Result<Reply, DebugFault>) -> &str {
-    match reply {
-        Ok(Reply::Text(text)) => text.as_str(),
-        Ok(Reply::Quit) => "quit",
-        Err(DebugFault::B1) => "B1",
-        Err(DebugFault::B2) => "B2",
-        Err(DebugFault::B3) => "B3",
-        Err(DebugFault::B4) => "B4",
+/// Gives one byte a call, but for the call that fails.
+#[derive(Drop)]
+struct Slow<'a> {
+    bytes: &'a [u8],
+    calls: u64,
+    fails_at: u64,
+    failures: u64,
+}
+
+impl Source for Slow<'_> {
+    ghost failed = { λ s. s.failures };
+
+    fn read(&mut self, buffer: &mut [u8]) -> Result<usize, DeviceFailed> {
+        let call = self.calls;
+        self.calls = call.saturating_add(1);
+        if call == self.fails_at {
+            self.failures += 1;
+            return Err(DeviceFailed);
+        }
+        let (Some((byte, rest)), Some(place)) = (self.bytes.split_first(), buffer.first_mut())
+        else {
+            return Ok(0);
+        };
+        *place = *byte;
+        self.bytes = rest;
+        Ok(1)
+    }
+
+    fn failures(&self) -> u64 {
+        self.failures
     }
 }
 
-/// A session with a machine of one page that begins with these words.
-fn session_of(alloc: Global, words: &[u32]) -> Result<Session<PlainCap>, Fail> {
+/// Takes one byte a call, but for the call that fails.
+#[derive(Drop)]
+struct Narrow<'a> {
+    held: &'a mut Vec<u8>,
+    calls: u64,
+    fails_at: u64,
+    failures: u64,
+}
+
+impl Sink for Narrow<'_> {
+    ghost failed = { λ s. s.failures };
+
+    fn write(&mut self, bytes: &[u8]) -> Result<usize, DeviceFailed> {
+        let call = self.calls;
+        self.calls = call.saturating_add(1);
+        let Some(byte) = bytes.first() else {
+            return Ok(0);
+        };
+        if call == self.fails_at || self.held.push(*byte).is_err() {
+            self.failures += 1;
+            return Err(DeviceFailed);
+        }
+        Ok(1)
+    }
+
+    fn failures(&self) -> u64 {
+        self.failures
+    }
+}
+
+/// A session with a machine of one page that begins with `RECEIVES`.
+fn opened(alloc: Global) -> Result<Session<PlainCap>, Fail> {
     let mut bytes = Vec::new(alloc);
-    for word in words {
+    for word in RECEIVES {
         bytes.extend_from_slice(&word.to_le_bytes())?;
     }
     let image = Image::build(alloc, 1, RAM, 0, &[(RAM, bytes.as_slice())])
@@ -127,107 +116,119 @@ fn session_of(alloc: Global, words: &[u32]) -> Result<Session<PlainCap>, Fail> {
     Ok(Session::new(alloc, machine))
 }
 
-fn assert_replies(rt: &impl Abort, session: &mut Session<PlainCap>, rows: &[(&str, &str)]) {
-    for (line, expected) in rows {
-        let reply = session.command(line);
-        assert_eq!(rt; said(&reply), *expected, "{line}");
+/// What a conversation leaves: its answer, what was written, PCC's address, and how many bytes wait.
+#[derive(Drop)]
+struct Outcome {
+    answer: Result<(), TalkFault>,
+    held: Vec<u8>,
+    counter: u64,
+    waiting: usize,
+}
+
+/// A conversation over all pieces, over devices that fail at these calls.
+fn talked(alloc: Global, source_fails_at: u64, sink_fails_at: u64) -> Result<Outcome, Fail> {
+    let mut session = opened(alloc)?;
+    let mut input = Vec::new(alloc);
+    for (line, _, _, _) in PIECES {
+        input.extend_from_slice(line.as_bytes())?;
     }
+    let mut source = Slow {
+        bytes: input.as_slice(),
+        calls: 0,
+        fails_at: source_fails_at,
+        failures: 0,
+    };
+    let mut held = Vec::new(alloc);
+    let mut sink = Narrow {
+        held: &mut held,
+        calls: 0,
+        fails_at: sink_fails_at,
+        failures: 0,
+    };
+    let answer = talk(&mut session, &mut source, &mut sink);
+    let counter = session.machine().scr(0).address();
+    let waiting = session.machine().devices().waiting().len();
+    Ok(Outcome {
+        answer,
+        held,
+        counter,
+        waiting,
+    })
 }
 
-/// The reply to a line has so many lines, and begins with this one.
-fn assert_lines(
-    rt: &impl Abort,
-    session: &mut Session<PlainCap>,
-    line: &str,
-    count: usize,
-    first: &str,
-) {
-    let reply = session.command(line);
-    let text = said(&reply);
-    assert_eq!(rt; text.lines().count(), count, "{line}");
-    assert_eq!(rt; text.lines().next(), Some(first), "{line}");
-}
-
-/// Every read command; where nothing was written, registers hold null and special registers the root.
-fn assert_shown(rt: &impl Abort, session: &mut Session<PlainCap>) {
-    let null =
-        "cnull v:0 a:0000000000000000 b:0000000000000000 t:10000000000000000 p:00000 f:0 o:3ffff";
-    let pcc =
-        "pcc v:1 a:0000000080000004 b:0000000000000000 t:10000000000000000 p:78fff f:0 o:3ffff";
-    assert_lines(rt, session, "regs", 32, null);
-    assert_lines(rt, session, "scr", 6, pcc);
-    assert_lines(rt, session, "csr", 15, "mstatus 0000000000001800");
-    assert_lines(
-        rt,
-        session,
-        "mem 0x80000000 4096",
-        256,
-        "0000000080000000: b7 05 00 10 03 b5 85 00 00 00 00 00 00 00 00 00",
-    );
-    assert_lines(
-        rt,
-        session,
-        "dis 0x80000000 1024",
-        1024,
-        "0000000080000000 100005b7 lui a1, 0x10000",
-    );
-}
-
-/// `regs` and so many blanks behind it.
-fn padded(alloc: Global, blanks: usize) -> Result<String, AllocError> {
-    let mut line = String::from_str(alloc, "regs")?;
-    for _ in 0..blanks {
-        line.push(' ')?;
+/// Each call of the sink in turn fails: a beginning of all replies is written, and the session stands after the line of that call.
+fn assert_cut_in_replies(rt: &impl Abort, alloc: Global, whole: &[u8]) -> Result<(), Fail> {
+    let mut call = 0;
+    for (_, reply, counter, waiting) in PIECES {
+        for _ in 0..reply.len() {
+            let outcome = talked(alloc, NEVER, call as u64)?;
+            assert_eq!(rt; outcome.answer, Err(TalkFault::Write), "at call {call}");
+            assert_eq!(rt; Some(outcome.held.as_slice()), whole.get(..call));
+            assert_eq!(rt; outcome.counter, *counter, "at call {call}");
+            assert_eq!(rt; outcome.waiting, *waiting, "at call {call}");
+            call = call.saturating_add(1);
+        }
     }
-    Ok(line)
+    assert_eq!(rt; call, whole.len());
+    Ok(())
 }
 
-#[test]
-fn the_first_image_is_stepped_and_shown(rt: HostRuntime) -> Result<(), Fail> {
-    let mut session = session_of(rt.alloc(), &SENDS_AND_HALTS)?;
-    assert_replies(&rt, &mut session, FIRST_IMAGE);
-    assert_eq!(rt; session.machine().halted(), Some(0));
+/// Each call of the source in turn fails: the replies to the lines before are written, and the session stands after those.
+fn assert_cut_in_lines(rt: &impl Abort, alloc: Global, whole: &[u8]) -> Result<(), Fail> {
+    let mut call = 0u64;
+    let mut answered = 0usize;
+    let mut before = (0x8000_0000, 0);
+    for (line, reply, counter, waiting) in PIECES {
+        // The call for each byte fails, and behind the last line the one that meets the end.
+        let calls = if line.ends_with('\n') {
+            line.len()
+        } else {
+            line.len().saturating_add(1)
+        };
+        for _ in 0..calls {
+            let outcome = talked(alloc, call, NEVER)?;
+            assert_eq!(rt; outcome.answer, Err(TalkFault::Read), "at call {call}");
+            assert_eq!(rt; Some(outcome.held.as_slice()), whole.get(..answered));
+            assert_eq!(rt;
+                (outcome.counter, outcome.waiting),
+                before,
+                "at call {call}"
+            );
+            call = call.saturating_add(1);
+        }
+        answered = answered.saturating_add(reply.len());
+        before = (*counter, *waiting);
+    }
     Ok(())
 }
 
 #[test]
-fn a_byte_waits_while_everything_is_shown(rt: HostRuntime) -> Result<(), Fail> {
-    let mut session = session_of(rt.alloc(), &RECEIVES)?;
-    assert_replies(&rt, &mut session, RECEIVED);
-    assert_shown(&rt, &mut session);
-    assert_eq!(rt; session.machine().devices().waiting(), [0x41u8].as_slice());
-    assert_replies(
-        &rt,
-        &mut session,
-        &[("step 1", "events 1 out - pc 0000000080000008 running\n")],
-    );
-    assert_eq!(rt; session.machine().reg(10).address(), 0x41);
+fn a_line_is_answered_with_its_reply(rt: HostRuntime) -> Result<(), Fail> {
+    let mut session = opened(rt.alloc())?;
+    match session.command("step 1") {
+        Ok(Reply::Text(text)) => {
+            assert_eq!(rt;
+                text.as_str(),
+                "events 1 out - pc 0000000080000004 running\n"
+            );
+        }
+        _ => panic!(rt; "no text"),
+    }
+    assert!(rt; matches!(session.command("quit"), Ok(Reply::Quit)));
+    assert!(rt; matches!(session.command("frob"), Err(DebugFault::B1)));
+    assert_eq!(rt; session.machine().halted(), None);
     Ok(())
 }
 
 #[test]
-fn a_capability_is_shown_with_its_fields(rt: HostRuntime) -> Result<(), Fail> {
-    let mut session = session_of(rt.alloc(), &BOUNDS)?;
-    assert_replies(
-        &rt,
-        &mut session,
-        &[
-            ("step 4", "events 4 out - pc 0000000080000010 running\n"),
-            (
-                "reg ca0",
-                "ca0 v:1 a:0000000080001000 b:0000000080001000 t:00000000080001fff p:78fff f:0 o:3ffff\n",
-            ),
-        ],
-    );
-    Ok(())
-}
-
-#[test]
-fn a_line_has_255_bytes_at_most(rt: HostRuntime) -> Result<(), Fail> {
-    let mut session = session_of(rt.alloc(), &[])?;
-    let longest = session.command(&padded(rt.alloc(), 251)?);
-    assert_eq!(rt; said(&longest).lines().count(), 32);
-    let longer = session.command(&padded(rt.alloc(), 252)?);
-    assert_eq!(rt; said(&longer), "B2");
-    Ok(())
+fn a_device_may_fail_at_any_call(rt: HostRuntime) -> Result<(), Fail> {
+    let all = talked(rt.alloc(), NEVER, NEVER)?;
+    assert_eq!(rt; all.answer, Ok(()));
+    let mut whole = Vec::new(rt.alloc());
+    for (_, reply, _, _) in PIECES {
+        whole.extend_from_slice(reply.as_bytes())?;
+    }
+    assert_eq!(rt; all.held, whole);
+    assert_cut_in_replies(&rt, rt.alloc(), &whole)?;
+    assert_cut_in_lines(&rt, rt.alloc(), &whole)
 }

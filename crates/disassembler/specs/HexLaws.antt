@@ -1,5 +1,6 @@
 -- Digits of a number in base 16, the last one first.
-use Rattle.std.proofs.Common.{◌≡◌, ℕ, zero, suc, ◌/◌, ◌%◌, ◌^◌, ◌<◌, ◌≤◌, ◌⊎◌, inl, inr, false, cond, List, [], ◌∷◌, ◌++◌, refl, sym, ap, ◌∙◌, append_assoc, arith}
+use Rattle.std.proofs.Common.{◌≡◌, ℕ, zero, suc, ◌/◌, ◌%◌, ◌^◌, ◌<◌, ◌≤◌, ◌⊎◌, inl, inr, false, cond, List, [], ◌∷◌, ◌++◌, refl, sym, ap}
+use Rattle.std.proofs.Common.{◌∙◌, append_assoc, arith}
 use Rattle.std.specs.Prelude.{length}
 use Rattle.std.specs.Fmt.{digit_glyph, digits_onto, digits}
 use Rattle.std.proofs.Common.{length-append}
@@ -25,7 +26,9 @@ spell-append : (k n : ℕ) (acc : List ℕ) → spell k n acc ≡ spell k n [] +
 spell-append zero n acc = refl
 spell-append (suc k) n acc = elim (order n 16) [
   | inl l ↦ spell_last k n acc l ∙ ap (λ x. x ++ acc) (sym (spell_last k n [] l))
-  | inr l ↦ spell_next k n acc l ∙ spell-append k (n / 16) (last_glyph n ∷ acc) ∙ sym (append_assoc (spell k (n / 16) []) (last_glyph n ∷ []) acc) ∙ ap (λ x. x ++ acc) (sym (spell_next k n [] l ∙ spell-append k (n / 16) (last_glyph n ∷ [])))
+  | inr l ↦ spell_next k n acc l ∙ spell-append k (n / 16) (last_glyph n ∷ acc)
+      ∙ sym (append_assoc (spell k (n / 16) []) (last_glyph n ∷ []) acc)
+      ∙ ap (λ x. x ++ acc) (sym (spell_next k n [] l ∙ spell-append k (n / 16) (last_glyph n ∷ [])))
 ]
 
 -- the digit limit does not matter once it is large enough
@@ -34,7 +37,8 @@ spell_enough zero k n acc p q = spell_last zero n acc (omega arith) ∙ sym (spe
 spell_enough (suc j) zero n acc p q = spell_last (suc j) n acc (omega arith) ∙ sym (spell_last zero n acc (omega arith))
 spell_enough (suc j) (suc k) n acc p q = elim (order n 16) [
   | inl l ↦ spell_last (suc j) n acc l ∙ sym (spell_last (suc k) n acc l)
-  | inr l ↦ spell_next (suc j) n acc l ∙ spell_enough j k (n / 16) (last_glyph n ∷ acc) (omega arith) (omega arith) ∙ sym (spell_next (suc k) n acc l)
+  | inr l ↦ spell_next (suc j) n acc l ∙ spell_enough j k (n / 16) (last_glyph n ∷ acc) (omega arith) (omega arith)
+      ∙ sym (spell_next (suc k) n acc l)
 ]
 
 spell-nil : (n : ℕ) → spell 64 n [] ≡ digits 16 false n
@@ -46,14 +50,22 @@ hex_digit n small = hex_one_digit false n small
 
 pub hex_step : (n : ℕ) → 16 ≤ n → n < 2 ^ 64 → digits 16 false n ≡ digits 16 false (n / 16) ++ digit_glyph false (n % 16) ∷ []
 hex_step n large small =
-    sym (spell-nil n) ∙ spell_next 63 n [] large ∙ spell_enough 62 63 (n / 16) (last_glyph n ∷ []) (omega arith) (omega arith) ∙ spell-append 64 (n / 16) (last_glyph n ∷ []) ∙ ap (λ x. x ++ last_glyph n ∷ []) (spell-nil (n / 16))
+    sym (spell-nil n) ∙ spell_next 63 n [] large ∙ spell_enough 62 63 (n / 16) (last_glyph n ∷ []) (omega arith) (omega arith)
+    ∙ spell-append 64 (n / 16) (last_glyph n ∷ []) ∙ ap (λ x. x ++ last_glyph n ∷ []) (spell-nil (n / 16))
 
 pub length_hex : (k n : ℕ) → 0 < k → n < 16 ^ k → n < 2 ^ 64 → length (digits 16 false n) ≤ k
 length_hex zero n some fits small = absurd (omega arith)
 length_hex (suc zero) n some fits small = let e = hex_digit n (omega arith) in omega (arith, ap length e)
 length_hex (suc (suc k)) n some fits small = elim (order n 16) [
   | inl l ↦ let e = hex_digit n l in omega (arith, ap length e)
-  | inr l ↦ let e = hex_step n l small in omega (arith, ap length e, length-append (digits 16 false (n / 16)) (last_glyph n ∷ []), length_hex (suc k) (n / 16) (omega arith) (omega arith) (omega arith))
+  | inr l ↦ let e =
+      hex_step n l small in omega (
+        arith,
+        ap length e,
+        length-append (digits 16 false (n / 16)) (last_glyph n ∷ []),
+        length_hex (suc k) (n / 16) (omega arith)
+            (omega arith) (omega arith),
+      )
 ]
 
 pub length_hex_16 : (n : ℕ) → n < 2 ^ 64 → length (digits 16 false n) ≤ 16

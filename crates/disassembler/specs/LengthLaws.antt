@@ -31,7 +31,8 @@ abbrev are_names_within : ℕ → List (ℕ × List ℕ) → Bool
 are_names_within k [] = true
 are_names_within k (p ∷ ps) = nat_le (length p.1) k && are_names_within k ps
 
-within-in : (k n : ℕ) (names : List (ℕ × List ℕ)) (text : List ℕ) → are_names_within k names ≡ true → name_in names n ≡ Some text → length text ≤ k
+within-in : (k n : ℕ) (names : List (ℕ × List ℕ)) (text : List ℕ) → are_names_within k names ≡ true → name_in names n ≡ Some text
+    → length text ≤ k
 within-in k n [] text h e = cc
 within-in k n (p ∷ ps) text h e =
     let here : length p.1 ≤ k = grind (arith, nat_tests) in

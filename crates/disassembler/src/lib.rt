@@ -7,6 +7,3 @@ mod operands;
 
 pub use disassembling::{disassemble, word_line};
 pub use hex::hex_digits;
-
-#[cfg(test)]
-mod tests;

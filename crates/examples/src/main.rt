@@ -3,7 +3,6 @@
 #![tactic(auto)]
 
 use assembler::assemble;
-use cap_bounds::PlainCap;
 use debugger::{Session, talk};
 use image::{FromRead, ToWrite};
 use machine::{End, Machine};
@@ -12,6 +11,7 @@ use std::alloc::Global;
 use std::io::Read;
 use std::process::ExitCode;
 use std::{fs, io};
+use word_cap::WordCap;
 
 /// An example: the name of its files, whether bytes come in from one, and how it is run.
 #[derive(Clone, Copy, Debug)]
@@ -52,7 +52,7 @@ fn sent_by(alloc: Global, text: &[u8], input: &[u8], schedule: Schedule) -> Opti
         return None;
     }
     let assembly = assemble(alloc, text).ok()?;
-    let mut machine: Machine<PlainCap> = Machine::new(alloc, assembly.image()).ok()?;
+    let mut machine: Machine<WordCap> = Machine::new(alloc, assembly.image()).ok()?;
     let mut sent = Vec::new(alloc);
     let mut sink = ToWrite::new(&mut sent);
     match run_scheduled(&mut machine, schedule, input, &mut sink).ok()? {
@@ -72,7 +72,7 @@ fn file(rt: &HostRuntime, example: &Example, kind: &str) -> io::Result<Vec<u8>> 
 /// What a session with a program's machine answers to commands: `None` where the program is not assembled or memory is wanting.
 fn answered(alloc: Global, text: &[u8], commands: &[u8]) -> Option<Vec<u8>> {
     let assembly = assemble(alloc, text).ok()?;
-    let machine: Machine<PlainCap> = Machine::new(alloc, assembly.image()).ok()?;
+    let machine: Machine<WordCap> = Machine::new(alloc, assembly.image()).ok()?;
     let mut session = Session::new(alloc, machine);
     let mut replies = Vec::new(alloc);
     let mut sink = ToWrite::new(&mut replies);

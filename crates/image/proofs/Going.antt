@@ -15,7 +15,8 @@ with_front front read = read >>= λ x. Ok (front ++ x.0, x.1)
 -- some sections are read, and n are left, of which the one before ended at `free`
 abbrev pub Goes : ℕ → ℕ → List Section → ℕ → ℕ → Option (List ℕ) → Option (List ℕ) → Type 0
 Goes pages count front n free a b =
-    (bytes : List ℕ) × Consumes a b bytes × ((rest : List ℕ) → sections_at pages count 0 (bytes ++ rest) ≡ with_front front (sections_at pages n free rest))
+    (bytes : List ℕ) × Consumes a b bytes
+    × ((rest : List ℕ) → sections_at pages count 0 (bytes ++ rest) ≡ with_front front (sections_at pages n free rest))
 
 none_before : (read : Result (List Section × List ℕ) ImageFault) → read ≡ with_front [] read
 none_before (Ok x) = refl
@@ -24,22 +25,26 @@ none_before (Err fault) = refl
 pub Goes-begins : (pages count n : ℕ) (a : Option (List ℕ)) → n ≡ count → Goes pages count [] n 0 a a
 Goes-begins pages count n a e = ([], Consumes-nil a, λ rest. rw e (none_before (sections_at pages count 0 rest)))
 
-regroup : (front : List Section) (s : Section) (read : Result (List Section × List ℕ) ImageFault) → with_front front (read >>= λ x. Ok (s ∷ x.0, x.1)) ≡ with_front (front ++ s ∷ []) read
+regroup : (front : List Section) (s : Section) (read : Result (List Section × List ℕ) ImageFault)
+    → with_front front (read >>= λ x. Ok (s ∷ x.0, x.1)) ≡ with_front (front ++ s ∷ []) read
 regroup front s (Ok x) = ap (λ (ss : List Section). Ok (ss, x.1)) (simp append_assoc)
 regroup front s (Err fault) = refl
 
 one_step : (pages free n : ℕ) (front : List Section) (s : Section) (here rest : List ℕ) → section_at pages free here ≡ Ok (s, rest)
-    → with_front front (sections_at pages (suc n) free here) ≡ with_front (front ++ s ∷ []) (sections_at pages n (s.address + length s.bytes) rest)
+    → with_front front (sections_at pages (suc n) free here)
+    ≡ with_front (front ++ s ∷ []) (sections_at pages n (s.address + length s.bytes) rest)
 unfolding sections_at
 one_step pages free n front s here rest e = rw e (regroup front s (sections_at pages n (s.address + length s.bytes) rest))
 
-pub Goes-on : (pages count m n free after : ℕ) (front : List Section) (s : Section) (a b c : Option (List ℕ)) → m ≡ suc n → after ≡ s.address + length s.bytes
+pub Goes-on : (pages count m n free after : ℕ) (front : List Section) (s : Section) (a b c : Option (List ℕ)) → m ≡ suc n
+    → after ≡ s.address + length s.bytes
     → Goes pages count front m free a b → Got (section_at pages free) b c s → Goes pages count (front ++ s ∷ []) n after a c
 Goes-on pages count m n free after front s a b c one next so_far got = (
   so_far.0 ++ got.0,
   Consumes-trans a b c so_far.0 got.0 so_far.1 got.1,
   λ rest.
-      let here : sections_at pages count 0 (so_far.0 ++ (got.0 ++ rest)) ≡ with_front front (sections_at pages (suc n) free (got.0 ++ rest)) = rw (← one) (so_far.2 (got.0 ++ rest)) in
+      let here : sections_at pages count 0 (so_far.0 ++ (got.0 ++ rest))
+      ≡ with_front front (sections_at pages (suc n) free (got.0 ++ rest)) = rw (← one) (so_far.2 (got.0 ++ rest)) in
       rw (append_assoc so_far.0 got.0 rest, next) (here ∙ one_step pages free n front s (got.0 ++ rest) rest (got.2 rest)),
 )
 
@@ -64,5 +69,6 @@ Goes-ends pages count n free front a b none so_far = (
   so_far.0,
   so_far.1,
   λ rest.
-      so_far.2 rest ∙ ap (λ k. with_front front (sections_at pages k free rest)) none ∙ ap (λ (ss : List Section). Ok (ss, rest)) (append-nil front),
+      so_far.2 rest ∙ ap (λ k. with_front front (sections_at pages k free rest)) none
+      ∙ ap (λ (ss : List Section). Ok (ss, rest)) (append-nil front),
 )

@@ -23,18 +23,22 @@ back_8 : (bytes : List ℕ) → length bytes ≡ 8 → AreBytes bytes → little
 back_8 bytes len fits = le_bytes_8 bytes (little_number 8 bytes) len fits (omega arith)
 
 -- the bytes from a place on begin with those of the number there
-pub front_4 : (place next : ℕ) (bytes : List ℕ) → AreBytes bytes → place + 4 ≤ length bytes → next ≡ place + 4 → drop place bytes ≡ little_bytes 4 (number_at place 4 bytes) ++ drop next bytes
+pub front_4 : (place next : ℕ) (bytes : List ℕ) → AreBytes bytes → place + 4 ≤ length bytes → next ≡ place + 4
+    → drop place bytes ≡ little_bytes 4 (number_at place 4 bytes) ++ drop next bytes
 front_4 place next bytes fits within e =
     let here = drop place bytes in
     let len : length (take 4 here) ≡ 4 = omega (arith, length-take 4 here, length-drop place bytes) in
     let back = back_4 (take 4 here) len (AreBytes-take 4 here (AreBytes-drop place bytes fits)) in
     let rest : drop 4 here ≡ drop next bytes = drop-drop 4 place bytes ∙ ap (λ k. drop k bytes) (sym e) in
-    sym (take-append-drop 4 here) ∙ ap (λ (b : List ℕ). b ++ drop 4 here) (sym back) ∙ ap (λ (b : List ℕ). little_bytes 4 (number_at place 4 bytes) ++ b) rest
+    sym (take-append-drop 4 here) ∙ ap (λ (b : List ℕ). b ++ drop 4 here) (sym back)
+    ∙ ap (λ (b : List ℕ). little_bytes 4 (number_at place 4 bytes) ++ b) rest
 
-pub front_8 : (place next : ℕ) (bytes : List ℕ) → AreBytes bytes → place + 8 ≤ length bytes → next ≡ place + 8 → drop place bytes ≡ little_bytes 8 (number_at place 8 bytes) ++ drop next bytes
+pub front_8 : (place next : ℕ) (bytes : List ℕ) → AreBytes bytes → place + 8 ≤ length bytes → next ≡ place + 8
+    → drop place bytes ≡ little_bytes 8 (number_at place 8 bytes) ++ drop next bytes
 front_8 place next bytes fits within e =
     let here = drop place bytes in
     let len : length (take 8 here) ≡ 8 = omega (arith, length-take 8 here, length-drop place bytes) in
     let back = back_8 (take 8 here) len (AreBytes-take 8 here (AreBytes-drop place bytes fits)) in
     let rest : drop 8 here ≡ drop next bytes = drop-drop 8 place bytes ∙ ap (λ k. drop k bytes) (sym e) in
-    sym (take-append-drop 8 here) ∙ ap (λ (b : List ℕ). b ++ drop 8 here) (sym back) ∙ ap (λ (b : List ℕ). little_bytes 8 (number_at place 8 bytes) ++ b) rest
+    sym (take-append-drop 8 here) ∙ ap (λ (b : List ℕ). b ++ drop 8 here) (sym back)
+    ∙ ap (λ (b : List ℕ). little_bytes 8 (number_at place 8 bytes) ++ b) rest

@@ -1,5 +1,6 @@
 -- Bytes that are read as an image are its spelling.
-use Rattle.std.proofs.Common.{◌≡◌, ℕ, zero, suc, ◌+◌, cond, eqb, List, [], ◌∷◌, ◌++◌, length, take, drop, None, Result, Ok, Err, refl, sym, ap, subst, ◌∙◌, append_assoc, arith}
+use Rattle.std.proofs.Common.{◌≡◌, ℕ, zero, suc, ◌+◌, cond, eqb, List, [], ◌∷◌, ◌++◌, length, take, drop, None, Result, Ok, Err, refl, sym}
+use Rattle.std.proofs.Common.{ap, subst, ◌∙◌, append_assoc, arith}
 use lib.Pointwise.{bytes_decides}
 use Rattle.std.specs.List.{flat_map}
 use Rattle.std.proofs.lemmas.Bool.{ne_eqb}
@@ -10,7 +11,8 @@ use Rattle.image.specs.declared.fault.ImageFault.TheVariants.{L9}
 use Rattle.image.specs.declared.parts.Header.{Header}
 use Rattle.image.specs.Image.{Section, Image, IsImage, image_of, build_fault, mode_number}
 use Rattle.image.specs.ImageLaws.{IsImage-image_of, mode_again, header_ranges, build_parts}
-use Rattle.image.specs.Grammar.{◌>>=◌, AreBytes, magic, number_at, header_bytes, span_bytes, section_bytes, spelling, header_at, section_at, sections_at, image_at, reading}
+use Rattle.image.specs.Grammar.{◌>>=◌, AreBytes, magic, number_at, header_bytes, span_bytes, section_bytes, spelling, header_at, section_at}
+use Rattle.image.specs.Grammar.{sections_at, image_at, reading}
 use Rattle.image.proofs.Numbers.{AreBytes-take, AreBytes-drop, front_4, front_8}
 use Rattle.image.proofs.Valid.{bind_ok, header_ok, FineHeader, fine_header, ReadSection, section_ok, sections_ok, no_fault_front}
 
@@ -25,11 +27,20 @@ front_spelt : (bytes : List ℕ) → AreBytes bytes → length bytes ≡ 32 → 
 unfolding header_bytes
 front_spelt bytes fits len fine =
     let end : drop 32 bytes ≡ [] = drop_all 32 bytes (omega (arith, len)) in
-    let p28 = joined (drop 28 bytes) (drop 32 bytes) [] (little_bytes 4 (number_at 28 4 bytes)) (front_4 28 32 bytes fits (omega (arith, len)) refl) end ∙ append-nil (little_bytes 4 (number_at 28 4 bytes)) in
-    let p24 = joined (drop 24 bytes) (drop 28 bytes) _ (little_bytes 4 (number_at 24 4 bytes)) (front_4 24 28 bytes fits (omega (arith, len)) refl) p28 in
-    let p16 = joined (drop 16 bytes) (drop 24 bytes) _ (little_bytes 8 (number_at 16 8 bytes)) (front_8 16 24 bytes fits (omega (arith, len)) refl) p24 in
-    let p12 = joined (drop 12 bytes) (drop 16 bytes) _ (little_bytes 4 (number_at 12 4 bytes)) (front_4 12 16 bytes fits (omega (arith, len)) refl) p16 in
-    let version : drop 8 bytes ≡ little_bytes 4 1 ++ drop 12 bytes = front_4 8 12 bytes fits (omega (arith, len)) refl ∙ ap (λ n. little_bytes 4 n ++ drop 12 bytes) fine.version in
+    let p28 =
+    joined (drop 28 bytes) (drop 32 bytes) [] (little_bytes 4 (number_at 28 4 bytes))
+    (front_4 28 32 bytes fits (omega (arith, len)) refl) end ∙ append-nil (little_bytes 4 (number_at 28 4 bytes)) in
+    let p24 =
+    joined (drop 24 bytes) (drop 28 bytes) _ (little_bytes 4 (number_at 24 4 bytes))
+    (front_4 24 28 bytes fits (omega (arith, len)) refl) p28 in
+    let p16 =
+    joined (drop 16 bytes) (drop 24 bytes) _ (little_bytes 8 (number_at 16 8 bytes))
+    (front_8 16 24 bytes fits (omega (arith, len)) refl) p24 in
+    let p12 =
+    joined (drop 12 bytes) (drop 16 bytes) _ (little_bytes 4 (number_at 12 4 bytes))
+    (front_4 12 16 bytes fits (omega (arith, len)) refl) p16 in
+    let version : drop 8 bytes ≡ little_bytes 4 1 ++ drop 12 bytes = front_4 8 12 bytes fits (omega (arith, len)) refl
+    ∙ ap (λ n. little_bytes 4 n ++ drop 12 bytes) fine.version in
     let p8 = joined (drop 8 bytes) (drop 12 bytes) _ (little_bytes 4 1) version p12 in
     let begins : magic ≡ take 8 bytes = (bytes_decides magic (take 8 bytes)).0 fine.begins in
     let first : bytes ≡ magic ++ drop 8 bytes = sym (take-append-drop 8 bytes) ∙ ap (λ (l : List ℕ). l ++ drop 8 bytes) (sym begins) in
@@ -41,8 +52,10 @@ header_spelt bytes h rest fits e =
     let r = header_ok bytes h rest e in
     let front = take 32 bytes in
     let spelt = front_spelt front (AreBytes-take 32 bytes fits) (length-take-le 32 bytes r.long) (fine_header front r.fine) in
-    let said : front ≡ header_bytes h.pages h.entry h.count h.mode = subst (λ (q : Header). front ≡ header_bytes q.pages q.entry q.count q.mode) r.said spelt in
-    sym (take-append-drop 32 bytes) ∙ ap (λ (l : List ℕ). l ++ drop 32 bytes) said ∙ ap (λ (l : List ℕ). header_bytes h.pages h.entry h.count h.mode ++ l) r.after
+    let said : front ≡ header_bytes h.pages h.entry h.count h.mode =
+    subst (λ (q : Header). front ≡ header_bytes q.pages q.entry q.count q.mode) r.said spelt in
+    sym (take-append-drop 32 bytes) ∙ ap (λ (l : List ℕ). l ++ drop 32 bytes) said
+    ∙ ap (λ (l : List ℕ). header_bytes h.pages h.entry h.count h.mode ++ l) r.after
 
 -- ---- a section
 
@@ -50,7 +63,8 @@ span_spelt : (bytes : List ℕ) → AreBytes bytes → length bytes ≡ 16 → b
 unfolding span_bytes
 span_spelt bytes fits len =
     let end : drop 16 bytes ≡ [] = drop_all 16 bytes (omega (arith, len)) in
-    let p8 = joined (drop 8 bytes) (drop 16 bytes) [] (little_bytes 8 (number_at 8 8 bytes)) (front_8 8 16 bytes fits (omega (arith, len)) refl) end ∙ append-nil (little_bytes 8 (number_at 8 8 bytes)) in
+    let p8 = joined (drop 8 bytes) (drop 16 bytes) [] (little_bytes 8 (number_at 8 8 bytes))
+    (front_8 8 16 bytes fits (omega (arith, len)) refl) end ∙ append-nil (little_bytes 8 (number_at 8 8 bytes)) in
     joined bytes (drop 8 bytes) _ (little_bytes 8 (number_at 0 8 bytes)) (front_8 0 8 bytes fits (omega (arith, len)) refl) p8
 
 pub section_spelt : (pages free : ℕ) (bytes : List ℕ) (s : Section) (rest : List ℕ) → AreBytes bytes → ReadSection pages free bytes s rest
@@ -58,10 +72,13 @@ pub section_spelt : (pages free : ℕ) (bytes : List ℕ) (s : Section) (rest : 
 section_spelt pages free bytes s rest fits r =
     let front = take 16 bytes in
     let spelt = span_spelt front (AreBytes-take 16 bytes fits) (length-take-le 16 bytes r.long) in
-    let said : front ≡ span_bytes s.address (length s.bytes) = spelt ∙ ap (λ n. span_bytes n (number_at 8 8 front)) r.address ∙ ap (λ n. span_bytes s.address n) r.size in
+    let said : front ≡ span_bytes s.address (length s.bytes) = spelt ∙ ap (λ n. span_bytes n (number_at 8 8 front)) r.address
+    ∙ ap (λ n. span_bytes s.address n) r.size in
     let body : drop 16 bytes ≡ s.bytes ++ rest =
-    sym (take-append-drop (length s.bytes) (drop 16 bytes)) ∙ ap (λ (l : List ℕ). l ++ drop (length s.bytes) (drop 16 bytes)) r.body ∙ ap (λ (l : List ℕ). s.bytes ++ l) r.after in
-    sym (take-append-drop 16 bytes) ∙ ap (λ (l : List ℕ). l ++ drop 16 bytes) said ∙ ap (λ (l : List ℕ). span_bytes s.address (length s.bytes) ++ l) body
+    sym (take-append-drop (length s.bytes) (drop 16 bytes)) ∙ ap (λ (l : List ℕ). l ++ drop (length s.bytes) (drop 16 bytes)) r.body
+    ∙ ap (λ (l : List ℕ). s.bytes ++ l) r.after in
+    sym (take-append-drop 16 bytes) ∙ ap (λ (l : List ℕ). l ++ drop 16 bytes) said
+    ∙ ap (λ (l : List ℕ). span_bytes s.address (length s.bytes) ++ l) body
     ∙ sym (append_assoc (span_bytes s.address (length s.bytes)) s.bytes rest)
 
 -- ---- sections
@@ -72,13 +89,16 @@ done x = Ok x
 ok_is : (x y : List Section × List ℕ) → done x ≡ done y → x ≡ y
 ok_is x y e = cc
 
-pub sections_spelt : (pages n free : ℕ) (bytes : List ℕ) (ss : List Section) (rest : List ℕ) → AreBytes bytes → sections_at pages n free bytes ≡ Ok (ss, rest)
+pub sections_spelt : (pages n free : ℕ) (bytes : List ℕ) (ss : List Section) (rest : List ℕ) → AreBytes bytes
+    → sections_at pages n free bytes ≡ Ok (ss, rest)
     → bytes ≡ flat_map section_bytes ss ++ rest
 unfolding sections_at
 sections_spelt pages zero free bytes ss rest fits e =
     subst (λ (q : List Section × List ℕ). bytes ≡ flat_map section_bytes q.0 ++ q.1) (ok_is ([], bytes) (ss, rest) e) refl
 sections_spelt pages (suc n) free bytes ss rest fits e =
-    let a = bind_ok (section_at pages free bytes) (λ first. sections_at pages n (first.0.address + length first.0.bytes) first.1 >>= λ others. Ok (first.0 ∷ others.0, others.1)) (ss, rest) e in
+    let a = bind_ok (section_at pages free bytes)
+    (λ first. sections_at pages n (first.0.address + length first.0.bytes) first.1 >>= λ others. Ok (first.0 ∷ others.0, others.1))
+    (ss, rest) e in
     let s = a.0.0 in
     let b = bind_ok (sections_at pages n (s.address + length s.bytes) a.0.1) (λ others. Ok (s ∷ others.0, others.1)) (ss, rest) a.2 in
     let r = section_ok pages free bytes s a.0.1 a.1 in
@@ -106,12 +126,16 @@ parts_spelt h ss none count =
     ap (λ n. header_bytes h.pages h.entry n (mode_number (eqb h.mode 1)) ++ flat_map section_bytes ss) count
     ∙ ap (λ n. header_bytes h.pages h.entry h.count n ++ flat_map section_bytes ss) (mode_again h.mode small)
 
-pub image_spelt : (bytes : List ℕ) (i : Image) (rest : List ℕ) → AreBytes bytes → image_at bytes ≡ Ok (i, rest) → IsImage i × (bytes ≡ spelling i ++ rest)
+pub image_spelt : (bytes : List ℕ) (i : Image) (rest : List ℕ) → AreBytes bytes → image_at bytes ≡ Ok (i, rest)
+    → IsImage i × (bytes ≡ spelling i ++ rest)
 unfolding image_at
 image_spelt bytes i rest fits e =
-    let a = bind_ok (header_at bytes) (λ header. sections_at header.0.pages header.0.count 0 header.1 >>= λ sections. Ok (image_of header.0.pages header.0.entry header.0.mode sections.0, sections.1)) (i, rest) e in
+    let a = bind_ok (header_at bytes)
+    (λ header. sections_at header.0.pages header.0.count 0 header.1 >>= λ sections. Ok
+    (image_of header.0.pages header.0.entry header.0.mode sections.0, sections.1)) (i, rest) e in
     let h = a.0.0 in
-    let b = bind_ok (sections_at h.pages h.count 0 a.0.1) (λ sections. Ok (image_of h.pages h.entry h.mode sections.0, sections.1)) (i, rest) a.2 in
+    let b = bind_ok (sections_at h.pages h.count 0 a.0.1) (λ sections. Ok (image_of h.pages h.entry h.mode sections.0, sections.1))
+    (i, rest) a.2 in
     let ss = b.0.0 in
     let none = no_fault_front bytes a.0.1 a.0.1 b.0.1 h ss a.1 b.1 in
     let count = (sections_ok h.pages h.count 0 a.0.1 ss b.0.1 b.1).count in
@@ -121,10 +145,12 @@ image_spelt bytes i rest fits e =
     let whole : bytes ≡ spelling (image_of h.pages h.entry h.mode ss) ++ b.0.1 =
     header_spelt bytes h a.0.1 fits a.1 ∙ ap (λ (l : List ℕ). header ++ l) (sections_spelt h.pages h.count 0 a.0.1 ss b.0.1 after b.1)
     ∙ sym (append_assoc header (flat_map section_bytes ss) b.0.1) ∙ ap (λ (l : List ℕ). l ++ b.0.1) (sym (parts_spelt h ss none count)) in
-    subst (λ (q : Image × List ℕ). IsImage q.0 × (bytes ≡ spelling q.0 ++ q.1)) (found_is (image_of h.pages h.entry h.mode ss, b.0.1) (i, rest) b.2)
+    subst (λ (q : Image × List ℕ). IsImage q.0 × (bytes ≡ spelling q.0 ++ q.1))
+    (found_is (image_of h.pages h.entry h.mode ss, b.0.1) (i, rest) b.2)
     (IsImage-image_of h.pages h.entry h.mode ss none, whole)
 
-at_end : (image : Image) (rest : List ℕ) (i : Image) → cond (eqb (length rest) 0) (Ok image) (Err L9) ≡ Ok i → found (image, rest) ≡ found (i, [])
+at_end : (image : Image) (rest : List ℕ) (i : Image) → cond (eqb (length rest) 0) (Ok image) (Err L9) ≡ Ok i
+    → found (image, rest) ≡ found (i, [])
 at_end image [] i e = cc
 at_end image (x ∷ rest) i e = let f = rw (ne_eqb (suc (length rest)) 0 (λ z. omega arith)) at e in absurd cc
 

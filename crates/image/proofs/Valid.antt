@@ -1,5 +1,6 @@
 -- What was read of bytes: its numbers stand in them, and it has no fault.
-use Rattle.std.proofs.Common.{◌≡◌, ℕ, zero, suc, ◌+◌, ◌≤◌, Bool, true, false, cond, not, ltb, eqb, List, [], ◌∷◌, length, take, drop, Option, Some, None, Result, Ok, Err, refl, sym, ap, subst, ◌∙◌, arith}
+use Rattle.std.proofs.Common.{◌≡◌, ℕ, zero, suc, ◌+◌, ◌≤◌, Bool, true, false, cond, not, ltb, eqb, List, [], ◌∷◌, length, take, drop}
+use Rattle.std.proofs.Common.{Option, Some, None, Result, Ok, Err, refl, sym, ap, subst, ◌∙◌, arith}
 use Rattle.std.proofs.lemmas.Bool.{ltb-false, le-ltb, eqb-true}
 use Rattle.std.proofs.lemmas.List.{length-take-le}
 use Rattle.std.specs.List.{starts_with}
@@ -9,10 +10,12 @@ use Rattle.image.specs.declared.fault.ImageFault.TheVariants.{L1, L2, L3, L4, L5
 use Rattle.image.specs.declared.parts.Header.{Header}
 use Rattle.image.specs.declared.parts.Span.{Span}
 use Rattle.image.specs.Image.{Section, is_good_header, span_fault, sections_fault, build_fault}
-use Rattle.image.specs.Grammar.{◌>>=◌, magic, unless, number_at, taken, header_fault, header_of, header_at, span_at, section_at, sections_at}
+use Rattle.image.specs.Grammar.{◌>>=◌, magic, unless, number_at, taken, header_fault, header_of, header_at, span_at, section_at}
+use Rattle.image.specs.Grammar.{sections_at}
 
 -- the value of a step that did not fail
-pub bind_ok : {A B : Type 0} (r : Result A ImageFault) (f : A → Result B ImageFault) (y : B) → (r >>= f) ≡ Ok y → (x : A) × (r ≡ Ok x) × (f x ≡ Ok y)
+pub bind_ok : {A B : Type 0} (r : Result A ImageFault) (f : A → Result B ImageFault) (y : B) → (r >>= f) ≡ Ok y
+    → (x : A) × (r ≡ Ok x) × (f x ≡ Ok y)
 bind_ok (Ok x) f y e = (x, refl, e)
 bind_ok (Err fault) f y e = absurd cc
 
@@ -26,7 +29,8 @@ pub test_ok : {A : Type 0} (b : Bool) (fault : ImageFault) (x y : A) → cond b 
 test_ok true fault x y e = absurd cc
 test_ok false fault x y e = (refl, cc)
 
-pub test_none : (b : Bool) (fault : ImageFault) (others : Option ImageFault) → cond b (Some fault) others ≡ None → (b ≡ false) × (others ≡ None)
+pub test_none : (b : Bool) (fault : ImageFault) (others : Option ImageFault) → cond b (Some fault) others ≡ None
+    → (b ≡ false) × (others ≡ None)
 test_none true fault others e = absurd cc
 test_none false fault others e = (refl, e)
 
@@ -53,7 +57,8 @@ pub record ReadHeader (bytes : List ℕ) (h : Header) (rest : List ℕ) : Type 0
 pub header_ok : (bytes : List ℕ) (h : Header) (rest : List ℕ) → header_at bytes ≡ Ok (h, rest) → ReadHeader bytes h rest
 unfolding header_at
 header_ok bytes h rest e =
-    let a = bind_ok (taken 32 L1 bytes) (λ front. unless (header_fault front.0) (header_of front.0) >>= λ header. Ok (header, front.1)) (h, rest) e in
+    let a = bind_ok (taken 32 L1 bytes) (λ front. unless (header_fault front.0) (header_of front.0) >>= λ header. Ok (header, front.1))
+    (h, rest) e in
     let b = bind_ok (unless (header_fault a.0.0) (header_of a.0.0)) (λ header. Ok (header, a.0.1)) (h, rest) a.2 in
     let t = taken_ok 32 L1 bytes a.0 a.1 in
     let u = unless_ok (header_fault a.0.0) (header_of a.0.0) b.0 b.1 in
@@ -96,7 +101,8 @@ pub record ReadSpan (pages free : ℕ) (bytes : List ℕ) (s : Span) (rest : Lis
 abbrev span_said : List ℕ → Span
 span_said front = record { address = number_at 0 8 front; size = number_at 8 8 front }
 
-pub span_ok : (pages free : ℕ) (bytes : List ℕ) (s : Span) (rest : List ℕ) → span_at pages free bytes ≡ Ok (s, rest) → ReadSpan pages free bytes s rest
+pub span_ok : (pages free : ℕ) (bytes : List ℕ) (s : Span) (rest : List ℕ) → span_at pages free bytes ≡ Ok (s, rest)
+    → ReadSpan pages free bytes s rest
 unfolding span_at
 span_ok pages free bytes s rest e =
     let check : List ℕ → Option ImageFault = λ front. span_fault pages free (number_at 0 8 front) (number_at 8 8 front) in
@@ -122,10 +128,12 @@ pub record ReadSection (pages free : ℕ) (bytes : List ℕ) (s : Section) (rest
   pub body : take (length s.bytes) (drop 16 bytes) ≡ s.bytes
   pub after : drop (length s.bytes) (drop 16 bytes) ≡ rest
 
-pub section_ok : (pages free : ℕ) (bytes : List ℕ) (s : Section) (rest : List ℕ) → section_at pages free bytes ≡ Ok (s, rest) → ReadSection pages free bytes s rest
+pub section_ok : (pages free : ℕ) (bytes : List ℕ) (s : Section) (rest : List ℕ) → section_at pages free bytes ≡ Ok (s, rest)
+    → ReadSection pages free bytes s rest
 unfolding section_at
 section_ok pages free bytes s rest e =
-    let a = bind_ok (span_at pages free bytes) (λ span. taken span.0.size L8 span.1 >>= λ body. Ok (record { address = span.0.address; bytes = body.0 }, body.1)) (s, rest) e in
+    let a = bind_ok (span_at pages free bytes)
+    (λ span. taken span.0.size L8 span.1 >>= λ body. Ok (record { address = span.0.address; bytes = body.0 }, body.1)) (s, rest) e in
     let span = a.0.0 in
     let b = bind_ok (taken span.size L8 a.0.1) (λ body. Ok (record { address = span.address; bytes = body.0 }, body.1)) (s, rest) a.2 in
     let r = span_ok pages free bytes span a.0.1 a.1 in
@@ -151,13 +159,16 @@ pub record ReadSections (pages n free : ℕ) (ss : List Section) : Type 0 where
   pub fine : sections_fault pages free ss ≡ None
   pub count : length ss ≡ n
 
-pub sections_ok : (pages n free : ℕ) (bytes : List ℕ) (ss : List Section) (rest : List ℕ) → sections_at pages n free bytes ≡ Ok (ss, rest) → ReadSections pages n free ss
+pub sections_ok : (pages n free : ℕ) (bytes : List ℕ) (ss : List Section) (rest : List ℕ) → sections_at pages n free bytes ≡ Ok (ss, rest)
+    → ReadSections pages n free ss
 unfolding sections_at
 sections_ok pages zero free bytes ss rest e =
     let p : ([], bytes) ≡ (ss, rest) = ok_is ([], bytes) (ss, rest) e in
     subst (λ (q : List Section × List ℕ). ReadSections pages zero free q.0) p (record { fine = refl; count = refl })
 sections_ok pages (suc n) free bytes ss rest e =
-    let a = bind_ok (section_at pages free bytes) (λ first. sections_at pages n (first.0.address + length first.0.bytes) first.1 >>= λ others. Ok (first.0 ∷ others.0, others.1)) (ss, rest) e in
+    let a = bind_ok (section_at pages free bytes)
+    (λ first. sections_at pages n (first.0.address + length first.0.bytes) first.1 >>= λ others. Ok (first.0 ∷ others.0, others.1))
+    (ss, rest) e in
     let s = a.0.0 in
     let b = bind_ok (sections_at pages n (s.address + length s.bytes) a.0.1) (λ others. Ok (s ∷ others.0, others.1)) (ss, rest) a.2 in
     let one = section_ok pages free bytes s a.0.1 a.1 in
@@ -167,14 +178,17 @@ sections_ok pages (suc n) free bytes ss rest e =
     (record { fine = rw one.fine more.fine; count = ap suc more.count })
 
 -- header and sections that were read have no fault
-pub no_fault_read : (front : List ℕ) (h : Header) (ss : List Section) → FineHeader front → header_of front ≡ h → ReadSections h.pages h.count 0 ss → build_fault h.pages h.entry h.mode ss ≡ None
+pub no_fault_read : (front : List ℕ) (h : Header) (ss : List Section) → FineHeader front → header_of front ≡ h
+    → ReadSections h.pages h.count 0 ss → build_fault h.pages h.entry h.mode ss ≡ None
 unfolding build_fault
 no_fault_read front h ss fine said read =
-    let good : is_good_header h.pages h.entry h.mode ≡ true = subst (λ (q : Header). is_good_header q.pages q.entry q.mode ≡ true) said fine.good in
+    let good : is_good_header h.pages h.entry h.mode ≡ true =
+    subst (λ (q : Header). is_good_header q.pages q.entry q.mode ≡ true) said fine.good in
     let few : h.count ≤ 64 = subst (λ (q : Header). q.count ≤ 64) said fine.few in
     rw (good, le-ltb 64 (length ss) (omega (arith, few, read.count))) read.fine
 
-pub no_fault_front : (bytes here rest after : List ℕ) (h : Header) (ss : List Section) → header_at bytes ≡ Ok (h, rest) → sections_at h.pages h.count 0 here ≡ Ok (ss, after) → build_fault h.pages h.entry h.mode ss ≡ None
+pub no_fault_front : (bytes here rest after : List ℕ) (h : Header) (ss : List Section) → header_at bytes ≡ Ok (h, rest)
+    → sections_at h.pages h.count 0 here ≡ Ok (ss, after) → build_fault h.pages h.entry h.mode ss ≡ None
 no_fault_front bytes here rest after h ss e f =
     let r = header_ok bytes h rest e in
     no_fault_read (take 32 bytes) h ss (fine_header (take 32 bytes) r.fine) r.said (sections_ok h.pages h.count 0 here ss after f)

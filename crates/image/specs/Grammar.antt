@@ -1,5 +1,6 @@
 -- Images as bytes, version 1. All numbers are little-endian.
-use Rattle.std.specs.Prelude.{◌≡◌, ◌<◌, ℕ, zero, suc, ◌+◌, not, ◌==◌, nat_eq, nat_lt, if◌then◌else◌, List, [], ◌∷◌, ◌++◌, length, slice_index, take, drop, Option, Some, None, Result, Ok, Err, codes}
+use Rattle.std.specs.Prelude.{◌≡◌, ◌<◌, ℕ, zero, suc, ◌+◌, not, ◌==◌, nat_eq, nat_lt, if◌then◌else◌, List, [], ◌∷◌, ◌++◌, length}
+use Rattle.std.specs.Prelude.{slice_index, take, drop, Option, Some, None, Result, Ok, Err, codes}
 use Rattle.std.specs.List.{flat_map, starts_with}
 use Rattle.byteorder.specs.Endian.{little_bytes, little_number}
 use Rattle.image.specs.declared.fault.ImageFault.{ImageFault}
@@ -66,7 +67,8 @@ header_fault bytes =
     else (if nat_lt 64 (number_at 24 4 bytes) then Some L5 else None)))
 
 abbrev pub header_of : List ℕ → Header
-header_of bytes = record { pages = number_at 12 4 bytes; entry = number_at 16 8 bytes; count = number_at 24 4 bytes; mode = number_at 28 4 bytes }
+header_of bytes =
+    record { pages = number_at 12 4 bytes; entry = number_at 16 8 bytes; count = number_at 24 4 bytes; mode = number_at 28 4 bytes }
 
 -- the header in front, and the rest
 unfoldable pub header_at : List ℕ → Result (Header × List ℕ) ImageFault

@@ -1,5 +1,6 @@
 -- An image's sections lie in its RAM.
-use Rattle.std.proofs.Common.{eqb, sym, arith, inl, inr, ◌≡◌, ℕ, ◌+◌, ◌%◌, ◌≤◌, true, false, cond, ltb, not, ◌||◌, List, [], ◌∷◌, length, Option, None, Some, refl}
+use Rattle.std.proofs.Common.{eqb, sym, arith, inl, inr, ◌≡◌, ℕ, ◌+◌, ◌%◌, ◌≤◌, true, false, cond, ltb, not, ◌||◌, List, [], ◌∷◌, length}
+use Rattle.std.proofs.Common.{Option, None, Some, refl}
 use Rattle.std.specs.Option.{option_or}
 use Rattle.std.proofs.lemmas.Bool.{ltb-false, and_parts, eqb-true, cases_eq, eq-eqb, ne_eqb, leb-true}
 use Rattle.image.specs.declared.fault.ImageFault.{ImageFault}
@@ -13,15 +14,21 @@ AllInRam pages [] = Unit {0}
 AllInRam pages (s ∷ ss) = ((ram_base ≤ s.address) × (s.address + length s.bytes ≤ ram_end pages)) × AllInRam pages ss
 
 -- a section without fault lies in RAM
-pub in_ram : (pages free address size : ℕ) → span_fault pages free address size ≡ None → (ram_base ≤ address) × (address + size ≤ ram_end pages)
+pub in_ram : (pages free address size : ℕ) → span_fault pages free address size ≡ None
+    → (ram_base ≤ address) × (address + size ≤ ram_end pages)
 unfolding span_fault
 in_ram pages free address size =
-    elim (ltb address ram_base) as (λ low. ltb address ram_base ≡ low → cond (low || ltb (ram_end pages) (address + size)) (Some L6) (cond (ltb address free) (Some L7) None) ≡ None → (ram_base ≤ address) × (address + size ≤ ram_end pages)) [
+    elim (ltb address ram_base) as
+    (λ low. ltb address ram_base ≡ low
+    → cond (low || ltb (ram_end pages) (address + size)) (Some L6) (cond (ltb address free) (Some L7) None) ≡ None
+    → (ram_base ≤ address) × (address + size ≤ ram_end pages)) [
       | true ↦ λ _ e. cc
-      | false ↦ λ low. elim (ltb (ram_end pages) (address + size)) as (λ high. ltb (ram_end pages) (address + size) ≡ high → cond high (Some L6) (cond (ltb address free) (Some L7) None) ≡ None → (ram_base ≤ address) × (address + size ≤ ram_end pages)) [
-        | true ↦ λ _ e. cc
-        | false ↦ λ high _. (ltb-false _ _ low, ltb-false _ _ high)
-      ] refl
+      | false ↦ λ low. elim (ltb (ram_end pages) (address + size)) as
+          (λ high. ltb (ram_end pages) (address + size) ≡ high → cond high (Some L6) (cond (ltb address free) (Some L7) None) ≡ None
+          → (ram_base ≤ address) × (address + size ≤ ram_end pages)) [
+            | true ↦ λ _ e. cc
+            | false ↦ λ high _. (ltb-false _ _ low, ltb-false _ _ high)
+          ] refl
     ] refl
 
 -- neither of two faults is there
@@ -40,12 +47,16 @@ pub build_parts : (pages entry mode : ℕ) (sections : List Section) → build_f
     → (is_good_header pages entry mode ≡ true) × (ltb 64 (length sections) ≡ false) × (sections_fault pages 0 sections ≡ None)
 unfolding build_fault
 build_parts pages entry mode sections none =
-    elim (is_good_header pages entry mode) as (λ good. cond (not good) (Some L4) (cond (ltb 64 (length sections)) (Some L5) (sections_fault pages 0 sections)) ≡ None → (good ≡ true) × (ltb 64 (length sections) ≡ false) × (sections_fault pages 0 sections ≡ None)) [
+    elim (is_good_header pages entry mode) as
+    (λ good. cond (not good) (Some L4) (cond (ltb 64 (length sections)) (Some L5) (sections_fault pages 0 sections)) ≡ None
+    → (good ≡ true) × (ltb 64 (length sections) ≡ false) × (sections_fault pages 0 sections ≡ None)) [
       | false ↦ λ e. cc
-      | true ↦ elim (ltb 64 (length sections)) as (λ many. cond many (Some L5) (sections_fault pages 0 sections) ≡ None → (true ≡ true) × (many ≡ false) × (sections_fault pages 0 sections ≡ None)) [
-        | true ↦ λ e. cc
-        | false ↦ λ e. (refl, refl, e)
-      ]
+      | true ↦ elim (ltb 64 (length sections)) as
+          (λ many. cond many (Some L5) (sections_fault pages 0 sections) ≡ None
+          → (true ≡ true) × (many ≡ false) × (sections_fault pages 0 sections ≡ None)) [
+            | true ↦ λ e. cc
+            | false ↦ λ e. (refl, refl, e)
+          ]
     ] none
 
 pub AllInRam-image : (i : Image) → IsImage i → AllInRam i.pages i.sections
@@ -59,7 +70,8 @@ entry_aligned i valid =
     eqb-true _ _ (and_parts _ _ (and_parts _ _ (and_parts _ _ good).0).1).0
 
 -- the numbers of a good header: pages of 1 to the most, an entry with four bytes in RAM, a mode of 0 or 1
-pub header_ranges : (pages entry mode : ℕ) → is_good_header pages entry mode ≡ true → (pages ≤ most_pages) × (entry + 4 ≤ ram_end pages) × (mode ≤ 1)
+pub header_ranges : (pages entry mode : ℕ) → is_good_header pages entry mode ≡ true
+    → (pages ≤ most_pages) × (entry + 4 ≤ ram_end pages) × (mode ≤ 1)
 unfolding is_good_header
 header_ranges pages entry mode good =
     let p = and_parts _ _ good in
@@ -74,7 +86,8 @@ mode_again mode small = elim (cases_eq mode 1) [
 ]
 
 -- what has no fault makes an image
-pub IsImage-image_of : (pages entry mode : ℕ) (sections : List Section) → build_fault pages entry mode sections ≡ None → IsImage (image_of pages entry mode sections)
+pub IsImage-image_of : (pages entry mode : ℕ) (sections : List Section) → build_fault pages entry mode sections ≡ None
+    → IsImage (image_of pages entry mode sections)
 IsImage-image_of pages entry mode sections none =
     let small = (header_ranges pages entry mode (build_parts pages entry mode sections none).0).2 in
     rw (mode_again mode small) none

@@ -31,6 +31,7 @@ CountsL10 old new (Err L10) = new ≡ old + 1
 CountsL10 old new (Err fault) = new ≡ old
 
 -- One part was read: at Ok its bytes were taken and no more, and at a fault of the bytes it is the part's.
-abbrev pub Takes : {X Y : Type 0} → (X → Y) → (List ℕ → Result (Y × List ℕ) ImageFault) → Option (List ℕ) → Option (List ℕ) → Result X ImageFault → Type 0
+abbrev pub Takes : {X Y : Type 0} → (X → Y) → (List ℕ → Result (Y × List ℕ) ImageFault) → Option (List ℕ) → Option (List ℕ)
+    → Result X ImageFault → Type 0
 Takes view part old new (Ok x) = (bytes : List ℕ) × Consumes old new bytes × ((rest : List ℕ) → part (bytes ++ rest) ≡ Ok (view x, rest))
 Takes view part old new (Err fault) = ConsumesBeginning old new × (IsOfBytes fault → IfSome old (λ bytes. part bytes ≡ Err fault))

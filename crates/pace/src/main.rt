@@ -4,11 +4,15 @@
 
 ghost use Rattle.std.specs.Prelude.{◌≡◌, ◌+◌, ◌*◌, ◌/◌};
 
-use cap_bounds::PlainCap;
+use image::Image;
 use machine::{Event, Machine};
-use machine_tests::machine_of;
+use std::alloc::Global;
 use std::process::ExitCode;
 use std::{env, io};
+use word_cap::WordCap;
+
+/// Where RAM begins, and the program with it.
+const ENTRY: u64 = 0x8000_0000;
 
 /// The number of instructions that are done.
 const MINSTRET: u16 = 0xb02;
@@ -83,6 +87,16 @@ fn sum_to(last: u32) -> u64
     last * (last + 1) / 2
 }
 
+/// A machine of one page that begins with these words: `None` is for want of memory, or for words that are no image.
+fn machine_of(alloc: Global, words: &[u32]) -> Option<Machine<WordCap>> {
+    let mut bytes = Vec::new(alloc);
+    for word in words {
+        bytes.extend_from_slice(&word.to_le_bytes()).ok()?;
+    }
+    let image = Image::build(alloc, 1, ENTRY, 0, &[(ENTRY, bytes.as_slice())]).ok()?;
+    Machine::new(alloc, &image).ok()
+}
+
 /// The steps that are asked for: the first argument, or 0.
 fn steps_asked(rt: &(impl env::Env + Alloc)) -> io::Result<u32> {
     let mut words = env::args(rt)?;
@@ -97,10 +111,10 @@ fn main(rt: HostRuntime) -> io::Result<ExitCode> {
     let turns = turns_for(steps_asked(&rt)?);
     let mut words = PROGRAM;
     words[TURNS] = turns;
-    let Some(mut machine) = machine_of(rt.alloc(), &words, 0) else {
+    let Some(mut machine) = machine_of(rt.alloc(), &words) else {
         return Ok(ExitCode::FAILURE);
     };
-    let machine: &mut Machine<PlainCap> = &mut machine;
+    let machine: &mut Machine<WordCap> = &mut machine;
     let steps = steps_of(turns);
     for _ in 0..steps {
         machine.event(Event::Step);

@@ -1,5 +1,6 @@
 -- A scheduled run after some of its steps.
-use Rattle.std.proofs.Common.{◌≡◌, ℕ, ◌+◌, ◌-◌, ◌<◌, zero, suc, true, false, List, [], ◌++◌, refl, sym, ap, ◌∙◌, append_assoc, append-nil, add-one, arith, subst}
+use Rattle.std.proofs.Common.{◌≡◌, ℕ, ◌+◌, ◌-◌, ◌<◌, zero, suc, true, false, List, [], ◌++◌, refl, sym, ap, ◌∙◌, append_assoc, append-nil}
+use Rattle.std.proofs.Common.{add-one, arith, subst}
 use Rattle.std.specs.Prelude.{Option}
 use Rattle.std.specs.Io.KnownBytes.{Appends}
 use Rattle.std.proofs.KnownBytes.{Appends-trans}
@@ -86,7 +87,8 @@ module _ (schedule : Schedule) (input : List ℕ) where
       → up_to_halt (first_steps schedule input (n + 1)) s ≡ scheduled schedule input s
   ends_at_halt n s running below halted =
       let split = first_steps-split n below in
-      let one_more : first_steps schedule input (n + 1) ≡ first_steps schedule input n ++ nth_step n = ap (first_steps schedule input) (add-one n) in
+      let one_more : first_steps schedule input (n + 1) ≡ first_steps schedule input n ++ nth_step n =
+      ap (first_steps schedule input) (add-one n) in
       let now_halted = rw one_more at halted in
       sym (ap (λ es. up_to_halt es s) (split.1 ∙ ap (λ es. es ++ split.0) (sym one_more))
       ∙ up_to_halt-append (first_steps schedule input (n + 1)) split.0 s running

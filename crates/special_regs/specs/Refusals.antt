@@ -1,8 +1,9 @@
 -- Who may use the system registers (UCAM-CL-TR-987, Access_System_Registers; that every listed register asks for it is profile).
-use Rattle.std.specs.Prelude.{ℕ, Bool, not, ◌&&◌, ◌||◌, ◌==◌, nat_le, if◌then◌else◌, [], ◌∷◌, Option, Some, None}
+use Rattle.std.specs.Prelude.{ℕ, Bool, not, ◌&&◌, ◌||◌, ◌==◌, nat_le, [], ◌∷◌, Option, Some, None}
 use Rattle.std.specs.List.{list_any}
 use Rattle.cap_rights.specs.Permission.{permits}
 use Rattle.cap_rights.specs.declared.permission.Permission.TheVariants as permission
+use Rattle.base.specs.FirstFault.{first_fault}
 use Rattle.base.specs.Registers.{is_csr, is_scr}
 use Rattle.base.specs.declared.registers.csr.TheConstants.{MVENDORID, MARCHID, MIMPID, MHARTID}
 use Rattle.base.specs.declared.registers.scr.TheConstants.{PCC, MTCC}
@@ -22,16 +23,20 @@ is_read_only n = list_any (λ k. n == k) (MVENDORID ∷ MARCHID ∷ MIMPID ∷ M
 -- only read, then no access.
 unfoldable pub csr_fault : Scrs → ℕ → Bool → Option SpecialFault
 csr_fault s n writes =
-    if not (is_csr n) || (writes && is_read_only n) then Some S1
-    else (if has_system_access s then None else Some S2)
+    first_fault (
+    (is_csr n && not (writes && is_read_only n), S1)
+    ∷ (has_system_access s, S2)
+    ∷ [])
 
 -- Why special capability register n may not be read or, where `writes` is true, replaced: no such register or a write to PCC, then no
 -- access to MTCC, MTDC, MScratchC or MEPCC.
 unfoldable pub scr_fault : Scrs → ℕ → Bool → Option SpecialFault
 scr_fault s n writes =
-    if not (is_scr n) || (writes && (n == PCC)) then Some S1
-    else (if nat_le MTCC n && not (has_system_access s) then Some S2 else None)
+    first_fault (
+    (is_scr n && not (writes && (n == PCC)), S1)
+    ∷ (not (nat_le MTCC n) || has_system_access s, S2)
+    ∷ [])
 
 -- Why a trap may not be left: no access.
 unfoldable pub return_fault : Scrs → Option SpecialFault
-return_fault s = if has_system_access s then None else Some S2
+return_fault s = first_fault ((has_system_access s, S2) ∷ [])

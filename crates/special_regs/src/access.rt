@@ -37,7 +37,8 @@ pub fn check_csr<C: CapRep>(scrs: &Scrs<C>, number: u16, writes: bool) -> Result
     ensures refused { IfErr result (λ fault. csr_fault scrs.now number writes ≡ Some fault) }
     ensures exists { OnOk result (IsTrue (is_csr number)) }
 {
-    if !is_csr(number) || (writes && is_read_only(number)) {
+    let may = is_csr(number) && !(writes && is_read_only(number));
+    if !may {
         return Err(SpecialFault::S1);
     }
     if !has_system_access(scrs) {

@@ -15,16 +15,19 @@ pub fill_fault-past : (m : Memory) (address size : ℕ) → ram_base + length m.
 unfolding fill_fault is_in_ram
 fill_fault-past m address size h = grind (arith, nat_tests)
 
-pub fill_fault-inside : (m : Memory) (address size : ℕ) → ram_base ≤ address → address + size ≤ ram_base + length m.bytes → fill_fault m address size ≡ None
+pub fill_fault-inside : (m : Memory) (address size : ℕ) → ram_base ≤ address → address + size ≤ ram_base + length m.bytes
+    → fill_fault m address size ≡ None
 unfolding fill_fault is_in_ram
 fill_fault-inside m address size low high = grind (arith, nat_tests)
 
 -- the truth values have no part in it
-pub fill_fault-by_bytes : (bytes : List ℕ) (tags : List Bool) (address size : ℕ) → fill_fault (memory_of bytes tags) address size ≡ fill_fault (memory_of bytes []) address size
+pub fill_fault-by_bytes : (bytes : List ℕ) (tags : List Bool) (address size : ℕ)
+    → fill_fault (memory_of bytes tags) address size ≡ fill_fault (memory_of bytes []) address size
 unfolding fill_fault is_in_ram
 fill_fault-by_bytes bytes tags address size = refl
 
-pub access_fault-by_bytes : (bytes : List ℕ) (tags : List Bool) (address size : ℕ) → access_fault (memory_of bytes tags) address size ≡ access_fault (memory_of bytes []) address size
+pub access_fault-by_bytes : (bytes : List ℕ) (tags : List Bool) (address size : ℕ)
+    → access_fault (memory_of bytes tags) address size ≡ access_fault (memory_of bytes []) address size
 unfolding access_fault is_in_ram
 access_fault-by_bytes bytes tags address size = refl
 
@@ -46,8 +49,10 @@ unless_refused None x y f e = cc
 unless_refused (Some g) x y f e = let same : g ≡ f = cc in cc
 
 -- what the place of an access tells of the access of a memory with those bytes
-pub access-refused : {X : Type 0} {m : Memory} (bytes : List ℕ) (tags : List Bool) (slice : List ℕ) (address size x : ℕ) (y : X) (f : MemoryFault)
-    → memory_of bytes tags ≡ m → slice ≡ bytes → Err f ≡ unless (access_fault (memory_of slice []) address size) x → Err f ≡ unless (access_fault m address size) y
+pub access-refused : {X : Type 0} {m : Memory} (bytes : List ℕ) (tags : List Bool) (slice : List ℕ) (address size x : ℕ) (y : X)
+    (f : MemoryFault)
+    → memory_of bytes tags ≡ m → slice ≡ bytes → Err f ≡ unless (access_fault (memory_of slice []) address size) x
+    → Err f ≡ unless (access_fault m address size) y
 access-refused {m = m} bytes tags slice address size x y f view read e =
     let here : access_fault m address size ≡ Some f =
     sym (ap (λ n. access_fault n address size) view)
@@ -57,7 +62,8 @@ access-refused {m = m} bytes tags slice address size x y f view read e =
     sym (ap (λ g. unless g y) here)
 
 pub access-given : {X : Type 0} {m : Memory} (bytes : List ℕ) (tags : List Bool) (slice : List ℕ) (address size x p : ℕ) (y : X)
-    → memory_of bytes tags ≡ m → slice ≡ bytes → Ok p ≡ unless (access_fault (memory_of slice []) address size) x → Ok y ≡ unless (access_fault m address size) y
+    → memory_of bytes tags ≡ m → slice ≡ bytes → Ok p ≡ unless (access_fault (memory_of slice []) address size) x
+    → Ok y ≡ unless (access_fault m address size) y
 access-given {m = m} bytes tags slice address size x p y view read e =
     let here : access_fault m address size ≡ None =
     sym (ap (λ n. access_fault n address size) view)
@@ -67,8 +73,10 @@ access-given {m = m} bytes tags slice address size x p y view read e =
     sym (ap (λ g. unless g y) here)
 
 -- the same for bytes that are filled in
-pub fill-refused : {X : Type 0} {m : Memory} (bytes : List ℕ) (tags : List Bool) (slice : List ℕ) (address size x : ℕ) (y : X) (f : MemoryFault)
-    → memory_of bytes tags ≡ m → slice ≡ bytes → Err f ≡ unless (fill_fault (memory_of slice []) address size) x → Err f ≡ unless (fill_fault m address size) y
+pub fill-refused : {X : Type 0} {m : Memory} (bytes : List ℕ) (tags : List Bool) (slice : List ℕ) (address size x : ℕ) (y : X)
+    (f : MemoryFault)
+    → memory_of bytes tags ≡ m → slice ≡ bytes → Err f ≡ unless (fill_fault (memory_of slice []) address size) x
+    → Err f ≡ unless (fill_fault m address size) y
 fill-refused {m = m} bytes tags slice address size x y f view read e =
     let here : fill_fault m address size ≡ Some f =
     sym (ap (λ n. fill_fault n address size) view)
@@ -78,7 +86,8 @@ fill-refused {m = m} bytes tags slice address size x y f view read e =
     sym (ap (λ g. unless g y) here)
 
 pub fill-given : {X : Type 0} {m : Memory} (bytes : List ℕ) (tags : List Bool) (slice : List ℕ) (address size x p : ℕ) (y : X)
-    → memory_of bytes tags ≡ m → slice ≡ bytes → Ok p ≡ unless (fill_fault (memory_of slice []) address size) x → Ok y ≡ unless (fill_fault m address size) y
+    → memory_of bytes tags ≡ m → slice ≡ bytes → Ok p ≡ unless (fill_fault (memory_of slice []) address size) x
+    → Ok y ≡ unless (fill_fault m address size) y
 fill-given {m = m} bytes tags slice address size x p y view read e =
     let here : fill_fault m address size ≡ None =
     sym (ap (λ n. fill_fault n address size) view)

@@ -1,5 +1,6 @@
 -- What is true of every memory follows from how its fields lie.
-use Rattle.std.proofs.Common.{◌≡◌, ℕ, zero, suc, ◌+◌, ◌*◌, ◌<◌, ◌≤◌, Bool, true, false, List, length, replicate, slice_index, sym, ap, ◌∙◌, subst, arith}
+use Rattle.std.proofs.Common.{◌≡◌, ℕ, zero, suc, ◌+◌, ◌*◌, ◌<◌, ◌≤◌, Bool, true, false, List, length, replicate, slice_index, sym, ap, ◌∙◌}
+use Rattle.std.proofs.Common.{subst, arith}
 use Rattle.std.proofs.lemmas.List.{length-replicate}
 use Rattle.std.proofs.lemmas.Bool.{and_from, le-leb}
 use Rattle.base.specs.Ram.{ram_base}
@@ -7,7 +8,8 @@ use Rattle.tagged_memory.specs.Memory.{is_in_ram, is_tagged, zeroed, IsMemory}
 use Rattle.tagged_memory.specs.Layout.{memory_of, tags_from, IsLaidOut}
 use Rattle.tagged_memory.proofs.Tags.{place_of_contained, tags_from-replicate}
 
-tagged_in_ram : (bytes : List ℕ) (tags : List Bool) → IsLaidOut bytes tags → (a : ℕ) → is_tagged (memory_of bytes tags) a ≡ true → is_in_ram (memory_of bytes tags) a 16 ≡ true
+tagged_in_ram : (bytes : List ℕ) (tags : List Bool) → IsLaidOut bytes tags → (a : ℕ) → is_tagged (memory_of bytes tags) a ≡ true
+    → is_in_ram (memory_of bytes tags) a 16 ≡ true
 unfolding is_in_ram
 tagged_in_ram bytes tags laid a e =
     let place = place_of_contained ram_base tags a e in
@@ -32,7 +34,8 @@ bytes_of_zeros (suc n) zero = omega arith
 bytes_of_zeros (suc n) (suc k) = bytes_of_zeros n k
 
 -- zeros and no tag lie as a memory's fields do, and are the memory that it begins as
-pub laid_out-zeroed : (pages : ℕ) (bytes : List ℕ) (tags : List Bool) → bytes ≡ replicate (pages * 4096) 0 → tags ≡ replicate (pages * 256) false → 1 ≤ pages → pages ≤ 4096
+pub laid_out-zeroed : (pages : ℕ) (bytes : List ℕ) (tags : List Bool) → bytes ≡ replicate (pages * 4096) 0
+    → tags ≡ replicate (pages * 256) false → 1 ≤ pages → pages ≤ 4096
     → IsLaidOut bytes tags
 laid_out-zeroed pages bytes tags b t some most = record {
   pages = pages;
@@ -43,8 +46,10 @@ laid_out-zeroed pages bytes tags b t some most = record {
   are_bytes = λ k. let P : List ℕ → Type 0 = λ xs. slice_index xs k < 256 in subst P (sym b) (bytes_of_zeros (pages * 4096) k);
 }
 
-pub memory_of-zeroed : (pages : ℕ) (bytes : List ℕ) (tags : List Bool) → bytes ≡ replicate (pages * 4096) 0 → tags ≡ replicate (pages * 256) false → memory_of bytes tags ≡ zeroed pages
+pub memory_of-zeroed : (pages : ℕ) (bytes : List ℕ) (tags : List Bool) → bytes ≡ replicate (pages * 4096) 0
+    → tags ≡ replicate (pages * 256) false → memory_of bytes tags ≡ zeroed pages
 memory_of-zeroed pages bytes tags b t =
     let swapped : pages * 4096 ≡ 4096 * pages = omega arith in
     ap (λ xs. memory_of xs tags) (b ∙ ap (λ n. replicate n 0) swapped)
-    ∙ ap (λ s. record { bytes = replicate (4096 * pages) 0; tags = s }) (ap (tags_from ram_base) t ∙ tags_from-replicate ram_base (pages * 256))
+    ∙ ap (λ s. record { bytes = replicate (4096 * pages) 0; tags = s })
+    (ap (tags_from ram_base) t ∙ tags_from-replicate ram_base (pages * 256))

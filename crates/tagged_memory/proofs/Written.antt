@@ -1,7 +1,9 @@
 -- What the code reads and writes, as the definitions of memory have it.
-use Rattle.std.proofs.Common.{◌≡◌, ℕ, ◌+◌, ◌-◌, ◌*◌, ◌/◌, ◌%◌, ◌<◌, ◌≤◌, Bool, true, false, cond, not, ◌&&◌, List, [], ◌++◌, length, take, drop, get_or, set, Vec, refl, sym, ap, ◌∙◌, arith, ⊎_elim, inl, inr, replicate}
+use Rattle.std.proofs.Common.{◌≡◌, ℕ, ◌+◌, ◌-◌, ◌*◌, ◌/◌, ◌%◌, ◌<◌, ◌≤◌, Bool, true, false, cond, not, ◌&&◌, List, [], ◌++◌, length, take}
+use Rattle.std.proofs.Common.{drop, get_or, set, Vec, refl, sym, ap, ◌∙◌, arith, ⊎_elim, inl, inr, replicate}
 use Rattle.std.proofs.lemmas.Bool.{cases_eq, lt-ltb, le-ltb, and_from, and_left, and_right, cases_lt}
-use Rattle.std.proofs.lemmas.List.{take_rest, drop-drop, drop_all, append-nil, append_assoc, length-drop, get_or-set_same, get_or-set_other, get_or-replicate, length-replicate, with_items_is}
+use Rattle.std.proofs.lemmas.List.{take_rest, drop-drop, drop_all, append-nil, append_assoc, length-drop, get_or-set_same, get_or-set_other}
+use Rattle.std.proofs.lemmas.List.{get_or-replicate, length-replicate, with_items_is}
 use Rattle.std.specs.FinSet as finite
 use Rattle.std.specs.Vec.{with_items}
 use Rattle.byteorder.specs.Endian.{little_number}
@@ -16,7 +18,8 @@ use Rattle.base.specs.declared.size.Size.TheVariants.{Byte, Half, Word, Double}
 use Rattle.tagged_memory.proofs.Tags.{contains_at, tags_from-retained, tags_from-inserted, tags_from-removed}
 
 -- a number that is read at its place is the number at its address
-pub number_here : {m : Memory} (bytes : List ℕ) (tags : List Bool) (slice : List ℕ) (address n place : ℕ) → memory_of bytes tags ≡ m → slice ≡ bytes → ram_base + place ≡ address
+pub number_here : {m : Memory} (bytes : List ℕ) (tags : List Bool) (slice : List ℕ) (address n place : ℕ) → memory_of bytes tags ≡ m
+    → slice ≡ bytes → ram_base + place ≡ address
     → little_number n (take (length slice - place) (drop place slice)) ≡ number_at m address n
 number_here bytes tags slice address n place view read at =
     let back : place ≡ address - ram_base = omega arith in
@@ -24,10 +27,12 @@ number_here bytes tags slice address n place view read at =
     ∙ ap (λ x. number_at x address n) view
 
 -- a write to the first part of the rest of a slice replaces that part
-pub overwritten : (bytes : List ℕ) (place : ℕ) (new part : List ℕ) → place ≤ length bytes → part ≡ new ++ drop (length new) (take (length bytes - place) (drop place bytes))
+pub overwritten : (bytes : List ℕ) (place : ℕ) (new part : List ℕ) → place ≤ length bytes
+    → part ≡ new ++ drop (length new) (take (length bytes - place) (drop place bytes))
     → take place bytes ++ (part ++ drop (length bytes - place) (drop place bytes)) ≡ replaced bytes place new
 overwritten bytes place new part h e =
-    let none : drop (length bytes - place) (drop place bytes) ≡ [] = drop_all (length bytes - place) (drop place bytes) (omega (arith, length-drop place bytes)) in
+    let none : drop (length bytes - place) (drop place bytes) ≡ [] =
+    drop_all (length bytes - place) (drop place bytes) (omega (arith, length-drop place bytes)) in
     let rest : part ≡ new ++ drop (place + length new) bytes =
     e ∙ ap (λ xs. new ++ drop (length new) xs) (take_rest bytes place) ∙ ap (λ xs. new ++ xs) (drop-drop (length new) place bytes) in
     ap (λ xs. take place bytes ++ (part ++ xs)) none
@@ -43,35 +48,44 @@ and_not_false true b e = sym (ap not e)
 and_not_false false b e = refl
 
 -- a write inside one granule touches that granule alone
-pub granule_cleared : (tags : List Bool) (place n address i : ℕ) → ram_base + place ≡ address → 1 ≤ n → i * 16 ≤ place → place + n ≤ i * 16 + 16 → i < length tags → (k : ℕ)
+pub granule_cleared : (tags : List Bool) (place n address i : ℕ) → ram_base + place ≡ address → 1 ≤ n → i * 16 ≤ place
+    → place + n ≤ i * 16 + 16 → i < length tags → (k : ℕ)
     → get_or (set tags i false) k false ≡ (get_or tags k false && not (touches address n (ram_base + 16 * k)))
 granule_cleared tags place n address i at some low high within k = ⊎_elim (λ same.
     let first : ram_base + 16 * k < address + n = omega arith in
     let second : address < ram_base + 16 * k + 16 = omega arith in
     ap (λ j. get_or (set tags i false) j false) same
     ∙ get_or-set_same tags i false false within
-    ∙ and_not_true (get_or tags k false) (touches address n (ram_base + 16 * k)) (and_from _ _ (lt-ltb _ _ some) (and_from _ _ (lt-ltb _ _ first) (lt-ltb _ _ second)))) (λ other.
+    ∙ and_not_true (get_or tags k false) (touches address n (ram_base + 16 * k))
+    (and_from _ _ (lt-ltb _ _ some) (and_from _ _ (lt-ltb _ _ first) (lt-ltb _ _ second)))) (λ other.
     get_or-set_other tags i k false false other
-    ∙ and_not_false (get_or tags k false) (touches address n (ram_base + 16 * k)) (⊎_elim (λ below. let h : ram_base + 16 * k + 16 ≤ address = omega arith in and_right _ _ (and_right _ _ (le-ltb _ _ h))) (λ above. let h : address + n ≤ ram_base + 16 * k = omega (arith, other) in and_right _ _ (and_left _ _ (le-ltb _ _ h))) (cases_lt k i))) (cases_eq k i)
+    ∙ and_not_false (get_or tags k false) (touches address n (ram_base + 16 * k))
+    (⊎_elim (λ below. let h : ram_base + 16 * k + 16 ≤ address = omega arith in and_right _ _ (and_right _ _ (le-ltb _ _ h)))
+    (λ above. let h : address + n ≤ ram_base + 16 * k = omega (arith, other) in and_right _ _ (and_left _ _ (le-ltb _ _ h)))
+    (cases_lt k i))) (cases_eq k i)
 
 -- bytes and truth values that changed as a write of data says are the memory that it makes
-pub data_written-is : {m : Memory} (bytes : List ℕ) (tags us : List Bool) (address place : ℕ) (new : List ℕ) → memory_of bytes tags ≡ m → ram_base + place ≡ address → length us ≡ length tags
+pub data_written-is : {m : Memory} (bytes : List ℕ) (tags us : List Bool) (address place : ℕ) (new : List ℕ) → memory_of bytes tags ≡ m
+    → ram_base + place ≡ address → length us ≡ length tags
     → ((k : ℕ) → get_or us k false ≡ (get_or tags k false && not (touches address (length new) (ram_base + 16 * k))))
     → memory_of (replaced bytes place new) us ≡ data_written m address new
 unfolding data_written
 data_written-is bytes tags us address place new view at same each =
     let back : place ≡ address - ram_base = omega arith in
     ap (λ k. memory_of (replaced bytes k new) us) back
-    ∙ ap (λ s. record { bytes = replaced bytes (address - ram_base) new; tags = s }) (tags_from-retained ram_base tags us (λ g. not (touches address (length new) g)) same each)
+    ∙ ap (λ s. record { bytes = replaced bytes (address - ram_base) new; tags = s })
+    (tags_from-retained ram_base tags us (λ g. not (touches address (length new) g)) same each)
     ∙ ap (λ x. data_written x address new) view
 
 -- what a `Vec` holds after a write to the first part of the rest of it
-pub stored : {Z : Type 0} (vec : Vec ℕ Z) (slice part : List ℕ) (place n : ℕ) (new : List ℕ) → slice ≡ vec.items → vec.len ≡ length vec.items → length new ≡ n → place + n ≤ length vec.items
+pub stored : {Z : Type 0} (vec : Vec ℕ Z) (slice part : List ℕ) (place n : ℕ) (new : List ℕ) → slice ≡ vec.items
+    → vec.len ≡ length vec.items → length new ≡ n → place + n ≤ length vec.items
     → part ≡ new ++ drop n (take (length slice - place) (drop place slice))
     → (with_items vec (take place slice ++ (part ++ drop (length slice - place) (drop place slice)))).items ≡ replaced vec.items place new
 stored vec slice part place n new read len size fits e =
     let room : length slice ≡ length vec.items = ap length read in
-    let part_is : part ≡ new ++ drop (length new) (take (length slice - place) (drop place slice)) = e ∙ ap (λ k. new ++ drop k (take (length slice - place) (drop place slice))) (sym size) in
+    let part_is : part ≡ new ++ drop (length new) (take (length slice - place) (drop place slice)) = e
+    ∙ ap (λ k. new ++ drop k (take (length slice - place) (drop place slice))) (sym size) in
     let all = overwritten slice place new part (omega arith) part_is in
     let same : length (take place slice ++ (part ++ drop (length slice - place) (drop place slice))) ≡ vec.len =
     ap length all ∙ length-same slice place new (omega arith) ∙ room ∙ sym len in
@@ -79,21 +93,24 @@ stored vec slice part place n new read len size fits e =
     ∙ all ∙ ap (λ xs. replaced xs place new) read
 
 -- an aligned number lies in one granule
-pub number_in_granule : (size : Size) (address place : ℕ) → ram_base + place ≡ address → address % bytes_of size ≡ 0 → (1 ≤ bytes_of size) × (place + bytes_of size ≤ place / 16 * 16 + 16)
+pub number_in_granule : (size : Size) (address place : ℕ) → ram_base + place ≡ address → address % bytes_of size ≡ 0
+    → (1 ≤ bytes_of size) × (place + bytes_of size ≤ place / 16 * 16 + 16)
 number_in_granule Byte address place at aligned = (omega arith, omega arith)
 number_in_granule Half address place at aligned = (omega arith, omega arith)
 number_in_granule Word address place at aligned = (omega arith, omega arith)
 number_in_granule Double address place at aligned = (omega arith, omega arith)
 
 -- the truth value of the granule that a place is in
-pub tag_here : {m : Memory} (bytes : List ℕ) (tags : List Bool) (address place : ℕ) → memory_of bytes tags ≡ m → ram_base + place ≡ address → address % 16 ≡ 0
+pub tag_here : {m : Memory} (bytes : List ℕ) (tags : List Bool) (address place : ℕ) → memory_of bytes tags ≡ m → ram_base + place ≡ address
+    → address % 16 ≡ 0
     → get_or tags (place / 16) false ≡ is_tagged m address
 tag_here bytes tags address place view at aligned =
     let granule : address ≡ ram_base + 16 * (place / 16) = omega arith in
     sym (contains_at ram_base tags (place / 16) address granule) ∙ ap (λ m. is_tagged m address) view
 
 -- the word that is read at its place is the word at its address
-pub word_here : {m : Memory} (bytes : List ℕ) (tags : List Bool) (slice : List ℕ) (address place : ℕ) → memory_of bytes tags ≡ m → slice ≡ bytes → ram_base + place ≡ address
+pub word_here : {m : Memory} (bytes : List ℕ) (tags : List Bool) (slice : List ℕ) (address place : ℕ) → memory_of bytes tags ≡ m
+    → slice ≡ bytes → ram_base + place ≡ address
     → word_of_memory (take 16 (take (length slice - place) (drop place slice))) ≡ word_at m address
 word_here bytes tags slice address place view read at =
     let back : place ≡ address - ram_base = omega arith in
@@ -101,18 +118,21 @@ word_here bytes tags slice address place view read at =
     ∙ ap (λ x. word_at x address) view
 
 tags_after : (tags : List Bool) (i address : ℕ) (tag : Bool) → i < length tags → ram_base + 16 * i ≡ address
-    → tags_from ram_base (set tags i tag) ≡ cond tag (finite.insert (tags_from ram_base tags) address) (finite.remove (tags_from ram_base tags) address)
+    → tags_from ram_base (set tags i tag)
+    ≡ cond tag (finite.insert (tags_from ram_base tags) address) (finite.remove (tags_from ram_base tags) address)
 tags_after tags i address true h at = tags_from-inserted ram_base tags i address h at
 tags_after tags i address false h at = tags_from-removed ram_base tags i address h at
 
 -- bytes and truth values that changed as a write of a capability says are the memory that it makes
-pub capability_written-is : {m : Memory} (bytes : List ℕ) (tags : List Bool) (address place word : ℕ) (tag : Bool) → memory_of bytes tags ≡ m → ram_base + place ≡ address → address % 16 ≡ 0 → place / 16 < length tags
+pub capability_written-is : {m : Memory} (bytes : List ℕ) (tags : List Bool) (address place word : ℕ) (tag : Bool)
+    → memory_of bytes tags ≡ m → ram_base + place ≡ address → address % 16 ≡ 0 → place / 16 < length tags
     → memory_of (replaced bytes place (memory_bytes word)) (set tags (place / 16) tag) ≡ capability_written m address word tag
 unfolding capability_written
 capability_written-is bytes tags address place word tag view at aligned within =
     let back : place ≡ address - ram_base = omega arith in
     ap (λ k. memory_of (replaced bytes k (memory_bytes word)) (set tags (place / 16) tag)) back
-    ∙ ap (λ s. record { bytes = replaced bytes (address - ram_base) (memory_bytes word); tags = s }) (tags_after tags (place / 16) address tag within (omega arith))
+    ∙ ap (λ s. record { bytes = replaced bytes (address - ram_base) (memory_bytes word); tags = s })
+    (tags_after tags (place / 16) address tag within (omega arith))
     ∙ ap (λ x. capability_written x address word tag) view
 
 -- a list whose middle is replaced
@@ -122,8 +142,10 @@ middle xs ys a n size =
     ∙ sym (append_assoc (take a xs) ys (drop (a + length ys) xs))
 
 -- truth values that are all taken from one granule to another are those of the granules touched
-pub granules_cleared : (tags part : List Bool) (place size first n : ℕ) → first ≡ place / 16 → first + n ≡ (place + size + 15) / 16 → 1 ≤ size → place + size ≤ 16 * length tags → part ≡ replicate n false → (k : ℕ)
-    → get_or (take first tags ++ (part ++ drop n (drop first tags))) k false ≡ (get_or tags k false && not (touches (ram_base + place) size (ram_base + 16 * k)))
+pub granules_cleared : (tags part : List Bool) (place size first n : ℕ) → first ≡ place / 16 → first + n ≡ (place + size + 15) / 16
+    → 1 ≤ size → place + size ≤ 16 * length tags → part ≡ replicate n false → (k : ℕ)
+    → get_or (take first tags ++ (part ++ drop n (drop first tags))) k false
+    ≡ (get_or tags k false && not (touches (ram_base + place) size (ram_base + 16 * k)))
 granules_cleared tags part place size first n begin end some room e k =
     let len : length (replicate n false) ≡ n = length-replicate n false in
     let shape : take first tags ++ (part ++ drop n (drop first tags)) ≡ replaced tags first (replicate n false) =
@@ -133,16 +155,21 @@ granules_cleared tags part place size first n begin end some room e k =
     ∙ ⊎_elim (λ below.
     let apart : ram_base + 16 * k + 16 ≤ ram_base + place = omega arith in
     element-kept tags first (replicate n false) fits k false (inl below)
-    ∙ and_not_false (get_or tags k false) (touches (ram_base + place) size (ram_base + 16 * k)) (and_right _ _ (and_right _ _ (le-ltb _ _ apart)))) (λ above. ⊎_elim (λ inside.
+    ∙ and_not_false (get_or tags k false) (touches (ram_base + place) size (ram_base + 16 * k))
+    (and_right _ _ (and_right _ _ (le-ltb _ _ apart)))) (λ above. ⊎_elim (λ inside.
     let last : ram_base + 16 * k < ram_base + place + size = omega arith in
     let start : ram_base + place < ram_base + 16 * k + 16 = omega arith in
     element-new tags first (replicate n false) fits k false above (omega arith)
     ∙ get_or-replicate n (k - first) false false (omega arith)
-    ∙ and_not_true (get_or tags k false) (touches (ram_base + place) size (ram_base + 16 * k)) (and_from _ _ (lt-ltb _ _ some) (and_from _ _ (lt-ltb _ _ last) (lt-ltb _ _ start)))) (λ past.
+    ∙ and_not_true (get_or tags k false) (touches (ram_base + place) size (ram_base + 16 * k))
+    (and_from _ _ (lt-ltb _ _ some) (and_from _ _ (lt-ltb _ _ last) (lt-ltb _ _ start)))) (λ past.
     let apart : ram_base + place + size ≤ ram_base + 16 * k = omega arith in
     element-kept tags first (replicate n false) fits k false (inr (omega arith))
-    ∙ and_not_false (get_or tags k false) (touches (ram_base + place) size (ram_base + 16 * k)) (and_right _ _ (and_left _ _ (le-ltb _ _ apart)))) (cases_lt k (first + n))) (cases_lt k first)
+    ∙ and_not_false (get_or tags k false) (touches (ram_base + place) size (ram_base + 16 * k))
+    (and_right _ _ (and_left _ _ (le-ltb _ _ apart)))) (cases_lt k (first + n))) (cases_lt k first)
 
 -- where there is no byte, no granule is touched
-pub none_cleared : (tags : List Bool) (address size k : ℕ) → size ≤ 0 → get_or tags k false ≡ (get_or tags k false && not (touches address size (ram_base + 16 * k)))
-none_cleared tags address size k none = and_not_false (get_or tags k false) (touches address size (ram_base + 16 * k)) (and_left _ _ (le-ltb _ _ none))
+pub none_cleared : (tags : List Bool) (address size k : ℕ) → size ≤ 0
+    → get_or tags k false ≡ (get_or tags k false && not (touches address size (ram_base + 16 * k)))
+none_cleared tags address size k none =
+    and_not_false (get_or tags k false) (touches address size (ram_base + 16 * k)) (and_left _ _ (le-ltb _ _ none))

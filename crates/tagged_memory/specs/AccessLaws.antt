@@ -9,9 +9,11 @@ use Rattle.tagged_memory.specs.MemoryLaws.{word_at-capability_written_here, is_t
 pub in_ram-access_fault : (m : Memory) (address size : ℕ) → access_fault m address size ≡ None → is_in_ram m address size ≡ true
 unfolding access_fault
 in_ram-access_fault m address size none =
-    elim (is_in_ram m address size) as (λ inside. cond (not (eqb (address % size) 0)) (Some M4) (cond (not inside) (Some M3) None) ≡ None → inside ≡ true) [
+    elim (is_in_ram m address size) as
+    (λ inside. cond (not (eqb (address % size) 0)) (Some M4) (cond (not inside) (Some M3) None) ≡ None → inside ≡ true) [
       | true ↦ λ _. refl
-      | false ↦ elim (eqb (address % size) 0) as (λ aligned. cond (not aligned) (Some M4) (cond true (Some M3) None) ≡ None → false ≡ true) [ true ↦ λ e. cc | false ↦ λ e. cc ]
+      | false ↦ elim (eqb (address % size) 0) as (λ aligned. cond (not aligned) (Some M4) (cond true (Some M3) None) ≡ None → false ≡ true)
+          [ true ↦ λ e. cc | false ↦ λ e. cc ]
     ] none
 
 -- an access without a fault is aligned
@@ -19,7 +21,8 @@ pub aligned-access_fault : (m : Memory) (address size : ℕ) → access_fault m 
 unfolding access_fault
 aligned-access_fault m address size none =
     eqb-true _ _
-    (elim (eqb (address % size) 0) as (λ aligned. cond (not aligned) (Some M4) (cond (not (is_in_ram m address size)) (Some M3) None) ≡ None → aligned ≡ true) [
+    (elim (eqb (address % size) 0) as
+    (λ aligned. cond (not aligned) (Some M4) (cond (not (is_in_ram m address size)) (Some M3) None) ≡ None → aligned ≡ true) [
       | true ↦ λ _. refl
       | false ↦ λ e. cc
     ] none)

@@ -18,7 +18,8 @@ memory_of bytes tags = record { bytes = bytes; tags = tags_from ram_base tags }
 -- a memory is stored as the pair of its fields
 abbrev pub memory_code : Coded Memory
 memory_code =
-    code_by (List ℕ × set.FinSet nat_cmp) (coded× (coded_list coded_ℕ) (set.code coded_ℕ)) (λ m. (m.bytes, m.tags)) (λ p. record { bytes = p.0; tags = p.1 }) (λ _. refl)
+    code_by (List ℕ × set.FinSet nat_cmp) (coded× (coded_list coded_ℕ) (set.code coded_ℕ)) (λ m. (m.bytes, m.tags))
+    (λ p. record { bytes = p.0; tags = p.1 }) (λ _. refl)
 
 -- 1 to the most whole pages of bytes, and a truth value for each of their granules
 pub record IsLaidOut (bytes : List ℕ) (tags : List Bool) : Type 0 where

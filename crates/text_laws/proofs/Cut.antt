@@ -1,5 +1,6 @@
 -- Texts put together and cut again: what is cut at a byte that the parts have not gives the parts back.
-use Rattle.std.proofs.Common.{◌≡◌, ℕ, zero, suc, ◌+◌, ◌-◌, ◌<◌, Bool, true, false, not, ◌&&◌, cond, List, [], ◌∷◌, ◌++◌, map, refl, ap, ◌∙◌, arith, length, take, drop, get_or, length-append}
+use Rattle.std.proofs.Common.{◌≡◌, ℕ, zero, suc, ◌+◌, ◌-◌, ◌<◌, Bool, true, false, not, ◌&&◌, cond, List, [], ◌∷◌, ◌++◌, map, refl, ap, ◌∙◌}
+use Rattle.std.proofs.Common.{arith, length, take, drop, get_or, length-append}
 use Rattle.std.specs.Prelude.{◌==◌, nat_lt}
 use Rattle.std.specs.List.{prefix_len, before_first, after_first, slice_split}
 use Rattle.std.proofs.lemmas.Bool.Decides.{nat_tests}
@@ -42,7 +43,8 @@ prefix_every p (x ∷ xs) h =
     let s = prefix_every p xs r in
     rw (a, s) (omega arith)
 
-pub prefix_stop : (p : ℕ → Bool) (xs : List ℕ) (y : ℕ) (ys : List ℕ) → every p xs ≡ true → p y ≡ false → prefix_len p (xs ++ y ∷ ys) ≡ length xs
+pub prefix_stop : (p : ℕ → Bool) (xs : List ℕ) (y : ℕ) (ys : List ℕ) → every p xs ≡ true → p y ≡ false
+    → prefix_len p (xs ++ y ∷ ys) ≡ length xs
 prefix_stop p [] y ys h n = rw n refl
 prefix_stop p (x ∷ xs) y ys h n =
     let a : p x ≡ true = grind (arith, nat_tests) in
@@ -75,12 +77,14 @@ drop_whole (x ∷ xs) =
     ap (λ j. drop j (x ∷ xs)) e ∙ drop_whole xs
 
 -- what stands before the first byte that passes, and behind it
-pub before_stop : (p : ℕ → Bool) (xs : List ℕ) (y : ℕ) (ys : List ℕ) → every (λ b. not (p b)) xs ≡ true → p y ≡ true → before_first p (xs ++ y ∷ ys) ≡ xs
+pub before_stop : (p : ℕ → Bool) (xs : List ℕ) (y : ℕ) (ys : List ℕ) → every (λ b. not (p b)) xs ≡ true → p y ≡ true
+    → before_first p (xs ++ y ∷ ys) ≡ xs
 before_stop p xs y ys h n =
     let k = prefix_stop (λ b. not (p b)) xs y ys h (ap not n) in
     ap (λ j. take j (xs ++ y ∷ ys)) k ∙ take_front xs (y ∷ ys)
 
-pub after_stop : (p : ℕ → Bool) (xs : List ℕ) (y : ℕ) (ys : List ℕ) → every (λ b. not (p b)) xs ≡ true → p y ≡ true → after_first p (xs ++ y ∷ ys) ≡ ys
+pub after_stop : (p : ℕ → Bool) (xs : List ℕ) (y : ℕ) (ys : List ℕ) → every (λ b. not (p b)) xs ≡ true → p y ≡ true
+    → after_first p (xs ++ y ∷ ys) ≡ ys
 after_stop p xs y ys h n =
     let k = prefix_stop (λ b. not (p b)) xs y ys h (ap not n) in
     ap (λ j. drop (j + 1) (xs ++ y ∷ ys)) k ∙ drop_front_one xs y ys
@@ -98,7 +102,8 @@ split_none p (x ∷ xs) h =
     let r : every (λ b. not (p b)) xs ≡ true = grind (arith, nat_tests) in
     rw (a, split_none p xs r)
 
-split_stop : (p : ℕ → Bool) (xs : List ℕ) (y : ℕ) (ys : List ℕ) → every (λ b. not (p b)) xs ≡ true → p y ≡ true → slice_split p (xs ++ y ∷ ys) ≡ xs ∷ slice_split p ys
+split_stop : (p : ℕ → Bool) (xs : List ℕ) (y : ℕ) (ys : List ℕ) → every (λ b. not (p b)) xs ≡ true → p y ≡ true
+    → slice_split p (xs ++ y ∷ ys) ≡ xs ∷ slice_split p ys
 split_stop p [] y ys h n = rw n
 split_stop p (x ∷ xs) y ys h n =
     let a : p x ≡ false = grind (arith, nat_tests) in
@@ -158,7 +163,8 @@ ArePlain (t ∷ ts) = IsPlain t × ArePlain ts
 no_comma : (text : List ℕ) → every is_plain text ≡ true → every (λ b. not (b == 44)) text ≡ true
 no_comma text h = every_weaker is_plain (λ b. not (b == 44)) text (λ b k. grind (arith, nat_tests)) h
 
-split_joined : (t : List ℕ) (ts : List (List ℕ)) → every (λ b. not (b == 44)) t ≡ true → ArePlain ts → slice_split (λ b. b == 44) (t ++ joined ts) ≡ t ∷ map (λ u. 32 ∷ u) ts
+split_joined : (t : List ℕ) (ts : List (List ℕ)) → every (λ b. not (b == 44)) t ≡ true → ArePlain ts
+    → slice_split (λ b. b == 44) (t ++ joined ts) ≡ t ∷ map (λ u. 32 ∷ u) ts
 split_joined t [] h a = ap (slice_split (λ b. b == 44)) (append_nil t) ∙ split_none (λ b. b == 44) t h
 split_joined t (u ∷ us) h a =
     split_stop (λ b. b == 44) t 44 (32 ∷ (u ++ joined us)) h refl ∙ ap (λ l. t ∷ l) (split_joined (32 ∷ u) us (no_comma u a.0.bytes) a.1)
@@ -187,4 +193,5 @@ joined_last t [] h a =
     ap (λ x. is_blank (last x)) (append_nil t) ∙ plain_blank (last t) (every_at is_plain t (length t - 1) 0 h.bytes (omega (arith, h.some)))
 joined_last t (u ∷ us) h a =
     let some : 0 < length (u ++ joined us) = omega (arith, length-append u (joined us), a.0.some) in
-    ap is_blank (last-append t (44 ∷ 32 ∷ (u ++ joined us)) (omega arith)) ∙ ap is_blank (last-append (44 ∷ 32 ∷ []) (u ++ joined us) some) ∙ joined_last u us a.0 a.1
+    ap is_blank (last-append t (44 ∷ 32 ∷ (u ++ joined us)) (omega arith)) ∙ ap is_blank (last-append (44 ∷ 32 ∷ []) (u ++ joined us) some)
+    ∙ joined_last u us a.0 a.1

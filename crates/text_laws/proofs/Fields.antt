@@ -1,13 +1,18 @@
 -- The fields of an instruction by its row's format, and its operands by its row's slots.
-use Rattle.std.proofs.Common.{◌≡◌, ℕ, ◌^◌, ◌<◌, inl, inr, Bool, true, false, ◌&&◌, List, [], ◌∷◌, map, None, refl, sym, ap, subst, ◌∙◌, arith}
+use Rattle.std.proofs.Common.{◌≡◌, ℕ, ◌^◌, ◌<◌, inl, inr, Bool, true, false, ◌&&◌, List, [], ◌∷◌, map, None, refl, sym, ap, subst, ◌∙◌}
+use Rattle.std.proofs.Common.{arith}
 use Rattle.std.specs.Prelude.{◌==◌}
 use Rattle.std.proofs.lemmas.Bool.Decides.{nat_tests}
 use Rattle.isa_rows.specs.declared.formats.Format.{Format}
-use Rattle.isa_rows.specs.declared.formats.Format.TheVariants.{Upper as FUpper, Jump as FJump, Immediate as FImmediate, Unsigned as FUnsigned, Store as FStore, Branch as FBranch, Shift6 as FShift6, Shift5 as FShift5, Register as FRegister, Whole as FWhole, Unary as FUnary, Pair as FPair}
+use Rattle.isa_rows.specs.declared.formats.Format.TheVariants.{Upper as FUpper, Jump as FJump, Immediate as FImmediate}
+use Rattle.isa_rows.specs.declared.formats.Format.TheVariants.{Unsigned as FUnsigned, Store as FStore, Branch as FBranch, Shift6 as FShift6}
+use Rattle.isa_rows.specs.declared.formats.Format.TheVariants.{Shift5 as FShift5, Register as FRegister, Whole as FWhole, Unary as FUnary}
+use Rattle.isa_rows.specs.declared.formats.Format.TheVariants.{Pair as FPair}
 use Rattle.isa_rows.specs.declared.operands.Insn.{Insn}
 use Rattle.isa_rows.specs.Operands.{IsSignedOf, IsUpperImmediate, OperandsFit}
 use Rattle.isa_rows.specs.declared.slots.Slot.{Slot}
-use Rattle.isa_rows.specs.declared.slots.Slot.TheVariants.{Rd, Rs1, Rs2, Signed, Unsigned, Upper, Small, Csr, Special, Address, Authority, Target}
+use Rattle.isa_rows.specs.declared.slots.Slot.TheVariants.{Rd, Rs1, Rs2, Signed, Unsigned, Upper, Small, Csr, Special, Address, Authority}
+use Rattle.isa_rows.specs.declared.slots.Slot.TheVariants.{Target}
 use Rattle.asm_lines.specs.Operand.{Draft, fault_of, told_fault, draft_after, filled_draft, filled_fault}
 use Rattle.disassembler.specs.Shown.{shown_slot}
 use Rattle.text_laws.proofs.SlotBack.{SlotFits, with_slot, slot_back}
@@ -313,12 +318,16 @@ abbrev pub with_slots : Insn → List Slot → Draft → Draft
 with_slots i [] d = d
 with_slots i (s ∷ ss) d = with_slots i ss (with_slot i s d)
 
-pub drafts_back : (mode : Bool) (i : Insn) (ss : List Slot) (d : Draft) → SlotsFit ss i → filled_draft ss (map (shown_slot mode i) ss) d ≡ with_slots i ss d
+pub drafts_back : (mode : Bool) (i : Insn) (ss : List Slot) (d : Draft) → SlotsFit ss i
+    → filled_draft ss (map (shown_slot mode i) ss) d ≡ with_slots i ss d
 drafts_back mode i [] d h = refl
 drafts_back mode i (s ∷ ss) d h =
-    ap (λ r. filled_draft ss (map (shown_slot mode i) ss) (draft_after d r)) (slot_back mode i s d h.0) ∙ drafts_back mode i ss (with_slot i s d) h.1
+    ap (λ r. filled_draft ss (map (shown_slot mode i) ss) (draft_after d r)) (slot_back mode i s d h.0)
+    ∙ drafts_back mode i ss (with_slot i s d) h.1
 
-pub faults_back : (mode : Bool) (i : Insn) (ss : List Slot) (d : Draft) → SlotsFit ss i → filled_fault ss (map (shown_slot mode i) ss) d ≡ None
+pub faults_back : (mode : Bool) (i : Insn) (ss : List Slot) (d : Draft) → SlotsFit ss i
+    → filled_fault ss (map (shown_slot mode i) ss) d ≡ None
 faults_back mode i [] d h = refl
 faults_back mode i (s ∷ ss) d h =
-    ap (λ r. told_fault (fault_of r) (filled_fault ss (map (shown_slot mode i) ss) (draft_after d r))) (slot_back mode i s d h.0) ∙ faults_back mode i ss (with_slot i s d) h.1
+    ap (λ r. told_fault (fault_of r) (filled_fault ss (map (shown_slot mode i) ss) (draft_after d r))) (slot_back mode i s d h.0)
+    ∙ faults_back mode i ss (with_slot i s d) h.1

@@ -1,5 +1,6 @@
 -- Filling all the slots of a row gives the instruction, whose other fields are 0.
-use Rattle.std.proofs.Common.{◌≡◌, ℕ, ◌≤◌, Bool, true, false, not, ◌&&◌, ◌||◌, cond, List, [], ◌∷◌, Option, Some, None, refl, sym, ap, ◌∙◌, arith, length}
+use Rattle.std.proofs.Common.{◌≡◌, ℕ, ◌≤◌, Bool, true, false, not, ◌&&◌, ◌||◌, cond, List, [], ◌∷◌, Option, Some, None, refl, sym, ap, ◌∙◌}
+use Rattle.std.proofs.Common.{arith, length}
 use Rattle.std.specs.Prelude.{nat_le}
 use Rattle.std.proofs.lemmas.Bool.Decides.{nat_tests}
 use Rattle.isa_rows.specs.declared.formats.Format.{Format}
@@ -10,7 +11,8 @@ use Rattle.isa_rows.specs.Line.{line_of}
 use Rattle.isa_rows.specs.Insn.{insn}
 use Rattle.isa_rows.specs.Operands.{OperandsFit}
 use Rattle.isa_rows.specs.declared.slots.Slot.{Slot}
-use Rattle.isa_rows.specs.declared.slots.Slot.TheVariants.{Rd, Rs1, Rs2, Signed, Unsigned, Upper, Small, Csr, Special, Address, Authority, Target}
+use Rattle.isa_rows.specs.declared.slots.Slot.TheVariants.{Rd, Rs1, Rs2, Signed, Unsigned, Upper, Small, Csr, Special, Address, Authority}
+use Rattle.isa_rows.specs.declared.slots.Slot.TheVariants.{Target}
 use Rattle.asm_names.specs.Slots.{slots_of}
 use Rattle.asm_lines.specs.Number.{Expression}
 use Rattle.asm_lines.specs.Operand.{Draft}
@@ -54,7 +56,8 @@ draft r rd rs1 rs2 imm target = record { insn = insn r rd rs1 rs2 imm; target = 
 -- a draft with the fields of an instruction that some slots fill
 abbrev filled : Insn → List Slot → Draft → Draft
 filled i ss d =
-    draft d.insn.row (cond (any fills_rd ss) i.rd d.insn.rd) (cond (any fills_rs1 ss) i.rs1 d.insn.rs1) (cond (any fills_rs2 ss) i.rs2 d.insn.rs2)
+    draft d.insn.row (cond (any fills_rd ss) i.rd d.insn.rd) (cond (any fills_rs1 ss) i.rs1 d.insn.rs1)
+    (cond (any fills_rs2 ss) i.rs2 d.insn.rs2)
     (cond (any fills_imm ss) i.imm d.insn.imm) (cond (any is_target ss) (Some (distance_to i.imm)) d.target)
 
 same : {A : Type 0} (t : Bool) (a : A) → cond t a a ≡ a
@@ -118,13 +121,15 @@ statement_of_draft d = row d.insn d.target
 abbrev pub nought : Row → Draft
 nought r = record { insn = insn r 0 0 0 0; target = None }
 
-statement_filled : (target fills : Bool) (f : Format) (i : Insn) → cond target (not fills) (fills || lacks_imm f) ≡ true → NoneIf (lacks_imm f) i.imm
+statement_filled : (target fills : Bool) (f : Format) (i : Insn) → cond target (not fills) (fills || lacks_imm f) ≡ true
+    → NoneIf (lacks_imm f) i.imm
     → row (insn i.row i.rd i.rs1 i.rs2 (cond fills i.imm 0)) (cond target (Some (distance_to i.imm)) None) ≡ stated target i
 statement_filled true true f i t h = cc
 statement_filled true false f i t h = refl
 statement_filled false fills f i t h = ap (λ n. row (insn i.row i.rd i.rs1 i.rs2 n) None) (covered fills (lacks_imm f) i.imm t h)
 
-pub statement_back : (f : Format) (i : Insn) (ss : List Slot) → covers f ss ≡ true → covers_imm f ss ≡ true → OperandsFit f i → statement_of_draft (with_slots i ss (nought i.row)) ≡ stated (has_target ss) i
+pub statement_back : (f : Format) (i : Insn) (ss : List Slot) → covers f ss ≡ true → covers_imm f ss ≡ true → OperandsFit f i
+    → statement_of_draft (with_slots i ss (nought i.row)) ≡ stated (has_target ss) i
 statement_back f i ss t u h =
     let k = fields_of f i h in
     let a = covered (any fills_rd ss) (lacks_rd f) i.rd (grind (arith, nat_tests)) k.rd_none in
@@ -138,7 +143,8 @@ statement_back f i ss t u h =
 -- what the table of rows must keep
 abbrev row_suits : Row → Bool
 row_suits r =
-    slots_suit (line_of r).format (slots_of r) && (covers (line_of r).format (slots_of r) && (covers_imm (line_of r).format (slots_of r) && nat_le (length (slots_of r)) 3))
+    slots_suit (line_of r).format (slots_of r) &&
+    (covers (line_of r).format (slots_of r) && (covers_imm (line_of r).format (slots_of r) && nat_le (length (slots_of r)) 3))
 
 rows_suit : (r : Row) → row_suits r ≡ true
 unfolding line_of
@@ -156,5 +162,6 @@ parts a b c n h = (grind (arith, nat_tests), grind (arith, nat_tests), grind (ar
 
 pub row_suits_all : (r : Row) → RowSuits (line_of r).format (slots_of r)
 row_suits_all r =
-    let p = parts (slots_suit (line_of r).format (slots_of r)) (covers (line_of r).format (slots_of r)) (covers_imm (line_of r).format (slots_of r)) (length (slots_of r)) (rows_suit r) in
+    let p = parts (slots_suit (line_of r).format (slots_of r)) (covers (line_of r).format (slots_of r))
+    (covers_imm (line_of r).format (slots_of r)) (length (slots_of r)) (rows_suit r) in
     record { suit = p.0; cover = p.1; cover_imm = p.2; few = p.3 }

@@ -1,5 +1,6 @@
 -- The text of a word, read as a line, says the word again.
-use Rattle.std.proofs.Common.{◌≡◌, ℕ, ◌*◌, ◌^◌, ◌<◌, ◌≤◌, Bool, true, false, ◌&&◌, cond, List, [], ◌∷◌, ◌++◌, map, Some, None, refl, sym, ap, subst, ◌∙◌, arith, length, length-append}
+use Rattle.std.proofs.Common.{◌≡◌, ℕ, ◌*◌, ◌^◌, ◌<◌, ◌≤◌, Bool, true, false, ◌&&◌, cond, List, [], ◌∷◌, ◌++◌, map, Some, None, refl, sym}
+use Rattle.std.proofs.Common.{ap, subst, ◌∙◌, arith, length, length-append}
 use Rattle.std.specs.Prelude.{pos, Ok, ◌==◌, nat_lt, IfSome, codes}
 use Rattle.std.specs.Int.{w64, cast_signed}
 use Rattle.std.specs.List.{flat_map}
@@ -12,15 +13,17 @@ use Rattle.isa_rows.specs.DecodedLaws.{insn_of-IsInsn}
 use Rattle.isa_rows.specs.Insn.{IsInsn}
 use Rattle.isa_rows.specs.InsnLaws.{OperandsFit-Fits}
 use Rattle.isa_rows.specs.Line.{line_of}
+use Rattle.isa_rows.specs.Name.{name_of}
 use Rattle.isa_rows.specs.Operands.{OperandsFit}
 use Rattle.isa_rows.specs.declared.slots.Slot.{Slot}
-use Rattle.asm_names.specs.Mnemonic.{mnemonic}
+use Rattle.asm_names.specs.Mnemonic.{capability_name_of, mnemonic}
 use Rattle.asm_names.specs.Slots.{slots_of}
 use Rattle.asm_lines.specs.declared.fault.LineFault.TheVariants.{A3}
 use Rattle.asm_lines.specs.Text.{pieces_of}
 use Rattle.asm_lines.specs.Number.{expression, expression_of, number_of, numbered}
 use Rattle.asm_lines.specs.Operand.{filled_draft, filled_fault, told_fault, wrapped}
-use Rattle.asm_lines.specs.Statement.{values, said, said_unless, plain, pattern_of, pattern_said, row_said, values_fault, value_fault, is_in_size, said_by}
+use Rattle.asm_lines.specs.Statement.{values, said, said_unless, plain, pattern_of, pattern_said, row_said, values_fault, value_fault}
+use Rattle.asm_lines.specs.Statement.{is_in_size, said_by}
 use Rattle.asm_lines.specs.Line.{labelled, line_meaning}
 use Rattle.disassembler.specs.Hex.{hex_of}
 use Rattle.disassembler.specs.Shown.{shown_slot, shown_operands, shown_insn, shown_found, shown_word}
@@ -47,7 +50,8 @@ plain_parts text h = record { some = grind (arith, nat_tests); bytes = grind (ar
 plain_mnemonic : (mode : Bool) (r : Row) → IsPlain (mnemonic mode r)
 plain_mnemonic mode r = plain_parts (mnemonic mode r) (mnemonic_is_plain mode r)
 
-no_directive : (mode : Bool) (r : Row) (operands : List ℕ) → said_by (mnemonic mode r) operands ≡ pattern_said (pattern_of (mnemonic mode r) (length operands == 0)) operands
+no_directive : (mode : Bool) (r : Row) (operands : List ℕ)
+    → said_by (mnemonic mode r) operands ≡ pattern_said (pattern_of (mnemonic mode r) (length operands == 0)) operands
 unfolding said_by line_of
 no_directive true Lui operands = refl
 no_directive true _ operands = refl
@@ -82,7 +86,8 @@ shown_short mode i (s ∷ ss) h =
     omega (arith, length-append (shown_slot mode i s) (joined (map (shown_slot mode i) ss)))
 
 -- what is read of the operands is the statement
-operands_said : (mode : Bool) (i : Insn) (ss : List Slot) (operands : List ℕ) → pieces_of operands ≡ map (shown_slot mode i) ss → SlotsFit ss i
+operands_said : (mode : Bool) (i : Insn) (ss : List Slot) (operands : List ℕ) → pieces_of operands ≡ map (shown_slot mode i) ss
+    → SlotsFit ss i
     → pattern_said (Some (plain i.row ss)) operands ≡ said (Some (statement_of_draft (with_slots i ss (nought i.row)))) None
 operands_said mode i ss operands e h =
     ap (λ ps. row_said (filled_draft ss ps (nought i.row)) (filled_fault ss ps (nought i.row))) e
@@ -90,7 +95,8 @@ operands_said mode i ss operands e h =
     ∙ ap (λ x. row_said (with_slots i ss (nought i.row)) x) (faults_back mode i ss (nought i.row) h)
 
 -- a row without operands, and with some
-insn_alone : (mode : Bool) (i : Insn) → slots_of i.row ≡ [] → line_meaning (mnemonic mode i.row ++ []) ≡ labelled None (said (Some (statement_of_draft (nought i.row))) None)
+insn_alone : (mode : Bool) (i : Insn) → slots_of i.row ≡ []
+    → line_meaning (mnemonic mode i.row ++ []) ≡ labelled None (said (Some (statement_of_draft (nought i.row))) None)
 insn_alone mode i e =
     let pattern : pattern_of (mnemonic mode i.row) true ≡ Some (plain i.row []) =
     subst (λ ss. pattern_of (mnemonic mode i.row) (is_empty ss) ≡ Some (plain i.row ss)) e (pattern_back mode i.row) in
@@ -102,7 +108,8 @@ empty_length : (t rest : List ℕ) → 0 < length t → (length (t ++ rest) == 0
 empty_length t rest h = let e = length-append t rest in grind (arith, nat_tests)
 
 insn_with : (mode : Bool) (i : Insn) (s : Slot) (ss : List Slot) → slots_of i.row ≡ s ∷ ss → length (s ∷ ss) ≤ 3 → SlotsFit (s ∷ ss) i
-    → line_meaning (mnemonic mode i.row ++ shown_operands mode i (s ∷ ss)) ≡ labelled None (said (Some (statement_of_draft (with_slots i (s ∷ ss) (nought i.row)))) None)
+    → line_meaning (mnemonic mode i.row ++ shown_operands mode i (s ∷ ss))
+    ≡ labelled None (said (Some (statement_of_draft (with_slots i (s ∷ ss) (nought i.row)))) None)
 insn_with mode i s ss e few h =
     let m = mnemonic mode i.row in
     let t = shown_slot mode i s in
@@ -124,7 +131,8 @@ insn_with mode i s ss e few h =
     ∙ ap (labelled None) (operands_said mode i (s ∷ ss) (t ++ joined ts) (pieces_back t ts first others) h)
 
 insn_line : (mode : Bool) (i : Insn) (ss : List Slot) → slots_of i.row ≡ ss → length ss ≤ 3 → SlotsFit ss i
-    → line_meaning (mnemonic mode i.row ++ shown_operands mode i ss) ≡ labelled None (said (Some (statement_of_draft (with_slots i ss (nought i.row)))) None)
+    → line_meaning (mnemonic mode i.row ++ shown_operands mode i ss)
+    ≡ labelled None (said (Some (statement_of_draft (with_slots i ss (nought i.row)))) None)
 insn_line mode i [] e few h = insn_alone mode i e
 insn_line mode i (s ∷ ss) e few h = insn_with mode i s ss e few h
 
@@ -161,16 +169,20 @@ word_back : (word : ℕ) → word < 2 ^ 32 → line_meaning (codes ".word 0x" ++
 word_back word h =
     let size = length_word word in
     ap (λ l. line_meaning (codes ".word" ++ 32 ∷ l)) (sym (append_nil (word_text word)))
-    ∙ operands_line (codes ".word") (word_text word) [] (record { some = omega arith; bytes = refl }) (plain_word word) tt (omega (arith, length-append (word_text word) []))
-    ∙ ap (λ l. labelled None (said_by (codes ".word") l)) (append_nil (word_text word)) ∙ ap (labelled None) (word_said 48 (120 ∷ hex_of 8 word))
+    ∙ operands_line (codes ".word") (word_text word) [] (record { some = omega arith; bytes = refl }) (plain_word word) tt
+    (omega (arith, length-append (word_text word) []))
+    ∙ ap (λ l. labelled None (said_by (codes ".word") l)) (append_nil (word_text word))
+    ∙ ap (labelled None) (word_said 48 (120 ∷ hex_of 8 word))
     ∙ ap (λ f. labelled None (said_unless (values 4 (word_text word)) f)) (no_fault word h)
 
 operands_of_insn : (word : ℕ) (i : Insn) → IsInsn word i → OperandsFit (line_of i.row).format i
 operands_of_insn word i h = OperandsFit-Fits i (record { word = word; is_insn = h })
 
-found_back : (mode : Bool) (word : ℕ) → word < 2 ^ 32 → line_meaning (shown_word mode word) ≡ sound_line (statement_of_word word (insn_of word))
+found_back : (mode : Bool) (word : ℕ) → word < 2 ^ 32
+    → line_meaning (shown_word mode word) ≡ sound_line (statement_of_word word (insn_of word))
 found_back mode word h =
-    elim (insn_of word) as (λ o. IfSome o (λ i. IsInsn word i) → line_meaning (shown_found mode word o) ≡ sound_line (statement_of_word word o)) [
+    elim (insn_of word) as
+    (λ o. IfSome o (λ i. IsInsn word i) → line_meaning (shown_found mode word o) ≡ sound_line (statement_of_word word o)) [
       | Some i ↦ λ is. insn_back mode i (operands_of_insn word i is)
       | None ↦ λ _. word_back word h
     ] (insn_of-IsInsn word h)

@@ -1,5 +1,6 @@
 -- Registers that are shown are read as themselves.
-use Rattle.std.proofs.Common.{◌≡◌, ℕ, zero, suc, ◌<◌, ◌≤◌, inl, inr, Bool, true, false, ◌&&◌, List, [], ◌∷◌, Option, Some, None, refl, sym, ap, subst, ◌∙◌, arith, length}
+use Rattle.std.proofs.Common.{◌≡◌, ℕ, zero, suc, ◌<◌, ◌≤◌, inl, inr, Bool, true, false, ◌&&◌, List, [], ◌∷◌, Option, Some, None, refl, sym}
+use Rattle.std.proofs.Common.{ap, subst, ◌∙◌, arith, length}
 use Rattle.std.specs.Prelude.{pos, Ok, nat_lt, is_none, slice_get, decimal}
 use Rattle.std.specs.Fmt.{digits}
 use Rattle.std.proofs.lemmas.Bool.Decides.{nat_tests}
@@ -66,7 +67,8 @@ abbrev are_plain_pairs : List (ℕ × List ℕ) → Bool
 are_plain_pairs [] = true
 are_plain_pairs (p ∷ ps) = is_plain_name p.1 && are_plain_pairs ps
 
-plain_in : (names : List (ℕ × List ℕ)) (n : ℕ) (text : List ℕ) → are_plain_pairs names ≡ true → name_in names n ≡ Some text → is_plain_name text ≡ true
+plain_in : (names : List (ℕ × List ℕ)) (n : ℕ) (text : List ℕ) → are_plain_pairs names ≡ true → name_in names n ≡ Some text
+    → is_plain_name text ≡ true
 plain_in [] n text h e = cc
 plain_in (p ∷ ps) n text h e =
     let here : is_plain_name p.1 ≡ true = grind (arith, nat_tests) in
@@ -110,12 +112,15 @@ unfolding scr_named digits
 scrs_begin_with_no_digit = refl
 
 scr_named_decimal : (n : ℕ) → n < 32 → scr_named (decimal n) ≡ None
-scr_named_decimal n h = is_none-None (scr_named (decimal n)) (below_passes (λ n. is_none (scr_named (decimal n))) 32 n scrs_begin_with_no_digit h)
+scr_named_decimal n h =
+    is_none-None (scr_named (decimal n)) (below_passes (λ n. is_none (scr_named (decimal n))) 32 n scrs_begin_with_no_digit h)
 
 -- control and status registers, special capability registers
-pub csr_back : (n : ℕ) → n < 4096 → named_or (csr_named (name_or (short_hex n) (csr_name n))) (up_to 4095 (number_of (name_or (short_hex n) (csr_name n)))) ≡ Ok (pos n)
+pub csr_back : (n : ℕ) → n < 4096
+    → named_or (csr_named (name_or (short_hex n) (csr_name n))) (up_to 4095 (number_of (name_or (short_hex n) (csr_name n)))) ≡ Ok (pos n)
 csr_back n h =
-    elim (csr_name n) as (λ o. csr_name n ≡ o → named_or (csr_named (name_or (short_hex n) o)) (up_to 4095 (number_of (name_or (short_hex n) o))) ≡ Ok (pos n)) [
+    elim (csr_name n) as
+    (λ o. csr_name n ≡ o → named_or (csr_named (name_or (short_hex n) o)) (up_to 4095 (number_of (name_or (short_hex n) o))) ≡ Ok (pos n)) [
       | Some text ↦ λ e. ap (λ o. named_or o (up_to 4095 (number_of text))) (csr_named-csr_name n text e)
       | None ↦ λ e.
           ap (λ o. named_or o (up_to 4095 (number_of (short_hex n)))) (csr_named_hex (digits 16 false n))
@@ -136,9 +141,11 @@ short_csr n h =
       | None ↦ λ e. let k = length_hex_16 n (omega arith) in omega arith
     ] refl
 
-pub scr_back : (n : ℕ) → n < 32 → named_or (scr_named (name_or (decimal n) (scr_name n))) (up_to 31 (number_of (name_or (decimal n) (scr_name n)))) ≡ Ok (pos n)
+pub scr_back : (n : ℕ) → n < 32
+    → named_or (scr_named (name_or (decimal n) (scr_name n))) (up_to 31 (number_of (name_or (decimal n) (scr_name n)))) ≡ Ok (pos n)
 scr_back n h =
-    elim (scr_name n) as (λ o. scr_name n ≡ o → named_or (scr_named (name_or (decimal n) o)) (up_to 31 (number_of (name_or (decimal n) o))) ≡ Ok (pos n)) [
+    elim (scr_name n) as
+    (λ o. scr_name n ≡ o → named_or (scr_named (name_or (decimal n) o)) (up_to 31 (number_of (name_or (decimal n) o))) ≡ Ok (pos n)) [
       | Some text ↦ λ e. ap (λ o. named_or o (up_to 31 (number_of text))) (scr_named-scr_name n text e)
       | None ↦ λ e.
           ap (λ o. named_or o (up_to 31 (number_of (decimal n)))) (scr_named_decimal n h)

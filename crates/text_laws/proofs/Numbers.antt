@@ -1,5 +1,6 @@
 -- Numbers that are shown are read as themselves.
-use Rattle.std.proofs.Common.{◌≡◌, ℕ, zero, suc, ◌+◌, ◌-◌, ◌*◌, ◌/◌, ◌%◌, ◌^◌, ◌<◌, ◌≤◌, ◌⊎◌, inl, inr, Bool, true, false, not, ◌&&◌, List, [], ◌∷◌, ◌++◌, refl, sym, ap, subst, ◌∙◌, arith, length, get_or, length-append}
+use Rattle.std.proofs.Common.{◌≡◌, ℕ, zero, suc, ◌+◌, ◌-◌, ◌*◌, ◌/◌, ◌%◌, ◌^◌, ◌<◌, ◌≤◌, ◌⊎◌, inl, inr, Bool, true, false, not, ◌&&◌, List}
+use Rattle.std.proofs.Common.{[], ◌∷◌, ◌++◌, refl, sym, ap, subst, ◌∙◌, arith, length, get_or, length-append}
 use Rattle.std.specs.Prelude.{pos, negsuc, neg_ℤ, Ok, ◌==◌, nat_lt, slice_index, decimal}
 use Rattle.std.specs.Char.{digit_value}
 use Rattle.std.specs.Fmt.{digit_glyph, digits, signed_decimal}
@@ -58,7 +59,8 @@ limited_pos n h = let t : is_in_limits (pos n) ≡ true = grind (arith, nat_test
 limited_negsuc : (n : ℕ) → n < 2 ^ 63 → limited (negsuc n) ≡ Ok (negsuc n)
 limited_negsuc n h = let t : is_in_limits (negsuc n) ≡ true = grind (arith, nat_tests) in rw t refl
 
-number_plain : (ds : List ℕ) → is_hexadecimal ds ≡ false → is_negative ds ≡ false → is_numeral 10 ds ≡ true → number_of ds ≡ limited (pos (digits_value 10 ds))
+number_plain : (ds : List ℕ) → is_hexadecimal ds ≡ false → is_negative ds ≡ false → is_numeral 10 ds ≡ true
+    → number_of ds ≡ limited (pos (digits_value 10 ds))
 unfolding number_of
 number_plain ds a b c = rw (a, b, c) refl
 
@@ -79,7 +81,8 @@ pub number_decimal : (n : ℕ) → n < 2 ^ 64 → number_of (decimal n) ≡ Ok (
 number_decimal n h =
     let k = decimal_is_IsNumeral n h in
     let ds = every_digit 10 (decimal n) k.0.1 in
-    let x = and_false (slice_index (decimal n) 0 == 48) (slice_index (decimal n) 1 == 120) (at_digit (decimal n) 1 120 ds (omega arith) (inr (omega arith))) in
+    let x = and_false (slice_index (decimal n) 0 == 48) (slice_index (decimal n) 1 == 120)
+    (at_digit (decimal n) 1 120 ds (omega arith) (inr (omega arith))) in
     number_plain (decimal n) x (at_digit (decimal n) 0 45 ds (omega arith) (inl (omega arith))) (numeral_test 10 (decimal n) k.0.0 ds)
     ∙ ap (λ v. limited (pos v)) k.1 ∙ limited_pos n h
 
@@ -95,7 +98,8 @@ plain_decimal n h =
     record { some = k.0.0; bytes = decimal_plain (decimal n) (every_digit 10 (decimal n) k.0.1) }
 
 -- the signed reading of a number of 64 bits
-pub signed_reading : (n : ℕ) → n < 2 ^ 64 → ((n < 2 ^ 63) × (cast_signed w64 n ≡ pos n)) ⊎ ((2 ^ 63 ≤ n) × (cast_signed w64 n ≡ negsuc (2 ^ 64 - 1 - n)))
+pub signed_reading : (n : ℕ) → n < 2 ^ 64
+    → ((n < 2 ^ 63) × (cast_signed w64 n ≡ pos n)) ⊎ ((2 ^ 63 ≤ n) × (cast_signed w64 n ≡ negsuc (2 ^ 64 - 1 - n)))
 signed_reading n h = elim (order n (2 ^ 63)) [
   | inl l ↦ inl (l, to_z_pos w64 n l)
   | inr g ↦
@@ -130,14 +134,16 @@ plain_signed n h = elim (signed_reading n h) [
 pub number_short_hex : (n : ℕ) → n < 2 ^ 64 → number_of (short_hex n) ≡ Ok (pos n)
 number_short_hex n h =
     let k = digits_is_IsNumeral 16 false (omega arith) (omega arith) n (omega arith) in
-    number_hex (digits 16 false n) (numeral_test 16 (digits 16 false n) k.0.0 (every_digit 16 (digits 16 false n) k.0.1)) ∙ ap (λ v. limited (pos v)) k.1 ∙ limited_pos n h
+    number_hex (digits 16 false n) (numeral_test 16 (digits 16 false n) k.0.0 (every_digit 16 (digits 16 false n) k.0.1))
+    ∙ ap (λ v. limited (pos v)) k.1 ∙ limited_pos n h
 
 pub plain_short_hex : (n : ℕ) → n < 2 ^ 64 → IsPlain (short_hex n)
 plain_short_hex n h =
     let k = digits_is_IsNumeral 16 false (omega arith) (omega arith) n (omega arith) in
     record { some = omega arith; bytes = hex_plain (digits 16 false n) (every_digit 16 (digits 16 false n) k.0.1) }
 
-value_after-append : (radix m : ℕ) (ds : List ℕ) (d : ℕ) → digits_value_after radix m (ds ++ d ∷ []) ≡ digits_value_after radix m ds * radix + digit_value d
+value_after-append : (radix m : ℕ) (ds : List ℕ) (d : ℕ)
+    → digits_value_after radix m (ds ++ d ∷ []) ≡ digits_value_after radix m ds * radix + digit_value d
 value_after-append radix m [] d = refl
 value_after-append radix m (c ∷ cs) d = value_after-append radix (m * radix + digit_value c) cs d
 
@@ -151,7 +157,8 @@ hex_of_digits : (k n : ℕ) → every (is_digit_in 16) (hex_of k n) ≡ true
 unfolding hex_of
 hex_of_digits zero n = refl
 hex_of_digits (suc k) n =
-    every-append (is_digit_in 16) (hex_of k (n / 16)) (digit_glyph false (n % 16) ∷ []) (hex_of_digits k (n / 16)) (let e = glyph_digit (n % 16) (omega arith) in rw e refl)
+    every-append (is_digit_in 16) (hex_of k (n / 16)) (digit_glyph false (n % 16) ∷ []) (hex_of_digits k (n / 16))
+    (let e = glyph_digit (n % 16) (omega arith) in rw e refl)
 
 hex_of_length : (k n : ℕ) → length (hex_of k n) ≡ k
 unfolding hex_of
@@ -170,7 +177,8 @@ hex_of_value (suc k) n h =
 pub number_word : (n : ℕ) → n < 2 ^ 32 → number_of (48 ∷ 120 ∷ hex_of 8 n) ≡ Ok (pos n)
 number_word n h =
     let some = hex_of_length 8 n in
-    number_hex (hex_of 8 n) (numeral_test 16 (hex_of 8 n) (omega arith) (hex_of_digits 8 n)) ∙ ap (λ v. limited (pos v)) (hex_of_value 8 n (omega arith)) ∙ limited_pos n (omega arith)
+    number_hex (hex_of 8 n) (numeral_test 16 (hex_of 8 n) (omega arith) (hex_of_digits 8 n))
+    ∙ ap (λ v. limited (pos v)) (hex_of_value 8 n (omega arith)) ∙ limited_pos n (omega arith)
 
 pub plain_word : (n : ℕ) → IsPlain (48 ∷ 120 ∷ hex_of 8 n)
 plain_word n = record { some = omega arith; bytes = hex_plain (hex_of 8 n) (hex_of_digits 8 n) }
@@ -180,7 +188,8 @@ length_word n = omega (arith, hex_of_length 8 n)
 
 -- a number has no bracket, and is at most 20 bytes long
 decimal_unbracketed : (ds : List ℕ) → every (is_digit_in 10) ds ≡ true → every (λ b. not (b == 40)) ds ≡ true
-decimal_unbracketed ds h = every_weaker (is_digit_in 10) (λ b. not (b == 40)) ds (λ d k. let r = digit_byte d k in grind (arith, nat_tests)) h
+decimal_unbracketed ds h =
+    every_weaker (is_digit_in 10) (λ b. not (b == 40)) ds (λ d k. let r = digit_byte d k in grind (arith, nat_tests)) h
 
 unbracketed_decimal : (n : ℕ) → n < 2 ^ 64 → every (λ b. not (b == 40)) (decimal n) ≡ true
 unbracketed_decimal n h = decimal_unbracketed (decimal n) (every_digit 10 (decimal n) (decimal_is_IsNumeral n h).0.1)
@@ -188,7 +197,8 @@ unbracketed_decimal n h = decimal_unbracketed (decimal n) (every_digit 10 (decim
 pub unbracketed_signed : (n : ℕ) → n < 2 ^ 64 → every (λ b. not (b == 40)) (shown_signed n) ≡ true
 unbracketed_signed n h = elim (signed_reading n h) [
   | inl p ↦ subst (λ z. every (λ b. not (b == 40)) (signed_decimal z) ≡ true) (sym p.1) (unbracketed_decimal n h)
-  | inr p ↦ subst (λ z. every (λ b. not (b == 40)) (signed_decimal z) ≡ true) (sym p.1) (unbracketed_decimal (suc (2 ^ 64 - 1 - n)) (omega arith))
+  | inr p ↦ subst (λ z. every (λ b. not (b == 40)) (signed_decimal z) ≡ true) (sym p.1)
+      (unbracketed_decimal (suc (2 ^ 64 - 1 - n)) (omega arith))
 ]
 
 pub short_decimal : (n : ℕ) → n < 2 ^ 64 → length (decimal n) ≤ 20
@@ -197,5 +207,6 @@ short_decimal n h = length-decimal-le 20 n (omega arith) (omega arith) h
 pub short_signed : (n : ℕ) → n < 2 ^ 64 → length (shown_signed n) ≤ 21
 short_signed n h = elim (signed_reading n h) [
   | inl p ↦ subst (λ z. length (signed_decimal z) ≤ 21) (sym p.1) (let k = short_decimal n h in omega arith)
-  | inr p ↦ subst (λ z. length (signed_decimal z) ≤ 21) (sym p.1) (let k = short_decimal (suc (2 ^ 64 - 1 - n)) (omega arith) in omega arith)
+  | inr p ↦ subst (λ z. length (signed_decimal z) ≤ 21) (sym p.1)
+      (let k = short_decimal (suc (2 ^ 64 - 1 - n)) (omega arith) in omega arith)
 ]

@@ -1,5 +1,6 @@
 -- An operand that is shown, read, fills its slot with what the instruction has there.
-use Rattle.std.proofs.Common.{◌≡◌, ℕ, suc, ◌-◌, ◌*◌, ◌/◌, ◌%◌, ◌^◌, ◌<◌, ◌≤◌, inl, inr, Bool, true, false, cond, List, [], ◌∷◌, ◌++◌, Some, refl, sym, ap, subst, ◌∙◌, append_assoc, arith, length, length-append}
+use Rattle.std.proofs.Common.{◌≡◌, ℕ, suc, ◌-◌, ◌*◌, ◌/◌, ◌%◌, ◌^◌, ◌<◌, ◌≤◌, inl, inr, Bool, true, false, cond, List, [], ◌∷◌, ◌++◌, Some}
+use Rattle.std.proofs.Common.{refl, sym, ap, subst, ◌∙◌, append_assoc, arith, length, length-append}
 use Rattle.std.specs.Prelude.{pos, negsuc, neg_ℤ, Ok, nat_lt, decimal, codes}
 use Rattle.std.specs.Int.{w64, cast_signed}
 use Rattle.std.proofs.lemmas.Bool.Decides.{nat_tests}
@@ -8,17 +9,21 @@ use Rattle.isa_rows.specs.Insn.{sign_extended}
 use Rattle.isa_rows.specs.Operands.{IsSignedOf, IsUpperImmediate}
 use Rattle.isa_rows.specs.declared.slots.Naming.{Naming}
 use Rattle.isa_rows.specs.declared.slots.Slot.{Slot}
-use Rattle.isa_rows.specs.declared.slots.Slot.TheVariants.{Rd, Rs1, Rs2, Signed, Unsigned, Upper, Small, Csr, Special, Address, Authority, Target}
+use Rattle.isa_rows.specs.declared.slots.Slot.TheVariants.{Rd, Rs1, Rs2, Signed, Unsigned, Upper, Small, Csr, Special, Address, Authority}
+use Rattle.isa_rows.specs.declared.slots.Slot.TheVariants.{Target}
 use Rattle.asm_lines.specs.Text.{here_name}
 use Rattle.asm_lines.specs.Number.{expression, number_of, expression_of, named_plus, named_minus}
-use Rattle.asm_lines.specs.Operand.{Draft, wrapped, up_to, signed_12, with_rd, with_rs1, with_rs2, with_imm, with_upper, with_small, with_special, with_target, with_address, filled_slot}
+use Rattle.asm_lines.specs.Operand.{Draft, wrapped, up_to, signed_12, with_rd, with_rs1, with_rs2, with_imm, with_upper, with_small}
+use Rattle.asm_lines.specs.Operand.{with_special, with_target, with_address, filled_slot}
 use Rattle.disassembler.specs.Shown.{shown_register, shown_signed, shown_target, shown_slot}
 use Rattle.text_laws.specs.ReadBack.{distance_to}
 use Rattle.text_laws.proofs.Cut.{every, every-append, is_plain, IsPlain}
 use Rattle.disassembler.specs.HexLaws.{order, length_hex_16}
-use Rattle.text_laws.proofs.Numbers.{number_decimal, number_signed, number_short_hex, plain_decimal, plain_signed, plain_short_hex, unbracketed_signed, short_decimal, short_signed, signed_reading, wrapped_signed}
+use Rattle.text_laws.proofs.Numbers.{number_decimal, number_signed, number_short_hex, plain_decimal, plain_signed, plain_short_hex}
+use Rattle.text_laws.proofs.Numbers.{unbracketed_signed, short_decimal, short_signed, signed_reading, wrapped_signed}
 use Rattle.text_laws.proofs.Bracketed.{bracketed, address_filled, authority_filled, expression_plus, expression_minus}
-use Rattle.text_laws.proofs.NamesBack.{register_back, plain_register, short_register, up_to_back, csr_back, plain_csr, short_csr, scr_back, plain_scr, short_scr}
+use Rattle.text_laws.proofs.NamesBack.{register_back, plain_register, short_register, up_to_back, csr_back, plain_csr, short_csr, scr_back}
+use Rattle.text_laws.proofs.NamesBack.{plain_scr, short_scr}
 
 -- what an instruction has in a slot's place is in the slot's range
 abbrev pub SlotFits : Slot → Insn → Type 0
@@ -66,8 +71,11 @@ signed_12_back : (n : ℕ) → IsSignedOf 12 n → signed_12 (Ok (cast_signed w6
 signed_12_back n h =
     let below = signed_range n h in
     elim (signed_reading n below) [
-      | inl p ↦ ap (λ z. signed_12 (Ok z)) p.1 ∙ signed_12_pos n (elim h [ inl q ↦ omega arith | inr q ↦ absurd (omega (arith, p.0, q.0)) ]) ∙ ap Ok (sym p.1)
-      | inr p ↦ ap (λ z. signed_12 (Ok z)) p.1 ∙ signed_12_negsuc (2 ^ 64 - 1 - n) (elim h [ inl q ↦ absurd (omega (arith, p.0, q)) | inr q ↦ omega (arith, q.0, q.1) ]) ∙ ap Ok (sym p.1)
+      | inl p ↦ ap (λ z. signed_12 (Ok z)) p.1 ∙ signed_12_pos n (elim h [ inl q ↦ omega arith | inr q ↦ absurd (omega (arith, p.0, q.0)) ])
+          ∙ ap Ok (sym p.1)
+      | inr p ↦ ap (λ z. signed_12 (Ok z)) p.1
+          ∙ signed_12_negsuc (2 ^ 64 - 1 - n) (elim h [ inl q ↦ absurd (omega (arith, p.0, q)) | inr q ↦ omega (arith, q.0, q.1) ])
+          ∙ ap Ok (sym p.1)
     ]
 
 -- a number of 20 bits in the upper bits, and back
@@ -86,22 +94,27 @@ target_back n h = elim (signed_reading n h) [
   | inl p ↦
       let t : nat_lt n (2 ^ 63) ≡ true = let q = p.0 in grind (arith, nat_tests) in
       ap (λ t. expression_of (cond t (codes ".+" ++ decimal n) (codes ".-" ++ decimal (2 ^ 64 - n)))) t
-      ∙ expression_plus (decimal n) (plain_decimal n h) ∙ ap (named_plus here_name) (number_decimal n h) ∙ ap (λ z. Ok (expression (Some here_name) z)) (sym p.1)
+      ∙ expression_plus (decimal n) (plain_decimal n h) ∙ ap (named_plus here_name) (number_decimal n h)
+      ∙ ap (λ z. Ok (expression (Some here_name) z)) (sym p.1)
   | inr p ↦
       let t : nat_lt n (2 ^ 63) ≡ false = let q = p.0 in grind (arith, nat_tests) in
       let e : 2 ^ 64 - n ≡ suc (2 ^ 64 - 1 - n) = omega arith in
       let q = p.0 in
       ap (λ t. expression_of (cond t (codes ".+" ++ decimal n) (codes ".-" ++ decimal (2 ^ 64 - n)))) t
-      ∙ expression_minus (decimal (2 ^ 64 - n)) (plain_decimal (2 ^ 64 - n) (omega arith)) ∙ ap (named_minus here_name) (number_decimal (2 ^ 64 - n) (omega arith))
+      ∙ expression_minus (decimal (2 ^ 64 - n)) (plain_decimal (2 ^ 64 - n) (omega arith))
+      ∙ ap (named_minus here_name) (number_decimal (2 ^ 64 - n) (omega arith))
       ∙ ap (λ m. Ok (expression (Some here_name) (neg_ℤ (pos m)))) e ∙ ap (λ z. Ok (expression (Some here_name) z)) (sym p.1)
 ]
 
-shown_address : (mode : Bool) (i : Insn) (naming : Naming) → shown_slot mode i (Address naming) ≡ bracketed (shown_signed i.imm) (shown_register mode naming i.rs1)
+shown_address : (mode : Bool) (i : Insn) (naming : Naming)
+    → shown_slot mode i (Address naming) ≡ bracketed (shown_signed i.imm) (shown_register mode naming i.rs1)
 unfolding shown_slot
 shown_address mode i naming =
-    append_assoc (shown_signed i.imm ++ codes "(") (shown_register mode naming i.rs1) (codes ")") ∙ append_assoc (shown_signed i.imm) (codes "(") (shown_register mode naming i.rs1 ++ codes ")")
+    append_assoc (shown_signed i.imm ++ codes "(") (shown_register mode naming i.rs1) (codes ")")
+    ∙ append_assoc (shown_signed i.imm) (codes "(") (shown_register mode naming i.rs1 ++ codes ")")
 
-pub slot_back : (mode : Bool) (i : Insn) (s : Slot) (d : Draft) → SlotFits s i → filled_slot s (shown_slot mode i s) d ≡ Ok (with_slot i s d)
+pub slot_back : (mode : Bool) (i : Insn) (s : Slot) (d : Draft) → SlotFits s i
+    → filled_slot s (shown_slot mode i s) d ≡ Ok (with_slot i s d)
 unfolding filled_slot shown_slot
 slot_back mode i (Rd naming) d h = ap (with_rd d) (register_back mode naming i.rd h)
 slot_back mode i (Rs1 naming) d h = ap (with_rs1 d) (register_back mode naming i.rs1 h)
@@ -110,7 +123,8 @@ slot_back mode i Signed d h =
     ap (λ r. with_imm d (signed_12 r)) (number_signed i.imm (signed_range i.imm h)) ∙ ap (with_imm d) (signed_12_back i.imm h)
     ∙ ap (λ n. Ok (record d { insn = record d.insn { imm = n } })) (wrapped_signed i.imm (signed_range i.imm h))
 slot_back mode i (Unsigned bits) d h =
-    ap (λ r. with_imm d (up_to (2 ^ bits - 1) r)) (number_decimal i.imm h.1) ∙ ap (with_imm d) (up_to_back (2 ^ bits - 1) i.imm (omega (arith, h.0)))
+    ap (λ r. with_imm d (up_to (2 ^ bits - 1) r)) (number_decimal i.imm h.1)
+    ∙ ap (with_imm d) (up_to_back (2 ^ bits - 1) i.imm (omega (arith, h.0)))
     ∙ ap (λ n. Ok (record d { insn = record d.insn { imm = n } })) (wrapped_pos i.imm h.1)
 slot_back mode i Upper d h =
     let n = i.imm / 2 ^ 12 % 2 ^ 20 in
@@ -119,17 +133,22 @@ slot_back mode i Upper d h =
 slot_back mode i Small d h =
     ap (λ r. with_small d (up_to 31 r)) (number_decimal i.rs1 (omega arith)) ∙ ap (with_small d) (up_to_back 31 i.rs1 (omega arith))
     ∙ ap (λ n. Ok (record d { insn = record d.insn { rs1 = n } })) (wrapped_pos i.rs1 (omega arith))
-slot_back mode i Csr d h = ap (with_imm d) (csr_back i.imm h) ∙ ap (λ n. Ok (record d { insn = record d.insn { imm = n } })) (wrapped_pos i.imm (omega arith))
-slot_back mode i Special d h = ap (with_special d) (scr_back i.rs2 h) ∙ ap (λ n. Ok (record d { insn = record d.insn { rs2 = n } })) (wrapped_pos i.rs2 (omega arith))
+slot_back mode i Csr d h = ap (with_imm d) (csr_back i.imm h)
+    ∙ ap (λ n. Ok (record d { insn = record d.insn { imm = n } })) (wrapped_pos i.imm (omega arith))
+slot_back mode i Special d h = ap (with_special d) (scr_back i.rs2 h)
+    ∙ ap (λ n. Ok (record d { insn = record d.insn { rs2 = n } })) (wrapped_pos i.rs2 (omega arith))
 slot_back mode i (Address naming) d h =
     let below = signed_range i.imm h.0 in
     ap (λ x. filled_slot (Address naming) x d) (shown_address mode i naming)
-    ∙ address_filled naming (shown_signed i.imm) (shown_register mode naming i.rs1) d (unbracketed_signed i.imm below) (plain_signed i.imm below) (plain_register mode naming i.rs1 h.1)
+    ∙ address_filled naming (shown_signed i.imm) (shown_register mode naming i.rs1) d (unbracketed_signed i.imm below)
+    (plain_signed i.imm below) (plain_register mode naming i.rs1 h.1)
     ∙ ap (λ o. with_address d o (signed_12 (number_of (shown_signed i.imm)))) (register_back mode naming i.rs1 h.1)
-    ∙ ap (λ r. with_address d (Some i.rs1) (signed_12 r)) (number_signed i.imm below) ∙ ap (with_address d (Some i.rs1)) (signed_12_back i.imm h.0)
+    ∙ ap (λ r. with_address d (Some i.rs1) (signed_12 r)) (number_signed i.imm below)
+    ∙ ap (with_address d (Some i.rs1)) (signed_12_back i.imm h.0)
     ∙ ap (λ n. Ok (record d { insn = record d.insn { rs1 = i.rs1; imm = n } })) (wrapped_signed i.imm below)
 slot_back mode i (Authority naming) d h =
-    authority_filled naming (shown_register mode naming i.rs1) d (plain_register mode naming i.rs1 h) ∙ ap (with_rs1 d) (register_back mode naming i.rs1 h)
+    authority_filled naming (shown_register mode naming i.rs1) d (plain_register mode naming i.rs1 h)
+    ∙ ap (with_rs1 d) (register_back mode naming i.rs1 h)
 slot_back mode i (Target bits) d h = ap (with_target d) (target_back i.imm h)
 
 plain_bracketed : (s r : List ℕ) → every is_plain s ≡ true → IsPlain r → IsPlain (bracketed s r)
@@ -146,10 +165,12 @@ plain_target : (n : ℕ) → n < 2 ^ 64 → IsPlain (shown_target n)
 plain_target n h = elim (order n (2 ^ 63)) [
   | inl l ↦
       let t : nat_lt n (2 ^ 63) ≡ true = grind (arith, nat_tests) in
-      subst (λ t. IsPlain (cond t (codes ".+" ++ decimal n) (codes ".-" ++ decimal (2 ^ 64 - n)))) (sym t) (plain_behind 46 43 (decimal n) refl (plain_decimal n h))
+      subst (λ t. IsPlain (cond t (codes ".+" ++ decimal n) (codes ".-" ++ decimal (2 ^ 64 - n)))) (sym t)
+      (plain_behind 46 43 (decimal n) refl (plain_decimal n h))
   | inr g ↦
       let t : nat_lt n (2 ^ 63) ≡ false = grind (arith, nat_tests) in
-      subst (λ t. IsPlain (cond t (codes ".+" ++ decimal n) (codes ".-" ++ decimal (2 ^ 64 - n)))) (sym t) (plain_behind 46 45 (decimal (2 ^ 64 - n)) refl (plain_decimal (2 ^ 64 - n) (omega arith)))
+      subst (λ t. IsPlain (cond t (codes ".+" ++ decimal n) (codes ".-" ++ decimal (2 ^ 64 - n)))) (sym t)
+      (plain_behind 46 45 (decimal (2 ^ 64 - n)) refl (plain_decimal (2 ^ 64 - n) (omega arith)))
 ]
 
 short_target : (n : ℕ) → n < 2 ^ 64 → length (shown_target n) ≤ 40
@@ -175,7 +196,10 @@ slot_plain mode i Upper h = plain_short_hex (i.imm / 2 ^ 12 % 2 ^ 20) (omega ari
 slot_plain mode i Small h = plain_decimal i.rs1 (omega arith)
 slot_plain mode i Csr h = plain_csr i.imm h
 slot_plain mode i Special h = plain_scr i.rs2 h
-slot_plain mode i (Address naming) h = subst IsPlain (sym (shown_address mode i naming)) (plain_bracketed (shown_signed i.imm) (shown_register mode naming i.rs1) (plain_signed i.imm (signed_range i.imm h.0)).bytes (plain_register mode naming i.rs1 h.1))
+slot_plain mode i (Address naming) h =
+    subst IsPlain (sym (shown_address mode i naming))
+    (plain_bracketed (shown_signed i.imm) (shown_register mode naming i.rs1) (plain_signed i.imm (signed_range i.imm h.0)).bytes
+    (plain_register mode naming i.rs1 h.1))
 slot_plain mode i (Authority naming) h = plain_bracketed [] (shown_register mode naming i.rs1) refl (plain_register mode naming i.rs1 h)
 slot_plain mode i (Target bits) h = plain_target i.imm h
 
@@ -197,6 +221,9 @@ slot_short mode i Small h = longer _ 20 (short_decimal i.rs1 (omega arith)) (ome
 slot_short mode i Csr h = longer _ 18 (short_csr i.imm h) (omega arith)
 slot_short mode i Special h = longer _ 20 (short_scr i.rs2 h) (omega arith)
 slot_short mode i (Address naming) h =
-    subst (λ x. length x ≤ 40) (sym (shown_address mode i naming)) (short_bracketed (shown_signed i.imm) (shown_register mode naming i.rs1) (short_signed i.imm (signed_range i.imm h.0)) (short_register mode naming i.rs1 h.1))
-slot_short mode i (Authority naming) h = short_bracketed [] (shown_register mode naming i.rs1) (omega arith) (short_register mode naming i.rs1 h)
+    subst (λ x. length x ≤ 40) (sym (shown_address mode i naming))
+    (short_bracketed (shown_signed i.imm) (shown_register mode naming i.rs1) (short_signed i.imm (signed_range i.imm h.0))
+    (short_register mode naming i.rs1 h.1))
+slot_short mode i (Authority naming) h =
+    short_bracketed [] (shown_register mode naming i.rs1) (omega arith) (short_register mode naming i.rs1 h)
 slot_short mode i (Target bits) h = short_target i.imm h

@@ -1,5 +1,6 @@
 -- The text of a word, assembled alone, gives the word again.
-use Rattle.std.proofs.Common.{◌≡◌, ℕ, ◌<◌, ◌^◌, Bool, true, false, not, cond, List, [], ◌∷◌, ◌++◌, Option, Some, None, refl, sym, ap, ◌∙◌, arith}
+use Rattle.std.proofs.Common.{◌≡◌, ℕ, ◌<◌, ◌^◌, Bool, true, false, not, cond, List, [], ◌∷◌, ◌++◌, Option, Some, None, refl, sym, ap, ◌∙◌}
+use Rattle.std.proofs.Common.{arith}
 use Rattle.std.specs.Prelude.{ℤ, pos, ◌||◌, is_none, Ok, IfSome}
 use Rattle.std.specs.Int.{w64, cast_signed}
 use Rattle.std.specs.List.{flat_map}
@@ -20,7 +21,8 @@ use Rattle.asm_lines.specs.Statement.{Statement, row, values, is_in_size, expres
 use Rattle.assembler.specs.Places.{lines_of, all_places, opening_places, end_of}
 use Rattle.assembler.specs.Values.{value_of, known_and, any_value, reach_of, has_value_beyond, has_unknown_name, is_out_of_reach}
 use Rattle.assembler.specs.Bytes.{or_zero, insn_bytes, value_bytes, bytes_at, aimed}
-use Rattle.assembler.specs.Faults.{closed, filled, empty_at, opening, line_fault, fault_by, statement_fault, assembled_after}
+use Rattle.assembler.specs.Faults.{closed, filled, empty_at, opening, line_fault, assembled_after}
+use Rattle.assembler.specs.FaultLaws.{fault_by, statement_fault, line_fault-by}
 use Rattle.assembler.specs.Text.{found_or, first_fault, all_assembled, image_of}
 use Rattle.disassembler.specs.Shown.{shown_word}
 use Rattle.text_laws.specs.ReadBack.{has_target, distance_to, statement_of, statement_of_word, sound_line, word_text}
@@ -38,40 +40,47 @@ record IsPlaced (word : ℕ) (s : Statement) : Type 0 where
 row_image : (word : ℕ) (i : Insn) (target : Option Expression) → bytes_at [] ram_base (row i target) ≡ little_bytes 4 word
     → image_of (all_assembled [] opening (sound_line (row i target) ∷ [])) ≡ image_of_word word
 unfolding assembled_after
-row_image word i target e = ap (λ bytes. record { pages = 1; entry = ram_base; mode = false; sections = closed [] (filled (empty_at ram_base) bytes) }) e
+row_image word i target e =
+    ap (λ bytes. record { pages = 1; entry = ram_base; mode = false; sections = closed [] (filled (empty_at ram_base) bytes) }) e
 
 values_image : (word : ℕ) (operands : List ℕ) → bytes_at [] ram_base (values 4 operands) ≡ little_bytes 4 word
     → image_of (all_assembled [] opening (sound_line (values 4 operands) ∷ [])) ≡ image_of_word word
 unfolding assembled_after
-values_image word operands e = ap (λ bytes. record { pages = 1; entry = ram_base; mode = false; sections = closed [] (filled (empty_at ram_base) bytes) }) e
+values_image word operands e =
+    ap (λ bytes. record { pages = 1; entry = ram_base; mode = false; sections = closed [] (filled (empty_at ram_base) bytes) }) e
 
 -- an instruction without a target
 plain_fault : (i : Insn) → line_fault [] opening (sound_line (row i None)) ≡ None
 unfolding fault_by statement_fault has_value_beyond has_unknown_name is_out_of_reach
-plain_fault i = refl
+plain_fault i = line_fault-by [] opening (sound_line (row i None)) ∙ refl
 
 plain_bytes : (word : ℕ) (i : Insn) → word ≡ insn_word i → bytes_at [] ram_base (row i None) ≡ little_bytes 4 word
 unfolding bytes_at insn_bytes
 plain_bytes word i e = ap (little_bytes 4) (sym e)
 
 -- an instruction with one
-target_fault : (i : Insn) (imm : ℕ) → IsNear (reach_of (line_of i.row).format) (cast_signed w64 imm) → line_fault [] opening (sound_line (row i (Some (distance_to imm)))) ≡ None
+target_fault : (i : Insn) (imm : ℕ) → IsNear (reach_of (line_of i.row).format) (cast_signed w64 imm)
+    → line_fault [] opening (sound_line (row i (Some (distance_to imm)))) ≡ None
 unfolding fault_by statement_fault has_value_beyond has_unknown_name is_out_of_reach value_of
-target_fault i imm h = rw (h.in_limits, h.reached) refl
+target_fault i imm h = line_fault-by [] opening (sound_line (row i (Some (distance_to imm)))) ∙ rw (h.in_limits, h.reached) refl
 
-aimed_back : (i : Insn) (imm : ℕ) → wrapped (cast_signed w64 imm) ≡ imm → aimed [] ram_base i (Some (distance_to imm)) ≡ record i { imm = imm }
+aimed_back : (i : Insn) (imm : ℕ) → wrapped (cast_signed w64 imm) ≡ imm
+    → aimed [] ram_base i (Some (distance_to imm)) ≡ record i { imm = imm }
 unfolding value_of
-aimed_back i imm e = ap (λ d. record i { imm = wrapped d }) (back_again (pos ram_base) (cast_signed w64 imm)) ∙ ap (λ n. record i { imm = n }) e
+aimed_back i imm e = ap (λ d. record i { imm = wrapped d }) (back_again (pos ram_base) (cast_signed w64 imm))
+    ∙ ap (λ n. record i { imm = n }) e
 
 target_bytes : (word : ℕ) (i : Insn) → word ≡ insn_word i → wrapped (cast_signed w64 i.imm) ≡ i.imm
     → bytes_at [] ram_base (row (record i { imm = 0 }) (Some (distance_to i.imm))) ≡ little_bytes 4 word
 unfolding bytes_at insn_bytes
-target_bytes word i e back = ap (λ j. little_bytes 4 (insn_word j)) (aimed_back (record i { imm = 0 }) i.imm back) ∙ ap (little_bytes 4) (sym e)
+target_bytes word i e back = ap (λ j. little_bytes 4 (insn_word j)) (aimed_back (record i { imm = 0 }) i.imm back)
+    ∙ ap (little_bytes 4) (sym e)
 
 placed_target : (word : ℕ) (i : Insn) → IsInsn word i → wrapped (cast_signed w64 i.imm) ≡ i.imm → has_target (slots_of i.row) ≡ true
     → IsPlaced word (row (record i { imm = 0 }) (Some (distance_to i.imm)))
 placed_target word i h back t =
-    let near = near_target (line_of i.row).format i (sym (target_format i.row) ∙ t) (OperandsFit-Fits i (record { word = word; is_insn = h })) in
+    let near =
+    near_target (line_of i.row).format i (sym (target_format i.row) ∙ t) (OperandsFit-Fits i (record { word = word; is_insn = h })) in
     record {
       correct = target_fault (record i { imm = 0 }) i.imm near;
       image = row_image word (record i { imm = 0 }) (Some (distance_to i.imm)) (target_bytes word i (insn_word-IsInsn word i h) back);
@@ -79,13 +88,15 @@ placed_target word i h back t =
 
 placed_insn : (word : ℕ) (i : Insn) → IsInsn word i → wrapped (cast_signed w64 i.imm) ≡ i.imm → IsPlaced word (statement_of i)
 placed_insn word i h back =
-    elim (has_target (slots_of i.row)) as (λ t. has_target (slots_of i.row) ≡ t → IsPlaced word (cond t (row (record i { imm = 0 }) (Some (distance_to i.imm))) (row i None))) [
+    elim (has_target (slots_of i.row)) as
+    (λ t. has_target (slots_of i.row) ≡ t → IsPlaced word (cond t (row (record i { imm = 0 }) (Some (distance_to i.imm))) (row i None))) [
       | true ↦ λ t. placed_target word i h back t
       | false ↦ λ _. record { correct = plain_fault i; image = row_image word i None (plain_bytes word i (insn_word-IsInsn word i h)) }
     ] refl
 
 -- a word that is no row
-module _ (word : ℕ) (below : word < 2 ^ 32) (text : List ℕ) (one : pieces_of text ≡ text ∷ []) (value : expression_of text ≡ Ok (expression None (pos word))) where
+module _ (word : ℕ) (below : word < 2 ^ 32) (text : List ℕ) (one : pieces_of text ≡ text ∷ [])
+    (value : expression_of text ≡ Ok (expression None (pos word))) where
   known : value_of [] ram_base (expression_or_nought (expression_of text)) ≡ Some (pos word)
   unfolding value_of
   known = ap (λ e. value_of [] ram_base (expression_or_nought e)) value
@@ -101,7 +112,7 @@ module _ (word : ℕ) (below : word < 2 ^ 32) (text : List ℕ) (one : pieces_of
   word_fault =
       let a = no_value (known_and (λ v. not (is_in_size 4 v))) (ap not in_size) in
       let b = no_value is_none refl in
-      rw (a, b, one) refl
+      line_fault-by [] opening (sound_line (values 4 text)) ∙ rw (a, b, one) refl
 
   word_bytes : bytes_at [] ram_base (values 4 text) ≡ little_bytes 4 word
   unfolding bytes_at value_bytes

@@ -43,20 +43,26 @@ slot_inside : (mode : Bool) (i : Insn) (s : Slot) (ss : List Slot) → SlotsFit 
 slot_inside mode i s ss h = inside_plain (shown_slot mode i s) (slot_plain mode i s h.0).bytes
 
 -- operands behind the first
-others_inside : (mode : Bool) (i : Insn) (ss : List Slot) → SlotsFit ss i → every is_inside (flat_map (λ s. codes ", " ++ shown_slot mode i s) ss) ≡ true
+others_inside : (mode : Bool) (i : Insn) (ss : List Slot) → SlotsFit ss i
+    → every is_inside (flat_map (λ s. codes ", " ++ shown_slot mode i s) ss) ≡ true
 others_inside mode i [] h = refl
 others_inside mode i (s ∷ ss) h =
-    every-append is_inside (44 ∷ 32 ∷ shown_slot mode i s) (flat_map (λ s. codes ", " ++ shown_slot mode i s) ss) (slot_inside mode i s ss h) (others_inside mode i ss h.1)
+    every-append is_inside (44 ∷ 32 ∷ shown_slot mode i s) (flat_map (λ s. codes ", " ++ shown_slot mode i s) ss)
+    (slot_inside mode i s ss h) (others_inside mode i ss h.1)
 
 operands_inside : (mode : Bool) (i : Insn) (ss : List Slot) → SlotsFit ss i → every is_inside (shown_operands mode i ss) ≡ true
 operands_inside mode i [] h = refl
 operands_inside mode i (s ∷ ss) h =
-    every-append is_inside (32 ∷ shown_slot mode i s) (flat_map (λ s. codes ", " ++ shown_slot mode i s) ss) (slot_inside mode i s ss h) (others_inside mode i ss h.1)
+    every-append is_inside (32 ∷ shown_slot mode i s) (flat_map (λ s. codes ", " ++ shown_slot mode i s) ss) (slot_inside mode i s ss h)
+    (others_inside mode i ss h.1)
 
 insn_inside : (mode : Bool) (word : ℕ) (i : Insn) → IsInsn word i → every is_inside (shown_insn mode i) ≡ true
 insn_inside mode word i h =
-    let fit = slots_fit (line_of i.row).format (slots_of i.row) i (row_suits_all i.row).suit (OperandsFit-Fits i (record { word = word; is_insn = h })) in
-    every-append is_inside (mnemonic mode i.row) (shown_operands mode i (slots_of i.row)) (mnemonic_inside mode i.row) (operands_inside mode i (slots_of i.row) fit)
+    let fit =
+    slots_fit (line_of i.row).format (slots_of i.row) i (row_suits_all i.row).suit
+    (OperandsFit-Fits i (record { word = word; is_insn = h })) in
+    every-append is_inside (mnemonic mode i.row) (shown_operands mode i (slots_of i.row)) (mnemonic_inside mode i.row)
+    (operands_inside mode i (slots_of i.row) fit)
 
 word_inside : (word : ℕ) → every is_inside (codes ".word 0x" ++ hex_of 8 word) ≡ true
 word_inside word = inside_plain (word_text word) (plain_word word).bytes

@@ -62,7 +62,8 @@ jump_pos n h e = grind (arith, nat_tests)
 jump_negsuc : (n : ℕ) → n < 1048576 → wrapped (negsuc n) % 2 ≡ 0 → is_reached 1048576 (negsuc n) ≡ true
 jump_negsuc n h e = grind (arith, nat_tests)
 
-near : (reach : ℕ) (distance : ℤ) → is_in_limits (pos ram_base +ℤ distance) ≡ true → is_reached reach distance ≡ true → IsNear reach distance
+near : (reach : ℕ) (distance : ℤ) → is_in_limits (pos ram_base +ℤ distance) ≡ true → is_reached reach distance ≡ true
+    → IsNear reach distance
 near reach distance limits reached =
     record { in_limits = limits; reached = ap (is_reached reach) (back_again (pos ram_base) distance) ∙ reached }
 
@@ -80,7 +81,9 @@ near_branch n h =
           subst (IsNear 4096) (sym p.1) (near 4096 (pos n) (limits_pos n (omega arith)) (branch_pos n small (rw p.1 at two)))
       | inr p ↦
           let small : 2 ^ 64 - 1 - n < 4096 = elim h.1 [ inl q ↦ absurd (omega (arith, p.0, q)) | inr q ↦ omega (arith, q.0, q.1) ] in
-          subst (IsNear 4096) (sym p.1) (near 4096 (negsuc (2 ^ 64 - 1 - n)) (limits_negsuc (2 ^ 64 - 1 - n) (omega arith)) (branch_negsuc (2 ^ 64 - 1 - n) small (rw p.1 at two)))
+          subst (IsNear 4096) (sym p.1)
+          (near 4096 (negsuc (2 ^ 64 - 1 - n)) (limits_negsuc (2 ^ 64 - 1 - n) (omega arith))
+          (branch_negsuc (2 ^ 64 - 1 - n) small (rw p.1 at two)))
     ]
 
 near_jump : (n : ℕ) → IsJumpOffset n → IsNear 1048576 (cast_signed w64 n)
@@ -93,7 +96,9 @@ near_jump n h =
           subst (IsNear 1048576) (sym p.1) (near 1048576 (pos n) (limits_pos n (omega arith)) (jump_pos n small (rw p.1 at two)))
       | inr p ↦
           let small : 2 ^ 64 - 1 - n < 1048576 = elim h.1 [ inl q ↦ absurd (omega (arith, p.0, q)) | inr q ↦ omega (arith, q.0, q.1) ] in
-          subst (IsNear 1048576) (sym p.1) (near 1048576 (negsuc (2 ^ 64 - 1 - n)) (limits_negsuc (2 ^ 64 - 1 - n) (omega arith)) (jump_negsuc (2 ^ 64 - 1 - n) small (rw p.1 at two)))
+          subst (IsNear 1048576) (sym p.1)
+          (near 1048576 (negsuc (2 ^ 64 - 1 - n)) (limits_negsuc (2 ^ 64 - 1 - n) (omega arith))
+          (jump_negsuc (2 ^ 64 - 1 - n) small (rw p.1 at two)))
     ]
 
 -- the distance of an instruction whose format has one

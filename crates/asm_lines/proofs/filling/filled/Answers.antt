@@ -28,7 +28,8 @@ returns-in-None-clause-fault c =
 pub returns-in-Some-rest-clause-fault : goal.returns-in-Some-rest-clause-fault
 returns-in-Some-rest-clause-fault c =
     c.told_fault-in-Some-rest.ensures
-    ∙ fault_of_more c.args.slots.now c.loop-slot.slot-index (seen_rest c.loop-slot.rest) c.in-Some-rest.field-0.now c.loop-slot.fault _ (seen_draft c.loop-slot.draft)
+    ∙ fault_of_more c.args.slots.now c.loop-slot.slot-index (seen_rest c.loop-slot.rest) c.in-Some-rest.field-0.now c.loop-slot.fault _
+    (seen_draft c.loop-slot.draft)
     (omega arith) (rw c.in-Some-rest.is refl) c.loop-slot.invariant.1
 
 pub loop-slot-preserved : goal.loop-slot-preserved
@@ -41,5 +42,9 @@ loop-slot-preserved c =
     let one = draft_step c.args.slots.now i (Rd Integer) p ps d (omega arith) in
     let other = fault_step c.args.slots.now i (Rd Integer) p ps d (omega arith) in
     let turn = told_in_turn c.loop-slot.fault (fault_of (filled_slot (get_or c.args.slots.now i (Rd Integer)) p d))
-    (filled_fault (drop (i + 1) c.args.slots.now) ps (seen_draft c.after_operand.result.0)) in
-    (cc (c.after_operand.ensures.draft, c.split_piece.ensures.pieces), cc (c.after_operand.ensures.draft, c.after_operand.ensures.fault, c.split_piece.ensures.pieces), c.after_operand.ensures.offset)
+    (filled_fault (drop (i + 1) c.args.slots.now) ps (seen_draft c.after_operand.result.0)) in (
+      cc (c.after_operand.ensures.draft, c.split_piece.ensures.pieces),
+      cc
+          (c.after_operand.ensures.draft, c.after_operand.ensures.fault, c.split_piece.ensures.pieces),
+      c.after_operand.ensures.offset,
+    )

@@ -6,4 +6,5 @@ use Rattle.assembler.proofs.blocks.insert.Goals as goal
 pub returns : goal.returns
 returns c =
     inserted-at c.args.block c.args.done.now.items _ c.address.result _ c.address.ensures
-    (c.rank-rank.ensures.value ∙ ap (position_or_len (λ t. nat_lt c.address.result t.address)) c.deref.ensures.value) c.in_ok-insert.ensures.items
+    (c.rank-rank.ensures.value
+    ∙ ap (position_or_len (λ t. nat_lt c.address.result t.address)) c.deref.ensures.value) c.in_ok-insert.ensures.items

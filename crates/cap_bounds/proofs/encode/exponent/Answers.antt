@@ -10,7 +10,8 @@ loop-e-preserved c = record {
 
 pub returns-else-length-power-clause-value : goal.returns-else-length-power-clause-value
 returns-else-length-power-clause-value c =
-    sym (exponent_for-is c.args.length c.loop-e.e c.loop-e.invariant.in_range c.loop-e.invariant.too_small (λ _. omega (arith, c.power.ensures.value)))
+    sym (exponent_for-is c.args.length c.loop-e.e c.loop-e.invariant.in_range c.loop-e.invariant.too_small
+    (λ _. omega (arith, c.power.ensures.value)))
 
 pub returns-after-loop-e-clause-value : goal.returns-after-loop-e-clause-value
 returns-after-loop-e-clause-value c =

@@ -8,4 +8,5 @@ returns-else-granules_spanned-ge1024-clause-value c =
 
 pub returns-after-loop-e-clause-value : goal.returns-after-loop-e-clause-value
 returns-after-loop-e-clause-value c =
-    sym (rounding_exponent-is c.args.base c.args.top c.loop-e.e c.loop-e.invariant.in_range c.loop-e.invariant.too_small (λ below. absurd (omega arith)))
+    sym (rounding_exponent-is c.args.base c.args.top c.loop-e.e c.loop-e.invariant.in_range c.loop-e.invariant.too_small
+    (λ below. absurd (omega arith)))

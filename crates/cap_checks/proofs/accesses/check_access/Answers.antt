@@ -5,7 +5,8 @@ use Rattle.cap_checks.specs.FirstFault.{access_fault}
 use Rattle.cap_checks.proofs.accesses.check_access.Goals as goal
 
 -- a check that passed had a true condition
-passed : (condition : Bool) (fault : Fault) (result : Result (Unit {0}) Fault) (unit : Unit {0}) → result ≡ (if condition then Ok tt else Err fault) → result ≡ Ok unit → condition ≡ true
+passed : (condition : Bool) (fault : Fault) (result : Result (Unit {0}) Fault) (unit : Unit {0})
+    → result ≡ (if condition then Ok tt else Err fault) → result ≡ Ok unit → condition ≡ true
 passed true fault result unit is was = refl
 passed false fault result unit is was = cc
 

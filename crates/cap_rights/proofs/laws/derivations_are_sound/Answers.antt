@@ -1,4 +1,5 @@
-use Rattle.cap_rights.specs.DerivationLaws.{IsSound-and_perms, IsSound-set_flags, IsSound-seal, IsSound-unseal, IsSound-seal_entry, IsSound-opened}
+use Rattle.cap_rights.specs.DerivationLaws.{IsSound-and_perms, IsSound-set_flags, IsSound-seal, IsSound-unseal, IsSound-seal_entry}
+use Rattle.cap_rights.specs.DerivationLaws.{IsSound-opened}
 use Rattle.cap_rights.proofs.laws.derivations_are_sound.Goals as goal
 
 pub returns-clause-fewer_permissions : goal.returns-clause-fewer_permissions

@@ -9,8 +9,10 @@ loop-left-preserved g c =
     let e = c.args.event in
     let first = one_of_many l.left e (omega arith) in
     record {
-      state = state_goes_on (replicate l.left e) e (replicate (l.left - 1) e) first l.machine c.event-out.new.self c.event-out.ensures.state _ l.invariant.state;
-      bytes = bytes_go_on (replicate l.left e) e (replicate (l.left - 1) e) first l.machine c.event-out.new.self c.event-out.ensures.state _ l.sent.items _
+      state = state_goes_on (replicate l.left e) e
+          (replicate (l.left - 1) e) first l.machine c.event-out.new.self c.event-out.ensures.state _ l.invariant.state;
+      bytes = bytes_go_on (replicate l.left e) e
+          (replicate (l.left - 1) e) first l.machine c.event-out.new.self c.event-out.ensures.state _ l.sent.items _
           (c.emit.ensures.items ∙ ap (λ b. l.sent.items ++ option_to_list b) c.event-out.ensures.byte) l.invariant.bytes;
       len = omega arith;
       room = omega arith;

@@ -7,7 +7,8 @@ use Rattle.debugger.proofs.run.repeat.Given as goal
 abbrev pub invariant-loop-left : goal.invariant-loop-left
 invariant-loop-left g l = record {
   state : run_after (replicate l.left l.event) l.machine ≡ run_after (replicate l.times l.event) l.fn.machine;
-  bytes : l.sent.items ++ run_sent (replicate l.left l.event) l.machine ≡ l.fn.sent.items ++ run_sent (replicate l.times l.event) l.fn.machine;
+  bytes : l.sent.items ++ run_sent (replicate l.left l.event) l.machine ≡ l.fn.sent.items
+      ++ run_sent (replicate l.times l.event) l.fn.machine;
   len : vec_len l.sent + l.left ≤ vec_len l.fn.sent + l.times;
   room : vec_len l.sent + l.left ≤ vec_capacity l.sent;
 }

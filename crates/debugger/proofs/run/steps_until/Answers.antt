@@ -16,8 +16,10 @@ loop-machine-preserved g c =
     let some = some_step a l.left l.machine more in
     let first = one_step a l.left l.machine m c.event-out.ensures.state more in
     record {
-      state = state_goes_on (steps_until a l.left l.machine) Step (steps_until a (l.left - 1) m) first l.machine m c.event-out.ensures.state _ l.invariant.state;
-      bytes = bytes_go_on (steps_until a l.left l.machine) Step (steps_until a (l.left - 1) m) first l.machine m c.event-out.ensures.state _ l.sent.items _
+      state = state_goes_on (steps_until a l.left l.machine) Step
+          (steps_until a (l.left - 1) m) first l.machine m c.event-out.ensures.state _ l.invariant.state;
+      bytes = bytes_go_on (steps_until a l.left l.machine) Step
+          (steps_until a (l.left - 1) m) first l.machine m c.event-out.ensures.state _ l.sent.items _
           (c.emit.ensures.items ∙ ap (λ b. l.sent.items ++ option_to_list b) c.event-out.ensures.byte) l.invariant.bytes;
       count = omega (arith, some, l.invariant.below, l.invariant.count, ap length first);
       below = omega (arith, l.invariant.below);

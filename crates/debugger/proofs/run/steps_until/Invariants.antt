@@ -7,7 +7,8 @@ use Rattle.debugger.proofs.run.steps_until.Given as goal
 abbrev pub invariant-loop-machine : goal.invariant-loop-machine
 invariant-loop-machine g l = record {
   state : run_after (steps_until l.address l.left l.machine) l.machine ≡ run_after (steps_until l.address l.most l.fn.machine) l.fn.machine;
-  bytes : l.sent.items ++ run_sent (steps_until l.address l.left l.machine) l.machine ≡ l.fn.sent.items ++ run_sent (steps_until l.address l.most l.fn.machine) l.fn.machine;
+  bytes : l.sent.items ++ run_sent (steps_until l.address l.left l.machine) l.machine ≡ l.fn.sent.items
+      ++ run_sent (steps_until l.address l.most l.fn.machine) l.fn.machine;
   count : length (steps_until l.address l.left l.machine) + (l.most - l.left) ≡ length (steps_until l.address l.most l.fn.machine);
   below : l.left ≤ l.most;
   len : vec_len l.sent + l.left ≤ vec_len l.fn.sent + l.most;

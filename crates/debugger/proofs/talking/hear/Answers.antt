@@ -30,7 +30,8 @@ pub returns-in_err-answer_line-clause-err : goal.returns-in_err-answer_line-clau
 returns-in_err-answer_line-clause-err g c =
     let p = err_from_is_err_and c.from_residual-in_err-answer_line.result c.from_residual-in_err-answer_line.ensures.1 in
     let next = feed _ _ c.in-Some.byte c.if-byte-eq10.true (rw c.in-Some.is at c.in_ok-byte.ensures.ok) in
-    rw (p.1, p.2) (cut_at_feed _ _ _ _ _ _ _ _ c.loop.invariant.heard _ next _ _ _ (rw c.as_slice.ensures.value at c.in_err-answer_line.ensures.err))
+    rw (p.1, p.2)
+    (cut_at_feed _ _ _ _ _ _ _ _ c.loop.invariant.heard _ next _ _ _ (rw c.as_slice.ensures.value at c.in_err-answer_line.ensures.err))
 
 pub returns-then-branch-clause-ok : goal.returns-then-branch-clause-ok
 returns-then-branch-clause-ok g c =
@@ -47,7 +48,8 @@ loop-preserved g c =
     elim c.if-byte-eq10.branch [
       | else-byte-eq10 w ↦
           rw (w.session-is, w.sink-is, w.line-is) (record {
-            heard = heard_byte _ _ _ _ _ _ _ _ c.loop.invariant.heard _ c.in-Some.byte next _ (not_feed c.in-Some.byte w.if-byte-eq10.false) w.keep.ensures;
+            heard = heard_byte _ _ _ _ _ _ _ _ c.loop.invariant.heard _ c.in-Some.byte next _
+                (not_feed c.in-Some.byte w.if-byte-eq10.false) w.keep.ensures;
             reads = reads;
             writes = c.loop.invariant.writes;
           })
@@ -56,7 +58,8 @@ loop-preserved g c =
           let answered = w.in_ok-answer_line.ensures in
           rw (w.session-is, w.sink-is, w.line-is) (record {
             heard =
-                heard_line _ _ _ _ _ _ _ _ c.loop.invariant.heard _ (feed _ _ c.in-Some.byte w.if-byte-eq10.true next) _ _ (rw same at answered.state) (rw same at answered.text) _
+                heard_line _ _ _ _ _ _ _ _ c.loop.invariant.heard _ (feed _ _ c.in-Some.byte w.if-byte-eq10.true next) _ _
+                (rw same at answered.state) (rw same at answered.text) _
                 (sym (rw same at answered.last) ∙ w.if-branch.false) (search rules);
             reads = reads;
             writes = answered.count ∙ c.loop.invariant.writes;

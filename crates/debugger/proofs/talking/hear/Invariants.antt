@@ -5,7 +5,8 @@ use Rattle.debugger.proofs.talking.hear.Given as goal
 -- so many bytes were heard, and no call has failed
 abbrev pub invariant-loop : goal.invariant-loop
 invariant-loop g l = record {
-  heard : IsHeard l.counter l.line.items l.initial.session l.session (g.R.Source.left l.initial.source) (g.R.Source.left l.source) (g.W.Sink.held l.initial.sink) (g.W.Sink.held l.sink);
+  heard : IsHeard l.counter l.line.items l.initial.session l.session (g.R.Source.left l.initial.source) (g.R.Source.left l.source)
+      (g.W.Sink.held l.initial.sink) (g.W.Sink.held l.sink);
   reads : g.R.Source.failed l.source ≡ g.R.Source.failed l.initial.source;
   writes : g.W.Sink.failed l.sink ≡ g.W.Sink.failed l.initial.sink;
 }

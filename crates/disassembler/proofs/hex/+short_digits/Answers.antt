@@ -8,5 +8,6 @@ pub returns-else-n-lt16-clause-length : goal.returns-else-n-lt16-clause-length
 returns-else-n-lt16-clause-length t c =
     let n = c.args.n in
     let e : c.extended-else-n-lt16.result.bytes ≡ digits 16 false n =
-    c.extended-else-n-lt16.ensures.text ∙ ap (λ x. x ++ digit_glyph false (n % 16) ∷ []) c.short_digits.ensures.text ∙ sym (hex_step n (omega arith) (omega arith)) in
+    c.extended-else-n-lt16.ensures.text ∙ ap (λ x. x ++ digit_glyph false (n % 16) ∷ []) c.short_digits.ensures.text
+    ∙ sym (hex_step n (omega arith) (omega arith)) in
     omega (arith, ap length e, length_hex_16 n (omega arith))

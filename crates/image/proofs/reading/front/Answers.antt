@@ -22,7 +22,8 @@ returns-in_err-sections-clause-part g c =
     let h = c.in_ok-header.header in
     rw (p.1, p.2)
     (Stopped-then header_at with_sections _ _ _ h _
-    c.in_ok-header.ensures.part (Stopped-first (sections_at h.pages h.count 0) (λ sections rest. Ok (made h sections, rest)) _ _ _ c.in_err-sections.ensures.part))
+    c.in_ok-header.ensures.part
+    (Stopped-first (sections_at h.pages h.count 0) (λ sections rest. Ok (made h sections, rest)) _ _ _ c.in_err-sections.ensures.part))
 
 pub new-requires : goal.new-requires
 new-requires g c =
@@ -36,4 +37,6 @@ unfolding image_at
 returns-clause-part g c =
     let h = c.in_ok-header.header in
     Got-then header_at with_sections _ _ _ h c.new.result
-    c.in_ok-header.ensures.part (Got-seen (sections_at h.pages h.count 0) (made h) _ _ c.in_ok-sections.sections.items c.new.result c.new.ensures c.in_ok-sections.ensures.part)
+    c.in_ok-header.ensures.part
+    (Got-seen (sections_at h.pages h.count 0)
+    (made h) _ _ c.in_ok-sections.sections.items c.new.result c.new.ensures c.in_ok-sections.ensures.part)

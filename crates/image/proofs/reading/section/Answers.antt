@@ -15,7 +15,8 @@ placed span body = record { address = span.address; bytes = body }
 abbrev with_body : Span → List ℕ → Result (Section × List ℕ) ImageFault
 with_body span rest = taken span.size L8 rest >>= λ body. Ok (placed span body.0, body.1)
 
-section_is : (s : Section) (address : ℕ) (bytes : List ℕ) → s.address ≡ address → s.bytes ≡ bytes → s ≡ record { address = address; bytes = bytes }
+section_is : (s : Section) (address : ℕ) (bytes : List ℕ) → s.address ≡ address → s.bytes ≡ bytes
+    → s ≡ record { address = address; bytes = bytes }
 section_is s address bytes p q = λ i. record { address = p i; bytes = q i }
 
 pub returns-in_err-bytes-clause-part : goal.returns-in_err-bytes-clause-part
@@ -25,7 +26,8 @@ returns-in_err-bytes-clause-part g c =
     let span = c.in_ok-span.span in
     rw (p.1, p.2)
     (Stopped-then (span_at c.args.pages c.args.free) with_body _ _ _ span _
-    c.in_ok-span.ensures.part (Stopped-first (taken span.size L8) (λ body rest. Ok (placed span body, rest)) _ _ _ c.in_err-bytes.ensures.part))
+    c.in_ok-span.ensures.part
+    (Stopped-first (taken span.size L8) (λ body rest. Ok (placed span body, rest)) _ _ _ c.in_err-bytes.ensures.part))
 
 pub returns-clause-part : goal.returns-clause-part
 unfolding section_at
@@ -33,4 +35,5 @@ returns-clause-part g c =
     let span = c.in_ok-span.span in
     let made : c.new.result ≡ placed span c.in_ok-bytes.bytes.items = section_is _ _ _ c.new.ensures.address c.new.ensures.bytes in
     Got-then (span_at c.args.pages c.args.free) with_body _ _ _ span c.new.result
-    c.in_ok-span.ensures.part (Got-seen (taken span.size L8) (placed span) _ _ c.in_ok-bytes.bytes.items c.new.result made c.in_ok-bytes.ensures.part)
+    c.in_ok-span.ensures.part
+    (Got-seen (taken span.size L8) (placed span) _ _ c.in_ok-bytes.bytes.items c.new.result made c.in_ok-bytes.ensures.part)

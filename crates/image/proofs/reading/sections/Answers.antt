@@ -13,17 +13,25 @@ loop-init g c = record {
 pub returns-in_err-section-clause-part : goal.returns-in_err-section-clause-part
 returns-in_err-section-clause-part g c =
     let p = err_from_is_err_and c.from_residual.result c.from_residual.ensures.1 in
-    rw (p.1, p.2) (Goes-stops c.args.pages c.args.count (c.args.count - c.loop.counter) (c.args.count - (c.loop.counter + 1)) c.loop.free c.loop.sections.items _ _ _ _ (omega arith) c.loop.invariant.read c.in_err-section.ensures.part)
+    rw (p.1, p.2)
+    (Goes-stops c.args.pages c.args.count (c.args.count - c.loop.counter)
+    (c.args.count - (c.loop.counter + 1)) c.loop.free c.loop.sections.items _ _ _ _
+    (omega arith) c.loop.invariant.read c.in_err-section.ensures.part)
 
 pub loop-preserved : goal.loop-preserved
 loop-preserved g c = record {
   count = search rules;
   read = rw c.in_ok-push.ensures.items
-      (Goes-on c.args.pages c.args.count (c.args.count - c.loop.counter) (c.args.count - (c.loop.counter + 1)) c.loop.free _ c.loop.sections.items c.in_ok-section.section _ _ _ (omega arith) (ap (λ n. n + length c.bytes.result.now) c.address.ensures ∙ ap (λ (b : List ℕ). c.in_ok-section.section.address + length b) c.bytes.ensures) c.loop.invariant.read c.in_ok-section.ensures.part);
+      (Goes-on c.args.pages c.args.count (c.args.count - c.loop.counter)
+      (c.args.count - (c.loop.counter + 1)) c.loop.free _ c.loop.sections.items c.in_ok-section.section _ _ _ (omega arith)
+      (ap (λ n. n + length c.bytes.result.now) c.address.ensures
+      ∙ ap (λ (b : List ℕ). c.in_ok-section.section.address + length b) c.bytes.ensures) c.loop.invariant.read c.in_ok-section.ensures.part);
 }
 
 pub returns-clause-part : goal.returns-clause-part
-returns-clause-part g c = Goes-ends c.args.pages c.args.count (c.args.count - c.loop.counter) c.loop.free c.loop.sections.items _ _ (omega arith) c.loop.invariant.read
+returns-clause-part g c =
+    Goes-ends c.args.pages c.args.count (c.args.count - c.loop.counter) c.loop.free c.loop.sections.items _ _
+    (omega arith) c.loop.invariant.read
 
 pub returns-in_err-push-clause-part : goal.returns-in_err-push-clause-part
 returns-in_err-push-clause-part g c =

@@ -10,7 +10,8 @@ use Rattle.image.proofs.reading.span.Goals as goal
 -- what the 16 bytes say
 abbrev said : ℕ → ℕ → List ℕ → Result Span ImageFault
 said pages free front =
-    unless (span_fault pages free (number_at 0 8 front) (number_at 8 8 front)) (record { address = number_at 0 8 front; size = number_at 8 8 front })
+    unless (span_fault pages free (number_at 0 8 front) (number_at 8 8 front))
+    (record { address = number_at 0 8 front; size = number_at 8 8 front })
 
 pub returns-clause-part : goal.returns-clause-part
 unfolding span_at

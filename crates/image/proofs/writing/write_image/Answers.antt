@@ -12,4 +12,6 @@ returns-clause-err g c =
     let i = c.args.image.now in
     let header = header_bytes i.pages i.entry (length i.sections) (mode_number i.mode) in
     let first = rw c.header_of.ensures at c.in_ok-write_all.ensures.ok in
-    on_err_weaker c.write_sections.result (λ second. beginning_after _ _ _ header (flat_map section_bytes i.sections) first (rw c.sections.ensures.value at second)) c.write_sections.ensures.err
+    on_err_weaker c.write_sections.result
+    (λ second. beginning_after _ _ _ header (flat_map section_bytes i.sections) first
+    (rw c.sections.ensures.value at second)) c.write_sections.ensures.err

@@ -16,10 +16,14 @@ pub returns-clause-ok : goal.returns-clause-ok
 returns-clause-ok g c =
     let s = c.args.section.now in
     let first = rw c.span_of.ensures at c.in_ok-write_all.ensures.ok in
-    on_ok_weaker c.write_all-2.result (λ second. Appends-trans _ _ _ (span_bytes s.address (length s.bytes)) s.bytes first (rw c.bytes.ensures at second)) c.write_all-2.ensures.ok
+    on_ok_weaker c.write_all-2.result
+    (λ second. Appends-trans _ _ _ (span_bytes s.address (length s.bytes)) s.bytes first
+    (rw c.bytes.ensures at second)) c.write_all-2.ensures.ok
 
 pub returns-clause-err : goal.returns-clause-err
 returns-clause-err g c =
     let s = c.args.section.now in
     let first = rw c.span_of.ensures at c.in_ok-write_all.ensures.ok in
-    on_err_weaker c.write_all-2.result (λ second. beginning_after _ _ _ (span_bytes s.address (length s.bytes)) s.bytes first (rw c.bytes.ensures at second)) c.write_all-2.ensures.err
+    on_err_weaker c.write_all-2.result
+    (λ second. beginning_after _ _ _ (span_bytes s.address (length s.bytes)) s.bytes first
+    (rw c.bytes.ensures at second)) c.write_all-2.ensures.err

@@ -16,4 +16,5 @@ returns-in_err-write_section-clause-err g c =
     let here = beginning_after _ _ _ before (section_bytes s) c.loop-section.invariant.written c.in_err-write_section.ensures.err in
     let found : get_or ss i s ≡ s = sym c.section-item.is in
     let whole = rw found at (cut_at section_bytes ss i s c.loop-section-test.true) in
-    rw p.1 (subst (AppendsBeginning _ _) whole (beginning_more _ _ (before ++ section_bytes s) (flat_map section_bytes (drop (suc i) ss)) here))
+    rw p.1 (subst (AppendsBeginning _ _) whole
+    (beginning_more _ _ (before ++ section_bytes s) (flat_map section_bytes (drop (suc i) ss)) here))

@@ -47,6 +47,7 @@ loop-section-preserved g c = record {
       let found : get_or image.sections k s ≡ s = sym is in
       let line = rw c.mode.ensures.value at c.in_ok-list_section.ensures.ok in
       let more = rw found at (next_item f image.sections k s below) in
-      rw (add-one k) (subst (Appends _ _) more (Appends-trans _ _ _ (flat_map f (take k image.sections)) (f s) c.loop-section.invariant.written line));
+      rw (add-one k)
+      (subst (Appends _ _) more (Appends-trans _ _ _ (flat_map f (take k image.sections)) (f s) c.loop-section.invariant.written line));
   count = search rules;
 }

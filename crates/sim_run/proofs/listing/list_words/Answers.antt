@@ -18,7 +18,15 @@ returns-in_err-write_all-clause-err g c =
     let a = c.args.address in
     let bs = c.args.bytes.now in
     let fits : 4 * i + 4 ≤ length bs = omega (arith, c.loop-index-test.true) in
-    let line = rw (c.as_bytes.ensures.value, c.deref.ensures.0, c.word_line-line.ensures, c.read_u32-word.ensures, to_the_end (4 * i) bs) at c.in_err-write_all.ensures.err in
+    let line =
+    rw (
+      c.as_bytes.ensures.value,
+      c.deref.ensures.0,
+      c.word_line-line.ensures,
+      c.read_u32-word.ensures,
+      to_the_end
+          (4 * i) bs,
+    ) at c.in_err-write_all.ensures.err in
     let here = beginning_after _ _ _ (lines_from m a (take (4 * i) bs)) (word_line m (a + 4 * i) (little_number 4 (drop (4 * i) bs)))
     c.loop-index.invariant.written line in
     let so_far = subst (AppendsBeginning _ _) (next_word m a i bs fits) here in
@@ -32,7 +40,15 @@ loop-index-preserved g c = record {
       let a = c.args.address in
       let bs = c.args.bytes.now in
       let fits : 4 * i + 4 ≤ length bs = omega (arith, c.loop-index-test.true) in
-      let line = rw (c.as_bytes.ensures.value, c.deref.ensures.0, c.word_line-line.ensures, c.read_u32-word.ensures, to_the_end (4 * i) bs) at c.in_ok-write_all.ensures.ok in
+      let line =
+      rw (
+        c.as_bytes.ensures.value,
+        c.deref.ensures.0,
+        c.word_line-line.ensures,
+        c.read_u32-word.ensures,
+        to_the_end
+            (4 * i) bs,
+      ) at c.in_ok-write_all.ensures.ok in
       rw (add-one i) (subst (Appends _ _) (next_word m a i bs fits) (Appends-trans _ _ _ _ _ c.loop-index.invariant.written line));
   count = search rules;
 }

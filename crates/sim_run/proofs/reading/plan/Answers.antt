@@ -27,4 +27,5 @@ returns-in-Some-clause-taken c = no_fault _ _ c.in_ok-command.ensures (c.in-Ok.e
 
 pub returns-in-Err-clause-err : goal.returns-in-Err-clause-err
 returns-in-Err-clause-err c = λ taken fits.
-    c.fault_of.ensures (only_memory _ _ c.in-Err.error c.in_ok-command.ensures taken (c.in-Err.ensures.kinds (is_free _ c.in_ok-command.ensures)))
+    c.fault_of.ensures
+    (only_memory _ _ c.in-Err.error c.in_ok-command.ensures taken (c.in-Err.ensures.kinds (is_free _ c.in_ok-command.ensures)))

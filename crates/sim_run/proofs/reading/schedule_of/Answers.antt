@@ -12,4 +12,5 @@ returns-in_err-number-2-clause-none c =
 
 pub returns-in_err-number-3-clause-none : goal.returns-in_err-number-3-clause-none
 returns-in_err-number-3-clause-none c =
-    if_none c.from_residual-in_err-number-3.result _ (λ s of range. c.in_err-number-3.ensures.none s.tick (omega (arith, range.tick)) of.tick)
+    if_none c.from_residual-in_err-number-3.result _
+    (λ s of range. c.in_err-number-3.ensures.none s.tick (omega (arith, range.tick)) of.tick)

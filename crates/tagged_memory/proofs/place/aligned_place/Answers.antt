@@ -9,10 +9,12 @@ use Rattle.tagged_memory.proofs.place.aligned_place.Goals as goal
 pub returns-then-not-is_aligned-clause-value : goal.returns-then-not-is_aligned-clause-value
 returns-then-not-is_aligned-clause-value c =
     let test : eqb (c.args.address % c.args.size) 0 ≡ false = cc in
-    sym (ap (λ f. unless f (c.args.address - ram_base)) (access_fault-misaligned (memory_of c.args.bytes.now []) c.args.address c.args.size (eqb-false _ _ test)))
+    sym (ap (λ f. unless f (c.args.address - ram_base))
+    (access_fault-misaligned (memory_of c.args.bytes.now []) c.args.address c.args.size (eqb-false _ _ test)))
 
 pub returns-clause-value : goal.returns-clause-value
 returns-clause-value c =
     let test : eqb (c.args.address % c.args.size) 0 ≡ true = cc in
     c.ram_place.ensures.value
-    ∙ sym (ap (λ f. unless f (c.args.address - ram_base)) (access_fault-aligned (memory_of c.args.bytes.now []) c.args.address c.args.size (eqb-true _ _ test)))
+    ∙ sym (ap (λ f. unless f (c.args.address - ram_base))
+    (access_fault-aligned (memory_of c.args.bytes.now []) c.args.address c.args.size (eqb-true _ _ test)))

@@ -19,5 +19,6 @@ returns-then-place-bytes-clause-value c =
 pub returns-clause-value : goal.returns-clause-value
 returns-clause-value c =
     let m = memory_of c.args.bytes.now [] in
-    let given : fill_fault m c.args.address c.args.size ≡ None = fill_fault-inside m c.args.address c.args.size (omega arith) (omega arith) in
+    let given : fill_fault m c.args.address c.args.size ≡ None =
+    fill_fault-inside m c.args.address c.args.size (omega arith) (omega arith) in
     ap Ok (omega arith) ∙ sym (ap (λ f. unless f (c.args.address - ram_base)) given)

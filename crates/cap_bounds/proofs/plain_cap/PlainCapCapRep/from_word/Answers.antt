@@ -7,7 +7,10 @@ pub invariant_of-result : goal.invariant_of-result
 unfolding decoded
 invariant_of-result c =
     let w : IsWordWellFormed c.args.word = c.requires c.if-tag.true in
-    record { well_formed = rw (c.base.ensures, c.top.ensures.value, c.address.ensures, c.perms.ensures, c.flag.ensures, c.otype.ensures) w.decodes }
+    record {
+      well_formed = rw
+          (c.base.ensures, c.top.ensures.value, c.address.ensures, c.perms.ensures, c.flag.ensures, c.otype.ensures) w.decodes;
+    }
 
 pub returns-then-tag : goal.returns-then-tag
 unfolding decoded

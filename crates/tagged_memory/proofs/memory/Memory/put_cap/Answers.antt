@@ -18,7 +18,9 @@ returns-clause-value c =
     let room : length c.args.self.now.bytes ≡ length bytes.items = sym (ap (λ m. length m.bytes) c.self.view_is) in
     let fits : p + 16 ≤ length bytes.items = omega (arith, place.within) in
     let inside : p / 16 < length tags = omega (arith, fits, c.self.invariant.whole_pages, c.self.invariant.tag_each) in
-    ap (λ xs. memory_of xs (set tags (p / 16) c.args.tag)) (stored bytes c.deref_mut.result.now c.write_word.new.bytes p 16 (memory_bytes c.args.word) c.deref_mut.ensures.value bytes.ok.0 refl fits c.write_word.ensures)
+    ap (λ xs. memory_of xs (set tags (p / 16) c.args.tag))
+    (stored bytes c.deref_mut.result.now c.write_word.new.bytes p 16
+    (memory_bytes c.args.word) c.deref_mut.ensures.value bytes.ok.0 refl fits c.write_word.ensures)
     ∙ capability_written-is bytes.items tags c.args.address p c.args.word c.args.tag c.self.view_is place.from_base c.requires.aligned inside
 
 pub returns-clause-sound : goal.returns-clause-sound
@@ -26,8 +28,11 @@ returns-clause-sound c =
     let place = c.requires.within in
     let room : length c.args.self.now.bytes ≡ length c.self.inside.bytes.items = sym (ap (λ m. length m.bytes) c.self.view_is) in
     let same : length c.self.inside.bytes.items ≡ length c.args.self.now.bytes = ap (λ m. length m.bytes) c.self.view_is in
-    let inside = in_ram-from c.args.self.now c.args.address 16 (omega (arith, place.from_base)) (omega (arith, place.from_base, place.within)) in
-    subst IsMemory (sym (returns-clause-value c)) (IsMemory-capability_written c.args.self.now c.args.address c.args.word c.args.tag (subst IsMemory c.self.view_is (sound _ _ c.self.invariant)) c.requires.aligned inside)
+    let inside =
+    in_ram-from c.args.self.now c.args.address 16 (omega (arith, place.from_base)) (omega (arith, place.from_base, place.within)) in
+    subst IsMemory (sym (returns-clause-value c))
+    (IsMemory-capability_written c.args.self.now c.args.address c.args.word c.args.tag
+    (subst IsMemory c.self.view_is (sound _ _ c.self.invariant)) c.requires.aligned inside)
 
 pub returns-clause-was_sound : goal.returns-clause-was_sound
 returns-clause-was_sound c = subst IsMemory c.self.view_is (sound _ _ c.self.invariant)

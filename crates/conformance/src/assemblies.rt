@@ -1,0 +1,141 @@
+//! Texts of the assembly language, and what they make.
+
+use crate::case::CaseError;
+use crate::numbers::Words;
+use crate::quoted::unquoted;
+use assembler::{AsmFault, Assembly, assemble};
+use image::{FromRead, Image, Section, ToWrite, read, write};
+use std::alloc::{AllocError, Global};
+
+/// Puts a fault's code and line behind a text.
+fn put_fault(text: &mut String, fault: AsmFault) -> Result<(), AllocError> {
+    let code = fault.code;
+    let line = fault.line;
+    write!(text, "{code:?} {line}")
+}
+
+/// Puts a word behind a text, whose bytes stand lowest first.
+fn put_word(text: &mut String, bytes: &[u8]) -> Result<(), AllocError> {
+    for byte in bytes.iter().rev() {
+        write!(text, "{byte:02x}")?;
+    }
+    Ok(())
+}
+
+/// Puts the words of a section behind a text.
+fn put_words(text: &mut String, section: &Section) -> Result<(), AllocError> {
+    let mut is_first = true;
+    for bytes in section.bytes().chunks(4) {
+        if !is_first {
+            text.push(' ')?;
+        }
+        put_word(text, bytes)?;
+        is_first = false;
+    }
+    Ok(())
+}
+
+/// A text in quotes; answered by the words of its first section, or by its fault's code and line.
+pub(crate) fn words(alloc: Global, inputs: &str) -> Result<String, CaseError> {
+    let (text, _) = unquoted(alloc, inputs)?;
+    let mut told = String::new(alloc);
+    match assemble(alloc, &text) {
+        Ok(assembly) => match assembly.image().sections().first() {
+            Some(section) => put_words(&mut told, section)?,
+            None => told.push_str("no words")?,
+        },
+        Err(fault) => put_fault(&mut told, fault)?,
+    }
+    Ok(told)
+}
+
+/// Puts the places of sections and the numbers of their bytes behind a text.
+fn put_sections(text: &mut String, sections: &[Section]) -> Result<(), AllocError> {
+    let mut gap = "";
+    for section in sections {
+        let address = section.address();
+        let count = section.bytes().len();
+        write!(text, "{gap}{address:x}+{count}")?;
+        gap = " ";
+    }
+    if sections.is_empty() {
+        text.push('-')?;
+    }
+    Ok(())
+}
+
+/// Puts a name, which is of ASCII, behind a text.
+fn put_name(text: &mut String, name: &[u8]) -> Result<(), AllocError> {
+    for byte in name {
+        text.push(char::from(*byte))?;
+    }
+    Ok(())
+}
+
+/// Puts the symbols and their values behind a text.
+fn put_symbols(text: &mut String, assembly: &Assembly) -> Result<(), AllocError> {
+    let mut is_first = true;
+    for (name, value) in assembly.symbols().iter() {
+        if !is_first {
+            text.push(' ')?;
+        }
+        put_name(text, name)?;
+        write!(text, "={value:x}")?;
+        is_first = false;
+    }
+    if assembly.symbols().is_empty() {
+        text.push('-')?;
+    }
+    Ok(())
+}
+
+/// A text in quotes; answered by pages, entry and mode, its sections and its symbols, or by its fault's code and line.
+pub(crate) fn parts(alloc: Global, inputs: &str) -> Result<String, CaseError> {
+    let (text, _) = unquoted(alloc, inputs)?;
+    let mut told = String::new(alloc);
+    match assemble(alloc, &text) {
+        Ok(assembly) => {
+            let image = assembly.image();
+            let pages = image.pages();
+            let entry = image.entry();
+            let mode = u8::from(image.mode());
+            write!(told, "{pages} {entry:x} {mode}; ")?;
+            put_sections(&mut told, image.sections())?;
+            told.push_str("; ")?;
+            put_symbols(&mut told, &assembly)?;
+        }
+        Err(fault) => put_fault(&mut told, fault)?,
+    }
+    Ok(told)
+}
+
+/// The bytes of an image's file.
+fn file_of(alloc: Global, image: &Image) -> Result<Vec<u8>, CaseError> {
+    let mut file = Vec::new(alloc);
+    match write(image, &mut ToWrite::new(&mut file)) {
+        Ok(()) => Ok(file),
+        Err(_) => Err(CaseError::Memory),
+    }
+}
+
+/// A text in quotes, and how many bytes of its image's file are read, with zeros behind its end; answered by the bytes of the file of
+/// the image that is read, or by the code of the fault.
+pub(crate) fn image_file(alloc: Global, inputs: &str) -> Result<String, CaseError> {
+    let (text, rest) = unquoted(alloc, inputs)?;
+    let count = Words::of(rest).decimal()?;
+    let Ok(assembly) = assemble(alloc, &text) else {
+        return Err(CaseError::Unreadable);
+    };
+    let mut file = file_of(alloc, assembly.image())?;
+    file.resize(count as usize, 0)?;
+    let mut told = String::new(alloc);
+    match read(alloc, &mut FromRead::new(file.as_slice())) {
+        Ok(image) => {
+            for byte in &file_of(alloc, &image)? {
+                write!(told, "{byte:02x}")?;
+            }
+        }
+        Err(fault) => write!(told, "{fault:?}")?,
+    }
+    Ok(told)
+}

@@ -1,0 +1,125 @@
+//! Lines of the assembly language, each by itself.
+
+use crate::case::CaseError;
+use crate::quoted::{put_quoted, unquoted};
+use asm_lines::{Expression, LineFault, Statement, expression, parse_line, split_piece};
+use isa_rows::Insn;
+use std::alloc::{AllocError, Global};
+
+/// Puts a name behind a text, or `-` where there is none.
+fn put_name(text: &mut String, name: Option<&[u8]>) -> Result<(), AllocError> {
+    let Some(name) = name else {
+        return text.push('-');
+    };
+    for byte in name {
+        text.push(char::from(*byte))?;
+    }
+    Ok(())
+}
+
+/// Puts an expression's name and number behind a text.
+fn put_expression(text: &mut String, expression: Expression) -> Result<(), AllocError> {
+    put_name(text, expression.name)?;
+    let offset = expression.offset;
+    write!(text, " {offset}")
+}
+
+/// Puts a fault's code behind a text, or `-` where there is none.
+fn put_fault(text: &mut String, fault: Option<LineFault>) -> Result<(), AllocError> {
+    match fault {
+        Some(fault) => write!(text, "{fault:?}"),
+        None => text.push('-'),
+    }
+}
+
+/// Puts an instruction behind a text, with the address that it jumps to.
+fn put_insn(text: &mut String, insn: Insn, to: Option<Expression>) -> Result<(), AllocError> {
+    let row = insn.row;
+    let rd = insn.rd;
+    let rs1 = insn.rs1;
+    let rs2 = insn.rs2;
+    let imm = insn.imm;
+    write!(text, "{row:?} {rd} {rs1} {rs2} {imm:x}")?;
+    if let Some(to) = to {
+        text.push_str(" to ")?;
+        put_expression(text, to)?;
+    }
+    Ok(())
+}
+
+/// Puts a statement behind a text: its kind and its operands.
+fn put_statement(text: &mut String, statement: Statement) -> Result<(), AllocError> {
+    match statement {
+        Statement::Row(insn, to) => put_insn(text, insn, to),
+        Statement::Load {
+            capability,
+            rd,
+            value,
+        } => {
+            let name = if capability { "cla" } else { "la" };
+            write!(text, "{name} {rd} ")?;
+            put_expression(text, value)
+        }
+        Statement::Pages(number) => write!(text, "pages {number}"),
+        Statement::Mode(mode) => {
+            let mode = u8::from(mode);
+            write!(text, "mode {mode}")
+        }
+        Statement::Entry(value) => {
+            text.push_str("entry ")?;
+            put_expression(text, value)
+        }
+        Statement::Org(place) => write!(text, "org {place}"),
+        Statement::Align(power) => write!(text, "align {power}"),
+        Statement::Zero(count) => write!(text, "zero {count}"),
+        Statement::Values { size, operands } => {
+            write!(text, "values {size} ")?;
+            put_quoted(text, operands)
+        }
+        Statement::Text(bytes) => {
+            text.push_str("text ")?;
+            put_quoted(text, bytes)
+        }
+    }
+}
+
+/// Puts the statement and the fault of a line behind a text.
+fn put_meaning(text: &mut String, line: &[u8]) -> Result<(), AllocError> {
+    let parsed = parse_line(line);
+    match parsed.statement {
+        Some(statement) => put_statement(text, statement)?,
+        None => text.push('-')?,
+    }
+    text.push_str(" | ")?;
+    put_fault(text, parsed.fault)
+}
+
+/// Puts what stands before a text's first comma and what stands behind it behind a text.
+fn put_pieces(text: &mut String, bytes: &[u8]) -> Result<(), AllocError> {
+    let (first, rest) = split_piece(bytes);
+    put_quoted(text, first)?;
+    text.push(' ')?;
+    match rest {
+        Some(rest) => put_quoted(text, rest),
+        None => text.push('-'),
+    }
+}
+
+/// What is asked, `statement`, `fault`, `label`, `expression` or `piece`, and a text in quotes.
+pub(crate) fn answer(alloc: Global, inputs: &str) -> Result<String, CaseError> {
+    let (asked, rest) = inputs.split_once(' ').ok_or(CaseError::Unreadable)?;
+    let (line, _) = unquoted(alloc, rest)?;
+    let mut told = String::new(alloc);
+    match asked {
+        "statement" => put_meaning(&mut told, &line)?,
+        "fault" => put_fault(&mut told, parse_line(&line).fault)?,
+        "label" => put_name(&mut told, parse_line(&line).label)?,
+        "expression" => match expression(&line) {
+            Ok(value) => put_expression(&mut told, value)?,
+            Err(fault) => write!(told, "{fault:?}")?,
+        },
+        "piece" => put_pieces(&mut told, &line)?,
+        _ => return Err(CaseError::Unreadable),
+    }
+    Ok(told)
+}

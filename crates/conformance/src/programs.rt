@@ -1,0 +1,168 @@
+//! Programs that run on the whole machine, and what is seen of it between their events and behind them.
+
+use crate::case::CaseError;
+use crate::forms::Form;
+use crate::numbers::Words;
+use crate::seen::put_seen;
+use crate::telling::put_bytes;
+use assembler::assemble;
+use cap_bounds::CapRep;
+use machine::{End, Event, Machine};
+use sim_run::{Schedule, verdict};
+use std::alloc::{AllocError, Global};
+
+/// What a machine has sent in the middle of a case, and how it stood behind the last run of events.
+#[derive(Drop)]
+pub(crate) struct Outcome {
+    pub sent: Vec<u8>,
+    pub end: End,
+}
+
+/// A run on a schedule, and the bytes that come.
+#[derive(Clone, Copy, Debug)]
+pub(crate) struct Timetable<'a> {
+    pub schedule: Schedule,
+    pub keys: &'a [u8],
+}
+
+/// The timetable of words: steps, gap, tick, and the bytes that come, or `-`.
+fn timetable_of(words: &str) -> Result<Timetable<'_>, CaseError> {
+    let mut words = Words::of(words);
+    let schedule = Schedule {
+        steps: words.decimal()?,
+        gap: words.decimal()?,
+        tick: words.decimal()?,
+    };
+    let keys = words.word()?;
+    let keys = if keys == "-" { "" } else { keys };
+    Ok(Timetable {
+        schedule,
+        keys: keys.as_bytes(),
+    })
+}
+
+/// The text of a line and of statements, which are parted by `; `.
+pub(crate) fn text_of(alloc: Global, first: &str, statements: &str) -> Result<String, AllocError> {
+    let mut text = String::from_str(alloc, first)?;
+    for statement in statements.split("; ") {
+        write!(text, "\n{statement}")?;
+    }
+    Ok(text)
+}
+
+impl Outcome {
+    /// Meets one event.
+    fn event<C: CapRep>(
+        &mut self,
+        machine: &mut Machine<C>,
+        event: Event,
+    ) -> Result<(), AllocError> {
+        if let Some(byte) = machine.event(event).byte {
+            self.sent.push(byte)?;
+        }
+        Ok(())
+    }
+
+    /// Meets so many steps as one run.
+    fn run<C: CapRep>(
+        &mut self,
+        alloc: Global,
+        machine: &mut Machine<C>,
+        steps: u64,
+    ) -> Result<(), CaseError> {
+        let mut events = Vec::new(alloc);
+        for _ in 0..steps {
+            events.push(Event::Step).map_err(|_| CaseError::Memory)?;
+        }
+        match machine.run(&events, &mut self.sent) {
+            Ok(end) => {
+                self.end = end;
+                Ok(())
+            }
+            Err(_) => Err(CaseError::Memory),
+        }
+    }
+
+    /// Meets the events of a deed, and says whether it is one.
+    fn meets<C: CapRep>(
+        &mut self,
+        alloc: Global,
+        machine: &mut Machine<C>,
+        deed: &str,
+    ) -> Result<bool, CaseError> {
+        let mut words = Words::of(deed);
+        match words.word()? {
+            "step" => self.event(machine, Event::Step)?,
+            "steps" => self.run(alloc, machine, words.decimal()?)?,
+            "tick" => self.event(machine, Event::Tick)?,
+            "byte" => self.event(machine, Event::Byte(words.byte()?))?,
+            _ => return Ok(false),
+        }
+        Ok(true)
+    }
+
+    /// Puts what a query tells behind a text.
+    fn put_query<C: CapRep>(
+        &self,
+        text: &mut String,
+        machine: &Machine<C>,
+        query: &str,
+    ) -> Result<(), CaseError> {
+        match query {
+            "sent" => put_bytes(text, &self.sent)?,
+            "end" => match self.end {
+                End::Running => text.push_str("running")?,
+                End::Halted(number) => write!(text, "halted {number:x}")?,
+            },
+            "verdict" => {
+                let (status, line) = verdict(self.end);
+                let line = if line.is_empty() { "-" } else { line.as_str() };
+                write!(text, "{status} {line}")?;
+            }
+            _ => put_seen(text, machine, query)?,
+        }
+        Ok(())
+    }
+
+    /// What is told to the queries among deeds, which a machine meets in order.
+    pub(crate) fn answers<C: CapRep>(
+        &mut self,
+        alloc: Global,
+        machine: &mut Machine<C>,
+        deeds: &str,
+    ) -> Result<String, CaseError> {
+        let mut answers = String::new(alloc);
+        for deed in deeds.split("; ") {
+            if !self.meets(alloc, machine, deed)? {
+                if !answers.is_empty() {
+                    answers.push_str("; ")?;
+                }
+                self.put_query(&mut answers, machine, deed)?;
+            }
+        }
+        Ok(answers)
+    }
+}
+
+/// The mode, ` | `, the program's statements, ` | `, and what is done and asked in order; statements and deeds are parted by `; `.
+///
+/// A deed is an event, `step`, `tick` or `byte B`; a run, `steps N`; or a query, whose answers follow one another in the case's answer:
+/// `sent`, the bytes sent so far, `end`, the end of the last run, `verdict`, the status and the line of that end, or one of `put_seen`.
+/// The first deed may be a run on a schedule, `scheduled STEPS GAP TICK KEYS`.
+pub(crate) fn answer(alloc: Global, form: Form, inputs: &str) -> Result<String, CaseError> {
+    let (mode, rest) = inputs.split_once(" | ").ok_or(CaseError::Unreadable)?;
+    let (statements, deeds) = rest.split_once(" | ").ok_or(CaseError::Unreadable)?;
+    let mode = format!(in alloc; ".mode {mode}")?;
+    let text = text_of(alloc, &mode, statements)?;
+    let Ok(assembly) = assemble(alloc, text.as_bytes()) else {
+        return Err(CaseError::Unreadable);
+    };
+    let image = assembly.image();
+    match deeds.strip_prefix("scheduled ") {
+        Some(deeds) => {
+            let (words, deeds) = deeds.split_once("; ").ok_or(CaseError::Unreadable)?;
+            form.run_scheduled(alloc, image, timetable_of(words)?, deeds)
+        }
+        None => form.run(alloc, image, deeds),
+    }
+}

@@ -1,0 +1,218 @@
+//! What a query tells of a machine.
+
+ghost use Rattle.std.specs.Prelude.{◌<◌};
+
+use crate::case::CaseError;
+use crate::numbers::Words;
+use crate::telling::{halves, put_bytes, put_granule, put_value};
+use asm_names::{csr_named, register_name, register_named, scr_named};
+use base::Size;
+use cap_bounds::CapRep;
+use machine::Machine;
+use std::alloc::AllocError;
+
+const MCAUSE: u16 = 0x342;
+
+const MTVAL: u16 = 0x343;
+
+/// Where RAM begins, and the bytes of a page.
+const RAM: u64 = 0x8000_0000;
+
+const PAGE: u64 = 4096;
+
+/// What the general or special capability register of a name holds.
+fn value_of<C: CapRep>(machine: &Machine<C>, name: &str) -> Result<C, CaseError> {
+    if let Some(n) = register_named(name.as_bytes()) {
+        return Ok(machine.reg(n));
+    }
+    match scr_named(name.as_bytes()) {
+        Some(0) => Ok(machine.scr(0)),
+        Some(1) => Ok(machine.scr(1)),
+        Some(28) => Ok(machine.scr(28)),
+        Some(29) => Ok(machine.scr(29)),
+        Some(30) => Ok(machine.scr(30)),
+        Some(31) => Ok(machine.scr(31)),
+        _ => Err(CaseError::Unreadable),
+    }
+}
+
+/// What a read of the control and status register of a name gives.
+fn csr_of<C: CapRep>(machine: &Machine<C>, name: &str) -> Option<u64> {
+    match csr_named(name.as_bytes())? {
+        0x300 => Some(machine.csr(0x300)),
+        0x301 => Some(machine.csr(0x301)),
+        0x304 => Some(machine.csr(0x304)),
+        0x305 => Some(machine.csr(0x305)),
+        0x340 => Some(machine.csr(0x340)),
+        0x341 => Some(machine.csr(0x341)),
+        MCAUSE => Some(machine.csr(MCAUSE)),
+        MTVAL => Some(machine.csr(MTVAL)),
+        0x344 => Some(machine.csr(0x344)),
+        0xb00 => Some(machine.csr(0xb00)),
+        0xb02 => Some(machine.csr(0xb02)),
+        _ => None,
+    }
+}
+
+/// mcause and mtval where the last step trapped, with PCC at 0, where MTCC stands at first.
+fn put_trap<C: CapRep>(text: &mut String, machine: &Machine<C>) -> Result<(), AllocError> {
+    if machine.scr(0).address() == 0 {
+        let mcause = machine.csr(MCAUSE);
+        let mtval = machine.csr(MTVAL);
+        write!(text, "{mcause:x} {mtval:x}")
+    } else {
+        text.push_str("none")
+    }
+}
+
+/// Register `n`, below 32, where it holds anything but 0: `name=value,`.
+fn put_register<C: CapRep>(text: &mut String, machine: &Machine<C>, n: u8) -> Result<(), AllocError>
+    requires { n < 32 }
+{
+    let value = machine.reg(n);
+    if value.tag() || value.word().to_memory() != [0; 16] {
+        let name = register_name(n, false);
+        write!(text, "{name}=")?;
+        put_value(text, value)?;
+        text.push(',')?;
+    }
+    Ok(())
+}
+
+/// The registers that hold anything but 0.
+fn put_registers<C: CapRep>(text: &mut String, machine: &Machine<C>) -> Result<(), AllocError> {
+    for n in 0..32u8 {
+        put_register(text, machine, n)?;
+    }
+    Ok(())
+}
+
+/// The 8 bytes at an address in RAM as a number, where it is not 0: `address=number,`.
+fn put_double<C: CapRep>(
+    text: &mut String,
+    machine: &Machine<C>,
+    address: u64,
+) -> Result<(), AllocError> {
+    let number = machine.memory().read(address, Size::Double).unwrap_or(0);
+    if number != 0 {
+        write!(text, "{address:x}={number:x},")?;
+    }
+    Ok(())
+}
+
+/// What stands in RAM's first page.
+fn put_ram<C: CapRep>(text: &mut String, machine: &Machine<C>) -> Result<(), AllocError> {
+    for place in 0..PAGE / 8 {
+        put_double(text, machine, RAM + 8 * place)?;
+    }
+    Ok(())
+}
+
+/// What devices tell, or none where the query is not of them.
+fn device_of<C: CapRep>(machine: &Machine<C>, name: &str) -> Option<u64> {
+    let devices = machine.devices();
+    match name {
+        "mtime" => Some(devices.mtime()),
+        "mtimecmp" => Some(devices.mtimecmp()),
+        "overrun" => Some(u64::from(devices.overrun())),
+        "control" => Some(u64::from(devices.control())),
+        _ => None,
+    }
+}
+
+/// Puts what a query of one register tells behind a text.
+fn put_of_register<C: CapRep>(text: &mut String, query: &str, value: C) -> Result<(), CaseError> {
+    let address = value.address();
+    let otype = value.otype();
+    let tag = u8::from(value.tag());
+    match query {
+        "address" => write!(text, "{address:x}")?,
+        "permissions" => {
+            let permissions = value.perms();
+            write!(text, "{permissions:x}")?;
+        }
+        "fields" => write!(text, "{address:x} {otype:x} {tag}")?,
+        "bits" => {
+            let (high, address) = halves(value);
+            write!(text, "{high:016x} {address:016x} {tag}")?;
+        }
+        "bytes" => put_granule(text, value.word().to_memory(), value.tag())?,
+        _ => return Err(CaseError::Unreadable),
+    }
+    Ok(())
+}
+
+/// Puts what a query of one word tells behind a text.
+fn put_named<C: CapRep>(
+    text: &mut String,
+    machine: &Machine<C>,
+    name: &str,
+) -> Result<(), CaseError> {
+    if let Some(number) = csr_of(machine, name).or(device_of(machine, name)) {
+        write!(text, "{number:x}")?;
+    } else {
+        put_value(text, value_of(machine, name)?)?;
+    }
+    Ok(())
+}
+
+/// Puts the granule at an address, and its tag, behind a text.
+fn put_granule_at<C: CapRep>(
+    text: &mut String,
+    machine: &Machine<C>,
+    address: u64,
+) -> Result<(), CaseError> {
+    match machine.memory().read_cap(address) {
+        Ok((word, tag)) => Ok(put_granule(text, word.to_memory(), tag)?),
+        Err(_) => Err(CaseError::Unreadable),
+    }
+}
+
+/// Puts the word at an address behind a text.
+fn put_word_at<C: CapRep>(
+    text: &mut String,
+    machine: &Machine<C>,
+    address: u64,
+) -> Result<(), CaseError> {
+    match machine.memory().read(address, Size::Word) {
+        Ok(number) => Ok(write!(text, "{number:x}")?),
+        Err(_) => Err(CaseError::Unreadable),
+    }
+}
+
+/// Puts what a query tells behind a text.
+///
+/// `trap`; `registers`; `ram`; `waiting`, the bytes in the console's queue; `halted`; `granule AT` and `word AT` of memory;
+/// `same NAME NAME`; `address`, `permissions`, `fields`, `bits` or `bytes` and a register's name, of its value the address, the
+/// permissions, address with type and tag, the halves of the word with the tag, or the same in memory's form; and else the name of a
+/// register or of a device's state.
+pub(crate) fn put_seen<C: CapRep>(
+    text: &mut String,
+    machine: &Machine<C>,
+    query: &str,
+) -> Result<(), CaseError> {
+    let mut words = Words::of(query);
+    match words.word()? {
+        "trap" => put_trap(text, machine)?,
+        "registers" => put_registers(text, machine)?,
+        "ram" => put_ram(text, machine)?,
+        "waiting" => put_bytes(text, machine.devices().waiting())?,
+        "halted" => match machine.halted() {
+            Some(number) => write!(text, "{number:x}")?,
+            None => text.push_str("no")?,
+        },
+        "granule" => put_granule_at(text, machine, words.hex()?)?,
+        "word" => put_word_at(text, machine, words.hex()?)?,
+        "same" => {
+            let first = value_of(machine, words.word()?)?;
+            let second = value_of(machine, words.word()?)?;
+            let same = u8::from(halves(first) == halves(second) && first.tag() == second.tag());
+            write!(text, "{same}")?;
+        }
+        word => match words.word() {
+            Ok(name) => put_of_register(text, word, value_of(machine, name)?)?,
+            Err(_) => put_named(text, machine, word)?,
+        },
+    }
+    Ok(())
+}

@@ -1,0 +1,9 @@
+pub mod Lengths
+pub mod Corrections
+pub mod Windows
+pub mod PartsLemmas
+pub mod Moves
+pub mod SameWindow
+pub mod Granules
+pub mod Encodings
+pub mod Requests

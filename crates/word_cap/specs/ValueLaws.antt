@@ -1,0 +1,59 @@
+-- The parts of what a word and a tag mean are those of the word.
+use Rattle.std.proofs.Common.{◌≡◌, ℕ, ◌^◌, ◌<◌, Bool, true, false, IsTrue, refl}
+use Rattle.cap_format.specs.Word.{address_of, perms_of, flag_of, otype_of}
+use Rattle.cap_bounds.specs.Window.{base_of_word, top_of_word}
+use Rattle.cap_bounds.specs.Record.{IsWordWellFormed, decoded}
+use Rattle.cap_bounds.specs.CapValue.{IsSound, value_of, word_of, is_tagged, value_base, value_top, value_address, value_perms, value_flag}
+use Rattle.cap_bounds.specs.CapValue.{value_otype}
+
+pub IsSound-value_of : (word : ℕ) (tag : Bool) → word < 2 ^ 128 → (IsTrue tag → IsWordWellFormed word) → IsSound (value_of word tag)
+IsSound-value_of word true fits well = (well refl).decodes
+IsSound-value_of word false fits well = fits
+
+pub is_tagged-value_of : (word : ℕ) (tag : Bool) → is_tagged (value_of word tag) ≡ tag
+is_tagged-value_of word true = refl
+is_tagged-value_of word false = refl
+
+pub word_of-value_of : (word : ℕ) (tag : Bool) → (IsTrue tag → IsWordWellFormed word) → word_of (value_of word tag) ≡ word
+word_of-value_of word true well = (well refl).canonical
+word_of-value_of word false well = refl
+
+pub value_base-value_of : (word : ℕ) (tag : Bool) → value_base (value_of word tag) ≡ base_of_word word
+unfolding decoded
+value_base-value_of word true = refl
+value_base-value_of word false = refl
+
+pub value_top-value_of : (word : ℕ) (tag : Bool) → value_top (value_of word tag) ≡ top_of_word word
+unfolding decoded
+value_top-value_of word true = refl
+value_top-value_of word false = refl
+
+pub value_address-value_of : (word : ℕ) (tag : Bool) → value_address (value_of word tag) ≡ address_of word
+unfolding decoded
+value_address-value_of word true = refl
+value_address-value_of word false = refl
+
+pub value_perms-value_of : (word : ℕ) (tag : Bool) → value_perms (value_of word tag) ≡ perms_of word
+unfolding decoded
+value_perms-value_of word true = refl
+value_perms-value_of word false = refl
+
+pub value_flag-value_of : (word : ℕ) (tag : Bool) → value_flag (value_of word tag) ≡ flag_of word
+unfolding decoded
+value_flag-value_of word true = refl
+value_flag-value_of word false = refl
+
+pub value_otype-value_of : (word : ℕ) (tag : Bool) → value_otype (value_of word tag) ≡ otype_of word
+unfolding decoded
+value_otype-value_of word true = refl
+value_otype-value_of word false = refl
+
+pub ruleset value_laws = (
+  is_tagged-value_of,
+  value_base-value_of,
+  value_top-value_of,
+  value_address-value_of,
+  value_perms-value_of,
+  value_flag-value_of,
+  value_otype-value_of,
+)

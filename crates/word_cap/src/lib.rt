@@ -1,0 +1,18 @@
+//! Capabilities as 128-bit words: bounds are read off the word's mantissas each time that they are asked for.
+#![tactic(auto)]
+
+mod decoding;
+pub mod laws;
+mod mantissas;
+mod rep;
+mod rounding;
+mod set_bounds;
+#[cfg(test)]
+mod tests;
+mod window;
+mod word_cap;
+mod word_parts;
+
+pub use decoding::parts;
+pub use word_cap::WordCap;
+pub use word_parts::Parts;

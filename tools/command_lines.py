@@ -1,0 +1,121 @@
+"""Command lines with their plans, listings of images, and programs that run on a schedule.
+
+Values are from the rules of the command line, of listings and of the schedule.
+"""
+
+from programs.items import halted, integer, line, sent
+from quoting import quoted
+
+# A command line, and its plan: of a run the image, the steps, the gap, the tick and the input.
+PLANS = [
+    ("run hello.img 5", "run hello.img 5 1000 100 -"),
+    ("run hello.img 1", "run hello.img 1 1000 100 -"),
+    ("run hello.img 100000000", "run hello.img 100000000 1000 100 -"),
+    ("run hello.img 22 --input keys --gap 1", "run hello.img 22 1 100 keys"),
+    ("run --gap=1000000 --tick=1000000 hello.img 22", "run hello.img 22 1000000 1000000 -"),
+    ("run hello.img 22 --tick 0", "run hello.img 22 1000 0 -"),
+    ("", "first"),
+    ("asm hello.s hello.img", "asm hello.s hello.img"),
+    ("dis hello.img", "dis hello.img"),
+    ("debug hello.img", "debug hello.img"),
+]
+
+# A command line that is refused, and what the text of its refusal names.
+REFUSED = [
+    ("link hello.img", "link"),
+    ("dis", "IMAGE"),
+    ("dis hello.img more", "more"),
+    ("debug", "IMAGE"),
+    ("debug hello.img more", "more"),
+    ("asm hello.s", "OUT"),
+    ("asm hello.s hello.img more", "more"),
+    ("run", "IMAGE"),
+    ("run hello.img", "STEPS"),
+    ("run hello.img 0", "STEPS"),
+    ("run hello.img 100000001", "STEPS"),
+    ("run hello.img -1", "-1"),
+    ("run hello.img 0x10", "STEPS"),
+    ("run hello.img 5 --gap 0", "--gap"),
+    ("run hello.img 5 --gap 1000001", "--gap"),
+    ("run hello.img 5 --tick 1000001", "--tick"),
+    ("run hello.img 5 --input", "--input"),
+    ("run hello.img 5 --speed 9", "--speed"),
+    *(("--help", named) for named in ("asm", "run", "dis", "debug", "Example")),
+    ("asm --help", "OUT"),
+    ("dis --help", "IMAGE"),
+    ("debug --help", "standard input"),
+    ("run --help", "100000000"),
+    ("run --help", "--tick"),
+]
+
+# An instruction and three bytes that are no word, and another section of an instruction at a place that is no multiple of 4, and a word
+# that is none.
+LISTED = ".word 0x100005b7\n.byte 0x0a, 0xff, 0\n.org 0x80000102\n.byte 0x23, 0x80, 0xa5, 0\n.word 0"
+LISTING = """0000000080000000 100005b7 lui a1, 0x10000
+0000000080000004 .byte 0x0a
+0000000080000005 .byte 0xff
+0000000080000006 .byte 0x00
+0000000080000102 00a58023 {}
+0000000080000106 00000000 .word 0x00000000
+"""
+
+FIRST_IMAGE = ["lui a1, 0x10000", "addi a0, zero, 65", "sb a0, 0(a1)", "lui a1, 0x100", "sd zero, 0(a1)"]
+
+# Sends three bytes that it receives, and halts with 0.
+ECHO = ["lui a1, 0x10000", "li a2, 3", "loop: ld a0, 16(a1)", "beq a0, zero, loop", "ld a0, 8(a1)", "sb a0, 0(a1)", "addi a2, a2, -1",
+        "bne a2, zero, loop", "lui a1, 0x100", "sd zero, 0(a1)"]
+
+# Takes a byte, and asks twice whether one waits.
+WAITING = ["lui a1, 0x10000", "ld a0, 8(a1)", "ld a0, 16(a1)", "ld a2, 16(a1)"]
+
+# Loads the time four times.
+TIMES = ["lui a1, 0x200c", "ld a0, -8(a1)", "ld a2, -8(a1)", "ld a3, -8(a1)", "ld a4, -8(a1)"]
+
+
+def plans():
+    yield "# a command line => its plan"
+    yield from (f"{('cherisim ' + words).rstrip()} => {plan}" for words, plan in PLANS)
+    yield "# a command line ? what its refusal names => refused"
+    yield from (f"cherisim {words} ? {named} => refused" for words, named in REFUSED)
+
+
+def listings():
+    yield "# a text => the listing of its image"
+    for mode, store in enumerate(("sb a0, 0(a1)", "csb a0, 0(ca1)")):
+        yield f"{quoted(f'.mode {mode}' + chr(10) + LISTED)} => {quoted(LISTING.format(store))}"
+
+
+def scheduled(program, steps, gap, tick, keys, *seen):
+    """A run of so many steps, with a byte of the keys each so many steps, and ticks."""
+    return line(0, program, [f"scheduled {steps} {gap} {tick} {keys or '-'}", *seen])
+
+
+def verdict(number, text):
+    """A program that halts with a number, and its status and the line of its end."""
+    return line(0, ["lui a1, 0x100", f"addi a0, zero, {number}", "sd a0, 0(a1)"], ["steps 3", ("verdict", text)])
+
+
+def runs():
+    yield "# mode | statements | deeds and queries => answers, as of programs; scheduled: steps, gap, tick, the bytes that come"
+    yield "# the first image halts with its fifth step"
+    for steps, end, last in ((5, "halted 0", 0), (4, "running", None)):
+        yield scheduled(FIRST_IMAGE, steps, 1000, 100, "", ("end", end), halted(last), sent(b"A"))
+    yield "# an echo; the third byte comes before step 2001"
+    yield scheduled(ECHO, 22, 1, 100, "ABC", ("end", "halted 0"), sent(b"ABC"))
+    yield scheduled(ECHO, 2000, 1000, 0, "ABC", ("end", "running"), sent(b"AB"))
+    yield "# bytes come just before their step, and ticks just after"
+    yield scheduled(WAITING, 4, 3, 0, "AB", integer("a0", 0), integer("a2", 1), ("mtime", "0"))
+    yield scheduled(TIMES, 5, 1, 2, "", integer("a0", 0), integer("a2", 1), integer("a3", 1), integer("a4", 2))
+    yield "# after the step that halts no tick comes"
+    yield scheduled(FIRST_IMAGE, 9, 1, 1, "", ("mtime", "4"))
+    yield "# verdicts"
+    yield verdict(0, "0 -")
+    yield verdict(1, "1 cherisim: halted with 1")
+    yield verdict(-1, "1 cherisim: halted with 18446744073709551615")
+    yield line(0, FIRST_IMAGE, ["steps 4", ("verdict", "1 cherisim: not halted")])
+
+
+def files():
+    yield "plans.txt", plans()
+    yield "listings.txt", listings()
+    yield "runs.txt", runs()

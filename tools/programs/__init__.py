@@ -1,0 +1,34 @@
+"""Cases over programs: what the whole machine shows behind statements of assembly. Values are the architecture's, worked out by hand."""
+
+from . import derivations, integers, invocations, jumps, loads, machines, memory, system, traps
+from .items import BOTH, ENTRY, NULL, at, bits, csr, line, together
+
+HEAD = "# mode | statements | events and queries => answers"
+
+
+def steps_line(mode, steps):
+    """A case of steps with what each then leaves in its register: a number, or a high half, an address and a tag."""
+    texts, deeds = [], []
+    for statements, *expected in steps:
+        statements = [statements] if isinstance(statements, str) else statements
+        register = statements[0].split()[1].rstrip(",")
+        texts += statements
+        deeds += together(len(statements) * ["step"])
+        deeds.append(bits(register, *(expected if len(expected) == 3 else (NULL, expected[0], False))))
+    return line(mode, texts, deeds + [csr("mcause", 0), csr("minstret", len(texts)), at(ENTRY + 4 * len(texts))])
+
+
+def lines():
+    yield HEAD
+    for module in (invocations, jumps, loads, memory, system, traps):
+        for table in module.TABLES:
+            yield from table.cases()
+    for module in (integers, derivations):
+        for name, steps in module.TABLES.items():
+            yield f"# {name}"
+            yield from (steps_line(mode, steps) for mode in BOTH)
+    yield from machines.cases()
+
+
+def files():
+    yield "programs.txt", lines()
