@@ -75,7 +75,6 @@ def lines(mnemonic, rd, rs1, rs2, imm):
 
 table = [(word, line) for word, _, mnemonic, rd, rs1, rs2, imm in made for line in lines(mnemonic, rd, rs1, rs2, imm)]
 table += [(0x01 << 25 | number << 20 | 11 << 15 | 10 << 7 | 0x5B, f"cspecialrw ca0, {name}, ca1") for number, name in SCRS.items()]
-assert len({row for _, row, *_ in made}) == 133
 
 
 def cases():

@@ -8,6 +8,8 @@ import os
 import subprocess
 import tempfile
 
+from row_forms import FORM, FORMS
+
 AS = "riscv64-linux-gnu-as"
 OBJCOPY = "riscv64-linux-gnu-objcopy"
 
@@ -45,7 +47,7 @@ for rd, offset in ((1, 8), (0, -4), (31, 1048574), (5, -1048576), (6, 2048), (7,
     text("Jal", "jal", f"jal x{rd}, .{offset:+d}", rd=rd, imm=offset)
 for rd, rs1, imm in ((0, 1, 0), (31, 30, -1), (5, 6, 2047), (6, 5, -2048)):
     text("Jalr", "jalr", f"jalr x{rd}, {imm}(x{rs1})", rd=rd, rs1=rs1, imm=imm)
-for name in ("beq", "bne", "blt", "bge", "bltu", "bgeu"):
+for name in FORMS["rs1, rs2, branch"].split():
     for rs1, rs2, offset in ((10, 11, 16), (10, 11, -16), (10, 11, 2048), (31, 1, 4094), (1, 31, -4096), (7, 8, 30), (9, 2, 0x7E0)):
         text(variant(name), name, f"{name} x{rs1}, x{rs2}, .{offset:+d}", rs1=rs1, rs2=rs2, imm=offset)
 for name in ("lb", "lh", "lw", "ld", "lbu", "lhu", "lwu"):
@@ -61,20 +63,19 @@ text("FenceI", "fence.i", ".insn i 0x0f, 1, x31, x1, 2047", rd=31, rs1=1, imm=20
 for name in ("addi", "slti", "sltiu", "xori", "ori", "andi", "addiw"):
     for rd, rs1, imm in ((10, 10, 5), (31, 1, -2048), (1, 31, 2047), (2, 3, -1)):
         text(variant(name), name, f"{name} x{rd}, x{rs1}, {imm}", rd=rd, rs1=rs1, imm=imm)
-for name in ("slli", "srli", "srai"):
+for name in FORMS["rd, rs1, shift6"].split():
     for rd, rs1, imm in ((10, 10, 32), (31, 1, 63), (1, 31, 0), (2, 3, 31)):
         text(variant(name), name, f"{name} x{rd}, x{rs1}, {imm}", rd=rd, rs1=rs1, imm=imm)
-for name in ("slliw", "srliw", "sraiw"):
+for name in FORMS["rd, rs1, shift5"].split():
     for rd, rs1, imm in ((10, 10, 16), (31, 1, 31), (1, 31, 0)):
         text(variant(name), name, f"{name} x{rd}, x{rs1}, {imm}", rd=rd, rs1=rs1, imm=imm)
-for name in ("add sll slt sltu xor srl or and sub sra mul mulh mulhsu mulhu div divu rem remu "
-             "addw sllw srlw subw sraw mulw divw divuw remw remuw").split():
+for name in FORMS["rd, rs1, rs2"].split():
     for rd, rs1, rs2 in ((10, 11, 12), (31, 1, 16), (1, 16, 31)):
         text(variant(name), name, f"{name} x{rd}, x{rs1}, x{rs2}", rd=rd, rs1=rs1, rs2=rs2)
-for name in ("csrrw", "csrrs", "csrrc"):
+for name in FORMS["rd, csr, rs1"].split():
     for rd, csr, rs1 in ((10, 0x305, 11), (31, 0xF14, 0), (0, 0xFFF, 31)):
         text(variant(name), name, f"{name} x{rd}, {csr}, x{rs1}", rd=rd, rs1=rs1, imm=csr)
-for name in ("csrrwi", "csrrsi", "csrrci"):
+for name in FORMS["rd, csr, five"].split():
     for rd, csr, number in ((10, 0x300, 8), (31, 0x344, 31), (0, 0x800, 1)):
         text(variant(name), name, f"{name} x{rd}, {csr}, {number}", rd=rd, rs1=number, imm=csr)
 for name in ("ecall", "ebreak", "mret", "wfi"):
@@ -157,7 +158,7 @@ assert known["beq x10, x11, .-16"] == 0xFEB508E3
 assert known["beq x10, x11, .+2048"] == 0x00B500E3
 assert known["slli x10, x10, 32"] == 0x02051513
 made = [(w, t[0], t[1], *t[3:]) for w, t in zip(words, TEXTS)] + [(f[2], f[0], f[1], *f[3:]) for f in FIELDS]
-assert len({m[1] for m in made}) == 133
+assert {m[2] for m in made} == set(FORM)
 assert all(sum(m[1] == row for m in made) >= 2 for row in {m[1] for m in made} - {"Ecall", "Ebreak", "Mret", "Wfi"})
 assert set(ROWS) <= {m[1] for m in made}
 
