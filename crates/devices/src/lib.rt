@@ -7,6 +7,7 @@ mod fault;
 mod interrupts;
 mod loads;
 mod map;
+mod sound;
 mod stores;
 mod timer;
 

@@ -10,6 +10,7 @@ ghost use Rattle.base.specs.Registers.{is_csr};
 ghost use Rattle.special_regs.specs.CsrValues.{csr_value};
 ghost use Rattle.hart.specs.Registers.{register};
 ghost use Rattle.hart.specs.State.{HoldsCapabilities};
+ghost use Rattle.hart.specs.IsState.{IsState};
 
 use crate::hart::Hart;
 use cap_bounds::CapRep;
@@ -18,12 +19,26 @@ use special_regs::held_csr;
 use tagged_memory::Memory;
 
 impl<C: CapRep> Hart<C> {
+    /// Tells proofs what is true of every state that a hart shows. It does nothing.
+    #[inline]
+    pub fn is_state(&self)
+        ensures { IsState self.now }
+    {
+        self.registers.are_sound();
+        self.scrs.are_sound();
+        self.csrs.are_in_range();
+        self.memory.is_sound();
+        self.devices.are_sound();
+    }
+
     /// General register `n`, below 32.
     pub fn reg(&self, n: u8) -> C
         requires { n < 32 }
         ensures value { C.value result ≡ register self.now.registers n }
         ensures well_formed { IsSound (C.value result) }
+        ensures state { IsState self.now }
     {
+        self.is_state();
         self.registers.get(n)
     }
 
@@ -33,15 +48,19 @@ impl<C: CapRep> Hart<C> {
         ensures value { scr_value self.now.scrs n ≡ Some (C.value result) }
         ensures well_formed { IsSound (C.value result) }
         ensures aligned { IsAligned self.now.scrs.pcc }
+        ensures state { IsState self.now }
     {
+        self.is_state();
         self.scrs.get(n).unwrap()
     }
 
     /// What a read of control and status register `n` gives; it is to be one that there is.
     pub fn csr(&self, n: u16) -> u64
         requires { IsTrue (is_csr n) }
-        ensures { csr_value self.now.csrs self.now.scrs (interrupts_of self.now.devices) n ≡ Some result }
+        ensures value { csr_value self.now.csrs self.now.scrs (interrupts_of self.now.devices) n ≡ Some result }
+        ensures state { IsState self.now }
     {
+        self.is_state();
         held_csr(&self.csrs, &self.scrs, self.devices.interrupts(), n)
     }
 
@@ -49,21 +68,27 @@ impl<C: CapRep> Hart<C> {
     pub fn memory(&self) -> &Memory
         ensures value { result.now ≡ self.now.memory }
         ensures well_formed { HoldsCapabilities self.now.memory }
+        ensures state { IsState self.now }
     {
+        self.is_state();
         &self.memory
     }
 
     /// The devices.
     pub fn devices(&self) -> &Devices
-        ensures { result.now ≡ self.now.devices }
+        ensures value { result.now ≡ self.now.devices }
+        ensures state { IsState self.now }
     {
+        self.is_state();
         &self.devices
     }
 
     /// The number with which the machine was halted, if it was.
     pub fn halted(&self) -> Option<u64>
-        ensures { result ≡ self.now.devices.halted }
+        ensures value { result ≡ self.now.devices.halted }
+        ensures state { IsState self.now }
     {
+        self.is_state();
         self.devices.halted()
     }
 }

@@ -1,6 +1,7 @@
 //! The state in which an image is opened.
 
 ghost use Rattle.std.specs.Prelude.{◌≡◌, IfOk};
+ghost use Rattle.hart.specs.IsState.{IsState};
 ghost use Rattle.hart.specs.Opening.{opening, opening_memory};
 
 use crate::hart::Hart;
@@ -30,11 +31,12 @@ fn opened_memory(alloc: Global, image: &Image) -> Result<Memory, AllocError>
 impl<C: CapRep> Hart<C> {
     /// A hart in the opening state of an image. Only memory can be wanting.
     pub fn new(alloc: Global, image: &Image) -> Result<Self, AllocError>
-        ensures { IfOk result (λ hart. hart ≡ opening image.now) }
+        ensures opening { IfOk result (λ hart. hart ≡ opening image.now) }
+        ensures state { IfOk result IsState }
     {
         let memory = opened_memory(alloc, image)?;
         let null = integer(0);
-        Ok(Hart {
+        let hart = Hart {
             registers: Registers::new(null),
             scrs: Scrs::new(
                 root_value(image.entry(), image.mode()),
@@ -44,6 +46,8 @@ impl<C: CapRep> Hart<C> {
             csrs: Csrs::new(),
             memory,
             devices: Devices::new(),
-        })
+        };
+        hart.is_state();
+        Ok(hart)
     }
 }

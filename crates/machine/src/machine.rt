@@ -7,6 +7,7 @@ ghost use Rattle.base.specs.Registers.{is_csr};
 ghost use Rattle.special_regs.specs.CsrValues.{csr_value};
 ghost use Rattle.hart.specs.Registers.{register};
 ghost use Rattle.hart.specs.State.{HoldsCapabilities};
+ghost use Rattle.hart.specs.IsState.{IsState};
 ghost use Rattle.hart.specs.Event.{after, sent};
 ghost use Rattle.hart.specs.Opening.{opening};
 ghost use Rattle.machine.specs.Run.{run_after, run_sent, end_of};
@@ -55,6 +56,7 @@ impl<C: CapRep> Machine<C> {
     /// A machine in the opening state of an image: M2 where there is no memory for it, and no other fault.
     pub fn new(alloc: Global, image: &Image) -> Result<Self, MachineFault>
         ensures ok { IfOk result (λ machine. machine ≡ opening image.now) }
+        ensures state { IfOk result IsState }
         ensures err { IfErr result (λ fault. fault ≡ MachineFault.M2) }
     {
         match Hart::new(alloc, image) {
@@ -68,6 +70,7 @@ impl<C: CapRep> Machine<C> {
     pub fn event(&mut self, event: Event) -> Out
         ensures state { self.new ≡ after event self.old }
         ensures byte { result.byte ≡ sent event self.old }
+        ensures is_state { IsState self.new }
     {
         self.hart.event(event)
     }
@@ -80,6 +83,7 @@ impl<C: CapRep> Machine<C> {
         ensures state { OnOk result (self.new ≡ run_after events.now self.old) }
         ensures bytes { OnOk result (out.new.items ≡ out.old.items ++ run_sent events.now self.old) }
         ensures end { IfOk result (λ end. end ≡ end_of self.new) }
+        ensures is_state { IsState self.new }
 
         ensures fault { IfErr result (λ fault. fault ≡ MachineFault.M5) }
         ensures same_state { OnErr result (self.new ≡ self.old) }
@@ -87,6 +91,7 @@ impl<C: CapRep> Machine<C> {
         ensures room { vec_len out.old + length events.now ≤ vec_capacity out.old → IsOk result }
     {
         if out.reserve(events.len()).is_err() {
+            self.hart.is_state();
             return Err(MachineFault::M5);
         }
         for event in events {
@@ -104,6 +109,7 @@ impl<C: CapRep> Machine<C> {
         requires { n < 32 }
         ensures value { C.value result ≡ register self.now.registers n }
         ensures well_formed { IsSound (C.value result) }
+        ensures state { IsState self.now }
     {
         self.hart.reg(n)
     }
@@ -114,6 +120,7 @@ impl<C: CapRep> Machine<C> {
         ensures value { scr_value self.now.scrs n ≡ Some (C.value result) }
         ensures well_formed { IsSound (C.value result) }
         ensures aligned { IsAligned self.now.scrs.pcc }
+        ensures state { IsState self.now }
     {
         self.hart.scr(n)
     }
@@ -121,7 +128,8 @@ impl<C: CapRep> Machine<C> {
     /// What a read of control and status register `n` gives; it is to be one that there is.
     pub fn csr(&self, n: u16) -> u64
         requires { IsTrue (is_csr n) }
-        ensures { csr_value self.now.csrs self.now.scrs (interrupts_of self.now.devices) n ≡ Some result }
+        ensures value { csr_value self.now.csrs self.now.scrs (interrupts_of self.now.devices) n ≡ Some result }
+        ensures state { IsState self.now }
     {
         self.hart.csr(n)
     }
@@ -130,20 +138,23 @@ impl<C: CapRep> Machine<C> {
     pub fn memory(&self) -> &Memory
         ensures value { result.now ≡ self.now.memory }
         ensures well_formed { HoldsCapabilities self.now.memory }
+        ensures state { IsState self.now }
     {
         self.hart.memory()
     }
 
     /// The devices.
     pub fn devices(&self) -> &Devices
-        ensures { result.now ≡ self.now.devices }
+        ensures value { result.now ≡ self.now.devices }
+        ensures state { IsState self.now }
     {
         self.hart.devices()
     }
 
     /// The number with which the machine was halted, if it was.
     pub fn halted(&self) -> Option<u64>
-        ensures { result ≡ self.now.devices.halted }
+        ensures value { result ≡ self.now.devices.halted }
+        ensures state { IsState self.now }
     {
         self.hart.halted()
     }

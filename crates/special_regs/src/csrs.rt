@@ -23,6 +23,7 @@ pub struct Csrs {
 
 impl Csrs {
     ghost use Rattle.special_regs.specs.Csrs.{zero_csrs, cycle_counted, instruction_counted};
+    ghost use Rattle.special_regs.specs.Sound.{AreInRange};
 
     /// Creates the registers as they begin: zeros.
     pub fn new() -> Self
@@ -38,6 +39,19 @@ impl Csrs {
             mcycle: 0,
             minstret: 0,
         }
+    }
+
+    /// Tells proofs what is true of all control and status registers: their numbers have 64 bits. It does nothing.
+    #[inline]
+    pub fn are_in_range(&self)
+        ensures { AreInRange self.now }
+    {
+        let _mie = self.mie;
+        let _mscratch = self.mscratch;
+        let _mcause = self.mcause;
+        let _mtval = self.mtval;
+        let _mcycle = self.mcycle;
+        let _minstret = self.minstret;
     }
 
     /// Counts a step.

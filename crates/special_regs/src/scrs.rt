@@ -1,5 +1,6 @@
 ghost use Rattle.std.specs.Prelude.{◌≡◌, option_map};
 ghost use Rattle.special_regs.specs.Scrs.{IsAligned, scr_value};
+ghost use Rattle.special_regs.specs.Sound.{AreSound};
 ghost use Rattle.special_regs.specs.Writes.{scr_written};
 
 use base::scr;
@@ -54,6 +55,14 @@ impl<C: CapRep> Scrs<C> {
             mscratchc: null,
             mepcc: root,
         }
+    }
+
+    /// Tells proofs what is true of all special capability registers: their values are sound. It does nothing.
+    #[inline]
+    pub fn are_sound(&self)
+        ensures { AreSound self.now }
+    {
+        let _pcc = &self.pcc;
     }
 
     /// Returns the program counter capability.

@@ -15,7 +15,7 @@ pub returns-clause-state : goal.returns-clause-state
 returns-clause-state g c =
     let ends : c.if-ticks.pass ≡ (c.args.ticks && not (is_halted c.meet.new.machine)) = elim c.if-ticks.branch [
       | then-ticks w ↦ tick_if_due c.if-ticks.pass c.args.ticks c.is_none-running.result c.halted.result c.meet.new.machine
-          c.is_none-running.ensures c.halted.ensures w.if-ticks.true w.pass-is
+          c.is_none-running.ensures c.halted.ensures.value w.if-ticks.true w.pass-is
       | else-ticks w ↦ no_tick c.if-ticks.pass c.args.ticks c.meet.new.machine w.if-ticks.false w.pass-is
     ] in
     state_around c.args.byte c.args.ticks c.if-ticks.pass c.args.machine.now c.bring.new.machine c.meet.new.machine

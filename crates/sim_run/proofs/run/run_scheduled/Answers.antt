@@ -22,7 +22,7 @@ returns-in-Some-clause-state g c =
     let l = c.loop-done in
     let same : around c.byte_before-byte.result c.is_tick_after-ticks.result ≡ nth_step c.args.schedule c.args.input.now l.done =
     ap₂ around c.byte_before-byte.ensures c.is_tick_after-ticks.ensures in
-    let halted : is_halted c.meet_around.new.machine ≡ true = ap is_some (sym c.halted.ensures ∙ c.in-Some.is) in
+    let halted : is_halted c.meet_around.new.machine ≡ true = ap is_some (sym c.halted.ensures.value ∙ c.in-Some.is) in
     let there = state_after c.args.schedule c.args.input.now l.done c.args.machine.now l.machine c.requires.running
     l.invariant.state l.invariant.running c.meet_around.new.machine (rw same at c.in_ok-meet_around.ensures.state) in
     there
@@ -35,7 +35,7 @@ returns-in-Some-clause-bytes g c =
     let l = c.loop-done in
     let same : around c.byte_before-byte.result c.is_tick_after-ticks.result ≡ nth_step c.args.schedule c.args.input.now l.done =
     ap₂ around c.byte_before-byte.ensures c.is_tick_after-ticks.ensures in
-    let halted : is_halted c.meet_around.new.machine ≡ true = ap is_some (sym c.halted.ensures ∙ c.in-Some.is) in
+    let halted : is_halted c.meet_around.new.machine ≡ true = ap is_some (sym c.halted.ensures.value ∙ c.in-Some.is) in
     let there = state_after c.args.schedule c.args.input.now l.done c.args.machine.now l.machine c.requires.running
     l.invariant.state l.invariant.running c.meet_around.new.machine (rw same at c.in_ok-meet_around.ensures.state) in
     subst (λ es. Appends (g.W.Sink.held c.args.sink.now) (g.W.Sink.held c.meet_around.new.sink) (run_sent es c.args.machine.now))

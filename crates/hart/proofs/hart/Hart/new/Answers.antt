@@ -9,5 +9,5 @@ pub new-requires-2 : goal.new-requires-2
 new-requires-2 g c =
     ap (λ v. value_address v % 4) c.root_value.ensures ∙ ap (λ n. n % 4) c.entry.ensures.value ∙ entry_aligned c.args.image.now c.entry.ensures.valid
 
-pub invariant_of-result : goal.invariant_of-result
-invariant_of-result g c = subst HoldsCapabilities (sym c.in_ok-memory.ensures) (HoldsCapabilities-opening_memory c.args.image.now)
+pub invariant_of-hart : goal.invariant_of-hart
+invariant_of-hart g c = subst HoldsCapabilities (sym c.in_ok-memory.ensures) (HoldsCapabilities-opening_memory c.args.image.now)
