@@ -1,14 +1,13 @@
 -- A sound value's fields are in range, and what is made of sound values is sound.
-use Rattle.std.proofs.Common.{◌≡◌, ℕ, ◌+◌, ◌-◌, ◌%◌, ◌^◌, ◌<◌, Bool, true, false, refl, inl, inr, arith}
+use Rattle.std.proofs.Common.{◌≡◌, ℕ, ◌%◌, ◌^◌, ◌<◌, Bool, true, false, refl, inl, inr, arith}
 use Rattle.std.proofs.lemmas.Bool.{and_parts, cases_Bool, cond_both}
-use Rattle.cap_bounds.specs.Mantissa.{exponent_of, base_mantissa, length_mantissa}
-use Rattle.cap_bounds.specs.MantissaLaws.{length_mantissa-below}
-use Rattle.cap_bounds.specs.Window.{base_of_word, top_of_word}
+use Rattle.cap_bounds.specs.Mantissa.{exponent_of, base_mantissa}
+use Rattle.cap_bounds.specs.Window.{base_of_word}
 use Rattle.cap_format.specs.Word.{address_of}
-use Rattle.cap_bounds.specs.BaseLaws.{decoded_base-below, decoded_top-below}
+use Rattle.cap_bounds.specs.BaseLaws.{decoded_base-below}
 use Rattle.cap_bounds.specs.Record.{Record, IsWellFormed, IsWordWellFormed, has_exponent, encoded_at, window_holds}
 use Rattle.cap_bounds.specs.RecordLaws.{encoded-well_formed}
-use Rattle.cap_bounds.specs.CapValue.{CapValue, Cap, Data, IsSound, word_of, value_of, value_base, value_top, value_address, value_perms, value_flag, value_otype, integer}
+use Rattle.cap_bounds.specs.CapValue.{CapValue, Cap, Data, IsSound, word_of, value_of, value_base, value_address, value_perms, value_flag, value_otype, integer}
 use Rattle.cap_bounds.specs.EncodingLaws.{encoded_t-below, encoded_b-below}
 use Rattle.cap_bounds.specs.WordLaws.{joined, joined-below}
 use Rattle.cap_bounds.specs.Rounding.{rounding_exponent, rounded_base, rounded_top}

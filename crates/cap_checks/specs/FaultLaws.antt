@@ -1,11 +1,10 @@
 -- The faults of checks have numbers of 64 bits, and a jump that passes its checks goes to a multiple of 4.
-use Rattle.std.proofs.Common.{◌≡◌, ℕ, ◌+◌, ◌*◌, ◌/◌, ◌%◌, ◌^◌, ◌<◌, Bool, true, false, List, [], ◌∷◌, Option, Some, None, arith, lit<}
+use Rattle.std.proofs.Common.{◌≡◌, ℕ, ◌%◌, ◌^◌, ◌<◌, None, arith, lit<}
 use Rattle.std.specs.Prelude.{IfSome}
 use Rattle.std.proofs.lemmas.Bool.{eqb-true}
 use Rattle.base.specs.declared.cause.Cause.TheVariants as cause
 use Rattle.base.specs.declared.cause.CheriCause.{CheriCause}
 use Rattle.base.specs.declared.cause.CheriCause.TheVariants as forbids
-use Rattle.base.specs.Fault.{fault, cheri}
 use Rattle.base.specs.FaultLaws.{IsInRange, IsInRange-fault, IsInRange-cheri, EachHolds, first_fault-each, first_fault-none}
 use Rattle.base.specs.Registers.{pcc_register}
 use Rattle.cap_bounds.specs.CapValue.{CapValue, value_address}
@@ -22,9 +21,25 @@ pub access_fault-range : (authority : CapValue) (register : ℕ) (access : Acces
 unfolding access_fault
 access_fault-range authority register access address exists fits =
     let at = λ (what : CheriCause). IsInRange-cheri register what exists in
-    first_fault-each IsInRange (access_checks authority register access address)
-    (at forbids.Tag, (at forbids.Seal, (at (lacking access), (at forbids.StoreCapability, (at forbids.StoreLocalCapability, (at forbids.Length,
-    (IsInRange-fault (misaligned access) address fits, tt)))))))
+    first_fault-each IsInRange (access_checks authority register access address) (
+      at forbids.Tag,
+      (
+        at forbids.Seal,
+        (
+          at (lacking access),
+          (
+            at forbids.StoreCapability,
+            (
+              at forbids.StoreLocalCapability,
+              (
+                at forbids.Length,
+                (IsInRange-fault (misaligned access) address fits, tt),
+              ),
+            ),
+          ),
+        ),
+      ),
+    )
 
 pub access_fault-aligned : (authority : CapValue) (register : ℕ) (access : Access) (address : ℕ) → access_fault authority register access address ≡ None → address % width_of access ≡ 0
 unfolding access_fault
@@ -58,9 +73,19 @@ module _ (v : CapValue) (register offset : ℕ) where
   unfolding jump_fault
   jump_fault-range exists =
       let at = λ (what : CheriCause). IsInRange-cheri register what exists in
-      first_fault-each IsInRange (jump_checks v register offset)
-      (at forbids.Tag, (at forbids.Seal, (at forbids.Execute, (at forbids.Length,
-      (IsInRange-fault cause.MisalignedJump (jump_target (value_address v) offset) (jump_target-below (value_address v) offset), tt)))))
+      first_fault-each IsInRange (jump_checks v register offset) (
+        at forbids.Tag,
+        (
+          at forbids.Seal,
+          (
+            at forbids.Execute,
+            (
+              at forbids.Length,
+              (IsInRange-fault cause.MisalignedJump (jump_target (value_address v) offset) (jump_target-below (value_address v) offset), tt),
+            ),
+          ),
+        ),
+      )
 
   pub jump_fault-aligned : jump_fault v register offset ≡ None → jump_target (value_address v) offset % 4 ≡ 0
   unfolding jump_fault
@@ -74,10 +99,37 @@ module _ (code datum : CapValue) (code_register data_register : ℕ) where
   invoke_fault-range code_exists data_exists =
       let at_code = λ (what : CheriCause). IsInRange-cheri code_register what code_exists in
       let at_data = λ (what : CheriCause). IsInRange-cheri data_register what data_exists in
-      first_fault-each IsInRange (invoke_checks code code_register datum data_register)
-      (at_code forbids.Tag, (at_data forbids.Tag, (at_code forbids.Seal, (at_data forbids.Seal, (at_code forbids.Type, (at_code forbids.CInvoke, (at_data forbids.CInvoke,
-      (at_code forbids.Execute, (at_data forbids.Execute, (at_code forbids.Length,
-      (IsInRange-fault cause.MisalignedJump (invoke_target code) (jump_target-below (value_address code) 0), tt)))))))))))
+      first_fault-each IsInRange (invoke_checks code code_register datum data_register) (
+        at_code forbids.Tag,
+        (
+          at_data forbids.Tag,
+          (
+            at_code forbids.Seal,
+            (
+              at_data forbids.Seal,
+              (
+                at_code forbids.Type,
+                (
+                  at_code forbids.CInvoke,
+                  (
+                    at_data forbids.CInvoke,
+                    (
+                      at_code forbids.Execute,
+                      (
+                        at_data forbids.Execute,
+                        (
+                          at_code forbids.Length,
+                          (IsInRange-fault cause.MisalignedJump (invoke_target code) (jump_target-below (value_address code) 0), tt),
+                        ),
+                      ),
+                    ),
+                  ),
+                ),
+              ),
+            ),
+          ),
+        ),
+      )
 
   pub invoke_fault-aligned : invoke_fault code code_register datum data_register ≡ None → invoke_target code % 4 ≡ 0
   unfolding invoke_fault

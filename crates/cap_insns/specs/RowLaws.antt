@@ -1,11 +1,10 @@
 -- Each row over capabilities gives a sound value of sound values.
-use Rattle.std.proofs.Common.{◌≡◌, ℕ, ◌+◌, ◌-◌, ◌*◌, ◌/◌, ◌%◌, ◌^◌, ◌<◌, ◌≤◌, Bool, true, false, eqb, arith, lit<}
+use Rattle.std.proofs.Common.{◌≡◌, ℕ, ◌+◌, ◌-◌, ◌*◌, ◌/◌, ◌%◌, ◌^◌, ◌<◌, Bool, eqb, arith, lit<}
 use Rattle.std.proofs.lemmas.Nat.{mod_below, pow_pos}
 use Rattle.std.proofs.lemmas.Bool.{cond_both, eqb-true}
 use Rattle.cap_format.specs.Word.{bit}
-use Rattle.cap_bounds.specs.CapValue.{CapValue, IsSound, is_tagged, is_sealed, value_base, value_top, value_address, value_perms, value_flag, value_otype, without_tag, integer}
+use Rattle.cap_bounds.specs.CapValue.{CapValue, IsSound, is_tagged, is_sealed, value_base, value_top, value_address, value_perms, value_flag, value_otype, integer}
 use Rattle.cap_bounds.specs.WordLaws.{bit-small}
-use Rattle.cap_bounds.specs.SetAddress.{at_address}
 use Rattle.cap_bounds.specs.SetBounds.{with_bounds, bounds_exact}
 use Rattle.cap_bounds.specs.Rounding.{granules_up_to, length_granule}
 use Rattle.cap_bounds.specs.RoundingLaws.{rounding_granule-positive}
@@ -17,7 +16,7 @@ use Rattle.cap_rights.specs.Perms.{hardware_view, perms_in_view}
 use Rattle.isa_rows.specs.declared.operands.Insn.{Insn}
 use Rattle.isa_rows.specs.declared.rows.Row.{Row}
 use Rattle.isa_rows.specs.declared.rows.Row.TheVariants.{CIncOffsetImm, CSetBoundsImm, CSetBounds, CSetBoundsExact, CSeal, CUnseal, CAndPerm, CSetFlags, CSetOffset, CSetAddr, CIncOffset, CSub, CTestSubset, CSetEqualExact, CGetPerm, CGetType, CGetBase, CGetLen, CGetTag, CGetSealed, CGetOffset, CGetFlags, Crrl, Cram, CMove, CClearTag, CGetAddr, CSealEntry}
-use Rattle.cap_insns.specs.CapabilityRows.{sum, difference, length_of, representable_length, alignment_mask, with_exact_bounds, outer_of, row_value}
+use Rattle.cap_insns.specs.CapabilityRows.{length_of, representable_length, alignment_mask, with_exact_bounds, outer_of, row_value}
 
 -- ---- numbers
 

@@ -1,10 +1,10 @@
 -- Sound devices give numbers of 64 bits, and whatever happens leaves them sound.
-use Rattle.std.proofs.Common.{◌≡◌, ℕ, zero, suc, ◌+◌, ◌*◌, ◌/◌, ◌%◌, ◌^◌, ◌<◌, ◌≤◌, Bool, true, false, eqb, ltb, not, List, [], ◌∷◌, ◌++◌, length, Option, Some, None, refl, length-append, arith, lit<, lit≤}
+use Rattle.std.proofs.Common.{◌≡◌, ℕ, zero, suc, ◌+◌, ◌^◌, ◌<◌, ◌≤◌, Bool, true, false, eqb, ltb, not, List, [], ◌∷◌, ◌++◌, length, Some, refl, length-append, arith, lit<, lit≤}
 use Rattle.std.specs.Prelude.{nat_le, slice_index, IfSome, ◌&&◌}
 use Rattle.std.proofs.lemmas.Nat.{mod_below, pow_pos}
 use Rattle.std.proofs.lemmas.Bool.{cond_both, ltb-true}
 use Rattle.cap_format.specs.Word.{bit}
-use Rattle.devices.specs.Devices.{Devices, AreDevices, idle, waits, oldest, without_oldest, status_of, value_at, taken_at, written, ticked, received, interrupts_of, timer_compare, timer, receive, status, control_register, halt}
+use Rattle.devices.specs.Devices.{Devices, idle, waits, oldest, without_oldest, status_of, value_at, taken_at, written, ticked, received, interrupts_of, timer_compare, timer, receive, status, control_register, halt}
 use Rattle.devices.specs.Sound.{AreSound}
 
 bit-small : (b : Bool) → bit b < 2

@@ -1,10 +1,9 @@
 -- The state in which a valid image is opened is a state.
-use Rattle.std.proofs.Common.{◌≡◌, ℕ, zero, suc, ◌+◌, ◌*◌, ◌%◌, ◌^◌, ◌<◌, ◌≤◌, true, false, List, [], ◌∷◌, length, refl, sym, ap, ◌∙◌, arith, lit<, lit≤}
+use Rattle.std.proofs.Common.{◌≡◌, ℕ, zero, suc, ◌+◌, ◌*◌, ◌^◌, ◌<◌, ◌≤◌, true, false, List, [], ◌∷◌, length, refl, ◌∙◌, arith, lit<}
 use Rattle.std.specs.Prelude.{All, slice_index, replicate}
 use Rattle.std.proofs.lemmas.List.{length-replicate}
-use Rattle.std.proofs.lemmas.Bool.{and_parts, both_ways, leb-true}
-use Rattle.base.specs.Ram.{ram_base, page_bytes, most_pages, ram_end}
-use Rattle.cap_bounds.specs.CapValue.{CapValue, IsSound, value_address}
+use Rattle.base.specs.Ram.{ram_end}
+use Rattle.cap_bounds.specs.CapValue.{IsSound}
 use Rattle.cap_bounds.specs.Root.{root}
 use Rattle.cap_bounds.specs.RootLaws.{IsWellFormed-root}
 use Rattle.cap_bounds.specs.SoundLaws.{IsSound-integer}
@@ -16,7 +15,7 @@ use Rattle.special_regs.specs.Sound.{AreSound}
 use Rattle.special_regs.specs.SoundLaws.{AreInRange-zero}
 use Rattle.image.specs.Image.{Image, Section, IsImage, is_good_header, mode_number}
 use Rattle.image.specs.ImageLaws.{AllInRam, AllInRam-image, build_parts, entry_aligned, header_ranges, pages_some}
-use Rattle.hart.specs.Registers.{null, register, AreRegisters}
+use Rattle.hart.specs.Registers.{null, register}
 use Rattle.hart.specs.Opening.{loaded, opening_memory, opening_scrs, opening}
 use Rattle.hart.specs.OpeningLaws.{HoldsCapabilities-opening_memory}
 use Rattle.hart.specs.IsState.{IsState}

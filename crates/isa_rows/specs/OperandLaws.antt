@@ -1,8 +1,8 @@
 -- The operands that are read from a word are in range: registers below 32, and an immediate of 64 bits.
-use Rattle.std.proofs.Common.{◌≡◌, ℕ, ◌+◌, ◌-◌, ◌*◌, ◌/◌, ◌%◌, ◌^◌, ◌<◌, ◌≤◌, Bool, Option, Some, None, arith, lit≤}
+use Rattle.std.proofs.Common.{ℕ, ◌+◌, ◌-◌, ◌*◌, ◌^◌, ◌<◌, ◌≤◌, Some, None, arith, lit≤}
 use Rattle.std.specs.Prelude.{IfSome, find, option_map, nat_lt}
 use Rattle.std.proofs.Math.Pow.{pow_mono}
-use Rattle.std.proofs.lemmas.Bool.{cond_both, ltb-true}
+use Rattle.std.proofs.lemmas.Bool.{cond_both}
 use Rattle.isa_rows.specs.declared.formats.Format.{Format}
 use Rattle.isa_rows.specs.declared.formats.Format.TheVariants.{Upper, Jump, Immediate, Unsigned, Store, Branch, Shift6, Shift5, Register, Whole, Unary, Pair}
 use Rattle.isa_rows.specs.declared.operands.Insn.{Insn}

@@ -1,13 +1,12 @@
 -- Special registers that are sound and in range give what is sound and in range, and stay so.
-use Rattle.std.proofs.Common.{◌≡◌, ℕ, ◌+◌, ◌*◌, ◌/◌, ◌%◌, ◌^◌, ◌<◌, ◌≤◌, Bool, true, false, eqb, cond, List, [], ◌∷◌, Option, Some, None, refl, arith, lit<}
+use Rattle.std.proofs.Common.{◌≡◌, ℕ, ◌+◌, ◌*◌, ◌/◌, ◌%◌, ◌^◌, ◌<◌, Bool, true, false, eqb, cond, List, [], ◌∷◌, Some, arith, lit<}
 use Rattle.std.specs.Prelude.{IfSome, bit_and}
 use Rattle.std.proofs.lemmas.Nat.{and_le_l, mod_below, pow_pos}
 use Rattle.std.proofs.lemmas.Bool.{cond_both, eqb-true}
 use Rattle.base.specs.declared.fault.Fault.{Fault}
 use Rattle.base.specs.FaultLaws.{IsInRange}
-use Rattle.base.specs.declared.registers.csr.TheConstants.{MSTATUS, MIE, MTVEC, MSCRATCH, MEPC, MCAUSE, MTVAL, MCYCLE, MINSTRET}
+use Rattle.base.specs.declared.registers.csr.TheConstants.{MIE, MTVEC, MSCRATCH, MEPC, MCAUSE, MTVAL, MCYCLE, MINSTRET}
 use Rattle.base.specs.declared.registers.scr.TheConstants.{DDC, MTCC, MTDC, MSCRATCHC, MEPCC}
-use Rattle.cap_format.specs.Word.{bit}
 use Rattle.cap_bounds.specs.CapValue.{CapValue, IsSound, value_address}
 use Rattle.cap_bounds.specs.WordLaws.{bit-small}
 use Rattle.cap_bounds.specs.SetAddress.{at_address}
@@ -54,9 +53,34 @@ pub csr_value-below : (c : Csrs) (s : Scrs) (mip n : ℕ) → AreInRange c → A
 unfolding csr_value
 csr_value-below c s mip n range sound fits =
     let zero : 0 < 2 ^ 64 = lit< tt in
-    value_at-each (λ v. v < 2 ^ 64) n (csr_values c s mip)
-    (mstatus-below c, (lit< tt, (range.mie, (view-below s.mtcc sound.mtcc, (range.mscratch, (view-below s.mepcc sound.mepcc, (range.mcause, (range.mtval, (fits,
-    (range.mcycle, (range.minstret, (zero, (zero, (zero, (zero, tt)))))))))))))))
+    value_at-each (λ v. v < 2 ^ 64) n (csr_values c s mip) (
+      mstatus-below c,
+      (
+        lit< tt,
+        (
+          range.mie,
+          (
+            view-below s.mtcc sound.mtcc,
+            (
+              range.mscratch,
+              (
+                view-below s.mepcc sound.mepcc,
+                (
+                  range.mcause,
+                  (
+                    range.mtval,
+                    (
+                      fits,
+                      (range.mcycle, (range.minstret, (zero, (zero, (zero, (zero, tt)))))),
+                    ),
+                  ),
+                ),
+              ),
+            ),
+          ),
+        ),
+      ),
+    )
 
 pub IsInRange-cause_of : (interrupt : Interrupt) → IsInRange (cause_of interrupt)
 IsInRange-cause_of External = record { mcause = lit< tt; mtval = lit< tt }

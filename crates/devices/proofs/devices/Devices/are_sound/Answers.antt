@@ -1,6 +1,5 @@
-use Rattle.std.proofs.Common.{◌≡◌, ℕ, ◌^◌, ◌<◌, List, Option, Some, None, sym, subst, arith}
+use Rattle.std.proofs.Common.{ℕ, ◌^◌, ◌<◌, List, Option, sym, subst, arith}
 use Rattle.std.specs.Prelude.{IfSome, slice_index}
-use Rattle.devices.specs.Held.{devices_of}
 use Rattle.devices.specs.Sound.{AreSound}
 use Rattle.devices.proofs.devices.Devices.are_sound.Goals as goal
 
