@@ -150,8 +150,15 @@ imm-leads row b d kind (Err fault) f w e = cc
 upper-leads : (row : Row) (b : Bounds) (d : Draft) (r : Result ℤ LineFault) → Numbers (below (2 ^ 20)) r → IsWithin row b d
     → Leads row (record b { imm = upper }) d (with_upper d r)
 upper-leads row b d (Ok z) f w e =
-    record { row_is = w.row_is; rd_below = w.rd_below; rs1_below = w.rs1_below; rs2_below = w.rs2_below; imm_is = upper-number (wrapped z)
-        (f z refl); target_is = w.target_is }
+    record {
+      row_is = w.row_is;
+      rd_below = w.rd_below;
+      rs1_below = w.rs1_below;
+      rs2_below = w.rs2_below;
+      imm_is = upper-number (wrapped z)
+          (f z refl);
+      target_is = w.target_is;
+    }
 upper-leads row b d (Err fault) f w e = cc
 
 small-leads : (row : Row) (b : Bounds) (d : Draft) (r : Result ℤ LineFault) → Numbers (below 32) r → IsWithin row b d

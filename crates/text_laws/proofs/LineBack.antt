@@ -170,7 +170,7 @@ word_back word h =
     let size = length_word word in
     ap (λ l. line_meaning (codes ".word" ++ 32 ∷ l)) (sym (append_nil (word_text word)))
     ∙ operands_line (codes ".word") (word_text word) [] (record { some = omega arith; bytes = refl }) (plain_word word) tt
-        (omega (arith, length-append (word_text word) []))
+    (omega (arith, length-append (word_text word) []))
     ∙ ap (λ l. labelled None (said_by (codes ".word") l)) (append_nil (word_text word))
     ∙ ap (labelled None) (word_said 48 (120 ∷ hex_of 8 word))
     ∙ ap (λ f. labelled None (said_unless (values 4 (word_text word)) f)) (no_fault word h)

@@ -72,10 +72,10 @@ signed_12_back n h =
     let below = signed_range n h in
     elim (signed_reading n below) [
       | inl p ↦ ap (λ z. signed_12 (Ok z)) p.1 ∙ signed_12_pos n (elim h [ inl q ↦ omega arith | inr q ↦ absurd (omega (arith, p.0, q.0)) ])
-      ∙ ap Ok (sym p.1)
+          ∙ ap Ok (sym p.1)
       | inr p ↦ ap (λ z. signed_12 (Ok z)) p.1
-      ∙ signed_12_negsuc (2 ^ 64 - 1 - n) (elim h [ inl q ↦ absurd (omega (arith, p.0, q)) | inr q ↦ omega (arith, q.0, q.1) ])
-      ∙ ap Ok (sym p.1)
+          ∙ signed_12_negsuc (2 ^ 64 - 1 - n) (elim h [ inl q ↦ absurd (omega (arith, p.0, q)) | inr q ↦ omega (arith, q.0, q.1) ])
+          ∙ ap Ok (sym p.1)
     ]
 
 -- a number of 20 bits in the upper bits, and back
