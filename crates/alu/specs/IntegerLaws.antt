@@ -5,9 +5,14 @@ use Rattle.std.proofs.Math.Nat.{div-le_self, mod-le}
 use Rattle.std.proofs.lemmas.Nat.{and_le_l, or_lt, xor_lt, mul-lt, mod_below, pow_pos}
 use Rattle.std.proofs.lemmas.Bool.{cond_both}
 use Rattle.isa_rows.specs.declared.rows.Row.{Row}
-use Rattle.isa_rows.specs.declared.rows.Row.TheVariants.{Lui, Addi, Slti, Sltiu, Xori, Ori, Andi, Slli, Srli, Srai, Addiw, Slliw, Srliw, Sraiw, Add, Sll, Slt, Sltu, Xor, Srl, Or, And, Sub, Sra, Addw, Sllw, Srlw, Subw, Sraw, Mul, Mulh, Mulhsu, Mulhu, Div, Divu, Rem, Remu, Mulw, Divw, Divuw, Remw, Remuw}
+use Rattle.isa_rows.specs.declared.rows.Row.TheVariants.{Lui, Addi, Slti, Sltiu, Xori, Ori, Andi, Slli, Srli, Srai, Addiw, Slliw, Srliw}
+use Rattle.isa_rows.specs.declared.rows.Row.TheVariants.{Sraiw, Add, Sll, Slt, Sltu, Xor, Srl, Or, And, Sub, Sra, Addw, Sllw, Srlw, Subw}
+use Rattle.isa_rows.specs.declared.rows.Row.TheVariants.{Sraw, Mul, Mulh, Mulhsu, Mulhu, Div, Divu, Rem, Remu, Mulw, Divw, Divuw, Remw}
+use Rattle.isa_rows.specs.declared.rows.Row.TheVariants.{Remuw}
 use Rattle.isa_rows.specs.OperandLaws.{sign_extended-below}
-use Rattle.alu.specs.Integer.{signed, wrapped, word, signed_word, extended, floor_div, bit, int_result, overflows, overflows_word, quotient, quotient_word, remainder, remainder_word, mul_div_result}
+use Rattle.base.specs.Bits.{bit}
+use Rattle.alu.specs.Integer.{signed, wrapped, word, signed_word, extended, floor_div, int_result, overflows, overflows_word, quotient}
+use Rattle.alu.specs.Integer.{quotient_word, remainder, remainder_word, mul_div_result}
 
 abbrev Fits : ℕ → Type 0
 Fits n = n < 2 ^ 64
@@ -85,25 +90,29 @@ quotient-fits : (a b : ℕ) → Fits a → Fits (quotient a b)
 unfolding quotient
 quotient-fits a b fits =
     cond_both (eqb b 0) _ _ Fits (λ _. ones-fit)
-    (λ _. cond_both (overflows a b) a (wrapped (int_div (signed a) (signed b))) Fits (λ _. fits) (λ _. wrapped-fits (int_div (signed a) (signed b))))
+    (λ _. cond_both (overflows a b) a (wrapped (int_div (signed a) (signed b))) Fits (λ _. fits)
+    (λ _. wrapped-fits (int_div (signed a) (signed b))))
 
 quotient_word-fits : (a b : ℕ) → Fits (quotient_word a b)
 unfolding quotient_word
 quotient_word-fits a b =
     cond_both (eqb (word b) 0) _ _ Fits (λ _. ones-fit)
-    (λ _. cond_both (overflows_word a b) (extended a) (wrapped (int_div (signed_word a) (signed_word b))) Fits (λ _. extended-fits a) (λ _. wrapped-fits (int_div (signed_word a) (signed_word b))))
+    (λ _. cond_both (overflows_word a b) (extended a) (wrapped (int_div (signed_word a) (signed_word b))) Fits (λ _. extended-fits a)
+    (λ _. wrapped-fits (int_div (signed_word a) (signed_word b))))
 
 remainder-fits : (a b : ℕ) → Fits a → Fits (remainder a b)
 unfolding remainder
 remainder-fits a b fits =
     cond_both (eqb b 0) a _ Fits (λ _. fits)
-    (λ _. cond_both (overflows a b) 0 (wrapped (int_rem (signed a) (signed b))) Fits (λ _. zero-fits) (λ _. wrapped-fits (int_rem (signed a) (signed b))))
+    (λ _. cond_both (overflows a b) 0 (wrapped (int_rem (signed a) (signed b))) Fits (λ _. zero-fits)
+    (λ _. wrapped-fits (int_rem (signed a) (signed b))))
 
 remainder_word-fits : (a b : ℕ) → Fits (remainder_word a b)
 unfolding remainder_word
 remainder_word-fits a b =
     cond_both (eqb (word b) 0) (extended a) _ Fits (λ _. extended-fits a)
-    (λ _. cond_both (overflows_word a b) 0 (wrapped (int_rem (signed_word a) (signed_word b))) Fits (λ _. zero-fits) (λ _. wrapped-fits (int_rem (signed_word a) (signed_word b))))
+    (λ _. cond_both (overflows_word a b) 0 (wrapped (int_rem (signed_word a) (signed_word b))) Fits (λ _. zero-fits)
+    (λ _. wrapped-fits (int_rem (signed_word a) (signed_word b))))
 
 pub mul_div_result-below : (row : Row) (a b : ℕ) → a < 2 ^ 64 → b < 2 ^ 64 → mul_div_result row a b < 2 ^ 64
 unfolding mul_div_result

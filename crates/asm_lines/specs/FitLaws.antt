@@ -20,7 +20,7 @@ use Rattle.asm_lines.specs.Number.{Expression, number_of, expression_of}
 use Rattle.asm_lines.specs.Operand.{Draft, up_to, wrapped, filled_draft, filled_fault}
 use Rattle.asm_lines.specs.Statement.{Statement, row, pages, mode, org, align, zeros, values, text, Said, said, said_unless, said_by}
 use Rattle.asm_lines.specs.Statement.{is_word, Pattern, pattern, plain, row_pattern, pattern_of, pattern_said, draft_of, row_said}
-use Rattle.asm_lines.specs.Statement.{load_said, register_load, number_said, page_count, entry_said, values_said, values_fault, text_said}
+use Rattle.asm_lines.specs.Statement.{load_said, register_load, number_said, page_range, entry_said, values_said, values_fault, text_said}
 use Rattle.asm_lines.specs.Statement.{is_quoted}
 use Rattle.asm_lines.specs.Line.{Line, labelled, line_said, line_of_text, line_meaning, FitsAt, RowFits}
 use Rattle.asm_lines.specs.SlotLaws.{Kind, below, Bounds, IsWithin, bounds_of, filled-within}
@@ -81,7 +81,14 @@ ret-suits =
       bounds = start
           (below 1);
       within =
-          record { row_is = refl; rd_below = omega arith; rs1_below = omega arith; rs2_below = omega arith; imm_is = omega arith; target_is = tt };
+          record {
+            row_is = refl;
+            rd_below = omega arith;
+            rs1_below = omega arith;
+            rs2_below = omega arith;
+            imm_is = omega arith;
+            target_is = tt;
+          };
       suited = refl;
     }
 
@@ -92,7 +99,14 @@ fence-suits =
       bounds = start
           (below 256);
       within =
-          record { row_is = refl; rd_below = omega arith; rs1_below = omega arith; rs2_below = omega arith; imm_is = omega arith; target_is = tt };
+          record {
+            row_is = refl;
+            rd_below = omega arith;
+            rs1_below = omega arith;
+            rs2_below = omega arith;
+            imm_is = omega arith;
+            target_is = tt;
+          };
       suited = refl;
     }
 
@@ -136,7 +150,15 @@ pattern-fits p ps k e =
     let w = filled-within p.slots ps p.insn.row k.bounds (draft_of p) k.within e in
     let suited : suits (line_of d.insn.row).format (bounds_of p.slots k.bounds) ≡ true = rw w.row_is k.suited in
     fits-at (bounds_of p.slots k.bounds) d.insn d.target suited
-    (record { row_is = refl; rd_below = w.rd_below; rs1_below = w.rs1_below; rs2_below = w.rs2_below; imm_is = w.imm_is; target_is = w.target_is })
+    (record {
+      row_is = refl;
+      rd_below = w.rd_below;
+      rs1_below = w.rs1_below;
+      rs2_below = w.rs2_below;
+      imm_is = w.imm_is;
+      target_is =
+          w.target_is;
+    })
 
 -- where a fault leaves a statement, there is none or it is the first
 unless-fits : (s : Statement) (fault : Option LineFault)
@@ -202,8 +224,8 @@ unfolding said_by
 said-fits word operands =
     one-fits (is_word word (codes "la")) (load_said false (pieces_of operands)) _ (load-fits false (pieces_of operands)) (
     one-fits (is_word word (codes "cla")) (load_said true (pieces_of operands)) _ (load-fits true (pieces_of operands)) (
-    one-fits (is_word word (codes ".pages")) (number_said pages (Some (pages 0)) (page_count (number_of operands))) _
-    (number-fits pages (Some (pages 0)) (page_count (number_of operands)) (λ n i t q. cc)) (
+    one-fits (is_word word (codes ".pages")) (number_said pages (Some (pages 0)) (page_range (number_of operands))) _
+    (number-fits pages (Some (pages 0)) (page_range (number_of operands)) (λ n i t q. cc)) (
     one-fits (is_word word (codes ".mode")) (number_said (λ n. mode (n == 1)) (Some (mode false)) (up_to 1 (number_of operands))) _
     (number-fits (λ n. mode (n == 1)) (Some (mode false)) (up_to 1 (number_of operands)) (λ n i t q. cc)) (
     one-fits (is_word word (codes ".entry")) (entry_said (expression_of operands)) _ (entry-fits (expression_of operands)) (

@@ -126,25 +126,57 @@ upper-number n h =
 rd-leads : (row : Row) (b : Bounds) (d : Draft) (o : Option ℕ) → ((n : ℕ) → o ≡ Some n → n < 32) → IsWithin row b d
     → Leads row (record b { rd = 32 }) d (with_rd d o)
 rd-leads row b d (Some n) f w e =
-    record { row_is = w.row_is; rd_below = f n refl; rs1_below = w.rs1_below; rs2_below = w.rs2_below; imm_is = w.imm_is; target_is = w.target_is }
+    record {
+      row_is = w.row_is;
+      rd_below = f n refl;
+      rs1_below = w.rs1_below;
+      rs2_below = w.rs2_below;
+      imm_is = w.imm_is;
+      target_is =
+          w.target_is;
+    }
 rd-leads row b d None f w e = cc
 
 rs1-leads : (row : Row) (b : Bounds) (d : Draft) (o : Option ℕ) → ((n : ℕ) → o ≡ Some n → n < 32) → IsWithin row b d
     → Leads row (record b { rs1 = 32 }) d (with_rs1 d o)
 rs1-leads row b d (Some n) f w e =
-    record { row_is = w.row_is; rd_below = w.rd_below; rs1_below = f n refl; rs2_below = w.rs2_below; imm_is = w.imm_is; target_is = w.target_is }
+    record {
+      row_is = w.row_is;
+      rd_below = w.rd_below;
+      rs1_below = f n refl;
+      rs2_below = w.rs2_below;
+      imm_is = w.imm_is;
+      target_is =
+          w.target_is;
+    }
 rs1-leads row b d None f w e = cc
 
 rs2-leads : (row : Row) (b : Bounds) (d : Draft) (o : Option ℕ) → ((n : ℕ) → o ≡ Some n → n < 32) → IsWithin row b d
     → Leads row (record b { rs2 = 32 }) d (with_rs2 d o)
 rs2-leads row b d (Some n) f w e =
-    record { row_is = w.row_is; rd_below = w.rd_below; rs1_below = w.rs1_below; rs2_below = f n refl; imm_is = w.imm_is; target_is = w.target_is }
+    record {
+      row_is = w.row_is;
+      rd_below = w.rd_below;
+      rs1_below = w.rs1_below;
+      rs2_below = f n refl;
+      imm_is = w.imm_is;
+      target_is =
+          w.target_is;
+    }
 rs2-leads row b d None f w e = cc
 
 imm-leads : (row : Row) (b : Bounds) (d : Draft) (kind : Kind) (r : Result ℤ LineFault) → Numbers kind r → IsWithin row b d
     → Leads row (record b { imm = kind }) d (with_imm d r)
 imm-leads row b d kind (Ok z) f w e =
-    record { row_is = w.row_is; rd_below = w.rd_below; rs1_below = w.rs1_below; rs2_below = w.rs2_below; imm_is = f z refl; target_is = w.target_is }
+    record {
+      row_is = w.row_is;
+      rd_below = w.rd_below;
+      rs1_below = w.rs1_below;
+      rs2_below = w.rs2_below;
+      imm_is = f z refl;
+      target_is =
+          w.target_is;
+    }
 imm-leads row b d kind (Err fault) f w e = cc
 
 upper-leads : (row : Row) (b : Bounds) (d : Draft) (r : Result ℤ LineFault) → Numbers (below (2 ^ 20)) r → IsWithin row b d
@@ -164,13 +196,29 @@ upper-leads row b d (Err fault) f w e = cc
 small-leads : (row : Row) (b : Bounds) (d : Draft) (r : Result ℤ LineFault) → Numbers (below 32) r → IsWithin row b d
     → Leads row (record b { rs1 = 32 }) d (with_small d r)
 small-leads row b d (Ok z) f w e =
-    record { row_is = w.row_is; rd_below = w.rd_below; rs1_below = f z refl; rs2_below = w.rs2_below; imm_is = w.imm_is; target_is = w.target_is }
+    record {
+      row_is = w.row_is;
+      rd_below = w.rd_below;
+      rs1_below = f z refl;
+      rs2_below = w.rs2_below;
+      imm_is = w.imm_is;
+      target_is =
+          w.target_is;
+    }
 small-leads row b d (Err fault) f w e = cc
 
 special-leads : (row : Row) (b : Bounds) (d : Draft) (r : Result ℤ LineFault) → Numbers (below 32) r → IsWithin row b d
     → Leads row (record b { rs2 = 32 }) d (with_special d r)
 special-leads row b d (Ok z) f w e =
-    record { row_is = w.row_is; rd_below = w.rd_below; rs1_below = w.rs1_below; rs2_below = f z refl; imm_is = w.imm_is; target_is = w.target_is }
+    record {
+      row_is = w.row_is;
+      rd_below = w.rd_below;
+      rs1_below = w.rs1_below;
+      rs2_below = f z refl;
+      imm_is = w.imm_is;
+      target_is =
+          w.target_is;
+    }
 special-leads row b d (Err fault) f w e = cc
 
 target-leads : (row : Row) (b : Bounds) (d : Draft) (r : Result Expression LineFault) → IsWithin row b d
@@ -182,7 +230,15 @@ target-leads row b d (Err fault) w e = cc
 address-leads : (row : Row) (b : Bounds) (d : Draft) (o : Option ℕ) (r : Result ℤ LineFault) → ((n : ℕ) → o ≡ Some n → n < 32)
     → Numbers signed r → IsWithin row b d → Leads row (record b { rs1 = 32; imm = signed }) d (with_address d o r)
 address-leads row b d (Some n) (Ok z) f g w e =
-    record { row_is = w.row_is; rd_below = w.rd_below; rs1_below = f n refl; rs2_below = w.rs2_below; imm_is = g z refl; target_is = w.target_is }
+    record {
+      row_is = w.row_is;
+      rd_below = w.rd_below;
+      rs1_below = f n refl;
+      rs2_below = w.rs2_below;
+      imm_is = g z refl;
+      target_is =
+          w.target_is;
+    }
 address-leads row b d (Some n) (Err fault) f g w e = cc
 address-leads row b d None r f g w e = cc
 

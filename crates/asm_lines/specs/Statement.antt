@@ -118,9 +118,9 @@ number_said make other (Ok n) = said (Some (make (wrapped n))) None
 number_said make other (Err fault) = said (if leaves_statement (Some fault) then other else None) (Some fault)
 
 -- a number of 1 to the most pages
-abbrev pub page_count : Result ℤ LineFault → Result ℤ LineFault
-page_count (Ok n) = if int_lt n (pos 1) || int_lt (pos most_pages) n then Err A3 else Ok n
-page_count (Err fault) = Err fault
+abbrev pub page_range : Result ℤ LineFault → Result ℤ LineFault
+page_range (Ok n) = if int_lt n (pos 1) || int_lt (pos most_pages) n then Err A3 else Ok n
+page_range (Err fault) = Err fault
 
 abbrev pub entry_said : Result Expression LineFault → Said
 entry_said e = said_unless (entry (expression_or_nought e)) (fault_of e)
@@ -188,7 +188,7 @@ unfoldable pub said_by : List ℕ → List ℕ → Said
 said_by word operands =
     if is_word word (codes "la") then load_said false (pieces_of operands)
     else (if is_word word (codes "cla") then load_said true (pieces_of operands)
-    else (if is_word word (codes ".pages") then number_said pages (Some (pages 0)) (page_count (number_of operands))
+    else (if is_word word (codes ".pages") then number_said pages (Some (pages 0)) (page_range (number_of operands))
     else (if is_word word (codes ".mode") then number_said (λ n. mode (n == 1)) (Some (mode false)) (up_to 1 (number_of operands))
     else (if is_word word (codes ".entry") then entry_said (expression_of operands)
     else (if is_word word (codes ".org") then number_said org None (up_to (2 ^ 64 - 1) (number_of operands))

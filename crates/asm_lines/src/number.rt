@@ -1,7 +1,8 @@
 //! Numbers and expressions.
 ghost use Rattle.std.specs.Prelude.{◌≡◌, ◌≤◌, ◌<◌, ◌^◌, pos, neg_ℤ, Some, SomeIff, IfOk, IsTrue, ◌==◌, if◌then◌else◌};
 ghost use Rattle.std.specs.Str.Parse.{digits_value};
-ghost use Rattle.asm_lines.specs.Number.{is_numeral, is_in_limits, is_hexadecimal, is_negative, limited, number_of, named_expression, expression_of, expression};
+ghost use Rattle.asm_lines.specs.Number.{is_numeral, is_in_limits, is_hexadecimal, is_negative, limited, number_of, named_expression};
+ghost use Rattle.asm_lines.specs.Number.{expression_of, expression};
 ghost use Rattle.asm_lines.specs.Line.{seen_expression, seen_result, IsOffset};
 
 use crate::class::{Class, begins_name, digit_value, run_length};

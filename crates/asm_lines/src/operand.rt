@@ -4,7 +4,8 @@ ghost use Rattle.isa_rows.specs.Insn.{sign_extended};
 ghost use Rattle.asm_names.specs.Registers.{register_named};
 ghost use Rattle.asm_names.specs.SpecialNames.{csr_named, scr_named};
 ghost use Rattle.asm_lines.specs.Number.{number_of};
-ghost use Rattle.asm_lines.specs.Operand.{up_to, signed_12, named_or, has_brackets, before_bracket, in_brackets, displacement, filled_address, filled_authority, filled_slot};
+ghost use Rattle.asm_lines.specs.Operand.{up_to, signed_12, named_or, has_brackets, before_bracket, in_brackets, displacement};
+ghost use Rattle.asm_lines.specs.Operand.{filled_address, filled_authority, filled_slot};
 ghost use Rattle.asm_lines.specs.Line.{HasTargetOffset};
 ghost use Rattle.asm_lines.specs.Seen.{seen_draft, seen_filled, or_A2, wrapped_or};
 

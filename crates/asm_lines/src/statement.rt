@@ -3,7 +3,8 @@ ghost use Rattle.std.specs.Prelude.{◌≡◌, ◌<◌, ◌==◌, ◌^◌, ◌-�
 ghost use Rattle.asm_lines.specs.Text.{pieces_of};
 ghost use Rattle.asm_lines.specs.Number.{number_of, expression_of};
 ghost use Rattle.asm_lines.specs.Operand.{up_to};
-ghost use Rattle.asm_lines.specs.Statement.{said, said_unless, pattern_said, load_said, register_load, number_said, page_count, entry_said, values_said, text_said, said_by, pages, mode, org, align, zeros, IsSize};
+ghost use Rattle.asm_lines.specs.Statement.{said, said_unless, pattern_said, load_said, register_load, number_said, page_range, entry_said};
+ghost use Rattle.asm_lines.specs.Statement.{values_said, text_said, said_by, pages, mode, org, align, zeros, IsSize};
 ghost use Rattle.asm_lines.specs.Line.{seen_statement, seen_result, HasOffset, IsBounded, IsBoundedIfAny};
 ghost use Rattle.asm_lines.specs.Seen.{seen_pattern, seen_said};
 
@@ -140,7 +141,7 @@ fn register_load<'a>(
 
 /// `.pages`: a number of 1 to the most pages of RAM; out of range it leaves 0.
 fn pages_said<'a>(operands: &[u8]) -> Said<'a>
-    ensures value { seen_said result ≡ number_said pages (Some (pages 0)) (page_count (number_of operands.now)) }
+    ensures value { seen_said result ≡ number_said pages (Some (pages 0)) (page_range (number_of operands.now)) }
     ensures bounds { IsBoundedIfAny result.statement }
 {
     match natural(operands, u64::from(ram::MOST_PAGES)) {

@@ -1,7 +1,8 @@
 //! How a line is cut: white space, the label, the mnemonic, operands between commas.
 ghost use Rattle.std.specs.Prelude.{◌≡◌, ◌≤◌, ◌<◌, ◌+◌, ◌∷◌, take, drop, length, option_map, IfSome};
 ghost use Rattle.std.specs.List.{prefix_len};
-ghost use Rattle.asm_lines.specs.Text.{trimmed_start, trimmed_end, trimmed, is_name, is_dot, has_label, label_of, statement_text, mnemonic_of, operands_of, pieces_between, pieces_left};
+ghost use Rattle.asm_lines.specs.Text.{trimmed_start, trimmed_end, trimmed, is_name, is_dot, has_label, label_of, statement_text};
+ghost use Rattle.asm_lines.specs.Text.{mnemonic_of, operands_of, pieces_between, pieces_left};
 ghost use Rattle.asm_lines.specs.Class.{is_in};
 
 use crate::class::{Class, begins_name, is_blank, run_length};

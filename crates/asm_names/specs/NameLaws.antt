@@ -1,5 +1,6 @@
 -- Laws of names: what is shown is read back, and the numbers that names have.
-use Rattle.std.proofs.Common.{◌≡◌, ℕ, zero, suc, ◌+◌, ◌<◌, Bool, true, false, ◌==◌, ◌&&◌, List, [], ◌∷◌, Option, Some, None, refl, ap, ◌∙◌, arith}
+use Rattle.std.proofs.Common.{◌≡◌, ℕ, zero, suc, ◌+◌, ◌<◌, Bool, true, false, ◌==◌, ◌&&◌, List, [], ◌∷◌, Option, Some, None, refl, ap, ◌∙◌}
+use Rattle.std.proofs.Common.{arith}
 use Rattle.std.specs.Cmp.Lexicographic.{pointwise}
 use Rattle.std.specs.Prelude.{length, nat_eq, nat_lt, slice_get}
 use Rattle.std.proofs.lemmas.Bool.Decides.{nat_tests}
@@ -8,7 +9,8 @@ use Rattle.isa_rows.specs.declared.rows.Row.{Row}
 use Rattle.isa_rows.specs.declared.rows.Row.TheVariants.{Lui}
 use Rattle.isa_rows.specs.Line.{line_of}
 use Rattle.asm_names.specs.Mnemonic.{mnemonic, row_named}
-use Rattle.asm_names.specs.Registers.{register_named, register_name, integer_names, capability_names, integer_numbers, capability_numbers, or_else, place_of, frame_pointer}
+use Rattle.asm_names.specs.Registers.{register_named, register_name, integer_names, capability_names, integer_numbers, capability_numbers}
+use Rattle.asm_names.specs.Registers.{or_else, place_of, frame_pointer}
 use Rattle.base.specs.Registers.{csrs, special_registers}
 use Rattle.asm_names.specs.SpecialNames.{number_in, name_in, csr_named, csr_name, scr_named, scr_name}
 
@@ -34,7 +36,8 @@ abbrev are_read_from : ℕ → List (List ℕ) → Bool
 are_read_from k [] = true
 are_read_from k (name ∷ names) = is_number k (register_named name) && are_read_from (k + 1) names
 
-read-at : (names : List (List ℕ)) (k n : ℕ) (text : List ℕ) → are_read_from k names ≡ true → slice_get names n ≡ Some text → register_named text ≡ Some (k + n)
+read-at : (names : List (List ℕ)) (k n : ℕ) (text : List ℕ) → are_read_from k names ≡ true → slice_get names n ≡ Some text
+    → register_named text ≡ Some (k + n)
 read-at [] k n text h e = cc
 read-at (name ∷ names) k zero text h e =
     let here : is_number k (register_named name) ≡ true = grind (arith, nat_tests) in
@@ -54,7 +57,8 @@ unfolding register_named
 capability_names_read = refl
 
 -- a register by the name that it is shown by
-pub register_named-register_name : (capability : Bool) (n : ℕ) (text : List ℕ) → register_name capability n ≡ Some text → register_named text ≡ Some n
+pub register_named-register_name : (capability : Bool) (n : ℕ) (text : List ℕ) → register_name capability n ≡ Some text
+    → register_named text ≡ Some n
 register_named-register_name true n text e = read-at capability_names 0 n text capability_names_read e ∙ ap Some (omega arith)
 register_named-register_name false n text e = read-at integer_names 0 n text integer_names_read e ∙ ap Some (omega arith)
 
@@ -63,7 +67,8 @@ abbrev are_read_in : List (ℕ × List ℕ) → List (ℕ × List ℕ) → Bool
 are_read_in names [] = true
 are_read_in names (p ∷ ps) = is_number p.0 (number_in names p.1) && are_read_in names ps
 
-read-in : (names ps : List (ℕ × List ℕ)) (n : ℕ) (text : List ℕ) → are_read_in names ps ≡ true → name_in ps n ≡ Some text → number_in names text ≡ Some n
+read-in : (names ps : List (ℕ × List ℕ)) (n : ℕ) (text : List ℕ) → are_read_in names ps ≡ true → name_in ps n ≡ Some text
+    → number_in names text ≡ Some n
 read-in names [] n text h e = cc
 read-in names (p ∷ ps) n text h e =
     let here : is_number p.0 (number_in names p.1) ≡ true = grind (arith, nat_tests) in
@@ -92,7 +97,8 @@ place-below : (text : List ℕ) (names : List (List ℕ)) (n : ℕ) → place_of
 place-below text names n e = (position-Some (pointwise nat_eq text) names n [] e).0
 
 -- a fact of both of two answers is one of the first of them
-or_else-below : (m : ℕ) (a b : Option ℕ) → ((n : ℕ) → a ≡ Some n → n < m) → ((n : ℕ) → b ≡ Some n → n < m) → (n : ℕ) → or_else a b ≡ Some n → n < m
+or_else-below : (m : ℕ) (a b : Option ℕ) → ((n : ℕ) → a ≡ Some n → n < m) → ((n : ℕ) → b ≡ Some n → n < m) → (n : ℕ) → or_else a b ≡ Some n
+    → n < m
 or_else-below m (Some k) b f g n e = f n e
 or_else-below m None b f g n e = g n e
 
@@ -113,7 +119,8 @@ abbrev are_below : ℕ → List (ℕ × List ℕ) → Bool
 are_below m [] = true
 are_below m (p ∷ ps) = nat_lt p.0 m && are_below m ps
 
-number_in-below : (m : ℕ) (names : List (ℕ × List ℕ)) (text : List ℕ) (n : ℕ) → are_below m names ≡ true → number_in names text ≡ Some n → n < m
+number_in-below : (m : ℕ) (names : List (ℕ × List ℕ)) (text : List ℕ) (n : ℕ) → are_below m names ≡ true → number_in names text ≡ Some n
+    → n < m
 number_in-below m [] text n h e = cc
 number_in-below m (p ∷ ps) text n h e =
     let here : p.0 < m = grind (arith, nat_tests) in

@@ -12,10 +12,10 @@ abbrev pub found_or : Option AsmCode → ℕ → Option (ℕ × AsmCode) → Opt
 found_or (Some code) number later = Some (number, code)
 found_or None number later = later
 
-abbrev pub first_fault : Symbols → Assembled → ℕ → List Line → Option (ℕ × AsmCode)
-first_fault symbols s number [] = None
-first_fault symbols s number (l ∷ ls) =
-    found_or (line_fault symbols s l) number (first_fault symbols (assembled_after symbols s l) (number + 1) ls)
+abbrev pub first_faulty_line : Symbols → Assembled → ℕ → List Line → Option (ℕ × AsmCode)
+first_faulty_line symbols s number [] = None
+first_faulty_line symbols s number (l ∷ ls) =
+    found_or (line_fault symbols s l) number (first_faulty_line symbols (assembled_after symbols s l) (number + 1) ls)
 
 abbrev pub all_assembled : Symbols → Assembled → List Line → Assembled
 all_assembled symbols s [] = s
@@ -23,7 +23,7 @@ all_assembled symbols s (l ∷ ls) = all_assembled symbols (assembled_after symb
 
 -- the fault of a text, its line counted from 1; a text without one is correct
 abbrev pub text_fault : List ℕ → Option (ℕ × AsmCode)
-text_fault bytes = first_fault (symbols_of bytes) opening 1 (lines_of bytes)
+text_fault bytes = first_faulty_line (symbols_of bytes) opening 1 (lines_of bytes)
 
 -- the image of a correct text: a page, integer mode and the beginning of RAM where it says nothing else
 abbrev pub image_of : Assembled → Image

@@ -4,7 +4,7 @@ ghost use Rattle.assembler.specs.Faults.{opening};
 ghost use Rattle.assembler.specs.Labels.{seen_entries};
 ghost use Rattle.assembler.specs.Left.{IsFaultOf};
 ghost use Rattle.assembler.specs.Places.{lines_of, symbols_of};
-ghost use Rattle.assembler.specs.Text.{first_fault, all_assembled, text_fault, text_image};
+ghost use Rattle.assembler.specs.Text.{first_faulty_line, all_assembled, text_fault, text_image};
 
 use crate::builder::Builder;
 use crate::fault::AsmFault;
@@ -64,10 +64,10 @@ fn labels_of(alloc: Global, text: &[u8]) -> Result<Labels, AllocError>
 /// What the lines of a text set and place, or the first fault of its first faulty line. `labels` are those of the whole text.
 #[tactic(auto, using(crate::proofs::BuildLemmas::new_buildable, crate::proofs::BuildLemmas::kept_buildable))]
 fn built(alloc: Global, labels: &Labels, text: &[u8]) -> Result<Builder, AsmFault>
-    ensures correct { IfOk result (λ _. first_fault labels.now opening 1 (lines_of text.now) ≡ None) }
+    ensures correct { IfOk result (λ _. first_faulty_line labels.now opening 1 (lines_of text.now) ≡ None) }
     ensures built { IfOk result (λ builder. builder ≡ all_assembled labels.now opening (lines_of text.now)) }
     ensures buildable { IfOk result (λ builder. IsBuildable builder) }
-    ensures fault { IfErr result (IsFaultOf (first_fault labels.now opening 1 (lines_of text.now))) }
+    ensures fault { IfErr result (IsFaultOf (first_faulty_line labels.now opening 1 (lines_of text.now))) }
 {
     let mut builder = Builder::new(alloc);
     let mut number: u64 = 1;

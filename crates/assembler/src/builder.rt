@@ -8,7 +8,8 @@ ghost use Rattle.std.specs.Option.{option_map};
 ghost use Rattle.assembler.specs.Bytes.{bytes_at};
 ghost use Rattle.assembler.specs.Blocks.{begun_at};
 ghost use Rattle.assembler.specs.Text.{image_of};
-ghost use Rattle.assembler.specs.Faults.{page_count, is_misplaced, size_at, is_instruction, lacks_place, line_fault, assembled_after, with_statement, opening, is_repeated, is_statement_misplaced, with_bytes};
+ghost use Rattle.assembler.specs.Faults.{page_count, is_misplaced, size_at, is_instruction, lacks_place, line_fault, assembled_after};
+ghost use Rattle.assembler.specs.Faults.{with_statement, opening, is_repeated, is_statement_misplaced, with_bytes};
 ghost use Rattle.assembler.specs.FaultLaws.{statement_fault, fault_by, fault_in_text};
 
 use crate::blocks::{Block, built, close, is_taken};
@@ -42,7 +43,15 @@ impl Model for Builder {
 
     ghost Value = { spec.Assembled };
 
-    ghost view = { λ b. record { places = b.places; pages = b.pages; mode = b.mode; entry = b.entry; begun = b.begun; done = b.done.items; current = b.current } };
+    ghost view = { λ b. record {
+      places = b.places;
+      pages = b.pages;
+      mode = b.mode;
+      entry = b.entry;
+      begun = b.begun;
+      done = b.done.items;
+      current = b.current;
+    } };
 }
 
 /// The number of bytes that a statement at a place takes.

@@ -1,5 +1,6 @@
 //! The bytes that a statement places.
-ghost use Rattle.std.specs.Prelude.{◌≡◌, ◌<◌, ◌≤◌, ◌++◌, ◌%◌, ◌^◌, ◌*◌, Bool, if◌then◌else◌, replicate, pos, neg_ℤ, ◌-ℤ◌, ◌<ℤ◌, Some, IsTrue, OnOk, IfOk};
+ghost use Rattle.std.specs.Prelude.{◌≡◌, ◌<◌, ◌≤◌, ◌++◌, ◌%◌, ◌^◌, ◌*◌, Bool, if◌then◌else◌, replicate, pos, neg_ℤ, ◌-ℤ◌, ◌<ℤ◌, Some};
+ghost use Rattle.std.specs.Prelude.{IsTrue, OnOk, IfOk};
 ghost use Rattle.byteorder.specs.Endian.{little_bytes};
 ghost use Rattle.isa_rows.specs.Insn.{insn, sign_extended, Fits};
 ghost use Rattle.isa_rows.specs.Operands.{IsUpperImmediate, IsSignedOf};
@@ -93,7 +94,8 @@ fn push_row(
     requires place { here < 2 ^ 100 }
     requires known { IsTargetKnown labels.now here (option_map seen_expression target.now) }
     requires fits { Fits (aimed labels.now here insn.now (option_map seen_expression target.now)) }
-    ensures { OnOk result (bytes.new.items ≡ bytes.old.items ++ insn_bytes (aimed labels.now here insn.now (option_map seen_expression target.now))) }
+    ensures { OnOk result (bytes.new.items ≡ bytes.old.items ++ insn_bytes
+        (aimed labels.now here insn.now (option_map seen_expression target.now))) }
 {
     match target {
         None => push_insn(bytes, *insn),

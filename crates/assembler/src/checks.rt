@@ -210,7 +210,8 @@ pub(crate) fn values_fault(
     operands: &[u8],
 ) -> Option<AsmCode>
     requires { IsTrue (is_size size) }
-    ensures { result ≡ told (any_value (passes (Test.IsBeyond size)) labels.now here (pieces_of operands.now)) (any_value (passes Test.IsUnknown) labels.now here (pieces_of operands.now)) false }
+    ensures { result ≡ told (any_value (passes (Test.IsBeyond size)) labels.now here (pieces_of operands.now))
+        (any_value (passes Test.IsUnknown) labels.now here (pieces_of operands.now)) false }
 {
     if Test::IsBeyond(size).any_passes(labels, here, operands) {
         Some(AsmCode::A3)

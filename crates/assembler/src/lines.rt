@@ -12,7 +12,8 @@ use asm_lines::{Parsed, parse_line};
 
 /// What stands before the first line feed, and what stands behind it, if there is one.
 fn split_line(text: &[u8]) -> (&[u8], Option<&[u8]>)
-    ensures split { slice_split (λ b. b == 10) text.now ≡ result.0.now ∷ option_map_or (λ rest. slice_split (λ b. b == 10) rest.now) result.1 [] }
+    ensures split { slice_split (λ b. b == 10) text.now ≡ result.0.now ∷ option_map_or
+        (λ rest. slice_split (λ b. b == 10) rest.now) result.1 [] }
     ensures shorter { IfSome result.1 (λ rest. length rest.now < length text.now) }
 {
     for (end, byte) in text.iter().enumerate() {

@@ -60,7 +60,8 @@ OfEach P (check ∷ checks) = P check.1 × OfEach P checks
 pub first_fault-each : (P : Fault → Type 0) (checks : List (Bool × Fault)) → OfEach P checks → IfSome (first_fault checks) P
 first_fault-each P [] each = tt
 first_fault-each P (check ∷ checks) each =
-    elim check.0 as (λ b. IfSome (cond b (first_fault checks) (Some check.1)) P) [ true ↦ first_fault-each P checks each.1 | false ↦ each.0 ]
+    elim check.0 as (λ b. IfSome (cond b (first_fault checks) (Some check.1)) P)
+    [ true ↦ first_fault-each P checks each.1 | false ↦ each.0 ]
 
 -- each condition is true
 abbrev pub EachHolds : List (Bool × Fault) → Type 0

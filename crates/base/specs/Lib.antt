@@ -1,4 +1,5 @@
 pub mod Size
+pub mod Bits
 pub mod Fault
 pub mod FirstFault
 pub mod Ram

@@ -1,7 +1,7 @@
 -- What a register or a granule holds: a capability, or 128 bits of data.
 use Rattle.std.specs.Prelude.{◌≡◌, ℕ, ◌*◌, ◌^◌, ◌<◌, Bool, true, false, if◌then◌else◌, ◌==◌}
 use Rattle.base.specs.ObjectType.{unsealed_type}
-use Rattle.cap_format.specs.Word.{address_of, perms_of, flag_of, otype_of, with_address_of}
+use Rattle.cap_format.specs.Word.{address_of, perms_of, flag_of, otype_of, with_address_of, null_word}
 use Rattle.cap_bounds.specs.Window.{base_of_word, top_of_word}
 use Rattle.cap_bounds.specs.Record.{Record, IsWellFormed, encoded, decoded}
 
@@ -59,10 +59,6 @@ is_sealed v = if value_otype v == unsealed_type then false else true
 -- the value without its tag
 abbrev pub without_tag : CapValue → CapValue
 without_tag v = Data (word_of v)
-
--- the null capability's word: all fields at rest, and zeros in memory
-abbrev pub null_word : ℕ
-null_word = 0x1fff_fc01_8004 * 2 ^ 64
 
 -- an integer in a register: null with that address
 abbrev pub integer : ℕ → CapValue

@@ -4,7 +4,8 @@ use Rattle.std.proofs.Common.{arith}
 use Rattle.std.proofs.Math.Nat.{mul-div_left, lt_of_mul-lt-mul_right, le_of_mul-le-mul_right}
 use Rattle.std.proofs.lemmas.Nat.{pow-add, pow_pos}
 use Rattle.std.proofs.lemmas.Bool.{leb-true, leb-false, cases_Bool}
-use Rattle.cap_format.specs.Word.{address_of, ie_of, t_field_of, b_field_of, bit}
+use Rattle.base.specs.Bits.{bit}
+use Rattle.cap_format.specs.Word.{address_of, ie_of, t_field_of, b_field_of}
 use Rattle.cap_bounds.specs.Mantissa.{exponent_of, base_mantissa, low_top_mantissa, top_mantissa, length_mantissa}
 use Rattle.cap_bounds.specs.Window.{decoded_base, base_of_word, top_of_word}
 use Rattle.cap_bounds.specs.Record.{Record, IsWellFormed, has_exponent, exponent_for, alignment_for, encoded_b, encoded_t}

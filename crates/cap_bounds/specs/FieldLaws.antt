@@ -1,6 +1,7 @@
 -- A capability's word with another type, other permissions or another flag is the word of the capability with that field.
 use Rattle.std.proofs.Common.{◌≡◌, ℕ, ◌-◌, ◌^◌, ◌<◌, Bool, arith}
-use Rattle.cap_format.specs.Word.{with_field, with_address_of, bit}
+use Rattle.base.specs.Bits.{bit}
+use Rattle.cap_format.specs.Word.{with_field, with_address_of}
 use Rattle.cap_bounds.specs.Record.{Record, IsWellFormed, has_exponent, exponent_for, encoded_b, encoded_t, encoded_at, encoded}
 use Rattle.cap_bounds.specs.EncodingLaws.{encodable, encoded_t-below, encoded_b-below}
 use Rattle.cap_bounds.specs.WordLaws.{joined, bit-small, with_address_of-joined}

@@ -1,6 +1,7 @@
 -- The exponent E and the mantissas B and T of a word (UCAM-CL-TR-987, CHERI Concentrate, decoding).
 use Rattle.std.specs.Prelude.{◌≡◌, ℕ, ◌+◌, ◌-◌, ◌*◌, ◌/◌, ◌%◌, ◌^◌, ◌<◌, ◌≤◌, Bool, true, false, nat_lt, min, if◌then◌else◌}
-use Rattle.cap_format.specs.Word.{t_field_of, b_field_of, ie_of, bit}
+use Rattle.base.specs.Bits.{bit}
+use Rattle.cap_format.specs.Word.{t_field_of, b_field_of, ie_of}
 
 -- The greatest exponent, and the one of null and root. The six bits can also say 53 to 63, which are read as 52 (profile).
 abbrev pub greatest_exponent : ℕ

@@ -1,7 +1,8 @@
 -- What the exponent and the mantissas of any word keep to.
 use Rattle.std.proofs.Common.{◌≡◌, ℕ, ◌+◌, ◌-◌, ◌*◌, ◌/◌, ◌%◌, ◌<◌, ◌≤◌, Bool, true, false, ltb, min, refl, arith}
 use Rattle.std.proofs.lemmas.Bool.{ltb-true, ltb-false, cond_both}
-use Rattle.cap_format.specs.Word.{ie_of, b_field_of, t_field_of, bit}
+use Rattle.base.specs.Bits.{bit}
+use Rattle.cap_format.specs.Word.{ie_of, b_field_of, t_field_of}
 use Rattle.cap_bounds.specs.Mantissa.{exponent_of, base_mantissa, low_top_mantissa, top_mantissa, length_mantissa, without_exponent}
 use Rattle.cap_bounds.specs.Mantissa.{LengthMantissaIsInRange}
 

@@ -1,6 +1,7 @@
 -- Capability records, and the one word of each (UCAM-CL-TR-987, CHERI Concentrate, encoding).
 use Rattle.std.specs.Prelude.{◌≡◌, ℕ, ◌+◌, ◌-◌, ◌*◌, ◌/◌, ◌%◌, ◌^◌, ◌<◌, ◌≤◌, Bool, true, ◌||◌, nat_le, nat_lt, if◌then◌else◌, IsTrue}
-use Rattle.cap_format.specs.Word.{address_of, perms_of, flag_of, otype_of, bit}
+use Rattle.base.specs.Bits.{bit}
+use Rattle.cap_format.specs.Word.{address_of, perms_of, flag_of, otype_of}
 use Rattle.cap_bounds.specs.Least.{least_up_to}
 use Rattle.cap_bounds.specs.Mantissa.{greatest_exponent, exponent_of}
 use Rattle.cap_bounds.specs.Window.{step_of, base_of_word, top_of_word}

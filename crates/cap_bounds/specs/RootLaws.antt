@@ -1,6 +1,7 @@
 -- Root's word, with any address and flag.
 use Rattle.std.proofs.Common.{◌≡◌, ℕ, ◌*◌, ◌^◌, ◌<◌, Bool, false, refl, sym, ap, ◌∙◌, lit<, lit≤}
-use Rattle.cap_format.specs.Word.{with_field, with_address_of, bit}
+use Rattle.base.specs.Bits.{bit}
+use Rattle.cap_format.specs.Word.{with_field, with_address_of}
 use Rattle.cap_bounds.specs.Least.{least_up_to}
 use Rattle.cap_bounds.specs.Record.{IsWellFormed, IsWordWellFormed, has_exponent, exponent_for, alignment_for, is_in_window, encoded_at}
 use Rattle.cap_bounds.specs.Record.{encoded, decoded}

@@ -7,7 +7,8 @@ use Rattle.cap_format.specs.Word.{address_of}
 use Rattle.cap_bounds.specs.BaseLaws.{decoded_base-below}
 use Rattle.cap_bounds.specs.Record.{Record, IsWellFormed, IsWordWellFormed, has_exponent, encoded_at, window_holds}
 use Rattle.cap_bounds.specs.RecordLaws.{encoded-well_formed}
-use Rattle.cap_bounds.specs.CapValue.{CapValue, Cap, Data, IsSound, word_of, value_of, value_base, value_address, value_perms, value_flag, value_otype, integer}
+use Rattle.cap_bounds.specs.CapValue.{CapValue, Cap, Data, IsSound, word_of, value_of, value_base, value_address, value_perms, value_flag}
+use Rattle.cap_bounds.specs.CapValue.{value_otype, integer}
 use Rattle.cap_bounds.specs.EncodingLaws.{encoded_t-below, encoded_b-below}
 use Rattle.cap_bounds.specs.WordLaws.{joined, joined-below}
 use Rattle.cap_bounds.specs.Rounding.{rounding_exponent, rounded_base, rounded_top}
@@ -54,7 +55,8 @@ IsSound-integer n fits = omega arith
 
 -- ---- another address
 
-IsWellFormed-address : (r : Record) → IsWellFormed r → (a : ℕ) → a < 2 ^ 64 → window_holds r a ≡ true → IsWellFormed (record r { address = a })
+IsWellFormed-address : (r : Record) → IsWellFormed r → (a : ℕ) → a < 2 ^ 64 → window_holds r a ≡ true
+    → IsWellFormed (record r { address = a })
 IsWellFormed-address r well a fits holds = record {
   ordered = well.ordered;
   in_space = well.in_space;
@@ -80,13 +82,16 @@ IsSound-at_address (Data n) a sound fits = data_at-below n a sound fits
 -- ---- other bounds
 
 -- the bits of a request that is refused
-bounded-below : (v : CapValue) (length : ℕ) → IsSound v → encoded_at (rounding_exponent (value_address v) (request_top v length)) (has_exponent length) (bounded v length) < 2 ^ 128
+bounded-below : (v : CapValue) (length : ℕ) → IsSound v
+    → encoded_at (rounding_exponent (value_address v) (request_top v length)) (has_exponent length) (bounded v length) < 2 ^ 128
 unfolding bounded encoded_at joined
 bounded-below v length sound =
     let e : ℕ = rounding_exponent (value_address v) (request_top v length) in
     joined-below (value_perms v) (value_flag v) (value_otype v) (has_exponent length) _ _ (value_address v) (value_otype-below v sound)
-    (encoded_t-below (rounded_top (value_address v) (request_top v length) % 2 ^ 65) e (has_exponent length) (rounding_exponent-high (value_address v) (request_top v length)))
-    (encoded_b-below (rounded_base (value_address v) (request_top v length)) e (has_exponent length)) (value_address-below v sound) (value_perms-below v sound)
+    (encoded_t-below (rounded_top (value_address v) (request_top v length) % 2 ^ 65) e (has_exponent length)
+    (rounding_exponent-high (value_address v) (request_top v length)))
+    (encoded_b-below (rounded_base (value_address v) (request_top v length)) e (has_exponent length)) (value_address-below v sound)
+    (value_perms-below v sound)
 
 pub IsSound-with_bounds : (v : CapValue) (length : ℕ) → IsSound v → length < 2 ^ 64 → IsSound (with_bounds v length)
 IsSound-with_bounds v length sound short = elim (cases_Bool (may_bound v length)) [

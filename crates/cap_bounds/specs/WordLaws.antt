@@ -1,6 +1,7 @@
 -- The fields of a word that is put together from its fields.
 use Rattle.std.proofs.Common.{◌≡◌, ℕ, ◌+◌, ◌*◌, ◌/◌, ◌%◌, ◌^◌, ◌<◌, Bool, true, false, eqb, refl, arith}
-use Rattle.cap_format.specs.Word.{address_of, b_field_of, t_field_of, ie_of, otype_of, flag_of, perms_of, bit, with_address_of}
+use Rattle.base.specs.Bits.{bit}
+use Rattle.cap_format.specs.Word.{address_of, b_field_of, t_field_of, ie_of, otype_of, flag_of, perms_of, with_address_of}
 
 -- the word of these fields
 unfoldable pub joined : ℕ → Bool → ℕ → Bool → ℕ → ℕ → ℕ → ℕ

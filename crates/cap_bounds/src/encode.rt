@@ -1,8 +1,9 @@
 //! The canonical word of a record, and its window.
 
 ghost use Rattle.std.specs.Prelude.{◌≡◌, ◌+◌, ◌*◌, ◌^◌, ◌<◌, ◌≤◌, ◌-◌};
-ghost use Rattle.cap_format.specs.Word.{bit};
-ghost use Rattle.cap_bounds.specs.Record.{has_exponent, exponent_for, alignment_for, is_in_window, encoded_b, encoded_t, encoded_at, encoded, record_with};
+ghost use Rattle.base.specs.Bits.{bit};
+ghost use Rattle.cap_bounds.specs.Record.{has_exponent, exponent_for, alignment_for, is_in_window, encoded_b, encoded_t, encoded_at};
+ghost use Rattle.cap_bounds.specs.Record.{encoded, record_with};
 
 use crate::capability::Capability;
 use crate::decode::power;

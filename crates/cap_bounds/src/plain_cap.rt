@@ -1,7 +1,9 @@
 ghost use Rattle.std.specs.Prelude.{◌≡◌, ◌^◌, ◌<◌, ◌≤◌, ◌↔◌, ◌-◌, IsTrue, IfSome, IsSome};
 ghost use Rattle.cap_format.specs.Word.{with_address_of};
-ghost use Rattle.cap_bounds.specs.Record.{IsWellFormed, IsWordWellFormed, has_exponent, exponent_for, alignment_for, is_in_window, encoded, decoded, record_with};
-ghost use Rattle.cap_bounds.specs.CapValue.{CapValue, Cap, IsSound, value_of, word_of, is_tagged, value_base, value_top, value_address, value_perms, value_flag, value_otype, without_tag};
+ghost use Rattle.cap_bounds.specs.Record.{IsWellFormed, IsWordWellFormed, has_exponent, exponent_for, alignment_for, is_in_window, encoded};
+ghost use Rattle.cap_bounds.specs.Record.{decoded, record_with};
+ghost use Rattle.cap_bounds.specs.CapValue.{CapValue, Cap, IsSound, value_of, word_of, is_tagged, value_base, value_top, value_address};
+ghost use Rattle.cap_bounds.specs.CapValue.{value_perms, value_flag, value_otype, without_tag};
 ghost use Rattle.cap_bounds.specs.SetAddress.{at_address, data_at};
 ghost use Rattle.cap_bounds.specs.PlainCap.{plain_value, record_of};
 

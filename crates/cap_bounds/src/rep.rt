@@ -1,6 +1,7 @@
 ghost use Rattle.std.specs.Prelude.{◌≡◌, ◌^◌, ◌<◌, IsTrue};
 ghost use Rattle.cap_bounds.specs.Record.{IsWordWellFormed};
-ghost use Rattle.cap_bounds.specs.CapValue.{CapValue, IsSound, value_of, word_of, is_tagged, value_base, value_top, value_address, value_perms, value_flag, value_otype, without_tag};
+ghost use Rattle.cap_bounds.specs.CapValue.{CapValue, IsSound, value_of, word_of, is_tagged, value_base, value_top, value_address};
+ghost use Rattle.cap_bounds.specs.CapValue.{value_perms, value_flag, value_otype, without_tag};
 ghost use Rattle.cap_bounds.specs.SetAddress.{at_address};
 ghost use Rattle.cap_bounds.specs.SetBounds.{with_bounds, bounds_exact, HasRoundedBounds, LiesWithin};
 

@@ -1,7 +1,8 @@
 //! Rounding requested bounds out to what a word can say, by trying one exponent after the other; a length alone by its leading zeros.
 
 ghost use Rattle.std.specs.Prelude.{◌≡◌, ◌+◌, ◌^◌, ◌<◌, ◌≤◌};
-ghost use Rattle.cap_bounds.specs.Rounding.{granules_spanned, granules_up_to, is_exact, length_granule, rounded_base, rounded_top, rounding_exponent, rounding_granule};
+ghost use Rattle.cap_bounds.specs.Rounding.{granules_spanned, granules_up_to, is_exact, length_granule, rounded_base, rounded_top};
+ghost use Rattle.cap_bounds.specs.Rounding.{rounding_exponent, rounding_granule};
 
 use crate::decode::power;
 

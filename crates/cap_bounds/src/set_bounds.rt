@@ -26,7 +26,9 @@ fn may_bound(c: PlainCap, length: u64) -> bool
 #[tactic(auto, unfolding(crate::specs::Record::encoded_at))]
 fn data_with(c: PlainCap, base: u64, top: u128, e: u32, ie: bool) -> PlainCap
     requires { e ≤ 52 }
-    ensures { plain_value result ≡ Data (encoded_at e ie (record_with base top (value_address (plain_value c)) (value_perms (plain_value c)) (value_flag (plain_value c)) (value_otype (plain_value c)))) }
+    ensures { plain_value result ≡ Data (encoded_at e ie
+        (record_with base top (value_address (plain_value c)) (value_perms (plain_value c)) (value_flag (plain_value c))
+        (value_otype (plain_value c)))) }
 {
     let fields = encode::fields(c.perms(), c.flag(), c.otype());
     let bounds = encode::bounds(base, top, e, ie);

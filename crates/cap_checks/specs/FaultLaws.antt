@@ -10,14 +10,16 @@ use Rattle.base.specs.Registers.{pcc_register}
 use Rattle.cap_bounds.specs.CapValue.{CapValue, value_address}
 use Rattle.cap_checks.specs.declared.access.Access.{Access}
 use Rattle.cap_checks.specs.Access.{width_of, lacking, misaligned}
-use Rattle.cap_checks.specs.FirstFault.{access_checks, access_fault, fetch_checks, fetch_fault, jump_target, target_checks, target_fault, jump_checks, jump_fault, invoke_target, invoke_checks, invoke_fault}
+use Rattle.cap_checks.specs.FirstFault.{access_checks, access_fault, fetch_checks, fetch_fault, jump_target, target_checks, target_fault}
+use Rattle.cap_checks.specs.FirstFault.{jump_checks, jump_fault, invoke_target, invoke_checks, invoke_fault}
 
 -- a target has 64 bits
 pub jump_target-below : (address offset : ℕ) → jump_target address offset < 2 ^ 64
 unfolding jump_target
 jump_target-below address offset = omega arith
 
-pub access_fault-range : (authority : CapValue) (register : ℕ) (access : Access) (address : ℕ) → register < 64 → address < 2 ^ 64 → IfSome (access_fault authority register access address) IsInRange
+pub access_fault-range : (authority : CapValue) (register : ℕ) (access : Access) (address : ℕ) → register < 64 → address < 2 ^ 64
+    → IfSome (access_fault authority register access address) IsInRange
 unfolding access_fault
 access_fault-range authority register access address exists fits =
     let at = λ (what : CheriCause). IsInRange-cheri register what exists in
@@ -41,10 +43,12 @@ access_fault-range authority register access address exists fits =
       ),
     )
 
-pub access_fault-aligned : (authority : CapValue) (register : ℕ) (access : Access) (address : ℕ) → access_fault authority register access address ≡ None → address % width_of access ≡ 0
+pub access_fault-aligned : (authority : CapValue) (register : ℕ) (access : Access) (address : ℕ)
+    → access_fault authority register access address ≡ None → address % width_of access ≡ 0
 unfolding access_fault
 access_fault-aligned authority register access address none =
-    let all : EachHolds (access_checks authority register access address) = first_fault-none (access_checks authority register access address) none in
+    let all : EachHolds (access_checks authority register access address) = first_fault-none
+    (access_checks authority register access address) none in
     eqb-true (address % width_of access) 0 all.1.1.1.1.1.1.0
 
 pub fetch_fault-range : (pcc : CapValue) → IfSome (fetch_fault pcc) IsInRange
@@ -81,7 +85,10 @@ module _ (v : CapValue) (register offset : ℕ) where
             at forbids.Execute,
             (
               at forbids.Length,
-              (IsInRange-fault cause.MisalignedJump (jump_target (value_address v) offset) (jump_target-below (value_address v) offset), tt),
+              (
+                IsInRange-fault cause.MisalignedJump (jump_target (value_address v) offset) (jump_target-below (value_address v) offset),
+                tt,
+              ),
             ),
           ),
         ),

@@ -11,10 +11,7 @@
 --   63..0     address
 use Rattle.std.specs.Prelude.{ℕ, ◌+◌, ◌*◌, ◌/◌, ◌%◌, ◌^◌, Bool, ◌==◌, if◌then◌else◌, List, bit_xor}
 use Rattle.std.specs.Int.{w128, to_le_bytes, from_le_bytes}
-
--- bits k to k + m - 1 of a word
-abbrev pub field : ℕ → ℕ → ℕ → ℕ
-field word k m = word / 2 ^ k % 2 ^ m
+use Rattle.base.specs.Bits.{field, bit}
 
 abbrev pub address_of : ℕ → ℕ
 address_of word = word % 2 ^ 64
@@ -40,10 +37,6 @@ flag_of word = field word 109 1 == 1
 abbrev pub perms_of : ℕ → ℕ
 perms_of word = field word 112 16
 
--- a truth value as a bit
-abbrev pub bit : Bool → ℕ
-bit b = if b then 1 else 0
-
 -- the word with bits k to k + m - 1 replaced by those of v, and no other bit changed
 abbrev pub with_field : ℕ → ℕ → ℕ → ℕ → ℕ
 with_field word k m v = word / 2 ^ (k + m) * 2 ^ (k + m) + v * 2 ^ k + word % 2 ^ k
@@ -51,14 +44,15 @@ with_field word k m v = word / 2 ^ (k + m) * 2 ^ (k + m) + v * 2 ^ k + word % 2 
 abbrev pub with_address_of : ℕ → ℕ → ℕ
 with_address_of word address = word / 2 ^ 64 * 2 ^ 64 + address
 
--- the number whose exclusive or makes the form in memory: it has null as all zeros there
-abbrev pub null_pattern : ℕ
-null_pattern = 0x1fff_fc01_8004 * 2 ^ 64
+-- null: no permission, no flag, the type that is no seal, root's bounds and address 0. A word in memory is its exclusive or with null,
+-- so that null is all zeros there.
+abbrev pub null_word : ℕ
+null_word = 0x1fff_fc01_8004 * 2 ^ 64
 
 -- the 16 bytes of a word in memory, the lowest first
 abbrev pub memory_bytes : ℕ → List ℕ
-memory_bytes word = to_le_bytes w128 (bit_xor word null_pattern)
+memory_bytes word = to_le_bytes w128 (bit_xor word null_word)
 
 -- the word that 16 bytes of memory are
 abbrev pub word_of_memory : List ℕ → ℕ
-word_of_memory bytes = bit_xor (from_le_bytes w128 bytes) null_pattern
+word_of_memory bytes = bit_xor (from_le_bytes w128 bytes) null_word

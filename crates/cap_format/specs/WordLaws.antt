@@ -8,7 +8,8 @@ use Rattle.std.proofs.lemmas.Nat.{pow_pos, pow-add, xor_lt, shr-shr, shr_high, m
 use Rattle.std.proofs.lemmas.List.{same_lists, get_or_default}
 use Rattle.std.specs.Int.{w128, byte_at, byte_worth, sum_through, bytes_low_first, to_le_bytes, from_le_bytes}
 use Rattle.std.specs.Int.Bits.{xor_assoc, xor_self, xor_zero_r}
-use Rattle.cap_format.specs.Word.{field, with_field, null_pattern, memory_bytes, word_of_memory}
+use Rattle.base.specs.Bits.{field}
+use Rattle.cap_format.specs.Word.{with_field, null_word, memory_bytes, word_of_memory}
 
 -- ---- a number and its bytes
 
@@ -90,13 +91,13 @@ bytes_and_back bytes size each =
 
 -- ---- the form in memory
 
-twice : (n : ℕ) → bit_xor (bit_xor n null_pattern) null_pattern ≡ n
-twice n = xor_assoc n null_pattern null_pattern ∙ ap (bit_xor n) (xor_self null_pattern) ∙ xor_zero_r n
+twice : (n : ℕ) → bit_xor (bit_xor n null_word) null_word ≡ n
+twice n = xor_assoc n null_word null_word ∙ ap (bit_xor n) (xor_self null_word) ∙ xor_zero_r n
 
 -- a word that goes to memory comes back
 pub word_of_memory-memory_bytes : (w : ℕ) → w < 2 ^ 128 → word_of_memory (memory_bytes w) ≡ w
 word_of_memory-memory_bytes w h =
-    ap (λ n. bit_xor n null_pattern) (number_and_back (bit_xor w null_pattern) (xor_lt 128 w null_pattern h (lit< tt))) ∙ twice w
+    ap (λ n. bit_xor n null_word) (number_and_back (bit_xor w null_word) (xor_lt 128 w null_word h (lit< tt))) ∙ twice w
 
 -- and so do bytes that are read as a word
 pub memory_bytes-word_of_memory : (bytes : List ℕ) → length bytes ≡ 16 → ((j : ℕ) → slice_index bytes j < 256)

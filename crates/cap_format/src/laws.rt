@@ -1,7 +1,8 @@
 //! Laws of the word's definitions. The functions do nothing: each promises one law.
 
 ghost use Rattle.std.specs.Prelude.{◌≡◌, ℕ, ◌+◌, ◌^◌, ◌<◌, ◌≤◌, ◌⊎◌, List, length, slice_index};
-ghost use Rattle.cap_format.specs.Word.{field, with_field, memory_bytes, word_of_memory};
+ghost use Rattle.base.specs.Bits.{field};
+ghost use Rattle.cap_format.specs.Word.{with_field, memory_bytes, word_of_memory};
 
 /// A word that goes to memory comes back.
 pub fn word_to_memory_and_back()

@@ -1,5 +1,7 @@
 ghost use Rattle.std.specs.Prelude.{◌≡◌, ◌<◌, ◌+◌, ◌*◌, ◌^◌};
-ghost use Rattle.cap_format.specs.Word.{address_of, b_field_of, t_field_of, ie_of, otype_of, flag_of, perms_of, bit, with_field, with_address_of, memory_bytes, word_of_memory};
+ghost use Rattle.base.specs.Bits.{bit};
+ghost use Rattle.cap_format.specs.Word.{address_of, b_field_of, t_field_of, ie_of, otype_of, flag_of, perms_of, with_field};
+ghost use Rattle.cap_format.specs.Word.{with_address_of, memory_bytes, word_of_memory};
 
 use std::marker::Model;
 

@@ -2,20 +2,26 @@
 use Rattle.std.proofs.Common.{◌≡◌, ℕ, ◌+◌, ◌-◌, ◌*◌, ◌/◌, ◌%◌, ◌^◌, ◌<◌, Bool, eqb, arith, lit<}
 use Rattle.std.proofs.lemmas.Nat.{mod_below, pow_pos}
 use Rattle.std.proofs.lemmas.Bool.{cond_both, eqb-true}
-use Rattle.cap_format.specs.Word.{bit}
-use Rattle.cap_bounds.specs.CapValue.{CapValue, IsSound, is_tagged, is_sealed, value_base, value_top, value_address, value_perms, value_flag, value_otype, integer}
+use Rattle.base.specs.Bits.{bit}
+use Rattle.cap_bounds.specs.CapValue.{CapValue, IsSound, is_tagged, is_sealed, value_base, value_top, value_address, value_perms}
+use Rattle.cap_bounds.specs.CapValue.{value_flag, value_otype, integer}
 use Rattle.cap_bounds.specs.WordLaws.{bit-small}
 use Rattle.cap_bounds.specs.SetBounds.{with_bounds, bounds_exact}
 use Rattle.cap_bounds.specs.Rounding.{granules_up_to, length_granule}
 use Rattle.cap_bounds.specs.RoundingLaws.{rounding_granule-positive}
-use Rattle.cap_bounds.specs.SoundLaws.{value_address-below, value_perms-below, value_otype-below, value_base-below, word_of-below, IsSound-integer, IsSound-at_address, IsSound-with_bounds}
+use Rattle.cap_bounds.specs.SoundLaws.{value_address-below, value_perms-below, value_otype-below, value_base-below, word_of-below}
+use Rattle.cap_bounds.specs.SoundLaws.{IsSound-integer, IsSound-at_address, IsSound-with_bounds}
 use Rattle.cap_rights.specs.Derivations.{subset, equal_exact}
-use Rattle.cap_rights.specs.DerivationLaws.{IsSound-tagged_if, IsSound-and_perms, IsSound-set_flags, IsSound-seal, IsSound-unseal, IsSound-seal_entry}
+use Rattle.cap_rights.specs.DerivationLaws.{IsSound-tagged_if, IsSound-and_perms, IsSound-set_flags, IsSound-seal, IsSound-unseal}
+use Rattle.cap_rights.specs.DerivationLaws.{IsSound-seal_entry}
 use Rattle.cap_rights.specs.ObjectType.{signed_type}
 use Rattle.cap_rights.specs.Perms.{hardware_view, perms_in_view}
 use Rattle.isa_rows.specs.declared.operands.Insn.{Insn}
 use Rattle.isa_rows.specs.declared.rows.Row.{Row}
-use Rattle.isa_rows.specs.declared.rows.Row.TheVariants.{CIncOffsetImm, CSetBoundsImm, CSetBounds, CSetBoundsExact, CSeal, CUnseal, CAndPerm, CSetFlags, CSetOffset, CSetAddr, CIncOffset, CSub, CTestSubset, CSetEqualExact, CGetPerm, CGetType, CGetBase, CGetLen, CGetTag, CGetSealed, CGetOffset, CGetFlags, Crrl, Cram, CMove, CClearTag, CGetAddr, CSealEntry}
+use Rattle.isa_rows.specs.declared.rows.Row.TheVariants.{CIncOffsetImm, CSetBoundsImm, CSetBounds, CSetBoundsExact, CSeal, CUnseal}
+use Rattle.isa_rows.specs.declared.rows.Row.TheVariants.{CAndPerm, CSetFlags, CSetOffset, CSetAddr, CIncOffset, CSub, CTestSubset}
+use Rattle.isa_rows.specs.declared.rows.Row.TheVariants.{CSetEqualExact, CGetPerm, CGetType, CGetBase, CGetLen, CGetTag, CGetSealed}
+use Rattle.isa_rows.specs.declared.rows.Row.TheVariants.{CGetOffset, CGetFlags, Crrl, Cram, CMove, CClearTag, CGetAddr, CSealEntry}
 use Rattle.cap_insns.specs.CapabilityRows.{length_of, representable_length, alignment_mask, with_exact_bounds, outer_of, row_value}
 
 -- ---- numbers
@@ -57,26 +63,33 @@ truth b = let small = bit-small b in IsSound-integer (bit b) (omega arith)
 
 IsSound-with_exact_bounds : (v : CapValue) (length : ℕ) → IsSound v → length < 2 ^ 64 → IsSound (with_exact_bounds v length)
 unfolding with_exact_bounds
-IsSound-with_exact_bounds v length sound short = IsSound-tagged_if (bounds_exact v length) (with_bounds v length) (IsSound-with_bounds v length sound short)
+IsSound-with_exact_bounds v length sound short = IsSound-tagged_if (bounds_exact v length) (with_bounds v length)
+    (IsSound-with_bounds v length sound short)
 
-pub IsSound-row_value : (row : Row) (insn : Insn) (cs1 cs2 ddc : CapValue) → insn.imm < 2 ^ 64 → IsSound cs1 → IsSound cs2 → IsSound (row_value row insn cs1 cs2 ddc)
+pub IsSound-row_value : (row : Row) (insn : Insn) (cs1 cs2 ddc : CapValue) → insn.imm < 2 ^ 64 → IsSound cs1 → IsSound cs2
+    → IsSound (row_value row insn cs1 cs2 ddc)
 unfolding row_value
 IsSound-row_value CIncOffsetImm insn cs1 cs2 ddc fits one two = IsSound-at_address cs1 _ one (modulo-below (value_address cs1 + insn.imm))
 IsSound-row_value CSetBoundsImm insn cs1 cs2 ddc fits one two = IsSound-with_bounds cs1 insn.imm one fits
 IsSound-row_value CSetBounds insn cs1 cs2 ddc fits one two = IsSound-with_bounds cs1 (value_address cs2) one (value_address-below cs2 two)
-IsSound-row_value CSetBoundsExact insn cs1 cs2 ddc fits one two = IsSound-with_exact_bounds cs1 (value_address cs2) one (value_address-below cs2 two)
+IsSound-row_value CSetBoundsExact insn cs1 cs2 ddc fits one two = IsSound-with_exact_bounds cs1 (value_address cs2) one
+    (value_address-below cs2 two)
 IsSound-row_value CSeal insn cs1 cs2 ddc fits one two = IsSound-seal cs1 cs2 one
 IsSound-row_value CUnseal insn cs1 cs2 ddc fits one two = IsSound-unseal cs1 cs2 one
 IsSound-row_value CAndPerm insn cs1 cs2 ddc fits one two = IsSound-and_perms cs1 (perms_in_view (value_address cs2)) one
 IsSound-row_value CSetFlags insn cs1 cs2 ddc fits one two = IsSound-set_flags cs1 (eqb (value_address cs2 % 2) 1) one
-IsSound-row_value CSetOffset insn cs1 cs2 ddc fits one two = IsSound-at_address cs1 _ one (modulo-below (value_base cs1 + value_address cs2))
+IsSound-row_value CSetOffset insn cs1 cs2 ddc fits one two = IsSound-at_address cs1 _ one
+    (modulo-below (value_base cs1 + value_address cs2))
 IsSound-row_value CSetAddr insn cs1 cs2 ddc fits one two = IsSound-at_address cs1 _ one (value_address-below cs2 two)
-IsSound-row_value CIncOffset insn cs1 cs2 ddc fits one two = IsSound-at_address cs1 _ one (modulo-below (value_address cs1 + value_address cs2))
+IsSound-row_value CIncOffset insn cs1 cs2 ddc fits one two = IsSound-at_address cs1 _ one
+    (modulo-below (value_address cs1 + value_address cs2))
 IsSound-row_value CSub insn cs1 cs2 ddc fits one two = IsSound-integer _ (modulo-below (value_address cs1 + 2 ^ 64 - value_address cs2))
 IsSound-row_value CTestSubset insn cs1 cs2 ddc fits one two = truth (subset (outer_of insn.rs1 cs1 ddc) cs2)
 IsSound-row_value CSetEqualExact insn cs1 cs2 ddc fits one two = truth (equal_exact cs1 cs2)
-IsSound-row_value CGetPerm insn cs1 cs2 ddc fits one two = IsSound-integer _ (hardware_view-below (value_perms cs1) (value_perms-below cs1 one))
-IsSound-row_value CGetType insn cs1 cs2 ddc fits one two = IsSound-integer _ (signed_type-below (value_otype cs1) (value_otype-below cs1 one))
+IsSound-row_value CGetPerm insn cs1 cs2 ddc fits one two = IsSound-integer _
+    (hardware_view-below (value_perms cs1) (value_perms-below cs1 one))
+IsSound-row_value CGetType insn cs1 cs2 ddc fits one two = IsSound-integer _
+    (signed_type-below (value_otype cs1) (value_otype-below cs1 one))
 IsSound-row_value CGetBase insn cs1 cs2 ddc fits one two = IsSound-integer _ (value_base-below cs1 one)
 IsSound-row_value CGetLen insn cs1 cs2 ddc fits one two = IsSound-integer _ (length_of-below cs1)
 IsSound-row_value CGetTag insn cs1 cs2 ddc fits one two = truth (is_tagged cs1)

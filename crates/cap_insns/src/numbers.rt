@@ -1,7 +1,7 @@
 //! The numbers that rows tell of capabilities.
 
 ghost use Rattle.std.specs.Prelude.{◌≡◌};
-ghost use Rattle.cap_format.specs.Word.{bit};
+ghost use Rattle.base.specs.Bits.{bit};
 ghost use Rattle.cap_bounds.specs.CapValue as value;
 ghost use Rattle.cap_rights.specs.Perms.{hardware_view};
 ghost use Rattle.cap_insns.specs.CapabilityRows as spec;

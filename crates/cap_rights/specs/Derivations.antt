@@ -5,7 +5,8 @@
 -- it answers data: the bits with these fields.
 use Rattle.std.specs.Prelude.{ℕ, ◌%◌, ◌^◌, Bool, ◌&&◌, not, nat_le, nat_lt, ◌==◌, if◌then◌else◌, bit_and}
 use Rattle.std.specs.Bool.{beq}
-use Rattle.cap_format.specs.Word.{with_field, bit}
+use Rattle.base.specs.Bits.{bit}
+use Rattle.cap_format.specs.Word.{with_field}
 use Rattle.base.specs.ObjectType.{unsealed_type, sentry_type}
 use Rattle.cap_bounds.specs.CapValue.{CapValue, Cap, Data, is_tagged, word_of, value_base, value_top, value_address, value_perms}
 use Rattle.cap_bounds.specs.CapValue.{value_otype, is_sealed, without_tag}

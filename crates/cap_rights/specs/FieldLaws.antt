@@ -2,7 +2,8 @@
 use Rattle.std.proofs.Common.{◌≡◌, ℕ, ◌^◌, ◌<◌, Bool, true, refl, ap, ◌∙◌, arith}
 use Rattle.std.specs.Prelude.{bit_and}
 use Rattle.std.proofs.lemmas.Nat.{and_le_l}
-use Rattle.cap_format.specs.Word.{with_field, bit}
+use Rattle.base.specs.Bits.{bit}
+use Rattle.cap_format.specs.Word.{with_field}
 use Rattle.cap_bounds.specs.CapValue.{CapValue, Cap, Data, IsSound, is_tagged, word_of, value_of, value_perms, value_otype}
 use Rattle.cap_bounds.specs.Record.{IsWordWellFormed, decoded}
 use Rattle.cap_bounds.specs.RecordLaws.{decoded-encoded, encoded-well_formed}

@@ -5,15 +5,15 @@ use Rattle.cap_rights.specs.Perms.{hardware_view}
 use Rattle.disassembler.specs.Hex.{hex_of}
 
 -- a truth value as a digit
-abbrev pub bit : Bool → List ℕ
-bit b = if b then codes "1" else codes "0"
+abbrev pub digit : Bool → List ℕ
+digit b = if b then codes "1" else codes "0"
 
 -- tag, address, base, top, the permissions as CGetPerm tells them, flag and type
 unfoldable pub shown_value : CapValue → List ℕ
 shown_value v =
-    codes "v:" ++ bit (is_tagged v) ++ codes " a:" ++ hex_of 16 (value_address v) ++ codes " b:" ++ hex_of 16 (value_base v)
+    codes "v:" ++ digit (is_tagged v) ++ codes " a:" ++ hex_of 16 (value_address v) ++ codes " b:" ++ hex_of 16 (value_base v)
     ++ codes " t:" ++ hex_of 17 (value_top v) ++ codes " p:" ++ hex_of 5 (hardware_view (value_perms v))
-    ++ codes " f:" ++ bit (value_flag v) ++ codes " o:" ++ hex_of 5 (value_otype v)
+    ++ codes " f:" ++ digit (value_flag v) ++ codes " o:" ++ hex_of 5 (value_otype v)
 
 -- a line that shows a value under a name
 abbrev pub value_line : List ℕ → CapValue → List ℕ

@@ -6,6 +6,7 @@ use Rattle.std.specs.Cmp.Lexicographic.{pointwise}
 use Rattle.asm_names.specs.Registers.{register_named}
 use Rattle.asm_lines.specs.declared.fault.LineFault.{LineFault}
 use Rattle.asm_lines.specs.Text.{is_blank}
+use Rattle.asm_lines.specs.Statement.{is_word}
 use Rattle.asm_lines.specs.Number.{number_of}
 use Rattle.asm_lines.specs.Operand.{ranged, wrapped}
 use Rattle.debugger.specs.declared.fault.DebugFault.{DebugFault}
@@ -78,9 +79,6 @@ abbrev pub at_a_word : Option Command → Option Command
 at_a_word None = None
 at_a_word (Some (dis address n)) = if address % 4 == 0 then Some (dis address n) else None
 at_a_word (Some other) = Some other
-
-abbrev pub is_word : List ℕ → List ℕ → Bool
-is_word word name = pointwise nat_eq word name
 
 -- The command that words write: none where the first is no command's name (B1), and none where the operands are others (B2).
 abbrev pub operands_or_B2 : Option Command → Result Command DebugFault

@@ -17,12 +17,12 @@ abbrev pub register_line : State → ℕ → List ℕ
 register_line s n = value_line (name_or [] (register_name true n)) (register s.registers n)
 
 -- a register's value under its name; no register has no line
-abbrev pub line_of : List ℕ → Option CapValue → List ℕ
-line_of name (Some v) = value_line name v
-line_of name None = []
+abbrev pub named_line : List ℕ → Option CapValue → List ℕ
+named_line name (Some v) = value_line name v
+named_line name None = []
 
 abbrev pub scr_line : Scrs → ℕ → List ℕ
-scr_line s n = line_of (name_or [] (scr_name n)) (scr_value s n)
+scr_line s n = named_line (name_or [] (scr_name n)) (scr_value s n)
 
 abbrev pub number_line : List ℕ → Option ℕ → List ℕ
 number_line name (Some n) = name ++ codes " " ++ hex_of 16 n ++ codes "\n"

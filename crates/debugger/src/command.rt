@@ -2,7 +2,9 @@
 ghost use Rattle.std.specs.Prelude.{◌≡◌, ℕ, ◌≤◌, ◌<◌, ◌%◌, IfOk, IfSome, nat_eq, codes, option_map};
 ghost use Rattle.std.specs.Cmp.Lexicographic.{pointwise};
 ghost use Rattle.asm_names.specs.Registers.{register_named};
-ghost use Rattle.debugger.specs.Command.{Command as Written, step, tick, byte, until, reg, regs, mem, dis, words_of, number_between, operands_or_B2, one_number, address_and_number, one_register, nothing_more, at_a_word, command_named, command_of};
+ghost use Rattle.debugger.specs.Command.{Command as Written, step, tick, byte, until, reg, regs, mem, dis, words_of, number_between};
+ghost use Rattle.debugger.specs.Command.{operands_or_B2, one_number, address_and_number, one_register, nothing_more, at_a_word};
+ghost use Rattle.debugger.specs.Command.{command_named, command_of};
 ghost use Rattle.debugger.specs.Seen.{seen_command, seen_request, made_of, made_of_two, read_number, IsWithinLimits};
 
 use crate::fault::DebugFault;

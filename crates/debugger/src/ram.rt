@@ -1,5 +1,6 @@
 //! Bytes and words of RAM as lines of text.
-ghost use Rattle.std.specs.Prelude.{◌≡◌, ◌+◌, ◌-◌, ◌*◌, ◌/◌, ◌%◌, ◌^◌, ◌<◌, ◌≤◌, ◌++◌, [], ◌∷◌, IsTrue, IfOk, OnOk, string_bytes, length, take, drop};
+ghost use Rattle.std.specs.Prelude.{◌≡◌, ◌+◌, ◌-◌, ◌*◌, ◌/◌, ◌%◌, ◌^◌, ◌<◌, ◌≤◌, ◌++◌, [], ◌∷◌, IsTrue, IfOk, OnOk, string_bytes, length};
+ghost use Rattle.std.specs.Prelude.{take, drop};
 ghost use Rattle.std.specs.List.{flat_map};
 ghost use Rattle.base.specs.Ram.{ram_base};
 ghost use Rattle.tagged_memory.specs.Memory.{is_in_ram, bytes_at, number_at};
@@ -28,7 +29,7 @@ pub(crate) fn is_in_ram(memory: &Memory, address: u64, count: u64) -> bool
 }
 
 /// The byte at an address.
-#[tactic(auto, unfolding(tagged_memory::specs::Memory::access_fault, tagged_memory::specs::Memory::is_in_ram), using(crate::proofs::RamBytes::one_byte))]
+#[tactic(auto, unfolding(tagged_memory::specs::Memory::place_fault, tagged_memory::specs::Memory::is_in_ram), using(crate::proofs::RamBytes::one_byte))]
 fn byte_at(memory: &Memory, address: u64) -> u8
     requires low { ram_base ≤ address }
     requires high { address < ram_base + length memory.now.bytes }
@@ -137,7 +138,7 @@ pub(crate) fn put_memory(
 }
 
 /// The word at an address.
-#[tactic(auto, unfolding(tagged_memory::specs::Memory::access_fault, tagged_memory::specs::Memory::is_in_ram))]
+#[tactic(auto, unfolding(tagged_memory::specs::Memory::place_fault, tagged_memory::specs::Memory::is_in_ram))]
 fn word_at(memory: &Memory, address: u64) -> u32
     requires aligned { address % 4 ≡ 0 }
     requires low { ram_base ≤ address }

@@ -1,5 +1,6 @@
 //! The events that a command gives, and the line that tells of them.
-ghost use Rattle.std.specs.Prelude.{◌≡◌, ◌+◌, ◌*◌, ◌<◌, ◌≤◌, ◌++◌, IfOk, IfErr, OnOk, OnErr, replicate, length, vec_len, vec_capacity, string_bytes, string_len, string_capacity, option_to_list};
+ghost use Rattle.std.specs.Prelude.{◌≡◌, ◌+◌, ◌*◌, ◌<◌, ◌≤◌, ◌++◌, IfOk, IfErr, OnOk, OnErr, replicate, length, vec_len, vec_capacity};
+ghost use Rattle.std.specs.Prelude.{string_bytes, string_len, string_capacity, option_to_list};
 ghost use Rattle.std.specs.List.{flat_map};
 ghost use Rattle.special_regs.specs.Scrs.{scr_value};
 ghost use Rattle.hart.specs.State.{pc_of};

@@ -5,7 +5,7 @@ ghost use Rattle.cap_bounds.specs.CapValue.{CapValue};
 ghost use Rattle.base.specs.Registers.{is_scr};
 ghost use Rattle.special_regs.specs.Scrs.{scr_value};
 ghost use Rattle.disassembler.specs.Hex.{hex_of};
-ghost use Rattle.debugger.specs.Capability.{bit, shown_value, value_line};
+ghost use Rattle.debugger.specs.Capability.{digit, shown_value, value_line};
 
 use crate::text::{put, put_hex};
 use cap_bounds::CapRep;
@@ -23,7 +23,7 @@ fn put_field(text: &mut String, name: &str, width: usize, n: u128) -> Result<(),
 
 /// Puts a name and a truth value as a digit behind a text.
 fn put_flag(text: &mut String, name: &str, flag: bool) -> Result<(), AllocError>
-    ensures { OnOk result (string_bytes text.new ≡ string_bytes text.old ++ name.now ++ bit flag) }
+    ensures { OnOk result (string_bytes text.new ≡ string_bytes text.old ++ name.now ++ digit flag) }
 {
     put(text, name)?;
     put(text, if flag { "1" } else { "0" })

@@ -113,8 +113,10 @@ fn hear<C: CapRep, R: Source, W: Sink>(
     requires source { R.failed source.old < 2 ^ 64 - 1 }
     requires sink { W.failed sink.old < 2 ^ 64 - 1 }
     requires line { line.old.items ≡ [] }
-    ensures ok { IfOk result (λ is_over. Hears is_over line.new.items session.old session.new (R.left source.old) (R.left source.new) (W.held sink.old) (W.held sink.new)) }
-    ensures err { IfErr result (λ fault. LeavesOff fault session.old session.new (R.left source.old) (R.left source.new) (W.held sink.old) (W.held sink.new)) }
+    ensures ok { IfOk result (λ is_over. Hears is_over line.new.items session.old session.new (R.left source.old) (R.left source.new)
+        (W.held sink.old) (W.held sink.new)) }
+    ensures err { IfErr result (λ fault. LeavesOff fault session.old session.new (R.left source.old) (R.left source.new) (W.held sink.old)
+        (W.held sink.new)) }
     ensures reads { CountsReads (R.failed source.old) (R.failed source.new) result }
     ensures writes { CountsWrites (W.failed sink.old) (W.failed sink.new) result }
 {
@@ -149,8 +151,10 @@ pub fn talk<C: CapRep, R: Source, W: Sink>(
 ) -> Result<(), TalkFault>
     requires source { R.failed source.old < 2 ^ 64 - 1 }
     requires sink { W.failed sink.old < 2 ^ 64 - 1 }
-    ensures ok { OnOk result (IfSome (R.left source.old) (λ input. IsTold input session.old session.new (R.left source.new) (W.held sink.old) (W.held sink.new))) }
-    ensures err { IfErr result (λ fault. LeavesOff fault session.old session.new (R.left source.old) (R.left source.new) (W.held sink.old) (W.held sink.new)) }
+    ensures ok { OnOk result (IfSome (R.left source.old)
+        (λ input. IsTold input session.old session.new (R.left source.new) (W.held sink.old) (W.held sink.new))) }
+    ensures err { IfErr result (λ fault. LeavesOff fault session.old session.new (R.left source.old) (R.left source.new) (W.held sink.old)
+        (W.held sink.new)) }
     ensures reads { CountsReads (R.failed source.old) (R.failed source.new) result }
     ensures writes { CountsWrites (W.failed sink.old) (W.failed sink.new) result }
 {

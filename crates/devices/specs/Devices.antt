@@ -1,8 +1,9 @@
 -- The devices: registers in the map, what a load gives and a store does, the timer and the console (profile).
-use Rattle.std.specs.Prelude.{ℕ, ◌+◌, ◌-◌, ◌*◌, ◌/◌, ◌%◌, ◌^◌, ◌<◌, ◌≤◌, Bool, true, false, not, ◌&&◌, ◌||◌, ◌==◌, nat_lt, nat_le, if◌then◌else◌, List, [], ◌∷◌, ◌++◌, length, Option, Some, None, Result, Ok, Err}
+use Rattle.std.specs.Prelude.{ℕ, ◌+◌, ◌-◌, ◌*◌, ◌/◌, ◌%◌, ◌^◌, ◌<◌, ◌≤◌, Bool, true, false, not, ◌&&◌, ◌||◌, ◌==◌, nat_lt, nat_le}
+use Rattle.std.specs.Prelude.{if◌then◌else◌, List, [], ◌∷◌, ◌++◌, length, Option, Some, None, Result, Ok, Err}
 use Rattle.std.specs.List.{list_any}
 use Rattle.base.specs.declared.interrupt.TheConstants.{TIMER, EXTERNAL}
-use Rattle.cap_format.specs.Word.{bit}
+use Rattle.base.specs.Bits.{bit}
 use Rattle.devices.specs.declared.devices.Effect.{Effect}
 use Rattle.devices.specs.declared.devices.Effect.TheVariants as effect
 use Rattle.devices.specs.declared.fault.DeviceFault.{DeviceFault}
@@ -151,7 +152,3 @@ received b d =
 -- mip: the timer's bit while mtime is mtimecmp or more, the external one while control allows it and a byte waits
 unfoldable pub interrupts_of : Devices → ℕ
 interrupts_of d = bit (nat_le d.mtimecmp d.mtime) * 2 ^ TIMER + bit (d.control && waits d.queue) * 2 ^ EXTERNAL
-
-abbrev pub unless : {X : Type 0} → Option DeviceFault → X → Result X DeviceFault
-unless None x = Ok x
-unless (Some fault) x = Err fault

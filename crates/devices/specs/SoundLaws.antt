@@ -1,10 +1,12 @@
 -- Sound devices give numbers of 64 bits, and whatever happens leaves them sound.
-use Rattle.std.proofs.Common.{◌≡◌, ℕ, zero, suc, ◌+◌, ◌^◌, ◌<◌, ◌≤◌, Bool, true, false, eqb, ltb, not, List, [], ◌∷◌, ◌++◌, length, Some, refl, length-append, arith, lit<, lit≤}
+use Rattle.std.proofs.Common.{◌≡◌, ℕ, zero, suc, ◌+◌, ◌^◌, ◌<◌, ◌≤◌, Bool, true, false, eqb, ltb, not, List, [], ◌∷◌, ◌++◌, length, Some}
+use Rattle.std.proofs.Common.{refl, length-append, arith, lit<, lit≤}
 use Rattle.std.specs.Prelude.{nat_le, slice_index, IfSome, ◌&&◌}
 use Rattle.std.proofs.lemmas.Nat.{mod_below, pow_pos}
 use Rattle.std.proofs.lemmas.Bool.{cond_both, ltb-true}
-use Rattle.cap_format.specs.Word.{bit}
-use Rattle.devices.specs.Devices.{Devices, idle, waits, oldest, without_oldest, status_of, value_at, taken_at, written, ticked, received, interrupts_of, timer_compare, timer, receive, status, control_register, halt}
+use Rattle.base.specs.Bits.{bit}
+use Rattle.devices.specs.Devices.{Devices, idle, waits, oldest, without_oldest, status_of, value_at, taken_at, written, ticked, received}
+use Rattle.devices.specs.Devices.{interrupts_of, timer_compare, timer, receive, status, control_register, halt}
 use Rattle.devices.specs.Sound.{AreSound}
 
 bit-small : (b : Bool) → bit b < 2
@@ -28,7 +30,8 @@ value_at-below address d sound =
     (λ _. cond_both (eqb address timer) _ _ P (λ _. sound.devices.mtime)
     (λ _. cond_both (eqb address receive) _ _ P (λ _. let small = oldest-below d.queue sound.waiting in omega arith)
     (λ _. cond_both (eqb address status) _ _ P (λ _. status_of-below d)
-    (λ _. cond_both (eqb address control_register) (bit d.control) 0 P (λ _. let small = bit-small d.control in omega arith) (λ _. lit< tt)))))
+    (λ _. cond_both (eqb address control_register) (bit d.control) 0 P (λ _. let small = bit-small d.control in omega arith)
+    (λ _. lit< tt)))))
 
 pub interrupts_of-below : (d : Devices) → interrupts_of d < 2 ^ 64
 unfolding interrupts_of
@@ -71,7 +74,8 @@ AreSound-received b d byte sound =
         few = cond_both full d.queue (d.queue ++ (b ∷ [])) (λ q. length q ≤ 64) (λ _. sound.devices.few)
             (λ room. let below = ltb-true (length d.queue) 64 (not-false _ room) in omega (arith, length-append d.queue (b ∷ [])));
       };
-      waiting = cond_both full d.queue (d.queue ++ (b ∷ [])) (λ q. (k : ℕ) → slice_index q k < 256) (λ _. sound.waiting) (λ _. bytes-appended d.queue b byte sound.waiting);
+      waiting = cond_both full d.queue (d.queue ++ (b ∷ [])) (λ q. (k : ℕ) → slice_index q k < 256) (λ _. sound.waiting)
+          (λ _. bytes-appended d.queue b byte sound.waiting);
       halted = sound.halted;
     }
 
@@ -89,9 +93,11 @@ AreSound-taken_at address d sound = record {
   devices = record {
     mtime = sound.devices.mtime;
     mtimecmp = sound.devices.mtimecmp;
-    few = cond_both (eqb address receive) (without_oldest d.queue) d.queue (λ q. length q ≤ 64) (λ _. fewer d.queue sound.devices.few) (λ _. sound.devices.few);
+    few = cond_both (eqb address receive) (without_oldest d.queue) d.queue (λ q. length q ≤ 64) (λ _. fewer d.queue sound.devices.few)
+        (λ _. sound.devices.few);
   };
-  waiting = cond_both (eqb address receive) (without_oldest d.queue) d.queue (λ q. (k : ℕ) → slice_index q k < 256) (λ _. bytes-without d.queue sound.waiting) (λ _. sound.waiting);
+  waiting = cond_both (eqb address receive) (without_oldest d.queue) d.queue (λ q. (k : ℕ) → slice_index q k < 256)
+      (λ _. bytes-without d.queue sound.waiting) (λ _. sound.waiting);
   halted = sound.halted;
 }
 

@@ -1,6 +1,7 @@
 ghost use Rattle.std.specs.Prelude.{◌≡◌, ◌%◌, ◌↔◌, IsTrue, OnErr, OnOk, None};
 ghost use Rattle.base.specs.Size.{bytes_of};
-ghost use Rattle.devices.specs.Devices.{write_fault, effect_of, byte_sent, written, unless};
+ghost use Rattle.base.specs.FirstFault.{unless};
+ghost use Rattle.devices.specs.Devices.{write_fault, effect_of, byte_sent, written};
 ghost use Rattle.devices.specs.Map.{address_of};
 
 use crate::devices::{Devices, Effect};

@@ -10,13 +10,13 @@ use Rattle.hart.specs.Registers.{null, null_registers}
 use Rattle.hart.specs.State.{State}
 
 -- memory with sections written into it, one after the other
-abbrev pub loaded : List Section → Memory → Memory
-loaded [] m = m
-loaded (s ∷ ss) m = loaded ss (data_written m s.address s.bytes)
+abbrev pub with_sections : List Section → Memory → Memory
+with_sections [] m = m
+with_sections (s ∷ ss) m = with_sections ss (data_written m s.address s.bytes)
 
 -- RAM holds the sections and zeros, and no tag
 abbrev pub opening_memory : Image → Memory
-opening_memory i = loaded i.sections (zeroed i.pages)
+opening_memory i = with_sections i.sections (zeroed i.pages)
 
 -- PCC is root at the entry with the mode as flag; DDC, MTCC and MEPCC are root at 0; MTDC and MScratchC are null
 abbrev pub opening_scrs : Image → Scrs

@@ -16,7 +16,7 @@ use Rattle.special_regs.specs.SoundLaws.{AreInRange-zero}
 use Rattle.image.specs.Image.{Image, Section, IsImage, is_good_header, mode_number}
 use Rattle.image.specs.ImageLaws.{AllInRam, AllInRam-image, build_parts, entry_aligned, header_ranges, pages_some}
 use Rattle.hart.specs.Registers.{null, register}
-use Rattle.hart.specs.Opening.{loaded, opening_memory, opening_scrs, opening}
+use Rattle.hart.specs.Opening.{with_sections, opening_memory, opening_scrs, opening}
 use Rattle.hart.specs.OpeningLaws.{HoldsCapabilities-opening_memory}
 use Rattle.hart.specs.IsState.{IsState}
 
@@ -32,11 +32,13 @@ nulls (suc n) (suc k) = nulls n k
 abbrev HoldBytes : List Section → Type 0
 HoldBytes sections = All (λ section. (k : ℕ) → slice_index section.bytes k < 256) sections
 
-IsMemory-loaded : (sections : List Section) (m : Memory) (pages : ℕ) → IsMemory m → length m.bytes ≡ 4096 * pages → AllInRam pages sections → HoldBytes sections → IsMemory (loaded sections m)
-IsMemory-loaded [] m pages memory whole inside bytes = memory
-IsMemory-loaded (s ∷ ss) m pages memory whole inside bytes =
+IsMemory-with_sections : (sections : List Section) (m : Memory) (pages : ℕ) → IsMemory m → length m.bytes ≡ 4096 * pages
+    → AllInRam pages sections → HoldBytes sections → IsMemory (with_sections sections m)
+IsMemory-with_sections [] m pages memory whole inside bytes = memory
+IsMemory-with_sections (s ∷ ss) m pages memory whole inside bytes =
     let here : is_in_ram m s.address (length s.bytes) ≡ true = in_ram-from m s.address (length s.bytes) inside.0.0 (rw whole inside.0.1) in
-    IsMemory-loaded ss (data_written m s.address s.bytes) pages (IsMemory-data_written m s.address s.bytes memory here (bytes 0 s (omega arith)))
+    IsMemory-with_sections ss (data_written m s.address s.bytes) pages
+    (IsMemory-data_written m s.address s.bytes memory here (bytes 0 s (omega arith)))
     (length-data_written m s.address s.bytes here ∙ whole) inside.1 (λ k d below. bytes (suc k) d (omega arith))
 
 module _ (i : Image) (valid : IsImage i) where
@@ -67,7 +69,8 @@ module _ (i : Image) (valid : IsImage i) where
   IsMemory-opening bytes =
       let ranges = header_ranges i.pages i.entry (mode_number i.mode) good in
       let some = pages_some i.pages i.entry (mode_number i.mode) good in
-      IsMemory-loaded i.sections (zeroed i.pages) i.pages (IsMemory-zeroed i.pages some ranges.0) (length-replicate (4096 * i.pages) 0) (AllInRam-image i valid) bytes
+      IsMemory-with_sections i.sections (zeroed i.pages) i.pages (IsMemory-zeroed i.pages some ranges.0)
+      (length-replicate (4096 * i.pages) 0) (AllInRam-image i valid) bytes
 
   pub IsState-opening : HoldBytes i.sections → IsState (opening i)
   IsState-opening bytes = record {

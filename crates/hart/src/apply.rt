@@ -4,7 +4,7 @@ ghost use Rattle.std.specs.Prelude.{◌≡◌, ◌+◌, ◌%◌, ◌^◌, ◌<�
 ghost use Rattle.byteorder.specs.Endian.{little_bytes};
 ghost use Rattle.base.specs.Size.{bytes_of};
 ghost use Rattle.cap_bounds.specs.CapValue.{value_address, word_of, is_tagged};
-ghost use Rattle.tagged_memory.specs.Memory.{access_fault, data_written, capability_written};
+ghost use Rattle.tagged_memory.specs.Memory.{place_fault, data_written, capability_written};
 ghost use Rattle.devices.specs.Devices.{written, taken_at};
 ghost use Rattle.special_regs.specs.Csrs.{cycle_counted};
 ghost use Rattle.special_regs.specs.Writes.{csrs_written, views_written, scr_written};
@@ -99,7 +99,7 @@ impl<C: CapRep> Hart<C> {
 
     #[inline]
     fn store(&mut self, store: Store)
-        requires { access_fault self.old.memory store.address (bytes_of store.size) ≡ None }
+        requires { place_fault self.old.memory store.address (bytes_of store.size) ≡ None }
         ensures { self.new ≡ done (record self.old {
           memory = data_written self.old.memory store.address (little_bytes (bytes_of store.size) store.number);
         }) }
@@ -109,7 +109,7 @@ impl<C: CapRep> Hart<C> {
     }
 
     fn store_capability(&mut self, store: StoreCapability<C>)
-        requires { access_fault self.old.memory store.address 16 ≡ None }
+        requires { place_fault self.old.memory store.address 16 ≡ None }
         ensures { self.new ≡ done (record self.old {
           memory = capability_written self.old.memory store.address (word_of (C.value store.value)) (is_tagged (C.value store.value));
         }) }

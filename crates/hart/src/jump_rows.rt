@@ -5,7 +5,8 @@ ghost use Rattle.isa_rows.specs.Kind.{kind_of};
 ghost use Rattle.isa_rows.specs.declared.kinds.Kind.TheVariants as kind;
 ghost use Rattle.hart.specs.Applying.{meant, CanApply};
 ghost use Rattle.hart.specs.Looks.{HasRegisters};
-ghost use Rattle.hart.specs.JumpRows.{sentry_link, link_of, branch_effect, link_effect, jal_effect, enter_effect, jalr_effect, invoke_effect};
+ghost use Rattle.hart.specs.JumpRows.{sentry_link, link_of, branch_effect, link_effect, jal_effect, enter_effect, jalr_effect};
+ghost use Rattle.hart.specs.JumpRows.{invoke_effect};
 
 use crate::effect::{Effect, Enter, Link};
 use crate::hart::Hart;

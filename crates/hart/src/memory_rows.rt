@@ -9,7 +9,8 @@ ghost use Rattle.hart.specs.Accesses.{size_of};
 ghost use Rattle.hart.specs.Applying.{meant, CanApply};
 ghost use Rattle.hart.specs.Looks.{HasRegisters};
 ghost use Rattle.hart.specs.MemoryRows as spec;
-ghost use Rattle.hart.specs.MemoryRows.{place_of, authority_of, authority_number_of, mapped_load, load_effect, mapped_store, store_effect, mapped_capability_load, load_capability_effect, mapped_capability_store, store_capability_effect};
+ghost use Rattle.hart.specs.MemoryRows.{place_of, authority_of, authority_number_of, mapped_load, load_effect, mapped_store, store_effect};
+ghost use Rattle.hart.specs.MemoryRows.{mapped_capability_load, load_capability_effect, mapped_capability_store, store_capability_effect};
 
 use crate::accesses::{loaded, size_of, through_rs1};
 use crate::effect::{DeviceLoad, Effect, Store, StoreCapability, Write};
@@ -76,7 +77,7 @@ impl<C: CapRep> Hart<C> {
 
     /// A load that its authority allows: from RAM, or from a device register that can be loaded.
     #[inline]
-    #[tactic(auto, unfolding(crate::specs::MemoryRows::mapped_load, crate::specs::Applying::CanApply, tagged_memory::specs::Memory::access_fault))]
+    #[tactic(auto, unfolding(crate::specs::MemoryRows::mapped_load, crate::specs::Applying::CanApply, tagged_memory::specs::Memory::place_fault))]
     fn plan_mapped_load(&self, insn: Insn, address: u64, size: Size) -> Effect<C>
         requires registers { HasRegisters insn }
         requires aligned { address % bytes_of size ≡ 0 }
@@ -126,7 +127,7 @@ impl<C: CapRep> Hart<C> {
 
     /// A store that its authority allows: into RAM, or into a device register that takes it.
     #[inline]
-    #[tactic(auto, unfolding(crate::specs::MemoryRows::mapped_store, crate::specs::Applying::CanApply, tagged_memory::specs::Memory::access_fault))]
+    #[tactic(auto, unfolding(crate::specs::MemoryRows::mapped_store, crate::specs::Applying::CanApply, tagged_memory::specs::Memory::place_fault))]
     fn plan_mapped_store(&self, address: u64, size: Size, number: u64) -> Effect<C>
         requires { address % bytes_of size ≡ 0 }
         ensures effect { meant C.value result ≡ mapped_store address size number self.now }
@@ -169,7 +170,7 @@ impl<C: CapRep> Hart<C> {
     }
 
     /// The word of a granule in RAM, with its tag if the authority has Load_Capability.
-    #[tactic(auto, unfolding(tagged_memory::specs::Memory::access_fault))]
+    #[tactic(auto, unfolding(tagged_memory::specs::Memory::place_fault))]
     fn loaded_capability(&self, authority: C, address: u64) -> C
         requires aligned { address % 16 ≡ 0 }
         requires inside { is_in_ram self.now.memory address 16 ≡ true }
@@ -180,7 +181,7 @@ impl<C: CapRep> Hart<C> {
     }
 
     /// A load of a capability that its authority allows: from RAM alone, without its tag where the authority lacks Load_Capability.
-    #[tactic(auto, unfolding(crate::specs::MemoryRows::mapped_capability_load, crate::specs::Applying::CanApply, tagged_memory::specs::Memory::access_fault))]
+    #[tactic(auto, unfolding(crate::specs::MemoryRows::mapped_capability_load, crate::specs::Applying::CanApply, tagged_memory::specs::Memory::place_fault))]
     fn plan_mapped_capability_load(&self, authority: C, rd: u8, address: u64) -> Effect<C>
         requires register { rd < 32 }
         requires aligned { address % 16 ≡ 0 }
@@ -217,7 +218,7 @@ impl<C: CapRep> Hart<C> {
     }
 
     /// A store of a capability that its authority allows: into RAM alone.
-    #[tactic(auto, unfolding(crate::specs::MemoryRows::mapped_capability_store, crate::specs::Applying::CanApply, tagged_memory::specs::Memory::access_fault))]
+    #[tactic(auto, unfolding(crate::specs::MemoryRows::mapped_capability_store, crate::specs::Applying::CanApply, tagged_memory::specs::Memory::place_fault))]
     fn plan_mapped_capability_store(&self, address: u64, value: C) -> Effect<C>
         requires { address % 16 ≡ 0 }
         ensures effect { meant C.value result ≡ mapped_capability_store address (C.value value) self.now }

@@ -10,7 +10,8 @@ use Rattle.image.specs.declared.fault.ImageFault.TheVariants.{L1, L2, L3, L4, L5
 use Rattle.image.specs.declared.parts.Header.{Header}
 use Rattle.image.specs.declared.parts.Span.{Span}
 use Rattle.image.specs.Image.{Section, is_good_header, span_fault, sections_fault, build_fault}
-use Rattle.image.specs.Grammar.{◌>>=◌, magic, unless, number_at, taken, header_fault, header_of, header_at, span_at, section_at}
+use Rattle.base.specs.FirstFault.{unless}
+use Rattle.image.specs.Grammar.{◌>>=◌, magic, number_at, taken, header_fault, header_of, header_at, span_at, section_at}
 use Rattle.image.specs.Grammar.{sections_at}
 
 -- the value of a step that did not fail

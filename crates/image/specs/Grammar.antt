@@ -3,6 +3,7 @@ use Rattle.std.specs.Prelude.{◌≡◌, ◌<◌, ℕ, zero, suc, ◌+◌, not, 
 use Rattle.std.specs.Prelude.{slice_index, take, drop, Option, Some, None, Result, Ok, Err, codes}
 use Rattle.std.specs.List.{flat_map, starts_with}
 use Rattle.byteorder.specs.Endian.{little_bytes, little_number}
+use Rattle.base.specs.FirstFault.{unless}
 use Rattle.image.specs.declared.fault.ImageFault.{ImageFault}
 use Rattle.image.specs.declared.fault.ImageFault.TheVariants.{L1, L2, L3, L4, L5, L8, L9}
 use Rattle.image.specs.declared.parts.Header.{Header}
@@ -44,11 +45,6 @@ infixl 10 ◌>>=◌
 abbrev pub ◌>>=◌ : {A B : Type 0} → Result A ImageFault → (A → Result B ImageFault) → Result B ImageFault
 (Ok x) >>= f = f x
 (Err fault) >>= f = Err fault
-
--- the value, unless there is a fault
-abbrev pub unless : {A : Type 0} → Option ImageFault → A → Result A ImageFault
-unless None x = Ok x
-unless (Some fault) x = Err fault
 
 -- the number in so many bytes from a place on
 abbrev pub number_at : ℕ → ℕ → List ℕ → ℕ

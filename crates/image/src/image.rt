@@ -1,6 +1,7 @@
 ghost use Rattle.std.specs.Prelude.{◌≡◌, ◌<◌, ◌≤◌, ◌+◌, IfOk, IfNone, IfSome, None, length};
 ghost use Rattle.base.specs.Ram.{ram_end};
-ghost use Rattle.image.specs.Image.{IsImage, Builds, build_fault, span_fault, image_of, lent_sections, lent_section, is_good_header, sections_fault};
+ghost use Rattle.image.specs.Image.{IsImage, Builds, build_fault, span_fault, image_of, lent_sections, lent_section, is_good_header};
+ghost use Rattle.image.specs.Image.{sections_fault};
 ghost use Rattle.image.specs.Reads.{IsOfBytes};
 
 use crate::fault::ImageFault;
@@ -118,7 +119,8 @@ impl Image {
         mode: u32,
         sections: &[(u64, &[u8])],
     ) -> Result<Self, ImageFault>
-        ensures { Builds (build_fault pages entry mode (lent_sections sections.now)) (image_of pages entry mode (lent_sections sections.now)) result }
+        ensures { Builds (build_fault pages entry mode (lent_sections sections.now))
+            (image_of pages entry mode (lent_sections sections.now)) result }
     {
         if !is_good(pages, entry, mode) {
             return Err(ImageFault::L4);

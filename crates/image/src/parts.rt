@@ -3,7 +3,8 @@
 ghost use Rattle.std.specs.Prelude.{◌≡◌, ◌+◌, ◌≤◌, IfOk, IfErr, length};
 ghost use Rattle.base.specs.Ram.{ram_end};
 ghost use Rattle.image.specs.Image.{span_fault};
-ghost use Rattle.image.specs.Grammar.{unless, number_at, header_fault, header_of};
+ghost use Rattle.base.specs.FirstFault.{unless};
+ghost use Rattle.image.specs.Grammar.{number_at, header_fault, header_of};
 ghost use Rattle.image.specs.Reads.{IsOfBytes};
 
 use crate::fault::ImageFault;

@@ -82,8 +82,8 @@ abbrev pub rounded : List Slot
 rounded = Rd Integer ∷ Rs1 Integer ∷ []
 
 -- cd, cs1
-abbrev pub moved : List Slot
-moved = Rd Capability ∷ Rs1 Capability ∷ []
+abbrev pub copied : List Slot
+copied = Rd Capability ∷ Rs1 Capability ∷ []
 
 -- cs1, cs2
 abbrev pub invoked : List Slot
@@ -94,11 +94,11 @@ abbrev pub special : List Slot
 special = Rd Capability ∷ Special ∷ Rs1 Capability ∷ []
 
 -- the explicit forms: rd, (rs1) and rs2, (rs1)
-abbrev pub loaded : Naming → Naming → List Slot
-loaded value authority = Rd value ∷ Authority authority ∷ []
+abbrev pub explicit_load : Naming → Naming → List Slot
+explicit_load value authority = Rd value ∷ Authority authority ∷ []
 
-abbrev pub stored : Naming → Naming → List Slot
-stored value authority = Rs2 value ∷ Authority authority ∷ []
+abbrev pub explicit_store : Naming → Naming → List Slot
+explicit_store value authority = Rs2 value ∷ Authority authority ∷ []
 
 -- no operands
 abbrev pub none : List Slot

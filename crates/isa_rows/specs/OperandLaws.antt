@@ -4,12 +4,14 @@ use Rattle.std.specs.Prelude.{IfSome, find, option_map, nat_lt}
 use Rattle.std.proofs.Math.Pow.{pow_mono}
 use Rattle.std.proofs.lemmas.Bool.{cond_both}
 use Rattle.isa_rows.specs.declared.formats.Format.{Format}
-use Rattle.isa_rows.specs.declared.formats.Format.TheVariants.{Upper, Jump, Immediate, Unsigned, Store, Branch, Shift6, Shift5, Register, Whole, Unary, Pair}
+use Rattle.isa_rows.specs.declared.formats.Format.TheVariants.{Upper, Jump, Immediate, Unsigned, Store, Branch, Shift6, Shift5, Register}
+use Rattle.isa_rows.specs.declared.formats.Format.TheVariants.{Whole, Unary, Pair}
 use Rattle.isa_rows.specs.declared.operands.Insn.{Insn}
 use Rattle.isa_rows.specs.declared.rows.Row.{Row}
 use Rattle.isa_rows.specs.declared.table.TheConstants.{ROWS}
 use Rattle.isa_rows.specs.Line.{line_of}
-use Rattle.isa_rows.specs.Insn.{field, sign_extended, insn_at}
+use Rattle.base.specs.Bits.{field}
+use Rattle.isa_rows.specs.Insn.{sign_extended, insn_at}
 use Rattle.isa_rows.specs.Decoded.{is_row, insn_of}
 
 -- the source registers exist, and the immediate has 64 bits
@@ -29,7 +31,13 @@ sign_extended-below bits n few small =
 AreInRange-insn_at : (format : Format) (row : Row) (w : ℕ) → AreInRange (insn_at format row w)
 unfolding insn_at
 AreInRange-insn_at Upper row w =
-    record { rd = omega arith; rs1 = omega arith; rs2 = omega arith; imm = sign_extended-below 32 (field w 12 20 * 2 ^ 12) (lit≤ tt) (omega arith) }
+    record {
+      rd = omega arith;
+      rs1 = omega arith;
+      rs2 = omega arith;
+      imm = sign_extended-below 32 (field w 12 20 * 2 ^ 12) (lit≤ tt)
+          (omega arith);
+    }
 AreInRange-insn_at Jump row w =
     let n : ℕ = field w 12 8 * 2 ^ 12 + field w 20 1 * 2 ^ 11 + field w 21 10 * 2 ^ 1 + field w 31 1 * 2 ^ 20 in
     record { rd = omega arith; rs1 = omega arith; rs2 = omega arith; imm = sign_extended-below 21 n (lit≤ tt) (omega arith) }
@@ -37,7 +45,13 @@ AreInRange-insn_at Immediate row w =
     record { rd = omega arith; rs1 = omega arith; rs2 = omega arith; imm = sign_extended-below 12 (field w 20 12) (lit≤ tt) (omega arith) }
 AreInRange-insn_at Unsigned row w = record { rd = omega arith; rs1 = omega arith; rs2 = omega arith; imm = omega arith }
 AreInRange-insn_at Store row w =
-    record { rd = omega arith; rs1 = omega arith; rs2 = omega arith; imm = sign_extended-below 12 (field w 7 5 + field w 25 7 * 2 ^ 5) (lit≤ tt) (omega arith) }
+    record {
+      rd = omega arith;
+      rs1 = omega arith;
+      rs2 = omega arith;
+      imm = sign_extended-below 12 (field w 7 5 + field w 25 7 * 2 ^ 5)
+          (lit≤ tt) (omega arith);
+    }
 AreInRange-insn_at Branch row w =
     let n : ℕ = field w 7 1 * 2 ^ 11 + field w 8 4 * 2 ^ 1 + field w 25 6 * 2 ^ 5 + field w 31 1 * 2 ^ 12 in
     record { rd = omega arith; rs1 = omega arith; rs2 = omega arith; imm = sign_extended-below 13 n (lit≤ tt) (omega arith) }

@@ -8,7 +8,7 @@ use Rattle.isa_rows.specs.declared.formats.Format.TheVariants.{Whole, Unary, Pai
 use Rattle.isa_rows.specs.declared.rows.Row.{Row}
 use Rattle.isa_rows.specs.declared.rows.Row.TheVariants.{Lui}
 use Rattle.isa_rows.specs.Line.{mask_of, line_of, IsRow}
-use Rattle.isa_rows.specs.Insn.{field}
+use Rattle.base.specs.Bits.{field}
 
 -- opcode and funct3
 abbrev pub low_fields : ℕ → ℕ
@@ -30,9 +30,11 @@ masked Unary w = low_fields w + field w 20 12 * 2 ^ 20
 masked Pair w = w % 2 ^ 15 + field w 25 7 * 2 ^ 25
 
 -- a word under a mask of two parts
-pub and_parts : (w k high low : ℕ) → low < 2 ^ k → bit_and w (high * 2 ^ k + low) ≡ bit_and (w / 2 ^ k) high * 2 ^ k + bit_and (w % 2 ^ k) low
+pub and_parts : (w k high low : ℕ) → low < 2 ^ k
+    → bit_and w (high * 2 ^ k + low) ≡ bit_and (w / 2 ^ k) high * 2 ^ k + bit_and (w % 2 ^ k) low
 and_parts w k high low h =
-    subst (λ v. bit_and v (high * 2 ^ k + low) ≡ bit_and (w / 2 ^ k) high * 2 ^ k + bit_and (w % 2 ^ k) low) (shr_split w k) (and_block k (w / 2 ^ k) high (w % 2 ^ k) low (mod_below w (2 ^ k) (pow_pos k)) h)
+    subst (λ v. bit_and v (high * 2 ^ k + low) ≡ bit_and (w / 2 ^ k) high * 2 ^ k + bit_and (w % 2 ^ k) low) (shr_split w k)
+    (and_block k (w / 2 ^ k) high (w % 2 ^ k) low (mod_below w (2 ^ k) (pow_pos k)) h)
 
 and_7f : (w : ℕ) → bit_and w 0x7F ≡ w % 2 ^ 7
 and_7f w = and_mask w 7

@@ -12,7 +12,8 @@ unfolding word_of
 value-word_of Upper value i = omega arith
 value-word_of _ value i = omega arith
 
-pub parts-insn_word : (i : Insn) (value bits : ℕ) (format : Format) → value ≡ (line_of i.row).value → format ≡ (line_of i.row).format → bits ≡ word_of format 0 i → value + bits ≡ insn_word i
+pub parts-insn_word : (i : Insn) (value bits : ℕ) (format : Format) → value ≡ (line_of i.row).value → format ≡ (line_of i.row).format
+    → bits ≡ word_of format 0 i → value + bits ≡ insn_word i
 unfolding insn_word
 parts-insn_word i value bits format p q r =
     ap (λ n. value + n) r ∙ value-word_of format value i ∙ ap (λ n. word_of format n i) p ∙ ap (λ f. word_of f (line_of i.row).value i) q

@@ -1,14 +1,20 @@
 -- The decisions are the instruction table: two tests of the decisions, which compute, and what they mean.
-use Rattle.std.proofs.Common.{◌≡◌, ℕ, Bool, true, false, ◌==◌, ◌&&◌, ◌||◌, if◌then◌else◌, List, [], ◌∷◌, Option, Some, None, ◌⊎◌, inl, inr, refl, ap, subst, ◌∙◌, arith}
+use Rattle.std.proofs.Common.{◌≡◌, ℕ, Bool, true, false, ◌==◌, ◌&&◌, ◌||◌, if◌then◌else◌, List, [], ◌∷◌, Option, Some, None, ◌⊎◌, inl, inr}
+use Rattle.std.proofs.Common.{refl, ap, subst, ◌∙◌, arith}
 use Rattle.std.proofs.lemmas.Bool.{eqb-true}
 use Rattle.isa_rows.specs.declared.formats.Format.{Format}
-use Rattle.isa_rows.specs.declared.formats.Format.TheVariants.{Upper, Jump, Immediate, Unsigned, Store, Branch, Shift6, Shift5, Register, Whole, Unary, Pair}
+use Rattle.isa_rows.specs.declared.formats.Format.TheVariants.{Upper, Jump, Immediate, Unsigned, Store, Branch, Shift6, Shift5, Register}
+use Rattle.isa_rows.specs.declared.formats.Format.TheVariants.{Whole, Unary, Pair}
 use Rattle.isa_rows.specs.declared.rows.Row.{Row}
 use Rattle.isa_rows.specs.declared.rows.Row.TheVariants.{Lui}
 use Rattle.isa_rows.specs.Line.{line_of, IsRow}
-use Rattle.isa_rows.specs.Insn.{field}
+use Rattle.base.specs.Bits.{field}
 use Rattle.isa_rows.specs.WordLaws.{masked, masked-line_of, IsRow-masked, IsRow-from_masked}
-use Rattle.isa_table.specs.Decision.{Decision, test, found, absent, row_by, jumps, branches, loads, stores, fences, left_shifts, right_shifts, immediates, left_word_shifts, right_word_shifts, word_immediates, registers, other_registers, products, operations, word_registers, other_word_registers, word_products, word_operations, whole_words, system, explicit_stores, explicit_loads, invocations, one_operand, by_funct7, capability_rows, table}
+use Rattle.isa_table.specs.Decision.{Decision, test, found, absent, row_by, jumps, branches, loads, stores, fences, left_shifts}
+use Rattle.isa_table.specs.Decision.{right_shifts, immediates, left_word_shifts, right_word_shifts, word_immediates, registers}
+use Rattle.isa_table.specs.Decision.{other_registers, products, operations, word_registers, other_word_registers, word_products}
+use Rattle.isa_table.specs.Decision.{word_operations, whole_words, system, explicit_stores, explicit_loads, invocations, one_operand}
+use Rattle.isa_table.specs.Decision.{by_funct7, capability_rows, table}
 
 -- the fields that a format's rows fix: the first bit and the number of bits
 fixed_by : Format → List (ℕ × ℕ)
@@ -69,7 +75,8 @@ or_split : (a b : Bool) → (a || b) ≡ true → (a ≡ true) ⊎ (b ≡ true)
 or_split true b h = inl refl
 or_split false b h = inr h
 
-pick : (b : Bool) (p q : Option Row) (row : Row) → (if b then p else q) ≡ Some row → ((b ≡ true) × (p ≡ Some row)) ⊎ ((b ≡ false) × (q ≡ Some row))
+pick : (b : Bool) (p q : Option Row) (row : Row) → (if b then p else q) ≡ Some row
+    → ((b ≡ true) × (p ≡ Some row)) ⊎ ((b ≡ false) × (q ≡ Some row))
 pick true p q row h = inl (refl, h)
 pick false p q row h = inr (refl, h)
 
@@ -83,7 +90,8 @@ abbrev has : List (ℕ × ℕ) → ℕ → ℕ → Bool
 has [] low count = false
 has ((l, c) ∷ rest) low count = ((l == low) && (c == count)) || has rest low count
 
-has-same : (fields : List (ℕ × ℕ)) (low count w v : ℕ) → has fields low count ≡ true → SameFields fields w v → field w low count ≡ field v low count
+has-same : (fields : List (ℕ × ℕ)) (low count w v : ℕ) → has fields low count ≡ true → SameFields fields w v
+    → field w low count ≡ field v low count
 has-same [] low count w v h s = cc
 has-same ((l, c) ∷ rest) low count w v h s =
     elim (or_split _ _ h) [
@@ -102,7 +110,8 @@ path (test low count x hit miss) fields v =
 path (found row) fields v = Some row
 path absent fields v = None
 
-row_by-path : (d : Decision) (fields : List (ℕ × ℕ)) (w v : ℕ) (row : Row) → SameFields fields w v → path d fields v ≡ Some row → row_by d w ≡ Some row
+row_by-path : (d : Decision) (fields : List (ℕ × ℕ)) (w v : ℕ) (row : Row) → SameFields fields w v → path d fields v ≡ Some row
+    → row_by d w ≡ Some row
 row_by-path (test low count x hit miss) fields w v row s h =
     let choice = λ (b : Bool). if b then row_by hit w else row_by miss w in
     elim (pick (has fields low count) (if field v low count == x then path hit fields v else path miss fields v) None row h) [
@@ -118,7 +127,9 @@ row_by-path (found r) fields w v row s h = h
 row_by-path absent fields w v row s h = h
 
 path_table : (row : Row) → path table (fixed_by (line_of row).format) (line_of row).value ≡ Some row
-unfolding line_of fixed_by jumps branches loads stores fences left_shifts right_shifts immediates left_word_shifts right_word_shifts word_immediates registers other_registers products operations word_registers other_word_registers word_products word_operations whole_words system explicit_stores explicit_loads invocations one_operand by_funct7 capability_rows table
+unfolding line_of fixed_by jumps branches loads stores fences left_shifts right_shifts immediates left_word_shifts right_word_shifts
+    word_immediates registers other_registers products operations word_registers other_word_registers word_products word_operations
+    whole_words system explicit_stores explicit_loads invocations one_operand by_funct7 capability_rows table
 path_table Lui = refl
 path_table _ = refl
 
@@ -157,13 +168,15 @@ known-true ((l, c, y) ∷ rest) low count x w h t =
       | inr later ↦ known-true rest low count x w later t.1
     ]
 
-knows-same : (facts : List (ℕ × ℕ × ℕ)) (fields : List (ℕ × ℕ)) (w v : ℕ) → knows facts fields v ≡ true → AllTrue facts w → SameFields fields w v
+knows-same : (facts : List (ℕ × ℕ × ℕ)) (fields : List (ℕ × ℕ)) (w v : ℕ) → knows facts fields v ≡ true → AllTrue facts w
+    → SameFields fields w v
 knows-same facts [] w v h t = tt
 knows-same facts ((low, count) ∷ rest) w v h t =
     let both = and_split _ _ h in
     (known-true facts low count (field v low count) w both.0 t, knows-same facts rest w v both.1 t)
 
-sound-same : (d : Decision) (facts : List (ℕ × ℕ × ℕ)) (w : ℕ) (row : Row) → sound d facts ≡ true → AllTrue facts w → row_by d w ≡ Some row → SameFields (fixed_by (line_of row).format) w (line_of row).value
+sound-same : (d : Decision) (facts : List (ℕ × ℕ × ℕ)) (w : ℕ) (row : Row) → sound d facts ≡ true → AllTrue facts w → row_by d w ≡ Some row
+    → SameFields (fixed_by (line_of row).format) w (line_of row).value
 sound-same (test low count x hit miss) facts w row h t e =
     let both = and_split _ _ h in
     elim (pick (field w low count == x) (row_by hit w) (row_by miss w) row e) [
@@ -172,11 +185,14 @@ sound-same (test low count x hit miss) facts w row h t e =
     ]
 sound-same (found r) facts w row h t e =
     let same : r ≡ row = cc in
-    subst (λ q. SameFields (fixed_by (line_of q).format) w (line_of q).value) same (knows-same facts (fixed_by (line_of r).format) w (line_of r).value h t)
+    subst (λ q. SameFields (fixed_by (line_of q).format) w (line_of q).value) same
+    (knows-same facts (fixed_by (line_of r).format) w (line_of r).value h t)
 sound-same absent facts w row h t e = cc
 
 sound_table : sound table [] ≡ true
-unfolding line_of fixed_by jumps branches loads stores fences left_shifts right_shifts immediates left_word_shifts right_word_shifts word_immediates registers other_registers products operations word_registers other_word_registers word_products word_operations whole_words system explicit_stores explicit_loads invocations one_operand by_funct7 capability_rows table
+unfolding line_of fixed_by jumps branches loads stores fences left_shifts right_shifts immediates left_word_shifts right_word_shifts
+    word_immediates registers other_registers products operations word_registers other_word_registers word_products word_operations
+    whole_words system explicit_stores explicit_loads invocations one_operand by_funct7 capability_rows table
 sound_table = refl
 
 -- ---- what both tests say
@@ -184,9 +200,11 @@ sound_table = refl
 -- the row that the decoder finds is the word's
 pub row_by-IsRow : (w : ℕ) (row : Row) → row_by table w ≡ Some row → IsRow w row
 row_by-IsRow w row h =
-    IsRow-from_masked w row (masked-SameFields (line_of row).format w (line_of row).value (sound-same table [] w row sound_table tt h) (masked-line_of row))
+    IsRow-from_masked w row (masked-SameFields (line_of row).format w (line_of row).value (sound-same table [] w row sound_table tt h)
+    (masked-line_of row))
 
 -- and a word that is a row leads to it
 pub IsRow-row_by : (w : ℕ) (row : Row) → IsRow w row → row_by table w ≡ Some row
 IsRow-row_by w row h =
-    row_by-path table (fixed_by (line_of row).format) w (line_of row).value row (SameFields-masked (line_of row).format w (line_of row).value (IsRow-masked w row h) (masked-line_of row)) (path_table row)
+    row_by-path table (fixed_by (line_of row).format) w (line_of row).value row
+    (SameFields-masked (line_of row).format w (line_of row).value (IsRow-masked w row h) (masked-line_of row)) (path_table row)

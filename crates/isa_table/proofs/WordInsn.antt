@@ -14,7 +14,8 @@ row-insn_at Upper row w = refl
 row-insn_at _ row w = refl
 
 -- the registers of a word are below 32
-pub insn_at-registers : (format : Format) (row : Row) (w : ℕ) → ((insn_at format row w).rd < 32) × ((insn_at format row w).rs1 < 32) × ((insn_at format row w).rs2 < 32)
+pub insn_at-registers : (format : Format) (row : Row) (w : ℕ)
+    → ((insn_at format row w).rd < 32) × ((insn_at format row w).rs1 < 32) × ((insn_at format row w).rs2 < 32)
 unfolding insn_at
 insn_at-registers Upper row w = (omega arith, omega arith, omega arith)
 insn_at-registers _ row w = (omega arith, omega arith, omega arith)

@@ -1,5 +1,6 @@
 ghost use Rattle.std.specs.Prelude.{ℕ, ◌≡◌, ◌<◌, ◌≤◌, ◌^◌};
-ghost use Rattle.isa_rows.specs.Insn.{IsInsn, Fits, field};
+ghost use Rattle.base.specs.Bits.{field};
+ghost use Rattle.isa_rows.specs.Insn.{IsInsn, Fits};
 ghost use Rattle.isa_rows.specs.Operands.{OperandsFit, word_of};
 
 use isa_rows::{Format, Insn};

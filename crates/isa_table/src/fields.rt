@@ -1,5 +1,5 @@
 ghost use Rattle.std.specs.Prelude.{◌≡◌, ◌+◌, ◌≤◌, ◌<◌, ◌^◌};
-ghost use Rattle.isa_rows.specs.Insn.{field};
+ghost use Rattle.base.specs.Bits.{field};
 
 /// The `count` bits of a word from bit `low` on.
 #[inline]

@@ -1,7 +1,9 @@
 //! Rows of integer arithmetic, by their opcodes.
 
 ghost use Rattle.std.specs.Prelude.{◌≡◌};
-ghost use Rattle.isa_table.specs.Decision.{row_by, immediates, left_shifts, right_shifts, word_immediates, left_word_shifts, right_word_shifts, operations, registers, products, other_registers, word_operations, word_registers, word_products, other_word_registers};
+ghost use Rattle.isa_table.specs.Decision.{row_by, immediates, left_shifts, right_shifts, word_immediates, left_word_shifts};
+ghost use Rattle.isa_table.specs.Decision.{right_word_shifts, operations, registers, products, other_registers, word_operations};
+ghost use Rattle.isa_table.specs.Decision.{word_registers, word_products, other_word_registers};
 
 use crate::fields::field;
 use isa_rows::Row;

@@ -15,7 +15,8 @@ pub fn decoded_again()
 
 /// What `encode` gives for an instruction that fits, decoded, is that instruction.
 pub fn encoded_again()
-    ensures { (insn : Insn) (word : ℕ) (answer : Option Insn) → Fits insn → IsEncoded insn word → IsDecoded word answer → answer ≡ Some insn }
+    ensures { (insn : Insn) (word : ℕ) (answer : Option Insn) → Fits insn → IsEncoded insn word → IsDecoded word answer → answer
+        ≡ Some insn }
 {}
 
 /// No word is two rows.

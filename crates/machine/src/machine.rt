@@ -1,4 +1,5 @@
-ghost use Rattle.std.specs.Prelude.{◌≡◌, ◌+◌, ◌<◌, ◌≤◌, ◌++◌, length, vec_len, vec_capacity, IsOk, IsTrue, IfOk, IfErr, OnOk, OnErr, Some, option_to_list};
+ghost use Rattle.std.specs.Prelude.{◌≡◌, ◌+◌, ◌<◌, ◌≤◌, ◌++◌, length, vec_len, vec_capacity, IsOk, IsTrue, IfOk, IfErr, OnOk, OnErr, Some};
+ghost use Rattle.std.specs.Prelude.{option_to_list};
 ghost use Rattle.cap_bounds.specs.CapValue.{IsSound};
 ghost use Rattle.devices.specs.Devices.{interrupts_of};
 ghost use Rattle.base.specs.Registers.{is_scr};

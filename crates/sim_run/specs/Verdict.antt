@@ -9,6 +9,6 @@ status_of (Halted number) = if number == 0 then 0 else 1
 status_of Running = 1
 
 -- the line for standard error; at status 0 there is none
-abbrev pub line_of : End → List ℕ
-line_of (Halted number) = if number == 0 then [] else codes "cherisim: halted with " ++ decimal number
-line_of Running = codes "cherisim: not halted"
+abbrev pub verdict_line : End → List ℕ
+verdict_line (Halted number) = if number == 0 then [] else codes "cherisim: halted with " ++ decimal number
+verdict_line Running = codes "cherisim: not halted"

@@ -1,7 +1,8 @@
 ghost use Rattle.std.specs.Prelude.{◌≡◌, ◌≤◌, ◌<◌, ◌^◌, IfOk, true, false, codes};
 ghost use Rattle.clap.specs.Words.{app_of, rule_of};
 ghost use Rattle.clap.specs.declared.builder.command.Command.TheViews.{out-Command};
-ghost use Rattle.sim_run.specs.CommandLine.{operand, named, in_range, asm_command, run_command, with_options, dis_command, debug_command, run_commands, program, steps_rule, gap_rule, tick_rule};
+ghost use Rattle.sim_run.specs.CommandLine.{operand, named, in_range, asm_command, run_command, with_options, dis_command, debug_command};
+ghost use Rattle.sim_run.specs.CommandLine.{run_commands, program, steps_rule, gap_rule, tick_rule};
 
 use clap::builder::ValueParser;
 use clap::{Arg, Command};

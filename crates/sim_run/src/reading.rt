@@ -1,7 +1,8 @@
 ghost use Rattle.std.specs.Prelude.{◌≡◌, ◌<◌, ◌^◌, ℕ, IfOk, IfNone, IfErr, OnOk, Some, None, IfSome, map, option_map, codes};
 ghost use Rattle.clap.specs.Words.{found_of, rows_of, kind_of, first_of, subcommand_of, subcommand_rows_of};
 ghost use Rattle.clap.specs.declared.error.kind.ErrorKind.{ErrorKind};
-ghost use Rattle.sim_run.specs.CommandLine.{program, HasRanges, IsTaken, IsNumber, IsPlanOf, IsPlanOfCommand, IsScheduleOf, NoCommandFits, NoPlanFits};
+ghost use Rattle.sim_run.specs.CommandLine.{program, HasRanges, IsTaken, IsNumber, IsPlanOf, IsPlanOfCommand, IsScheduleOf, NoCommandFits};
+ghost use Rattle.sim_run.specs.CommandLine.{NoPlanFits};
 ghost use Rattle.sim_run.specs.Schedule.{IsInRange};
 ghost use Rattle.sim_run.specs.declared.fault.PlanFault.TheVariants.{Memory};
 ghost use Rattle.sim_run.specs.declared.schedule.Schedule.{Schedule};

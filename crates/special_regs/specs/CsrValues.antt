@@ -1,9 +1,10 @@
 -- What a read of each control and status register gives (RISC-V privileged manual, machine-level CSRs; UCAM-CL-TR-987 for mtvec and
 -- mepc, which are views of MTCC and MEPCC).
 use Rattle.std.specs.Prelude.{ℕ, ◌+◌, ◌*◌, ◌/◌, ◌^◌, List, [], ◌∷◌, Option}
-use Rattle.base.specs.declared.registers.csr.TheConstants.{MSTATUS, MISA, MIE, MTVEC, MSCRATCH, MEPC, MCAUSE, MTVAL, MIP, MCYCLE, MINSTRET, MVENDORID, MARCHID, MIMPID, MHARTID}
+use Rattle.base.specs.declared.registers.csr.TheConstants.{MSTATUS, MISA, MIE, MTVEC, MSCRATCH, MEPC, MCAUSE, MTVAL, MIP, MCYCLE, MINSTRET}
+use Rattle.base.specs.declared.registers.csr.TheConstants.{MVENDORID, MARCHID, MIMPID, MHARTID}
 use Rattle.special_regs.specs.Numbered.{value_at}
-use Rattle.cap_format.specs.Word.{bit}
+use Rattle.base.specs.Bits.{bit}
 use Rattle.cap_bounds.specs.CapValue.{value_address}
 use Rattle.special_regs.specs.declared.csrs.Csrs.{Csrs}
 use Rattle.special_regs.specs.Scrs.{Scrs}

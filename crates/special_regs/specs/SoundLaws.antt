@@ -36,7 +36,8 @@ OfEach P (entry ∷ entries) = P entry.1 × OfEach P entries
 value_at-each : {X : Type 0} (P : X → Type 0) (n : ℕ) (entries : List (ℕ × X)) → OfEach P entries → IfSome (value_at n entries) P
 value_at-each P n [] each = tt
 value_at-each P n (entry ∷ entries) each =
-    elim (eqb entry.0 n) as (λ b. IfSome (cond b (Some entry.1) (value_at n entries)) P) [ true ↦ each.0 | false ↦ value_at-each P n entries each.1 ]
+    elim (eqb entry.0 n) as (λ b. IfSome (cond b (Some entry.1) (value_at n entries)) P)
+    [ true ↦ each.0 | false ↦ value_at-each P n entries each.1 ]
 
 pub IsSound-scr_value : (s : Scrs) (n : ℕ) → AreSound s → IfSome (scr_value s n) IsSound
 unfolding scr_value
@@ -49,7 +50,8 @@ mstatus-below c = omega (arith, bit-small c.mstatus_mpie, bit-small c.mstatus_mi
 view-below : (v : CapValue) → IsSound v → value_address v / 4 * 4 < 2 ^ 64
 view-below v sound = let fits = value_address-below v sound in omega arith
 
-pub csr_value-below : (c : Csrs) (s : Scrs) (mip n : ℕ) → AreInRange c → AreSound s → mip < 2 ^ 64 → IfSome (csr_value c s mip n) (λ v. v < 2 ^ 64)
+pub csr_value-below : (c : Csrs) (s : Scrs) (mip n : ℕ) → AreInRange c → AreSound s → mip < 2 ^ 64
+    → IfSome (csr_value c s mip n) (λ v. v < 2 ^ 64)
 unfolding csr_value
 csr_value-below c s mip n range sound fits =
     let zero : 0 < 2 ^ 64 = lit< tt in
@@ -95,7 +97,8 @@ IsSound-sentry_opened v sound = cond_both (is_sentry v) (opened v) v IsSound (λ
 IsSound-aligned : (v : CapValue) → IsSound v → IsSound (aligned v)
 unfolding aligned
 IsSound-aligned v sound =
-    cond_both (eqb (value_address v % 4) 0) v (at_address v (value_address v / 4 * 4)) IsSound (λ _. sound) (λ _. IsSound-at_address v _ sound (view-below v sound))
+    cond_both (eqb (value_address v % 4) 0) v (at_address v (value_address v / 4 * 4)) IsSound (λ _. sound)
+    (λ _. IsSound-at_address v _ sound (view-below v sound))
 
 -- an address that is set to a multiple of 4 is one
 pub IsAligned-at_address : (v : CapValue) (address : ℕ) → address < 2 ^ 64 → address % 4 ≡ 0 → IsAligned (at_address v address)
@@ -131,7 +134,8 @@ AreSound-trapped s sound = record {
 
 pub AreSound-returned : (s : Scrs) → AreSound s → AreSound (returned_scrs s)
 AreSound-returned s sound =
-    AreSound-pcc s (target s.mepcc) sound (IsSound-aligned _ (IsSound-sentry_opened s.mepcc sound.mepcc)) (IsAligned-aligned _ (IsSound-sentry_opened s.mepcc sound.mepcc))
+    AreSound-pcc s (target s.mepcc) sound (IsSound-aligned _ (IsSound-sentry_opened s.mepcc sound.mepcc))
+    (IsAligned-aligned _ (IsSound-sentry_opened s.mepcc sound.mepcc))
 
 written_if : (b : Bool) (v old : CapValue) → IsSound v → IsSound old → IsSound (cond b v old)
 written_if true v old new kept = new
@@ -159,7 +163,8 @@ AreSound-views_written n value s fits sound =
       mtcc = written_if (eqb n MTVEC) (at_address s.mtcc (value / 4 * 4)) s.mtcc (IsSound-at_address s.mtcc _ sound.mtcc low) sound.mtcc;
       mtdc = sound.mtdc;
       mscratchc = sound.mscratchc;
-      mepcc = written_if (eqb n MEPC) (at_address s.mepcc (value / 4 * 4)) s.mepcc (IsSound-at_address s.mepcc _ sound.mepcc low) sound.mepcc;
+      mepcc = written_if (eqb n MEPC) (at_address s.mepcc (value / 4 * 4)) s.mepcc (IsSound-at_address s.mepcc _ sound.mepcc low)
+          sound.mepcc;
       aligned = sound.aligned;
     }
 

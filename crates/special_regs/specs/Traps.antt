@@ -1,4 +1,5 @@
--- Entering a trap, and leaving it by MRET (RISC-V privileged manual, machine trap handling; UCAM-CL-TR-987, CHERI-RISC-V exception handling).
+-- Entering a trap, and leaving it by MRET (RISC-V privileged manual, machine trap handling; UCAM-CL-TR-987, CHERI-RISC-V exception
+-- handling).
 use Rattle.std.specs.Prelude.{◌*◌, ◌/◌, ◌%◌, true, false, Bool, ◌&&◌, ◌==◌, if◌then◌else◌}
 use Rattle.base.specs.ObjectType.{sentry_type}
 use Rattle.cap_bounds.specs.CapValue.{CapValue, is_tagged, value_otype, value_address}

@@ -4,7 +4,8 @@ use Rattle.std.proofs.lemmas.Bool.Decides.{nat_tests}
 use Rattle.tagged_memory.specs.declared.fault.MemoryFault.{MemoryFault}
 use Rattle.tagged_memory.specs.declared.fault.MemoryFault.TheVariants.{M3, M4}
 use Rattle.base.specs.Ram.{ram_base}
-use Rattle.tagged_memory.specs.Memory.{Memory, unless, is_in_ram, fill_fault, access_fault}
+use Rattle.base.specs.FirstFault.{unless}
+use Rattle.tagged_memory.specs.Memory.{Memory, is_in_ram, fill_fault, place_fault}
 use Rattle.tagged_memory.specs.Layout.{memory_of}
 
 pub fill_fault-below : (m : Memory) (address size : ℕ) → address < ram_base → fill_fault m address size ≡ Some M3
@@ -26,18 +27,18 @@ pub fill_fault-by_bytes : (bytes : List ℕ) (tags : List Bool) (address size : 
 unfolding fill_fault is_in_ram
 fill_fault-by_bytes bytes tags address size = refl
 
-pub access_fault-by_bytes : (bytes : List ℕ) (tags : List Bool) (address size : ℕ)
-    → access_fault (memory_of bytes tags) address size ≡ access_fault (memory_of bytes []) address size
-unfolding access_fault is_in_ram
-access_fault-by_bytes bytes tags address size = refl
+pub place_fault-by_bytes : (bytes : List ℕ) (tags : List Bool) (address size : ℕ)
+    → place_fault (memory_of bytes tags) address size ≡ place_fault (memory_of bytes []) address size
+unfolding place_fault is_in_ram
+place_fault-by_bytes bytes tags address size = refl
 
-pub access_fault-aligned : (m : Memory) (address size : ℕ) → address % size ≡ 0 → access_fault m address size ≡ fill_fault m address size
-unfolding access_fault fill_fault
-access_fault-aligned m address size h = grind (arith, nat_tests)
+pub place_fault-aligned : (m : Memory) (address size : ℕ) → address % size ≡ 0 → place_fault m address size ≡ fill_fault m address size
+unfolding place_fault fill_fault
+place_fault-aligned m address size h = grind (arith, nat_tests)
 
-pub access_fault-misaligned : (m : Memory) (address size : ℕ) → (address % size ≡ 0 → ⊥) → access_fault m address size ≡ Some M4
-unfolding access_fault
-access_fault-misaligned m address size h = grind (arith, nat_tests)
+pub place_fault-misaligned : (m : Memory) (address size : ℕ) → (address % size ≡ 0 → ⊥) → place_fault m address size ≡ Some M4
+unfolding place_fault
+place_fault-misaligned m address size h = grind (arith, nat_tests)
 
 -- an answer is given where there is no fault, and a fault is the same whatever the answer would be
 pub unless_given : {X : Type 0} (fault : Option MemoryFault) (x y : X) → Ok y ≡ unless fault x → (fault ≡ None) × (x ≡ y)
@@ -51,25 +52,25 @@ unless_refused (Some g) x y f e = let same : g ≡ f = cc in cc
 -- what the place of an access tells of the access of a memory with those bytes
 pub access-refused : {X : Type 0} {m : Memory} (bytes : List ℕ) (tags : List Bool) (slice : List ℕ) (address size x : ℕ) (y : X)
     (f : MemoryFault)
-    → memory_of bytes tags ≡ m → slice ≡ bytes → Err f ≡ unless (access_fault (memory_of slice []) address size) x
-    → Err f ≡ unless (access_fault m address size) y
+    → memory_of bytes tags ≡ m → slice ≡ bytes → Err f ≡ unless (place_fault (memory_of slice []) address size) x
+    → Err f ≡ unless (place_fault m address size) y
 access-refused {m = m} bytes tags slice address size x y f view read e =
-    let here : access_fault m address size ≡ Some f =
-    sym (ap (λ n. access_fault n address size) view)
-    ∙ access_fault-by_bytes bytes tags address size
-    ∙ sym (ap (λ b. access_fault (memory_of b []) address size) read)
-    ∙ unless_refused (access_fault (memory_of slice []) address size) x y f e in
+    let here : place_fault m address size ≡ Some f =
+    sym (ap (λ n. place_fault n address size) view)
+    ∙ place_fault-by_bytes bytes tags address size
+    ∙ sym (ap (λ b. place_fault (memory_of b []) address size) read)
+    ∙ unless_refused (place_fault (memory_of slice []) address size) x y f e in
     sym (ap (λ g. unless g y) here)
 
 pub access-given : {X : Type 0} {m : Memory} (bytes : List ℕ) (tags : List Bool) (slice : List ℕ) (address size x p : ℕ) (y : X)
-    → memory_of bytes tags ≡ m → slice ≡ bytes → Ok p ≡ unless (access_fault (memory_of slice []) address size) x
-    → Ok y ≡ unless (access_fault m address size) y
+    → memory_of bytes tags ≡ m → slice ≡ bytes → Ok p ≡ unless (place_fault (memory_of slice []) address size) x
+    → Ok y ≡ unless (place_fault m address size) y
 access-given {m = m} bytes tags slice address size x p y view read e =
-    let here : access_fault m address size ≡ None =
-    sym (ap (λ n. access_fault n address size) view)
-    ∙ access_fault-by_bytes bytes tags address size
-    ∙ sym (ap (λ b. access_fault (memory_of b []) address size) read)
-    ∙ (unless_given (access_fault (memory_of slice []) address size) x p e).0 in
+    let here : place_fault m address size ≡ None =
+    sym (ap (λ n. place_fault n address size) view)
+    ∙ place_fault-by_bytes bytes tags address size
+    ∙ sym (ap (λ b. place_fault (memory_of b []) address size) read)
+    ∙ (unless_given (place_fault (memory_of slice []) address size) x p e).0 in
     sym (ap (λ g. unless g y) here)
 
 -- the same for bytes that are filled in

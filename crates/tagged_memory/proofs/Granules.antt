@@ -5,7 +5,7 @@ use Rattle.std.proofs.lemmas.Bool.{le-leb, lt-leb, lt-ltb, le-ltb, and_from, and
 use Rattle.std.specs.List.{filter, position, position_from, range_with_len}
 use Rattle.std.proofs.lemmas.Iterator.Adapters.{position_from-zero}
 use Rattle.base.specs.Ram.{ram_base}
-use Rattle.tagged_memory.specs.Memory.{Memory, is_tagged, tagged_between}
+use Rattle.tagged_memory.specs.Memory.{Memory, has_tag, tagged_between}
 use Rattle.tagged_memory.specs.Layout.{memory_of, IsLaidOut}
 use Rattle.tagged_memory.specs.Tagged.{addresses_of}
 use Rattle.tagged_memory.proofs.Tags.{contains_at}
@@ -84,7 +84,7 @@ pub addresses_of-is : {m : Memory} (bytes : List ℕ) (tags : List Bool) (from t
     → addresses_of (ram_base + 16 * first) (take n (drop first tags)) ≡ tagged_between m from to
 unfolding tagged_between
 addresses_of-is bytes tags from to first n view laid begin end =
-    let p : ℕ → Bool = λ a. is_tagged (memory_of bytes tags) a && (leb from a && ltb a to) in
+    let p : ℕ → Bool = λ a. has_tag (memory_of bytes tags) a && (leb from a && ltb a to) in
     let count : length tags ≡ length bytes / 16 = omega (arith, laid.whole_pages, laid.tag_each) in
     let zero_first : 0 + first ≡ first = omega arith in
     let inside : (k : ℕ) → first ≤ k → k < first + n → k < length tags → p (ram_base + 16 * (0 + k)) ≡ get_or tags k false =
@@ -92,7 +92,7 @@ addresses_of-is bytes tags from to first n view laid begin end =
     let a : ram_base + 16 * (0 + k) ≡ ram_base + 16 * k = omega arith in
     let above : from ≤ ram_base + 16 * (0 + k) = omega arith in
     let below : ram_base + 16 * (0 + k) < to = omega arith in
-    and_true_true (is_tagged (memory_of bytes tags) (ram_base + 16 * (0 + k))) _ _ (le-leb _ _ above) (lt-ltb _ _ below)
+    and_true_true (has_tag (memory_of bytes tags) (ram_base + 16 * (0 + k))) _ _ (le-leb _ _ above) (lt-ltb _ _ below)
     ∙ contains_at ram_base tags k (ram_base + 16 * (0 + k)) a in
     let outside : (k : ℕ) → k < length tags → (k < first) ⊎ (first + n ≤ k) → p (ram_base + 16 * (0 + k)) ≡ false =
     λ k h far. and_right _ _

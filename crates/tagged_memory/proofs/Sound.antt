@@ -4,11 +4,11 @@ use Rattle.std.proofs.Common.{subst, arith}
 use Rattle.std.proofs.lemmas.List.{length-replicate}
 use Rattle.std.proofs.lemmas.Bool.{and_from, le-leb}
 use Rattle.base.specs.Ram.{ram_base}
-use Rattle.tagged_memory.specs.Memory.{is_in_ram, is_tagged, zeroed, IsMemory}
+use Rattle.tagged_memory.specs.Memory.{is_in_ram, has_tag, zeroed, IsMemory}
 use Rattle.tagged_memory.specs.Layout.{memory_of, tags_from, IsLaidOut}
 use Rattle.tagged_memory.proofs.Tags.{place_of_contained, tags_from-replicate}
 
-tagged_in_ram : (bytes : List ℕ) (tags : List Bool) → IsLaidOut bytes tags → (a : ℕ) → is_tagged (memory_of bytes tags) a ≡ true
+tagged_in_ram : (bytes : List ℕ) (tags : List Bool) → IsLaidOut bytes tags → (a : ℕ) → has_tag (memory_of bytes tags) a ≡ true
     → is_in_ram (memory_of bytes tags) a 16 ≡ true
 unfolding is_in_ram
 tagged_in_ram bytes tags laid a e =

@@ -9,7 +9,7 @@ use Rattle.std.specs.Vec.{with_items}
 use Rattle.byteorder.specs.Endian.{little_number}
 use Rattle.cap_format.specs.Word.{memory_bytes, word_of_memory}
 use Rattle.base.specs.Ram.{ram_base}
-use Rattle.tagged_memory.specs.Memory.{Memory, number_at, word_at, is_tagged, touches, data_written, capability_written}
+use Rattle.tagged_memory.specs.Memory.{Memory, number_at, word_at, has_tag, touches, data_written, capability_written}
 use Rattle.tagged_memory.specs.Layout.{memory_of, tags_from}
 use Rattle.tagged_memory.specs.Replaced.{replaced, length-same, element-kept, element-new}
 use Rattle.base.specs.Size.{bytes_of}
@@ -103,10 +103,10 @@ number_in_granule Double address place at aligned = (omega arith, omega arith)
 -- the truth value of the granule that a place is in
 pub tag_here : {m : Memory} (bytes : List ℕ) (tags : List Bool) (address place : ℕ) → memory_of bytes tags ≡ m → ram_base + place ≡ address
     → address % 16 ≡ 0
-    → get_or tags (place / 16) false ≡ is_tagged m address
+    → get_or tags (place / 16) false ≡ has_tag m address
 tag_here bytes tags address place view at aligned =
     let granule : address ≡ ram_base + 16 * (place / 16) = omega arith in
-    sym (contains_at ram_base tags (place / 16) address granule) ∙ ap (λ m. is_tagged m address) view
+    sym (contains_at ram_base tags (place / 16) address granule) ∙ ap (λ m. has_tag m address) view
 
 -- the word that is read at its place is the word at its address
 pub word_here : {m : Memory} (bytes : List ℕ) (tags : List Bool) (slice : List ℕ) (address place : ℕ) → memory_of bytes tags ≡ m

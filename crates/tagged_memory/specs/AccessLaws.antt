@@ -2,13 +2,13 @@
 use Rattle.std.proofs.Common.{◌≡◌, ℕ, ◌%◌, true, false, None, Some, eqb, not, cond, refl}
 use Rattle.std.proofs.lemmas.Bool.{eqb-true}
 use Rattle.tagged_memory.specs.declared.fault.MemoryFault.TheVariants.{M3, M4}
-use Rattle.tagged_memory.specs.Memory.{Memory, is_in_ram, access_fault, StoredIsLoaded}
-use Rattle.tagged_memory.specs.MemoryLaws.{word_at-capability_written_here, is_tagged-capability_written_here}
+use Rattle.tagged_memory.specs.Memory.{Memory, is_in_ram, place_fault, StoredIsLoaded}
+use Rattle.tagged_memory.specs.MemoryLaws.{word_at-capability_written_here, has_tag-capability_written_here}
 
 -- an access without a fault lies in RAM
-pub in_ram-access_fault : (m : Memory) (address size : ℕ) → access_fault m address size ≡ None → is_in_ram m address size ≡ true
-unfolding access_fault
-in_ram-access_fault m address size none =
+pub in_ram-place_fault : (m : Memory) (address size : ℕ) → place_fault m address size ≡ None → is_in_ram m address size ≡ true
+unfolding place_fault
+in_ram-place_fault m address size none =
     elim (is_in_ram m address size) as
     (λ inside. cond (not (eqb (address % size) 0)) (Some M4) (cond (not inside) (Some M3) None) ≡ None → inside ≡ true) [
       | true ↦ λ _. refl
@@ -17,9 +17,9 @@ in_ram-access_fault m address size none =
     ] none
 
 -- an access without a fault is aligned
-pub aligned-access_fault : (m : Memory) (address size : ℕ) → access_fault m address size ≡ None → address % size ≡ 0
-unfolding access_fault
-aligned-access_fault m address size none =
+pub aligned-place_fault : (m : Memory) (address size : ℕ) → place_fault m address size ≡ None → address % size ≡ 0
+unfolding place_fault
+aligned-place_fault m address size none =
     eqb-true _ _
     (elim (eqb (address % size) 0) as
     (λ aligned. cond (not aligned) (Some M4) (cond (not (is_in_ram m address size)) (Some M3) None) ≡ None → aligned ≡ true) [
@@ -29,6 +29,6 @@ aligned-access_fault m address size none =
 
 pub stored_is_loaded : StoredIsLoaded
 stored_is_loaded m address word tag none fits = (
-  word_at-capability_written_here m address word tag (in_ram-access_fault m address 16 none) fits,
-  is_tagged-capability_written_here m address word tag,
+  word_at-capability_written_here m address word tag (in_ram-place_fault m address 16 none) fits,
+  has_tag-capability_written_here m address word tag,
 )

@@ -32,8 +32,8 @@ number_at m address size = little_number size (drop (address - ram_base) m.bytes
 abbrev pub word_at : Memory → ℕ → ℕ
 word_at m address = word_of_memory (bytes_at m address 16)
 
-abbrev pub is_tagged : Memory → ℕ → Bool
-is_tagged m granule = set.contains m.tags granule
+abbrev pub has_tag : Memory → ℕ → Bool
+has_tag m granule = set.contains m.tags granule
 
 -- the bytes from an address on replaced by new ones
 abbrev pub replaced_at : Memory → ℕ → List ℕ → List ℕ
@@ -63,27 +63,22 @@ granules m = map (λ k. ram_base + 16 * k) (range_with_len 0 (length m.bytes / 1
 
 -- the tagged granules at addresses from `from` on and below `to`, in ascending order
 unfoldable pub tagged_between : Memory → ℕ → ℕ → List ℕ
-tagged_between m from to = filter (λ a. is_tagged m a && (nat_le from a && nat_lt a to)) (granules m)
+tagged_between m from to = filter (λ a. has_tag m a && (nat_le from a && nat_lt a to)) (granules m)
 
 -- Why an access may not be made: misaligned before outside RAM.
-unfoldable pub access_fault : Memory → ℕ → ℕ → Option MemoryFault
-access_fault m address size =
+unfoldable pub place_fault : Memory → ℕ → ℕ → Option MemoryFault
+place_fault m address size =
     if not (address % size == 0) then Some M4 else (if not (is_in_ram m address size) then Some M3 else None)
 
 -- Why bytes may not be filled in: outside RAM.
 unfoldable pub fill_fault : Memory → ℕ → ℕ → Option MemoryFault
 fill_fault m address size = if not (is_in_ram m address size) then Some M3 else None
 
--- the answer, or the fault
-abbrev pub unless : {X : Type 0} → Option MemoryFault → X → Result X MemoryFault
-unless None x = Ok x
-unless (Some fault) x = Err fault
-
 -- A word that is stored with its tag is loaded again with it.
 abbrev pub StoredIsLoaded : Type 0
 StoredIsLoaded =
-    (m : Memory) (address word : ℕ) (tag : Bool) → access_fault m address 16 ≡ None → word < 2 ^ 128
-    → (word_at (capability_written m address word tag) address ≡ word) × (is_tagged (capability_written m address word tag) address ≡ tag)
+    (m : Memory) (address word : ℕ) (tag : Bool) → place_fault m address 16 ≡ None → word < 2 ^ 128
+    → (word_at (capability_written m address word tag) address ≡ word) × (has_tag (capability_written m address word tag) address ≡ tag)
 
 -- memory of so many pages as it begins: zeros, and no tag
 abbrev pub zeroed : ℕ → Memory
@@ -96,5 +91,5 @@ pub record IsMemory (m : Memory) : Type 0 where
   pub some_page : 1 ≤ pages
   pub not_too_many : pages ≤ most_pages
   pub are_bytes : (k : ℕ) → slice_index m.bytes k < 256
-  pub granules_aligned : (a : ℕ) → is_tagged m a ≡ true → a % 16 ≡ 0
-  pub granules_in_ram : (a : ℕ) → is_tagged m a ≡ true → is_in_ram m a 16 ≡ true
+  pub granules_aligned : (a : ℕ) → has_tag m a ≡ true → a % 16 ≡ 0
+  pub granules_in_ram : (a : ℕ) → has_tag m a ≡ true → is_in_ram m a 16 ≡ true

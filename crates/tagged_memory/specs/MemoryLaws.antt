@@ -7,10 +7,10 @@ use Rattle.std.specs.Cmp.{nat_cmp_total, unsigned_tied}
 use Rattle.std.specs.FinSet as set
 use Rattle.std.specs.FinSet.{nat_cmp-IsAntisymmetric}
 use Rattle.base.specs.Ram.{ram_base}
-use Rattle.tagged_memory.specs.Memory.{Memory, is_in_ram, is_tagged, word_at, touches, data_written, capability_written, IsMemory}
+use Rattle.tagged_memory.specs.Memory.{Memory, is_in_ram, has_tag, word_at, touches, data_written, capability_written, IsMemory}
 use Rattle.tagged_memory.specs.Replaced.{replaced, length-same, element-kept, element-new, part-kept, part-untouched, part-new}
 use Rattle.tagged_memory.specs.Replaced.{low_first-lt}
-use Rattle.cap_format.specs.Word.{memory_bytes, word_of_memory, null_pattern}
+use Rattle.cap_format.specs.Word.{memory_bytes, word_of_memory, null_word}
 use Rattle.cap_format.specs.WordLaws.{word_of_memory-memory_bytes}
 
 -- bytes in RAM, by arithmetic
@@ -42,15 +42,15 @@ length-data_written m address new e =
     length-same m.bytes (address - ram_base) new place.1
 
 tags-data_written : (m : Memory) (address : ℕ) (new : List ℕ) (g : ℕ)
-    → is_tagged (data_written m address new) g ≡ (is_tagged m g && not (touches address (length new) g))
+    → has_tag (data_written m address new) g ≡ (has_tag m g && not (touches address (length new) g))
 unfolding data_written
 tags-data_written m address new g =
     set.contains-retain m.tags (λ a. not (touches address (length new) a)) g
     (λ x tie. ap (λ a. not (touches address (length new) a)) (sym (nat_cmp-IsAntisymmetric g x tie)))
 
 -- a granule that is tagged after a write of data was tagged before
-pub tagged-before_data_written : (m : Memory) (address : ℕ) (new : List ℕ) (g : ℕ) → is_tagged (data_written m address new) g ≡ true
-    → is_tagged m g ≡ true
+pub tagged-before_data_written : (m : Memory) (address : ℕ) (new : List ℕ) (g : ℕ) → has_tag (data_written m address new) g ≡ true
+    → has_tag m g ≡ true
 tagged-before_data_written m address new g e = (and_parts _ _ (sym (tags-data_written m address new g) ∙ e)).0
 
 -- a byte that is not written stays
@@ -66,7 +66,7 @@ byte-data_written m address new e b low far =
 
 -- a granule that is tagged after a write of data has the word that it had
 pub word_at-data_written : (m : Memory) (address : ℕ) (new : List ℕ) → IsMemory m → is_in_ram m address (length new) ≡ true → (g : ℕ)
-    → is_tagged (data_written m address new) g ≡ true
+    → has_tag (data_written m address new) g ≡ true
     → word_at (data_written m address new) g ≡ word_at m g
 unfolding data_written
 word_at-data_written m address new sound e g tagged =
@@ -133,26 +133,26 @@ and_is_cond true y = refl
 and_is_cond false y = refl
 
 -- it changes the tag of its granule alone
-pub is_tagged-capability_written : (m : Memory) (address word : ℕ) (tag : Bool) (g : ℕ)
-    → is_tagged (capability_written m address word tag) g ≡ cond (eqb g address) tag (is_tagged m g)
+pub has_tag-capability_written : (m : Memory) (address word : ℕ) (tag : Bool) (g : ℕ)
+    → has_tag (capability_written m address word tag) g ≡ cond (eqb g address) tag (has_tag m g)
 unfolding capability_written
-is_tagged-capability_written m address word true g =
-    set.contains-insert nat_cmp_total m.tags address g ∙ ap (λ b. b || is_tagged m g) (unsigned_tied g address)
-    ∙ or_is_cond (eqb g address) (is_tagged m g)
-is_tagged-capability_written m address word false g =
-    set.contains-remove nat_cmp_total m.tags address g ∙ ap (λ b. not b && is_tagged m g) (unsigned_tied g address)
-    ∙ and_is_cond (eqb g address) (is_tagged m g)
+has_tag-capability_written m address word true g =
+    set.contains-insert nat_cmp_total m.tags address g ∙ ap (λ b. b || has_tag m g) (unsigned_tied g address)
+    ∙ or_is_cond (eqb g address) (has_tag m g)
+has_tag-capability_written m address word false g =
+    set.contains-remove nat_cmp_total m.tags address g ∙ ap (λ b. not b && has_tag m g) (unsigned_tied g address)
+    ∙ and_is_cond (eqb g address) (has_tag m g)
 
-pub is_tagged-capability_written_here : (m : Memory) (address word : ℕ) (tag : Bool)
-    → is_tagged (capability_written m address word tag) address ≡ tag
-is_tagged-capability_written_here m address word tag =
-    is_tagged-capability_written m address word tag address
-    ∙ cond-true (eqb address address) tag (is_tagged m address) (eq-eqb address address refl)
+pub has_tag-capability_written_here : (m : Memory) (address word : ℕ) (tag : Bool)
+    → has_tag (capability_written m address word tag) address ≡ tag
+has_tag-capability_written_here m address word tag =
+    has_tag-capability_written m address word tag address
+    ∙ cond-true (eqb address address) tag (has_tag m address) (eq-eqb address address refl)
 
-pub is_tagged-capability_written_other : (m : Memory) (address word : ℕ) (tag : Bool) (g : ℕ) → (g ≡ address → ⊥)
-    → is_tagged (capability_written m address word tag) g ≡ is_tagged m g
-is_tagged-capability_written_other m address word tag g other =
-    is_tagged-capability_written m address word tag g ∙ cond-false (eqb g address) tag (is_tagged m g) (ne_eqb g address other)
+pub has_tag-capability_written_other : (m : Memory) (address word : ℕ) (tag : Bool) (g : ℕ) → (g ≡ address → ⊥)
+    → has_tag (capability_written m address word tag) g ≡ has_tag m g
+has_tag-capability_written_other m address word tag g other =
+    has_tag-capability_written m address word tag g ∙ cond-false (eqb g address) tag (has_tag m g) (ne_eqb g address other)
 
 -- a byte outside the granule stays
 pub byte-capability_written : (m : Memory) (address word : ℕ) (tag : Bool) → is_in_ram m address 16 ≡ true → (b : ℕ) → ram_base ≤ b
@@ -167,7 +167,7 @@ byte-capability_written m address word tag e b low far =
 
 -- and another tagged granule keeps its word
 pub word_at-capability_written_other : (m : Memory) (address word : ℕ) (tag : Bool) → IsMemory m → address % 16 ≡ 0
-    → is_in_ram m address 16 ≡ true → (g : ℕ) → is_tagged m g ≡ true → (g ≡ address → ⊥)
+    → is_in_ram m address 16 ≡ true → (g : ℕ) → has_tag m g ≡ true → (g ≡ address → ⊥)
     → word_at (capability_written m address word tag) g ≡ word_at m g
 unfolding capability_written
 word_at-capability_written_other m address word tag sound aligned e g tagged other =
@@ -179,7 +179,7 @@ word_at-capability_written_other m address word tag sound aligned e g tagged oth
     ap word_of_memory (part-kept m.bytes (address - ram_base) (memory_bytes word) place.1 (g - ram_base) 16 granule.1 far)
 
 memory_bytes-lt : (word k : ℕ) → slice_index (memory_bytes word) k < 256
-memory_bytes-lt word k = low_first-lt 0 16 (bit_xor word null_pattern) k
+memory_bytes-lt word k = low_first-lt 0 16 (bit_xor word null_word) k
 
 bytes_after_word : (m : Memory) (address word : ℕ) (tag : Bool) → IsMemory m → is_in_ram m address 16 ≡ true → (k : ℕ)
     → slice_index (capability_written m address word tag).bytes k < 256
@@ -188,11 +188,11 @@ bytes_after_word m address word tag sound e k =
     let place = in_ram m address 16 e in
     bytes_replaced m.bytes (memory_bytes word) (address - ram_base) place.1 sound.are_bytes (memory_bytes-lt word) k
 
-tagged_after_word : (m : Memory) (address word : ℕ) (tag : Bool) → (P : ℕ → Type 0) → P address → ((g : ℕ) → is_tagged m g ≡ true → P g)
-    → (g : ℕ) → is_tagged (capability_written m address word tag) g ≡ true → P g
+tagged_after_word : (m : Memory) (address word : ℕ) (tag : Bool) → (P : ℕ → Type 0) → P address → ((g : ℕ) → has_tag m g ≡ true → P g)
+    → (g : ℕ) → has_tag (capability_written m address word tag) g ≡ true → P g
 tagged_after_word m address word tag P here others g tagged =
     ⊎_elim (λ same. subst P (sym same) here)
-    (λ other. others g (sym (is_tagged-capability_written_other m address word tag g other) ∙ tagged)) (cases_eq g address)
+    (λ other. others g (sym (has_tag-capability_written_other m address word tag g other) ∙ tagged)) (cases_eq g address)
 
 -- a write of a capability leaves a memory
 pub IsMemory-capability_written : (m : Memory) (address word : ℕ) (tag : Bool) → IsMemory m → address % 16 ≡ 0

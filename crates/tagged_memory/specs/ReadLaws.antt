@@ -10,8 +10,8 @@ use Rattle.std.proofs.lemmas.List.{get_or-drop, length-replicate}
 use Rattle.std.proofs.lemmas.Nat.{xor_lt}
 use Rattle.byteorder.specs.Endian.{little_from}
 use Rattle.base.specs.Ram.{ram_base, page_bytes, most_pages}
-use Rattle.cap_format.specs.Word.{null_pattern}
-use Rattle.tagged_memory.specs.Memory.{Memory, IsMemory, number_at, bytes_at, word_at, is_tagged, zeroed}
+use Rattle.cap_format.specs.Word.{null_word}
+use Rattle.tagged_memory.specs.Memory.{Memory, IsMemory, number_at, bytes_at, word_at, has_tag, zeroed}
 
 -- each element is a byte
 abbrev AreBytes : List ℕ → Type 0
@@ -36,16 +36,35 @@ little_from-below i (suc n) xs bytes =
     rw (pow-succ' 256 n) (omega (arith, bytes i))
 
 pub number_at-below : (m : Memory) (address n : ℕ) → IsMemory m → number_at m address n < 256 ^ n
-number_at-below m address n memory = little_from-below 0 n (drop (address - ram_base) m.bytes) (AreBytes-drop (address - ram_base) m.bytes memory.are_bytes)
+number_at-below m address n memory = little_from-below 0 n (drop (address - ram_base) m.bytes)
+    (AreBytes-drop (address - ram_base) m.bytes memory.are_bytes)
 
 from_le_bytes-below : (xs : List ℕ) → AreBytes xs → from_le_bytes w128 xs < 2 ^ 128
 from_le_bytes-below xs bytes =
-    omega (arith, bytes 0, bytes 1, bytes 2, bytes 3, bytes 4, bytes 5, bytes 6, bytes 7, bytes 8, bytes 9, bytes 10, bytes 11, bytes 12, bytes 13, bytes 14, bytes 15)
+    omega (
+      arith,
+      bytes 0,
+      bytes 1,
+      bytes 2,
+      bytes 3,
+      bytes 4,
+      bytes 5,
+      bytes 6,
+      bytes 7,
+      bytes 8,
+      bytes 9,
+      bytes 10,
+      bytes 11,
+      bytes 12,
+      bytes 13,
+      bytes 14,
+      bytes 15,
+    )
 
 pub word_at-below : (m : Memory) (address : ℕ) → IsMemory m → word_at m address < 2 ^ 128
 word_at-below m address memory =
     let bytes = AreBytes-take 16 (drop (address - ram_base) m.bytes) (AreBytes-drop (address - ram_base) m.bytes memory.are_bytes) in
-    xor_lt 128 (from_le_bytes w128 (bytes_at m address 16)) null_pattern (from_le_bytes-below (bytes_at m address 16) bytes) (lit< tt)
+    xor_lt 128 (from_le_bytes w128 (bytes_at m address 16)) null_word (from_le_bytes-below (bytes_at m address 16) bytes) (lit< tt)
 
 -- ---- memory as it begins
 
@@ -54,7 +73,7 @@ bytes_of_zeros zero k = lit< tt
 bytes_of_zeros (suc n) zero = lit< tt
 bytes_of_zeros (suc n) (suc k) = bytes_of_zeros n k
 
-untagged : (pages granule : ℕ) → is_tagged (zeroed pages) granule ≡ true → ⊥
+untagged : (pages granule : ℕ) → has_tag (zeroed pages) granule ≡ true → ⊥
 untagged pages granule tagged = both_ways _ (set.contains-empty nat_cmp granule) tagged
 
 pub IsMemory-zeroed : (pages : ℕ) → 1 ≤ pages → pages ≤ most_pages → IsMemory (zeroed pages)

@@ -1,6 +1,7 @@
 ghost use Rattle.std.specs.Prelude.{◌≡◌, ◌==◌, ◌+◌, ◌-◌, ◌^◌, ◌/◌, ◌%◌, ◌<◌, ◌≤◌, [], length, min, IfOk, OnOk};
 ghost use Rattle.base.specs.Ram.{ram_base};
-ghost use Rattle.tagged_memory.specs.Memory.{unless, access_fault, fill_fault};
+ghost use Rattle.base.specs.FirstFault.{unless};
+ghost use Rattle.tagged_memory.specs.Memory.{place_fault, fill_fault};
 ghost use Rattle.tagged_memory.specs.Layout.{memory_of, IsPlace};
 ghost use Rattle.base.specs.Size.{bytes_of};
 
@@ -36,7 +37,7 @@ pub fn aligned_place(
     requires test { is_aligned ≡ (address % size == 0) }
     requires room { size ≤ length bytes.now }
     requires small { length bytes.now < 2 ^ 32 }
-    ensures value { result ≡ unless (access_fault (memory_of bytes.now []) address size) (address - ram_base) }
+    ensures value { result ≡ unless (place_fault (memory_of bytes.now []) address size) (address - ram_base) }
     ensures within { IfOk result (IsPlace address size (length bytes.now)) }
     ensures aligned { OnOk result (address % size ≡ 0) }
 {
@@ -51,7 +52,7 @@ pub fn aligned_place(
 pub fn number_place(bytes: &[u8], address: u64, size: Size) -> Result<usize, MemoryFault>
     requires room { 16 ≤ length bytes.now }
     requires small { length bytes.now < 2 ^ 32 }
-    ensures value { result ≡ unless (access_fault (memory_of bytes.now []) address (bytes_of size)) (address - ram_base) }
+    ensures value { result ≡ unless (place_fault (memory_of bytes.now []) address (bytes_of size)) (address - ram_base) }
     ensures within { IfOk result (IsPlace address (bytes_of size) (length bytes.now)) }
     ensures aligned { OnOk result (address % bytes_of size ≡ 0) }
 {
@@ -68,7 +69,7 @@ pub fn number_place(bytes: &[u8], address: u64, size: Size) -> Result<usize, Mem
 pub fn granule_place(bytes: &[u8], address: u64) -> Result<usize, MemoryFault>
     requires room { 16 ≤ length bytes.now }
     requires small { length bytes.now < 2 ^ 32 }
-    ensures value { result ≡ unless (access_fault (memory_of bytes.now []) address 16) (address - ram_base) }
+    ensures value { result ≡ unless (place_fault (memory_of bytes.now []) address 16) (address - ram_base) }
     ensures within { IfOk result (IsPlace address 16 (length bytes.now)) }
     ensures aligned { OnOk result (address % 16 ≡ 0) }
 {

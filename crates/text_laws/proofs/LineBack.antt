@@ -194,4 +194,10 @@ distance_back word i h e =
 
 pub reads_back : (mode : Bool) (word : ℕ) → word < 2 ^ 32 → ReadsBack mode word
 reads_back mode word h =
-    record { line = found_back mode word h; distance = λ i e. distance_back word i h e; one_value = word_pieces word; value = word_value word h }
+    record {
+      line = found_back mode word h;
+      distance = λ i e. distance_back word i h e;
+      one_value = word_pieces word;
+      value = word_value
+          word h;
+    }

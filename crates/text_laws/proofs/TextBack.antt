@@ -23,7 +23,7 @@ use Rattle.assembler.specs.Values.{value_of, known_and, any_value, reach_of, has
 use Rattle.assembler.specs.Bytes.{or_zero, insn_bytes, value_bytes, bytes_at, aimed}
 use Rattle.assembler.specs.Faults.{closed, filled, empty_at, opening, line_fault, assembled_after}
 use Rattle.assembler.specs.FaultLaws.{fault_by, statement_fault, line_fault-by}
-use Rattle.assembler.specs.Text.{found_or, first_fault, all_assembled, image_of}
+use Rattle.assembler.specs.Text.{found_or, first_faulty_line, all_assembled, image_of}
 use Rattle.disassembler.specs.Shown.{shown_word}
 use Rattle.text_laws.specs.ReadBack.{has_target, distance_to, statement_of, statement_of_word, sound_line, word_text}
 use Rattle.text_laws.proofs.LineBack.{reads_back}
@@ -137,6 +137,7 @@ word_again mode word h =
     one_line mode word h ∙ ap (λ l. l ∷ []) (reads_back mode word h).line in
     let p = placed mode word h in
     record {
-      correct = ap (λ ls. first_fault (all_places ls opening_places).symbols opening 1 ls) one ∙ ap (λ f. found_or f 1 None) p.correct;
+      correct = ap (λ ls. first_faulty_line (all_places ls opening_places).symbols opening 1 ls) one ∙ ap
+          (λ f. found_or f 1 None) p.correct;
       image = ap (λ ls. image_of (all_assembled (all_places ls opening_places).symbols opening ls)) one ∙ p.image;
     }

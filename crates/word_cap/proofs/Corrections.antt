@@ -8,7 +8,7 @@ use Rattle.std.proofs.Math.Pow.{pow_mono}
 use Rattle.std.proofs.lemmas.Nat.{mul-le, mod_below, pow_pos, pow-add, shr_split, shr-shr}
 use Rattle.std.specs.Prelude.{ℤ, pos, negsuc, ◌+ℤ◌, ◌-ℤ◌, ◌*ℤ◌, unsigned_abs}
 use Rattle.std.proofs.lemmas.Int.{int_rem_euclid_is, ints}
-use Rattle.cap_format.specs.Word.{bit}
+use Rattle.base.specs.Bits.{bit}
 use Rattle.cap_bounds.specs.Window.{step_of, decoded_base, decoded_top}
 use Rattle.cap_bounds.specs.RemainderLaws.{mod-is, mod-apart}
 use Rattle.cap_bounds.specs.PowerLaws.{window-steps, window_fits, mantissa-steps}

@@ -2,7 +2,8 @@
 use Rattle.std.proofs.Common.{◌≡◌, ℕ, ◌+◌, ◌-◌, ◌*◌, ◌/◌, ◌%◌, ◌^◌, ◌<◌, Bool, true, false, ltb, bit_and, refl, ap, ◌∙◌, arith}
 use Rattle.std.proofs.lemmas.Nat.{and_mask}
 use Rattle.std.proofs.lemmas.Bool.{ltb-true, ltb-false}
-use Rattle.cap_format.specs.Word.{ie_of, t_field_of, b_field_of, bit}
+use Rattle.base.specs.Bits.{bit}
+use Rattle.cap_format.specs.Word.{ie_of, t_field_of, b_field_of}
 use Rattle.cap_bounds.specs.Mantissa.{base_mantissa, low_top_mantissa, top_mantissa, length_mantissa}
 use Rattle.cap_bounds.specs.MantissaLaws.{base_mantissa-below, low_top_mantissa-below}
 use Rattle.cap_bounds.specs.WordLaws.{bit-small}

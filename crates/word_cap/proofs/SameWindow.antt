@@ -47,7 +47,8 @@ same_window x y b e =
     let same = same_from_xor (x * 2 ^ (14 + e) % 2 ^ 64) (y * 2 ^ (14 + e) % 2 ^ 64) in (
       λ none. rw (left, right) (mod-add (x * 2 ^ (14 + e)) (y * 2 ^ (14 + e)) (b * 2 ^ e) (same (sym whole ∙ none))),
       λ one. whole
-          ∙ rw (mod-cancel (x * 2 ^ (14 + e)) (y * 2 ^ (14 + e)) (b * 2 ^ e) (rw (left, right) at one)) (xor_self (y * 2 ^ (14 + e) % 2 ^ 64)),
+          ∙ rw (mod-cancel (x * 2 ^ (14 + e)) (y * 2 ^ (14 + e)) (b * 2 ^ e) (rw (left, right) at one))
+          (xor_self (y * 2 ^ (14 + e) % 2 ^ 64)),
     )
 
 -- a word with another address has the same mantissas

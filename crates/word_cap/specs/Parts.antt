@@ -3,7 +3,8 @@
 use Rattle.std.specs.Prelude.{◌≡◌, ℕ, ℤ, pos, ◌+◌, ◌-◌, ◌*◌, ◌/◌, ◌%◌, ◌^◌, ◌+ℤ◌, ◌-ℤ◌, ◌*ℤ◌, Bool, ◌&&◌, nat_lt, unsigned_abs}
 use Rattle.std.specs.Prelude.{if◌then◌else◌}
 use Rattle.std.specs.Int.{int_rem_euclid}
-use Rattle.cap_format.specs.Word.{bit, address_of}
+use Rattle.base.specs.Bits.{bit}
+use Rattle.cap_format.specs.Word.{address_of}
 use Rattle.cap_bounds.specs.Mantissa.{exponent_of, base_mantissa, top_mantissa}
 use Rattle.cap_bounds.specs.Window.{base_of_word, top_of_word}
 use Rattle.word_cap.specs.declared.word_parts.Parts.{Parts}

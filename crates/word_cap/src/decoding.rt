@@ -1,7 +1,7 @@
 //! The parts that the bounds of a word are decoded from, and the bounds.
 
 ghost use Rattle.std.specs.Prelude.{◌≡◌, pos, ◌+◌, ◌*◌, ◌/◌, ◌%◌, ◌^◌, ◌<◌, ◌≤◌, ◌-ℤ◌, nat_lt};
-ghost use Rattle.cap_format.specs.Word.{bit};
+ghost use Rattle.base.specs.Bits.{bit};
 ghost use Rattle.cap_bounds.specs.Window.{decoded_base, decoded_top, base_of_word, top_of_word};
 ghost use Rattle.word_cap.specs.Parts.{ArePartsOf, GiveBoundsOf, edge_of, eighth_of, corrected_top, is_flipped};
 

@@ -69,8 +69,10 @@ pub(crate) struct Encoding {
 #[inline(always)]
 pub(crate) fn encoding_of(address: u64, length: u64) -> Encoding
     ensures ie { result.ie ≡ has_exponent length }
-    ensures t { result.t ≡ encoded_t (rounded_top address (address + length) % 2 ^ 65) (rounding_exponent address (address + length)) (has_exponent length) }
-    ensures b { result.b ≡ encoded_b (rounded_base address (address + length)) (rounding_exponent address (address + length)) (has_exponent length) }
+    ensures t { result.t ≡ encoded_t (rounded_top address (address + length) % 2 ^ 65) (rounding_exponent address (address + length))
+        (has_exponent length) }
+    ensures b { result.b ≡ encoded_b (rounded_base address (address + length)) (rounding_exponent address (address + length))
+        (has_exponent length) }
     ensures exact { result.exact ≡ is_exact address (address + length) }
     ensures t_range { result.t < 2 ^ 12 }
     ensures b_range { result.b < 2 ^ 14 }

@@ -1,5 +1,6 @@
 use Rattle.std.proofs.Common.{◌≡◌, true, sym, ap, ◌∙◌}
-use Rattle.cap_format.specs.Word.{with_field, bit}
+use Rattle.base.specs.Bits.{bit}
+use Rattle.cap_format.specs.Word.{with_field}
 use Rattle.cap_bounds.specs.CapValue.{is_tagged, value_of}
 use Rattle.cap_rights.specs.FieldLaws.{with_flag-well_formed, value_of-with_flag}
 use Rattle.cap_rights.proofs.fields.with_flag.Goals as goal

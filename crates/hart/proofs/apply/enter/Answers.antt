@@ -5,4 +5,5 @@ use Rattle.hart.proofs.apply.enter.Goals as goal
 
 pub set_pcc-requires : goal.set_pcc-requires
 set_pcc-requires g c =
-    ap (λ v. value_address v % 4) c.set_address.ensures ∙ ap (λ n. n % 4) (value_address-at_address _ c.args.target (omega arith)) ∙ c.requires
+    ap (λ v. value_address v % 4) c.set_address.ensures ∙ ap (λ n. n % 4) (value_address-at_address _ c.args.target (omega arith))
+    ∙ c.requires

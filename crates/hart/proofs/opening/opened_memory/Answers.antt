@@ -2,8 +2,8 @@ use Rattle.std.proofs.Common.{◌≡◌, ◌+◌, ◌*◌, ◌∷◌, length, dr
 use Rattle.std.proofs.lemmas.List.{length-replicate}
 use Rattle.tagged_memory.specs.Memory.{zeroed}
 use Rattle.image.specs.ImageLaws.{AllInRam, AllInRam-image}
-use Rattle.hart.specs.Opening.{loaded}
-use Rattle.hart.proofs.Loading.{rest-cons, IsOk-fill, length-loaded, loaded-rest}
+use Rattle.hart.specs.Opening.{with_sections}
+use Rattle.hart.proofs.Loading.{rest-cons, IsOk-fill, length-with_sections, with_sections-rest}
 use Rattle.hart.proofs.opening.opened_memory.Goals as goal
 
 pub loop-section-init : goal.loop-section-init
@@ -21,7 +21,8 @@ unwrap-requires c =
     let i = c.loop-section.invariant in
     let x = c.section-item.result in
     let e = rest-cons c.sections-section-items.result.now c.loop-section.section-index x c.loop-section-test.true c.section-item.is in
-    IsOk-fill c.loop-section.memory _ x _ i.whole (rw e at i.inside) c.fill.result (rw (c.address.ensures, c.bytes.ensures) at c.fill.ensures.which)
+    IsOk-fill c.loop-section.memory _ x _ i.whole (rw e at i.inside) c.fill.result
+    (rw (c.address.ensures, c.bytes.ensures) at c.fill.ensures.which)
 
 pub loop-section-preserved : goal.loop-section-preserved
 loop-section-preserved c =
@@ -31,7 +32,7 @@ loop-section-preserved c =
     let all = rw e at i.inside in
     let filled = rw (c.unwrap.ensures, c.address.ensures, c.bytes.ensures) at c.fill.ensures.ok in
     record {
-      whole = length-loaded c.loop-section.memory _ x _ i.whole all c.fill.new.self filled;
+      whole = length-with_sections c.loop-section.memory _ x _ i.whole all c.fill.new.self filled;
       inside = all.1;
-      rest = loaded-rest c.loop-section.memory _ x _ i.whole all c.fill.new.self _ filled (rw e at i.rest);
+      rest = with_sections-rest c.loop-section.memory _ x _ i.whole all c.fill.new.self _ filled (rw e at i.rest);
     }

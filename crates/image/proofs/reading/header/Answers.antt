@@ -1,5 +1,6 @@
 use Rattle.image.specs.declared.fault.ImageFault.TheVariants.{L1}
-use Rattle.image.specs.Grammar.{unless, taken, header_fault, header_of, header_at}
+use Rattle.base.specs.FirstFault.{unless}
+use Rattle.image.specs.Grammar.{taken, header_fault, header_of, header_at}
 use Rattle.image.proofs.Taking.{Takes-checked, CountsL10-of_bytes}
 use Rattle.image.proofs.reading.header.Goals as goal
 

@@ -25,7 +25,8 @@ loop-preserved g c = record {
       (Goes-on c.args.pages c.args.count (c.args.count - c.loop.counter)
       (c.args.count - (c.loop.counter + 1)) c.loop.free _ c.loop.sections.items c.in_ok-section.section _ _ _ (omega arith)
       (ap (λ n. n + length c.bytes.result.now) c.address.ensures
-      ∙ ap (λ (b : List ℕ). c.in_ok-section.section.address + length b) c.bytes.ensures) c.loop.invariant.read c.in_ok-section.ensures.part);
+      ∙ ap (λ (b : List ℕ). c.in_ok-section.section.address + length b) c.bytes.ensures) c.loop.invariant.read
+      c.in_ok-section.ensures.part);
 }
 
 pub returns-clause-part : goal.returns-clause-part

@@ -3,7 +3,8 @@ use Rattle.image.specs.declared.fault.ImageFault.{ImageFault}
 use Rattle.image.specs.declared.fault.ImageFault.TheVariants.{L8}
 use Rattle.image.specs.declared.parts.Span.{Span}
 use Rattle.image.specs.Image.{span_fault}
-use Rattle.image.specs.Grammar.{unless, number_at, taken, span_at}
+use Rattle.base.specs.FirstFault.{unless}
+use Rattle.image.specs.Grammar.{number_at, taken, span_at}
 use Rattle.image.proofs.Taking.{Takes-checked, CountsL10-of_bytes}
 use Rattle.image.proofs.reading.span.Goals as goal
 

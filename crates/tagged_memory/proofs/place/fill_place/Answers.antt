@@ -2,7 +2,8 @@ use Rattle.std.proofs.Common.{◌≡◌, ◌-◌, [], Some, ap, sym, arith, inl,
 use Rattle.std.proofs.lemmas.Bool.{cases_lt}
 use Rattle.tagged_memory.specs.declared.fault.MemoryFault.TheVariants.{M3}
 use Rattle.base.specs.Ram.{ram_base}
-use Rattle.tagged_memory.specs.Memory.{unless, fill_fault}
+use Rattle.base.specs.FirstFault.{unless}
+use Rattle.tagged_memory.specs.Memory.{fill_fault}
 use Rattle.tagged_memory.specs.Layout.{memory_of}
 use Rattle.tagged_memory.proofs.Faults.{fill_fault-below, fill_fault-past}
 use Rattle.tagged_memory.proofs.place.fill_place.Goals as goal

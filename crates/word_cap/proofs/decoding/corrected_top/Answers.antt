@@ -2,7 +2,7 @@ use Rattle.std.proofs.Common.{◌≡◌, ◌+◌, ◌*◌, ◌%◌, ◌-◌, ◌
 use Rattle.std.proofs.Math.Pow.{pow_mono}
 use Rattle.std.proofs.Math.Nat.{mod-eq_of_lt}
 use Rattle.std.proofs.lemmas.Nat.{and_mask, mul-le}
-use Rattle.cap_format.specs.Word.{bit}
+use Rattle.base.specs.Bits.{bit}
 use Rattle.cap_bounds.specs.WordLaws.{bit-small}
 use Rattle.word_cap.proofs.Corrections.{unrounded, corrected_top-unrounded}
 use Rattle.word_cap.proofs.decoding.corrected_top.Goals as goal

@@ -21,14 +21,17 @@ returns-clause-ie c = sym (has_exponent-long c.args.length c.if-length-lt4096.fa
 
 pub returns-clause-t : goal.returns-clause-t
 returns-clause-t c =
-    encoded_t-long c.args.address c.args.length c.exponent-e.result c.granules_below_end.result c.from.result c.if-length-lt4096.false c.exponent-e.ensures.range
+    encoded_t-long c.args.address c.args.length c.exponent-e.result c.granules_below_end.result c.from.result c.if-length-lt4096.false
+    c.exponent-e.ensures.range
     c.exponent-e.ensures.value c.granules_below_end.ensures c.from.ensures
 
 pub returns-clause-b : goal.returns-clause-b
 returns-clause-b c =
-    encoded_b-long c.args.address c.args.length c.exponent-e.result c.from-2.result c.if-length-lt4096.false c.exponent-e.ensures.range c.exponent-e.ensures.value
+    encoded_b-long c.args.address c.args.length c.exponent-e.result c.from-2.result c.if-length-lt4096.false c.exponent-e.ensures.range
+    c.exponent-e.ensures.value
     (c.from-2.ensures ∙ and_mask c.exponent-e.result 3)
 
 pub returns-clause-exact : goal.returns-clause-exact
 returns-clause-exact c =
-    is_exact-long c.args.address c.args.length c.exponent-e.result c.granule_mask.result c.if-length-lt4096.false c.exponent-e.ensures.value c.granule_mask.ensures.value
+    is_exact-long c.args.address c.args.length c.exponent-e.result c.granule_mask.result c.if-length-lt4096.false c.exponent-e.ensures.value
+    c.granule_mask.ensures.value

@@ -10,5 +10,7 @@ returns-then-address-lt2048 c =
 
 pub returns : goal.returns
 returns c =
-    keeps_bounds-windows c.args.word c.args.address c.window.result c.window-2.result c.mantissas_of-mantissas.result.exponent c.mantissas_of-mantissas.result.base c.address-2.result
-    c.ranges.address.fits c.mantissas_of-mantissas.ensures.exponent c.mantissas_of-mantissas.ensures.base c.address-2.ensures c.window.ensures.base c.window-2.ensures.base
+    keeps_bounds-windows c.args.word c.args.address c.window.result c.window-2.result c.mantissas_of-mantissas.result.exponent
+    c.mantissas_of-mantissas.result.base c.address-2.result
+    c.ranges.address.fits c.mantissas_of-mantissas.ensures.exponent c.mantissas_of-mantissas.ensures.base c.address-2.ensures
+    c.window.ensures.base c.window-2.ensures.base

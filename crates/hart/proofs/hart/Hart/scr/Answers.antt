@@ -10,7 +10,8 @@ IsSome-from_map f (Some x) some = some
 
 pub unwrap-requires : goal.unwrap-requires
 unwrap-requires g c =
-    IsSome-from_map g.C.CapRep.value c.get.result (subst IsSome (sym c.get.ensures.value) (IsSome-scr_value c.self.inside.scrs c.args.n c.requires))
+    IsSome-from_map g.C.CapRep.value c.get.result (subst IsSome (sym c.get.ensures.value)
+    (IsSome-scr_value c.self.inside.scrs c.args.n c.requires))
 
 pub returns-clause-aligned : goal.returns-clause-aligned
 returns-clause-aligned g c = subst (λ s. IsAligned s.scrs.pcc) c.self.view_is c.get.ensures.aligned

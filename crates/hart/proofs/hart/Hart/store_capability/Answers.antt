@@ -1,5 +1,5 @@
 use Rattle.std.proofs.Common.{◌≡◌, None, sym, subst}
-use Rattle.tagged_memory.specs.Memory.{access_fault}
+use Rattle.tagged_memory.specs.Memory.{place_fault}
 use Rattle.hart.specs.State.{State, HoldsCapabilities}
 use Rattle.hart.specs.StateLaws.{HoldsCapabilities-value_stored}
 use Rattle.hart.proofs.hart.Hart.store_capability.Goals as goal
@@ -9,7 +9,9 @@ invariant_of-self g c =
     let store = c.args.store in
     let value = store.value in
     let memory = c.self.inside.memory in
-    let allowed : access_fault memory store.address 16 ≡ None = subst (λ (s : State). access_fault s.memory store.address 16 ≡ None) (sym c.self.view_is) c.requires in
+    let allowed : place_fault memory store.address 16 ≡ None = subst (λ (s : State). place_fault s.memory store.address 16 ≡ None)
+    (sym c.self.view_is) c.requires in
     let stored = rw (c.word.ensures.value, c.tag.ensures) at c.store_cap.ensures.value in
     subst HoldsCapabilities (sym stored)
-    (HoldsCapabilities-value_stored memory store.address (g.C.CapRep.value value) c.store_cap.ensures.was_sound allowed (g.met.C.CapRep.valid value) c.self.invariant)
+    (HoldsCapabilities-value_stored memory store.address (g.C.CapRep.value value) c.store_cap.ensures.was_sound allowed
+    (g.met.C.CapRep.valid value) c.self.invariant)

@@ -21,7 +21,8 @@ returns-clause-value c =
     ap (λ xs. memory_of xs (set tags (p / 16) c.args.tag))
     (stored bytes c.deref_mut.result.now c.write_word.new.bytes p 16
     (memory_bytes c.args.word) c.deref_mut.ensures.value bytes.ok.0 refl fits c.write_word.ensures)
-    ∙ capability_written-is bytes.items tags c.args.address p c.args.word c.args.tag c.self.view_is place.from_base c.requires.aligned inside
+    ∙ capability_written-is bytes.items tags c.args.address p c.args.word c.args.tag c.self.view_is place.from_base
+    c.requires.aligned inside
 
 pub returns-clause-sound : goal.returns-clause-sound
 returns-clause-sound c =

@@ -1,7 +1,7 @@
 use Rattle.std.proofs.Common.{◌≡◌, ◌/◌, ◌<◌, Ok, length, ap, subst, ◌∙◌, arith}
 use Rattle.std.proofs.lemmas.List.{get_or_read}
 use Rattle.std.proofs.lemmas.Result.{err_from_is_err_and}
-use Rattle.tagged_memory.specs.Memory.{word_at, is_tagged, IsMemory}
+use Rattle.tagged_memory.specs.Memory.{word_at, has_tag, IsMemory}
 use Rattle.tagged_memory.proofs.Faults.{access-refused, access-given}
 use Rattle.tagged_memory.proofs.Sound.{sound}
 use Rattle.tagged_memory.proofs.Written.{word_here, tag_here}
@@ -11,7 +11,8 @@ pub returns-in_err-place-clause-value : goal.returns-in_err-place-clause-value
 returns-in_err-place-clause-value c =
     let p = err_from_is_err_and c.from_residual.result c.from_residual.ensures.1 in
     rw (p.1, p.2)
-    (access-refused _ c.self.inside.tags.items c.deref.result.now c.args.address _ _ _ _ c.self.view_is c.deref.ensures.value c.in_err-place.ensures.value)
+    (access-refused _ c.self.inside.tags.items c.deref.result.now c.args.address _ _ _ _ c.self.view_is c.deref.ensures.value
+    c.in_err-place.ensures.value)
 
 pub returns-in_err-place-clause-sound : goal.returns-in_err-place-clause-sound
 returns-in_err-place-clause-sound c = subst IsMemory c.self.view_is (sound _ _ c.self.invariant)
@@ -19,7 +20,8 @@ returns-in_err-place-clause-sound c = subst IsMemory c.self.view_is (sound _ _ c
 pub returns-clause-value : goal.returns-clause-value
 returns-clause-value c =
     ap Ok c.get_cap.ensures
-    ∙ access-given _ c.self.inside.tags.items c.deref.result.now c.args.address _ _ c.in_ok-place.place _ c.self.view_is c.deref.ensures.value c.in_ok-place.ensures.value
+    ∙ access-given _ c.self.inside.tags.items c.deref.result.now c.args.address _ _ c.in_ok-place.place _ c.self.view_is
+    c.deref.ensures.value c.in_ok-place.ensures.value
 
 pub returns-clause-sound : goal.returns-clause-sound
 returns-clause-sound c = subst IsMemory c.self.view_is (sound _ _ c.self.invariant)
