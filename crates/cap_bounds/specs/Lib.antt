@@ -26,3 +26,4 @@ pub mod RoundingLaws
 pub mod LengthExponentLaws
 pub mod SetBoundsLaws
 pub mod SoundLaws
+pub mod InsideLaws

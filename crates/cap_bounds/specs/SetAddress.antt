@@ -1,5 +1,5 @@
 -- Setting an address (UCAM-CL-TR-987, CSetAddr), with the exact test of representability (profile).
-use Rattle.std.specs.Prelude.{◌≡◌, ℕ, ◌^◌, ◌<◌, ◌↔◌, ◌&&◌, not, if◌then◌else◌, IsTrue}
+use Rattle.std.specs.Prelude.{◌≡◌, ℕ, ◌^◌, ◌<◌, ◌≤◌, ◌↔◌, ◌&&◌, not, if◌then◌else◌, IsTrue}
 use Rattle.cap_format.specs.Word.{with_address_of}
 use Rattle.cap_bounds.specs.Window.{base_of_word, top_of_word}
 use Rattle.cap_bounds.specs.Record.{Record, IsWellFormed, encoded, window_holds}
@@ -22,6 +22,11 @@ BoundsStayInTheWindow =
     (r : Record) (address : ℕ) → IsWellFormed r → address < 2 ^ 64
     → IsTrue (window_holds r address)
     ↔ ((base_of_word (with_address_of (encoded r) address) ≡ r.base) × (top_of_word (with_address_of (encoded r) address) ≡ r.top))
+
+-- Every address in a capability's bounds, and its top, lies in its window: with one of them as the address its bounds stay.
+abbrev pub BoundsLieInTheWindow : Type 0
+BoundsLieInTheWindow =
+    (r : Record) (address : ℕ) → IsWellFormed r → address < 2 ^ 64 → r.base ≤ address → address ≤ r.top → IsTrue (window_holds r address)
 
 -- a word's bounds stay with this address in place of its own
 abbrev pub KeepsBounds : ℕ → ℕ → Type 0

@@ -4,7 +4,7 @@ ghost use Rattle.cap_bounds.specs.CapValue.{ValueIsItsWordAndTag};
 ghost use Rattle.cap_bounds.specs.Mantissa.{LengthMantissaIsInRange};
 ghost use Rattle.cap_bounds.specs.Record.{AddressLiesInItsWindow, CanonicalWordIsWellFormed, WordMeansItsRecord};
 ghost use Rattle.cap_bounds.specs.Rounding.{RoundingTakesTheLeastGranule};
-ghost use Rattle.cap_bounds.specs.SetAddress.{BoundsStayInTheWindow};
+ghost use Rattle.cap_bounds.specs.SetAddress.{BoundsStayInTheWindow, BoundsLieInTheWindow};
 ghost use Rattle.cap_bounds.specs.SetBounds.{BoundsStayInsideTheAuthority};
 ghost use Rattle.cap_bounds.specs.Window.{BaseIsByWindows, DecodedBoundsAreInRange};
 
@@ -52,6 +52,11 @@ pub fn values_are_their_words_and_tags()
 /// least exponent, at most 52, at which it touches fewer than 1024 granules.
 pub fn rounding_takes_the_least_granule()
     ensures { RoundingTakesTheLeastGranule }
+{}
+
+/// Every address in a capability's bounds, and its top, lies in its window: there its bounds stay.
+pub fn bounds_lie_in_the_window()
+    ensures { BoundsLieInTheWindow }
 {}
 
 /// A range in the bounds of a capability is rounded out to a range that lies in them too.

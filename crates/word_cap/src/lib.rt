@@ -2,7 +2,6 @@
 #![tactic(auto)]
 
 mod decoding;
-pub mod laws;
 mod mantissas;
 mod rep;
 mod rounding;

@@ -132,7 +132,7 @@ fn words_have_the_parts_of_the_published_decoding(rt: HostRuntime) {
             flip: true,
         }
     );
-    laws::bounds_lie_in_the_window();
+    cap_bounds::laws::bounds_lie_in_the_window();
 }
 
 #[test]

@@ -3,14 +3,10 @@ use Rattle.std.proofs.Common.{◌≡◌, ℕ, ◌+◌, ◌-◌, ◌*◌, ◌/◌
 use Rattle.std.proofs.lemmas.Nat.{pow-add, pow_pos}
 use Rattle.std.proofs.lemmas.Bool.{cases_lt, lt-ltb, le-leb, or_left, or_right}
 use Rattle.cap_bounds.specs.Record.{Record, IsWellFormed, exponent_for, is_in_window, window_holds}
+use Rattle.cap_bounds.specs.SetAddress.{BoundsLieInTheWindow}
 use Rattle.cap_bounds.specs.ExponentLaws.{exponent_for-holds}
 use Rattle.cap_bounds.specs.PowerLaws.{window_fits}
 use Rattle.cap_bounds.specs.RemainderLaws.{mod-is}
-
--- so setting one of them as the address keeps an unsealed capability's bounds
-abbrev pub BoundsLieInTheWindow : Type 0
-BoundsLieInTheWindow =
-    (r : Record) (address : ℕ) → IsWellFormed r → address < 2 ^ 64 → r.base ≤ address → address ≤ r.top → IsTrue (window_holds r address)
 
 -- bounds of less than half a window, from base on
 is_in_window-inside : (e base top address : ℕ) → top - base < 2 ^ (e + 13) → base ≤ address → address ≤ top

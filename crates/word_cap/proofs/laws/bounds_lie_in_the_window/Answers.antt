@@ -1,5 +1,0 @@
-use Rattle.word_cap.specs.InsideLaws.{bounds_in_window}
-use Rattle.word_cap.proofs.laws.bounds_lie_in_the_window.Goals as goal
-
-pub returns : goal.returns
-returns c = bounds_in_window
