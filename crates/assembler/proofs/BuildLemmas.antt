@@ -5,6 +5,7 @@ use Rattle.std.proofs.Common.{subst, pow_pos, arith}
 use Rattle.std.specs.Int.{bytes_low_first}
 use Rattle.std.specs.List.{flat_map}
 use Rattle.std.proofs.lemmas.List.{length-replicate}
+use Rattle.std.proofs.lemmas.Bool.{le-leb}
 use Rattle.std.proofs.lemmas.Bool.Decides.{nat_tests}
 use Rattle.base.specs.Ram.{ram_base, ram_end, most_pages}
 use Rattle.image.specs.Image.{Section, is_good_header, sections_fault, build_fault}
@@ -29,9 +30,6 @@ use Rattle.assembler.proofs.SoundLemmas.{IsFaultless, statement_fault-none, line
 no-byte : (bytes : List ℕ) → bytes ≡ [] → 0 < length bytes → ⊥
 no-byte [] e h = omega arith
 no-byte (b ∷ bs) e h = cc
-
-not-above : (n : ℕ) → n ≤ 64 → nat_lt 64 n ≡ false
-not-above n h = grind (arith, nat_tests)
 
 room-left : (n m : ℕ) → ((n == 0) && nat_le 64 m) ≡ false → n ≡ 0 → m < 64
 room-left n m h e = grind (arith, nat_tests)
@@ -256,7 +254,7 @@ parts-none : (count start m : ℕ) (sections : List Section) → is_good_header 
     → build_fault count start m sections ≡ None
 unfolding build_fault
 parts-none count start m sections h good =
-    let a : nat_lt 64 (length sections) ≡ false = not-above (length sections) good.few in
+    let a : nat_le (length sections) 64 ≡ true = le-leb (length sections) 64 good.few in
     let b = good.apart in
     cc
 

@@ -1,22 +1,13 @@
 -- Sections in RAM, in ascending order and apart, stay so when one that lies apart is put among them.
-use Rattle.std.proofs.Common.{◌≡◌, ℕ, ◌+◌, ◌<◌, ◌≤◌, true, false, ◌&&◌, ◌==◌, nat_lt, if◌then◌else◌, List, [], ◌∷◌, length, Option, Some}
-use Rattle.std.proofs.Common.{None, refl, subst, arith}
-use Rattle.std.specs.Option.{option_or}
+use Rattle.std.proofs.Common.{◌≡◌, ℕ, ◌+◌, ◌<◌, ◌≤◌, true, false, ◌&&◌, ◌==◌, nat_lt, if◌then◌else◌, List, [], ◌∷◌, length, None, refl}
+use Rattle.std.proofs.Common.{subst, arith}
 use Rattle.std.proofs.lemmas.Bool.Decides.{nat_tests}
-use Rattle.image.specs.declared.fault.ImageFault.{ImageFault}
 use Rattle.base.specs.Ram.{ram_base, ram_end}
 use Rattle.image.specs.Image.{Section, span_fault, sections_fault}
+use Rattle.image.specs.ImageLaws.{sections_fault-none, no_fault_cons}
 use Rattle.assembler.specs.Faults.{is_taken, inserted, closed}
 use Rattle.assembler.proofs.TestLemmas.{or-false, false-or, not-nought}
 use Rattle.assembler.specs.Buildable.{AreFilled, HasRoom}
-
-both-none : (a b : Option ImageFault) → option_or a b ≡ None → (a ≡ None) × (b ≡ None)
-both-none None b h = (refl, h)
-both-none (Some x) b h = cc
-
-none-both : (a b : Option ImageFault) → a ≡ None → b ≡ None → option_or a b ≡ None
-none-both None b h g = g
-none-both (Some x) b h g = cc
 
 span-none : (pages free a n : ℕ) → ram_base ≤ a → a + n ≤ ram_end pages → free ≤ a → span_fault pages free a n ≡ None
 unfolding span_fault
@@ -35,19 +26,20 @@ behind a n b m h f g = grind (arith, nat_tests)
 inserted-none : (pages free : ℕ) (s : Section) (ss : List Section) → 0 < length s.bytes → ram_base ≤ s.address
     → s.address + length s.bytes ≤ ram_end pages → free ≤ s.address → is_taken s.address (s.address + length s.bytes) ss ≡ false
     → sections_fault pages free ss ≡ None → sections_fault pages free (inserted s ss) ≡ None
-inserted-none pages free s [] f a b g p h = none-both _ None (span-none pages free s.address (length s.bytes) a b g) refl
+inserted-none pages free s [] f a b g p h =
+    sections_fault-none pages free s [] (span-none pages free s.address (length s.bytes) a b g) refl
 inserted-none pages free s (t ∷ ts) f a b g p h =
     let apart = or-false _ _ p in
-    let both = both-none (span_fault pages free t.address (length t.bytes)) (sections_fault pages (t.address + length t.bytes) ts) h in
+    let both = no_fault_cons pages free t ts h in
     elim (nat_lt s.address t.address) as
     (λ x. nat_lt s.address t.address ≡ x → sections_fault pages free (if x then s ∷ t ∷ ts else (t ∷ inserted s ts)) ≡ None) [
       | true ↦ λ e.
-          none-both _ _ (span-none pages free s.address (length s.bytes) a b g)
-          (none-both _ _
+          sections_fault-none pages free s (t ∷ ts) (span-none pages free s.address (length s.bytes) a b g)
+          (sections_fault-none pages (s.address + length s.bytes) t ts
           (span-moved pages free (s.address + length s.bytes) t.address (length t.bytes) both.0
           (before s.address (length s.bytes) t.address (length t.bytes) e apart.0)) both.1)
       | false ↦ λ e.
-          none-both _ _ both.0
+          sections_fault-none pages free t (inserted s ts) both.0
           (inserted-none pages (t.address + length t.bytes) s ts f a b
           (behind s.address (length s.bytes) t.address (length t.bytes) e f apart.0) apart.1 both.1)
     ] refl

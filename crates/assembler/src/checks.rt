@@ -5,7 +5,6 @@ ghost use Rattle.asm_lines.specs.Line.{seen_expression, seen_statement};
 ghost use Rattle.asm_lines.specs.Number.{is_in_limits, expression_of};
 ghost use Rattle.asm_lines.specs.Statement.{is_in_size, expression_or_nought};
 ghost use Rattle.asm_lines.specs.Text.{pieces_of, pieces_left};
-ghost use Rattle.image.specs.Image.{is_good_header};
 ghost use Rattle.assembler.specs.Values.{value_of, any_value, reach_of, is_reached, is_loadable, is_entry};
 ghost use Rattle.assembler.specs.Modest.{is_size, is_modest};
 ghost use Rattle.assembler.specs.Checks.{told, told_value, passes, is_test, named_fault};
@@ -14,7 +13,7 @@ use crate::fault::AsmCode;
 use crate::labels::Labels;
 use crate::values::{Worth, value, wrapped};
 use asm_lines::{Expression, Statement, expression, split_piece};
-use base::ram;
+use image::is_good_header;
 use isa_rows::Format;
 
 /// What is asked of the values of a list.
@@ -130,24 +129,12 @@ fn is_loadable(distance: i128) -> bool
     -0x8000_0000 <= distance && distance < 0x7fff_f800
 }
 
-/// Whether an image of so many pages can begin at an address.
-#[tactic(auto, unfolding(image::specs::Image::is_good_header))]
-fn is_good_entry(page_count: u32, entry: u64) -> bool
-    ensures { result ≡ is_good_header page_count entry 0 }
-{
-    let end = ram::BASE + ram::PAGE_BYTES * u64::from(page_count);
-    (1..=ram::MOST_PAGES).contains(&page_count)
-        && entry % 4 == 0
-        && ram::BASE <= entry
-        && entry <= end - 4
-}
-
 /// Whether an image of so many pages can begin at a value.
 fn is_entry(page_count: u32, value: i128) -> bool
     requires { IsTrue (is_in_limits value) }
     ensures { result ≡ is_entry page_count value }
 {
-    value >= 0 && is_good_entry(page_count, wrapped(value))
+    value >= 0 && is_good_header(page_count, wrapped(value), 0)
 }
 
 /// A6, unless a value is within reach.

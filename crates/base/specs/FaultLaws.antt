@@ -1,13 +1,11 @@
 -- The numbers of a fault have 64 bits.
-use Rattle.std.proofs.Common.{◌≡◌, ℕ, ◌+◌, ◌*◌, ◌^◌, ◌<◌, Bool, true, false, cond, List, [], ◌∷◌, Some, None, refl, arith, lit<}
-use Rattle.std.specs.Prelude.{IfSome}
+use Rattle.std.proofs.Common.{ℕ, ◌+◌, ◌*◌, ◌^◌, ◌<◌, arith, lit<}
 use Rattle.base.specs.declared.fault.Fault.{Fault}
 use Rattle.base.specs.declared.cause.Cause.{Cause}
 use Rattle.base.specs.declared.cause.Cause.TheVariants as cause
 use Rattle.base.specs.declared.cause.CheriCause.{CheriCause}
 use Rattle.base.specs.declared.cause.CheriCause.TheVariants as cheri_cause
 use Rattle.base.specs.Fault.{number_of, cheri_number_of, fault, cheri}
-use Rattle.base.specs.FirstFault.{first_fault}
 
 -- a fault's numbers have 64 bits
 pub record IsInRange (f : Fault) : Type 0 where
@@ -50,29 +48,3 @@ IsInRange-cheri register what exists =
     let small = cheri_number_of-below what in
     let fits : 32 * register + cheri_number_of what < 2 ^ 64 = omega arith in
     IsInRange-fault cause.Cheri (32 * register + cheri_number_of what) fits
-
--- what is true of each fault of a list of conditions
-abbrev pub OfEach : (Fault → Type 0) → List (Bool × Fault) → Type 0
-OfEach P [] = Unit {0}
-OfEach P (check ∷ checks) = P check.1 × OfEach P checks
-
--- is true of the first
-pub first_fault-each : (P : Fault → Type 0) (checks : List (Bool × Fault)) → OfEach P checks → IfSome (first_fault checks) P
-first_fault-each P [] each = tt
-first_fault-each P (check ∷ checks) each =
-    elim check.0 as (λ b. IfSome (cond b (first_fault checks) (Some check.1)) P)
-    [ true ↦ first_fault-each P checks each.1 | false ↦ each.0 ]
-
--- each condition is true
-abbrev pub EachHolds : List (Bool × Fault) → Type 0
-EachHolds [] = Unit {0}
-EachHolds (check ∷ checks) = (check.0 ≡ true) × EachHolds checks
-
--- where there is no fault, each condition is true
-pub first_fault-none : (checks : List (Bool × Fault)) → first_fault checks ≡ None → EachHolds checks
-first_fault-none [] none = tt
-first_fault-none (check ∷ checks) none =
-    elim check.0 as (λ b. cond b (first_fault checks) (Some check.1) ≡ None → (b ≡ true) × EachHolds checks) [
-      | true ↦ λ rest. (refl, first_fault-none checks rest)
-      | false ↦ λ fault. cc
-    ] none

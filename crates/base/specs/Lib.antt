@@ -6,3 +6,4 @@ pub mod Ram
 pub mod ObjectType
 pub mod Registers
 pub mod FaultLaws
+pub mod FirstFaultLaws

@@ -27,7 +27,7 @@ IsWellFormed-root address flag fits = record {
   in_window = refl;
 }
 
-encoded-root : encoded (root_record 0 false) ≡ root_word
+pub encoded-root : encoded (root_record 0 false) ≡ root_word
 unfolding encoded encoded_at has_exponent exponent_for least_up_to
 encoded-root = refl
 

@@ -1,12 +1,17 @@
-//! What holds of words, records and windows: each function's contract is a law, and its body is empty.
+//! What holds of words, records and windows: each function's contract is a law, and its body is empty or gives a constant.
 
-ghost use Rattle.cap_bounds.specs.CapValue.{ValueIsItsWordAndTag};
+ghost use Rattle.std.specs.Prelude.{◌≡◌, ◌^◌, true, false};
+ghost use Rattle.base.specs.ObjectType.{unsealed_type};
+ghost use Rattle.cap_bounds.specs.CapValue.{ValueIsItsWordAndTag, value_of, word_of};
 ghost use Rattle.cap_bounds.specs.Mantissa.{LengthMantissaIsInRange};
-ghost use Rattle.cap_bounds.specs.Record.{AddressLiesInItsWindow, CanonicalWordIsWellFormed, WordMeansItsRecord};
+ghost use Rattle.cap_bounds.specs.Record.{AddressLiesInItsWindow, CanonicalWordIsWellFormed, WordMeansItsRecord, decoded, record_with};
+ghost use Rattle.cap_bounds.specs.Root.{root};
 ghost use Rattle.cap_bounds.specs.Rounding.{RoundingTakesTheLeastGranule};
 ghost use Rattle.cap_bounds.specs.SetAddress.{BoundsStayInTheWindow, BoundsLieInTheWindow};
 ghost use Rattle.cap_bounds.specs.SetBounds.{BoundsStayInsideTheAuthority};
 ghost use Rattle.cap_bounds.specs.Window.{BaseIsByWindows, DecodedBoundsAreInRange};
+
+use cap_format::CapWord;
 
 /// A capability's canonical word decodes to its bounds, address, permissions, flag and object type, at every exponent.
 pub fn one_word_means_its_record()
@@ -17,6 +22,21 @@ pub fn one_word_means_its_record()
 pub fn canonical_words_are_well_formed()
     ensures { CanonicalWordIsWellFormed }
 {}
+
+/// Root's word, which means the unsealed capability with every permission over the whole address space, and is its word.
+pub fn root_word() -> CapWord
+    ensures meaning { value_of result true ≡ root 0 false }
+    ensures word { word_of (root 0 false) ≡ result }
+{
+    CapWord::ROOT
+}
+
+/// Null's word, which decodes to no permission over the whole address space.
+pub fn null_word() -> CapWord
+    ensures { decoded result ≡ record_with 0 (2 ^ 64) 0 0 false unsealed_type }
+{
+    CapWord::NULL
+}
 
 /// The base is the one number congruent to B * 2^E, modulo 2^(E+14), in the window that holds the address.
 pub fn base_is_by_windows()

@@ -5,7 +5,8 @@ use Rattle.std.proofs.lemmas.Bool.{eqb-true}
 use Rattle.base.specs.declared.cause.Cause.TheVariants as cause
 use Rattle.base.specs.declared.cause.CheriCause.{CheriCause}
 use Rattle.base.specs.declared.cause.CheriCause.TheVariants as forbids
-use Rattle.base.specs.FaultLaws.{IsInRange, IsInRange-fault, IsInRange-cheri, EachHolds, first_fault-each, first_fault-none}
+use Rattle.base.specs.FaultLaws.{IsInRange, IsInRange-fault, IsInRange-cheri}
+use Rattle.base.specs.FirstFaultLaws.{EachHolds, first_fault-each, first_fault-none}
 use Rattle.base.specs.Registers.{pcc_register}
 use Rattle.cap_bounds.specs.CapValue.{CapValue, value_address}
 use Rattle.cap_checks.specs.declared.access.Access.{Access}

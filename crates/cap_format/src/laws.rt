@@ -1,8 +1,29 @@
-//! Laws of the word's definitions. The functions do nothing: each promises one law.
+//! Laws of the word's definitions, and what its constants are. A function without a result does nothing: it promises one law.
 
-ghost use Rattle.std.specs.Prelude.{◌≡◌, ℕ, ◌+◌, ◌^◌, ◌<◌, ◌≤◌, ◌⊎◌, List, length, slice_index};
+ghost use Rattle.std.specs.Prelude.{◌≡◌, ℕ, ◌+◌, ◌^◌, ◌<◌, ◌≤◌, ◌⊎◌, false, List, length, slice_index};
 ghost use Rattle.base.specs.Bits.{field};
-ghost use Rattle.cap_format.specs.Word.{with_field, memory_bytes, word_of_memory};
+ghost use Rattle.base.specs.ObjectType.{unsealed_type};
+ghost use Rattle.cap_format.specs.Word.{address_of, otype_of, flag_of, perms_of, with_field, null_word, memory_bytes, word_of_memory};
+
+use crate::word::CapWord;
+
+/// Null: no permission, no seal, the flag clear, and address 0.
+pub fn null() -> CapWord
+    ensures word { result ≡ null_word }
+    ensures perms { perms_of result ≡ 0 }
+    ensures otype { otype_of result ≡ unsealed_type }
+    ensures flag { flag_of result ≡ false }
+    ensures address { address_of result ≡ 0 }
+{
+    CapWord::NULL
+}
+
+/// Root: null with all sixteen permissions.
+pub fn root() -> CapWord
+    ensures { result ≡ with_field null_word 112 16 0xffff }
+{
+    CapWord::ROOT
+}
 
 /// A word that goes to memory comes back.
 pub fn word_to_memory_and_back()

@@ -5,6 +5,3 @@ pub mod laws;
 mod word;
 
 pub use word::CapWord;
-
-#[cfg(test)]
-mod tests;

@@ -7,20 +7,16 @@ use Rattle.std.proofs.lemmas.Nat.{and_comm, and_assoc, mod_below, pow_pos}
 use Rattle.std.proofs.lemmas.Bool.{cond_both, and_parts, and_from, leb-true, le-leb, eqb-true, eq-eqb}
 use Rattle.base.specs.ObjectType.{unsealed_type, sentry_type}
 use Rattle.cap_bounds.specs.CapValue.{CapValue, Cap, Data, IsSound, is_tagged, word_of, value_address, value_perms}
-use Rattle.cap_bounds.specs.RecordLaws.{encoded-well_formed}
+use Rattle.cap_bounds.specs.SoundLaws.{value_perms-below, word_of-below}
 use Rattle.cap_rights.specs.declared.permission.Permission.TheVariants.{Global}
 use Rattle.cap_rights.specs.Permission.{permits}
 use Rattle.cap_rights.specs.Opened.{with_type, opened}
 use Rattle.cap_rights.specs.Derivations.{tagged_if, with_perms, with_flag, and_perms, set_flags, seal, unsealed_perms, unseal, seal_entry}
 use Rattle.cap_rights.specs.Derivations.{is_within, subset}
 use Rattle.cap_rights.specs.Within.{IsWithin, IsWithinIfTagged}
-use Rattle.cap_rights.specs.FieldLaws.{IsSound-with_type, IsSound-with_perms, IsSound-with_flag, value_perms-below, masked_perms-below}
+use Rattle.cap_rights.specs.FieldLaws.{IsSound-with_type, IsSound-with_perms, IsSound-with_flag, masked_perms-below}
 
 -- ---- soundness
-
-word_of-below : (v : CapValue) → IsSound v → word_of v < 2 ^ 128
-word_of-below (Cap r) sound = (encoded-well_formed r sound).0
-word_of-below (Data n) sound = sound
 
 pub IsSound-tagged_if : (may : Bool) (v : CapValue) → IsSound v → IsSound (tagged_if may v)
 IsSound-tagged_if true v sound = sound

@@ -4,10 +4,11 @@ use Rattle.std.specs.Prelude.{bit_and}
 use Rattle.std.proofs.lemmas.Nat.{and_le_l}
 use Rattle.base.specs.Bits.{bit}
 use Rattle.cap_format.specs.Word.{with_field}
-use Rattle.cap_bounds.specs.CapValue.{CapValue, Cap, Data, IsSound, is_tagged, word_of, value_of, value_perms, value_otype}
+use Rattle.cap_bounds.specs.CapValue.{CapValue, Cap, Data, IsSound, is_tagged, word_of, value_of, value_perms}
 use Rattle.cap_bounds.specs.Record.{IsWordWellFormed, decoded}
 use Rattle.cap_bounds.specs.RecordLaws.{decoded-encoded, encoded-well_formed}
 use Rattle.cap_bounds.specs.FieldLaws.{perms-encoded, flag-encoded, IsWellFormed-perms, IsWellFormed-flag, IsWellFormed-otype}
+use Rattle.cap_bounds.specs.SoundLaws.{value_perms-below}
 use Rattle.cap_bounds.specs.WordLaws.{bit-small}
 use Rattle.cap_rights.specs.Opened.{with_type}
 use Rattle.cap_rights.specs.Derivations.{with_perms, with_flag}
@@ -52,16 +53,8 @@ pub IsSound-with_flag : (v : CapValue) (flag : Bool) → IsSound v → IsSound (
 IsSound-with_flag (Cap r) flag sound = IsWellFormed-flag r sound flag
 IsSound-with_flag (Data n) flag sound = omega (arith, bit-small flag)
 
--- ---- a sound value's fields are in range
+-- ---- a field in range
 
-pub value_otype-below : (v : CapValue) → IsSound v → value_otype v < 2 ^ 18
-value_otype-below (Cap r) sound = sound.otype_fits
-value_otype-below (Data n) sound = omega arith
-
-pub value_perms-below : (v : CapValue) → IsSound v → value_perms v < 2 ^ 16
-value_perms-below (Cap r) sound = sound.perms_fit
-value_perms-below (Data n) sound = omega arith
-
--- and so are its permissions with a mask
+-- the permissions with a mask
 pub masked_perms-below : (v : CapValue) (mask : ℕ) → IsSound v → bit_and (value_perms v) mask < 2 ^ 16
 masked_perms-below v mask sound = omega (arith, and_le_l (value_perms v) mask, value_perms-below v sound)

@@ -3,7 +3,7 @@ use Rattle.std.proofs.Common.{◌≡◌, ℕ, ◌+◌, ◌^◌, ◌<◌, ◌≤�
 use Rattle.std.proofs.Common.{sym, ap, subst, ◌∙◌, append_assoc, arith}
 use Rattle.std.specs.Prelude.{nat_eq}
 use Rattle.std.specs.List.{flat_map, starts_with}
-use Rattle.std.proofs.lemmas.Bool.{le-ltb, eq-eqb}
+use Rattle.std.proofs.lemmas.Bool.{le-ltb, le-leb, eq-eqb}
 use Rattle.std.proofs.lemmas.List.{take_at, drop_at, length-append, append-nil}
 use Rattle.byteorder.specs.Numbers.{little_number-reads_back}
 use Rattle.base.specs.Ram.{most_pages}
@@ -13,7 +13,7 @@ use Rattle.image.specs.declared.parts.Span.{Span}
 use Rattle.image.specs.Image.{Section, Image, IsImage, image_of, is_good_header, span_fault, sections_fault, mode_number}
 use Rattle.image.specs.Grammar.{magic, number_at, header_bytes, span_bytes, section_bytes, spelling, header_fault, header_of, header_at}
 use Rattle.image.specs.Grammar.{span_at, section_at, sections_at, image_at, reading}
-use Rattle.image.specs.ImageLaws.{no_fault, in_ram, build_parts, header_ranges, few_sections}
+use Rattle.image.specs.ImageLaws.{no_fault_cons, in_ram, build_parts, header_ranges, few_sections}
 
 -- ---- the header
 
@@ -21,7 +21,7 @@ fine : (bytes : List ℕ) → starts_with nat_eq bytes magic ≡ true → number
     → is_good_header (number_at 12 4 bytes) (number_at 16 8 bytes) (number_at 28 4 bytes) ≡ true → number_at 24 4 bytes ≤ 64
     → header_fault bytes ≡ None
 unfolding header_fault
-fine bytes begins version good few = rw (begins, eq-eqb _ _ version, good, le-ltb _ _ few) refl
+fine bytes begins version good few = rw (begins, eq-eqb _ _ version, good, le-leb _ _ few) refl
 
 header_read : (bytes rest : List ℕ) (h : Header) → length bytes ≡ 32 → header_fault bytes ≡ None → header_of bytes ≡ h
     → header_at (bytes ++ rest) ≡ Ok (h, rest)
@@ -92,7 +92,7 @@ sections_again : (pages free : ℕ) (ss : List Section) (rest : List ℕ) → pa
 unfolding sections_at
 sections_again pages free [] rest small none = refl
 sections_again pages free (s ∷ ss) rest small none =
-    let neither = no_fault (span_fault pages free s.address (length s.bytes)) (sections_fault pages (s.address + length s.bytes) ss) none in
+    let neither = no_fault_cons pages free s ss none in
     let first = section_again pages free s (flat_map section_bytes ss ++ rest) small neither.0 in
     let others = sections_again pages (s.address + length s.bytes) ss rest small neither.1 in
     rw (append_assoc (section_bytes s) (flat_map section_bytes ss) rest, first, others) refl

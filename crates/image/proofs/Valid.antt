@@ -1,17 +1,19 @@
 -- What was read of bytes: its numbers stand in them, and it has no fault.
-use Rattle.std.proofs.Common.{◌≡◌, ℕ, zero, suc, ◌+◌, ◌≤◌, Bool, true, false, cond, not, ltb, eqb, List, [], ◌∷◌, length, take, drop}
+use Rattle.std.proofs.Common.{◌≡◌, ℕ, zero, suc, ◌+◌, ◌≤◌, Bool, true, false, cond, ltb, List, [], ◌∷◌, length, take, drop}
 use Rattle.std.proofs.Common.{Option, Some, None, Result, Ok, Err, refl, sym, ap, subst, ◌∙◌, arith}
-use Rattle.std.proofs.lemmas.Bool.{ltb-false, le-ltb, eqb-true}
+use Rattle.std.proofs.lemmas.Bool.{ltb-false, leb-true, le-leb, eqb-true}
 use Rattle.std.proofs.lemmas.List.{length-take-le}
 use Rattle.std.specs.List.{starts_with}
 use Rattle.std.specs.Prelude.{nat_eq}
 use Rattle.image.specs.declared.fault.ImageFault.{ImageFault}
-use Rattle.image.specs.declared.fault.ImageFault.TheVariants.{L1, L2, L3, L4, L5, L8}
+use Rattle.image.specs.declared.fault.ImageFault.TheVariants.{L1, L8}
 use Rattle.image.specs.declared.parts.Header.{Header}
 use Rattle.image.specs.declared.parts.Span.{Span}
 use Rattle.image.specs.Image.{Section, is_good_header, span_fault, sections_fault, build_fault}
+use Rattle.image.specs.ImageLaws.{sections_fault-none}
 use Rattle.base.specs.FirstFault.{unless}
-use Rattle.image.specs.Grammar.{◌>>=◌, magic, number_at, taken, header_fault, header_of, header_at, span_at, section_at}
+use Rattle.base.specs.FirstFaultLaws.{EachHolds, first_fault-none}
+use Rattle.image.specs.Grammar.{◌>>=◌, magic, number_at, taken, header_checks, header_fault, header_of, header_at, span_at, section_at}
 use Rattle.image.specs.Grammar.{sections_at}
 
 -- the value of a step that did not fail
@@ -29,11 +31,6 @@ unless_ok (Some fault) x y e = absurd cc
 pub test_ok : {A : Type 0} (b : Bool) (fault : ImageFault) (x y : A) → cond b (Err fault) (Ok x) ≡ Ok y → (b ≡ false) × (x ≡ y)
 test_ok true fault x y e = absurd cc
 test_ok false fault x y e = (refl, cc)
-
-pub test_none : (b : Bool) (fault : ImageFault) (others : Option ImageFault) → cond b (Some fault) others ≡ None
-    → (b ≡ false) × (others ≡ None)
-test_none true fault others e = absurd cc
-test_none false fault others e = (refl, e)
 
 abbrev done : {A : Type 0} → A → Result A ImageFault
 done x = Ok x
@@ -77,18 +74,11 @@ pub record FineHeader (bytes : List ℕ) : Type 0 where
   pub good : is_good_header (number_at 12 4 bytes) (number_at 16 8 bytes) (number_at 28 4 bytes) ≡ true
   pub few : number_at 24 4 bytes ≤ 64
 
-positive : (b : Bool) → not b ≡ false → b ≡ true
-positive true e = refl
-positive false e = absurd cc
-
 pub fine_header : (bytes : List ℕ) → header_fault bytes ≡ None → FineHeader bytes
 unfolding header_fault
 fine_header bytes e =
-    let a = test_none (not (starts_with nat_eq bytes magic)) L2 _ e in
-    let b = test_none (not (eqb (number_at 8 4 bytes) 1)) L3 _ a.1 in
-    let c = test_none (not (is_good_header (number_at 12 4 bytes) (number_at 16 8 bytes) (number_at 28 4 bytes))) L4 _ b.1 in
-    let d = test_none (ltb 64 (number_at 24 4 bytes)) L5 None c.1 in
-    record { begins = positive _ a.0; version = eqb-true _ _ (positive _ b.0); good = positive _ c.0; few = ltb-false _ _ d.0 }
+    let all : EachHolds (header_checks bytes) = first_fault-none (header_checks bytes) e in
+    record { begins = all.0; version = eqb-true _ _ all.1.0; good = all.1.1.0; few = leb-true _ _ all.1.1.1.0 }
 
 -- ---- a section
 
@@ -176,7 +166,7 @@ sections_ok pages (suc n) free bytes ss rest e =
     let more = sections_ok pages n (s.address + length s.bytes) a.0.1 b.0.0 b.0.1 b.1 in
     let p : (s ∷ b.0.0, b.0.1) ≡ (ss, rest) = ok_is (s ∷ b.0.0, b.0.1) (ss, rest) b.2 in
     subst (λ (q : List Section × List ℕ). ReadSections pages (suc n) free q.0) p
-    (record { fine = rw one.fine more.fine; count = ap suc more.count })
+    (record { fine = sections_fault-none pages free s b.0.0 one.fine more.fine; count = ap suc more.count })
 
 -- header and sections that were read have no fault
 pub no_fault_read : (front : List ℕ) (h : Header) (ss : List Section) → FineHeader front → header_of front ≡ h
@@ -186,7 +176,7 @@ no_fault_read front h ss fine said read =
     let good : is_good_header h.pages h.entry h.mode ≡ true =
     subst (λ (q : Header). is_good_header q.pages q.entry q.mode ≡ true) said fine.good in
     let few : h.count ≤ 64 = subst (λ (q : Header). q.count ≤ 64) said fine.few in
-    rw (good, le-ltb 64 (length ss) (omega (arith, few, read.count))) read.fine
+    rw (good, le-leb (length ss) 64 (omega (arith, few, read.count))) read.fine
 
 pub no_fault_front : (bytes here rest after : List ℕ) (h : Header) (ss : List Section) → header_at bytes ≡ Ok (h, rest)
     → sections_at h.pages h.count 0 here ≡ Ok (ss, after) → build_fault h.pages h.entry h.mode ss ≡ None

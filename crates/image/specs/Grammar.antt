@@ -1,9 +1,9 @@
 -- Images as bytes, version 1. All numbers are little-endian.
-use Rattle.std.specs.Prelude.{◌≡◌, ◌<◌, ℕ, zero, suc, ◌+◌, not, ◌==◌, nat_eq, nat_lt, if◌then◌else◌, List, [], ◌∷◌, ◌++◌, length}
-use Rattle.std.specs.Prelude.{slice_index, take, drop, Option, Some, None, Result, Ok, Err, codes}
+use Rattle.std.specs.Prelude.{◌≡◌, ◌<◌, ℕ, zero, suc, ◌+◌, Bool, ◌==◌, nat_eq, nat_lt, nat_le, if◌then◌else◌, List, [], ◌∷◌}
+use Rattle.std.specs.Prelude.{◌++◌, length, slice_index, take, drop, Option, Result, Ok, Err, codes}
 use Rattle.std.specs.List.{flat_map, starts_with}
 use Rattle.byteorder.specs.Endian.{little_bytes, little_number}
-use Rattle.base.specs.FirstFault.{unless}
+use Rattle.base.specs.FirstFault.{first_fault, unless}
 use Rattle.image.specs.declared.fault.ImageFault.{ImageFault}
 use Rattle.image.specs.declared.fault.ImageFault.TheVariants.{L1, L2, L3, L4, L5, L8, L9}
 use Rattle.image.specs.declared.parts.Header.{Header}
@@ -54,13 +54,17 @@ number_at place size bytes = little_number size (take size (drop place bytes))
 abbrev pub taken : ℕ → ImageFault → List ℕ → Result (List ℕ × List ℕ) ImageFault
 taken size cut_short bytes = if nat_lt (length bytes) size then Err cut_short else Ok (take size bytes, drop size bytes)
 
--- the first fault of the 32 bytes of a header
+-- the 32 bytes of a header: the magic, the version, pages with entry and mode, the count of sections
+abbrev pub header_checks : List ℕ → List (Bool × ImageFault)
+header_checks bytes =
+    (starts_with nat_eq bytes magic, L2)
+    ∷ (number_at 8 4 bytes == 1, L3)
+    ∷ (is_good_header (number_at 12 4 bytes) (number_at 16 8 bytes) (number_at 28 4 bytes), L4)
+    ∷ (nat_le (number_at 24 4 bytes) 64, L5)
+    ∷ []
+
 unfoldable pub header_fault : List ℕ → Option ImageFault
-header_fault bytes =
-    if not (starts_with nat_eq bytes magic) then Some L2
-    else (if not (number_at 8 4 bytes == 1) then Some L3
-    else (if not (is_good_header (number_at 12 4 bytes) (number_at 16 8 bytes) (number_at 28 4 bytes)) then Some L4
-    else (if nat_lt 64 (number_at 24 4 bytes) then Some L5 else None)))
+header_fault bytes = first_fault (header_checks bytes)
 
 abbrev pub header_of : List ℕ → Header
 header_of bytes =

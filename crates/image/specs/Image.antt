@@ -1,8 +1,8 @@
 -- Images: what a machine begins with.
-use Rattle.std.specs.Prelude.{◌≡◌, ℕ, ◌+◌, ◌*◌, ◌%◌, Bool, not, ◌&&◌, ◌||◌, ◌==◌, nat_lt, nat_le, if◌then◌else◌, List, [], ◌∷◌, length, map}
+use Rattle.std.specs.Prelude.{◌≡◌, ℕ, ◌+◌, ◌%◌, Bool, ◌&&◌, ◌==◌, nat_le, if◌then◌else◌, List, [], ◌∷◌, ◌++◌, length, map}
 use Rattle.std.specs.Prelude.{Option, Some, None, Result, Ok, Err}
-use Rattle.std.specs.Option.{option_or}
 use Rattle.std.specs.Borrow.{Bor}
+use Rattle.base.specs.FirstFault.{first_fault}
 use Rattle.base.specs.Ram.{ram_base, ram_end, most_pages}
 use Rattle.image.specs.declared.fault.ImageFault.{ImageFault}
 use Rattle.image.specs.declared.fault.ImageFault.TheVariants.{L4, L5, L6, L7, L11}
@@ -26,24 +26,34 @@ is_good_header pages entry mode =
     && ((entry % 4 == 0) && (nat_le ram_base entry && nat_le (entry + 4) (ram_end pages)))
     && nat_le mode 1
 
--- The fault of a section at this address with so many bytes, where the one before it ended at `free`: outside RAM, or not
--- behind the one before.
+-- A section at this address with so many bytes, where the one before it ended at `free`: it lies in RAM, and behind the one before.
+abbrev pub span_checks : ℕ → ℕ → ℕ → ℕ → List (Bool × ImageFault)
+span_checks pages free address size =
+    (nat_le ram_base address && nat_le (address + size) (ram_end pages), L6)
+    ∷ (nat_le free address, L7)
+    ∷ []
+
 unfoldable pub span_fault : ℕ → ℕ → ℕ → ℕ → Option ImageFault
-span_fault pages free address size =
-    if nat_lt address ram_base || nat_lt (ram_end pages) (address + size) then Some L6
-    else (if nat_lt address free then Some L7 else None)
+span_fault pages free address size = first_fault (span_checks pages free address size)
 
--- The first fault of sections, of which the one before ended at `free`.
+-- Sections, of which the one before ended at `free`, one after the other.
+abbrev pub sections_checks : ℕ → ℕ → List Section → List (Bool × ImageFault)
+sections_checks pages free [] = []
+sections_checks pages free (s ∷ ss) =
+    span_checks pages free s.address (length s.bytes) ++ sections_checks pages (s.address + length s.bytes) ss
+
 abbrev pub sections_fault : ℕ → ℕ → List Section → Option ImageFault
-sections_fault pages free [] = None
-sections_fault pages free (s ∷ ss) =
-    option_or (span_fault pages free s.address (length s.bytes)) (sections_fault pages (s.address + length s.bytes) ss)
+sections_fault pages free sections = first_fault (sections_checks pages free sections)
 
--- The first fault of what an image is to be made of: its header, more than 64 sections, its sections in order.
+-- What an image is to be made of: its header, its number of sections, its sections in order.
+abbrev pub build_checks : ℕ → ℕ → ℕ → List Section → List (Bool × ImageFault)
+build_checks pages entry mode sections =
+    (is_good_header pages entry mode, L4)
+    ∷ (nat_le (length sections) 64, L5)
+    ∷ sections_checks pages 0 sections
+
 unfoldable pub build_fault : ℕ → ℕ → ℕ → List Section → Option ImageFault
-build_fault pages entry mode sections =
-    if not (is_good_header pages entry mode) then Some L4
-    else (if nat_lt 64 (length sections) then Some L5 else sections_fault pages 0 sections)
+build_fault pages entry mode sections = first_fault (build_checks pages entry mode sections)
 
 -- the mode's number
 abbrev pub mode_number : Bool → ℕ

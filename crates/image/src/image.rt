@@ -36,9 +36,10 @@ fn ram_end_of(pages: u32) -> u64
     ram::BASE + ram::PAGE_BYTES * u64::from(pages)
 }
 
-/// Whether pages, entry and mode are good.
+/// Whether an image can have this header: 1 to 4096 `pages` of 4096 bytes of RAM, an `entry` (the address of the first
+/// instruction) that is a multiple of 4 with four bytes in them, and a `mode` of 0 (integer mode) or 1 (capability mode).
 #[tactic(auto, unfolding(crate::specs::Image::is_good_header))]
-pub(crate) fn is_good(pages: u32, entry: u64, mode: u32) -> bool
+pub fn is_good_header(pages: u32, entry: u64, mode: u32) -> bool
     ensures { result ≡ is_good_header pages entry mode }
 {
     let end = ram_end_of(pages);
@@ -67,6 +68,7 @@ pub(crate) fn fault_of_span(pages: u32, free: u64, address: u64, size: u64) -> O
 }
 
 /// The first fault of sections that nothing stands before.
+#[tactic(auto, unfolding(crate::specs::Image::span_fault))]
 fn fault_of_sections(pages: u32, sections: &[(u64, &[u8])]) -> Option<ImageFault>
     ensures { result ≡ sections_fault pages 0 (lent_sections sections.now) }
 {
@@ -122,7 +124,7 @@ impl Image {
         ensures { Builds (build_fault pages entry mode (lent_sections sections.now))
             (image_of pages entry mode (lent_sections sections.now)) result }
     {
-        if !is_good(pages, entry, mode) {
+        if !is_good_header(pages, entry, mode) {
             return Err(ImageFault::L4);
         }
         if sections.len() > 64 {

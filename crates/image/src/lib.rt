@@ -15,7 +15,7 @@ mod writing;
 pub use devices::{DeviceFailed, Sink, Source, write_all};
 pub use fault::ImageFault;
 pub use from_read::FromRead;
-pub use image::Image;
+pub use image::{Image, is_good_header};
 pub use reading::read;
 pub use section::Section;
 pub use to_write::ToWrite;

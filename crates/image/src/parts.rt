@@ -8,7 +8,7 @@ ghost use Rattle.image.specs.Grammar.{number_at, header_fault, header_of};
 ghost use Rattle.image.specs.Reads.{IsOfBytes};
 
 use crate::fault::ImageFault;
-use crate::image::{fault_of_span, is_good};
+use crate::image::{fault_of_span, is_good_header};
 use byteorder::{ByteOrder, LittleEndian};
 
 /// The first bytes of an image file.
@@ -46,7 +46,7 @@ pub fn header_in(bytes: &[u8; 32]) -> Result<Header, ImageFault>
         Err(ImageFault::L2)
     } else if LittleEndian::read_u32(&bytes[8..12]) != 1 {
         Err(ImageFault::L3)
-    } else if !is_good(header.pages, header.entry, header.mode) {
+    } else if !is_good_header(header.pages, header.entry, header.mode) {
         Err(ImageFault::L4)
     } else if header.count > 64 {
         Err(ImageFault::L5)

@@ -14,7 +14,7 @@ use Rattle.base.specs.Bits.{field}
 use Rattle.isa_rows.specs.Insn.{sign_extended, insn_at}
 use Rattle.isa_rows.specs.Decoded.{is_row, insn_of}
 
--- the source registers exist, and the immediate has 64 bits
+-- the registers exist, the one that is written among them, and the immediate has 64 bits
 pub record AreInRange (insn : Insn) : Type 0 where
   pub rd : insn.rd < 32
   pub rs1 : insn.rs1 < 32

@@ -1,14 +1,10 @@
 -- The parts of what a word and a tag mean are those of the word.
-use Rattle.std.proofs.Common.{◌≡◌, ℕ, ◌^◌, ◌<◌, Bool, true, false, IsTrue, refl}
+use Rattle.std.proofs.Common.{◌≡◌, ℕ, Bool, true, false, IsTrue, refl}
 use Rattle.cap_format.specs.Word.{address_of, perms_of, flag_of, otype_of}
 use Rattle.cap_bounds.specs.Window.{base_of_word, top_of_word}
 use Rattle.cap_bounds.specs.Record.{IsWordWellFormed, decoded}
-use Rattle.cap_bounds.specs.CapValue.{IsSound, value_of, word_of, is_tagged, value_base, value_top, value_address, value_perms, value_flag}
+use Rattle.cap_bounds.specs.CapValue.{value_of, word_of, is_tagged, value_base, value_top, value_address, value_perms, value_flag}
 use Rattle.cap_bounds.specs.CapValue.{value_otype}
-
-pub IsSound-value_of : (word : ℕ) (tag : Bool) → word < 2 ^ 128 → (IsTrue tag → IsWordWellFormed word) → IsSound (value_of word tag)
-IsSound-value_of word true fits well = (well refl).decodes
-IsSound-value_of word false fits well = fits
 
 pub is_tagged-value_of : (word : ℕ) (tag : Bool) → is_tagged (value_of word tag) ≡ tag
 is_tagged-value_of word true = refl

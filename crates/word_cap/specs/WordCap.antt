@@ -1,7 +1,7 @@
 -- What a word and a tag that are kept together stand for.
 use Rattle.cap_bounds.specs.CapValue.{CapValue, IsSound, value_of}
+use Rattle.cap_bounds.specs.SoundLaws.{IsSound-value_of}
 use Rattle.word_cap.specs.declared.word_cap.WordCap.{WordCap}
-use Rattle.word_cap.specs.ValueLaws.{IsSound-value_of}
 
 abbrev pub word_value : WordCap → CapValue
 word_value c = value_of c.word c.tag
