@@ -162,7 +162,8 @@ pattern-fits p ps k e =
 
 -- where a fault leaves a statement, there is none or it is the first
 unless-fits : (s : Statement) (fault : Option LineFault)
-    → ((i : Insn) (target : Option Expression) → s ≡ instruction (row i target) → fault ≡ None → FitsAt i target) → SaidFits (said_unless s fault)
+    → ((i : Insn) (target : Option Expression) → s ≡ instruction (row i target) → fault ≡ None → FitsAt i target)
+    → SaidFits (said_unless s fault)
 unless-fits s None f i target e h = f i target (cc) h
 unless-fits s (Some fault) f i target e h = cc
 
@@ -225,12 +226,17 @@ said-fits word operands =
     let number = number_of operands in
     one-fits (is_word word (codes "la")) (load_said false (pieces_of operands)) _ (load-fits false (pieces_of operands)) (
     one-fits (is_word word (codes "cla")) (load_said true (pieces_of operands)) _ (load-fits true (pieces_of operands)) (
-    one-fits (is_word word (codes ".pages")) (pages_said number) _ (number-fits (λ n. setting (pages n)) (Some (setting (pages 0))) (page_range number) (λ n i t q. cc)) (
-    one-fits (is_word word (codes ".mode")) (mode_said number) _ (number-fits (λ n. setting (mode (n == 1))) (Some (setting (mode false))) (up_to 1 number) (λ n i t q. cc)) (
+    one-fits (is_word word (codes ".pages")) (pages_said number) _
+    (number-fits (λ n. setting (pages n)) (Some (setting (pages 0))) (page_range number) (λ n i t q. cc)) (
+    one-fits (is_word word (codes ".mode")) (mode_said number) _
+    (number-fits (λ n. setting (mode (n == 1))) (Some (setting (mode false))) (up_to 1 number) (λ n i t q. cc)) (
     one-fits (is_word word (codes ".entry")) (entry_said (expression_of operands)) _ (entry-fits (expression_of operands)) (
-    one-fits (is_word word (codes ".org")) (origin_said number) _ (number-fits origin None (up_to (2 ^ 64 - 1) number) (λ n i t q. cc)) (
-    one-fits (is_word word (codes ".align")) (align_said number) _ (number-fits (λ n. contents (align n)) None (up_to 12 number) (λ n i t q. cc)) (
-    one-fits (is_word word (codes ".zero")) (zeros_said number) _ (number-fits (λ n. contents (zeros n)) None (up_to 268435456 number) (λ n i t q. cc)) (
+    one-fits (is_word word (codes ".org")) (origin_said number) _
+    (number-fits origin None (up_to (2 ^ 64 - 1) number) (λ n i t q. cc)) (
+    one-fits (is_word word (codes ".align")) (align_said number) _
+    (number-fits (λ n. contents (align n)) None (up_to 12 number) (λ n i t q. cc)) (
+    one-fits (is_word word (codes ".zero")) (zeros_said number) _
+    (number-fits (λ n. contents (zeros n)) None (up_to 268435456 number) (λ n i t q. cc)) (
     one-fits (is_word word (codes ".byte")) (values_said 1 operands) _ (values-fits 1 operands) (
     one-fits (is_word word (codes ".half")) (values_said 2 operands) _ (values-fits 2 operands) (
     one-fits (is_word word (codes ".word")) (values_said 4 operands) _ (values-fits 4 operands) (

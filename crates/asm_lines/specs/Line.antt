@@ -1,7 +1,7 @@
 -- What one line of a text says: a label, a statement, and the first fault that the line alone decides.
 use Rattle.base.specs.Ram.{most_pages}
-use Rattle.std.specs.Prelude.{◌≡◌, ℕ, true, nat_lt, if◌then◌else◌, List, [], ◌∷◌, length, not, Option, Some, None, option_map, Result, Ok, Err, ℤ}
-use Rattle.std.specs.Prelude.{pos, neg_ℤ, ◌<ℤ◌, ◌<◌, ◌≤◌, ◌^◌}
+use Rattle.std.specs.Prelude.{◌≡◌, ℕ, true, nat_lt, if◌then◌else◌, List, [], ◌∷◌, length, not, Option, Some, None, option_map, Result, Ok}
+use Rattle.std.specs.Prelude.{Err, ℤ, pos, neg_ℤ, ◌<ℤ◌, ◌<◌, ◌≤◌, ◌^◌}
 use Rattle.std.specs.List.{prefix_len}
 use Rattle.isa_rows.specs.declared.formats.Format.{Format}
 use Rattle.isa_rows.specs.declared.formats.Format.TheVariants.{Branch}
@@ -23,8 +23,8 @@ use Rattle.asm_lines.specs.declared.parsed.Data.TheVariants.{Align, Zero, Values
 use Rattle.asm_lines.specs.declared.parsed.Expression.{Expression as Written}
 use Rattle.asm_lines.specs.Text.{is_foreign, trimmed, uncommented, label_of, statement_text, mnemonic_of, operands_of}
 use Rattle.asm_lines.specs.Number.{Expression, expression}
-use Rattle.asm_lines.specs.Statement.{Statement, instruction, setting, origin, contents, Instruction, row, load, Setting, pages, mode, entry}
-use Rattle.asm_lines.specs.Statement.{Data, align, zeros, values, text, is_size, Said, said, said_by}
+use Rattle.asm_lines.specs.Statement.{Statement, instruction, setting, origin, contents, Instruction, row, load, Setting, pages, mode}
+use Rattle.asm_lines.specs.Statement.{entry, Data, align, zeros, values, text, is_size, Said, said, said_by}
 
 pub record Line : Type 0 where
   pub label : Option (List ℕ)
