@@ -12,7 +12,7 @@ use Rattle.assembler.specs.declared.fault.AsmCode.TheVariants.{A1, A2, A3, A4, A
 use Rattle.assembler.specs.Places.{Symbols}
 use Rattle.assembler.specs.Values.{has_value_beyond, has_unknown_name, is_out_of_reach}
 use Rattle.assembler.specs.Checks.{named_fault}
-use Rattle.assembler.specs.Faults.{Assembled, page_count, lacks_place_for, is_repeated, is_statement_misplaced, line_checks, line_fault}
+use Rattle.assembler.specs.Faults.{Assembled, page_count, lacks_place_for, is_repeated, is_statement_misplaced, line_fault}
 
 -- the first fault of a statement that stands in the text, whose line alone has none: of what it names, then of its place
 unfoldable pub statement_fault : Symbols → Assembled → Statement → Option AsmCode
