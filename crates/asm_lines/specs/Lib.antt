@@ -5,6 +5,3 @@ pub mod Operand
 pub mod Statement
 pub mod Line
 pub mod Seen
-pub mod SlotLaws
-pub mod FormatLaws
-pub mod FitLaws

@@ -1,7 +1,7 @@
 -- What one line of a text says: a label, a statement, and the first fault that the line alone decides.
 use Rattle.base.specs.Ram.{most_pages}
-use Rattle.std.specs.Prelude.{◌≡◌, ℕ, nat_lt, if◌then◌else◌, List, [], ◌∷◌, length, not, Option, Some, None, option_map, Result, Ok, Err, ℤ}
-use Rattle.std.specs.Prelude.{pos, neg_ℤ, ◌<ℤ◌, ◌<◌, ◌≤◌, ◌^◌}
+use Rattle.std.specs.Prelude.{◌≡◌, ℕ, true, nat_lt, if◌then◌else◌, List, [], ◌∷◌, length, not, Option, Some, None, option_map, Result, Ok}
+use Rattle.std.specs.Prelude.{Err, ℤ, pos, neg_ℤ, ◌<ℤ◌, ◌<◌, ◌≤◌, ◌^◌}
 use Rattle.std.specs.List.{prefix_len}
 use Rattle.isa_rows.specs.declared.formats.Format.{Format}
 use Rattle.isa_rows.specs.declared.formats.Format.TheVariants.{Branch}
@@ -13,12 +13,18 @@ use Rattle.asm_lines.specs.declared.fault.LineFault.{LineFault}
 use Rattle.asm_lines.specs.declared.fault.LineFault.TheVariants.{A8, A9}
 use Rattle.asm_lines.specs.declared.parsed.Parsed.{Parsed}
 use Rattle.asm_lines.specs.declared.parsed.Statement.{Statement as Read}
-use Rattle.asm_lines.specs.declared.parsed.Statement.TheVariants.{Row, Load, Pages, Mode, Entry, Org, Align, Zero, Values, Text}
+use Rattle.asm_lines.specs.declared.parsed.Statement.TheVariants as read
+use Rattle.asm_lines.specs.declared.parsed.Instruction.{Instruction as ReadInstruction}
+use Rattle.asm_lines.specs.declared.parsed.Instruction.TheVariants.{Row, Load}
+use Rattle.asm_lines.specs.declared.parsed.Setting.{Setting as ReadSetting}
+use Rattle.asm_lines.specs.declared.parsed.Setting.TheVariants.{Pages, Mode, Entry}
+use Rattle.asm_lines.specs.declared.parsed.Data.{Data as ReadData}
+use Rattle.asm_lines.specs.declared.parsed.Data.TheVariants.{Align, Zero, Values, Text}
 use Rattle.asm_lines.specs.declared.parsed.Expression.{Expression as Written}
 use Rattle.asm_lines.specs.Text.{is_foreign, trimmed, uncommented, label_of, statement_text, mnemonic_of, operands_of}
 use Rattle.asm_lines.specs.Number.{Expression, expression}
-use Rattle.asm_lines.specs.Statement.{IsSize, Statement, row, load, pages, mode, entry, org, align, zeros, values, text, Said, said}
-use Rattle.asm_lines.specs.Statement.{said_by}
+use Rattle.asm_lines.specs.Statement.{Statement, instruction, setting, origin, contents, Instruction, row, load, Setting, pages, mode}
+use Rattle.asm_lines.specs.Statement.{entry, Data, align, zeros, values, text, is_size, Said, said, said_by}
 
 pub record Line : Type 0 where
   pub label : Option (List ℕ)
@@ -53,7 +59,7 @@ FitsAt i None = Fits i
 FitsAt i (Some e) = (distance : ℕ) → IsTargetOffset (line_of i.row).format distance → Fits (record i { imm = distance })
 
 abbrev pub RowFits : Line → Type 0
-RowFits l = (i : Insn) (target : Option Expression) → l.statement ≡ Some (row i target) → l.fault ≡ None → FitsAt i target
+RowFits l = (i : Insn) (target : Option Expression) → l.statement ≡ Some (instruction (row i target)) → l.fault ≡ None → FitsAt i target
 
 -- what the parser's answer, whose texts are lent, says
 abbrev pub seen_expression : Written → Expression
@@ -75,33 +81,51 @@ HasTargetOffset (Some e) = HasOffset e
 HasTargetOffset None = Unit {0}
 
 -- what the numbers of a statement lie between
+abbrev pub IsInstructionBounded : ReadInstruction → Type 0
+IsInstructionBounded (Row i target) = HasTargetOffset target
+IsInstructionBounded (Load capability rd value) = (rd < 32) × HasOffset value
+
+abbrev pub IsSettingBounded : ReadSetting → Type 0
+IsSettingBounded (Pages n) = n ≤ most_pages
+IsSettingBounded (Mode m) = Unit {0}
+IsSettingBounded (Entry e) = HasOffset e
+
+abbrev pub IsDataBounded : ReadData → Type 0
+IsDataBounded (Align n) = n ≤ 12
+IsDataBounded (Zero n) = n ≤ 268435456
+IsDataBounded (Values size operands) = is_size size ≡ true
+IsDataBounded (Text between) = Unit {0}
+
 abbrev pub IsBounded : Read → Type 0
-IsBounded (Row i target) = HasTargetOffset target
-IsBounded (Load capability rd value) = (rd < 32) × HasOffset value
-IsBounded (Pages n) = n ≤ most_pages
-IsBounded (Mode m) = Unit {0}
-IsBounded (Entry e) = HasOffset e
-IsBounded (Org n) = Unit {0}
-IsBounded (Align n) = n ≤ 12
-IsBounded (Zero n) = n ≤ 268435456
-IsBounded (Values size operands) = IsSize size
-IsBounded (Text between) = Unit {0}
+IsBounded (read.Instruction i) = IsInstructionBounded i
+IsBounded (read.Setting s) = IsSettingBounded s
+IsBounded (read.Origin n) = Unit {0}
+IsBounded (read.Data d) = IsDataBounded d
 
 abbrev pub IsBoundedIfAny : Option Read → Type 0
 IsBoundedIfAny (Some s) = IsBounded s
 IsBoundedIfAny None = Unit {0}
 
+abbrev pub seen_instruction : ReadInstruction → Instruction
+seen_instruction (Row i target) = row i (option_map seen_expression target)
+seen_instruction (Load capability rd value) = load capability rd (seen_expression value)
+
+abbrev pub seen_setting : ReadSetting → Setting
+seen_setting (Pages n) = pages n
+seen_setting (Mode m) = mode m
+seen_setting (Entry e) = entry (seen_expression e)
+
+abbrev pub seen_data : ReadData → Data
+seen_data (Align n) = align n
+seen_data (Zero n) = zeros n
+seen_data (Values size operands) = values size operands.now
+seen_data (Text between) = text between.now
+
 abbrev pub seen_statement : Read → Statement
-seen_statement (Row i target) = row i (option_map seen_expression target)
-seen_statement (Load capability rd value) = load capability rd (seen_expression value)
-seen_statement (Pages n) = pages n
-seen_statement (Mode m) = mode m
-seen_statement (Entry e) = entry (seen_expression e)
-seen_statement (Org n) = org n
-seen_statement (Align n) = align n
-seen_statement (Zero n) = zeros n
-seen_statement (Values size operands) = values size operands.now
-seen_statement (Text between) = text between.now
+seen_statement (read.Instruction i) = instruction (seen_instruction i)
+seen_statement (read.Setting s) = setting (seen_setting s)
+seen_statement (read.Origin n) = origin n
+seen_statement (read.Data d) = contents (seen_data d)
 
 abbrev pub seen_line : Parsed → Line
 seen_line p = record { label = option_map (λ name. name.now) p.label; statement = option_map seen_statement p.statement; fault = p.fault }

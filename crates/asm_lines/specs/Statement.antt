@@ -1,6 +1,6 @@
 -- Statements: rows and their aliases, the two-row loads of a value, directives.
 use Rattle.base.specs.Ram.{most_pages}
-use Rattle.std.specs.Prelude.{◌≡◌, ◌⊎◌, ℕ, ◌*◌, ◌-◌, ◌^◌, Bool, true, false, not, ◌&&◌, ◌||◌, ◌==◌, nat_eq, if◌then◌else◌, ℤ, pos, neg_ℤ}
+use Rattle.std.specs.Prelude.{ℕ, ◌*◌, ◌-◌, ◌^◌, Bool, true, false, not, ◌&&◌, ◌||◌, ◌==◌, nat_eq, if◌then◌else◌, ℤ, pos, neg_ℤ}
 use Rattle.std.specs.Prelude.{int_lt, List, [], ◌∷◌, length, take, drop, slice_index, Option, Some, None, Result, Ok, Err, codes}
 use Rattle.std.specs.Cmp.Lexicographic.{pointwise}
 use Rattle.isa_rows.specs.declared.rows.Row.{Row}
@@ -19,21 +19,34 @@ use Rattle.asm_lines.specs.Text.{pieces_of}
 use Rattle.asm_lines.specs.Number.{Expression, expression, number_of, expression_of}
 use Rattle.asm_lines.specs.Operand.{Draft, up_to, wrapped, told_fault, fault_of, filled_draft, filled_fault}
 
-pub data Statement : Type 0 where
+-- what places instructions
+pub data Instruction : Type 0 where
   -- one instruction; the address that it jumps to, where it is written with one
-  row : Insn → Option Expression → Statement
+  row : Insn → Option Expression → Instruction
   -- la, or cla for a capability: two instructions that put a value into a register
-  load : Bool → ℕ → Expression → Statement
-  pages : ℕ → Statement
-  mode : Bool → Statement
-  entry : Expression → Statement
-  org : ℕ → Statement
-  align : ℕ → Statement
-  zeros : ℕ → Statement
+  load : Bool → ℕ → Expression → Instruction
+
+-- what is set for the whole image, once
+pub data Setting : Type 0 where
+  pages : ℕ → Setting
+  mode : Bool → Setting
+  entry : Expression → Setting
+
+-- what places bytes that are no instruction's
+pub data Data : Type 0 where
+  align : ℕ → Data
+  zeros : ℕ → Data
   -- values of so many bytes, and the expressions with commas between
-  values : ℕ → List ℕ → Statement
+  values : ℕ → List ℕ → Data
   -- what stands between the quotes
-  text : List ℕ → Statement
+  text : List ℕ → Data
+
+pub data Statement : Type 0 where
+  instruction : Instruction → Statement
+  setting : Setting → Statement
+  -- a section begins at an address
+  origin : ℕ → Statement
+  contents : Data → Statement
 
 -- a statement, unless a fault leaves none, and the first fault that its line decides
 pub record Said : Type 0 where
@@ -90,7 +103,7 @@ abbrev pub draft_of : Pattern → Draft
 draft_of p = record { insn = p.insn; target = None }
 
 abbrev pub row_said : Draft → Option LineFault → Said
-row_said d fault = said_unless (row d.insn d.target) fault
+row_said d fault = said_unless (instruction (row d.insn d.target)) fault
 
 abbrev pub pattern_said : Option Pattern → List ℕ → Said
 pattern_said (Some p) operands =
@@ -103,7 +116,7 @@ expression_or_nought (Ok e) = e
 expression_or_nought (Err fault) = expression None (pos 0)
 
 abbrev pub register_load : Bool → Option ℕ → Result Expression LineFault → Said
-register_load capability (Some rd) value = said_unless (load capability rd (expression_or_nought value)) (fault_of value)
+register_load capability (Some rd) value = said_unless (instruction (load capability rd (expression_or_nought value))) (fault_of value)
 register_load capability None value = said None (Some A2)
 
 abbrev pub load_said : Bool → List (List ℕ) → Said
@@ -122,12 +135,28 @@ abbrev pub page_range : Result ℤ LineFault → Result ℤ LineFault
 page_range (Ok n) = if int_lt n (pos 1) || int_lt (pos most_pages) n then Err A3 else Ok n
 page_range (Err fault) = Err fault
 
+-- .pages, .mode, .org, .align and .zero, by the number behind them
+abbrev pub pages_said : Result ℤ LineFault → Said
+pages_said number = number_said (λ n. setting (pages n)) (Some (setting (pages 0))) (page_range number)
+
+abbrev pub mode_said : Result ℤ LineFault → Said
+mode_said number = number_said (λ n. setting (mode (n == 1))) (Some (setting (mode false))) (up_to 1 number)
+
+abbrev pub origin_said : Result ℤ LineFault → Said
+origin_said number = number_said origin None (up_to (2 ^ 64 - 1) number)
+
+abbrev pub align_said : Result ℤ LineFault → Said
+align_said number = number_said (λ n. contents (align n)) None (up_to 12 number)
+
+abbrev pub zeros_said : Result ℤ LineFault → Said
+zeros_said number = number_said (λ n. contents (zeros n)) None (up_to 268435456 number)
+
 abbrev pub entry_said : Result Expression LineFault → Said
-entry_said e = said_unless (entry (expression_or_nought e)) (fault_of e)
+entry_said e = said_unless (setting (entry (expression_or_nought e))) (fault_of e)
 
 -- the sizes of values, in bytes
-abbrev pub IsSize : ℕ → Type 0
-IsSize size = (size ≡ 1) ⊎ ((size ≡ 2) ⊎ ((size ≡ 4) ⊎ (size ≡ 8)))
+abbrev pub is_size : ℕ → Bool
+is_size n = (n == 1) || ((n == 2) || ((n == 4) || (n == 8)))
 
 -- a value of so many bytes lies between the least signed and the greatest unsigned number of its size
 abbrev pub is_in_size : ℕ → ℤ → Bool
@@ -152,7 +181,7 @@ values_fault size (p ∷ ps) = told_fault (value_fault size (expression_of p)) (
 -- one value or more
 abbrev pub values_said : ℕ → List ℕ → Said
 values_said size [] = said None (Some A2)
-values_said size (b ∷ bs) = said_unless (values size (b ∷ bs)) (values_fault size (pieces_of (b ∷ bs)))
+values_said size (b ∷ bs) = said_unless (contents (values size (b ∷ bs))) (values_fault size (pieces_of (b ∷ bs)))
 
 -- the byte that an escape stands for: \n, \0, \\ and \"
 abbrev pub is_escape : ℕ → Bool
@@ -181,19 +210,19 @@ text_bytes between = text_bytes_from false between
 
 abbrev pub text_said : List ℕ → Said
 text_said operands =
-    if is_quoted operands then said (Some (text (take (length operands - 2) (drop 1 operands)))) None else said None (Some A2)
+    if is_quoted operands then said (Some (contents (text (take (length operands - 2) (drop 1 operands))))) None else said None (Some A2)
 
 -- what a mnemonic and its operands say
 unfoldable pub said_by : List ℕ → List ℕ → Said
 said_by word operands =
     if is_word word (codes "la") then load_said false (pieces_of operands)
     else (if is_word word (codes "cla") then load_said true (pieces_of operands)
-    else (if is_word word (codes ".pages") then number_said pages (Some (pages 0)) (page_range (number_of operands))
-    else (if is_word word (codes ".mode") then number_said (λ n. mode (n == 1)) (Some (mode false)) (up_to 1 (number_of operands))
+    else (if is_word word (codes ".pages") then pages_said (number_of operands)
+    else (if is_word word (codes ".mode") then mode_said (number_of operands)
     else (if is_word word (codes ".entry") then entry_said (expression_of operands)
-    else (if is_word word (codes ".org") then number_said org None (up_to (2 ^ 64 - 1) (number_of operands))
-    else (if is_word word (codes ".align") then number_said align None (up_to 12 (number_of operands))
-    else (if is_word word (codes ".zero") then number_said zeros None (up_to 268435456 (number_of operands))
+    else (if is_word word (codes ".org") then origin_said (number_of operands)
+    else (if is_word word (codes ".align") then align_said (number_of operands)
+    else (if is_word word (codes ".zero") then zeros_said (number_of operands)
     else (if is_word word (codes ".byte") then values_said 1 operands
     else (if is_word word (codes ".half") then values_said 2 operands
     else (if is_word word (codes ".word") then values_said 4 operands

@@ -19,5 +19,6 @@ pub use fault::LineFault;
 pub use line::parse_line;
 pub use number::expression;
 pub use operand::natural;
-pub use parsed::{Expression, Parsed, Statement};
+pub use parsed::{Data, Expression, Instruction, Parsed, Setting, Statement};
 pub use text::split_piece;
+pub use values::is_in_size;

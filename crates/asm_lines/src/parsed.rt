@@ -13,6 +13,19 @@ pub struct Expression<'a> {
 /// What a line says beside its label.
 #[derive(Clone, Copy, Debug, PartialEq, Eq)]
 pub enum Statement<'a> {
+    /// One instruction or two.
+    Instruction(Instruction<'a>),
+    /// What holds for the whole image.
+    Setting(Setting<'a>),
+    /// `.org`: a new section, and the address where it begins.
+    Origin(u64),
+    /// Bytes that are no instruction's.
+    Data(Data<'a>),
+}
+
+/// What places instructions.
+#[derive(Clone, Copy, Debug, PartialEq, Eq)]
+pub enum Instruction<'a> {
     /// One instruction, and the address that it jumps to where it is written with one (its immediate is 0 until that is known).
     Row(Insn, Option<Expression<'a>>),
     /// `la` or, where `capability` says so, `cla`: the two instructions that put a value into a register, 0 to 31.
@@ -21,23 +34,28 @@ pub enum Statement<'a> {
         rd: u8,
         value: Expression<'a>,
     },
+}
+
+/// What is set for the whole image, once.
+#[derive(Clone, Copy, Debug, PartialEq, Eq)]
+pub enum Setting<'a> {
     /// `.pages`: RAM's size in pages, 1 to the most; 0 where the number is out of range.
     Pages(u32),
     /// `.mode`: whether the first instruction is done in capability mode.
     Mode(bool),
     /// `.entry`: where the first instruction is.
     Entry(Expression<'a>),
-    /// `.org`: a new section, and where it begins.
-    Org(u64),
+}
+
+/// What places bytes that are no instruction's.
+#[derive(Clone, Copy, Debug, PartialEq, Eq)]
+pub enum Data<'a> {
     /// `.align`: zeros up to a multiple of two to this power, 0 to 12.
     Align(u32),
     /// `.zero`: so many zeros, 0 to 268435456.
     Zero(u64),
     /// `.byte`, `.half`, `.word`, `.dword`: the number of bytes of each value (1, 2, 4 or 8), and the expressions with commas between.
-    Values {
-        size: u8,
-        operands: &'a [u8],
-    },
+    Values { size: u8, operands: &'a [u8] },
     /// `.ascii`: what stands between the quotes, with its escapes.
     Text(&'a [u8]),
 }

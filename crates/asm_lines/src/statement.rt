@@ -1,10 +1,9 @@
 //! Statements: instructions, the two-row loads of a value, directives.
-ghost use Rattle.std.specs.Prelude.{◌≡◌, ◌<◌, ◌==◌, ◌^◌, ◌-◌, Some, None, option_map, false, IfOk, IfSome};
+ghost use Rattle.std.specs.Prelude.{◌≡◌, ◌<◌, Some, None, option_map, IfOk, IfSome, IsTrue};
 ghost use Rattle.asm_lines.specs.Text.{pieces_of};
 ghost use Rattle.asm_lines.specs.Number.{number_of, expression_of};
-ghost use Rattle.asm_lines.specs.Operand.{up_to};
-ghost use Rattle.asm_lines.specs.Statement.{said, said_unless, pattern_said, load_said, register_load, number_said, page_range, entry_said};
-ghost use Rattle.asm_lines.specs.Statement.{values_said, text_said, said_by, pages, mode, org, align, zeros, IsSize};
+ghost use Rattle.asm_lines.specs.Statement.{said, said_unless, is_size, pattern_said, load_said, register_load, entry_said, pages_said};
+ghost use Rattle.asm_lines.specs.Statement.{mode_said, origin_said, align_said, zeros_said, values_said, text_said, said_by};
 ghost use Rattle.asm_lines.specs.Line.{seen_statement, seen_result, HasOffset, IsBounded, IsBoundedIfAny};
 ghost use Rattle.asm_lines.specs.Seen.{seen_pattern, seen_said};
 
@@ -12,7 +11,7 @@ use crate::fault::LineFault;
 use crate::filling::{filled, first_rest};
 use crate::number::expression;
 use crate::operand::{Draft, natural, register};
-use crate::parsed::{Expression, Statement};
+use crate::parsed::{Data, Expression, Instruction, Setting, Statement};
 use crate::pattern::{Pattern, is_word, pattern_of};
 use crate::quoted::closes;
 use crate::text::split_piece;
@@ -90,7 +89,8 @@ pub(crate) fn pattern_said<'a>(pattern: Option<Pattern>, operands: &'a [u8]) -> 
         target: None,
     };
     let (draft, fault) = filled(pattern.slots, operands, draft);
-    Said::unless(Statement::Row(draft.insn, draft.target), fault)
+    let row = Instruction::Row(draft.insn, draft.target);
+    Said::unless(Statement::Instruction(row), fault)
 }
 
 const NOUGHT: Expression<'static> = Expression {
@@ -131,34 +131,35 @@ fn register_load<'a>(
     };
     let fault = value.err();
     let value = value.unwrap_or(NOUGHT);
-    let load = Statement::Load {
+    let load = Instruction::Load {
         capability,
         rd,
         value,
     };
-    Said::unless(load, fault)
+    Said::unless(Statement::Instruction(load), fault)
 }
 
 /// `.pages`: a number of 1 to the most pages of RAM; out of range it leaves 0.
 fn pages_said<'a>(operands: &[u8]) -> Said<'a>
-    ensures value { seen_said result ≡ number_said pages (Some (pages 0)) (page_range (number_of operands.now)) }
+    ensures value { seen_said result ≡ pages_said (number_of operands.now) }
     ensures bounds { IsBoundedIfAny result.statement }
 {
+    let none = Statement::Setting(Setting::Pages(0));
     match natural(operands, u64::from(ram::MOST_PAGES)) {
-        Ok(0) => Said::unless(Statement::Pages(0), Some(LineFault::A3)),
-        Ok(pages) => Said::plain(Statement::Pages(pages as u32)),
-        Err(fault) => Said::unless(Statement::Pages(0), Some(fault)),
+        Ok(0) => Said::unless(none, Some(LineFault::A3)),
+        Ok(pages) => Said::plain(Statement::Setting(Setting::Pages(pages as u32))),
+        Err(fault) => Said::unless(none, Some(fault)),
     }
 }
 
 /// `.mode`: 0 or 1; out of range it leaves 0.
 fn mode_said<'a>(operands: &[u8]) -> Said<'a>
-    ensures value { seen_said result ≡ number_said (λ n. mode (n == 1)) (Some (mode false)) (up_to 1 (number_of operands.now)) }
+    ensures value { seen_said result ≡ mode_said (number_of operands.now) }
     ensures bounds { IsBoundedIfAny result.statement }
 {
     match natural(operands, 1) {
-        Ok(mode) => Said::plain(Statement::Mode(mode == 1)),
-        Err(fault) => Said::unless(Statement::Mode(false), Some(fault)),
+        Ok(mode) => Said::plain(Statement::Setting(Setting::Mode(mode == 1))),
+        Err(fault) => Said::unless(Statement::Setting(Setting::Mode(false)), Some(fault)),
     }
 }
 
@@ -168,45 +169,46 @@ fn entry_said<'a>(operands: &'a [u8]) -> Said<'a>
     ensures bounds { IsBoundedIfAny result.statement }
 {
     let value = expression(operands);
-    Said::unless(Statement::Entry(value.unwrap_or(NOUGHT)), value.err())
+    let entry = Setting::Entry(value.unwrap_or(NOUGHT));
+    Said::unless(Statement::Setting(entry), value.err())
 }
 
 /// `.org`: a number of 0 to 2^64 - 1.
-fn org_said<'a>(operands: &[u8]) -> Said<'a>
-    ensures value { seen_said result ≡ number_said org None (up_to (2 ^ 64 - 1) (number_of operands.now)) }
+fn origin_said<'a>(operands: &[u8]) -> Said<'a>
+    ensures value { seen_said result ≡ origin_said (number_of operands.now) }
     ensures bounds { IsBoundedIfAny result.statement }
 {
     match natural(operands, u64::MAX) {
-        Ok(place) => Said::plain(Statement::Org(place)),
+        Ok(place) => Said::plain(Statement::Origin(place)),
         Err(fault) => Said::fault(fault),
     }
 }
 
 /// `.align`: a number of 0 to 12.
 fn align_said<'a>(operands: &[u8]) -> Said<'a>
-    ensures value { seen_said result ≡ number_said align None (up_to 12 (number_of operands.now)) }
+    ensures value { seen_said result ≡ align_said (number_of operands.now) }
     ensures bounds { IsBoundedIfAny result.statement }
 {
     match natural(operands, 12) {
-        Ok(power) => Said::plain(Statement::Align(power as u32)),
+        Ok(power) => Said::plain(Statement::Data(Data::Align(power as u32))),
         Err(fault) => Said::fault(fault),
     }
 }
 
 /// `.zero`: a number of 0 to 268435456.
-fn zero_said<'a>(operands: &[u8]) -> Said<'a>
-    ensures value { seen_said result ≡ number_said zeros None (up_to 268435456 (number_of operands.now)) }
+fn zeros_said<'a>(operands: &[u8]) -> Said<'a>
+    ensures value { seen_said result ≡ zeros_said (number_of operands.now) }
     ensures bounds { IsBoundedIfAny result.statement }
 {
     match natural(operands, 268_435_456) {
-        Ok(count) => Said::plain(Statement::Zero(count)),
+        Ok(count) => Said::plain(Statement::Data(Data::Zero(count))),
         Err(fault) => Said::fault(fault),
     }
 }
 
 /// `.byte`, `.half`, `.word` and `.dword`: one value or more.
 fn values_said<'a>(size: u8, operands: &'a [u8]) -> Said<'a>
-    requires { IsSize size }
+    requires { IsTrue (is_size size) }
     ensures value { seen_said result ≡ values_said size operands.now }
     ensures bounds { IsBoundedIfAny result.statement }
 {
@@ -214,7 +216,7 @@ fn values_said<'a>(size: u8, operands: &'a [u8]) -> Said<'a>
         return Said::fault(LineFault::A2);
     }
     Said::unless(
-        Statement::Values { size, operands },
+        Statement::Data(Data::Values { size, operands }),
         values_fault(size, operands),
     )
 }
@@ -227,7 +229,8 @@ fn text_said<'a>(operands: &'a [u8]) -> Said<'a>
     if operands.is_empty() || operands[0] != b'"' || !closes(&operands[1..]) {
         return Said::fault(LineFault::A2);
     }
-    Said::plain(Statement::Text(&operands[1..operands.len() - 1]))
+    let between = &operands[1..operands.len() - 1];
+    Said::plain(Statement::Data(Data::Text(between)))
 }
 
 /// What a mnemonic and its operands say.
@@ -247,11 +250,11 @@ pub(crate) fn said_by<'a>(word: &[u8], operands: &'a [u8]) -> Said<'a>
     } else if is_word(word, ".entry") {
         entry_said(operands)
     } else if is_word(word, ".org") {
-        org_said(operands)
+        origin_said(operands)
     } else if is_word(word, ".align") {
         align_said(operands)
     } else if is_word(word, ".zero") {
-        zero_said(operands)
+        zeros_said(operands)
     } else if is_word(word, ".byte") {
         values_said(1, operands)
     } else if is_word(word, ".half") {

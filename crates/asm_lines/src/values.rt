@@ -1,7 +1,7 @@
 //! Values with commas between.
-ghost use Rattle.std.specs.Prelude.{◌≡◌};
+ghost use Rattle.std.specs.Prelude.{◌≡◌, IsTrue};
 ghost use Rattle.asm_lines.specs.Text.{pieces_of};
-ghost use Rattle.asm_lines.specs.Statement.{is_in_size, value_fault, values_fault, IsSize};
+ghost use Rattle.asm_lines.specs.Statement.{is_in_size, value_fault, values_fault, is_size};
 ghost use Rattle.asm_lines.specs.Line.{seen_result};
 
 use crate::fault::LineFault;
@@ -11,8 +11,8 @@ use crate::parsed::Expression;
 use crate::text::split_piece;
 
 /// Whether a number is at least the least signed and at most the greatest unsigned number of 1, 2, 4 or 8 bytes.
-fn is_in_size(size: u8, number: i128) -> bool
-    requires { IsSize size }
+pub fn is_in_size(size: u8, number: i128) -> bool
+    requires { IsTrue (is_size size) }
     ensures { result ≡ is_in_size size number }
 {
     match size {
@@ -25,7 +25,7 @@ fn is_in_size(size: u8, number: i128) -> bool
 
 /// What of a value its line decides: its form, and whether a number is in the range of 1, 2, 4 or 8 bytes.
 fn value_fault<'a>(size: u8, value: Result<Expression<'a>, LineFault>) -> Option<LineFault>
-    requires { IsSize size }
+    requires { IsTrue (is_size size) }
     ensures { result ≡ value_fault size (seen_result value.entry) }
 {
     match value {
@@ -37,7 +37,7 @@ fn value_fault<'a>(size: u8, value: Result<Expression<'a>, LineFault>) -> Option
 
 /// What is wrong with values of 1, 2, 4 or 8 bytes, as far as their line decides it.
 pub(crate) fn values_fault(size: u8, operands: &[u8]) -> Option<LineFault>
-    requires { IsSize size }
+    requires { IsTrue (is_size size) }
     ensures { result ≡ values_fault size (pieces_of operands.now) }
 {
     let mut rest = first_rest(operands);

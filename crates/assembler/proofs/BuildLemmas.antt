@@ -1,7 +1,7 @@
 -- Of lines without a fault an image can be built.
-use Rattle.std.proofs.Common.{◌≡◌, ℕ, ◌+◌, ◌-◌, ◌*◌, ◌/◌, ◌^◌, ◌<◌, ◌≤◌, Bool, true, false, not, ◌&&◌, ◌||◌, ◌==◌, nat_lt, nat_le, ℤ, List}
+use Rattle.std.proofs.Common.{◌≡◌, ℕ, ◌+◌, ◌-◌, ◌*◌, ◌<◌, ◌≤◌, Bool, true, false, not, ◌&&◌, ◌||◌, ◌==◌, nat_lt, nat_le, ℤ, List}
 use Rattle.std.proofs.Common.{[], ◌∷◌, ◌++◌, length, length-append, zero, suc, Option, Some, None, is_some, is_none, refl, sym, ap, ◌∙◌}
-use Rattle.std.proofs.Common.{subst, pow_pos, arith}
+use Rattle.std.proofs.Common.{subst, arith}
 use Rattle.std.specs.Int.{bytes_low_first}
 use Rattle.std.specs.List.{flat_map}
 use Rattle.std.proofs.lemmas.List.{length-replicate}
@@ -11,14 +11,14 @@ use Rattle.base.specs.Ram.{ram_base, ram_end, most_pages}
 use Rattle.image.specs.Image.{Section, is_good_header, sections_fault, build_fault}
 use Rattle.asm_lines.specs.Text.{pieces_of}
 use Rattle.asm_lines.specs.Operand.{wrapped}
-use Rattle.asm_lines.specs.Number.{Expression, expression_of}
-use Rattle.isa_rows.specs.declared.operands.Insn.{Insn}
-use Rattle.asm_lines.specs.Statement.{expression_or_nought, Statement, row, load, pages, mode, entry, org, align, zeros, values, text}
+use Rattle.asm_lines.specs.Number.{expression_of}
+use Rattle.asm_lines.specs.Statement.{Statement, instruction, setting, origin, contents, Instruction, row, load, pages, mode, entry, Data}
+use Rattle.asm_lines.specs.Statement.{align, zeros, values, text, expression_or_nought}
 use Rattle.asm_lines.specs.Line.{Line}
-use Rattle.assembler.specs.Places.{Symbols, aligned, end_of, end_after}
+use Rattle.assembler.specs.Places.{Symbols, aligned, instruction_size, data_size, size_at, end_of, end_after}
 use Rattle.assembler.specs.Values.{value_of, known_and, is_entry, has_unknown_name, is_out_of_reach}
-use Rattle.assembler.specs.Bytes.{or_zero, value_at, bytes_at, insn_bytes, value_bytes}
-use Rattle.assembler.specs.Faults.{Assembled, given, page_count, is_misplaced, is_statement_misplaced, line_fault, lacks_place, size_at}
+use Rattle.assembler.specs.Bytes.{or_zero, value_at, insn_bytes, value_bytes, instruction_bytes, data_bytes, bytes_at}
+use Rattle.assembler.specs.Faults.{Assembled, given, page_count, is_misplaced, is_statement_misplaced, line_fault, lacks_place}
 use Rattle.assembler.specs.Faults.{is_instruction, closed, filled, empty_at, with_bytes, with_statement, with_statement_of, assembled_after}
 use Rattle.assembler.specs.Faults.{opening}
 use Rattle.assembler.specs.FaultLaws.{fault_in_text}
@@ -53,41 +53,26 @@ length-values symbols here size (p ∷ ps) =
       length-values symbols here size ps,
     )
 
-aligned-behind : (place unit : ℕ) → 0 < unit → place ≤ (place + unit - 1) / unit * unit
-aligned-behind place unit h = omega arith
+-- it places as many bytes as it takes
+instruction-length : (symbols : Symbols) (here : ℕ) (i : Instruction) → length (instruction_bytes symbols here i) ≡ instruction_size i
+unfolding insn_bytes
+instruction-length symbols here (row i target) = refl
+instruction-length symbols here (load capability rd value) = refl
 
--- it places as many as it takes, and ends behind them
-record IsPlaced (symbols : Symbols) (here : ℕ) (s : Statement) : Type 0 where
-  bytes : length (bytes_at symbols here s) ≡ size_at s here
-  end : end_of s here ≡ here + size_at s here
+data-length : (symbols : Symbols) (here : ℕ) (d : Data) → length (data_bytes symbols here d) ≡ data_size d here
+data-length symbols here (align bits) = length-replicate (aligned here bits - here) 0
+data-length symbols here (zeros n) = length-replicate n 0
+data-length symbols here (values size operands) = length-values symbols here size (pieces_of operands)
+data-length symbols here (text between) = refl
 
-placed-row : (symbols : Symbols) (here : ℕ) (i : Insn) (target : Option Expression) → IsPlaced symbols here (row i target)
-unfolding bytes_at end_of insn_bytes
-placed-row symbols here i target = record { bytes = refl; end = refl }
+instruction-placed : (symbols : Symbols) (here : ℕ) (i : Instruction)
+    → length (bytes_at symbols here (instruction i)) ≡ size_at (instruction i) here
+unfolding bytes_at size_at
+instruction-placed symbols here i = instruction-length symbols here i
 
-placed-load : (symbols : Symbols) (here : ℕ) (capability : Bool) (rd : ℕ) (value : Expression)
-    → IsPlaced symbols here (load capability rd value)
-unfolding bytes_at end_of insn_bytes
-placed-load symbols here capability rd value = record { bytes = refl; end = refl }
-
-placed-align : (symbols : Symbols) (here bits : ℕ) → IsPlaced symbols here (align bits)
-unfolding bytes_at end_of
-placed-align symbols here bits =
-    let behind : here ≤ aligned here bits = aligned-behind here (2 ^ bits) (pow_pos bits) in
-    record { bytes = length-replicate (aligned here bits - here) 0; end = omega arith }
-
-placed-zeros : (symbols : Symbols) (here n : ℕ) → IsPlaced symbols here (zeros n)
-unfolding bytes_at end_of
-placed-zeros symbols here n = record { bytes = length-replicate n 0; end = refl }
-
-placed-values : (symbols : Symbols) (here size : ℕ) (operands : List ℕ) → IsPlaced symbols here (values size operands)
-unfolding bytes_at end_of
-placed-values symbols here size operands =
-    record { bytes = omega (arith, length-values symbols here size (pieces_of operands)); end = omega arith }
-
-placed-text : (symbols : Symbols) (here : ℕ) (between : List ℕ) → IsPlaced symbols here (text between)
-unfolding bytes_at end_of
-placed-text symbols here between = record { bytes = omega arith; end = omega arith }
+data-placed : (symbols : Symbols) (here : ℕ) (d : Data) → length (bytes_at symbols here (contents d)) ≡ size_at (contents d) here
+unfolding bytes_at size_at
+data-placed symbols here d = data-length symbols here d
 
 -- ---- headers
 
@@ -110,9 +95,9 @@ good-entry count (Some v) h g = and-second _ _ (not-false (is_entry count v) g)
 abbrev at-place : Assembled → ℕ → Symbols → Assembled
 at-place s end symbols = record s { places = record { place = end; symbols = symbols } }
 
-is-free : (s : Assembled) (n : ℕ) (instruction : Bool) → lacks_place s s.places.place n instruction ≡ false → 0 < n
+is-free : (s : Assembled) (n : ℕ) (is_code : Bool) → lacks_place s s.places.place n is_code ≡ false → 0 < n
     → IsFree (page_count s) s.done s.current s.places.place n
-is-free s n instruction h f =
+is-free s n is_code h f =
     let some : nat_lt 0 n ≡ true = grind (arith, nat_tests) in
     let a = or-false _ _ (and-rest _ _ some h) in
     let b = or-false _ _ a.1 in
@@ -125,10 +110,10 @@ is-free s n instruction h f =
       few = room-left (length s.current.bytes) (length s.done) d.0;
     }
 
-grown-buildable : (s : Assembled) (bytes : List ℕ) (n end : ℕ) (symbols : Symbols) (instruction : Bool) → IsBuildable s → length bytes ≡ n
-    → end ≡ s.places.place + n → lacks_place s s.places.place n instruction ≡ false
+grown-buildable : (s : Assembled) (bytes : List ℕ) (n end : ℕ) (symbols : Symbols) (is_code : Bool) → IsBuildable s → length bytes ≡ n
+    → end ≡ s.places.place + n → lacks_place s s.places.place n is_code ≡ false
     → IsBuildable (at-place (with_bytes s bytes) end symbols)
-grown-buildable s bytes n end symbols instruction b e g h =
+grown-buildable s bytes n end symbols is_code b e g h =
     let both : length (s.current.bytes ++ bytes) ≡ length s.current.bytes + n = omega (arith, length-append s.current.bytes bytes) in
     record {
       header = b.header;
@@ -138,18 +123,19 @@ grown-buildable s bytes n end symbols instruction b e g h =
       place = omega (arith, b.place);
       current =
           grown (page_count s) s.done s.current (filled s.current bytes) n s.places.place refl both b.place b.filled
-          (is-free s n instruction h) b.current;
+          (is-free s n is_code h) b.current;
       unbegun = λ x. absurd (true-false x);
     }
 
 statement-grown : (symbols new : Symbols) (s : Assembled) (t : Statement) → IsBuildable s → IsFaultless symbols s t
-    → IsPlaced symbols s.places.place t
-    → IsBuildable (at-place (with_bytes s (bytes_at symbols s.places.place t)) (end_of t s.places.place) new)
-statement-grown symbols new s t b f p =
-    grown-buildable s (bytes_at symbols s.places.place t) (size_at t s.places.place) (end_of t s.places.place) new
-    (is_instruction t) b p.bytes p.end f.placed
+    → length (bytes_at symbols s.places.place t) ≡ size_at t s.places.place
+    → IsBuildable (at-place (with_bytes s (bytes_at symbols s.places.place t)) (s.places.place + size_at t s.places.place) new)
+statement-grown symbols new s t b f e =
+    grown-buildable s (bytes_at symbols s.places.place t) (size_at t s.places.place) (s.places.place + size_at t s.places.place) new
+    (is_instruction t) b e refl f.placed
 
-pages-buildable : (s : Assembled) (n : ℕ) (new : Symbols) → IsBuildable s → (is_some s.pages || s.begun) ≡ false → is_paged (pages n) ≡ true
+pages-buildable : (s : Assembled) (n : ℕ) (new : Symbols) → IsBuildable s → (is_some s.pages || s.begun) ≡ false
+    → is_paged (setting (pages n)) ≡ true
     → IsBuildable (at-place (record s { pages = Some n }) s.places.place new)
 pages-buildable s n new b h p =
     let u : IsUnbegun s = b.unbegun (or-false _ _ h).1 in
@@ -203,26 +189,27 @@ same-buildable s m new b =
       unbegun = λ x. let u = b.unbegun x in record { done = u.done; current = u.current; entry = u.entry };
     }
 
+-- a setting takes no byte
+at-same-place : (t : Assembled) (place : ℕ) (new : Symbols) → IsBuildable (at-place t place new) → IsBuildable (at-place t (place + 0) new)
+at-same-place t place new b = let same : place ≡ place + 0 = omega arith in subst (λ p. IsBuildable (at-place t p new)) same b
+
 statement-buildable : (symbols new : Symbols) (s : Assembled) (t : Statement) → IsBuildable s → IsFaultless symbols s t
     → is_misplaced s t ≡ false → is_paged t ≡ true → IsBuildable (at-place (with_statement symbols s t) (end_of t s.places.place) new)
-unfolding end_of has_unknown_name is_out_of_reach
-statement-buildable symbols new s (row i target) b f m p =
-    statement-grown symbols new s (row i target) b f (placed-row symbols s.places.place i target)
-statement-buildable symbols new s (load capability rd value) b f m p =
-    statement-grown symbols new s (load capability rd value) b f (placed-load symbols s.places.place capability rd value)
-statement-buildable symbols new s (pages n) b f m p = pages-buildable s n new b m p
-statement-buildable symbols new s (mode x) b f m p = same-buildable s (Some x) new b
-statement-buildable symbols new s (entry e) b f m p =
-    entry-buildable s (wrapped (value_at symbols s.places.place e)) new b
-    (good-entry (page_count s) (value_of symbols s.places.place e) f.named f.near)
-statement-buildable symbols new s (org n) b f m p = org-buildable s n new b
-statement-buildable symbols new s (align bits) b f m p =
-    statement-grown symbols new s (align bits) b f (placed-align symbols s.places.place bits)
-statement-buildable symbols new s (zeros n) b f m p = statement-grown symbols new s (zeros n) b f (placed-zeros symbols s.places.place n)
-statement-buildable symbols new s (values size operands) b f m p =
-    statement-grown symbols new s (values size operands) b f (placed-values symbols s.places.place size operands)
-statement-buildable symbols new s (text between) b f m p =
-    statement-grown symbols new s (text between) b f (placed-text symbols s.places.place between)
+unfolding size_at end_of has_unknown_name is_out_of_reach
+statement-buildable symbols new s (instruction i) b f m p =
+    statement-grown symbols new s (instruction i) b f (instruction-placed symbols s.places.place i)
+statement-buildable symbols new s (setting (pages n)) b f m p =
+    at-same-place (record s { pages = Some n }) s.places.place new (pages-buildable s n new b m p)
+statement-buildable symbols new s (setting (mode x)) b f m p =
+    at-same-place (record s { mode = Some x }) s.places.place new (same-buildable s (Some x) new b)
+statement-buildable symbols new s (setting (entry e)) b f m p =
+    let value = wrapped (value_at symbols s.places.place e) in
+    at-same-place (record s { begun = true; entry = Some value }) s.places.place new
+    (entry-buildable s value new b
+    (good-entry (page_count s) (value_of symbols s.places.place e) (or-false _ _ f.named).0 (or-false _ _ f.near).0))
+statement-buildable symbols new s (origin n) b f m p = org-buildable s n new b
+statement-buildable symbols new s (contents d) b f m p =
+    statement-grown symbols new s (contents d) b f (data-placed symbols s.places.place d)
 
 any-buildable : (symbols new : Symbols) (s : Assembled) (t : Option Statement) → IsBuildable s → is_statement_misplaced s t ≡ false
     → fault_in_text symbols s t ≡ None → is_paged_or_none t ≡ true

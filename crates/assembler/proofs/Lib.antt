@@ -3,6 +3,7 @@ pub mod LabelLemmas
 pub mod LineLemmas
 pub mod BlockLemmas
 pub mod ModestLemmas
+pub mod AskedLemmas
 pub mod SoundLemmas
 pub mod LoadLemmas
 pub mod PageLemmas

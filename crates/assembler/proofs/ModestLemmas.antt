@@ -10,13 +10,14 @@ use Rattle.asm_lines.specs.Text.{is_blank, trimmed_start, uncommented_from, quot
 use Rattle.asm_lines.specs.Text.{trimmed, uncommented, label_of, statement_text, mnemonic_of, operands_of}
 use Rattle.asm_lines.specs.Number.{Expression, number_of, expression_of}
 use Rattle.asm_lines.specs.Operand.{up_to, wrapped, filled_draft, filled_fault}
-use Rattle.asm_lines.specs.Statement.{Statement, row, load, pages, mode, entry, org, align, zeros, values, text, Said, said, said_by}
-use Rattle.asm_lines.specs.Statement.{is_word, Pattern, pattern_of, pattern_said, draft_of, said_unless, leaves_statement, register_load}
-use Rattle.asm_lines.specs.Statement.{load_said, number_said, page_count, entry_said, values_said, values_fault, text_said, is_quoted}
-use Rattle.asm_lines.specs.Statement.{expression_or_nought}
+use Rattle.asm_lines.specs.Statement.{Statement, instruction, setting, origin, contents, row, load, pages, mode, entry, align, zeros}
+use Rattle.asm_lines.specs.Statement.{values, text, is_size, Said, said, said_by, is_word, Pattern, pattern_of, pattern_said, draft_of}
+use Rattle.asm_lines.specs.Statement.{said_unless, leaves_statement, register_load, load_said, number_said, page_range, pages_said}
+use Rattle.asm_lines.specs.Statement.{mode_said, origin_said, align_said, zeros_said, entry_said, values_said, values_fault, text_said}
+use Rattle.asm_lines.specs.Statement.{is_quoted, expression_or_nought}
 use Rattle.asm_lines.specs.Line.{Line, line_meaning, line_said, line_of_text, labelled}
 use Rattle.assembler.proofs.TestLemmas.{both-true, not-below}
-use Rattle.assembler.specs.Modest.{is_size, is_modest, is_modest_or_none, is_modest_line}
+use Rattle.assembler.specs.Modest.{is_modest, is_modest_or_none, is_modest_line}
 
 abbrev IsModest : Said → Type 0
 IsModest s = is_modest_or_none s.statement ≡ true
@@ -32,14 +33,14 @@ unless-modest s (Some A9) h = refl
 pattern-modest : (p : Option Pattern) (operands : List ℕ) → IsModest (pattern_said p operands)
 pattern-modest (Some p) operands =
     let d = filled_draft p.slots (pieces_of operands) (draft_of p) in
-    unless-modest (row d.insn d.target) (filled_fault p.slots (pieces_of operands) (draft_of p)) refl
+    unless-modest (instruction (row d.insn d.target)) (filled_fault p.slots (pieces_of operands) (draft_of p)) refl
 pattern-modest None operands = refl
 
 register_load-modest : (capability : Bool) (rd : Option ℕ) (value : Result Expression LineFault)
     → IsModest (register_load capability rd value)
 register_load-modest capability (Some rd) (Ok x) = refl
 register_load-modest capability (Some rd) (Err fault) =
-    unless-modest (load capability rd (expression_or_nought (Err fault))) (Some fault) refl
+    unless-modest (instruction (load capability rd (expression_or_nought (Err fault)))) (Some fault) refl
 register_load-modest capability None value = refl
 
 load-modest : (capability : Bool) (ps : List (List ℕ)) → IsModest (load_said capability ps)
@@ -67,20 +68,21 @@ align-within n h = grind (arith, nat_tests)
 zeros-within : (n : ℕ) → (nat_lt n 0 || nat_lt 268435456 n) ≡ false → nat_le (n % 2 ^ 64) 268435456 ≡ true
 zeros-within n h = grind (arith, nat_tests)
 
-zeros-modest : (r : Result ℤ LineFault) → IsModest (number_said zeros None (up_to 268435456 r))
+zeros-modest : (r : Result ℤ LineFault) → IsModest (zeros_said r)
 zeros-modest (Ok (pos n)) =
     elim (nat_lt n 0 || nat_lt 268435456 n) as
-    (λ b. (nat_lt n 0 || nat_lt 268435456 n) ≡ b → IsModest (number_said zeros None (if b then Err A3 else Ok (pos n)))) [
+    (λ b. (nat_lt n 0 || nat_lt 268435456 n) ≡ b
+    → IsModest (number_said (λ m. contents (zeros m)) None (if b then Err A3 else Ok (pos n)))) [
       | true ↦ λ e. refl
       | false ↦ λ e. zeros-within n e
     ] refl
 zeros-modest (Ok (negsuc n)) = refl
 zeros-modest (Err fault) = other-modest None fault refl
 
-align-modest : (r : Result ℤ LineFault) → IsModest (number_said align None (up_to 12 r))
+align-modest : (r : Result ℤ LineFault) → IsModest (align_said r)
 align-modest (Ok (pos n)) =
     elim (nat_lt n 0 || nat_lt 12 n) as
-    (λ b. (nat_lt n 0 || nat_lt 12 n) ≡ b → IsModest (number_said align None (if b then Err A3 else Ok (pos n)))) [
+    (λ b. (nat_lt n 0 || nat_lt 12 n) ≡ b → IsModest (number_said (λ m. contents (align m)) None (if b then Err A3 else Ok (pos n)))) [
       | true ↦ λ e. refl
       | false ↦ λ e. align-within n e
     ] refl
@@ -89,7 +91,7 @@ align-modest (Err fault) = other-modest None fault refl
 
 entry-modest : (x : Result Expression LineFault) → IsModest (entry_said x)
 entry-modest (Ok x) = refl
-entry-modest (Err fault) = unless-modest (entry (expression_or_nought (Err fault))) (Some fault) refl
+entry-modest (Err fault) = unless-modest (setting (entry (expression_or_nought (Err fault)))) (Some fault) refl
 
 short : (n : ℕ) → n ≤ 255 → nat_le n 255 ≡ true
 short n h = grind (arith, nat_tests)
@@ -97,11 +99,11 @@ short n h = grind (arith, nat_tests)
 values-modest : (size : ℕ) (operands : List ℕ) → is_size size ≡ true → length operands ≤ 255 → IsModest (values_said size operands)
 values-modest size [] h g = refl
 values-modest size (b ∷ bs) h g =
-    unless-modest (values size (b ∷ bs)) (values_fault size (pieces_of (b ∷ bs)))
+    unless-modest (contents (values size (b ∷ bs))) (values_fault size (pieces_of (b ∷ bs)))
     (both-true (is_size size) (nat_le (length (b ∷ bs)) 255) h (short _ g))
 
 quoted-modest : (test : Bool) (between : List ℕ) → length between ≤ 255
-    → IsModest (if test then said (Some (text between)) None else said None (Some A2))
+    → IsModest (if test then said (Some (contents (text between))) None else said None (Some A2))
 quoted-modest true between h = short _ h
 quoted-modest false between h = refl
 
@@ -121,15 +123,14 @@ said-modest word operands short-enough =
     let n = number_of operands in
     one-modest (is_word word (codes "la")) (load_said false (pieces_of operands)) _ (load-modest false (pieces_of operands)) (
     one-modest (is_word word (codes "cla")) (load_said true (pieces_of operands)) _ (load-modest true (pieces_of operands)) (
-    one-modest (is_word word (codes ".pages")) (number_said pages (Some (pages 0)) (page_count n)) _
-    (number-modest pages (Some (pages 0)) (page_count n) (λ _. refl) refl) (
-    one-modest (is_word word (codes ".mode")) (number_said (λ m. mode (m == 1)) (Some (mode false)) (up_to 1 n)) _
-    (number-modest (λ m. mode (m == 1)) (Some (mode false)) (up_to 1 n) (λ _. refl) refl) (
+    one-modest (is_word word (codes ".pages")) (pages_said n) _
+    (number-modest (λ m. setting (pages m)) (Some (setting (pages 0))) (page_range n) (λ _. refl) refl) (
+    one-modest (is_word word (codes ".mode")) (mode_said n) _
+    (number-modest (λ m. setting (mode (m == 1))) (Some (setting (mode false))) (up_to 1 n) (λ _. refl) refl) (
     one-modest (is_word word (codes ".entry")) (entry_said (expression_of operands)) _ (entry-modest (expression_of operands)) (
-    one-modest (is_word word (codes ".org")) (number_said org None (up_to (2 ^ 64 - 1) n)) _
-    (number-modest org None (up_to (2 ^ 64 - 1) n) (λ _. refl) refl) (
-    one-modest (is_word word (codes ".align")) (number_said align None (up_to 12 n)) _ (align-modest n) (
-    one-modest (is_word word (codes ".zero")) (number_said zeros None (up_to 268435456 n)) _ (zeros-modest n) (
+    one-modest (is_word word (codes ".org")) (origin_said n) _ (number-modest origin None (up_to (2 ^ 64 - 1) n) (λ _. refl) refl) (
+    one-modest (is_word word (codes ".align")) (align_said n) _ (align-modest n) (
+    one-modest (is_word word (codes ".zero")) (zeros_said n) _ (zeros-modest n) (
     one-modest (is_word word (codes ".byte")) (values_said 1 operands) _ (values-modest 1 operands refl short-enough) (
     one-modest (is_word word (codes ".half")) (values_said 2 operands) _ (values-modest 2 operands refl short-enough) (
     one-modest (is_word word (codes ".word")) (values_said 4 operands) _ (values-modest 4 operands refl short-enough) (

@@ -9,9 +9,10 @@ use Rattle.asm_lines.specs.declared.fault.LineFault.TheVariants.{A2, A3, A8, A9}
 use Rattle.asm_lines.specs.Text.{pieces_of, is_foreign, trimmed, uncommented, label_of, statement_text, mnemonic_of, operands_of}
 use Rattle.asm_lines.specs.Number.{Expression, number_of, expression_of}
 use Rattle.asm_lines.specs.Operand.{up_to, wrapped, filled_draft, filled_fault}
-use Rattle.asm_lines.specs.Statement.{Statement, row, pages, mode, org, align, zeros, values, text, Said, said, said_by, is_word, Pattern}
-use Rattle.asm_lines.specs.Statement.{pattern_of, pattern_said, draft_of, said_unless, register_load, load_said, number_said, page_count}
-use Rattle.asm_lines.specs.Statement.{entry_said, values_said, values_fault, text_said, is_quoted}
+use Rattle.asm_lines.specs.Statement.{Statement, instruction, setting, origin, contents, row, pages, mode, align, zeros, values, text, Said}
+use Rattle.asm_lines.specs.Statement.{said, said_by, is_word, Pattern, pattern_of, pattern_said, draft_of, said_unless, register_load}
+use Rattle.asm_lines.specs.Statement.{load_said, number_said, pages_said, mode_said, origin_said, align_said, zeros_said, entry_said}
+use Rattle.asm_lines.specs.Statement.{values_said, values_fault, text_said, is_quoted}
 use Rattle.asm_lines.specs.Line.{Line, line_meaning, line_said, line_of_text, labelled}
 use Rattle.assembler.specs.Buildable.{is_paged, is_paged_unless, is_paged_line}
 
@@ -25,7 +26,7 @@ unless-paged s (Some fault) h = refl
 pattern-paged : (p : Option Pattern) (operands : List ℕ) → IsPaged (pattern_said p operands)
 pattern-paged (Some p) operands =
     let d = filled_draft p.slots (pieces_of operands) (draft_of p) in
-    unless-paged (row d.insn d.target) (filled_fault p.slots (pieces_of operands) (draft_of p)) refl
+    unless-paged (instruction (row d.insn d.target)) (filled_fault p.slots (pieces_of operands) (draft_of p)) refl
 pattern-paged None operands = refl
 
 register_load-paged : (capability : Bool) (rd : Option ℕ) (value : Result Expression LineFault)
@@ -48,10 +49,11 @@ number-paged make other (Err fault) f = refl
 pages-within : (n : ℕ) → (nat_lt n 1 || nat_lt most_pages n) ≡ false → (nat_le 1 (n % 2 ^ 64) && nat_le (n % 2 ^ 64) most_pages) ≡ true
 pages-within n h = grind (arith, nat_tests)
 
-pages-paged : (r : Result ℤ LineFault) → IsPaged (number_said pages (Some (pages 0)) (page_count r))
+pages-paged : (r : Result ℤ LineFault) → IsPaged (pages_said r)
 pages-paged (Ok (pos n)) =
     elim (nat_lt n 1 || nat_lt most_pages n) as
-    (λ b. (nat_lt n 1 || nat_lt most_pages n) ≡ b → IsPaged (number_said pages (Some (pages 0)) (if b then Err A3 else Ok (pos n)))) [
+    (λ b. (nat_lt n 1 || nat_lt most_pages n) ≡ b
+    → IsPaged (number_said (λ m. setting (pages m)) (Some (setting (pages 0))) (if b then Err A3 else Ok (pos n)))) [
       | true ↦ λ e. refl
       | false ↦ λ e. pages-within n e
     ] refl
@@ -64,9 +66,9 @@ entry-paged (Err fault) = refl
 
 values-paged : (size : ℕ) (operands : List ℕ) → IsPaged (values_said size operands)
 values-paged size [] = refl
-values-paged size (b ∷ bs) = unless-paged (values size (b ∷ bs)) (values_fault size (pieces_of (b ∷ bs))) refl
+values-paged size (b ∷ bs) = unless-paged (contents (values size (b ∷ bs))) (values_fault size (pieces_of (b ∷ bs))) refl
 
-quoted-paged : (test : Bool) (between : List ℕ) → IsPaged (if test then said (Some (text between)) None else said None (Some A2))
+quoted-paged : (test : Bool) (between : List ℕ) → IsPaged (if test then said (Some (contents (text between))) None else said None (Some A2))
 quoted-paged true between = refl
 quoted-paged false between = refl
 
@@ -80,15 +82,14 @@ said-paged word operands =
     let n = number_of operands in
     one-paged (is_word word (codes "la")) (load_said false (pieces_of operands)) _ (load-paged false (pieces_of operands)) (
     one-paged (is_word word (codes "cla")) (load_said true (pieces_of operands)) _ (load-paged true (pieces_of operands)) (
-    one-paged (is_word word (codes ".pages")) (number_said pages (Some (pages 0)) (page_count n)) _ (pages-paged n) (
-    one-paged (is_word word (codes ".mode")) (number_said (λ m. mode (m == 1)) (Some (mode false)) (up_to 1 n)) _
-    (number-paged (λ m. mode (m == 1)) (Some (mode false)) (up_to 1 n) (λ _. refl)) (
+    one-paged (is_word word (codes ".pages")) (pages_said n) _ (pages-paged n) (
+    one-paged (is_word word (codes ".mode")) (mode_said n) _
+    (number-paged (λ m. setting (mode (m == 1))) (Some (setting (mode false))) (up_to 1 n) (λ _. refl)) (
     one-paged (is_word word (codes ".entry")) (entry_said (expression_of operands)) _ (entry-paged (expression_of operands)) (
-    one-paged (is_word word (codes ".org")) (number_said org None (up_to (2 ^ 64 - 1) n)) _
-    (number-paged org None (up_to (2 ^ 64 - 1) n) (λ _. refl)) (
-    one-paged (is_word word (codes ".align")) (number_said align None (up_to 12 n)) _ (number-paged align None (up_to 12 n) (λ _. refl)) (
-    one-paged (is_word word (codes ".zero")) (number_said zeros None (up_to 268435456 n)) _
-    (number-paged zeros None (up_to 268435456 n) (λ _. refl)) (
+    one-paged (is_word word (codes ".org")) (origin_said n) _ (number-paged origin None (up_to (2 ^ 64 - 1) n) (λ _. refl)) (
+    one-paged (is_word word (codes ".align")) (align_said n) _ (number-paged (λ m. contents (align m)) None (up_to 12 n) (λ _. refl)) (
+    one-paged (is_word word (codes ".zero")) (zeros_said n) _
+    (number-paged (λ m. contents (zeros m)) None (up_to 268435456 n) (λ _. refl)) (
     one-paged (is_word word (codes ".byte")) (values_said 1 operands) _ (values-paged 1 operands) (
     one-paged (is_word word (codes ".half")) (values_said 2 operands) _ (values-paged 2 operands) (
     one-paged (is_word word (codes ".word")) (values_said 4 operands) _ (values-paged 4 operands) (

@@ -1,38 +1,52 @@
 -- A line without a fault: its values are known, and its instructions have words.
-use Rattle.std.proofs.Common.{option_map, ◌≡◌, ℕ, Bool, true, false, not, inl, inr, if◌then◌else◌, ℤ, pos, negsuc, ◌-ℤ◌, List, [], ◌∷◌}
-use Rattle.std.proofs.Common.{Option, Some, None, is_none, refl, sym, ap, ◌∙◌, subst, arith}
+use Rattle.std.proofs.Common.{option_map, ◌≡◌, ℕ, Bool, true, false, not, ◌==◌, ◌⊎◌, inl, inr, map, if◌then◌else◌, ℤ, pos, negsuc, ◌-ℤ◌}
+use Rattle.std.proofs.Common.{List, [], ◌∷◌, Option, Some, None, is_none, refl, sym, ap, ◌∙◌, subst, arith}
+use Rattle.std.specs.Option.{option_or}
 use Rattle.std.proofs.lemmas.Bool.Decides.{nat_tests}
 use Rattle.std.proofs.lemmas.Int.{ints}
 use Rattle.isa_rows.specs.declared.formats.Format.{Format}
-use Rattle.isa_rows.specs.declared.formats.Format.TheVariants.{Upper, Jump, Immediate, Unsigned, Store, Branch, Shift6, Shift5, Register}
-use Rattle.isa_rows.specs.declared.formats.Format.TheVariants.{Whole, Unary, Pair}
+use Rattle.isa_rows.specs.declared.formats.Format.TheVariants.{Branch}
 use Rattle.isa_rows.specs.Line.{line_of}
 use Rattle.isa_rows.specs.Operands.{IsBranchOffset, IsJumpOffset}
 use Rattle.asm_lines.specs.declared.fault.LineFault.{LineFault}
 use Rattle.asm_lines.specs.declared.fault.LineFault.TheVariants as line
 use Rattle.asm_lines.specs.declared.parsed.Parsed.{Parsed}
 use Rattle.asm_lines.specs.declared.parsed.Statement.{Statement as Read}
-use Rattle.asm_lines.specs.declared.parsed.Statement.TheVariants.{Row, Load, Pages, Mode, Entry, Org, Align, Zero, Values, Text}
+use Rattle.asm_lines.specs.declared.parsed.Statement.TheVariants as read
+use Rattle.asm_lines.specs.declared.parsed.Instruction.TheVariants.{Row, Load}
+use Rattle.asm_lines.specs.declared.parsed.Setting.TheVariants.{Entry}
+use Rattle.asm_lines.specs.declared.parsed.Data.TheVariants.{Values}
 use Rattle.asm_lines.specs.Text.{pieces_of}
 use Rattle.asm_lines.specs.Number.{is_in_limits}
 use Rattle.asm_lines.specs.Operand.{wrapped}
-use Rattle.asm_lines.specs.Statement.{Statement, IsSize, is_in_size}
+use Rattle.asm_lines.specs.Statement.{Statement, is_size, is_in_size}
 use Rattle.asm_lines.specs.Line.{Line, RowFits, IsTargetOffset, IsBounded, IsBoundedIfAny, seen_expression, seen_statement, seen_line}
 use Rattle.assembler.specs.declared.fault.AsmCode.{AsmCode}
 use Rattle.assembler.specs.declared.fault.AsmCode.TheVariants.{A1, A2, A3, A4, A5, A6, A7}
-use Rattle.assembler.specs.Places.{Symbols}
-use Rattle.assembler.specs.Values.{value_of, any_value, known_and, is_beyond, has_value_beyond, has_unknown_name, is_out_of_reach}
-use Rattle.assembler.specs.Values.{is_reached, reach_of}
+use Rattle.assembler.specs.Places.{Symbols, size_at}
+use Rattle.assembler.specs.Values.{value_of, known_and, is_reached, reach_of, asked_value, asked_by, has_value_beyond, has_unknown_name}
+use Rattle.assembler.specs.Values.{is_out_of_reach}
+use Rattle.assembler.specs.Checks.{named_fault}
 use Rattle.assembler.specs.Bytes.{or_zero}
-use Rattle.assembler.specs.Faults.{Assembled, page_count, line_fault, is_statement_misplaced, lacks_place, size_at, is_instruction}
+use Rattle.assembler.specs.Faults.{Assembled, page_count, line_fault, is_statement_misplaced, lacks_place, is_instruction}
 use Rattle.assembler.specs.FaultLaws.{fault_by, fault_in_text, statement_fault, line_fault-by}
 use Rattle.assembler.proofs.TestLemmas.{or-false, not-false}
-use Rattle.assembler.specs.Sound.{IsKnown, ArePiecesKnown, IsValued, HasWords}
+use Rattle.assembler.specs.Sound.{IsValued, HasWords}
+use Rattle.assembler.proofs.AskedLemmas.{AreLimited, known-asked}
 
 -- a test before others that tells nothing
 if-none : {A : Type 0} (test : Bool) (x : A) (later : Option A) → (if test then Some x else later) ≡ None → (test ≡ false) × (later ≡ None)
 if-none true x later h = cc
 if-none false x later h = (refl, h)
+
+not-none : {A : Type 0} (test : Bool) (x : A) (later : Option A) → (if not test then later else Some x) ≡ None
+    → (test ≡ false) × (later ≡ None)
+not-none true x later h = cc
+not-none false x later h = (refl, h)
+
+neither : {A : Type 0} (first later : Option A) → option_or first later ≡ None → (first ≡ None) × (later ≡ None)
+neither None later h = (refl, h)
+neither (Some x) later h = cc
 
 no-fault : (code : AsmCode) → Some code ≡ None → ⊥
 no-fault code h = cc
@@ -46,12 +60,13 @@ pub record IsFaultless (symbols : Symbols) (s : Assembled) (statement : Statemen
 
 pub statement_fault-none : (symbols : Symbols) (s : Assembled) (statement : Statement) → statement_fault symbols s statement ≡ None
     → IsFaultless symbols s statement
-unfolding statement_fault
+unfolding statement_fault named_fault has_value_beyond has_unknown_name is_out_of_reach
 statement_fault-none symbols s statement h =
-    let a = if-none _ A3 _ h in
-    let b = if-none _ A5 _ a.1 in
-    let c = if-none _ A6 _ b.1 in
-    let d = if-none _ A7 None c.1 in
+    let both = neither _ _ h in
+    let a = not-none _ A3 _ both.0 in
+    let b = not-none _ A5 _ a.1 in
+    let c = not-none _ A6 _ b.1 in
+    let d = if-none _ A7 None both.1 in
     record { in_range = a.0; named = b.0; near = c.0; placed = d.0 }
 
 -- a line that has no fault
@@ -75,47 +90,45 @@ line_fault-none symbols s l h =
     let a = fault_by-none symbols s l l.fault (sym (line_fault-by symbols s l) ∙ h) in
     record { parsed = a.0; timely = a.1; in_text = a.2 }
 
--- a value that is neither unknown nor beyond the limits
-known-value : (value : Option ℤ) → is_beyond value ≡ false → is_none value ≡ false → IsKnown value
-known-value None h g = cc
-known-value (Some v) h g = elim (is_in_limits v) as (λ b. not b ≡ false → b ≡ true) [ true ↦ λ _. refl | false ↦ λ e. cc ] h
+-- the values of so many bytes lie within the limits
+one-size : (n : ℕ) → is_size n ≡ true → (n ≡ 1) ⊎ ((n ≡ 2) ⊎ ((n ≡ 4) ⊎ (n ≡ 8)))
+one-size n h =
+    elim (n == 1) as (λ b. (n == 1) ≡ b → (n ≡ 1) ⊎ ((n ≡ 2) ⊎ ((n ≡ 4) ⊎ (n ≡ 8)))) [
+      | true ↦ λ e. inl (grind (arith, nat_tests))
+      | false ↦ λ e.
+          elim (n == 2) as (λ b. (n == 2) ≡ b → (n ≡ 1) ⊎ ((n ≡ 2) ⊎ ((n ≡ 4) ⊎ (n ≡ 8)))) [
+            | true ↦ λ f. inr (inl (grind (arith, nat_tests)))
+            | false ↦ λ f.
+                elim (n == 4) as (λ b. (n == 4) ≡ b → (n ≡ 1) ⊎ ((n ≡ 2) ⊎ ((n ≡ 4) ⊎ (n ≡ 8)))) [
+                  | true ↦ λ g. inr (inr (inl (grind (arith, nat_tests))))
+                  | false ↦ λ g. inr (inr (inr (grind (arith, nat_tests))))
+                ] refl
+          ] refl
+    ] refl
 
-in-size-limits : (size : ℕ) (v : ℤ) → IsSize size → not (is_in_size size v) ≡ false → is_in_limits v ≡ true
+in-size-limits : (size : ℕ) (v : ℤ) → (size ≡ 1) ⊎ ((size ≡ 2) ⊎ ((size ≡ 4) ⊎ (size ≡ 8))) → is_in_size size v ≡ true
+    → is_in_limits v ≡ true
 in-size-limits size v (inl e) h = let g = rw e at h in grind (arith, ints, nat_tests)
 in-size-limits size v (inr (inl e)) h = let g = rw e at h in grind (arith, ints, nat_tests)
 in-size-limits size v (inr (inr (inl e))) h = let g = rw e at h in grind (arith, ints, nat_tests)
 in-size-limits size v (inr (inr (inr e))) h = let g = rw e at h in grind (arith, ints, nat_tests)
 
-sized-value : (size : ℕ) (value : Option ℤ) → IsSize size → known_and (λ v. not (is_in_size size v)) value ≡ false → is_none value ≡ false
-    → IsKnown value
-sized-value size None s h g = cc
-sized-value size (Some v) s h g = in-size-limits size v s h
+limited-values : (size : ℕ) (ps : List (List ℕ)) → is_size size ≡ true → AreLimited (map (asked_value size) ps)
+limited-values size [] h = tt
+limited-values size (p ∷ ps) h = (λ v g. in-size-limits size v (one-size size h) g, limited-values size ps h)
 
-known-pieces : (size : ℕ) (symbols : Symbols) (here : ℕ) (ps : List (List ℕ)) → IsSize size
-    → any_value (known_and (λ v. not (is_in_size size v))) symbols here ps ≡ false → any_value is_none symbols here ps ≡ false
-    → ArePiecesKnown symbols here ps
-known-pieces size symbols here [] s h g = tt
-known-pieces size symbols here (p ∷ ps) s h g =
-    let a = or-false _ _ h in
-    let b = or-false _ _ g in
-    (sized-value size _ s a.0 b.0, known-pieces size symbols here ps s a.1 b.1)
+limited : (r : Read) → IsBounded r → AreLimited (asked_by (seen_statement r))
+limited (read.Instruction (Row i (Some e))) b = (λ v h. h, tt)
+limited (read.Instruction (Load capability rd value)) b = (λ v h. h, tt)
+limited (read.Setting (Entry e)) b = (λ v h. h, tt)
+limited (read.Data (Values size operands)) b = limited-values size (pieces_of operands.now) b
+limited other b = tt
 
 -- each value of a statement without a fault is known
 faultless-valued : (symbols : Symbols) (s : Assembled) (r : Read) → IsBounded r → IsFaultless symbols s (seen_statement r)
     → IsValued symbols s.places.place (seen_statement r)
 unfolding has_value_beyond has_unknown_name
-faultless-valued symbols s (Row i None) b f = tt
-faultless-valued symbols s (Row i (Some e)) b f = known-value _ f.in_range f.named
-faultless-valued symbols s (Load capability rd value) b f = known-value _ f.in_range f.named
-faultless-valued symbols s (Pages n) b f = tt
-faultless-valued symbols s (Mode m) b f = tt
-faultless-valued symbols s (Entry e) b f = known-value _ f.in_range f.named
-faultless-valued symbols s (Org n) b f = tt
-faultless-valued symbols s (Align n) b f = tt
-faultless-valued symbols s (Zero n) b f = tt
-faultless-valued symbols s (Values size operands) b f =
-    known-pieces size symbols s.places.place (pieces_of operands.now) b f.in_range f.named
-faultless-valued symbols s (Text between) b f = tt
+faultless-valued symbols s r b f = known-asked symbols s.places.place (asked_by (seen_statement r)) (limited r b) f.in_range f.named
 
 -- an even distance within reach is one that the format holds
 jump-offset : (d : ℤ) → is_reached 1048576 d ≡ true → IsJumpOffset (wrapped d)
@@ -127,18 +140,8 @@ branch-offset (pos n) h = (grind (arith, nat_tests), inl (grind (arith, nat_test
 branch-offset (negsuc n) h = (grind (arith, nat_tests), inr (grind (arith, nat_tests), grind (arith, nat_tests)))
 
 reached-offset : (format : Format) (d : ℤ) → is_reached (reach_of format) d ≡ true → IsTargetOffset format (wrapped d)
-reached-offset Upper d h = jump-offset d h
-reached-offset Jump d h = jump-offset d h
-reached-offset Immediate d h = jump-offset d h
-reached-offset Unsigned d h = jump-offset d h
-reached-offset Store d h = jump-offset d h
 reached-offset Branch d h = branch-offset d h
-reached-offset Shift6 d h = jump-offset d h
-reached-offset Shift5 d h = jump-offset d h
-reached-offset Register d h = jump-offset d h
-reached-offset Whole d h = jump-offset d h
-reached-offset Unary d h = jump-offset d h
-reached-offset Pair d h = jump-offset d h
+reached-offset other d h = jump-offset d h
 
 near-offset : (format : Format) (here : ℕ) (value : Option ℤ) → is_none value ≡ false
     → known_and (λ v. not (is_reached (reach_of format) (v -ℤ pos here))) value ≡ false
@@ -151,19 +154,15 @@ faultless-words : (symbols : Symbols) (s : Assembled) (l : Line) (r : Read) → 
     → l.statement ≡ Some (seen_statement r) → l.fault ≡ None → IsFaultless symbols s (seen_statement r)
     → HasWords symbols s.places.place (seen_statement r)
 unfolding has_unknown_name is_out_of_reach
-faultless-words symbols s l (Row i None) b fits e p f = fits i None e p
-faultless-words symbols s l (Row i (Some x)) b fits e p f =
+faultless-words symbols s l (read.Instruction (Row i None)) b fits e p f = fits i None e p
+faultless-words symbols s l (read.Instruction (Row i (Some x))) b fits e p f =
     fits i (Some (seen_expression x)) e p _
-    (near-offset (line_of i.row).format s.places.place (value_of symbols s.places.place (seen_expression x)) f.named f.near)
-faultless-words symbols s l (Load capability rd value) b fits e p f = b.0
-faultless-words symbols s l (Pages n) b fits e p f = tt
-faultless-words symbols s l (Mode m) b fits e p f = tt
-faultless-words symbols s l (Entry x) b fits e p f = tt
-faultless-words symbols s l (Org n) b fits e p f = tt
-faultless-words symbols s l (Align n) b fits e p f = tt
-faultless-words symbols s l (Zero n) b fits e p f = tt
-faultless-words symbols s l (Values size operands) b fits e p f = tt
-faultless-words symbols s l (Text between) b fits e p f = tt
+    (near-offset (line_of i.row).format s.places.place (value_of symbols s.places.place (seen_expression x)) (or-false _ _ f.named).0
+    (or-false _ _ f.near).0)
+faultless-words symbols s l (read.Instruction (Load capability rd value)) b fits e p f = b.0
+faultless-words symbols s l (read.Setting t) b fits e p f = tt
+faultless-words symbols s l (read.Origin n) b fits e p f = tt
+faultless-words symbols s l (read.Data d) b fits e p f = tt
 
 -- what a line without a fault gives those who place its statement
 pub record IsSound (symbols : Symbols) (s : Assembled) (r : Read) : Type 0 where

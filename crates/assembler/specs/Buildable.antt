@@ -3,22 +3,14 @@ use Rattle.std.specs.Prelude.{◌≡◌, ℕ, ◌+◌, ◌<◌, ◌≤◌, Bool,
 use Rattle.base.specs.Ram.{ram_base, ram_end, most_pages}
 use Rattle.image.specs.Image.{Section, is_good_header, sections_fault}
 use Rattle.asm_lines.specs.declared.fault.LineFault.{LineFault}
-use Rattle.asm_lines.specs.Statement.{Statement, row, load, pages, mode, entry, org, align, zeros, values, text}
+use Rattle.asm_lines.specs.Statement.{Statement, setting, pages}
 use Rattle.asm_lines.specs.Line.{Line}
 use Rattle.assembler.specs.Faults.{Assembled, given, page_count, is_taken}
 
 -- a number of pages, where no fault says that it is none, is 1 to the most
 abbrev pub is_paged : Statement → Bool
-is_paged (row i target) = true
-is_paged (load capability rd value) = true
-is_paged (pages n) = nat_le 1 n && nat_le n most_pages
-is_paged (mode m) = true
-is_paged (entry e) = true
-is_paged (org n) = true
-is_paged (align bits) = true
-is_paged (zeros n) = true
-is_paged (values size operands) = true
-is_paged (text between) = true
+is_paged (setting (pages n)) = nat_le 1 n && nat_le n most_pages
+is_paged other = true
 
 abbrev pub is_paged_or_none : Option Statement → Bool
 is_paged_or_none None = true

@@ -11,8 +11,8 @@ use Rattle.isa_rows.specs.InsnLaws.{insn_word}
 use Rattle.asm_lines.specs.Text.{pieces_of}
 use Rattle.asm_lines.specs.Number.{Expression, expression_of}
 use Rattle.asm_lines.specs.Operand.{wrapped}
-use Rattle.asm_lines.specs.Statement.{Statement, row, load, pages, mode, entry, org, align, zeros, values, text, text_bytes}
-use Rattle.asm_lines.specs.Statement.{expression_or_nought}
+use Rattle.asm_lines.specs.Statement.{Statement, instruction, contents, Instruction, row, load, Data, align, zeros, values, text}
+use Rattle.asm_lines.specs.Statement.{text_bytes, expression_or_nought}
 use Rattle.assembler.specs.Places.{Symbols, aligned}
 use Rattle.assembler.specs.Values.{value_of}
 
@@ -50,14 +50,17 @@ load_bytes capability rd distance =
 unfoldable pub value_bytes : Symbols → ℕ → ℕ → List ℕ → List ℕ
 value_bytes symbols here size piece = little_bytes size (wrapped (value_at symbols here (expression_or_nought (expression_of piece))))
 
+abbrev pub instruction_bytes : Symbols → ℕ → Instruction → List ℕ
+instruction_bytes symbols here (row i target) = insn_bytes (aimed symbols here i target)
+instruction_bytes symbols here (load capability rd value) = load_bytes capability rd (value_at symbols here value -ℤ pos here)
+
+abbrev pub data_bytes : Symbols → ℕ → Data → List ℕ
+data_bytes symbols here (align bits) = replicate (aligned here bits - here) 0
+data_bytes symbols here (zeros n) = replicate n 0
+data_bytes symbols here (values size operands) = flat_map (value_bytes symbols here size) (pieces_of operands)
+data_bytes symbols here (text between) = text_bytes between
+
 unfoldable pub bytes_at : Symbols → ℕ → Statement → List ℕ
-bytes_at symbols here (row i target) = insn_bytes (aimed symbols here i target)
-bytes_at symbols here (load capability rd value) = load_bytes capability rd (value_at symbols here value -ℤ pos here)
-bytes_at symbols here (pages n) = []
-bytes_at symbols here (mode m) = []
-bytes_at symbols here (entry e) = []
-bytes_at symbols here (org n) = []
-bytes_at symbols here (align bits) = replicate (aligned here bits - here) 0
-bytes_at symbols here (zeros n) = replicate n 0
-bytes_at symbols here (values size operands) = flat_map (value_bytes symbols here size) (pieces_of operands)
-bytes_at symbols here (text between) = text_bytes between
+bytes_at symbols here (instruction i) = instruction_bytes symbols here i
+bytes_at symbols here (contents d) = data_bytes symbols here d
+bytes_at symbols here other = []

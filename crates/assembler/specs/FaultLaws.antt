@@ -1,6 +1,7 @@
 -- The first fault of a line by cases, as the code decides it.
 use Rattle.std.proofs.Common.{◌≡◌, ℕ, Bool, true, false, not, List, [], ◌∷◌, Option, Some, None, refl}
 use Rattle.std.specs.Prelude.{if◌then◌else◌}
+use Rattle.std.specs.Option.{option_or}
 use Rattle.base.specs.FirstFault.{first_fault}
 use Rattle.asm_lines.specs.declared.fault.LineFault.{LineFault}
 use Rattle.asm_lines.specs.declared.fault.LineFault.TheVariants as line
@@ -10,16 +11,13 @@ use Rattle.assembler.specs.declared.fault.AsmCode.{AsmCode}
 use Rattle.assembler.specs.declared.fault.AsmCode.TheVariants.{A1, A2, A3, A4, A5, A6, A7, A8, A9}
 use Rattle.assembler.specs.Places.{Symbols}
 use Rattle.assembler.specs.Values.{has_value_beyond, has_unknown_name, is_out_of_reach}
-use Rattle.assembler.specs.Faults.{Assembled, page_count, lacks_place_for, is_repeated, is_statement_misplaced, line_checks, line_fault}
+use Rattle.assembler.specs.Checks.{named_fault}
+use Rattle.assembler.specs.Faults.{Assembled, page_count, lacks_place_for, is_repeated, is_statement_misplaced, line_fault}
 
--- the first fault of a statement that stands in the text, whose line alone has none: of the values, of the names, of the reach, of the
--- place
+-- the first fault of a statement that stands in the text, whose line alone has none: of what it names, then of its place
 unfoldable pub statement_fault : Symbols → Assembled → Statement → Option AsmCode
 statement_fault symbols s statement =
-    if has_value_beyond symbols s.places.place statement then Some A3
-    else (if has_unknown_name symbols s.places.place statement then Some A5
-    else (if is_out_of_reach (page_count s) symbols s.places.place statement then Some A6
-    else (if lacks_place_for s statement then Some A7 else None)))
+    option_or (named_fault (page_count s) symbols s.places.place statement) (if lacks_place_for s statement then Some A7 else None)
 
 abbrev pub fault_in_text : Symbols → Assembled → Option Statement → Option AsmCode
 fault_in_text symbols s None = None
@@ -42,14 +40,14 @@ turned : (b : Bool) (x y : Option AsmCode) → (if not b then x else y) ≡ (if 
 turned true x y = refl
 turned false x y = refl
 
-in_order : (beyond unknown far placeless : Bool)
-    → first_fault ((not beyond, A3) ∷ (not unknown, A5) ∷ (not far, A6) ∷ (not placeless, A7) ∷ [])
-    ≡ (if beyond then Some A3 else (if unknown then Some A5 else (if far then Some A6 else (if placeless then Some A7 else None))))
-in_order true unknown far placeless = refl
-in_order false true far placeless = refl
-in_order false false true placeless = refl
-in_order false false false true = refl
-in_order false false false false = refl
+in_order : (in_range named near : Bool) (placeless : Bool)
+    → first_fault ((in_range, A3) ∷ (named, A5) ∷ (near, A6) ∷ (not placeless, A7) ∷ [])
+    ≡ option_or (first_fault ((in_range, A3) ∷ (named, A5) ∷ (near, A6) ∷ [])) (if placeless then Some A7 else None)
+in_order false named near placeless = refl
+in_order true false near placeless = refl
+in_order true true false placeless = refl
+in_order true true true true = refl
+in_order true true true false = refl
 
 placed : (repeated misplaced : Bool) (rest other : Option AsmCode) → rest ≡ other
     → (if not repeated then (if not misplaced then rest else Some A2) else Some A4)
@@ -61,12 +59,12 @@ placed false false rest other same = same
 by_statement : (symbols : Symbols) (s : Assembled) (label : Option (List ℕ)) (statement : Option Statement)
     → line_fault symbols s (record { label = label; statement = statement; fault = None })
     ≡ fault_by symbols s (record { label = label; statement = statement; fault = None }) None
-unfolding line_fault fault_by statement_fault
+unfolding line_fault fault_by statement_fault named_fault has_value_beyond has_unknown_name is_out_of_reach
 by_statement symbols s label None = placed (is_repeated s label) false None None refl
 by_statement symbols s label (Some statement) =
     placed (is_repeated s label) (is_statement_misplaced s (Some statement)) _ _
-    (in_order (has_value_beyond symbols s.places.place statement) (has_unknown_name symbols s.places.place statement)
-    (is_out_of_reach (page_count s) symbols s.places.place statement) (lacks_place_for s statement))
+    (in_order (not (has_value_beyond symbols s.places.place statement)) (not (has_unknown_name symbols s.places.place statement))
+    (not (is_out_of_reach (page_count s) symbols s.places.place statement)) (lacks_place_for s statement))
 
 by_fault : (symbols : Symbols) (s : Assembled) (label : Option (List ℕ)) (statement : Option Statement) (fault : Option LineFault)
     → line_fault symbols s (record { label = label; statement = statement; fault = fault })

@@ -1,5 +1,5 @@
 -- What is assembled so far, and the first fault of the next line.
-use Rattle.std.specs.Prelude.{ℕ, ◌+◌, ◌-◌, ◌%◌, Bool, true, false, not, ◌&&◌, ◌||◌, ◌==◌, nat_lt, nat_le, if◌then◌else◌, List, [], ◌∷◌}
+use Rattle.std.specs.Prelude.{ℕ, ◌+◌, ◌%◌, Bool, true, false, not, ◌&&◌, ◌||◌, ◌==◌, nat_lt, nat_le, if◌then◌else◌, List, [], ◌∷◌}
 use Rattle.std.specs.Prelude.{◌++◌, length, Option, Some, None, is_some}
 use Rattle.base.specs.FirstFault.{first_fault}
 use Rattle.base.specs.Ram.{ram_base, ram_end}
@@ -7,11 +7,11 @@ use Rattle.image.specs.Image.{Section}
 use Rattle.asm_lines.specs.declared.fault.LineFault.{LineFault}
 use Rattle.asm_lines.specs.declared.fault.LineFault.TheVariants as line
 use Rattle.asm_lines.specs.Operand.{wrapped}
-use Rattle.asm_lines.specs.Statement.{Statement, row, load, pages, mode, entry, org, align, zeros, values, text}
+use Rattle.asm_lines.specs.Statement.{Statement, instruction, setting, origin, Setting, pages, mode, entry}
 use Rattle.asm_lines.specs.Line.{Line}
 use Rattle.assembler.specs.declared.fault.AsmCode.{AsmCode}
 use Rattle.assembler.specs.declared.fault.AsmCode.TheVariants.{A1, A2, A3, A4, A5, A6, A7, A8, A9}
-use Rattle.assembler.specs.Places.{Symbols, Places, value_in, end_of, places_after, opening_places}
+use Rattle.assembler.specs.Places.{Symbols, Places, value_in, size_at, places_after, opening_places}
 use Rattle.assembler.specs.Values.{has_value_beyond, has_unknown_name, is_out_of_reach}
 use Rattle.assembler.specs.Bytes.{bytes_at, value_at}
 
@@ -37,41 +37,15 @@ page_count s = given 1 s.pages
 
 -- a directive that is repeated, or comes too late (A2)
 abbrev pub is_misplaced : Assembled → Statement → Bool
-is_misplaced s (row i target) = false
-is_misplaced s (load capability rd value) = false
-is_misplaced s (pages n) = is_some s.pages || s.begun
-is_misplaced s (mode m) = is_some s.mode || s.begun
-is_misplaced s (entry e) = is_some s.entry
-is_misplaced s (org n) = false
-is_misplaced s (align bits) = false
-is_misplaced s (zeros n) = false
-is_misplaced s (values size operands) = false
-is_misplaced s (text between) = false
+is_misplaced s (setting (pages n)) = is_some s.pages || s.begun
+is_misplaced s (setting (mode m)) = is_some s.mode || s.begun
+is_misplaced s (setting (entry e)) = is_some s.entry
+is_misplaced s other = false
 
--- the number of bytes that a statement at a place takes, and whether they are an instruction's
-abbrev pub size_at : Statement → ℕ → ℕ
-size_at (row i target) place = 4
-size_at (load capability rd value) place = 8
-size_at (pages n) place = 0
-size_at (mode m) place = 0
-size_at (entry e) place = 0
-size_at (org n) place = 0
-size_at (align bits) place = end_of (align bits) place - place
-size_at (zeros n) place = n
-size_at (values size operands) place = end_of (values size operands) place - place
-size_at (text between) place = end_of (text between) place - place
-
+-- whether a statement's bytes are an instruction's
 abbrev pub is_instruction : Statement → Bool
-is_instruction (row i target) = true
-is_instruction (load capability rd value) = true
-is_instruction (pages n) = false
-is_instruction (mode m) = false
-is_instruction (entry e) = false
-is_instruction (org n) = false
-is_instruction (align bits) = false
-is_instruction (zeros n) = false
-is_instruction (values size operands) = false
-is_instruction (text between) = false
+is_instruction (instruction i) = true
+is_instruction other = false
 
 -- some byte from a place to an end lies in one of the sections
 abbrev pub is_taken : ℕ → ℕ → List Section → Bool
@@ -81,10 +55,10 @@ is_taken from to (s ∷ ss) = (nat_lt from (s.address + length s.bytes) && nat_l
 -- Bytes that have no place (A7): outside RAM, where an earlier line places one, the first byte of a 65th section; or an instruction at no
 -- multiple of 4. No byte has always its place.
 abbrev pub lacks_place : Assembled → ℕ → ℕ → Bool → Bool
-lacks_place s place size instruction =
+lacks_place s place size is_code =
     nat_lt 0 size
     && (nat_lt place ram_base || (nat_lt (ram_end (page_count s)) (place + size) || (is_taken place (place + size) s.done
-    || (((length s.current.bytes == 0) && nat_le 64 (length s.done)) || (instruction && not (place % 4 == 0))))))
+    || (((length s.current.bytes == 0) && nat_le 64 (length s.done)) || (is_code && not (place % 4 == 0))))))
 
 abbrev pub lacks_place_for : Assembled → Statement → Bool
 lacks_place_for s statement = lacks_place s s.places.place (size_at statement s.places.place) (is_instruction statement)
@@ -151,17 +125,15 @@ filled s bytes = record { address = s.address; bytes = s.bytes ++ bytes }
 abbrev pub with_bytes : Assembled → List ℕ → Assembled
 with_bytes s bytes = record s { begun = true; current = filled s.current bytes }
 
+abbrev pub with_setting : Symbols → Assembled → Setting → Assembled
+with_setting symbols s (pages n) = record s { pages = Some n }
+with_setting symbols s (mode m) = record s { mode = Some m }
+with_setting symbols s (entry e) = record s { begun = true; entry = Some (wrapped (value_at symbols s.places.place e)) }
+
 abbrev pub with_statement : Symbols → Assembled → Statement → Assembled
-with_statement symbols s (row i target) = with_bytes s (bytes_at symbols s.places.place (row i target))
-with_statement symbols s (load capability rd value) = with_bytes s (bytes_at symbols s.places.place (load capability rd value))
-with_statement symbols s (pages n) = record s { pages = Some n }
-with_statement symbols s (mode m) = record s { mode = Some m }
-with_statement symbols s (entry e) = record s { begun = true; entry = Some (wrapped (value_at symbols s.places.place e)) }
-with_statement symbols s (org n) = record s { begun = true; done = closed s.done s.current; current = empty_at n }
-with_statement symbols s (align bits) = with_bytes s (bytes_at symbols s.places.place (align bits))
-with_statement symbols s (zeros n) = with_bytes s (bytes_at symbols s.places.place (zeros n))
-with_statement symbols s (values size operands) = with_bytes s (bytes_at symbols s.places.place (values size operands))
-with_statement symbols s (text between) = with_bytes s (bytes_at symbols s.places.place (text between))
+with_statement symbols s (setting t) = with_setting symbols s t
+with_statement symbols s (origin n) = record s { begun = true; done = closed s.done s.current; current = empty_at n }
+with_statement symbols s other = with_bytes s (bytes_at symbols s.places.place other)
 
 abbrev pub with_statement_of : Symbols → Assembled → Option Statement → Assembled
 with_statement_of symbols s None = s

@@ -5,7 +5,8 @@ use Rattle.std.specs.Prelude.{is_some, ◌==◌}
 use Rattle.std.specs.List.{slice_split}
 use Rattle.std.specs.Cmp.Lexicographic.{pointwise}
 use Rattle.asm_lines.specs.Text.{pieces_of}
-use Rattle.asm_lines.specs.Statement.{Statement, row, load, pages, mode, entry, org, align, zeros, values, text, text_bytes}
+use Rattle.asm_lines.specs.Statement.{Statement, instruction, setting, origin, contents, Instruction, row, load, Data, align, zeros, values}
+use Rattle.asm_lines.specs.Statement.{text, text_bytes}
 use Rattle.asm_lines.specs.Line.{Line, line_meaning}
 
 -- the lines of a text: what stands between line feeds (behind the last one an empty line, which says nothing)
@@ -24,18 +25,27 @@ value_in (s ∷ ss) name = if pointwise nat_eq name s.0 then Some s.1 else value
 abbrev pub aligned : ℕ → ℕ → ℕ
 aligned place bits = (place + 2 ^ bits - 1) / 2 ^ bits * 2 ^ bits
 
+-- the number of bytes that a statement at a place takes
+abbrev pub instruction_size : Instruction → ℕ
+instruction_size (row i target) = 4
+instruction_size (load capability rd value) = 8
+
+abbrev pub data_size : Data → ℕ → ℕ
+data_size (align bits) place = aligned place bits - place
+data_size (zeros n) place = n
+data_size (values size operands) place = size * length (pieces_of operands)
+data_size (text between) place = length (text_bytes between)
+
+unfoldable pub size_at : Statement → ℕ → ℕ
+size_at (instruction i) place = instruction_size i
+size_at (setting s) place = 0
+size_at (origin n) place = 0
+size_at (contents d) place = data_size d place
+
 -- where a statement that stands at a place ends
 unfoldable pub end_of : Statement → ℕ → ℕ
-end_of (row i target) place = place + 4
-end_of (load capability rd value) place = place + 8
-end_of (pages n) place = place
-end_of (mode m) place = place
-end_of (entry e) place = place
-end_of (org n) place = n
-end_of (align bits) place = aligned place bits
-end_of (zeros n) place = place + n
-end_of (values size operands) place = place + size * length (pieces_of operands)
-end_of (text between) place = place + length (text_bytes between)
+end_of (origin n) place = n
+end_of s place = place + size_at s place
 
 -- the place of the next statement, and the labels so far
 pub record Places : Type 0 where

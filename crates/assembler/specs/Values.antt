@@ -1,16 +1,16 @@
--- The values of expressions, and whether they are in range.
-use Rattle.std.specs.Prelude.{ℕ, ◌-◌, ◌%◌, ◌^◌, Bool, false, not, ◌&&◌, ◌||◌, ◌==◌, if◌then◌else◌, ℤ, pos, neg_ℤ, ◌+ℤ◌, ◌-ℤ◌, int_lt, List}
-use Rattle.std.specs.Prelude.{[], ◌∷◌, Option, Some, None, is_none}
+-- The values of expressions, and what statements ask of them: that they are in range, known and within reach.
+use Rattle.std.specs.Prelude.{ℕ, ◌-◌, ◌%◌, ◌^◌, Bool, true, false, not, ◌&&◌, ◌==◌, if◌then◌else◌, ℤ, pos, neg_ℤ, ◌+ℤ◌, ◌-ℤ◌, int_lt, List}
+use Rattle.std.specs.Prelude.{[], ◌∷◌, map, Option, Some, None, is_none}
+use Rattle.std.specs.List.{list_any}
 use Rattle.isa_rows.specs.declared.formats.Format.{Format}
 use Rattle.isa_rows.specs.declared.formats.Format.TheVariants.{Branch}
-use Rattle.isa_rows.specs.declared.operands.Insn.{Insn}
 use Rattle.isa_rows.specs.Line.{line_of}
 use Rattle.image.specs.Image.{is_good_header}
 use Rattle.asm_lines.specs.Text.{pieces_of, is_dot}
 use Rattle.asm_lines.specs.Number.{Expression, expression_of, is_in_limits}
 use Rattle.asm_lines.specs.Operand.{wrapped}
-use Rattle.asm_lines.specs.Statement.{Statement, row, load, pages, mode, entry, org, align, zeros, values, text, is_in_size}
-use Rattle.asm_lines.specs.Statement.{expression_or_nought}
+use Rattle.asm_lines.specs.Statement.{Statement, instruction, setting, origin, contents, Instruction, row, load, Setting, entry, Data}
+use Rattle.asm_lines.specs.Statement.{values, is_in_size, expression_or_nought}
 use Rattle.assembler.specs.Places.{Symbols, value_in}
 
 -- the value of an expression of a statement at a place; none where its name is unknown. The name `.` is worth the place.
@@ -30,50 +30,6 @@ abbrev pub known_and : (ℤ → Bool) → Option ℤ → Bool
 known_and test None = false
 known_and test (Some value) = test value
 
--- the expressions between commas, all of which are written well
-abbrev pub any_value : (Option ℤ → Bool) → Symbols → ℕ → List (List ℕ) → Bool
-any_value test symbols here [] = false
-any_value test symbols here (p ∷ ps) =
-    test (value_of symbols here (expression_or_nought (expression_of p))) || any_value test symbols here ps
-
--- A value beyond the limits of numbers, or of its size (A3).
-abbrev pub is_beyond : Option ℤ → Bool
-is_beyond value = known_and (λ v. not (is_in_limits v)) value
-
-abbrev pub target_beyond : Symbols → ℕ → Option Expression → Bool
-target_beyond symbols here None = false
-target_beyond symbols here (Some e) = is_beyond (value_of symbols here e)
-
-unfoldable pub has_value_beyond : Symbols → ℕ → Statement → Bool
-has_value_beyond symbols here (row i target) = target_beyond symbols here target
-has_value_beyond symbols here (load capability rd value) = is_beyond (value_of symbols here value)
-has_value_beyond symbols here (pages n) = false
-has_value_beyond symbols here (mode m) = false
-has_value_beyond symbols here (entry e) = is_beyond (value_of symbols here e)
-has_value_beyond symbols here (org n) = false
-has_value_beyond symbols here (align bits) = false
-has_value_beyond symbols here (zeros n) = false
-has_value_beyond symbols here (values size operands) =
-    any_value (known_and (λ v. not (is_in_size size v))) symbols here (pieces_of operands)
-has_value_beyond symbols here (text between) = false
-
--- A name that no line defines (A5).
-abbrev pub target_unknown : Symbols → ℕ → Option Expression → Bool
-target_unknown symbols here None = false
-target_unknown symbols here (Some e) = is_none (value_of symbols here e)
-
-unfoldable pub has_unknown_name : Symbols → ℕ → Statement → Bool
-has_unknown_name symbols here (row i target) = target_unknown symbols here target
-has_unknown_name symbols here (load capability rd value) = is_none (value_of symbols here value)
-has_unknown_name symbols here (pages n) = false
-has_unknown_name symbols here (mode m) = false
-has_unknown_name symbols here (entry e) = is_none (value_of symbols here e)
-has_unknown_name symbols here (org n) = false
-has_unknown_name symbols here (align bits) = false
-has_unknown_name symbols here (zeros n) = false
-has_unknown_name symbols here (values size operands) = any_value is_none symbols here (pieces_of operands)
-has_unknown_name symbols here (text between) = false
-
 -- how far a branch or jal reaches: an even distance of 13 or 21 bits with the sign (unprivileged manual, B and J immediates)
 abbrev pub reach_of : Format → ℕ
 reach_of Branch = 4096
@@ -91,21 +47,56 @@ is_loadable distance = not (int_lt distance (neg_ℤ (pos (2 ^ 31)))) && int_lt 
 abbrev pub is_entry : ℕ → ℤ → Bool
 is_entry page_count value = not (int_lt value (pos 0)) && is_good_header page_count (wrapped value) 0
 
--- A target, a value or an entry that is out of reach (A6).
-abbrev pub target_far : Symbols → ℕ → Insn → Option Expression → Bool
-target_far symbols here i None = false
-target_far symbols here i (Some e) =
-    known_and (λ v. not (is_reached (reach_of (line_of i.row).format) (v -ℤ pos here))) (value_of symbols here e)
+-- What a statement asks of an expression: the range of its value (another is A3), and what the value reaches in an image of so many pages,
+-- from the statement's place (another is A6).
+pub record Asked : Type 0 where
+  pub expression : Expression
+  pub is_in_range : ℤ → Bool
+  pub is_near : ℕ → ℕ → ℤ → Bool
+
+abbrev pub asked : Expression → (ℤ → Bool) → (ℕ → ℕ → ℤ → Bool) → Asked
+asked e range near = record { expression = e; is_in_range = range; is_near = near }
+
+-- the expressions that a statement names, each with what is asked of it
+abbrev pub asked_by_instruction : Instruction → List Asked
+asked_by_instruction (row i None) = []
+asked_by_instruction (row i (Some target)) =
+    asked target is_in_limits (λ page_count here v. is_reached (reach_of (line_of i.row).format) (v -ℤ pos here)) ∷ []
+asked_by_instruction (load capability rd value) = asked value is_in_limits (λ page_count here v. is_loadable (v -ℤ pos here)) ∷ []
+
+abbrev pub asked_by_setting : Setting → List Asked
+asked_by_setting (entry e) = asked e is_in_limits (λ page_count here v. is_entry page_count v) ∷ []
+asked_by_setting other = []
+
+-- a value of so many bytes need only be in range
+abbrev pub asked_value : ℕ → List ℕ → Asked
+asked_value size piece = asked (expression_or_nought (expression_of piece)) (is_in_size size) (λ page_count here v. true)
+
+abbrev pub asked_by_data : Data → List Asked
+asked_by_data (values size operands) = map (asked_value size) (pieces_of operands)
+asked_by_data other = []
+
+abbrev pub asked_by : Statement → List Asked
+asked_by (instruction i) = asked_by_instruction i
+asked_by (setting s) = asked_by_setting s
+asked_by (origin n) = []
+asked_by (contents d) = asked_by_data d
+
+-- a value out of range (A3), a name that no line defines (A5), a value out of reach (A6)
+abbrev pub is_beyond : Symbols → ℕ → Asked → Bool
+is_beyond symbols here a = known_and (λ v. not (a.is_in_range v)) (value_of symbols here a.expression)
+
+abbrev pub is_unknown : Symbols → ℕ → Asked → Bool
+is_unknown symbols here a = is_none (value_of symbols here a.expression)
+
+abbrev pub is_far : ℕ → Symbols → ℕ → Asked → Bool
+is_far page_count symbols here a = known_and (λ v. not (a.is_near page_count here v)) (value_of symbols here a.expression)
+
+unfoldable pub has_value_beyond : Symbols → ℕ → Statement → Bool
+has_value_beyond symbols here s = list_any (is_beyond symbols here) (asked_by s)
+
+unfoldable pub has_unknown_name : Symbols → ℕ → Statement → Bool
+has_unknown_name symbols here s = list_any (is_unknown symbols here) (asked_by s)
 
 unfoldable pub is_out_of_reach : ℕ → Symbols → ℕ → Statement → Bool
-is_out_of_reach page_count symbols here (row i target) = target_far symbols here i target
-is_out_of_reach page_count symbols here (load capability rd value) =
-    known_and (λ v. not (is_loadable (v -ℤ pos here))) (value_of symbols here value)
-is_out_of_reach page_count symbols here (pages n) = false
-is_out_of_reach page_count symbols here (mode m) = false
-is_out_of_reach page_count symbols here (entry e) = known_and (λ v. not (is_entry page_count v)) (value_of symbols here e)
-is_out_of_reach page_count symbols here (org n) = false
-is_out_of_reach page_count symbols here (align bits) = false
-is_out_of_reach page_count symbols here (zeros n) = false
-is_out_of_reach page_count symbols here (values size operands) = false
-is_out_of_reach page_count symbols here (text between) = false
+is_out_of_reach page_count symbols here s = list_any (is_far page_count symbols here) (asked_by s)

@@ -1,15 +1,16 @@
 //! What the lines of a text set and place.
 ghost use Rattle.std.specs.Prelude.{◌≡◌, ◌+◌, ◌<◌, ◌^◌, ◌≤◌, None, Some, IsTrue, OnOk, IfOk};
-ghost use Rattle.asm_lines.specs.Line.{seen_statement, seen_line, RowFits, IsBoundedIfAny};
-ghost use Rattle.assembler.specs.Sound.{IsValued, HasWords};
+ghost use Rattle.asm_lines.specs.Line.{seen_setting, seen_statement, seen_line, RowFits, IsBoundedIfAny};
+ghost use Rattle.assembler.specs.Sound.{AreKnown, IsValued, HasWords};
+ghost use Rattle.assembler.specs.Values.{asked_by_setting};
 ghost use Rattle.assembler.specs.Buildable.{IsBuildable};
 ghost use Rattle.assembler.specs.Modest.{is_modest, is_modest_or_none, is_modest_line, IsNear};
 ghost use Rattle.std.specs.Option.{option_map};
 ghost use Rattle.assembler.specs.Bytes.{bytes_at};
 ghost use Rattle.assembler.specs.Blocks.{begun_at};
 ghost use Rattle.assembler.specs.Text.{image_of};
-ghost use Rattle.assembler.specs.Faults.{page_count, is_misplaced, size_at, is_instruction, lacks_place, line_fault, assembled_after};
-ghost use Rattle.assembler.specs.Faults.{with_statement, opening, is_repeated, is_statement_misplaced, with_bytes};
+ghost use Rattle.assembler.specs.Faults.{page_count, is_misplaced, is_instruction, lacks_place, line_fault, assembled_after};
+ghost use Rattle.assembler.specs.Faults.{with_setting, with_statement, opening, is_repeated, is_statement_misplaced, with_bytes};
 ghost use Rattle.assembler.specs.FaultLaws.{statement_fault, fault_by, fault_in_text};
 
 use crate::blocks::{Block, built, close, is_taken};
@@ -17,9 +18,9 @@ use crate::bytes::known;
 use crate::checks::named_fault;
 use crate::fault::AsmCode;
 use crate::labels::Labels;
-use crate::places::{Places, end_of};
+use crate::places::{Places, size_at};
 use crate::values::wrapped;
-use asm_lines::{LineFault, Parsed, Statement};
+use asm_lines::{LineFault, Parsed, Setting, Statement};
 use base::ram;
 use image::Image;
 use std::alloc::{AllocError, Global};
@@ -54,25 +55,11 @@ impl Model for Builder {
     } };
 }
 
-/// The number of bytes that a statement at a place takes.
-#[tactic(auto, unfolding(crate::specs::Places::end_of))]
-fn size_at(statement: &Statement<'_>, place: u128) -> u128
-    requires modest { IsTrue (is_modest (seen_statement statement.now)) }
-    requires place { place < 2 ^ 100 }
-    ensures value { result ≡ size_at (seen_statement statement.now) place }
-    ensures bound { result < 2 ^ 101 }
-{
-    match statement {
-        Statement::Org(_) => 0,
-        _ => end_of(statement, place) - place,
-    }
-}
-
 /// Whether a statement's bytes are an instruction's.
 fn is_instruction(statement: &Statement<'_>) -> bool
     ensures { result ≡ is_instruction (seen_statement statement.now) }
 {
-    matches!(statement, Statement::Row(_, _) | Statement::Load { .. })
+    matches!(statement, Statement::Instruction(_))
 }
 
 impl Builder {
@@ -103,18 +90,18 @@ impl Builder {
         ensures { result ≡ is_misplaced self.now (seen_statement statement.now) }
     {
         match statement {
-            Statement::Pages(_) => self.pages.is_some() || self.begun,
-            Statement::Mode(_) => self.mode.is_some() || self.begun,
-            Statement::Entry(_) => self.entry.is_some(),
+            Statement::Setting(Setting::Pages(_)) => self.pages.is_some() || self.begun,
+            Statement::Setting(Setting::Mode(_)) => self.mode.is_some() || self.begun,
+            Statement::Setting(Setting::Entry(_)) => self.entry.is_some(),
             _ => false,
         }
     }
 
     /// Whether some of so many bytes from a place on have no place there.
-    fn lacks_place(&self, place: u128, size: u128, instruction: bool) -> bool
+    fn lacks_place(&self, place: u128, size: u128, is_code: bool) -> bool
         requires place { place < 2 ^ 100 }
         requires size { size < 2 ^ 101 }
-        ensures { result ≡ lacks_place self.now place size instruction }
+        ensures { result ≡ lacks_place self.now place size is_code }
     {
         let ram_end = u128::from(ram::BASE)
             + u128::from(ram::PAGE_BYTES) * u128::from(self.page_count());
@@ -123,11 +110,11 @@ impl Builder {
                 || ram_end < place + size
                 || is_taken(place, place + size, &self.done)
                 || self.current.len() == 0 && self.done.len() >= 64
-                || instruction && place % 4 != 0)
+                || is_code && place % 4 != 0)
     }
 
     /// The first fault of a statement whose line alone has none.
-    #[tactic(auto, unfolding(crate::specs::FaultLaws::statement_fault, crate::specs::Checks::named_fault))]
+    #[tactic(auto, unfolding(crate::specs::FaultLaws::statement_fault))]
     fn statement_fault(&self, labels: &Labels, statement: &Statement<'_>) -> Option<AsmCode>
         requires { IsTrue (is_modest (seen_statement statement.now)) }
         ensures { result ≡ statement_fault labels.now self.now (seen_statement statement.now) }
@@ -224,6 +211,22 @@ impl Builder {
         Ok(())
     }
 
+    /// What a setting without a fault sets.
+    fn set(&mut self, labels: &Labels, setting: &Setting<'_>)
+        requires { AreKnown labels.now self.old.places.place (asked_by_setting (seen_setting setting.now)) }
+        ensures { self.new ≡ with_setting labels.now self.old (seen_setting setting.now) }
+    {
+        match setting {
+            Setting::Pages(pages) => self.pages = Some(*pages),
+            Setting::Mode(mode) => self.mode = Some(*mode),
+            Setting::Entry(entry) => {
+                let value = known(labels, self.places.place(), entry);
+                self.entry = Some(wrapped(value));
+                self.begun = true;
+            }
+        }
+    }
+
     /// What a statement without a fault sets and places.
     fn take(
         &mut self,
@@ -237,14 +240,8 @@ impl Builder {
         ensures { OnOk result (self.new ≡ with_statement labels.now self.old (seen_statement statement.now)) }
     {
         match statement {
-            Statement::Pages(pages) => self.pages = Some(*pages),
-            Statement::Mode(mode) => self.mode = Some(*mode),
-            Statement::Entry(entry) => {
-                let value = known(labels, self.places.place(), entry);
-                self.entry = Some(wrapped(value));
-                self.begun = true;
-            }
-            Statement::Org(address) => self.begin(alloc, *address)?,
+            Statement::Setting(setting) => self.set(labels, setting),
+            Statement::Origin(address) => self.begin(alloc, *address)?,
             _ => self.fill(labels, statement)?,
         }
         Ok(())

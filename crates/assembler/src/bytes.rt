@@ -1,27 +1,28 @@
 //! The bytes that a statement places.
 ghost use Rattle.std.specs.Prelude.{◌≡◌, ◌<◌, ◌≤◌, ◌++◌, ◌%◌, ◌^◌, ◌*◌, Bool, if◌then◌else◌, replicate, pos, neg_ℤ, ◌-ℤ◌, ◌<ℤ◌, Some};
-ghost use Rattle.std.specs.Prelude.{IsTrue, OnOk, IfOk};
+ghost use Rattle.std.specs.Prelude.{map, IsTrue, OnOk, IfOk};
 ghost use Rattle.byteorder.specs.Endian.{little_bytes};
 ghost use Rattle.isa_rows.specs.Insn.{insn, sign_extended, Fits};
 ghost use Rattle.isa_rows.specs.Operands.{IsUpperImmediate, IsSignedOf};
 ghost use Rattle.isa_rows.specs.InsnLaws.{insn_word};
-ghost use Rattle.asm_lines.specs.Line.{seen_expression, seen_statement};
+ghost use Rattle.asm_lines.specs.Line.{seen_expression, seen_instruction, seen_data, seen_statement};
 ghost use Rattle.asm_lines.specs.Number.{is_in_limits, expression_of};
 ghost use Rattle.asm_lines.specs.Operand.{wrapped};
-ghost use Rattle.asm_lines.specs.Statement.{expression_or_nought, text_bytes, escaped_byte};
+ghost use Rattle.asm_lines.specs.Statement.{row, is_size, expression_or_nought, text_bytes, escaped_byte};
 ghost use Rattle.asm_lines.specs.Text.{pieces_of};
 ghost use Rattle.std.specs.List.{flat_map};
 ghost use Rattle.std.specs.Option.{option_map};
-ghost use Rattle.assembler.specs.Modest.{is_size, is_modest};
-ghost use Rattle.assembler.specs.Sound.{IsKnown, IsTargetKnown, ArePiecesKnown, IsValued, HasWords};
-ghost use Rattle.assembler.specs.Values.{value_of};
-ghost use Rattle.assembler.specs.Bytes.{value_at, insn_bytes, aimed, upper_part, lower_part, load_bytes, bytes_at, value_bytes};
+ghost use Rattle.assembler.specs.Modest.{is_modest_data, is_modest};
+ghost use Rattle.assembler.specs.Sound.{IsKnown, AreKnown, IsValued, IsEncoded, HasWords};
+ghost use Rattle.assembler.specs.Values.{value_of, asked_by_instruction, asked_by_data, asked_value};
+ghost use Rattle.assembler.specs.Bytes.{value_at, insn_bytes, aimed, upper_part, lower_part, load_bytes, instruction_bytes, data_bytes};
+ghost use Rattle.assembler.specs.Bytes.{bytes_at, value_bytes};
 
 use crate::checks::{distance, operand, pieces};
 use crate::labels::Labels;
 use crate::places::aligned;
 use crate::values::{Worth, value, wrapped};
-use asm_lines::{Expression, Statement, split_piece};
+use asm_lines::{Data, Expression, Instruction, Statement, split_piece};
 use byteorder::{ByteOrder, LittleEndian};
 use isa_rows::{Insn, Row};
 use isa_table::encode;
@@ -83,7 +84,7 @@ pub(crate) fn known(labels: &Labels, here: u128, expression: &Expression<'_>) ->
     }
 }
 
-/// Places an instruction, with the distance to its target if it has one.
+/// Places an instruction that has a word, with the distance to its target if it has one.
 fn push_row(
     bytes: &mut Vec<u8>,
     labels: &Labels,
@@ -92,7 +93,7 @@ fn push_row(
     target: &Option<Expression<'_>>,
 ) -> Result<(), AllocError>
     requires place { here < 2 ^ 100 }
-    requires known { IsTargetKnown labels.now here (option_map seen_expression target.now) }
+    requires known { AreKnown labels.now here (asked_by_instruction (row insn.now (option_map seen_expression target.now))) }
     requires fits { Fits (aimed labels.now here insn.now (option_map seen_expression target.now)) }
     ensures { OnOk result (bytes.new.items ≡ bytes.old.items ++ insn_bytes
         (aimed labels.now here insn.now (option_map seen_expression target.now))) }
@@ -242,7 +243,7 @@ fn push_values(
     operands: &[u8],
 ) -> Result<(), AllocError>
     requires size { IsTrue (is_size size) }
-    requires known { ArePiecesKnown labels.now here (pieces_of operands.now) }
+    requires known { AreKnown labels.now here (map (asked_value size) (pieces_of operands.now)) }
     ensures { OnOk result (bytes.new.items ≡ bytes.old.items ++ flat_map (value_bytes labels.now here size) (pieces_of operands.now)) }
 {
     let mut rest = pieces(operands);
@@ -283,6 +284,51 @@ fn push_text(bytes: &mut Vec<u8>, between: &[u8]) -> Result<(), AllocError>
     Ok(())
 }
 
+/// Places the bytes of instructions that have words.
+fn push_instruction(
+    bytes: &mut Vec<u8>,
+    labels: &Labels,
+    here: u128,
+    instruction: &Instruction<'_>,
+) -> Result<(), AllocError>
+    requires place { here < 2 ^ 100 }
+    requires known { AreKnown labels.now here (asked_by_instruction (seen_instruction instruction.now)) }
+    requires encoded { IsEncoded labels.now here (seen_instruction instruction.now) }
+    ensures { OnOk result (bytes.new.items ≡ bytes.old.items ++ instruction_bytes labels.now here (seen_instruction instruction.now)) }
+{
+    match instruction {
+        Instruction::Row(insn, target) => push_row(bytes, labels, here, insn, target),
+        Instruction::Load {
+            capability,
+            rd,
+            value,
+        } => {
+            let distance = distance(known(labels, here, value), here);
+            push_load(bytes, *capability, *rd, distance)
+        }
+    }
+}
+
+/// Places the bytes of data whose values are known.
+fn push_data(
+    bytes: &mut Vec<u8>,
+    labels: &Labels,
+    here: u128,
+    item: &Data<'_>,
+) -> Result<(), AllocError>
+    requires modest { IsTrue (is_modest_data (seen_data item.now)) }
+    requires place { here < 2 ^ 100 }
+    requires known { AreKnown labels.now here (asked_by_data (seen_data item.now)) }
+    ensures { OnOk result (bytes.new.items ≡ bytes.old.items ++ data_bytes labels.now here (seen_data item.now)) }
+{
+    match item {
+        Data::Align(bits) => push_zeros(bytes, (aligned(here, *bits) - here) as usize),
+        Data::Zero(count) => push_zeros(bytes, *count as usize),
+        Data::Values { size, operands } => push_values(bytes, *size, labels, here, operands),
+        Data::Text(between) => push_text(bytes, between),
+    }
+}
+
 /// Places the bytes of a statement that has no fault.
 #[tactic(auto, unfolding(crate::specs::Bytes::bytes_at))]
 pub(crate) fn push_bytes(
@@ -298,19 +344,8 @@ pub(crate) fn push_bytes(
     ensures { OnOk result (bytes.new.items ≡ bytes.old.items ++ bytes_at labels.now here (seen_statement statement.now)) }
 {
     match statement {
-        Statement::Row(insn, target) => push_row(bytes, labels, here, insn, target),
-        Statement::Load {
-            capability,
-            rd,
-            value,
-        } => {
-            let distance = distance(known(labels, here, value), here);
-            push_load(bytes, *capability, *rd, distance)
-        }
-        Statement::Align(bits) => push_zeros(bytes, (aligned(here, *bits) - here) as usize),
-        Statement::Zero(count) => push_zeros(bytes, *count as usize),
-        Statement::Values { size, operands } => push_values(bytes, *size, labels, here, operands),
-        Statement::Text(between) => push_text(bytes, between),
+        Statement::Instruction(instruction) => push_instruction(bytes, labels, here, instruction),
+        Statement::Data(item) => push_data(bytes, labels, here, item),
         _ => Ok(()),
     }
 }

@@ -1,41 +1,33 @@
 //! The values of a statement: whether they are known, in range and within reach.
-ghost use Rattle.std.specs.Prelude.{◌≡◌, ◌+◌, ◌≤◌, length, Some, false, not, option_map, pos, ◌-ℤ◌, ◌<◌, ◌^◌, IsTrue};
+ghost use Rattle.std.specs.Prelude.{◌≡◌, ℕ, ◌+◌, ◌≤◌, length, [], ◌∷◌, not, option_map, pos, ◌-ℤ◌, ◌<◌, ◌^◌, IsTrue};
 ghost use Rattle.std.specs.Option.{option_map_or};
-ghost use Rattle.asm_lines.specs.Line.{seen_expression, seen_statement};
+ghost use Rattle.base.specs.FirstFault.{first_fault};
+ghost use Rattle.asm_lines.specs.Line.{seen_expression, seen_instruction, seen_setting, seen_data, seen_statement};
 ghost use Rattle.asm_lines.specs.Number.{is_in_limits, expression_of};
-ghost use Rattle.asm_lines.specs.Statement.{is_in_size, expression_or_nought};
+ghost use Rattle.asm_lines.specs.Statement.{row, is_size, expression_or_nought};
 ghost use Rattle.asm_lines.specs.Text.{pieces_of, pieces_left};
-ghost use Rattle.assembler.specs.Values.{value_of, any_value, reach_of, is_reached, is_loadable, is_entry};
-ghost use Rattle.assembler.specs.Modest.{is_size, is_modest};
-ghost use Rattle.assembler.specs.Checks.{told, told_value, passes, is_test, named_fault};
+ghost use Rattle.assembler.specs.declared.fault.AsmCode.TheVariants.{A3, A5, A6};
+ghost use Rattle.assembler.specs.Values.{value_of, reach_of, is_reached, is_loadable, is_entry, asked_by_instruction, asked_by_setting};
+ghost use Rattle.assembler.specs.Values.{asked_by_data};
+ghost use Rattle.assembler.specs.Modest.{is_modest_data, is_modest};
+ghost use Rattle.assembler.specs.Checks.{asked_fault, value_fault, passes, any_passes, is_test, named_fault};
 
 use crate::fault::AsmCode;
 use crate::labels::Labels;
 use crate::values::{Worth, value, wrapped};
-use asm_lines::{Expression, Statement, expression, split_piece};
+use asm_lines::{
+    Data, Expression, Instruction, Setting, Statement, expression, is_in_size, split_piece,
+};
 use image::is_good_header;
-use isa_rows::Format;
+use isa_rows::{Format, Insn};
 
 /// What is asked of the values of a list.
 #[derive(Clone, Copy)]
-pub(crate) enum Test {
+enum Test {
     /// Whether a name is unknown.
     IsUnknown,
     /// Whether a value is beyond what so many bytes hold.
     IsBeyond(u8),
-}
-
-/// A number between the least signed and the greatest unsigned number of so many bytes.
-fn is_in_size(size: u8, value: i128) -> bool
-    requires { IsTrue (is_size size) }
-    ensures { result ≡ is_in_size size value }
-{
-    match size {
-        1 => -0x80 <= value && value < 0x100,
-        2 => -0x8000 <= value && value < 0x1_0000,
-        4 => -0x8000_0000 <= value && value < 0x1_0000_0000,
-        _ => -0x8000_0000_0000_0000 <= value && value < 0x1_0000_0000_0000_0000,
-    }
 }
 
 /// The expression of a list's operand, 0 where it cannot be read.
@@ -79,9 +71,9 @@ impl Test {
     }
 
     /// Whether the answer for some of a list's operands is yes.
-    pub(crate) fn any_passes(self, labels: &Labels, here: u128, operands: &[u8]) -> bool
+    fn any_passes(self, labels: &Labels, here: u128, operands: &[u8]) -> bool
         requires { IsTrue (is_test self) }
-        ensures { result ≡ any_value (passes self) labels.now here (pieces_of operands.now) }
+        ensures { result ≡ any_passes self labels.now here (pieces_of operands.now) }
     {
         let mut rest = pieces(operands);
         while let Some(text) = rest {
@@ -105,7 +97,7 @@ pub(crate) fn distance(value: i128, here: u128) -> i128
 }
 
 /// How far a branch or jal reaches.
-pub(crate) fn reach_of(format: Format) -> u32
+fn reach_of(format: Format) -> u32
     ensures { result ≡ reach_of format }
 {
     match format {
@@ -139,20 +131,16 @@ fn is_entry(page_count: u32, value: i128) -> bool
 
 /// A6, unless a value is within reach.
 fn far(is_near: bool) -> Option<AsmCode>
-    ensures { result ≡ told false false (not is_near) }
+    ensures { result ≡ first_fault ((is_near, A6) ∷ []) }
 {
     if is_near { None } else { Some(AsmCode::A6) }
 }
 
 /// The fault of the target of a branch or jal that reaches so far.
-pub(crate) fn target_fault(
-    reach: u32,
-    labels: &Labels,
-    here: u128,
-    target: &Expression<'_>,
-) -> Option<AsmCode>
+fn target_fault(reach: u32, labels: &Labels, here: u128, target: &Expression<'_>) -> Option<AsmCode>
     requires { here < 2 ^ 100 }
-    ensures { result ≡ told_value (λ v. is_reached reach (v -ℤ pos here)) (value_of labels.now here (seen_expression target.now)) }
+    ensures { result
+        ≡ value_fault is_in_limits (λ v. is_reached reach (v -ℤ pos here)) (value_of labels.now here (seen_expression target.now)) }
 {
     match value(labels, here, target) {
         Worth::Beyond => Some(AsmCode::A3),
@@ -162,9 +150,10 @@ pub(crate) fn target_fault(
 }
 
 /// The fault of the value of `la` or `cla`.
-pub(crate) fn load_fault(labels: &Labels, here: u128, loaded: &Expression<'_>) -> Option<AsmCode>
+fn load_fault(labels: &Labels, here: u128, loaded: &Expression<'_>) -> Option<AsmCode>
     requires { here < 2 ^ 100 }
-    ensures { result ≡ told_value (λ v. is_loadable (v -ℤ pos here)) (value_of labels.now here (seen_expression loaded.now)) }
+    ensures { result
+        ≡ value_fault is_in_limits (λ v. is_loadable (v -ℤ pos here)) (value_of labels.now here (seen_expression loaded.now)) }
 {
     match value(labels, here, loaded) {
         Worth::Beyond => Some(AsmCode::A3),
@@ -174,13 +163,13 @@ pub(crate) fn load_fault(labels: &Labels, here: u128, loaded: &Expression<'_>) -
 }
 
 /// The fault of an entry, for an image of so many pages.
-pub(crate) fn entry_fault(
+fn entry_fault(
     page_count: u32,
     labels: &Labels,
     here: u128,
     entry: &Expression<'_>,
 ) -> Option<AsmCode>
-    ensures { result ≡ told_value (is_entry page_count) (value_of labels.now here (seen_expression entry.now)) }
+    ensures { result ≡ value_fault is_in_limits (is_entry page_count) (value_of labels.now here (seen_expression entry.now)) }
 {
     match value(labels, here, entry) {
         Worth::Beyond => Some(AsmCode::A3),
@@ -190,15 +179,11 @@ pub(crate) fn entry_fault(
 }
 
 /// The fault of values of so many bytes.
-pub(crate) fn values_fault(
-    size: u8,
-    labels: &Labels,
-    here: u128,
-    operands: &[u8],
-) -> Option<AsmCode>
+fn values_fault(size: u8, labels: &Labels, here: u128, operands: &[u8]) -> Option<AsmCode>
     requires { IsTrue (is_size size) }
-    ensures { result ≡ told (any_value (passes (Test.IsBeyond size)) labels.now here (pieces_of operands.now))
-        (any_value (passes Test.IsUnknown) labels.now here (pieces_of operands.now)) false }
+    ensures { result ≡ first_fault
+        ((not (any_passes (Test.IsBeyond size) labels.now here (pieces_of operands.now)), A3)
+        ∷ (not (any_passes Test.IsUnknown labels.now here (pieces_of operands.now)), A5) ∷ []) }
 {
     if Test::IsBeyond(size).any_passes(labels, here, operands) {
         Some(AsmCode::A3)
@@ -209,8 +194,63 @@ pub(crate) fn values_fault(
     }
 }
 
+/// The fault of an instruction's target, if it has one.
+fn row_fault(
+    labels: &Labels,
+    here: u128,
+    insn: &Insn,
+    target: &Option<Expression<'_>>,
+) -> Option<AsmCode>
+    requires { here < 2 ^ 100 }
+    ensures { (page_count : ℕ) → result
+        ≡ asked_fault page_count labels.now here (asked_by_instruction (row insn.now (option_map seen_expression target.now))) }
+{
+    match target {
+        Some(target) => target_fault(reach_of(insn.row.format()), labels, here, target),
+        None => None,
+    }
+}
+
+/// The first fault of what instructions ask.
+fn instruction_fault(labels: &Labels, here: u128, instruction: &Instruction<'_>) -> Option<AsmCode>
+    requires { here < 2 ^ 100 }
+    ensures { (page_count : ℕ) → result
+        ≡ asked_fault page_count labels.now here (asked_by_instruction (seen_instruction instruction.now)) }
+{
+    match instruction {
+        Instruction::Row(insn, target) => row_fault(labels, here, insn, target),
+        Instruction::Load { value, .. } => load_fault(labels, here, value),
+    }
+}
+
+/// The first fault of what a setting asks.
+fn setting_fault(
+    page_count: u32,
+    labels: &Labels,
+    here: u128,
+    setting: &Setting<'_>,
+) -> Option<AsmCode>
+    ensures { result ≡ asked_fault page_count labels.now here (asked_by_setting (seen_setting setting.now)) }
+{
+    match setting {
+        Setting::Entry(entry) => entry_fault(page_count, labels, here, entry),
+        _ => None,
+    }
+}
+
+/// The first fault of what data asks.
+fn data_fault(labels: &Labels, here: u128, item: &Data<'_>) -> Option<AsmCode>
+    requires { IsTrue (is_modest_data (seen_data item.now)) }
+    ensures { (page_count : ℕ) → result ≡ asked_fault page_count labels.now here (asked_by_data (seen_data item.now)) }
+{
+    match item {
+        Data::Values { size, operands } => values_fault(*size, labels, here, operands),
+        _ => None,
+    }
+}
+
 /// The first fault of the values and names of a statement at a place: A3, then A5, then A6.
-#[tactic(auto, unfolding(crate::specs::Checks::named_fault, crate::specs::Values::has_value_beyond, crate::specs::Values::has_unknown_name, crate::specs::Values::is_out_of_reach))]
+#[tactic(auto, unfolding(crate::specs::Checks::named_fault))]
 pub(crate) fn named_fault(
     page_count: u32,
     labels: &Labels,
@@ -222,12 +262,9 @@ pub(crate) fn named_fault(
     ensures { result ≡ named_fault page_count labels.now here (seen_statement statement.now) }
 {
     match statement {
-        Statement::Row(insn, Some(target)) => {
-            target_fault(reach_of(insn.row.format()), labels, here, target)
-        }
-        Statement::Load { value, .. } => load_fault(labels, here, value),
-        Statement::Entry(entry) => entry_fault(page_count, labels, here, entry),
-        Statement::Values { size, operands } => values_fault(*size, labels, here, operands),
-        _ => None,
+        Statement::Instruction(instruction) => instruction_fault(labels, here, instruction),
+        Statement::Setting(setting) => setting_fault(page_count, labels, here, setting),
+        Statement::Origin(_) => None,
+        Statement::Data(item) => data_fault(labels, here, item),
     }
 }

@@ -1,14 +1,14 @@
 //! Where statements stand.
 ghost use Rattle.std.specs.Prelude.{◌≡◌, ◌+◌, ◌*◌, ◌<◌, ◌≤◌, ◌^◌, length, IsTrue, OnOk};
-ghost use Rattle.asm_lines.specs.Line.{seen_statement, seen_line};
+ghost use Rattle.asm_lines.specs.Line.{seen_instruction, seen_data, seen_statement, seen_line};
 ghost use Rattle.asm_lines.specs.Statement.{text_bytes};
 ghost use Rattle.asm_lines.specs.Text.{pieces_of};
-ghost use Rattle.assembler.specs.Modest.{is_modest, is_modest_line, IsNear};
-ghost use Rattle.assembler.specs.Places.{aligned, end_of, places_after, opening_places};
+ghost use Rattle.assembler.specs.Modest.{is_modest_data, is_modest, is_modest_line, IsNear};
+ghost use Rattle.assembler.specs.Places.{aligned, instruction_size, data_size, size_at, end_of, places_after, opening_places};
 
 use crate::checks::pieces;
 use crate::labels::Labels;
-use asm_lines::{Parsed, Statement, split_piece};
+use asm_lines::{Data, Instruction, Parsed, Statement, split_piece};
 use base::ram;
 use std::alloc::{AllocError, Global};
 use std::marker::Model;
@@ -67,23 +67,57 @@ pub(crate) fn aligned(place: u128, bits: u32) -> u128
     (place + unit - 1) / unit * unit
 }
 
+/// The number of bytes of the instructions.
+fn instruction_size(instruction: &Instruction<'_>) -> u128
+    ensures { result ≡ instruction_size (seen_instruction instruction.now) }
+{
+    match instruction {
+        Instruction::Row(_, _) => 4,
+        Instruction::Load { .. } => 8,
+    }
+}
+
+/// The number of bytes of data at a place.
+fn data_size(item: &Data<'_>, place: u128) -> u128
+    requires modest { IsTrue (is_modest_data (seen_data item.now)) }
+    requires place { place < 2 ^ 100 }
+    ensures value { result ≡ data_size (seen_data item.now) place }
+    ensures bound { result ≤ 2 ^ 28 }
+{
+    match item {
+        Data::Align(bits) => aligned(place, *bits) - place,
+        Data::Zero(count) => u128::from(*count),
+        Data::Values { size, operands } => u128::from(*size) * piece_count(operands),
+        Data::Text(between) => text_length(between),
+    }
+}
+
+/// The number of bytes that a statement at a place takes.
+#[tactic(auto, unfolding(crate::specs::Places::size_at))]
+pub(crate) fn size_at(statement: &Statement<'_>, place: u128) -> u128
+    requires modest { IsTrue (is_modest (seen_statement statement.now)) }
+    requires place { place < 2 ^ 100 }
+    ensures value { result ≡ size_at (seen_statement statement.now) place }
+    ensures bound { result ≤ 2 ^ 28 }
+{
+    match statement {
+        Statement::Instruction(instruction) => instruction_size(instruction),
+        Statement::Data(item) => data_size(item, place),
+        _ => 0,
+    }
+}
+
 /// Where a statement that stands at a place ends.
 #[tactic(auto, unfolding(crate::specs::Places::end_of))]
-pub(crate) fn end_of(statement: &Statement<'_>, place: u128) -> u128
+fn end_of(statement: &Statement<'_>, place: u128) -> u128
     requires modest { IsTrue (is_modest (seen_statement statement.now)) }
     requires place { place < 2 ^ 100 }
     ensures value { result ≡ end_of (seen_statement statement.now) place }
     ensures near { IsNear place result }
 {
     match statement {
-        Statement::Row(_, _) => place + 4,
-        Statement::Load { .. } => place + 8,
-        Statement::Org(start) => u128::from(*start),
-        Statement::Align(bits) => aligned(place, *bits),
-        Statement::Zero(count) => place + u128::from(*count),
-        Statement::Values { size, operands } => place + u128::from(*size) * piece_count(operands),
-        Statement::Text(between) => place + text_length(between),
-        _ => place,
+        Statement::Origin(start) => u128::from(*start),
+        _ => place + size_at(statement, place),
     }
 }
 

@@ -2,7 +2,10 @@
 
 use crate::case::CaseError;
 use crate::quoted::{put_quoted, unquoted};
-use asm_lines::{Expression, LineFault, Statement, expression, parse_line, split_piece};
+use asm_lines::{
+    Data, Expression, Instruction, LineFault, Setting, Statement, expression, parse_line,
+    split_piece,
+};
 use isa_rows::Insn;
 use std::alloc::{AllocError, Global};
 
@@ -47,11 +50,11 @@ fn put_insn(text: &mut String, insn: Insn, to: Option<Expression>) -> Result<(),
     Ok(())
 }
 
-/// Puts a statement behind a text: its kind and its operands.
-fn put_statement(text: &mut String, statement: Statement) -> Result<(), AllocError> {
-    match statement {
-        Statement::Row(insn, to) => put_insn(text, insn, to),
-        Statement::Load {
+/// Puts one instruction or two behind a text: the kind and the operands.
+fn put_instruction(text: &mut String, instruction: Instruction) -> Result<(), AllocError> {
+    match instruction {
+        Instruction::Row(insn, to) => put_insn(text, insn, to),
+        Instruction::Load {
             capability,
             rd,
             value,
@@ -60,26 +63,47 @@ fn put_statement(text: &mut String, statement: Statement) -> Result<(), AllocErr
             write!(text, "{name} {rd} ")?;
             put_expression(text, value)
         }
-        Statement::Pages(number) => write!(text, "pages {number}"),
-        Statement::Mode(mode) => {
+    }
+}
+
+/// Puts a setting behind a text: its kind and what is set.
+fn put_setting(text: &mut String, setting: Setting) -> Result<(), AllocError> {
+    match setting {
+        Setting::Pages(number) => write!(text, "pages {number}"),
+        Setting::Mode(mode) => {
             let mode = u8::from(mode);
             write!(text, "mode {mode}")
         }
-        Statement::Entry(value) => {
+        Setting::Entry(value) => {
             text.push_str("entry ")?;
             put_expression(text, value)
         }
-        Statement::Org(place) => write!(text, "org {place}"),
-        Statement::Align(power) => write!(text, "align {power}"),
-        Statement::Zero(count) => write!(text, "zero {count}"),
-        Statement::Values { size, operands } => {
+    }
+}
+
+/// Puts data behind a text: its kind and what is placed.
+fn put_data(text: &mut String, item: Data) -> Result<(), AllocError> {
+    match item {
+        Data::Align(power) => write!(text, "align {power}"),
+        Data::Zero(count) => write!(text, "zero {count}"),
+        Data::Values { size, operands } => {
             write!(text, "values {size} ")?;
             put_quoted(text, operands)
         }
-        Statement::Text(bytes) => {
+        Data::Text(bytes) => {
             text.push_str("text ")?;
             put_quoted(text, bytes)
         }
+    }
+}
+
+/// Puts a statement behind a text.
+fn put_statement(text: &mut String, statement: Statement) -> Result<(), AllocError> {
+    match statement {
+        Statement::Instruction(instruction) => put_instruction(text, instruction),
+        Statement::Setting(setting) => put_setting(text, setting),
+        Statement::Origin(place) => write!(text, "org {place}"),
+        Statement::Data(item) => put_data(text, item),
     }
 }
 

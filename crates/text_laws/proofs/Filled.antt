@@ -16,7 +16,7 @@ use Rattle.isa_rows.specs.declared.slots.Slot.TheVariants.{Target}
 use Rattle.asm_names.specs.Slots.{slots_of}
 use Rattle.asm_lines.specs.Number.{Expression}
 use Rattle.asm_lines.specs.Operand.{Draft}
-use Rattle.asm_lines.specs.Statement.{Statement, row}
+use Rattle.asm_lines.specs.Statement.{Statement, instruction, row}
 use Rattle.text_laws.specs.ReadBack.{is_target, has_target, distance_to}
 use Rattle.text_laws.proofs.SlotBack.{with_slot}
 use Rattle.text_laws.proofs.Fields.{lacks_rd, lacks_rs1, lacks_rs2, lacks_imm, NoneIf, fields_of, slots_suit, with_slots}
@@ -113,20 +113,21 @@ any-has_target (s ∷ ss) = ap (λ t. is_target s || t) (any-has_target ss)
 
 -- the statement of a draft, where a row's operands have a target among them or not
 abbrev pub stated : Bool → Insn → Statement
-stated target i = cond target (row (record i { imm = 0 }) (Some (distance_to i.imm))) (row i None)
+stated target i = instruction (cond target (row (record i { imm = 0 }) (Some (distance_to i.imm))) (row i None))
 
 abbrev pub statement_of_draft : Draft → Statement
-statement_of_draft d = row d.insn d.target
+statement_of_draft d = instruction (row d.insn d.target)
 
 abbrev pub nought : Row → Draft
 nought r = record { insn = insn r 0 0 0 0; target = None }
 
 statement_filled : (target fills : Bool) (f : Format) (i : Insn) → cond target (not fills) (fills || lacks_imm f) ≡ true
     → NoneIf (lacks_imm f) i.imm
-    → row (insn i.row i.rd i.rs1 i.rs2 (cond fills i.imm 0)) (cond target (Some (distance_to i.imm)) None) ≡ stated target i
+    → instruction (row (insn i.row i.rd i.rs1 i.rs2 (cond fills i.imm 0)) (cond target (Some (distance_to i.imm)) None)) ≡ stated target i
 statement_filled true true f i t h = cc
 statement_filled true false f i t h = refl
-statement_filled false fills f i t h = ap (λ n. row (insn i.row i.rd i.rs1 i.rs2 n) None) (covered fills (lacks_imm f) i.imm t h)
+statement_filled false fills f i t h =
+    ap (λ n. instruction (row (insn i.row i.rd i.rs1 i.rs2 n) None)) (covered fills (lacks_imm f) i.imm t h)
 
 pub statement_back : (f : Format) (i : Insn) (ss : List Slot) → covers f ss ≡ true → covers_imm f ss ≡ true → OperandsFit f i
     → statement_of_draft (with_slots i ss (nought i.row)) ≡ stated (has_target ss) i
@@ -137,7 +138,7 @@ statement_back f i ss t u h =
     let c = covered (any fills_rs2 ss) (lacks_rs2 f) i.rs2 (grind (arith, nat_tests)) k.rs2_none in
     let e = any-has_target ss in
     ap statement_of_draft (with_slots-filled i ss (nought i.row))
-    ∙ (λ j. row (insn i.row (a j) (b j) (c j) (cond (any fills_imm ss) i.imm 0)) (cond (e j) (Some (distance_to i.imm)) None))
+    ∙ (λ j. instruction (row (insn i.row (a j) (b j) (c j) (cond (any fills_imm ss) i.imm 0)) (cond (e j) (Some (distance_to i.imm)) None)))
     ∙ statement_filled (has_target ss) (any fills_imm ss) f i u k.imm_none
 
 -- what the table of rows must keep

@@ -22,8 +22,8 @@ use Rattle.asm_lines.specs.declared.fault.LineFault.TheVariants.{A3}
 use Rattle.asm_lines.specs.Text.{pieces_of}
 use Rattle.asm_lines.specs.Number.{expression, expression_of, number_of, numbered}
 use Rattle.asm_lines.specs.Operand.{filled_draft, filled_fault, told_fault, wrapped}
-use Rattle.asm_lines.specs.Statement.{values, said, said_unless, plain, pattern_of, pattern_said, row_said, values_fault, value_fault}
-use Rattle.asm_lines.specs.Statement.{is_in_size, said_by}
+use Rattle.asm_lines.specs.Statement.{contents, values, said, said_unless, plain, pattern_of, pattern_said, row_said, values_fault}
+use Rattle.asm_lines.specs.Statement.{value_fault, is_in_size, said_by}
 use Rattle.asm_lines.specs.Line.{labelled, line_meaning}
 use Rattle.disassembler.specs.Hex.{hex_of}
 use Rattle.disassembler.specs.Shown.{shown_slot, shown_operands, shown_insn, shown_found, shown_word}
@@ -143,7 +143,8 @@ insn_back mode i h =
     ∙ ap (λ s. labelled None (said (Some s) None)) (statement_back (line_of i.row).format i (slots_of i.row) r.cover r.cover_imm h)
 
 -- a word that is no row
-word_said : (b : ℕ) (bs : List ℕ) → said_by (codes ".word") (b ∷ bs) ≡ said_unless (values 4 (b ∷ bs)) (values_fault 4 (pieces_of (b ∷ bs)))
+word_said : (b : ℕ) (bs : List ℕ) → said_by (codes ".word") (b ∷ bs)
+    ≡ said_unless (contents (values 4 (b ∷ bs))) (values_fault 4 (pieces_of (b ∷ bs)))
 unfolding said_by
 word_said b bs = refl
 
@@ -165,7 +166,8 @@ no_fault word h =
     ap (values_fault 4) (word_pieces word) ∙ ap (λ e. told_fault (value_fault 4 e) None) (word_value word h)
     ∙ ap (λ t. told_fault (cond t None (Some A3)) None) (word_in_size word h)
 
-word_back : (word : ℕ) → word < 2 ^ 32 → line_meaning (codes ".word 0x" ++ hex_of 8 word) ≡ sound_line (values 4 (word_text word))
+word_back : (word : ℕ) → word < 2 ^ 32 → line_meaning (codes ".word 0x" ++ hex_of 8 word)
+    ≡ sound_line (contents (values 4 (word_text word)))
 word_back word h =
     let size = length_word word in
     ap (λ l. line_meaning (codes ".word" ++ 32 ∷ l)) (sym (append_nil (word_text word)))
@@ -173,7 +175,7 @@ word_back word h =
     (omega (arith, length-append (word_text word) []))
     ∙ ap (λ l. labelled None (said_by (codes ".word") l)) (append_nil (word_text word))
     ∙ ap (labelled None) (word_said 48 (120 ∷ hex_of 8 word))
-    ∙ ap (λ f. labelled None (said_unless (values 4 (word_text word)) f)) (no_fault word h)
+    ∙ ap (λ f. labelled None (said_unless (contents (values 4 (word_text word))) f)) (no_fault word h)
 
 operands_of_insn : (word : ℕ) (i : Insn) → IsInsn word i → OperandsFit (line_of i.row).format i
 operands_of_insn word i h = OperandsFit-Fits i (record { word = word; is_insn = h })

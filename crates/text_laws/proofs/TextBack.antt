@@ -1,7 +1,7 @@
 -- The text of a word, assembled alone, gives the word again.
-use Rattle.std.proofs.Common.{◌≡◌, ℕ, ◌<◌, ◌^◌, Bool, true, false, not, cond, List, [], ◌∷◌, ◌++◌, Option, Some, None, refl, sym, ap, ◌∙◌}
+use Rattle.std.proofs.Common.{◌≡◌, ℕ, ◌<◌, ◌^◌, Bool, true, false, cond, List, [], ◌∷◌, ◌++◌, Option, Some, None, refl, sym, ap, ◌∙◌}
 use Rattle.std.proofs.Common.{arith}
-use Rattle.std.specs.Prelude.{ℤ, pos, ◌||◌, is_none, Ok, IfSome}
+use Rattle.std.specs.Prelude.{pos, Ok, IfSome}
 use Rattle.std.specs.Int.{w64, cast_signed}
 use Rattle.std.specs.List.{flat_map}
 use Rattle.std.proofs.lemmas.Bool.Decides.{nat_tests}
@@ -17,9 +17,10 @@ use Rattle.asm_names.specs.Slots.{slots_of}
 use Rattle.asm_lines.specs.Text.{pieces_of}
 use Rattle.asm_lines.specs.Number.{Expression, expression, expression_of}
 use Rattle.asm_lines.specs.Operand.{wrapped}
-use Rattle.asm_lines.specs.Statement.{Statement, row, values, is_in_size, expression_or_nought}
-use Rattle.assembler.specs.Places.{lines_of, all_places, opening_places, end_of}
-use Rattle.assembler.specs.Values.{value_of, known_and, any_value, reach_of, has_value_beyond, has_unknown_name, is_out_of_reach}
+use Rattle.asm_lines.specs.Statement.{Statement, instruction, contents, row, values, is_in_size, expression_or_nought}
+use Rattle.assembler.specs.Places.{lines_of, all_places, opening_places, size_at}
+use Rattle.assembler.specs.Values.{value_of, reach_of, has_value_beyond, has_unknown_name, is_out_of_reach}
+use Rattle.assembler.specs.Checks.{named_fault}
 use Rattle.assembler.specs.Bytes.{or_zero, insn_bytes, value_bytes, bytes_at, aimed}
 use Rattle.assembler.specs.Faults.{closed, filled, empty_at, opening, line_fault, assembled_after}
 use Rattle.assembler.specs.FaultLaws.{fault_by, statement_fault, line_fault-by}
@@ -37,32 +38,33 @@ record IsPlaced (word : ℕ) (s : Statement) : Type 0 where
   image : image_of (all_assembled [] opening (sound_line s ∷ [])) ≡ image_of_word word
 
 -- the image of bytes at the beginning of RAM
-row_image : (word : ℕ) (i : Insn) (target : Option Expression) → bytes_at [] ram_base (row i target) ≡ little_bytes 4 word
-    → image_of (all_assembled [] opening (sound_line (row i target) ∷ [])) ≡ image_of_word word
+row_image : (word : ℕ) (i : Insn) (target : Option Expression) → bytes_at [] ram_base (instruction (row i target)) ≡ little_bytes 4 word
+    → image_of (all_assembled [] opening (sound_line (instruction (row i target)) ∷ [])) ≡ image_of_word word
 unfolding assembled_after
 row_image word i target e =
     ap (λ bytes. record { pages = 1; entry = ram_base; mode = false; sections = closed [] (filled (empty_at ram_base) bytes) }) e
 
-values_image : (word : ℕ) (operands : List ℕ) → bytes_at [] ram_base (values 4 operands) ≡ little_bytes 4 word
-    → image_of (all_assembled [] opening (sound_line (values 4 operands) ∷ [])) ≡ image_of_word word
+values_image : (word : ℕ) (operands : List ℕ) → bytes_at [] ram_base (contents (values 4 operands)) ≡ little_bytes 4 word
+    → image_of (all_assembled [] opening (sound_line (contents (values 4 operands)) ∷ [])) ≡ image_of_word word
 unfolding assembled_after
 values_image word operands e =
     ap (λ bytes. record { pages = 1; entry = ram_base; mode = false; sections = closed [] (filled (empty_at ram_base) bytes) }) e
 
 -- an instruction without a target
-plain_fault : (i : Insn) → line_fault [] opening (sound_line (row i None)) ≡ None
-unfolding fault_by statement_fault has_value_beyond has_unknown_name is_out_of_reach
-plain_fault i = line_fault-by [] opening (sound_line (row i None)) ∙ refl
+plain_fault : (i : Insn) → line_fault [] opening (sound_line (instruction (row i None))) ≡ None
+unfolding size_at fault_by statement_fault named_fault has_value_beyond has_unknown_name is_out_of_reach
+plain_fault i = line_fault-by [] opening (sound_line (instruction (row i None))) ∙ refl
 
-plain_bytes : (word : ℕ) (i : Insn) → word ≡ insn_word i → bytes_at [] ram_base (row i None) ≡ little_bytes 4 word
+plain_bytes : (word : ℕ) (i : Insn) → word ≡ insn_word i → bytes_at [] ram_base (instruction (row i None)) ≡ little_bytes 4 word
 unfolding bytes_at insn_bytes
 plain_bytes word i e = ap (little_bytes 4) (sym e)
 
 -- an instruction with one
 target_fault : (i : Insn) (imm : ℕ) → IsNear (reach_of (line_of i.row).format) (cast_signed w64 imm)
-    → line_fault [] opening (sound_line (row i (Some (distance_to imm)))) ≡ None
-unfolding fault_by statement_fault has_value_beyond has_unknown_name is_out_of_reach value_of
-target_fault i imm h = line_fault-by [] opening (sound_line (row i (Some (distance_to imm)))) ∙ rw (h.in_limits, h.reached) refl
+    → line_fault [] opening (sound_line (instruction (row i (Some (distance_to imm))))) ≡ None
+unfolding size_at fault_by statement_fault named_fault has_value_beyond has_unknown_name is_out_of_reach value_of
+target_fault i imm h =
+    line_fault-by [] opening (sound_line (instruction (row i (Some (distance_to imm))))) ∙ rw (h.in_limits, h.reached) refl
 
 aimed_back : (i : Insn) (imm : ℕ) → wrapped (cast_signed w64 imm) ≡ imm
     → aimed [] ram_base i (Some (distance_to imm)) ≡ record i { imm = imm }
@@ -71,13 +73,13 @@ aimed_back i imm e = ap (λ d. record i { imm = wrapped d }) (back_again (pos ra
     ∙ ap (λ n. record i { imm = n }) e
 
 target_bytes : (word : ℕ) (i : Insn) → word ≡ insn_word i → wrapped (cast_signed w64 i.imm) ≡ i.imm
-    → bytes_at [] ram_base (row (record i { imm = 0 }) (Some (distance_to i.imm))) ≡ little_bytes 4 word
+    → bytes_at [] ram_base (instruction (row (record i { imm = 0 }) (Some (distance_to i.imm)))) ≡ little_bytes 4 word
 unfolding bytes_at insn_bytes
 target_bytes word i e back = ap (λ j. little_bytes 4 (insn_word j)) (aimed_back (record i { imm = 0 }) i.imm back)
     ∙ ap (little_bytes 4) (sym e)
 
 placed_target : (word : ℕ) (i : Insn) → IsInsn word i → wrapped (cast_signed w64 i.imm) ≡ i.imm → has_target (slots_of i.row) ≡ true
-    → IsPlaced word (row (record i { imm = 0 }) (Some (distance_to i.imm)))
+    → IsPlaced word (instruction (row (record i { imm = 0 }) (Some (distance_to i.imm))))
 placed_target word i h back t =
     let near =
     near_target (line_of i.row).format i (sym (target_format i.row) ∙ t) (OperandsFit-Fits i (record { word = word; is_insn = h })) in
@@ -89,7 +91,8 @@ placed_target word i h back t =
 placed_insn : (word : ℕ) (i : Insn) → IsInsn word i → wrapped (cast_signed w64 i.imm) ≡ i.imm → IsPlaced word (statement_of i)
 placed_insn word i h back =
     elim (has_target (slots_of i.row)) as
-    (λ t. has_target (slots_of i.row) ≡ t → IsPlaced word (cond t (row (record i { imm = 0 }) (Some (distance_to i.imm))) (row i None))) [
+    (λ t. has_target (slots_of i.row) ≡ t
+    → IsPlaced word (instruction (cond t (row (record i { imm = 0 }) (Some (distance_to i.imm))) (row i None)))) [
       | true ↦ λ t. placed_target word i h back t
       | false ↦ λ _. record { correct = plain_fault i; image = row_image word i None (plain_bytes word i (insn_word-IsInsn word i h)) }
     ] refl
@@ -101,26 +104,20 @@ module _ (word : ℕ) (below : word < 2 ^ 32) (text : List ℕ) (one : pieces_of
   unfolding value_of
   known = ap (λ e. value_of [] ram_base (expression_or_nought e)) value
 
-  no_value : (test : Option ℤ → Bool) → test (Some (pos word)) ≡ false → any_value test [] ram_base (pieces_of text) ≡ false
-  no_value test h = ap (any_value test [] ram_base) one ∙ ap (λ v. test v || false) known ∙ ap (λ t. t || false) h
-
   in_size : is_in_size 4 (pos word) ≡ true
   in_size = grind (arith, nat_tests)
 
-  word_fault : line_fault [] opening (sound_line (values 4 text)) ≡ None
-  unfolding fault_by statement_fault has_value_beyond has_unknown_name is_out_of_reach end_of
-  word_fault =
-      let a = no_value (known_and (λ v. not (is_in_size 4 v))) (ap not in_size) in
-      let b = no_value is_none refl in
-      line_fault-by [] opening (sound_line (values 4 text)) ∙ rw (a, b, one) refl
+  word_fault : line_fault [] opening (sound_line (contents (values 4 text))) ≡ None
+  unfolding size_at fault_by statement_fault named_fault has_value_beyond has_unknown_name is_out_of_reach
+  word_fault = line_fault-by [] opening (sound_line (contents (values 4 text))) ∙ rw (one, known, in_size) refl
 
-  word_bytes : bytes_at [] ram_base (values 4 text) ≡ little_bytes 4 word
+  word_bytes : bytes_at [] ram_base (contents (values 4 text)) ≡ little_bytes 4 word
   unfolding bytes_at value_bytes
   word_bytes =
       let e : wrapped (pos word) ≡ word = omega arith in
       ap (flat_map (value_bytes [] ram_base 4)) one ∙ ap (λ v. little_bytes 4 (wrapped (or_zero v)) ++ []) known ∙ ap (little_bytes 4) e
 
-  placed_word : IsPlaced word (values 4 text)
+  placed_word : IsPlaced word (contents (values 4 text))
   placed_word = record { correct = word_fault; image = values_image word text word_bytes }
 
 placed : (mode : Bool) (word : ℕ) → word < 2 ^ 32 → IsPlaced word (statement_of_word word (insn_of word))

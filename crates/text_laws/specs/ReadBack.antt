@@ -9,7 +9,7 @@ use Rattle.asm_names.specs.Slots.{slots_of}
 use Rattle.asm_lines.specs.Text.{here_name, pieces_of}
 use Rattle.asm_lines.specs.Number.{Expression, expression, expression_of}
 use Rattle.asm_lines.specs.Operand.{wrapped}
-use Rattle.asm_lines.specs.Statement.{Statement, row, values}
+use Rattle.asm_lines.specs.Statement.{Statement, instruction, contents, row, values}
 use Rattle.asm_lines.specs.Line.{Line, line_meaning}
 use Rattle.disassembler.specs.Hex.{hex_of}
 use Rattle.disassembler.specs.Shown.{shown_word}
@@ -29,7 +29,8 @@ distance_to imm = expression (Some here_name) (cast_signed w64 imm)
 
 -- The statement of an instruction. Where it is written with an address to jump to, its distance is known only when it is placed.
 abbrev pub statement_of : Insn → Statement
-statement_of i = if has_target (slots_of i.row) then row (record i { imm = 0 }) (Some (distance_to i.imm)) else row i None
+statement_of i =
+    instruction (if has_target (slots_of i.row) then row (record i { imm = 0 }) (Some (distance_to i.imm)) else row i None)
 
 -- the number that a word is written as where it is no row
 abbrev pub word_text : ℕ → List ℕ
@@ -37,7 +38,7 @@ word_text word = codes "0x" ++ hex_of 8 word
 
 abbrev pub statement_of_word : ℕ → Option Insn → Statement
 statement_of_word word (Some i) = statement_of i
-statement_of_word word None = values 4 (word_text word)
+statement_of_word word None = contents (values 4 (word_text word))
 
 -- a line without a label and without a fault
 abbrev pub sound_line : Statement → Line

@@ -18,13 +18,13 @@ use Rattle.asm_lines.specs.declared.fault.LineFault.TheVariants.{A2, A8, A9}
 use Rattle.asm_lines.specs.Text.{pieces_of, mnemonic_of, operands_of, is_foreign, label_of, statement_text, trimmed, uncommented}
 use Rattle.asm_lines.specs.Number.{Expression, number_of, expression_of}
 use Rattle.asm_lines.specs.Operand.{Draft, up_to, wrapped, filled_draft, filled_fault}
-use Rattle.asm_lines.specs.Statement.{Statement, row, pages, mode, org, align, zeros, values, text, Said, said, said_unless, said_by}
-use Rattle.asm_lines.specs.Statement.{is_word, Pattern, pattern, plain, row_pattern, pattern_of, pattern_said, draft_of, row_said}
-use Rattle.asm_lines.specs.Statement.{load_said, register_load, number_said, page_range, entry_said, values_said, values_fault, text_said}
-use Rattle.asm_lines.specs.Statement.{is_quoted}
+use Rattle.asm_lines.specs.Statement.{Statement, instruction, setting, origin, contents, row, pages, mode, align, zeros, values, text, Said}
+use Rattle.asm_lines.specs.Statement.{said, said_unless, said_by, is_word, Pattern, pattern, plain, row_pattern, pattern_of, pattern_said}
+use Rattle.asm_lines.specs.Statement.{draft_of, row_said, load_said, register_load, number_said, page_range, pages_said, mode_said}
+use Rattle.asm_lines.specs.Statement.{origin_said, align_said, zeros_said, entry_said, values_said, values_fault, text_said, is_quoted}
 use Rattle.asm_lines.specs.Line.{Line, labelled, line_said, line_of_text, line_meaning, FitsAt, RowFits}
-use Rattle.asm_lines.specs.SlotLaws.{Kind, below, Bounds, IsWithin, bounds_of, filled-within}
-use Rattle.asm_lines.specs.FormatLaws.{suits, fits-at}
+use Rattle.asm_lines.proofs.SlotLaws.{Kind, below, Bounds, IsWithin, bounds_of, filled-within}
+use Rattle.asm_lines.proofs.FormatLaws.{suits, fits-at}
 
 -- what is known before any operand is read: the numbers of an alias, or zeros
 abbrev start : Kind → Bounds
@@ -140,7 +140,7 @@ pattern-suits word alone =
 
 -- an instruction that is said without a fault fits
 abbrev pub SaidFits : Said → Type 0
-SaidFits s = (i : Insn) (target : Option Expression) → s.statement ≡ Some (row i target) → s.fault ≡ None → FitsAt i target
+SaidFits s = (i : Insn) (target : Option Expression) → s.statement ≡ Some (instruction (row i target)) → s.fault ≡ None → FitsAt i target
 
 -- a pattern whose operands could be read says an instruction that fits
 pattern-fits : (p : Pattern) (ps : List (List ℕ)) → PatternSuits p → filled_fault p.slots ps (draft_of p) ≡ None
@@ -162,19 +162,20 @@ pattern-fits p ps k e =
 
 -- where a fault leaves a statement, there is none or it is the first
 unless-fits : (s : Statement) (fault : Option LineFault)
-    → ((i : Insn) (target : Option Expression) → s ≡ row i target → fault ≡ None → FitsAt i target) → SaidFits (said_unless s fault)
+    → ((i : Insn) (target : Option Expression) → s ≡ instruction (row i target) → fault ≡ None → FitsAt i target)
+    → SaidFits (said_unless s fault)
 unless-fits s None f i target e h = f i target (cc) h
 unless-fits s (Some fault) f i target e h = cc
 
 -- statements of an instruction are equal only with its parts
-same_row : (i j : Insn) (t u : Option Expression) → row i t ≡ row j u → FitsAt i t → FitsAt j u
+same_row : (i j : Insn) (t u : Option Expression) → instruction (row i t) ≡ instruction (row j u) → FitsAt i t → FitsAt j u
 same_row i j t u e h =
     let p : i ≡ j = cc in
     let q : t ≡ u = cc in
     subst (λ v. FitsAt j v) q (subst (λ k. FitsAt k t) p h)
 
 row-fits : (d : Draft) (fault : Option LineFault) → (fault ≡ None → FitsAt d.insn d.target) → SaidFits (row_said d fault)
-row-fits d fault f = unless-fits (row d.insn d.target) fault (λ i target e h. same_row d.insn i d.target target e (f h))
+row-fits d fault f = unless-fits (instruction (row d.insn d.target)) fault (λ i target e h. same_row d.insn i d.target target e (f h))
 
 the-pattern-fits : (p : Option Pattern) (operands : List ℕ) → ThePatternSuits p → SaidFits (pattern_said p operands)
 the-pattern-fits (Some p) operands k i target e h =
@@ -196,7 +197,7 @@ load-fits capability (r ∷ x ∷ []) i target e h = register_load-fits capabili
 load-fits capability (r ∷ x ∷ y ∷ rest) i target e h = cc
 
 number-fits : (make : ℕ → Statement) (other : Option Statement) (r : Result ℤ LineFault)
-    → ((n : ℕ) (i : Insn) (target : Option Expression) → make n ≡ row i target → ⊥) → SaidFits (number_said make other r)
+    → ((n : ℕ) (i : Insn) (target : Option Expression) → make n ≡ instruction (row i target) → ⊥) → SaidFits (number_said make other r)
 number-fits make other (Ok n) f i target e h = absurd (f (wrapped n) i target (cc))
 number-fits make other (Err fault) f i target e h = cc
 
@@ -207,9 +208,9 @@ entry-fits (Err fault) i target e h = cc
 values-fits : (size : ℕ) (operands : List ℕ) → SaidFits (values_said size operands)
 values-fits size [] i target e h = cc
 values-fits size (b ∷ bs) i target e h =
-    unless-fits (values size (b ∷ bs)) (values_fault size (pieces_of (b ∷ bs))) (λ j t p q. cc) i target e h
+    unless-fits (contents (values size (b ∷ bs))) (values_fault size (pieces_of (b ∷ bs))) (λ j t p q. cc) i target e h
 
-quoted-fits : (test : Bool) (between : List ℕ) → SaidFits (if test then said (Some (text between)) None else said None (Some A2))
+quoted-fits : (test : Bool) (between : List ℕ) → SaidFits (if test then said (Some (contents (text between))) None else said None (Some A2))
 quoted-fits true between i target e h = cc
 quoted-fits false between i target e h = cc
 
@@ -222,19 +223,20 @@ one-fits false s t f g i target e h = g i target e h
 pub said-fits : (word operands : List ℕ) → SaidFits (said_by word operands)
 unfolding said_by
 said-fits word operands =
+    let number = number_of operands in
     one-fits (is_word word (codes "la")) (load_said false (pieces_of operands)) _ (load-fits false (pieces_of operands)) (
     one-fits (is_word word (codes "cla")) (load_said true (pieces_of operands)) _ (load-fits true (pieces_of operands)) (
-    one-fits (is_word word (codes ".pages")) (number_said pages (Some (pages 0)) (page_range (number_of operands))) _
-    (number-fits pages (Some (pages 0)) (page_range (number_of operands)) (λ n i t q. cc)) (
-    one-fits (is_word word (codes ".mode")) (number_said (λ n. mode (n == 1)) (Some (mode false)) (up_to 1 (number_of operands))) _
-    (number-fits (λ n. mode (n == 1)) (Some (mode false)) (up_to 1 (number_of operands)) (λ n i t q. cc)) (
+    one-fits (is_word word (codes ".pages")) (pages_said number) _
+    (number-fits (λ n. setting (pages n)) (Some (setting (pages 0))) (page_range number) (λ n i t q. cc)) (
+    one-fits (is_word word (codes ".mode")) (mode_said number) _
+    (number-fits (λ n. setting (mode (n == 1))) (Some (setting (mode false))) (up_to 1 number) (λ n i t q. cc)) (
     one-fits (is_word word (codes ".entry")) (entry_said (expression_of operands)) _ (entry-fits (expression_of operands)) (
-    one-fits (is_word word (codes ".org")) (number_said org None (up_to (2 ^ 64 - 1) (number_of operands))) _
-    (number-fits org None (up_to (2 ^ 64 - 1) (number_of operands)) (λ n i t q. cc)) (
-    one-fits (is_word word (codes ".align")) (number_said align None (up_to 12 (number_of operands))) _
-    (number-fits align None (up_to 12 (number_of operands)) (λ n i t q. cc)) (
-    one-fits (is_word word (codes ".zero")) (number_said zeros None (up_to 268435456 (number_of operands))) _
-    (number-fits zeros None (up_to 268435456 (number_of operands)) (λ n i t q. cc)) (
+    one-fits (is_word word (codes ".org")) (origin_said number) _
+    (number-fits origin None (up_to (2 ^ 64 - 1) number) (λ n i t q. cc)) (
+    one-fits (is_word word (codes ".align")) (align_said number) _
+    (number-fits (λ n. contents (align n)) None (up_to 12 number) (λ n i t q. cc)) (
+    one-fits (is_word word (codes ".zero")) (zeros_said number) _
+    (number-fits (λ n. contents (zeros n)) None (up_to 268435456 number) (λ n i t q. cc)) (
     one-fits (is_word word (codes ".byte")) (values_said 1 operands) _ (values-fits 1 operands) (
     one-fits (is_word word (codes ".half")) (values_said 2 operands) _ (values-fits 2 operands) (
     one-fits (is_word word (codes ".word")) (values_said 4 operands) _ (values-fits 4 operands) (
@@ -245,7 +247,7 @@ said-fits word operands =
 
 -- the same, where what is said is one equation
 pub said_by-fits : (word operands : List ℕ) (i : Insn) (target : Option Expression)
-    → said_by word operands ≡ said (Some (row i target)) None → FitsAt i target
+    → said_by word operands ≡ said (Some (instruction (row i target))) None → FitsAt i target
 said_by-fits word operands i target e = said-fits word operands i target (ap (λ s. s.statement) e) (ap (λ s. s.fault) e)
 
 line_said-fits : (label : Option (List ℕ)) (statement : List ℕ) → RowFits (line_said label statement)

@@ -1,0 +1,8 @@
+use Rattle.std.proofs.Common.{◌∙◌}
+use Rattle.assembler.proofs.AskedLemmas.{asked_values}
+use Rattle.assembler.proofs.checks.data_fault.Goals as goal
+
+pub returns-in-Values : goal.returns-in-Values
+returns-in-Values c = λ page_count.
+    rw c.in-Values.is
+    (c.values_fault.ensures ∙ asked_values page_count c.args.labels.now c.args.here c.in-Values.size c.in-Values.operands.now)
