@@ -7,7 +7,7 @@ ghost use Rattle.asm_lines.specs.Class.{is_in};
 
 /// A kind of byte.
 #[derive(Clone, Copy)]
-pub(crate) enum Class {
+pub enum Class {
     /// Space, tab and carriage return.
     Blank,
     /// What is not white space.
@@ -22,6 +22,8 @@ pub(crate) enum Class {
     Not(u8),
     /// A digit in this radix.
     Digit(u32),
+    /// A byte below 128.
+    Ascii,
 }
 
 impl Class {
@@ -36,12 +38,13 @@ impl Class {
             Class::Unsigned => !(byte == b'+' || byte == b'-'),
             Class::Not(other) => byte != other,
             Class::Digit(radix) => digit_value(byte) < radix,
+            Class::Ascii => byte < 128,
         }
     }
 }
 
 /// How many bytes of a kind a text begins with.
-pub(crate) fn run_length(text: &[u8], class: Class) -> usize
+pub fn run_length(text: &[u8], class: Class) -> usize
     ensures value { result ≡ prefix_len (is_in class) text.now }
     ensures bound { result ≤ length text.now }
 {

@@ -15,6 +15,7 @@ mod statement;
 mod text;
 mod values;
 
+pub use class::{Class, run_length};
 pub use fault::LineFault;
 pub use line::parse_line;
 pub use number::expression;

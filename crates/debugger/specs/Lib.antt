@@ -5,5 +5,6 @@ pub mod Conversation
 pub mod Seen
 pub mod Lines
 pub mod Answers
+pub mod Standing
 pub mod Talk
 pub mod Heard

@@ -1,20 +1,11 @@
--- What the code's own commands and replies say, and the words of a line as they are cut off.
-use Rattle.std.specs.Prelude.{◌≡◌, ℕ, ◌%◌, ◌<◌, ◌≤◌, ⊤, Bool, not, nat_lt, ℤ, Option, Some, None, Result, Ok, Err}
+-- What the code's own commands say.
+use Rattle.std.specs.Prelude.{◌≡◌, ℕ, ◌%◌, ◌<◌, ◌≤◌, ⊤, ℤ, Option, Some, None, Result, Ok, Err}
 use Rattle.asm_lines.specs.declared.fault.LineFault.{LineFault}
-use Rattle.asm_lines.specs.Text.{is_blank}
 use Rattle.asm_lines.specs.Operand.{wrapped}
 use Rattle.debugger.specs.declared.fault.DebugFault.{DebugFault}
 use Rattle.debugger.specs.declared.command.Command.{Command as Request}
 use Rattle.debugger.specs.declared.command.Command.TheVariants.{Step, Tick, Byte, Until, Reg, Regs, Scr, Csr, Mem, Dis, Quit}
-use Rattle.debugger.specs.declared.words.Kind.{Kind}
-use Rattle.debugger.specs.declared.words.Kind.TheVariants.{Blank, Solid, Ascii}
 use Rattle.debugger.specs.Command.{Command, step, tick, byte, until, reg, regs, scr, csr, mem, dis, quit}
-
--- whether a byte is of a kind
-abbrev pub is_in : Kind → ℕ → Bool
-is_in Blank b = is_blank b
-is_in Solid b = not (is_blank b)
-is_in Ascii b = nat_lt b 128
 
 abbrev pub seen_command : Request → Command
 seen_command (Step n) = step n

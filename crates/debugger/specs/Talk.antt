@@ -8,6 +8,7 @@ use Rattle.hart.specs.State.{State}
 use Rattle.debugger.specs.declared.fault.TalkFault.{TalkFault}
 use Rattle.debugger.specs.declared.fault.TalkFault.TheVariants.{Read, Write, Memory}
 use Rattle.debugger.specs.Reply.{state_after}
+use Rattle.debugger.specs.Standing.{Standing}
 use Rattle.debugger.specs.Conversation.{reply_to, is_last, conversation, state_after_conversation, unread}
 
 -- The most bytes that a conversation hears; then it ends as at the end of the input.
@@ -18,10 +19,10 @@ abbrev pub heard : List ℕ → List ℕ
 heard input = take most_heard input
 
 -- The whole conversation over an input: its text was written, the machine stands after its lines, and the rest is unread.
-pub record IsTold (input : List ℕ) (old new : State) (left : Option (List ℕ)) (held_old held_new : Option (List ℕ)) : Type 0 where
-  pub text : Appends held_old held_new (conversation (heard input) old)
-  pub state : new ≡ state_after_conversation (heard input) old
-  pub rest : left ≡ Some (unread (heard input) old ++ drop most_heard input)
+pub record IsTold (input : List ℕ) (old new : Standing) : Type 0 where
+  pub text : Appends old.held new.held (conversation (heard input) old.state)
+  pub state : new.state ≡ state_after_conversation (heard input) old.state
+  pub rest : new.left ≡ Some (unread (heard input) old.state ++ drop most_heard input)
 
 -- ---- a conversation that was cut short
 
@@ -50,10 +51,10 @@ abbrev pub IsLine : List ℕ → Type 0
 IsLine line = before_first is_feed line ≡ line
 
 -- Whole lines that did not end the conversation were read, and then this much more.
-pub record IsRead (lines : List (List ℕ)) (more : List ℕ) (s : State) (left_old left_new : Option (List ℕ)) : Type 0 where
-  pub read : Consumes left_old left_new (fed lines ++ more)
+pub record IsRead (lines : List (List ℕ)) (more : List ℕ) (old new : Standing) : Type 0 where
+  pub read : Consumes old.left new.left (fed lines ++ more)
   pub are_lines : All IsLine lines
-  pub goes_on : goes_on lines s ≡ true
+  pub goes_on : goes_on lines old.state ≡ true
 
 -- What stands behind a line: its line feed; or nothing, where the input is at its end or as much was heard as a conversation hears.
 abbrev pub Ends : List (List ℕ) → List ℕ → List ℕ → Option (List ℕ) → Type 0
@@ -61,41 +62,41 @@ Ends lines line behind left =
     (behind ≡ 10 ∷ []) ⊎ ((behind ≡ []) × (0 < length line) × ((length (fed lines ++ line) ≡ most_heard) ⊎ IsAtEnd left))
 
 -- Somewhere in a line: the replies to the lines before were written, and the machine stands after those lines.
-pub record IsCutInLine (old new : State) (left_old left_new held_old held_new : Option (List ℕ)) : Type 0 where
+pub record IsCutInLine (old new : Standing) : Type 0 where
   pub lines : List (List ℕ)
   pub part : List ℕ
-  pub is_read : IsRead lines part old left_old left_new
+  pub is_read : IsRead lines part old new
   pub is_in_line : IsLine part
-  pub text : Appends held_old held_new (replies lines old)
-  pub state : new ≡ state_after_all lines old
+  pub text : Appends old.held new.held (replies lines old.state)
+  pub state : new.state ≡ state_after_all lines old.state
 
 -- Before the reply to a line: the replies to the lines before were written, and the machine stands after those lines.
-pub record IsCutBeforeReply (old new : State) (left_old left_new held_old held_new : Option (List ℕ)) : Type 0 where
+pub record IsCutBeforeReply (old new : Standing) : Type 0 where
   pub lines : List (List ℕ)
   pub line : List ℕ
   pub behind : List ℕ
-  pub is_read : IsRead lines (line ++ behind) old left_old left_new
+  pub is_read : IsRead lines (line ++ behind) old new
   pub is_line : IsLine line
-  pub ends : Ends lines line behind left_new
-  pub text : Appends held_old held_new (replies lines old)
-  pub state : new ≡ state_after_all lines old
+  pub ends : Ends lines line behind new.left
+  pub text : Appends old.held new.held (replies lines old.state)
+  pub state : new.state ≡ state_after_all lines old.state
 
 -- In the reply to a line: a beginning of the replies was written, and the machine stands after that line.
-pub record IsCutInReply (old new : State) (left_old left_new held_old held_new : Option (List ℕ)) : Type 0 where
+pub record IsCutInReply (old new : Standing) : Type 0 where
   pub lines : List (List ℕ)
   pub line : List ℕ
   pub behind : List ℕ
-  pub is_read : IsRead lines (line ++ behind) old left_old left_new
+  pub is_read : IsRead lines (line ++ behind) old new
   pub is_line : IsLine line
-  pub ends : Ends lines line behind left_new
-  pub text : AppendsBeginning held_old held_new (replies lines old ++ reply_to line (state_after_all lines old))
-  pub state : new ≡ state_after line (state_after_all lines old)
+  pub ends : Ends lines line behind new.left
+  pub text : AppendsBeginning old.held new.held (replies lines old.state ++ reply_to line (state_after_all lines old.state))
+  pub state : new.state ≡ state_after line (state_after_all lines old.state)
 
 -- what a fault leaves
-abbrev pub LeavesOff : TalkFault → State → State → Option (List ℕ) → Option (List ℕ) → Option (List ℕ) → Option (List ℕ) → Type 0
-LeavesOff Read old new left_old left_new held_old held_new = IsCutInLine old new left_old left_new held_old held_new
-LeavesOff Write old new left_old left_new held_old held_new = IsCutInReply old new left_old left_new held_old held_new
-LeavesOff Memory old new left_old left_new held_old held_new = IsCutBeforeReply old new left_old left_new held_old held_new
+abbrev pub LeavesOff : TalkFault → Standing → Standing → Type 0
+LeavesOff Read old new = IsCutInLine old new
+LeavesOff Write old new = IsCutInReply old new
+LeavesOff Memory old new = IsCutBeforeReply old new
 
 -- The count of the source's failures rises by one where the answer is Read, that of the sink's where it is Write, and else both stay.
 abbrev pub CountsReads : {T : Type 0} → ℕ → ℕ → Result T TalkFault → Type 0

@@ -10,7 +10,7 @@ ghost use Rattle.debugger.specs.Answers.{seen_reply};
 
 use crate::command::Command;
 use crate::fault::DebugFault;
-use crate::ram::{is_in_ram, put_memory, put_words};
+use crate::ram::{put_memory, put_words};
 use crate::reply::Reply;
 use crate::run::told_events;
 use crate::state::{put_csrs, put_register, put_registers, put_scrs};
@@ -35,8 +35,8 @@ pub(crate) fn is_outside<C: CapRep>(machine: &Machine<C>, command: Command) -> b
     ensures { result ≡ is_outside (seen_command command) machine.now }
 {
     match command {
-        Command::Mem { address, count } => !is_in_ram(machine.memory(), address, count),
-        Command::Dis { address, count } => !is_in_ram(machine.memory(), address, 4 * count),
+        Command::Mem { address, count } => !machine.memory().is_in_ram(address, count),
+        Command::Dis { address, count } => !machine.memory().is_in_ram(address, 4 * count),
         _ => false,
     }
 }

@@ -8,8 +8,8 @@ ghost use Rattle.debugger.specs.Command.{command_named, command_of};
 ghost use Rattle.debugger.specs.Seen.{seen_command, seen_request, made_of, made_of_two, read_number, IsWithinLimits};
 
 use crate::fault::DebugFault;
-use crate::words::{Kind, run_length, split_word};
-use asm_lines::natural;
+use crate::words::split_word;
+use asm_lines::{Class, natural, run_length};
 use asm_names::register_named;
 
 /// The most bytes that a line has.
@@ -183,7 +183,7 @@ pub(crate) fn command_of(line: &[u8]) -> Result<Command, DebugFault>
     ensures value { seen_request result ≡ command_of line.now }
     ensures limits { IfOk result IsWithinLimits }
 {
-    if line.len() > MOST_BYTES || run_length(line, Kind::Ascii) < line.len() {
+    if line.len() > MOST_BYTES || run_length(line, Class::Ascii) < line.len() {
         return Err(DebugFault::B2);
     }
     match split_word(line) {

@@ -11,22 +11,13 @@ ghost use Rattle.debugger.specs.Lines.{spaced};
 
 use crate::text::{put, put_hex};
 use crate::words::{before, behind};
-use base::{Size, ram};
+use base::Size;
 use disassembler::word_line;
 use std::alloc::{AllocError, Global};
 use tagged_memory::Memory;
 
 /// The most bytes of a line.
 const LINE_BYTES: usize = 16;
-
-/// Whether so many bytes from an address lie in RAM.
-#[tactic(auto, unfolding(tagged_memory::specs::Memory::is_in_ram))]
-pub(crate) fn is_in_ram(memory: &Memory, address: u64, count: u64) -> bool
-    ensures { result ≡ is_in_ram memory.now address count }
-{
-    let end = ram::BASE + ram::PAGE_BYTES * u64::from(memory.pages());
-    address >= ram::BASE && count <= end && address <= end - count
-}
 
 /// The byte at an address.
 #[tactic(auto, unfolding(tagged_memory::specs::Memory::place_fault, tagged_memory::specs::Memory::is_in_ram), using(crate::proofs::RamBytes::one_byte))]

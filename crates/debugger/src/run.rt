@@ -1,6 +1,6 @@
 //! The events that a command gives, and the line that tells of them.
 ghost use Rattle.std.specs.Prelude.{◌≡◌, ◌+◌, ◌*◌, ◌<◌, ◌≤◌, ◌++◌, IfOk, IfErr, OnOk, OnErr, replicate, length, vec_len, vec_capacity};
-ghost use Rattle.std.specs.Prelude.{string_bytes, string_len, string_capacity, option_to_list};
+ghost use Rattle.std.specs.Prelude.{string_bytes, string_len, string_capacity};
 ghost use Rattle.std.specs.List.{flat_map};
 ghost use Rattle.special_regs.specs.Scrs.{scr_value};
 ghost use Rattle.hart.specs.State.{pc_of};
@@ -14,7 +14,7 @@ use crate::command::Command;
 use crate::fault::DebugFault;
 use crate::text::{put, put_decimal, put_hex};
 use cap_bounds::CapRep;
-use machine::{Event, Machine};
+use machine::{Event, Machine, emit};
 use std::alloc::{AllocError, Global};
 
 /// The number of PCC.
@@ -29,18 +29,6 @@ fn pc<C: CapRep>(machine: &Machine<C>) -> u64
     ensures { result ≡ pc_of machine.now }
 {
     machine.scr(PCC).address()
-}
-
-/// Puts the byte that was sent, if one was, behind the others, for which there is room.
-fn emit(sent: &mut Vec<u8>, byte: Option<u8>)
-    requires { vec_len sent.old < vec_capacity sent.old }
-    ensures items { sent.new.items ≡ sent.old.items ++ option_to_list byte }
-    ensures len { vec_len sent.new ≤ vec_len sent.old + 1 }
-    ensures room { vec_capacity sent.old ≤ vec_capacity sent.new }
-{
-    if let Some(byte) = byte {
-        sent.push(byte).unwrap();
-    }
 }
 
 /// Gives an event so many times, and puts what is sent behind the other bytes, for which there is room.

@@ -1,11 +1,12 @@
 //! Whole conversations.
-ghost use Rattle.std.specs.Prelude.{◌≡◌, ◌≢◌, ◌-◌, ◌^◌, ◌<◌, [], ◌∷◌, ◌++◌, take, MatchOption, IfOk, IfErr, OnOk, OnErr, IfSome};
+ghost use Rattle.std.specs.Prelude.{◌≡◌, ◌≢◌, ◌-◌, ◌^◌, ◌<◌, [], ◌∷◌, ◌++◌, take, None, MatchOption, IfOk, IfErr, OnOk, OnErr, IfSome};
 ghost use Rattle.std.specs.Io.KnownBytes.{Appends, Consumes, Keeps, IsAtEnd};
 ghost use Rattle.image.specs.Devices.{AppendsBeginning};
 ghost use Rattle.debugger.specs.declared.fault.DebugFault.TheVariants.{B4};
 ghost use Rattle.debugger.specs.declared.fault.TalkFault.TheVariants.{Read, Write};
 ghost use Rattle.debugger.specs.Reply.{state_after};
 ghost use Rattle.debugger.specs.Conversation.{fault_text, reply_to, is_last};
+ghost use Rattle.debugger.specs.Standing.{standing_with};
 ghost use Rattle.debugger.specs.Talk.{IsTold, LeavesOff, CountsReads, CountsWrites};
 ghost use Rattle.debugger.specs.Heard.{FailsToRefuse, FailsToReply, Hears};
 
@@ -77,7 +78,8 @@ fn answer_line<C: CapRep, W: Sink>(
     ensures last { IfOk result (λ last. last ≡ is_last line.now session.old) }
     ensures state { OnOk result (session.new ≡ state_after line.now session.old) }
     ensures text { OnOk result (Appends (W.held sink.old) (W.held sink.new) (reply_to line.now session.old)) }
-    ensures err { IfErr result (λ fault. FailsToReply fault line.now session.old session.new (W.held sink.old) (W.held sink.new)) }
+    ensures err { IfErr result (λ fault. FailsToReply fault line.now
+        (standing_with session.old None (W.held sink.old)) (standing_with session.new None (W.held sink.new))) }
     ensures count { CountsWrites (W.failed sink.old) (W.failed sink.new) result }
 {
     match session.command_bytes(line) {
@@ -113,10 +115,12 @@ fn hear<C: CapRep, R: Source, W: Sink>(
     requires source { R.failed source.old < 2 ^ 64 - 1 }
     requires sink { W.failed sink.old < 2 ^ 64 - 1 }
     requires line { line.old.items ≡ [] }
-    ensures ok { IfOk result (λ is_over. Hears is_over line.new.items session.old session.new (R.left source.old) (R.left source.new)
-        (W.held sink.old) (W.held sink.new)) }
-    ensures err { IfErr result (λ fault. LeavesOff fault session.old session.new (R.left source.old) (R.left source.new) (W.held sink.old)
-        (W.held sink.new)) }
+    ensures ok { IfOk result (λ is_over. Hears is_over line.new.items
+        (standing_with session.old (R.left source.old) (W.held sink.old))
+        (standing_with session.new (R.left source.new) (W.held sink.new))) }
+    ensures err { IfErr result (λ fault. LeavesOff fault
+        (standing_with session.old (R.left source.old) (W.held sink.old))
+        (standing_with session.new (R.left source.new) (W.held sink.new))) }
     ensures reads { CountsReads (R.failed source.old) (R.failed source.new) result }
     ensures writes { CountsWrites (W.failed sink.old) (W.failed sink.new) result }
 {
@@ -151,10 +155,12 @@ pub fn talk<C: CapRep, R: Source, W: Sink>(
 ) -> Result<(), TalkFault>
     requires source { R.failed source.old < 2 ^ 64 - 1 }
     requires sink { W.failed sink.old < 2 ^ 64 - 1 }
-    ensures ok { OnOk result (IfSome (R.left source.old)
-        (λ input. IsTold input session.old session.new (R.left source.new) (W.held sink.old) (W.held sink.new))) }
-    ensures err { IfErr result (λ fault. LeavesOff fault session.old session.new (R.left source.old) (R.left source.new) (W.held sink.old)
-        (W.held sink.new)) }
+    ensures ok { OnOk result (IfSome (R.left source.old) (λ input. IsTold input
+        (standing_with session.old (R.left source.old) (W.held sink.old))
+        (standing_with session.new (R.left source.new) (W.held sink.new)))) }
+    ensures err { IfErr result (λ fault. LeavesOff fault
+        (standing_with session.old (R.left source.old) (W.held sink.old))
+        (standing_with session.new (R.left source.new) (W.held sink.new))) }
     ensures reads { CountsReads (R.failed source.old) (R.failed source.new) result }
     ensures writes { CountsWrites (W.failed sink.old) (W.failed sink.new) result }
 {

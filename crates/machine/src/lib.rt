@@ -8,4 +8,4 @@ mod machine;
 pub use end::End;
 pub use fault::MachineFault;
 pub use hart::{Event, Out};
-pub use machine::Machine;
+pub use machine::{Machine, emit};

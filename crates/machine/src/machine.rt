@@ -41,8 +41,8 @@ impl<C: CapRep> Model for Machine<C> {
     ghost view = { λ m. m.hart };
 }
 
-/// Puts the byte that was sent, if one was, behind the others, for which there is room.
-fn emit(out: &mut Vec<u8>, byte: Option<u8>)
+/// Puts the byte that an event sent, if it sent one, behind the others. There is room for it.
+pub fn emit(out: &mut Vec<u8>, byte: Option<u8>)
     requires { vec_len out.old < vec_capacity out.old }
     ensures items { out.new.items ≡ out.old.items ++ option_to_list byte }
     ensures len { vec_len out.new ≤ vec_len out.old + 1 }
