@@ -14,5 +14,6 @@ returns-in-Some c =
     λ page_count.
     rw c.in-Some.is
     (c.target_fault.ensures
-    ∙ ap (λ r. value_fault is_in_limits (λ v. is_reached r (v -ℤ pos c.args.here)) value) (c.reach_of.ensures ∙ ap reach_of c.format.ensures)
+    ∙ ap (λ r. value_fault is_in_limits (λ v. is_reached r (v -ℤ pos c.args.here)) value)
+    (c.reach_of.ensures ∙ ap reach_of c.format.ensures)
     ∙ asked_target page_count c.args.labels.now c.args.here c.args.insn.now e)
