@@ -4,7 +4,6 @@ use Rattle.std.proofs.Common.{None, refl, sym, ap, subst, ◌∙◌, append_asso
 use Rattle.std.specs.Prelude.{◌==◌, if◌then◌else◌, IfSome, ◌⊎◌}
 use Rattle.std.proofs.Common.{inl, inr}
 use Rattle.std.proofs.KnownBytes.{Appends-nil, Appends-trans, Consumes-nil, Consumes-trans, Consumes-kept}
-use Rattle.std.proofs.Math.Seq.{take-append-add}
 use Rattle.std.proofs.lemmas.Bool.Decides.{nat_tests}
 use Rattle.std.proofs.lemmas.List.{length-append}
 use Rattle.std.proofs.lemmas.List.Elements.{All-nil, All-push}
