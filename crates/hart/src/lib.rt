@@ -21,4 +21,3 @@ mod values;
 
 pub use event::{Event, Out};
 pub use hart::Hart;
-pub use registers::Registers;

@@ -7,7 +7,8 @@ use Rattle.base.specs.FirstFaultLaws.{EachHolds, first_fault-cons, first_fault-n
 use Rattle.base.specs.Ram.{ram_base, ram_end, most_pages}
 use Rattle.image.specs.declared.fault.ImageFault.{ImageFault}
 use Rattle.image.specs.declared.fault.ImageFault.TheVariants.{L4, L5}
-use Rattle.image.specs.Image.{Section, Image, IsImage, is_good_header, span_checks, span_fault, sections_checks, sections_fault, build_fault}
+use Rattle.image.specs.Image.{Section, Image, IsImage, is_good_header}
+use Rattle.image.specs.Image.{span_checks, span_fault, sections_checks, sections_fault, build_fault}
 use Rattle.image.specs.Image.{mode_number, image_of}
 
 -- each section begins and ends in RAM
