@@ -1,15 +1,9 @@
 -- A listing, piece by piece, and where an image's sections lie.
 use Rattle.std.proofs.Common.{◌≡◌, ℕ, ◌+◌, ◌-◌, ◌*◌, ◌/◌, ◌^◌, ◌<◌, ◌≤◌, zero, suc, Bool, List, [], ◌∷◌, ◌++◌, length, get_or, take, drop}
 use Rattle.std.proofs.Common.{refl, sym, ap, ◌∙◌, append_assoc, append-nil, length-drop, arith}
-use Rattle.std.specs.Prelude.{Option}
 use Rattle.std.specs.List.{flat_map}
-use Rattle.std.specs.Io.KnownBytes.{Appends}
-use Rattle.std.proofs.KnownBytes.{Appends-trans}
-use Rattle.std.proofs.lemmas.List.{take-append-le, take-append-drop, take_all, length-append}
-use Rattle.std.proofs.lemmas.List.Concat.{flat_map-append}
-use Rattle.std.proofs.Math.Seq.{take-append-add, drop-cons}
+use Rattle.std.proofs.lemmas.List.{take_all}
 use Rattle.byteorder.specs.Endian.{little_number}
-use Rattle.image.specs.Devices.{AppendsBeginning}
 use Rattle.base.specs.Ram.{ram_end}
 use Rattle.image.specs.Image.{Image, Section, IsImage, mode_number}
 use Rattle.image.specs.ImageLaws.{AllInRam, AllInRam-image, build_parts, header_ranges}
