@@ -224,6 +224,27 @@ def window_lines():
     yield from dict.fromkeys(lines)
 
 
+def part_line(high, address):
+    """The parts of a word: E, B, T, the edge, the corrections of base and top, and whether bit 64 of the top is inverted."""
+    e, b, t = exponent_and_mantissas(high)
+    ah, bh, th = address >> e + 11 & 7, b >> 11 & 7, t >> 11 & 7
+    edge = bh - 1 & 7
+    base_step, top_step = (bh < edge) - (ah < edge), (th < edge) - (ah < edge)
+    base, top = decoded(high, address)
+    flip = ((address >> e + 14) + top_step << e + 14) + (t << e) - top & SPACE != 0
+    return f"{high:016x} {address:x} => {e} {b:x} {t:x} {edge} {base_step} {top_step} {int(flip)}"
+
+
+def part_lines():
+    yield "# a word's high half and its address => E, B, T, the edge, the corrections of base and top, whether the top's bit 64 is inverted"
+    yield "# 4095 bytes from 0x8000_1000, with an address below them; 16 bytes at 0, with the last address of all"
+    yield part_line(0xFFFF000007FE5004 ^ NULL_HIGH, 0x800007FF)
+    yield part_line(0xFFFF1FFFF8040000, SPACE - 1)
+    yield "# each word"
+    yield from (part_line(high, address) for high, address in distinct_words())
+
+
 def files():
     yield "words.txt", list(word_lines())
+    yield "parts.txt", list(part_lines())
     yield "windows.txt", list(window_lines())

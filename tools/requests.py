@@ -212,5 +212,45 @@ def lines():
                f"{result:016x} {address:x} {int(result_tag)} {int(exact)} {fields} {base:x} {top:x}")
 
 
+class Drawn:
+    """Another fixed sequence of numbers (xorshift64*)."""
+
+    def __init__(self, state):
+        self.state = state
+
+    def next(self):
+        self.state ^= self.state << 13 & SPACE - 1
+        self.state ^= self.state >> 7
+        self.state ^= self.state << 17 & SPACE - 1
+        return self.state * 0x9E3779B97F4A7C15 & SPACE - 1
+
+    def any_length(self):
+        """A number of any length."""
+        number = self.next()
+        return number >> self.next() % 64
+
+
+def drawn_words():
+    """Words with a length and an exponent: by turns a capability at another address, one with other bits above, and any word."""
+    numbers = Drawn(0x2545F4914F6CDD1D)
+    for turn in range(3000):
+        address = numbers.next()
+        high = high_around(ROOT_HIGH, address, address + numbers.any_length())
+        address ^= numbers.any_length()
+        noise = numbers.any_length()
+        if turn % 3 == 1:
+            high ^= noise
+        elif turn % 3 == 2:
+            high, address = numbers.next(), numbers.next()
+        yield high, address, numbers.any_length(), turn % 51
+
+
+def agreement_lines():
+    yield "# a drawn word's high half and its address, a length and an exponent => 1, where every form agrees with the record in each field,"
+    yield "# with the addresses at its ends, with bounds of that length and at the limits of that exponent, and without its tag"
+    yield from (f"{high:016x} {address:x} {length:x} {e} => 1" for high, address, length, e in drawn_words())
+
+
 def files():
     yield "requests.txt", list(lines())
+    yield "agreements.txt", list(agreement_lines())

@@ -1,5 +1,5 @@
 -- What a register or a granule holds: a capability, or 128 bits of data.
-use Rattle.std.specs.Prelude.{◌≡◌, ℕ, ◌*◌, ◌^◌, ◌<◌, Bool, true, false, if◌then◌else◌, ◌==◌}
+use Rattle.std.specs.Prelude.{◌≡◌, ℕ, ◌^◌, ◌<◌, Bool, true, false, if◌then◌else◌, ◌==◌}
 use Rattle.base.specs.ObjectType.{unsealed_type}
 use Rattle.cap_format.specs.Word.{address_of, perms_of, flag_of, otype_of, with_address_of, null_word}
 use Rattle.cap_bounds.specs.Window.{base_of_word, top_of_word}

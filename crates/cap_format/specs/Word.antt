@@ -9,9 +9,9 @@
 --   89..78    T, the low 12 bits of the top's mantissa
 --   77..64    B, the 14 bits of the base's mantissa
 --   63..0     address
-use Rattle.std.specs.Prelude.{ℕ, ◌+◌, ◌*◌, ◌/◌, ◌%◌, ◌^◌, Bool, ◌==◌, if◌then◌else◌, List, bit_xor}
+use Rattle.std.specs.Prelude.{ℕ, ◌+◌, ◌*◌, ◌/◌, ◌%◌, ◌^◌, Bool, ◌==◌, List, bit_xor}
 use Rattle.std.specs.Int.{w128, to_le_bytes, from_le_bytes}
-use Rattle.base.specs.Bits.{field, bit}
+use Rattle.base.specs.Bits.{field}
 
 abbrev pub address_of : ℕ → ℕ
 address_of word = word % 2 ^ 64

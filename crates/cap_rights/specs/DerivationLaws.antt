@@ -6,7 +6,7 @@ use Rattle.std.specs.Int.Bits.{and_self}
 use Rattle.std.proofs.lemmas.Nat.{and_comm, and_assoc, mod_below, pow_pos}
 use Rattle.std.proofs.lemmas.Bool.{cond_both, and_parts, and_from, leb-true, le-leb, eqb-true, eq-eqb}
 use Rattle.base.specs.ObjectType.{unsealed_type, sentry_type}
-use Rattle.cap_bounds.specs.CapValue.{CapValue, Cap, Data, IsSound, is_tagged, word_of, value_address, value_perms}
+use Rattle.cap_bounds.specs.CapValue.{CapValue, Cap, Data, IsSound, is_tagged, value_address, value_perms}
 use Rattle.cap_bounds.specs.SoundLaws.{value_perms-below, word_of-below}
 use Rattle.cap_rights.specs.declared.permission.Permission.TheVariants.{Global}
 use Rattle.cap_rights.specs.Permission.{permits}

@@ -5,6 +5,7 @@
 //! block of lines, which an empty line ends.
 #![tactic(auto)]
 
+mod agreements;
 mod assemblies;
 mod bytes;
 mod capability_rows;
@@ -21,6 +22,7 @@ mod lines;
 mod memory_script;
 mod names;
 mod numbers;
+mod parts;
 mod plans;
 mod programs;
 mod quoted;
@@ -52,8 +54,10 @@ use word_cap::WordCap;
 #[derive(Clone, Copy, Debug)]
 enum Table {
     Words,
+    Parts,
     Windows,
     Requests,
+    Agreements,
     Rights,
     CapabilityRows,
     Accesses,
@@ -84,10 +88,12 @@ enum Table {
 }
 
 /// The files in the order in which they are tried.
-const TABLES: [Table; 30] = [
+const TABLES: [Table; 32] = [
     Table::Words,
+    Table::Parts,
     Table::Windows,
     Table::Requests,
+    Table::Agreements,
     Table::Rights,
     Table::CapabilityRows,
     Table::Accesses,
@@ -122,8 +128,10 @@ impl Table {
     fn name(self) -> &'static str {
         match self {
             Table::Words => "words",
+            Table::Parts => "parts",
             Table::Windows => "windows",
             Table::Requests => "requests",
+            Table::Agreements => "agreements",
             Table::Rights => "rights",
             Table::CapabilityRows => "capability_rows",
             Table::Accesses => "accesses",
@@ -162,7 +170,7 @@ impl Table {
             }
             Table::Failures | Table::Assembled | Table::Faults | Table::Assemblies => false,
             Table::ImageFiles | Table::Lines | Table::Names | Table::Shown => false,
-            Table::Digits | Table::Plans | Table::Listings => false,
+            Table::Digits | Table::Plans | Table::Listings | Table::Parts => false,
             _ => true,
         }
     }
@@ -176,8 +184,10 @@ impl Table {
     ) -> Result<String, CaseError> {
         match self {
             Table::Words => words::answer::<C>(alloc, inputs),
+            Table::Parts => parts::answer(alloc, inputs),
             Table::Windows => windows::answer::<C>(alloc, inputs),
             Table::Requests => requests::answer::<C>(alloc, inputs),
+            Table::Agreements => agreements::answer::<C>(alloc, inputs),
             Table::Rights => rights::answer::<C>(alloc, inputs),
             Table::CapabilityRows => capability_rows::answer::<C>(alloc, inputs),
             Table::Accesses => checks::access::<C>(alloc, inputs),

@@ -9,12 +9,15 @@ use cap_format::CapWord;
 use std::alloc::Global;
 
 /// The word's sixteen bytes in memory and its tag; answered by the value, whether the word is well-formed, permissions, flag and
-/// object type, the fields IE, T and B as they stand in the word, base and top.
+/// object type, the fields IE, T and B as they stand in the word, base and top; where the word gives other bytes, it is unreadable.
 pub(crate) fn answer<C: CapRep>(alloc: Global, inputs: &str) -> Result<String, CaseError> {
     let mut words = Words::of(inputs);
     let bytes = bytes(alloc, words.word()?)?;
     let memory = <[u8; 16]>::try_from(bytes.as_slice()).map_err(|_| CaseError::Unreadable)?;
     let word = CapWord::from_memory(memory);
+    if word.to_memory() != memory {
+        return Err(CaseError::Unreadable);
+    }
     let tag = words.bit()?;
     let well_formed = is_well_formed(word);
     let c = C::from_word(word, tag && well_formed);
