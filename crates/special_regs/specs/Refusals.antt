@@ -1,5 +1,5 @@
 -- Who may use the system registers (UCAM-CL-TR-987, Access_System_Registers; that every listed register asks for it is profile).
-use Rattle.std.specs.Prelude.{ℕ, Bool, not, ◌&&◌, ◌||◌, ◌==◌, nat_le, [], ◌∷◌, Option, Some, None}
+use Rattle.std.specs.Prelude.{ℕ, Bool, not, ◌&&◌, ◌||◌, ◌==◌, nat_le, [], ◌∷◌, Option}
 use Rattle.std.specs.List.{list_any}
 use Rattle.cap_rights.specs.Permission.{permits}
 use Rattle.cap_rights.specs.declared.permission.Permission.TheVariants as permission

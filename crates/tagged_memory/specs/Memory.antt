@@ -1,7 +1,7 @@
 -- Memory: a map from RAM addresses to bytes, and a set of tagged granules (UCAM-CL-TR-987, tagged memory: a tag for each
 -- capability-sized, capability-aligned granule of 16 bytes).
 use Rattle.std.specs.Prelude.{◌≡◌, ℕ, ◌+◌, ◌-◌, ◌*◌, ◌/◌, ◌%◌, ◌^◌, ◌<◌, ◌≤◌, Bool, true, not, ◌&&◌, ◌==◌, nat_lt, nat_le, if◌then◌else◌}
-use Rattle.std.specs.Prelude.{List, ◌++◌, take, drop, length, map, filter, slice_index, Option, Some, None, Result, Ok, Err, replicate}
+use Rattle.std.specs.Prelude.{List, ◌++◌, take, drop, length, map, filter, slice_index, Option, Some, None, replicate}
 use Rattle.std.specs.Ordering.{nat_cmp}
 use Rattle.std.specs.List.{range_with_len}
 use Rattle.std.specs.FinSet as set

@@ -1,10 +1,8 @@
 use Rattle.std.proofs.Common.{◌≡◌, ◌+◌, ◌/◌, ◌<◌, ◌≤◌, length, set, refl, ap, sym, ◌∙◌, subst, arith}
-use Rattle.std.proofs.lemmas.Result.{err_from_is_err_and}
 use Rattle.cap_format.specs.Word.{memory_bytes}
 use Rattle.tagged_memory.specs.Layout.{memory_of}
 use Rattle.tagged_memory.specs.Memory.{IsMemory}
 use Rattle.tagged_memory.specs.MemoryLaws.{in_ram-from, IsMemory-capability_written}
-use Rattle.tagged_memory.proofs.Faults.{access-refused, access-given}
 use Rattle.tagged_memory.proofs.Sound.{sound}
 use Rattle.tagged_memory.proofs.Written.{stored, capability_written-is}
 use Rattle.tagged_memory.proofs.memory.Memory.put_cap.Goals as goal

@@ -1,10 +1,8 @@
-use Rattle.std.proofs.Common.{◌≡◌, ◌/◌, ◌<◌, Ok, length, ap, subst, ◌∙◌, arith}
-use Rattle.std.proofs.lemmas.List.{get_or_read}
+use Rattle.std.proofs.Common.{Ok, ap, subst, ◌∙◌}
 use Rattle.std.proofs.lemmas.Result.{err_from_is_err_and}
-use Rattle.tagged_memory.specs.Memory.{word_at, has_tag, IsMemory}
+use Rattle.tagged_memory.specs.Memory.{IsMemory}
 use Rattle.tagged_memory.proofs.Faults.{access-refused, access-given}
 use Rattle.tagged_memory.proofs.Sound.{sound}
-use Rattle.tagged_memory.proofs.Written.{word_here, tag_here}
 use Rattle.tagged_memory.proofs.memory.Memory.read_cap.Goals as goal
 
 pub returns-in_err-place-clause-value : goal.returns-in_err-place-clause-value
