@@ -1,10 +1,9 @@
 -- Loading an image's sections one after the other.
-use Rattle.std.proofs.Common.{◌≡◌, ℕ, suc, ◌+◌, ◌*◌, ◌<◌, ◌≤◌, true, false, cond, not, List, [], ◌∷◌, length, get_or, drop, Option, None}
-use Rattle.std.proofs.Common.{Some, Ok, refl, sym, ap, subst, ◌∙◌, arith, add-one, drop-cons}
+use Rattle.std.proofs.Common.{◌≡◌, ℕ, suc, ◌+◌, ◌*◌, ◌<◌, true, List, ◌∷◌, length, get_or, drop, None}
+use Rattle.std.proofs.Common.{refl, sym, ap, subst, ◌∙◌, add-one, drop-cons}
 use Rattle.std.specs.Prelude.{IsOk, Result}
-use Rattle.base.specs.Ram.{ram_base}
 use Rattle.base.specs.FirstFault.{unless}
-use Rattle.tagged_memory.specs.Memory.{Memory, is_in_ram, data_written, fill_fault, zeroed}
+use Rattle.tagged_memory.specs.Memory.{Memory, is_in_ram, data_written, fill_fault}
 use Rattle.tagged_memory.specs.MemoryLaws.{in_ram-from, length-data_written}
 use Rattle.tagged_memory.specs.declared.fault.MemoryFault.{MemoryFault}
 use Rattle.image.specs.Image.{Section}

@@ -1,5 +1,5 @@
 -- The state in which an image is opened.
-use Rattle.std.specs.Prelude.{ℕ, ◌*◌, Bool, false, List, [], ◌∷◌}
+use Rattle.std.specs.Prelude.{false, List, [], ◌∷◌}
 use Rattle.cap_bounds.specs.Root.{root}
 use Rattle.tagged_memory.specs.Memory.{Memory, zeroed, data_written}
 use Rattle.devices.specs.Devices.{idle}

@@ -1,9 +1,9 @@
 //! Loads and stores of data and of capabilities: the authority's checks, then the map, then the effect.
 
-ghost use Rattle.std.specs.Prelude.{◌≡◌, ◌<◌, ◌%◌, ◌&&◌, true, IsTrue};
+ghost use Rattle.std.specs.Prelude.{◌≡◌, ◌<◌, ◌%◌, ◌&&◌, true, None, IsTrue};
 ghost use Rattle.cap_bounds.specs.CapValue.{value_of};
 ghost use Rattle.cap_bounds.specs.Record.{IsWordWellFormed};
-ghost use Rattle.tagged_memory.specs.Memory.{is_in_ram};
+ghost use Rattle.tagged_memory.specs.Memory.{is_in_ram, place_fault};
 ghost use Rattle.base.specs.Size.{bytes_of};
 ghost use Rattle.hart.specs.Accesses.{size_of};
 ghost use Rattle.hart.specs.Applying.{meant, CanApply};
@@ -75,9 +75,31 @@ impl<C: CapRep> Hart<C> {
         }
     }
 
+    /// Whether RAM holds so many bytes at an aligned address: an access to them has no fault then.
+    #[inline]
+    #[tactic(auto, unfolding(tagged_memory::specs::Memory::place_fault))]
+    fn holds(&self, address: u64, size: Size) -> bool
+        requires { address % bytes_of size ≡ 0 }
+        ensures value { result ≡ is_in_ram self.now.memory address (bytes_of size) }
+        ensures allowed { IsTrue result → place_fault self.now.memory address (bytes_of size) ≡ None }
+    {
+        self.memory.holds(address, size)
+    }
+
+    /// Whether RAM holds a granule.
+    #[inline]
+    #[tactic(auto, unfolding(tagged_memory::specs::Memory::place_fault))]
+    fn holds_granule(&self, address: u64) -> bool
+        requires { address % 16 ≡ 0 }
+        ensures value { result ≡ is_in_ram self.now.memory address 16 }
+        ensures allowed { IsTrue result → place_fault self.now.memory address 16 ≡ None }
+    {
+        self.memory.holds_granule(address)
+    }
+
     /// A load that its authority allows: from RAM, or from a device register that can be loaded.
     #[inline]
-    #[tactic(auto, unfolding(crate::specs::MemoryRows::mapped_load, crate::specs::Applying::CanApply, tagged_memory::specs::Memory::place_fault))]
+    #[tactic(auto, unfolding(crate::specs::MemoryRows::mapped_load, crate::specs::Applying::CanApply))]
     fn plan_mapped_load(&self, insn: Insn, address: u64, size: Size) -> Effect<C>
         requires registers { HasRegisters insn }
         requires aligned { address % bytes_of size ≡ 0 }
@@ -85,7 +107,7 @@ impl<C: CapRep> Hart<C> {
         ensures can { CanApply result self.now }
     {
         let rd = insn.rd;
-        if self.memory.holds(address, size) {
+        if self.holds(address, size) {
             let number = self.memory.load(address, size);
             Effect::Write(Write {
                 rd,
@@ -127,7 +149,7 @@ impl<C: CapRep> Hart<C> {
 
     /// A store that its authority allows: into RAM, or into a device register that takes it.
     #[inline]
-    #[tactic(auto, unfolding(crate::specs::MemoryRows::mapped_store, crate::specs::Applying::CanApply, tagged_memory::specs::Memory::place_fault))]
+    #[tactic(auto, unfolding(crate::specs::MemoryRows::mapped_store, crate::specs::Applying::CanApply))]
     fn plan_mapped_store(&self, address: u64, size: Size, number: u64) -> Effect<C>
         requires { address % bytes_of size ≡ 0 }
         ensures effect { meant C.value result ≡ mapped_store address size number self.now }
@@ -138,7 +160,7 @@ impl<C: CapRep> Hart<C> {
             size,
             number,
         };
-        if self.memory.holds(address, size) {
+        if self.holds(address, size) {
             Effect::Store(store)
         } else if Devices::takes(address, size) {
             Effect::DeviceStore(store)
@@ -181,14 +203,14 @@ impl<C: CapRep> Hart<C> {
     }
 
     /// A load of a capability that its authority allows: from RAM alone, without its tag where the authority lacks Load_Capability.
-    #[tactic(auto, unfolding(crate::specs::MemoryRows::mapped_capability_load, crate::specs::Applying::CanApply, tagged_memory::specs::Memory::place_fault))]
+    #[tactic(auto, unfolding(crate::specs::MemoryRows::mapped_capability_load, crate::specs::Applying::CanApply))]
     fn plan_mapped_capability_load(&self, authority: C, rd: u8, address: u64) -> Effect<C>
         requires register { rd < 32 }
         requires aligned { address % 16 ≡ 0 }
         ensures effect { meant C.value result ≡ mapped_capability_load (C.value authority) rd address self.now }
         ensures can { CanApply result self.now }
     {
-        if !self.memory.holds_granule(address) {
+        if !self.holds_granule(address) {
             return Effect::Trap(Fault::of(Cause::LoadAccess, address));
         }
         Effect::Write(Write {
@@ -218,13 +240,13 @@ impl<C: CapRep> Hart<C> {
     }
 
     /// A store of a capability that its authority allows: into RAM alone.
-    #[tactic(auto, unfolding(crate::specs::MemoryRows::mapped_capability_store, crate::specs::Applying::CanApply, tagged_memory::specs::Memory::place_fault))]
+    #[tactic(auto, unfolding(crate::specs::MemoryRows::mapped_capability_store, crate::specs::Applying::CanApply))]
     fn plan_mapped_capability_store(&self, address: u64, value: C) -> Effect<C>
         requires { address % 16 ≡ 0 }
         ensures effect { meant C.value result ≡ mapped_capability_store address (C.value value) self.now }
         ensures can { CanApply result self.now }
     {
-        if self.memory.holds_granule(address) {
+        if self.holds_granule(address) {
             Effect::StoreCapability(StoreCapability { address, value })
         } else {
             Effect::Trap(Fault::of(Cause::StoreAccess, address))

@@ -1,6 +1,7 @@
 //! Control and status registers, special capability registers, and the return from a trap.
 
-ghost use Rattle.std.specs.Prelude.{◌≡◌, ◌<◌, ◌%◌, ◌^◌, option_map};
+ghost use Rattle.std.specs.Prelude.{◌≡◌, ◌<◌, ◌%◌, ◌^◌, ◌==◌, not, Some, None, option_map};
+ghost use Rattle.special_regs.specs.Refusals.{scr_fault};
 ghost use Rattle.hart.specs.Applying.{meant, CanApply};
 ghost use Rattle.hart.specs.Looks.{HasRegisters};
 ghost use Rattle.hart.specs.SystemRows as spec;
@@ -84,34 +85,38 @@ impl<C: CapRep> Hart<C> {
         }
     }
 
-    /// CSpecialRW: what the special register held goes to rd, and rs1 into it unless it is register 0.
-    #[tactic(auto, unfolding(crate::specs::SystemRows::special_effect, crate::specs::SystemRows::special_done, crate::specs::Applying::CanApply))]
+    /// What CSpecialRW does where it isn't refused: what the special register held goes to rd, and rs1 into it unless it is register 0.
+    #[tactic(auto, unfolding(crate::specs::SystemRows::special_done, crate::specs::Applying::CanApply))]
+    fn special_done(&self, old: C, word: u32, insn: Insn) -> Effect<C>
+        requires registers { HasRegisters insn }
+        requires allowed { scr_fault self.now.scrs insn.rs2 (not (insn.rs1 == 0)) ≡ None }
+        ensures effect { meant C.value result ≡ spec.special_done (Some (C.value old)) word insn self.now }
+        ensures can { CanApply result self.now }
+    {
+        if insn.rs1 == 0 {
+            return Effect::Write(Write {
+                rd: insn.rd,
+                value: old,
+            });
+        }
+        Effect::Special(SpecialWrite {
+            rd: insn.rd,
+            old,
+            number: insn.rs2,
+            value: self.registers.get(insn.rs1),
+        })
+    }
+
+    /// CSpecialRW.
+    #[tactic(auto, unfolding(crate::specs::SystemRows::special_effect, crate::specs::Applying::CanApply))]
     pub(crate) fn plan_special(&self, word: u32, insn: Insn) -> Effect<C>
         requires registers { HasRegisters insn }
         ensures effect { meant C.value result ≡ spec.special_effect word insn self.now }
         ensures can { CanApply result self.now }
     {
-        let writes = insn.rs1 != 0;
-        let old = match check_scr(&self.scrs, insn.rs2, writes) {
-            Ok(old) => old,
-            Err(refusal) => return refused_effect(
-                refusal,
-                FIRST_SPECIAL + u64::from(insn.rs2),
-                word,
-            ),
-        };
-        if writes {
-            Effect::Special(SpecialWrite {
-                rd: insn.rd,
-                old,
-                number: insn.rs2,
-                value: self.registers.get(insn.rs1),
-            })
-        } else {
-            Effect::Write(Write {
-                rd: insn.rd,
-                value: old,
-            })
+        match check_scr(&self.scrs, insn.rs2, insn.rs1 != 0) {
+            Ok(old) => self.special_done(old, word, insn),
+            Err(refusal) => refused_effect(refusal, FIRST_SPECIAL + u64::from(insn.rs2), word),
         }
     }
 

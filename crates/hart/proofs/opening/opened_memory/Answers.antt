@@ -1,8 +1,7 @@
-use Rattle.std.proofs.Common.{◌≡◌, ◌+◌, ◌*◌, ◌∷◌, length, drop, refl, sym, ap, subst, ◌∙◌, arith}
+use Rattle.std.proofs.Common.{length, refl, ap, ◌∙◌}
 use Rattle.std.proofs.lemmas.List.{length-replicate}
 use Rattle.tagged_memory.specs.Memory.{zeroed}
-use Rattle.image.specs.ImageLaws.{AllInRam, AllInRam-image}
-use Rattle.hart.specs.Opening.{with_sections}
+use Rattle.image.specs.ImageLaws.{AllInRam-image}
 use Rattle.hart.proofs.Loading.{rest-cons, IsOk-fill, length-with_sections, with_sections-rest}
 use Rattle.hart.proofs.opening.opened_memory.Goals as goal
 

@@ -1,4 +1,4 @@
-use Rattle.std.proofs.Common.{◌≡◌, ◌^◌, ◌<◌, sym, ap, ◌∙◌, arith}
+use Rattle.std.proofs.Common.{◌^◌, ◌<◌, ap, ◌∙◌, arith}
 use Rattle.cap_format.specs.Word.{with_address_of}
 use Rattle.cap_bounds.specs.CapValue.{Cap}
 use Rattle.cap_bounds.specs.Record.{decoded}
@@ -8,7 +8,7 @@ use Rattle.hart.proofs.values.root_value.Goals as goal
 pub from_word-requires : goal.from_word-requires
 from_word-requires g c = λ _.
     let fits : c.args.address < 2 ^ 64 = omega arith in
-    rw (c.with_address.ensures, c.with_flag.ensures) (IsWordWellFormed-root c.args.address c.args.flag fits)
+    rw (c.with_address.ensures, c.with_flag.ensures) (IsWordWellFormed-root c.args.address _ fits)
 
 pub returns : goal.returns
 returns g c =

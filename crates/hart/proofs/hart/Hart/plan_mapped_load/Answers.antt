@@ -12,8 +12,7 @@ use Rattle.hart.proofs.hart.Hart.plan_mapped_load.Goals as goal
 pub returns-then-gives-clause-effect : goal.returns-then-gives-clause-effect
 returns-then-gives-clause-effect g c =
     let now : State = c.args.self.now in
-    let outside : is_in_ram now.memory c.args.address (bytes_of c.args.size) ≡ false =
-    ap (λ s. is_in_ram s.memory c.args.address (bytes_of c.args.size)) (sym c.self.view_is) ∙ sym c.holds.ensures ∙ c.if-holds.false in
+    let outside : is_in_ram now.memory c.args.address (bytes_of c.args.size) ≡ false = sym c.holds.ensures.value ∙ c.if-holds.false in
     let value = c.integer-then-gives.ensures ∙ ap integer
     (c.value_at.ensures ∙ ap (λ s. value_at c.args.address s.devices) c.self.view_is) in
     ap (λ v. DeviceLoad (record { rd = c.args.insn.rd; value = v; address = c.args.address; size = c.args.size })) value
@@ -22,7 +21,6 @@ returns-then-gives-clause-effect g c =
 pub returns-else-gives-clause-effect : goal.returns-else-gives-clause-effect
 returns-else-gives-clause-effect g c =
     let now : State = c.args.self.now in
-    let outside : is_in_ram now.memory c.args.address (bytes_of c.args.size) ≡ false =
-    ap (λ s. is_in_ram s.memory c.args.address (bytes_of c.args.size)) (sym c.self.view_is) ∙ sym c.holds.ensures ∙ c.if-holds.false in
+    let outside : is_in_ram now.memory c.args.address (bytes_of c.args.size) ≡ false = sym c.holds.ensures.value ∙ c.if-holds.false in
     ap Trap c.of.ensures ∙ sym (mapped_load-refused c.args.insn c.args.address c.args.size now outside
     (λ none. false≢true (sym c.if-gives.false ∙ c.gives.ensures.1 none)))
