@@ -1,8 +1,8 @@
 -- The addresses in a capability's bounds, its top included, lie in its window.
-use Rattle.std.proofs.Common.{◌≡◌, ℕ, ◌+◌, ◌-◌, ◌*◌, ◌/◌, ◌%◌, ◌^◌, ◌<◌, ◌≤◌, true, IsTrue, inl, inr, arith}
+use Rattle.std.proofs.Common.{◌≡◌, ℕ, ◌+◌, ◌-◌, ◌*◌, ◌/◌, ◌%◌, ◌^◌, ◌<◌, ◌≤◌, true, inl, inr, arith}
 use Rattle.std.proofs.lemmas.Nat.{pow-add, pow_pos}
 use Rattle.std.proofs.lemmas.Bool.{cases_lt, lt-ltb, le-leb, or_left, or_right}
-use Rattle.cap_bounds.specs.Record.{Record, IsWellFormed, exponent_for, is_in_window, window_holds}
+use Rattle.cap_bounds.specs.Record.{exponent_for, is_in_window}
 use Rattle.cap_bounds.specs.SetAddress.{BoundsLieInTheWindow}
 use Rattle.cap_bounds.specs.ExponentLaws.{exponent_for-holds}
 use Rattle.cap_bounds.specs.PowerLaws.{window_fits}
