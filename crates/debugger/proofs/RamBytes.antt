@@ -1,10 +1,22 @@
 -- Bytes of RAM, one more at a time.
-use Rattle.std.proofs.Common.{◌≡◌, ℕ, zero, suc, ◌+◌, ◌-◌, ◌*◌, ◌<◌, ◌≤◌, List, [], ◌∷◌, ◌++◌, length, take, drop, refl, ap, sym, ◌∙◌}
-use Rattle.std.proofs.Common.{length-drop, arith}
+use Rattle.std.proofs.Common.{◌≡◌, ℕ, zero, suc, ◌+◌, ◌-◌, ◌*◌, ◌%◌, ◌<◌, ◌≤◌, None, List, [], ◌∷◌, ◌++◌, length, take, drop}
+use Rattle.std.proofs.Common.{refl, ap, sym, ◌∙◌, length-drop, arith}
 use Rattle.std.specs.Prelude.{slice_index}
+use Rattle.std.proofs.lemmas.Bool.{eq-eqb, le-leb}
 use Rattle.std.proofs.Math.Seq.{take-add}
 use Rattle.base.specs.Ram.{ram_base}
-use Rattle.tagged_memory.specs.Memory.{Memory, bytes_at, number_at}
+use Rattle.tagged_memory.specs.Memory.{Memory, is_in_ram, bytes_at, number_at, place_fault}
+
+-- a byte of RAM may be read
+pub no_fault : (m : Memory) (address : ℕ) → ram_base ≤ address → address < ram_base + length m.bytes → place_fault m address 1 ≡ None
+unfolding place_fault is_in_ram
+no_fault m address low high =
+    let multiple : address % 1 ≡ 0 = omega arith in
+    rw (
+      eq-eqb (address % 1) 0 multiple,
+      le-leb ram_base address low,
+      le-leb (address + 1) (ram_base + length m.bytes) (omega (arith, high)),
+    ) refl
 
 first_byte : (xs : List ℕ) → 0 < length xs → take 1 xs ≡ (slice_index xs 0 + 256 * 0) ∷ []
 first_byte [] h = absurd (omega arith)

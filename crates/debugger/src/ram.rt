@@ -20,16 +20,13 @@ use tagged_memory::Memory;
 const LINE_BYTES: usize = 16;
 
 /// The byte at an address.
-#[tactic(auto, unfolding(tagged_memory::specs::Memory::place_fault, tagged_memory::specs::Memory::is_in_ram), using(crate::proofs::RamBytes::one_byte))]
+#[tactic(auto, using(crate::proofs::RamBytes::one_byte, crate::proofs::RamBytes::no_fault))]
 fn byte_at(memory: &Memory, address: u64) -> u8
     requires low { ram_base ≤ address }
     requires high { address < ram_base + length memory.now.bytes }
     ensures { bytes_at memory.now address 1 ≡ result ∷ [] }
 {
-    match memory.read(address, Size::Byte) {
-        Ok(byte) => byte as u8,
-        Err(_) => unreachable!(),
-    }
+    memory.load(address, Size::Byte) as u8
 }
 
 /// The bytes from an address.
