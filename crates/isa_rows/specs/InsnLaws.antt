@@ -227,7 +227,7 @@ word_of-made Jump v i e f =
     ≡ m % 2 ^ 21 = omega (arith, g, f.imm_is.0) in
     record {
       below = omega (arith, f.rd_below);
-      value_is = g.0;
+      value_is = omega (arith, g);
       operands_are = same_insn i _ _ _ _ g.1 (omega (arith, f.rs1_below)) (omega (arith, f.rs2_below))
           (ap (sign_extended 21) number ∙ sign_21-mod m f.imm_is.1);
     }

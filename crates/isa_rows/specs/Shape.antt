@@ -1,7 +1,7 @@
 -- The formats as data: which fields of a word hold operands, in order from the lowest, and whether the immediate is read as signed
 -- (unprivileged manual, Base Instruction Formats and Immediate Encoding Variants). Which bits a format's rows fix, the operands of a word,
 -- the word of operands, and which operands fit are folds over these fields.
-use Rattle.std.specs.Prelude.{ℕ, ◌+◌, ◌-◌, ◌*◌, ◌^◌, Bool, true, false, List, [], ◌∷◌, min, max}
+use Rattle.std.specs.Prelude.{ℕ, ◌+◌, ◌-◌, ◌*◌, ◌^◌, Bool, true, false, List, [], ◌∷◌, ◌++◌, min, max, nat_lt, if◌then◌else◌}
 use Rattle.isa_rows.specs.declared.formats.Format.{Format}
 use Rattle.isa_rows.specs.declared.formats.Format.TheVariants.{Upper, Jump, Immediate, Unsigned, Store, Branch, Shift6, Shift5}
 use Rattle.isa_rows.specs.declared.formats.Format.TheVariants.{Register, Whole, Unary, Pair}
@@ -69,13 +69,26 @@ zeros_below bits [] = bits
 zeros_below bits (Imm at low count ∷ fields) = zeros_below (min bits low) fields
 zeros_below bits (_ ∷ fields) = zeros_below bits fields
 
--- the bits of a word that hold operands
-abbrev pub ones_of : Field → ℕ
-ones_of Rd = (2 ^ 5 - 1) * 2 ^ 7
-ones_of Rs1 = (2 ^ 5 - 1) * 2 ^ 15
-ones_of Rs2 = (2 ^ 5 - 1) * 2 ^ 20
-ones_of (Imm at low count) = (2 ^ count - 1) * 2 ^ at
+-- where a field stands in the word, and how many bits it has
+abbrev pub first_bit : Field → ℕ
+first_bit Rd = 7
+first_bit Rs1 = 15
+first_bit Rs2 = 20
+first_bit (Imm at low count) = at
 
+abbrev pub bit_count : Field → ℕ
+bit_count (Imm at low count) = count
+bit_count _ = 5
+
+-- the bits of a word that hold operands
 abbrev pub operand_mask : List Field → ℕ
 operand_mask [] = 0
-operand_mask (field ∷ fields) = ones_of field + operand_mask fields
+operand_mask (field ∷ fields) = (2 ^ bit_count field - 1) * 2 ^ first_bit field + operand_mask fields
+
+-- the bits from one on that hold none, each stretch by its first bit and the number of its bits
+abbrev pub stretch : ℕ → ℕ → List (ℕ × ℕ)
+stretch from to = if nat_lt from to then (from, to - from) ∷ [] else []
+
+abbrev pub between : ℕ → List Field → List (ℕ × ℕ)
+between from [] = stretch from 32
+between from (field ∷ fields) = stretch from (first_bit field) ++ between (first_bit field + bit_count field) fields

@@ -1,5 +1,5 @@
 -- Laws of instruction words: what a word is under the table's masks, in quotients and remainders.
-use Rattle.std.proofs.Common.{◌≡◌, ℕ, ◌+◌, ◌*◌, ◌/◌, ◌%◌, ◌^◌, ◌<◌, refl, sym, ap, ◌∙◌, subst, arith}
+use Rattle.std.proofs.Common.{◌≡◌, ℕ, List, [], ◌∷◌, ◌+◌, ◌*◌, ◌/◌, ◌%◌, ◌^◌, ◌<◌, refl, sym, ap, ◌∙◌, subst, arith}
 use Rattle.std.specs.Prelude.{bit_and}
 use Rattle.std.proofs.lemmas.Nat.{and_block, and_mask, shr_split, mod_below, pow_pos}
 use Rattle.isa_rows.specs.declared.formats.Format.{Format}
@@ -8,26 +8,21 @@ use Rattle.isa_rows.specs.declared.formats.Format.TheVariants.{Whole, Unary, Pai
 use Rattle.isa_rows.specs.declared.rows.Row.{Row}
 use Rattle.isa_rows.specs.declared.rows.Row.TheVariants.{Lui}
 use Rattle.isa_rows.specs.Line.{mask_of, line_of, IsRow}
+use Rattle.isa_rows.specs.Shape.{fields_of, between}
 use Rattle.base.specs.Bits.{field}
 
 -- opcode and funct3
 abbrev pub low_fields : ℕ → ℕ
 low_fields w = w % 2 ^ 7 + field w 12 3 * 2 ^ 12
 
+-- a word's bits in these stretches
+abbrev pub bits_in : List (ℕ × ℕ) → ℕ → ℕ
+bits_in [] w = 0
+bits_in ((low, count) ∷ rest) w = field w low count * 2 ^ low + bits_in rest w
+
 -- what a word is under a format's mask
 abbrev pub masked : Format → ℕ → ℕ
-masked Upper w = w % 2 ^ 7
-masked Jump w = w % 2 ^ 7
-masked Immediate w = low_fields w
-masked Unsigned w = low_fields w
-masked Store w = low_fields w
-masked Branch w = low_fields w
-masked Shift6 w = low_fields w + field w 26 6 * 2 ^ 26
-masked Shift5 w = low_fields w + field w 25 7 * 2 ^ 25
-masked Register w = low_fields w + field w 25 7 * 2 ^ 25
-masked Whole w = w % 2 ^ 32
-masked Unary w = low_fields w + field w 20 12 * 2 ^ 20
-masked Pair w = w % 2 ^ 15 + field w 25 7 * 2 ^ 25
+masked format w = bits_in (between 0 (fields_of format)) w
 
 -- a word under a mask of two parts
 pub and_parts : (w k high low : ℕ) → low < 2 ^ k
@@ -75,18 +70,18 @@ and_fe007fff w =
     omega (arith, a, b, c)
 
 pub and-mask_of : (format : Format) (w : ℕ) → bit_and w (mask_of format) ≡ masked format w
-and-mask_of Upper w = and_7f w
-and-mask_of Jump w = and_7f w
-and-mask_of Immediate w = and_707f w
-and-mask_of Unsigned w = and_707f w
-and-mask_of Store w = and_707f w
-and-mask_of Branch w = and_707f w
-and-mask_of Shift6 w = and_fc00707f w
-and-mask_of Shift5 w = and_fe00707f w
-and-mask_of Register w = and_fe00707f w
-and-mask_of Whole w = and_mask w 32
-and-mask_of Unary w = and_fff0707f w
-and-mask_of Pair w = and_fe007fff w
+and-mask_of Upper w = omega (arith, and_7f w)
+and-mask_of Jump w = omega (arith, and_7f w)
+and-mask_of Immediate w = omega (arith, and_707f w)
+and-mask_of Unsigned w = omega (arith, and_707f w)
+and-mask_of Store w = omega (arith, and_707f w)
+and-mask_of Branch w = omega (arith, and_707f w)
+and-mask_of Shift6 w = omega (arith, and_fc00707f w)
+and-mask_of Shift5 w = omega (arith, and_fe00707f w)
+and-mask_of Register w = omega (arith, and_fe00707f w)
+and-mask_of Whole w = omega (arith, and_mask w 32)
+and-mask_of Unary w = omega (arith, and_fff0707f w)
+and-mask_of Pair w = omega (arith, and_fe007fff w)
 
 -- each line has its format's mask, and its value has no bit outside
 pub mask-line_of : (row : Row) → (line_of row).mask ≡ mask_of (line_of row).format
