@@ -1,3 +1,6 @@
 pub mod Fetch
 pub mod Loading
 pub mod Loads
+pub mod Places
+pub mod PlainRun
+pub mod PlainSteps

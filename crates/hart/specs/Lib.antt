@@ -20,3 +20,5 @@ pub mod AppliedLaws
 pub mod PlannedLaws
 pub mod EventLaws
 pub mod OpeningStateLaws
+pub mod PlainRun
+pub mod Steps

@@ -97,6 +97,30 @@ impl<C: CapRep> Hart<C> {
         self.end();
     }
 
+    /// Puts a number into RAM.
+    #[inline(always)]
+    pub(crate) fn put_number(&mut self, store: Store)
+        requires { place_fault self.old.memory store.address (bytes_of store.size) ≡ None }
+        ensures { self.new ≡ record self.old {
+          memory = data_written self.old.memory store.address (little_bytes (bytes_of store.size) store.number);
+        } }
+    {
+        self.memory.store(store.address, store.size, store.number);
+    }
+
+    /// Puts 128 bits and their tag into RAM.
+    #[inline(always)]
+    pub(crate) fn put_capability(&mut self, store: StoreCapability<C>)
+        requires { place_fault self.old.memory store.address 16 ≡ None }
+        ensures { self.new ≡ record self.old {
+          memory = capability_written self.old.memory store.address (word_of (C.value store.value)) (is_tagged (C.value store.value));
+        } }
+    {
+        let value = store.value;
+        self.memory
+            .store_cap(store.address, value.word(), value.tag());
+    }
+
     #[inline]
     fn store(&mut self, store: Store)
         requires { place_fault self.old.memory store.address (bytes_of store.size) ≡ None }
@@ -104,7 +128,7 @@ impl<C: CapRep> Hart<C> {
           memory = data_written self.old.memory store.address (little_bytes (bytes_of store.size) store.number);
         }) }
     {
-        self.memory.store(store.address, store.size, store.number);
+        self.put_number(store);
         self.end();
     }
 
@@ -114,9 +138,7 @@ impl<C: CapRep> Hart<C> {
           memory = capability_written self.old.memory store.address (word_of (C.value store.value)) (is_tagged (C.value store.value));
         }) }
     {
-        let value = store.value;
-        self.memory
-            .store_cap(store.address, value.word(), value.tag());
+        self.put_capability(store);
         self.end();
     }
 

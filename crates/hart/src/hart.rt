@@ -1,5 +1,6 @@
 ghost use Rattle.std.specs.Prelude.{◌≡◌, ◌<◌};
 
+use crate::memo::Memo;
 use crate::registers::Registers;
 use cap_bounds::CapRep;
 use devices::Devices;
@@ -7,7 +8,7 @@ use special_regs::{Csrs, Scrs};
 use std::marker::Model;
 use tagged_memory::Memory;
 
-/// A hart with its memory and devices.
+/// A hart with its memory and devices. The words that it has decoded are no part of its value.
 #[derive(Drop)]
 pub struct Hart<C: CapRep> {
     pub(crate) registers: Registers<C>,
@@ -15,6 +16,7 @@ pub struct Hart<C: CapRep> {
     pub(crate) csrs: Csrs,
     pub(crate) memory: Memory,
     pub(crate) devices: Devices,
+    pub(crate) memo: Memo,
 }
 
 impl<C: CapRep> Model for Hart<C> {

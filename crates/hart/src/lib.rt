@@ -2,22 +2,30 @@
 #![tactic(auto)]
 
 mod accesses;
+mod advance;
 mod apply;
 mod compute;
 mod effect;
 mod event;
+mod extent;
 mod getters;
 mod hart;
+mod hops;
 mod jump_rows;
 pub mod laws;
 mod looks;
+mod memo;
 mod memory_rows;
 mod opening;
+mod plain_rows;
+mod plain_run;
 mod plan;
 mod registers;
+mod run;
 mod step;
 mod system_rows;
 mod values;
 
+pub use advance::Advance;
 pub use event::{Event, Out};
 pub use hart::Hart;

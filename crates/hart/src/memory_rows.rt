@@ -47,7 +47,7 @@ fn kept_if<C: CapRep>(keeps: bool, word: CapWord, tag: bool) -> C
 impl<C: CapRep> Hart<C> {
     /// Where an access is made: rs1's number and the immediate.
     #[inline]
-    fn place(&self, insn: Insn) -> u64
+    pub(crate) fn place(&self, insn: Insn) -> u64
         requires registers { HasRegisters insn }
         ensures { result ≡ place_of insn self.now }
     {

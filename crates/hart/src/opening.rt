@@ -5,6 +5,7 @@ ghost use Rattle.hart.specs.IsState.{IsState};
 ghost use Rattle.hart.specs.Opening.{opening, opening_memory};
 
 use crate::hart::Hart;
+use crate::memo::Memo;
 use crate::registers::Registers;
 use crate::values::root_value;
 use cap_bounds::CapRep;
@@ -46,6 +47,7 @@ impl<C: CapRep> Hart<C> {
             csrs: Csrs::new(),
             memory,
             devices: Devices::new(),
+            memo: Memo::new(alloc)?,
         };
         hart.is_state();
         Ok(hart)

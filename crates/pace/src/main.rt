@@ -5,7 +5,7 @@
 ghost use Rattle.std.specs.Prelude.{◌≡◌, ◌+◌, ◌*◌, ◌/◌};
 
 use image::Image;
-use machine::{Event, Machine};
+use machine::Machine;
 use std::alloc::Global;
 use std::process::ExitCode;
 use std::{env, io};
@@ -107,6 +107,14 @@ fn steps_asked(rt: &(impl env::Env + Alloc)) -> io::Result<u32> {
     })
 }
 
+/// Does so many steps.
+fn advance_by(machine: &mut Machine<WordCap>, steps: u64) {
+    let mut left = steps;
+    while left > 0 {
+        left -= machine.advance(left).steps;
+    }
+}
+
 fn main(rt: HostRuntime) -> io::Result<ExitCode> {
     let turns = turns_for(steps_asked(&rt)?);
     let mut words = PROGRAM;
@@ -116,9 +124,7 @@ fn main(rt: HostRuntime) -> io::Result<ExitCode> {
     };
     let machine: &mut Machine<WordCap> = &mut machine;
     let steps = steps_of(turns);
-    for _ in 0..steps {
-        machine.event(Event::Step);
-    }
+    advance_by(machine, steps);
     // a halted machine counts no instruction: so many are counted only if the last step halted it
     let done = machine.csr(MINSTRET);
     let halted = machine.halted();

@@ -2,7 +2,7 @@ use Rattle.std.proofs.Common.{◌≡◌, None, sym, subst}
 use Rattle.tagged_memory.specs.Memory.{place_fault}
 use Rattle.hart.specs.State.{State, HoldsCapabilities}
 use Rattle.hart.specs.StateLaws.{HoldsCapabilities-value_stored}
-use Rattle.hart.proofs.hart.Hart.store_capability.Goals as goal
+use Rattle.hart.proofs.hart.Hart.put_capability.Goals as goal
 
 pub invariant_of-self : goal.invariant_of-self
 invariant_of-self g c =

@@ -1,0 +1,9 @@
+use Rattle.std.proofs.Common.{add-one, sym, ap, ◌∙◌}
+use Rattle.hart.specs.Step.{stepped}
+use Rattle.hart.specs.Steps.{steps_after}
+use Rattle.hart.proofs.hart.Hart.advance.Goals as goal
+
+pub returns-clause-state : goal.returns-clause-state
+returns-clause-state g c =
+    c.step-byte.ensures.state ∙ ap stepped c.run_plain-steps.ensures.state
+    ∙ ap (λ n. steps_after n c.args.self.now) (sym (add-one c.run_plain-steps.result))

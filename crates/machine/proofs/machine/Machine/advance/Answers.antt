@@ -1,0 +1,17 @@
+use Rattle.std.proofs.Common.{◌-◌, sym, ap, subst, ◌∙◌}
+use Rattle.std.specs.Prelude.{option_to_list}
+use Rattle.hart.specs.Step.{step_sent}
+use Rattle.hart.specs.Steps.{steps_after, IsSilent}
+use Rattle.machine.proofs.Steps.{run_after-steps, run_sent-steps}
+use Rattle.machine.proofs.machine.Machine.advance.Goals as goal
+
+pub returns-clause-state : goal.returns-clause-state
+returns-clause-state g c =
+    c.advance.ensures.state ∙ ap (steps_after c.advance.result.steps) c.self.view_is
+    ∙ sym (run_after-steps c.advance.result.steps c.args.self.now)
+
+pub returns-clause-bytes : goal.returns-clause-bytes
+returns-clause-bytes g c =
+    let steps = c.advance.result.steps in
+    run_sent-steps steps c.args.self.now c.advance.ensures.some (subst (IsSilent (steps - 1)) c.self.view_is c.advance.ensures.silent)
+    ∙ ap option_to_list (sym (c.advance.ensures.byte ∙ ap (λ s. step_sent (steps_after (steps - 1) s)) c.self.view_is))
