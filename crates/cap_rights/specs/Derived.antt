@@ -20,3 +20,7 @@ pub record IsSealedWith (v c authority : CapValue) : Type 0 where
   pub within : IsInRightsOf v c
   pub by : is_tagged authority ≡ true
   pub opens : OpensType authority (value_otype v)
+
+-- the value is derived from another, or is that one sealed by an authority
+abbrev pub IsMadeOf : CapValue → CapValue → CapValue → Type 0
+IsMadeOf v c authority = IsDerived v c ⊎ IsSealedWith v c authority

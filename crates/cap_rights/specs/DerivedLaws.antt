@@ -19,7 +19,7 @@ use Rattle.cap_rights.specs.DerivationLaws.{IsWithin-with_perms, IsWithin-with_f
 use Rattle.cap_rights.specs.Within.{IsWithin}
 use Rattle.cap_rights.specs.Rights.{IsInRightsOf, OpensType}
 use Rattle.cap_rights.specs.RightsLaws.{IsInRightsOf-refl}
-use Rattle.cap_rights.specs.Derived.{IsDerived, IsDerivedIfTagged, IsSealedWith}
+use Rattle.cap_rights.specs.Derived.{IsDerived, IsDerivedIfTagged, IsSealedWith, IsMadeOf}
 
 -- ---- parts
 
@@ -186,3 +186,8 @@ unfolding seal
 sealed-seal v authority =
     sealed-if (may_seal v authority) (with_type v (value_address authority % 2 ^ 18)) v authority
     (λ may. seal-with v authority (may_seal-parts v authority may))
+
+-- either way it is within that one's rights
+pub in_rights-made : (v c authority : CapValue) → IsMadeOf v c authority → IsInRightsOf v c
+in_rights-made v c authority (inl derived) = derived.within
+in_rights-made v c authority (inr closed) = closed.within
