@@ -5,6 +5,7 @@ mod accesses;
 mod apply;
 mod compute;
 mod effect;
+mod ends;
 mod event;
 mod getters;
 mod hart;
@@ -19,5 +20,6 @@ mod step;
 mod system_rows;
 mod values;
 
+pub use ends::Why;
 pub use event::{Event, Out};
 pub use hart::Hart;
