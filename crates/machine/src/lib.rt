@@ -4,8 +4,10 @@
 mod end;
 mod fault;
 mod machine;
+mod stretch;
 
 pub use end::End;
 pub use fault::MachineFault;
-pub use hart::{Event, Out};
+pub use hart::{Event, Out, Why};
 pub use machine::{Machine, emit};
+pub use stretch::Stretch;

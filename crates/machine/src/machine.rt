@@ -26,7 +26,7 @@ use tagged_memory::Memory;
 /// A machine that meets events, one at a time or in runs.
 #[derive(Drop)]
 pub struct Machine<C: CapRep> {
-    hart: Hart<C>,
+    pub(crate) hart: Hart<C>,
 }
 
 impl<C: CapRep> Model for Machine<C> {
