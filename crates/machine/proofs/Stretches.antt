@@ -16,11 +16,11 @@ use Rattle.machine.specs.Run.{run_after, run_sent}
 use Rattle.machine.specs.Stretch.{ArePlain, EndsBefore}
 use Rattle.machine.proofs.Runs.{rest}
 use Rattle.devices.specs.Devices.{transmit}
-use Rattle.rights.specs.Authority.{NoNewRights, NewSealsAllowed, LeavesAlone, IsSilent}
-use Rattle.rights.specs.Grounded.{GrowsNot}
-use Rattle.rights.specs.GroundedLaws.{GrowsNot-refl, GrowsNot-trans, NoNewRights-grows, NewSealsAllowed-grows, IsWritable-before}
-use Rattle.rights.specs.GroundedLaws.{LeavesAlone-refl, LeavesAlone-trans}
-use Rattle.rights.specs.StepLaws.{event-grows_not, event-leaves, event-silent}
+use Rattle.authority.specs.Authority.{NoNewRights, NewSealsAllowed, LeavesAlone, IsSilent}
+use Rattle.authority.specs.Grounded.{GrowsNot}
+use Rattle.authority.specs.GroundedLaws.{GrowsNot-refl, GrowsNot-trans, NoNewRights-grows, NewSealsAllowed-grows, IsWritable-before}
+use Rattle.authority.specs.GroundedLaws.{LeavesAlone-refl, LeavesAlone-trans}
+use Rattle.authority.specs.StepLaws.{event-grows_not, event-leaves, event-silent}
 
 -- ---- outcomes
 

@@ -6,7 +6,7 @@ ghost use Rattle.hart.specs.Event.{outcome};
 ghost use Rattle.hart.specs.IsState.{IsState};
 ghost use Rattle.machine.specs.Run.{run_after, run_sent};
 ghost use Rattle.machine.specs.Stretch.{ArePlain, EndsBefore};
-ghost use Rattle.rights.specs.Authority.{NoNewRights, NewSealsAllowed, LeavesAlone, IsSilent};
+ghost use Rattle.authority.specs.Authority.{NoNewRights, NewSealsAllowed, LeavesAlone, IsSilent};
 
 use crate::fault::MachineFault;
 use crate::machine::{Machine, emit};

@@ -12,10 +12,10 @@ use Rattle.hart.specs.Effect.{applied}
 use Rattle.hart.specs.Outcome.{Plain, Unseal, SealedJump, outcome_of}
 use Rattle.hart.specs.AppliedLaws.{IsSoundEffect}
 use Rattle.hart.specs.State.{State}
-use Rattle.rights.specs.Grounded.{IsGroundedIfTagged, IsFramed}
-use Rattle.rights.specs.Derives.{Derives}
-use Rattle.rights.specs.FrameLaws.{FramesMemory, framed-by, registers-same, registers-written, scrs-same, scrs-moved, scrs-entered}
-use Rattle.rights.specs.FrameLaws.{scrs-replaced, scrs-views, scrs-returned, memory-same, memory-stored, memory-value_stored}
+use Rattle.authority.specs.Grounded.{IsGroundedIfTagged, IsFramed}
+use Rattle.authority.specs.Derives.{Derives}
+use Rattle.authority.specs.FrameLaws.{FramesMemory, framed-by, registers-same, registers-written, scrs-same, scrs-moved, scrs-entered}
+use Rattle.authority.specs.FrameLaws.{scrs-replaced, scrs-views, scrs-returned, memory-same, memory-stored, memory-value_stored}
 
 -- ---- plain outcomes
 

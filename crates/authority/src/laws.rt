@@ -8,7 +8,7 @@ ghost use Rattle.hart.specs.Event.{after, sent, outcome};
 ghost use Rattle.hart.specs.IsState.{IsState};
 ghost use Rattle.hart.specs.Outcome.{Plain};
 ghost use Rattle.hart.specs.State.{State};
-ghost use Rattle.rights.specs.Authority.{Not, NoNewRights, NewSealsAllowed, IsWritable, LeavesAlone};
+ghost use Rattle.authority.specs.Authority.{Not, NoNewRights, NewSealsAllowed, IsWritable, LeavesAlone};
 
 /// A plain event gives no rights: what is reachable behind it is within the rights of something that was reachable before, and a seal
 /// that is new there is a sentry's, or one that a reachable capability may put on.

@@ -7,10 +7,10 @@ use Rattle.cap_rights.specs.RightsLaws.{IsInRightsOf-refl, IsInRightsOf-trans, O
 use Rattle.cap_rights.specs.RightsLaws.{OpensType-outer}
 use Rattle.cap_rights.specs.Derived.{IsDerivedIfTagged, IsMadeOf}
 use Rattle.hart.specs.State.{State}
-use Rattle.rights.specs.Reachable.{IsSpecial, IsHeldAt, IsReachable, from_root, from_special, from_granule}
-use Rattle.rights.specs.Authority.{Not, IsCovered, NoNewRights, IsSealAllowed, held, sentry, sealed_by, NewSealsAllowed, IsWritable}
-use Rattle.rights.specs.Authority.{HasSystem, LeavesMemory, LeavesDevices, SameScrs, SameCsrs, LeavesAlone}
-use Rattle.rights.specs.Grounded.{IsGrounded, IsGroundedIfTagged, GrowsNot, IsFramed}
+use Rattle.authority.specs.Reachable.{IsSpecial, IsHeldAt, IsReachable, from_root, from_special, from_granule}
+use Rattle.authority.specs.Authority.{Not, IsCovered, NoNewRights, IsSealAllowed, held, sentry, sealed_by, NewSealsAllowed, IsWritable}
+use Rattle.authority.specs.Authority.{HasSystem, LeavesMemory, LeavesDevices, SameScrs, SameCsrs, LeavesAlone}
+use Rattle.authority.specs.Grounded.{IsGrounded, IsGroundedIfTagged, GrowsNot, IsFramed}
 
 -- ---- values
 

@@ -2,8 +2,8 @@
 use Rattle.std.specs.Prelude.{◌≡◌, ℕ, true, ◌⊎◌}
 use Rattle.cap_bounds.specs.CapValue.{CapValue, is_tagged, is_sealed}
 use Rattle.hart.specs.State.{State}
-use Rattle.rights.specs.Reachable.{IsRoot, IsSpecial, IsHeldAt, IsReachable}
-use Rattle.rights.specs.Authority.{IsCovered, IsSealAllowed}
+use Rattle.authority.specs.Reachable.{IsRoot, IsSpecial, IsHeldAt, IsReachable}
+use Rattle.authority.specs.Authority.{IsCovered, IsSealAllowed}
 
 -- within reachable rights, and under a seal that is allowed
 pub record IsGrounded (s : State) (v : CapValue) : Type 0 where

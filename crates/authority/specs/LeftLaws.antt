@@ -23,8 +23,8 @@ use Rattle.hart.specs.Effect.{applied, sent_by}
 use Rattle.hart.specs.Outcome.{Plain, outcome_of}
 use Rattle.hart.specs.AppliedLaws.{IsSoundEffect}
 use Rattle.hart.specs.State.{State}
-use Rattle.rights.specs.Authority.{Not, IsWritable, HasSystem, LeavesMemory, LeavesDevices, SameScrs, SameCsrs, LeavesAlone}
-use Rattle.rights.specs.Derives.{MayWrite, Derives}
+use Rattle.authority.specs.Authority.{Not, IsWritable, HasSystem, LeavesMemory, LeavesDevices, SameScrs, SameCsrs, LeavesAlone}
+use Rattle.authority.specs.Derives.{MayWrite, Derives}
 
 -- ---- parts that stay
 

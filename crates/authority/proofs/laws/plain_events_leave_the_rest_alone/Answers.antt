@@ -1,5 +1,5 @@
-use Rattle.rights.specs.StepLaws.{event-leaves, event-silent}
-use Rattle.rights.proofs.laws.plain_events_leave_the_rest_alone.Goals as goal
+use Rattle.authority.specs.StepLaws.{event-leaves, event-silent}
+use Rattle.authority.proofs.laws.plain_events_leave_the_rest_alone.Goals as goal
 
 pub returns-clause-state : goal.returns-clause-state
 returns-clause-state c = event-leaves

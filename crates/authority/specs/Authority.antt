@@ -10,7 +10,7 @@ use Rattle.devices.specs.Devices.{Devices, halt, timer_compare, control_register
 use Rattle.special_regs.specs.declared.csrs.Csrs.{Csrs}
 use Rattle.special_regs.specs.Scrs.{Scrs}
 use Rattle.hart.specs.State.{State}
-use Rattle.rights.specs.Reachable.{IsReachable}
+use Rattle.authority.specs.Reachable.{IsReachable}
 
 abbrev pub Not : Type 0 → Type 0
 Not A = A → ⊥

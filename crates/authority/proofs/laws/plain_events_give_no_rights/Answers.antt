@@ -1,7 +1,7 @@
 use Rattle.hart.specs.Event.{after}
-use Rattle.rights.specs.GroundedLaws.{NoNewRights-grows, NewSealsAllowed-grows}
-use Rattle.rights.specs.StepLaws.{event-grows_not}
-use Rattle.rights.proofs.laws.plain_events_give_no_rights.Goals as goal
+use Rattle.authority.specs.GroundedLaws.{NoNewRights-grows, NewSealsAllowed-grows}
+use Rattle.authority.specs.StepLaws.{event-grows_not}
+use Rattle.authority.proofs.laws.plain_events_give_no_rights.Goals as goal
 
 pub returns-clause-rights : goal.returns-clause-rights
 returns-clause-rights c = λ s is e plain. NoNewRights-grows s (after e s) (event-grows_not s is e plain)

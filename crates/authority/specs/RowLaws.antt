@@ -59,14 +59,14 @@ use Rattle.hart.specs.Registers.{register}
 use Rattle.hart.specs.State.{State, pc_of}
 use Rattle.hart.specs.Step.{kind_effect}
 use Rattle.hart.specs.SystemRows.{csr_number, csr_writes, csr_done, csr_effect, special_done, special_effect, return_effect}
-use Rattle.rights.specs.Reachable.{IsSpecial, IsRoot, in_register, in_pcc, in_ddc, in_mtcc, in_mtdc, in_mscratchc, in_mepcc, IsReachable}
-use Rattle.rights.specs.Reachable.{from_root}
-use Rattle.rights.specs.Reachable.{from_granule}
-use Rattle.rights.specs.Authority.{IsWritable, HasSystem}
-use Rattle.rights.specs.Grounded.{IsGrounded, IsGroundedIfTagged}
-use Rattle.rights.specs.GroundedLaws.{grounded-reachable, grounded-derived, grounded-made}
-use Rattle.rights.specs.FrameLaws.{grounded-register, grounded-pcc, grounded-ddc, grounded-special}
-use Rattle.rights.specs.Derives.{MayWrite, Derives}
+use Rattle.authority.specs.Reachable.{IsSpecial, IsRoot, in_register, in_pcc, in_ddc, in_mtcc, in_mtdc, in_mscratchc, in_mepcc, IsReachable}
+use Rattle.authority.specs.Reachable.{from_root}
+use Rattle.authority.specs.Reachable.{from_granule}
+use Rattle.authority.specs.Authority.{IsWritable, HasSystem}
+use Rattle.authority.specs.Grounded.{IsGrounded, IsGroundedIfTagged}
+use Rattle.authority.specs.GroundedLaws.{grounded-reachable, grounded-derived, grounded-made}
+use Rattle.authority.specs.FrameLaws.{grounded-register, grounded-pcc, grounded-ddc, grounded-special}
+use Rattle.authority.specs.Derives.{MayWrite, Derives}
 
 -- ---- faults
 

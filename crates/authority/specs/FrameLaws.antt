@@ -22,11 +22,11 @@ use Rattle.cap_bounds.specs.SoundLaws.{word_of-below}
 use Rattle.hart.specs.Effect.{moved}
 use Rattle.hart.specs.Registers.{register, with_register}
 use Rattle.hart.specs.State.{State}
-use Rattle.rights.specs.Reachable.{IsRoot, in_register, in_pcc, in_ddc, IsSpecial, in_mtcc, in_mtdc, in_mscratchc, in_mepcc, IsHeldAt}
-use Rattle.rights.specs.Reachable.{from_root, from_special}
-use Rattle.rights.specs.Authority.{HasSystem}
-use Rattle.rights.specs.Grounded.{IsGrounded, IsGroundedIfTagged, IsFramed}
-use Rattle.rights.specs.GroundedLaws.{grounded-reachable, grounded-derived}
+use Rattle.authority.specs.Reachable.{IsRoot, in_register, in_pcc, in_ddc, IsSpecial, in_mtcc, in_mtdc, in_mscratchc, in_mepcc, IsHeldAt}
+use Rattle.authority.specs.Reachable.{from_root, from_special}
+use Rattle.authority.specs.Authority.{HasSystem}
+use Rattle.authority.specs.Grounded.{IsGrounded, IsGroundedIfTagged, IsFramed}
+use Rattle.authority.specs.GroundedLaws.{grounded-reachable, grounded-derived}
 
 -- ---- what a state holds
 

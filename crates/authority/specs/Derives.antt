@@ -9,8 +9,8 @@ use Rattle.hart.specs.declared.effect.Effect.{Effect}
 use Rattle.hart.specs.declared.effect.Effect.TheVariants.{Trap, Nothing, Write, Unseal, Store, StoreCapability, DeviceLoad, DeviceStore}
 use Rattle.hart.specs.declared.effect.Effect.TheVariants.{Jump, Link, Enter, Special, Csr, Return}
 use Rattle.hart.specs.State.{State}
-use Rattle.rights.specs.Authority.{IsWritable, HasSystem}
-use Rattle.rights.specs.Grounded.{IsGroundedIfTagged}
+use Rattle.authority.specs.Authority.{IsWritable, HasSystem}
+use Rattle.authority.specs.Grounded.{IsGroundedIfTagged}
 
 -- each of the `size` bytes from an address is writable
 abbrev pub MayWrite : State → ℕ → ℕ → Type 0

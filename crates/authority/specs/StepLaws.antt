@@ -23,14 +23,14 @@ use Rattle.hart.specs.Outcome.{Plain}
 use Rattle.hart.specs.State.{State, pc_of}
 use Rattle.hart.specs.Step.{fetched, fetch, decoded_effect, fetched_effect, decided, step_effect, stepped_unless, stepped, step_sent_unless}
 use Rattle.hart.specs.Step.{step_sent, step_outcome_unless, step_outcome}
-use Rattle.rights.specs.Authority.{Not, IsWritable, LeavesDevices, LeavesAlone}
-use Rattle.rights.specs.Grounded.{GrowsNot, IsFramed}
-use Rattle.rights.specs.GroundedLaws.{GrowsNot-framed, GrowsNot-refl, LeavesAlone-refl}
-use Rattle.rights.specs.FrameLaws.{framed-by, registers-same, scrs-same, memory-same}
-use Rattle.rights.specs.Derives.{Derives}
-use Rattle.rights.specs.EffectLaws.{effect-framed}
-use Rattle.rights.specs.LeftLaws.{effect-leaves, effect-silent}
-use Rattle.rights.specs.RowLaws.{IsFetched, fetched-pcc, kind_effect-derives}
+use Rattle.authority.specs.Authority.{Not, IsWritable, LeavesDevices, LeavesAlone}
+use Rattle.authority.specs.Grounded.{GrowsNot, IsFramed}
+use Rattle.authority.specs.GroundedLaws.{GrowsNot-framed, GrowsNot-refl, LeavesAlone-refl}
+use Rattle.authority.specs.FrameLaws.{framed-by, registers-same, scrs-same, memory-same}
+use Rattle.authority.specs.Derives.{Derives}
+use Rattle.authority.specs.EffectLaws.{effect-framed}
+use Rattle.authority.specs.LeftLaws.{effect-leaves, effect-silent}
+use Rattle.authority.specs.RowLaws.{IsFetched, fetched-pcc, kind_effect-derives}
 
 -- ---- the effect of a step
 
