@@ -1,6 +1,6 @@
 """Cases over programs: what the whole machine shows behind statements of assembly. Values are the architecture's, worked out by hand."""
 
-from . import derivations, integers, invocations, jumps, loads, machines, memory, system, traps
+from . import derivations, integers, invocations, jumps, loads, machines, memory, stretches, system, traps
 from .items import BOTH, ENTRY, NULL, at, bits, csr, line, together
 
 HEAD = "# mode | statements | events and queries => answers"
@@ -28,6 +28,7 @@ def lines():
             yield f"# {name}"
             yield from (steps_line(mode, steps) for mode in BOTH)
     yield from machines.cases()
+    yield from stretches.cases()
 
 
 def files():

@@ -1,2 +1,3 @@
 pub mod CapabilityRows
 pub mod RowLaws
+pub mod MadeLaws

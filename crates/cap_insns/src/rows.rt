@@ -1,6 +1,9 @@
-ghost use Rattle.std.specs.Prelude.{◌≡◌};
+ghost use Rattle.std.specs.Prelude.{◌≡◌, true};
 ghost use Rattle.isa_rows.specs.declared.kinds.Kind.TheVariants as kind;
 ghost use Rattle.isa_rows.specs.Kind.{kind_of};
+ghost use Rattle.isa_rows.specs.declared.rows.Row.TheVariants as row;
+ghost use Rattle.cap_bounds.specs.CapValue.{is_tagged};
+ghost use Rattle.cap_rights.specs.Rights.{IsInRightsOf};
 ghost use Rattle.cap_insns.specs.CapabilityRows.{row_value};
 
 use crate::derived::{outer, with_exact_bounds};
@@ -18,9 +21,21 @@ use isa_rows::{Insn, Row};
 /// `cs1` and `cs2` are what the registers rs1 and rs2 hold, and `ddc` is the default data capability. A number is a null
 /// capability with that address. A derivation that may not be made answers the fields that success would have given, without the
 /// tag.
-#[tactic(auto, unfolding(crate::specs::CapabilityRows::row_value, isa_rows::specs::Line::line_of))]
+///
+/// Of all these rows CUnseal alone can give a capability that is not within the rights of what rs1 holds.
 #[inline]
 pub fn cap_op<C: CapRep>(insn: Insn, cs1: C, cs2: C, ddc: C) -> C
+    requires { kind_of insn.row ≡ kind.Capability }
+    ensures value { C.value result ≡ row_value insn.row insn (C.value cs1) (C.value cs2) (C.value ddc) }
+    ensures within { (insn.row ≡ row.CUnseal → ⊥) → is_tagged (C.value result) ≡ true → IsInRightsOf (C.value result) (C.value cs1) }
+{
+    row_op(insn, cs1, cs2, ddc)
+}
+
+/// The same for `cap_op`, which says of rights what follows from the row's equation.
+#[tactic(auto, unfolding(crate::specs::CapabilityRows::row_value, isa_rows::specs::Line::line_of))]
+#[inline]
+fn row_op<C: CapRep>(insn: Insn, cs1: C, cs2: C, ddc: C) -> C
     requires { kind_of insn.row ≡ kind.Capability }
     ensures { C.value result ≡ row_value insn.row insn (C.value cs1) (C.value cs2) (C.value ddc) }
 {

@@ -75,15 +75,15 @@ masked-again : (p m : ℕ) → bit_and (bit_and p m) p ≡ bit_and p m
 masked-again p m =
     ap (λ n. bit_and n p) (and_comm p m) ∙ and_assoc p m p ∙ ap (bit_and m) (and_self p) ∙ and_comm m p
 
-IsWithin-with_perms : (v : CapValue) (mask : ℕ) → IsWithinIfTagged (with_perms v (bit_and (value_perms v) mask)) v
+pub IsWithin-with_perms : (v : CapValue) (mask : ℕ) → IsWithinIfTagged (with_perms v (bit_and (value_perms v) mask)) v
 IsWithin-with_perms (Cap r) mask = λ t. record { base = omega arith; top = omega arith; perms = masked-again r.perms mask }
 IsWithin-with_perms (Data n) mask = λ t. cc
 
-IsWithin-with_flag : (v : CapValue) (flag : Bool) → IsWithinIfTagged (with_flag v flag) v
+pub IsWithin-with_flag : (v : CapValue) (flag : Bool) → IsWithinIfTagged (with_flag v flag) v
 IsWithin-with_flag (Cap r) flag = λ t. record { base = omega arith; top = omega arith; perms = and_self r.perms }
 IsWithin-with_flag (Data n) flag = λ t. cc
 
-IsWithin-with_type : (v : CapValue) (otype : ℕ) → IsWithinIfTagged (with_type v otype) v
+pub IsWithin-with_type : (v : CapValue) (otype : ℕ) → IsWithinIfTagged (with_type v otype) v
 IsWithin-with_type (Cap r) otype = λ t. record { base = omega arith; top = omega arith; perms = and_self r.perms }
 IsWithin-with_type (Data n) otype = λ t. cc
 

@@ -4,7 +4,11 @@ pub mod ObjectType
 pub mod Opened
 pub mod Derivations
 pub mod Within
+pub mod Rights
+pub mod Derived
 pub mod OpenedLaws
 pub mod FieldLaws
 pub mod PermsLaws
 pub mod DerivationLaws
+pub mod RightsLaws
+pub mod DerivedLaws

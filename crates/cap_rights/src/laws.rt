@@ -1,10 +1,15 @@
 //! What holds of derivations: each function's contract is a law, and its body is empty.
 
-ghost use Rattle.std.specs.Prelude.{◌≡◌, ℕ, ◌^◌, Bool, ◌↔◌, IsTrue};
+ghost use Rattle.std.specs.Prelude.{◌≡◌, ℕ, ◌^◌, Bool, true, false, ◌↔◌, IsTrue};
 ghost use Rattle.cap_bounds.specs.CapValue.{CapValue, IsSound, is_tagged};
+ghost use Rattle.cap_bounds.specs.CapValue.{is_sealed};
+ghost use Rattle.cap_bounds.specs.SetAddress.{at_address};
+ghost use Rattle.cap_bounds.specs.SetBounds.{with_bounds};
 ghost use Rattle.cap_rights.specs.Opened.{opened};
 ghost use Rattle.cap_rights.specs.Derivations.{and_perms, set_flags, seal, unseal, seal_entry, subset};
 ghost use Rattle.cap_rights.specs.Within.{IsWithin, IsWithinIfTagged};
+ghost use Rattle.cap_rights.specs.Rights.{IsInRightsOf, OpensSystem, OpensGranule, OpensStore, OpensType};
+ghost use Rattle.cap_rights.specs.Derived.{IsDerivedIfTagged, IsSealedWith};
 ghost use Rattle.cap_rights.specs.Perms.{set_of_one, PermittedIsAmongThePermissions, ViewNamesItsSet};
 ghost use Rattle.cap_rights.specs.declared.permission.Permission.TheVariants as permission;
 
@@ -62,4 +67,26 @@ pub fn constants_are_their_permissions()
 /// The number that shows a set of permissions names that set.
 pub fn view_names_its_set()
     ensures { ViewNamesItsSet }
+{}
+
+/// Rights pass outwards: from a value to the one whose rights it is within, and so does all that a value opens.
+pub fn rights_pass_outwards()
+    ensures itself { (v : CapValue) → IsInRightsOf v v }
+    ensures through { (v c d : CapValue) → IsInRightsOf v c → IsInRightsOf c d → IsInRightsOf v d }
+    ensures system { (v c : CapValue) → IsInRightsOf v c → OpensSystem v → OpensSystem c }
+    ensures granule { (v c : CapValue) (granule : ℕ) → IsInRightsOf v c → OpensGranule v granule → OpensGranule c granule }
+    ensures store { (v c : CapValue) (address : ℕ) → IsInRightsOf v c → OpensStore v address → OpensStore c address }
+    ensures object_type { (v c : CapValue) (otype : ℕ) → IsInRightsOf v c → OpensType v otype → OpensType c otype }
+{}
+
+/// What a derivation gives with its tag is within the rights of its operand. Sealed it is the operand itself or a sentry, or has a
+/// type that CSeal's authority may seal with.
+pub fn derivations_give_no_rights()
+    ensures other_address { (v : CapValue) (address : ℕ) → IsDerivedIfTagged (at_address v address) v }
+    ensures other_bounds { (v : CapValue) (length : ℕ) → IsSound v → IsDerivedIfTagged (with_bounds v length) v }
+    ensures fewer_permissions { (v : CapValue) (mask : ℕ) → IsDerivedIfTagged (and_perms v mask) v }
+    ensures other_flag { (v : CapValue) (flag : Bool) → IsDerivedIfTagged (set_flags v flag) v }
+    ensures entry { (v : CapValue) → IsDerivedIfTagged (seal_entry v) v }
+    ensures type_alone { (v : CapValue) → is_sealed v ≡ false → IsDerivedIfTagged (opened v) v }
+    ensures sealed { (v authority : CapValue) → is_tagged (seal v authority) ≡ true → IsSealedWith (seal v authority) v authority }
 {}

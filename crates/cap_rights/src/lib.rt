@@ -8,6 +8,7 @@ mod otype;
 mod permission;
 mod perms;
 mod restricted;
+mod rights;
 mod seals;
 mod unsealed;
 
@@ -16,6 +17,7 @@ pub use otype::OType;
 pub use permission::{Permission, permits};
 pub use perms::Perms;
 pub use restricted::{and_perms, set_flags};
+pub use rights::within_rights;
 pub use seals::{seal, seal_entry, unseal};
 pub use unsealed::opened;
 

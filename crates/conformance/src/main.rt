@@ -35,6 +35,7 @@ mod seen;
 mod sessions;
 mod shown;
 mod sizes;
+mod stretches;
 mod telling;
 mod text;
 mod values;

@@ -4,6 +4,7 @@ use crate::case::CaseError;
 use crate::forms::Form;
 use crate::numbers::Words;
 use crate::seen::put_seen;
+use crate::stretches::put_next_ends;
 use crate::telling::put_bytes;
 use assembler::assemble;
 use cap_bounds::CapRep;
@@ -110,6 +111,7 @@ impl Outcome {
     ) -> Result<(), CaseError> {
         match query {
             "sent" => put_bytes(text, &self.sent)?,
+            "ends" => put_next_ends(text, machine)?,
             "end" => match self.end {
                 End::Running => text.push_str("running")?,
                 End::Halted(number) => write!(text, "halted {number:x}")?,
@@ -137,7 +139,10 @@ impl Outcome {
                 if !answers.is_empty() {
                     answers.push_str("; ")?;
                 }
-                self.put_query(&mut answers, machine, deed)?;
+                match deed.strip_prefix("stretch ") {
+                    Some(letters) => self.put_stretch(alloc, &mut answers, machine, letters)?,
+                    None => self.put_query(&mut answers, machine, deed)?,
+                }
             }
         }
         Ok(answers)
@@ -147,7 +152,8 @@ impl Outcome {
 /// The mode, ` | `, the program's statements, ` | `, and what is done and asked in order; statements and deeds are parted by `; `.
 ///
 /// A deed is an event, `step`, `tick` or `byte B`; a run, `steps N`; or a query, whose answers follow one another in the case's answer:
-/// `sent`, the bytes sent so far, `end`, the end of the last run, `verdict`, the status and the line of that end, or one of `put_seen`.
+/// `stretch LETTERS`, the events of a stretch and how it ends, `ends`, why a step would end one, `sent`, the bytes sent so far, `end`,
+/// the end of the last run, `verdict`, the status and the line of that end, or one of `put_seen`.
 /// The first deed may be a run on a schedule, `scheduled STEPS GAP TICK KEYS`.
 pub(crate) fn answer(alloc: Global, form: Form, inputs: &str) -> Result<String, CaseError> {
     let (mode, rest) = inputs.split_once(" | ").ok_or(CaseError::Unreadable)?;

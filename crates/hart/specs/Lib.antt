@@ -11,6 +11,7 @@ pub mod SystemRows
 pub mod Outcome
 pub mod Step
 pub mod Event
+pub mod Ends
 pub mod StateLaws
 pub mod Opening
 pub mod OpeningLaws

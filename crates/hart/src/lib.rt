@@ -6,6 +6,7 @@ mod advance;
 mod apply;
 mod compute;
 mod effect;
+mod ends;
 mod event;
 mod extent;
 mod getters;
@@ -27,5 +28,6 @@ mod system_rows;
 mod values;
 
 pub use advance::Advance;
+pub use ends::Why;
 pub use event::{Event, Out};
 pub use hart::Hart;

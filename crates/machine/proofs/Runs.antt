@@ -8,7 +8,7 @@ use Rattle.hart.specs.Event.{after, sent}
 use Rattle.machine.specs.Run.{run_after, run_sent}
 
 module _ (events : List Event) (i : ℕ) (d : Event) (below : i < length events) where
-  rest : drop i events ≡ get_or events i d ∷ drop (i + 1) events
+  pub rest : drop i events ≡ get_or events i d ∷ drop (i + 1) events
   rest = rw add-one (drop-cons events i d below)
 
   pub run_after-drop : (s n : State) → n ≡ after (get_or events i d) s → run_after (drop (i + 1) events) n ≡ run_after (drop i events) s

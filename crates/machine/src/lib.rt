@@ -5,8 +5,10 @@ mod advance;
 mod end;
 mod fault;
 mod machine;
+mod stretch;
 
 pub use end::End;
 pub use fault::MachineFault;
-pub use hart::{Advance, Event, Out};
+pub use hart::{Advance, Event, Out, Why};
 pub use machine::{Machine, emit};
+pub use stretch::Stretch;

@@ -41,7 +41,7 @@ length-data_written m address new e =
     let place = in_ram m address (length new) e in
     length-same m.bytes (address - ram_base) new place.1
 
-tags-data_written : (m : Memory) (address : ℕ) (new : List ℕ) (g : ℕ)
+pub tags-data_written : (m : Memory) (address : ℕ) (new : List ℕ) (g : ℕ)
     → has_tag (data_written m address new) g ≡ (has_tag m g && not (touches address (length new) g))
 unfolding data_written
 tags-data_written m address new g =

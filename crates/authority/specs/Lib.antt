@@ -1,0 +1,10 @@
+pub mod Reachable
+pub mod Authority
+pub mod Grounded
+pub mod GroundedLaws
+pub mod FrameLaws
+pub mod Derives
+pub mod EffectLaws
+pub mod LeftLaws
+pub mod RowLaws
+pub mod StepLaws

@@ -1,0 +1,83 @@
+use Rattle.std.proofs.Common.{◌++◌, ◌+◌, ap, refl, sym, ◌∙◌, arith}
+use Rattle.std.proofs.lemmas.Grind.{common_steps}
+use Rattle.std.proofs.lemmas.List.{append-nil}
+use Rattle.std.specs.Prelude.{option_to_list}
+use Rattle.machine.proofs.Stretches.{KeepsUpTo-none, ArePlain-more, rights-kept, seals-kept, left-kept, silent-kept, ends-before}
+use Rattle.machine.proofs.Stretches.{plain-next, state-next, bytes-next, keeps-next}
+use Rattle.machine.proofs.machine.Machine.run_stretch.Goals as goal
+
+pub loop-event-init : goal.loop-event-init
+loop-event-init g c = record {
+  done = refl;
+  state = refl;
+  bytes = c.reserve.ensures.items ∙ sym (append-nil c.args.out.now.items);
+  plain = tt;
+  keeps = KeepsUpTo-none c.args.events.now c.args.self.now;
+  room = grind (arith, common_steps);
+}
+
+pub loop-event-preserved : goal.loop-event-preserved
+loop-event-preserved g c =
+    let l = c.loop-event in
+    let events = c.args.events.now in
+    let s = c.args.self.now in
+    let i = l.event-index in
+    let below = c.loop-event-test.true in
+    let why = c.next_ends-why.result in
+    let told = c.next_ends-why.ensures.why in
+    let none = sym c.is_some.ensures ∙ c.if-is_some.false in
+    record {
+      done = ap (λ n. n + 1) l.invariant.done;
+      state = state-next events i _ below l.self why told s l.invariant.state c.event-sent.new.self c.event-sent.ensures.state;
+      bytes = bytes-next events i _ below l.self why told s l.invariant.state c.emit.new.out.items l.out.items c.args.out.now.items
+          (c.emit.ensures.items ∙ ap (λ b. l.out.items ++ option_to_list b) c.event-sent.ensures.byte) l.invariant.bytes;
+      plain = ArePlain-more events i _ below s l.invariant.plain (plain-next events i _ below l.self why told s l.invariant.state none);
+      keeps = keeps-next events i _ below l.self why told s l.invariant.state none c.next_ends-why.ensures.state l.invariant.keeps;
+      room = omega (arith, c.emit.ensures.len, c.emit.ensures.room, l.invariant.room);
+    }
+
+pub returns-then-is_some-clause-end : goal.returns-then-is_some-clause-end
+returns-then-is_some-clause-end g c =
+    let l = c.loop-event in
+    ends-before c.args.events.now l.event-index _ c.loop-event-test.true l.self c.next_ends-why.result c.next_ends-why.ensures.why l.done
+    l.invariant.done (sym c.is_some.ensures ∙ c.if-is_some.true)
+
+pub returns-then-is_some-clause-no_new_rights : goal.returns-then-is_some-clause-no_new_rights
+returns-then-is_some-clause-no_new_rights g c =
+    let l = c.loop-event in
+    rights-kept c.args.events.now c.args.self.now l.event-index l.done l.invariant.done l.invariant.keeps
+
+pub returns-then-is_some-clause-new_seals : goal.returns-then-is_some-clause-new_seals
+returns-then-is_some-clause-new_seals g c =
+    let l = c.loop-event in
+    seals-kept c.args.events.now c.args.self.now l.event-index l.done l.invariant.done l.invariant.keeps
+
+pub returns-then-is_some-clause-left_alone : goal.returns-then-is_some-clause-left_alone
+returns-then-is_some-clause-left_alone g c =
+    let l = c.loop-event in
+    left-kept c.args.events.now c.args.self.now l.event-index l.done l.invariant.done l.invariant.keeps
+
+pub returns-then-is_some-clause-silent : goal.returns-then-is_some-clause-silent
+returns-then-is_some-clause-silent g c =
+    let l = c.loop-event in
+    silent-kept c.args.events.now c.args.self.now l.event-index l.done l.invariant.done l.invariant.keeps
+
+pub returns-clause-no_new_rights : goal.returns-clause-no_new_rights
+returns-clause-no_new_rights g c =
+    let l = c.loop-event in
+    rights-kept c.args.events.now c.args.self.now l.event-index l.done l.invariant.done l.invariant.keeps
+
+pub returns-clause-new_seals : goal.returns-clause-new_seals
+returns-clause-new_seals g c =
+    let l = c.loop-event in
+    seals-kept c.args.events.now c.args.self.now l.event-index l.done l.invariant.done l.invariant.keeps
+
+pub returns-clause-left_alone : goal.returns-clause-left_alone
+returns-clause-left_alone g c =
+    let l = c.loop-event in
+    left-kept c.args.events.now c.args.self.now l.event-index l.done l.invariant.done l.invariant.keeps
+
+pub returns-clause-silent : goal.returns-clause-silent
+returns-clause-silent g c =
+    let l = c.loop-event in
+    silent-kept c.args.events.now c.args.self.now l.event-index l.done l.invariant.done l.invariant.keeps
