@@ -61,18 +61,26 @@ fn stored_text<C: CapRep>(alloc: Global, words: &mut Words) -> Result<String, Ca
     name(alloc, stored)
 }
 
+/// An access of this kind, of which the next word says more.
+fn access_of(what: &str, words: &mut Words) -> Result<Access, CaseError> {
+    match what {
+        "load" => Ok(Access::Load(size(words)?)),
+        "store" => Ok(Access::Store(size(words)?)),
+        "loadc" => Ok(Access::LoadCapability),
+        "storec" => Ok(Access::StoreCapability(stored(words)?)),
+        _ => Err(CaseError::Unreadable),
+    }
+}
+
 /// `load SIZE`, `store SIZE`, `loadc`, or `storec` and what is stored; then the authority's register, the authority and the address.
 /// Or `stored` and a value, answered by what its store stores.
 pub(crate) fn access<C: CapRep>(alloc: Global, inputs: &str) -> Result<String, CaseError> {
     let mut words = Words::of(inputs);
-    let access = match words.word()? {
-        "load" => Access::Load(size(&mut words)?),
-        "store" => Access::Store(size(&mut words)?),
-        "loadc" => Access::LoadCapability,
-        "storec" => Access::StoreCapability(stored(&mut words)?),
-        "stored" => return stored_text::<C>(alloc, &mut words),
-        _ => return Err(CaseError::Unreadable),
-    };
+    let what = words.word()?;
+    if what == "stored" {
+        return stored_text::<C>(alloc, &mut words);
+    }
+    let access = access_of(what, &mut words)?;
     let register = register(&mut words)?;
     let authority = value::<C>(&mut words)?;
     let address = words.hex()?;
@@ -94,8 +102,8 @@ pub(crate) fn jump<C: CapRep>(alloc: Global, inputs: &str) -> Result<String, Cas
             outcome(alloc, check_jump(c, register, words.hex()?))
         }
         "to" => {
-            let address = words.hex()?;
-            hex(alloc, jump_target(address, words.hex()?))
+            let [address, offset] = words.hexes::<2>()?;
+            hex(alloc, jump_target(address, offset))
         }
         _ => Err(CaseError::Unreadable),
     }

@@ -59,8 +59,8 @@ fn access(
     match called {
         "peek" => loaded(alloc, devices.peek(words.hex()?)),
         "sends" => {
-            let address = words.hex()?;
-            match Devices::sends(address, words.hex()?) {
+            let [address, value] = words.hexes::<2>()?;
+            match Devices::sends(address, value) {
                 Some(byte) => hex(alloc, u64::from(byte)),
                 None => name(alloc, "none"),
             }

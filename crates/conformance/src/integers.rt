@@ -11,8 +11,7 @@ use std::alloc::Global;
 pub(crate) fn answer(alloc: Global, inputs: &str) -> Result<String, CaseError> {
     let mut words = Words::of(inputs);
     let row = row(&mut words)?;
-    let a = words.hex()?;
-    let b = words.hex()?;
+    let [a, b] = words.hexes::<2>()?;
     let result = match row.kind() {
         Kind::Integer => int_op(row, a, b),
         Kind::Branch => u64::from(branch_taken(row, a, b)),

@@ -6,7 +6,7 @@ use crate::numbers::Words;
 use crate::script::{Called, answers};
 use crate::sizes::size;
 use crate::text::{hex, name};
-use crate::values::high_half;
+use crate::values::{cap_word, high_half};
 use cap_format::CapWord;
 use std::alloc::Global;
 use tagged_memory::{Memory, MemoryFault};
@@ -79,15 +79,13 @@ impl Called for Memory {
             }
             "write" => {
                 let size = size(words)?;
-                let address = words.hex()?;
-                done(alloc, self.write(address, size, words.hex()?))
+                let [address, value] = words.hexes::<2>()?;
+                done(alloc, self.write(address, size, value))
             }
             "readc" => word_text(alloc, self.read_cap(words.hex()?)),
             "writec" => {
                 let address = words.hex()?;
-                let high = words.hex()?;
-                let low = words.hex()?;
-                let word = CapWord::from_logical(u128::from(high) << 64 | u128::from(low));
+                let word = cap_word(words)?;
                 done(alloc, self.write_cap(address, word, words.bit()?))
             }
             "fill" => {
@@ -96,8 +94,8 @@ impl Called for Memory {
                 done(alloc, self.fill(address, &contents))
             }
             "tagged" => {
-                let from = words.hex()?;
-                tagged_text(alloc, self, from, words.hex()?)
+                let [from, to] = words.hexes::<2>()?;
+                tagged_text(alloc, self, from, to)
             }
             _ => Err(CaseError::Unreadable),
         }

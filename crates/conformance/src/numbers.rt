@@ -36,6 +36,15 @@ impl<'a> Words<'a> {
         u64::from_str_radix(self.word()?, 16).map_err(|_| CaseError::Unreadable)
     }
 
+    /// The next words as hexadecimal digits.
+    pub(crate) fn hexes<const N: usize>(&mut self) -> Result<[u64; N], CaseError> {
+        let mut numbers = [0; N];
+        for index in 0..N {
+            numbers[index] = self.hex()?;
+        }
+        Ok(numbers)
+    }
+
     /// The next word as the hexadecimal digits of a byte.
     pub(crate) fn byte(&mut self) -> Result<u8, CaseError> {
         u8::from_str_radix(self.word()?, 16).map_err(|_| CaseError::Unreadable)
@@ -44,6 +53,14 @@ impl<'a> Words<'a> {
     /// The next word as decimal digits.
     pub(crate) fn decimal(&mut self) -> Result<u64, CaseError> {
         u64::from_str_radix(self.word()?, 10).map_err(|_| CaseError::Unreadable)
+    }
+
+    /// The number of the call that fails, the next word as decimal digits. No call fails where that is `-` or there is none.
+    pub(crate) fn call(&mut self) -> Result<u64, CaseError> {
+        match self.rest.next() {
+            None | Some("-") => Ok(u64::MAX),
+            Some(word) => u64::from_str_radix(word, 10).map_err(|_| CaseError::Unreadable),
+        }
     }
 
     /// The next word as a truth value, 0 or 1.

@@ -2,7 +2,7 @@
 
 use crate::case::CaseError;
 use crate::numbers::Words;
-use cap_format::CapWord;
+use crate::values::cap_word;
 use std::alloc::Global;
 use word_cap::parts;
 
@@ -10,9 +10,7 @@ use word_cap::parts;
 /// and whether bit 64 of the top is inverted.
 pub(crate) fn answer(alloc: Global, inputs: &str) -> Result<String, CaseError> {
     let mut words = Words::of(inputs);
-    let high = words.hex()?;
-    let address = words.hex()?;
-    let parts = parts(CapWord::from_logical(u128::from(high) << 64 | u128::from(address)));
+    let parts = parts(cap_word(&mut words)?);
     let e = parts.e;
     let b = parts.b;
     let t = parts.t;

@@ -5,27 +5,30 @@ use crate::forms::Form;
 use crate::numbers::Words;
 use crate::seen::put_seen;
 use crate::telling::put_bytes;
-use assembler::assemble;
+use assembler::{Assembly, assemble};
 use cap_bounds::CapRep;
 use machine::{End, Event, Machine};
 use sim_run::{Schedule, verdict};
 use std::alloc::{AllocError, Global};
 
-/// What a machine has sent in the middle of a case, and how it stood behind the last run of events.
+/// What a machine has sent in the middle of a case, how it stood behind the last run of events, and how often what it sends to has
+/// failed where that cut the run.
 #[derive(Drop)]
 pub(crate) struct Outcome {
     pub sent: Vec<u8>,
     pub end: End,
+    pub cut: Option<u64>,
 }
 
-/// A run on a schedule, and the bytes that come.
-#[derive(Clone, Copy, Debug)]
+/// A run on a schedule, the bytes that come, and at which byte that is sent the sink fails.
+#[derive(Clone, Copy)]
 pub(crate) struct Timetable<'a> {
     pub schedule: Schedule,
     pub keys: &'a [u8],
+    pub fails_at: u64,
 }
 
-/// The timetable of words: steps, gap, tick, and the bytes that come, or `-`.
+/// The timetable of words: steps, gap, tick, the bytes that come, or `-`, and the number of the byte that can't be sent, or nothing.
 fn timetable_of(words: &str) -> Result<Timetable<'_>, CaseError> {
     let mut words = Words::of(words);
     let schedule = Schedule {
@@ -38,7 +41,13 @@ fn timetable_of(words: &str) -> Result<Timetable<'_>, CaseError> {
     Ok(Timetable {
         schedule,
         keys: keys.as_bytes(),
+        fails_at: words.call()?,
     })
+}
+
+/// What a text of the assembly language without a fault makes.
+pub(crate) fn assembly_of(alloc: Global, text: &[u8]) -> Result<Assembly, CaseError> {
+    assemble(alloc, text).map_err(|_| CaseError::Unreadable)
 }
 
 /// The text of a line and of statements, which are parted by `; `.
@@ -91,14 +100,34 @@ impl Outcome {
         deed: &str,
     ) -> Result<bool, CaseError> {
         let mut words = Words::of(deed);
-        match words.word()? {
-            "step" => self.event(machine, Event::Step)?,
-            "steps" => self.run(alloc, machine, words.decimal()?)?,
-            "tick" => self.event(machine, Event::Tick)?,
-            "byte" => self.event(machine, Event::Byte(words.byte()?))?,
+        let event = match words.word()? {
+            "step" => Event::Step,
+            "tick" => Event::Tick,
+            "byte" => Event::Byte(words.byte()?),
+            "steps" => {
+                self.run(alloc, machine, words.decimal()?)?;
+                return Ok(true);
+            }
             _ => return Ok(false),
-        }
+        };
+        self.event(machine, event)?;
         Ok(true)
+    }
+
+    /// Puts the end of the last run behind a text, or `cut` and how often its sink has failed.
+    fn put_end(&self, text: &mut String) -> Result<(), AllocError> {
+        match (self.cut, self.end) {
+            (Some(failures), _) => write!(text, "cut {failures}"),
+            (None, End::Running) => text.push_str("running"),
+            (None, End::Halted(number)) => write!(text, "halted {number:x}"),
+        }
+    }
+
+    /// Puts the status and the line of the end of the last run behind a text.
+    fn put_verdict(&self, text: &mut String) -> Result<(), AllocError> {
+        let (status, line) = verdict(self.end);
+        let line = if line.is_empty() { "-" } else { line.as_str() };
+        write!(text, "{status} {line}")
     }
 
     /// Puts what a query tells behind a text.
@@ -108,20 +137,13 @@ impl Outcome {
         machine: &Machine<C>,
         query: &str,
     ) -> Result<(), CaseError> {
-        match query {
-            "sent" => put_bytes(text, &self.sent)?,
-            "end" => match self.end {
-                End::Running => text.push_str("running")?,
-                End::Halted(number) => write!(text, "halted {number:x}")?,
-            },
-            "verdict" => {
-                let (status, line) = verdict(self.end);
-                let line = if line.is_empty() { "-" } else { line.as_str() };
-                write!(text, "{status} {line}")?;
-            }
-            _ => put_seen(text, machine, query)?,
-        }
-        Ok(())
+        let written = match query {
+            "sent" => put_bytes(text, &self.sent),
+            "end" => self.put_end(text),
+            "verdict" => self.put_verdict(text),
+            _ => return put_seen(text, machine, query),
+        };
+        Ok(written?)
     }
 
     /// What is told to the queries among deeds, which a machine meets in order.
@@ -148,21 +170,20 @@ impl Outcome {
 ///
 /// A deed is an event, `step`, `tick` or `byte B`; a run, `steps N`; or a query, whose answers follow one another in the case's answer:
 /// `sent`, the bytes sent so far, `end`, the end of the last run, `verdict`, the status and the line of that end, or one of `put_seen`.
-/// The first deed may be a run on a schedule, `scheduled STEPS GAP TICK KEYS`.
+/// The first deed may be a run on a schedule, `scheduled STEPS GAP TICK KEYS`, and behind these the number of the byte that can't be
+/// sent, from 0.
 pub(crate) fn answer(alloc: Global, form: Form, inputs: &str) -> Result<String, CaseError> {
     let (mode, rest) = inputs.split_once(" | ").ok_or(CaseError::Unreadable)?;
     let (statements, deeds) = rest.split_once(" | ").ok_or(CaseError::Unreadable)?;
     let mode = format!(in alloc; ".mode {mode}")?;
     let text = text_of(alloc, &mode, statements)?;
-    let Ok(assembly) = assemble(alloc, text.as_bytes()) else {
-        return Err(CaseError::Unreadable);
-    };
+    let assembly = assembly_of(alloc, text.as_bytes())?;
     let image = assembly.image();
     match deeds.strip_prefix("scheduled ") {
         Some(deeds) => {
             let (words, deeds) = deeds.split_once("; ").ok_or(CaseError::Unreadable)?;
-            form.run_scheduled(alloc, image, timetable_of(words)?, deeds)
+            form.run(alloc, image, Some(timetable_of(words)?), deeds)
         }
-        None => form.run(alloc, image, deeds),
+        None => form.run(alloc, image, None, deeds),
     }
 }

@@ -61,15 +61,18 @@ fn csrs_text(alloc: Global, csrs: Csrs) -> Result<String, CaseError> {
 
 /// The control registers of the next eight words.
 fn csrs_of(words: &mut Words) -> Result<Csrs, CaseError> {
+    let mstatus_mie = words.bit()?;
+    let mstatus_mpie = words.bit()?;
+    let [mie, mscratch, mcause, mtval, mcycle, minstret] = words.hexes::<6>()?;
     Ok(Csrs {
-        mstatus_mie: words.bit()?,
-        mstatus_mpie: words.bit()?,
-        mie: words.hex()?,
-        mscratch: words.hex()?,
-        mcause: words.hex()?,
-        mtval: words.hex()?,
-        mcycle: words.hex()?,
-        minstret: words.hex()?,
+        mstatus_mie,
+        mstatus_mpie,
+        mie,
+        mscratch,
+        mcause,
+        mtval,
+        mcycle,
+        minstret,
     })
 }
 
@@ -163,11 +166,8 @@ impl<C: CapRep> Registers<C> {
     ) -> Result<String, CaseError> {
         match called {
             "trap" => {
-                let fault = Fault {
-                    mcause: words.hex()?,
-                    mtval: words.hex()?,
-                };
-                enter_trap(&mut self.scrs, &mut self.csrs, fault);
+                let [mcause, mtval] = words.hexes::<2>()?;
+                enter_trap(&mut self.scrs, &mut self.csrs, Fault { mcause, mtval });
                 name(alloc, "ok")
             }
             "returns" => match check_return(&self.scrs) {
