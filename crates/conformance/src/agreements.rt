@@ -108,10 +108,9 @@ fn word_agrees<C: CapRep>(word: CapWord, length: u64, e: u32) -> bool
 /// A word's high half and its address, a length and an exponent, which counts as 50 at most; answered by whether this form of the
 /// word, tagged if it may be, and the record of it agree: in every field, with the addresses at the ends of its window and its bounds,
 /// with bounds of that length and of those at which rounding changes at the exponent, and without the tag.
-pub(crate) fn answer<C: CapRep>(alloc: Global, inputs: &str) -> Result<String, CaseError> {
-    let mut words = Words::of(inputs);
-    let word = cap_word(&mut words)?;
-    let length = words.hex()?;
-    let e = u32::from(words.small()?).min(50);
+pub(crate) fn answer<C: CapRep>(alloc: Global, words: &mut Words) -> Result<String, CaseError> {
+    let word = cap_word(words);
+    let length = words.hex();
+    let e = u32::from(words.small()).min(50);
     bit(alloc, word_agrees::<C>(word, length, e))
 }

@@ -2,7 +2,6 @@
 
 use crate::case::CaseError;
 use crate::numbers::Words;
-use crate::programs::assembly_of;
 use crate::quoted::unquoted;
 use assembler::{AsmFault, Assembly, assemble};
 use image::{FromRead, Image, Section, ToWrite, read, write};
@@ -141,13 +140,22 @@ fn read_again(alloc: Global, file: &[u8]) -> Result<String, CaseError> {
     }
 }
 
+/// The bytes of the file of a text's image.
+fn file_of_text(alloc: Global, text: &[u8]) -> Result<Vec<u8>, CaseError> {
+    match assemble(alloc, text) {
+        Ok(assembly) => file_of(alloc, assembly.image()),
+        Err(_) => Err(CaseError::Unreadable),
+    }
+}
+
 /// A text in quotes, and how many bytes of its image's file are read, with zeros behind its end; answered by the bytes of the file of
 /// the image that is read, or by the code of the fault.
 pub(crate) fn image_file(alloc: Global, inputs: &str) -> Result<String, CaseError> {
     let (text, rest) = unquoted(alloc, inputs)?;
-    let count = Words::of(rest).decimal()?;
-    let assembly = assembly_of(alloc, &text)?;
-    let mut file = file_of(alloc, assembly.image())?;
+    let mut words = Words::of(rest);
+    let count = words.decimal();
+    words.check()?;
+    let mut file = file_of_text(alloc, &text)?;
     file.resize(count as usize, 0)?;
     read_again(alloc, &file)
 }

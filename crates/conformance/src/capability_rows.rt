@@ -10,30 +10,34 @@ use isa_rows::{Format, Insn, Kind, Row};
 use std::alloc::Global;
 
 /// The immediate of a row and the value in rs2, of which the next words are the one that it has.
-fn second<C: CapRep>(row: Row, words: &mut Words) -> Result<(u64, C), CaseError> {
+fn second<C: CapRep>(row: Row, words: &mut Words) -> (u64, C) {
     match row.format() {
-        Format::Immediate | Format::Unsigned => Ok((words.hex()?, integer(0))),
-        _ => Ok((0, value(words)?)),
+        Format::Immediate | Format::Unsigned => (words.hex(), integer(0)),
+        _ => (0, value(words)),
     }
 }
 
 /// The number of rs1 and the value in DDC: the words that are left, or 11 and null.
-fn first<C: CapRep>(words: &mut Words) -> Result<(u8, C), CaseError> {
+fn first<C: CapRep>(words: &mut Words) -> (u8, C) {
     let Some(number) = words.next() else {
-        return Ok((11, integer(0)));
+        return (11, integer(0));
     };
-    let rs1 = number.parse().map_err(|_| CaseError::Unreadable)?;
-    Ok((rs1, value(words)?))
+    match number.parse() {
+        Ok(rs1) => (rs1, value(words)),
+        Err(_) => {
+            words.refuse();
+            (11, integer(0))
+        }
+    }
 }
 
 /// A mnemonic, the value in rs1, and the value in rs2 or the immediate; then the number of rs1 and DDC, or nothing for 11 and null.
 /// Answered by the value that goes to rd.
-pub(crate) fn answer<C: CapRep>(alloc: Global, inputs: &str) -> Result<String, CaseError> {
-    let mut words = Words::of(inputs);
-    let row = row(&mut words)?;
-    let cs1 = value::<C>(&mut words)?;
-    let (imm, cs2) = second(row, &mut words)?;
-    let (rs1, ddc) = first(&mut words)?;
+pub(crate) fn answer<C: CapRep>(alloc: Global, words: &mut Words) -> Result<String, CaseError> {
+    let row = row(words)?;
+    let cs1 = value::<C>(words);
+    let (imm, cs2) = second(row, words);
+    let (rs1, ddc) = first(words);
     if !matches!(row.kind(), Kind::Capability) {
         return Err(CaseError::Unreadable);
     }

@@ -18,8 +18,8 @@ fn insn_text(alloc: Global, insn: Insn, word: u32) -> Result<String, CaseError> 
 }
 
 /// A word; answered by `none`, or the mnemonic, the numbers of rd, rs1 and rs2, the immediate, and the instruction's own word.
-pub(crate) fn answer(alloc: Global, inputs: &str) -> Result<String, CaseError> {
-    match decode(Words::of(inputs).hex32()?) {
+pub(crate) fn answer(alloc: Global, words: &mut Words) -> Result<String, CaseError> {
+    match decode(words.hex32()) {
         None => name(alloc, "none"),
         Some(insn) if fits(&insn) => insn_text(alloc, insn, encode(insn)),
         Some(_) => name(alloc, "operands that do not fit"),

@@ -52,8 +52,8 @@ fn write_narrowly(alloc: Global, image: &Image, fails_at: u64) -> Result<String,
 
 /// What reading so many bytes from others gives, and the bytes that are read into.
 fn read_part(alloc: Global, words: &mut Words) -> Result<String, CaseError> {
-    let mut buffer = vec![in alloc; 0; usize::from(words.small()?)]?;
-    let bytes = bytes::bytes(alloc, words.word()?)?;
+    let mut buffer = vec![in alloc; 0; usize::from(words.small())]?;
+    let bytes = bytes::bytes(alloc, words.word())?;
     let mut source = FromRead::new(bytes.as_slice());
     let answered = Source::read(&mut source, &mut buffer);
     let told = called(alloc, answered, source.failures())?;
@@ -82,24 +82,23 @@ fn std_call(alloc: Global, what: &str, words: &mut Words) -> Result<String, Case
             called(alloc, answered, source.failures())
         }
         "part" => read_part(alloc, words),
-        _ => write_stuck(alloc, what, &bytes::bytes(alloc, words.word()?)?),
+        _ => write_stuck(alloc, what, &bytes::bytes(alloc, words.word())?),
     }
 }
 
 /// `read CALL FILE` or `write CALL FILE`: the call of that number fails, from 0; or a call of a device of std.
-pub(crate) fn answer(alloc: Global, inputs: &str) -> Result<String, CaseError> {
-    let mut words = Words::of(inputs);
-    let what = words.word()?;
+pub(crate) fn answer(alloc: Global, words: &mut Words) -> Result<String, CaseError> {
+    let what = words.word();
     match what {
         "read" | "write" => {
-            let fails_at = words.hex()?;
-            let file = bytes::bytes(alloc, words.word()?)?;
+            let fails_at = words.hex();
+            let file = bytes::bytes(alloc, words.word())?;
             if what == "read" {
                 read_slowly(alloc, &file, fails_at)
             } else {
                 write_narrowly(alloc, &image_of(alloc, &file)?, fails_at)
             }
         }
-        _ => std_call(alloc, what, &mut words),
+        _ => std_call(alloc, what, words),
     }
 }

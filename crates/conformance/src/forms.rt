@@ -2,8 +2,9 @@
 
 use crate::case::CaseError;
 use crate::failing::Narrow;
-use crate::programs::{Outcome, Timetable};
+use crate::programs::{Outcome, Timetable, text_of};
 use crate::sessions::Errand;
+use assembler::assemble;
 use cap_bounds::PlainCap;
 use debugger::Session;
 use image::{DeviceFailed, Image, Sink};
@@ -105,12 +106,7 @@ impl Form {
     }
 
     /// What comes of what is asked of a session with the machine of an image.
-    pub(crate) fn ask(
-        self,
-        alloc: Global,
-        image: &Image,
-        errand: Errand,
-    ) -> Result<String, CaseError> {
+    fn ask(self, alloc: Global, image: &Image, errand: Errand) -> Result<String, CaseError> {
         match self {
             Form::Records => {
                 let machine = machine_of_records(alloc, image)?;
@@ -120,6 +116,20 @@ impl Form {
                 let machine = machine_of_words(alloc, image)?;
                 errand.done(alloc, &mut Session::new(alloc, machine))
             }
+        }
+    }
+
+    /// The same of the machine of a program, by its statements, which are parted by `; `.
+    pub(crate) fn ask_program(
+        self,
+        alloc: Global,
+        statements: &str,
+        errand: Errand,
+    ) -> Result<String, CaseError> {
+        let text = text_of(alloc, "", statements)?;
+        match assemble(alloc, text.as_bytes()) {
+            Ok(assembly) => self.ask(alloc, assembly.image(), errand),
+            Err(_) => Err(CaseError::Unreadable),
         }
     }
 }

@@ -55,7 +55,7 @@ fn file_text(alloc: Global, image: &Image) -> Result<String, CaseError> {
 /// The section that a word is, `ADDRESS:BYTES`.
 fn section(alloc: Global, word: &str) -> Result<(u64, Vec<u8>), CaseError> {
     let (address, contents) = word.split_once(':').ok_or(CaseError::Unreadable)?;
-    let address = Words::of(address).hex()?;
+    let address = u64::from_str_radix(address, 16).map_err(|_| CaseError::Unreadable)?;
     Ok((address, bytes::bytes(alloc, contents)?))
 }
 
@@ -79,9 +79,10 @@ fn lent<'a>(alloc: Global, held: &'a [(u64, Vec<u8>)]) -> Result<Vec<(u64, &'a [
 
 /// The image of pages, entry, mode and sections.
 fn built(alloc: Global, mut words: Words) -> Result<Result<Image, ImageFault>, CaseError> {
-    let pages = words.hex32()?;
-    let entry = words.hex()?;
-    let mode = words.hex32()?;
+    let pages = words.hex32();
+    let entry = words.hex();
+    let mode = words.hex32();
+    words.check()?;
     let held = sections(alloc, words)?;
     Ok(Image::build(alloc, pages, entry, mode, &lent(alloc, &held)?))
 }
@@ -103,10 +104,12 @@ fn told(
 /// `copy` and `file` by the bytes that it is written to; each by the name of a fault where there is no image.
 pub(crate) fn answer(alloc: Global, inputs: &str) -> Result<String, CaseError> {
     let mut words = Words::of(inputs);
-    let asked = words.word()?;
+    let asked = words.word();
     match asked {
         "read" | "copy" => {
-            let file = bytes::bytes(alloc, words.word()?)?;
+            let word = words.word();
+            words.check()?;
+            let file = bytes::bytes(alloc, word)?;
             let made = read(alloc, &mut FromRead::new(file.as_slice()));
             told(alloc, asked == "read", &made)
         }

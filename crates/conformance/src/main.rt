@@ -45,6 +45,7 @@ mod words;
 use cap_bounds::{CapRep, PlainCap};
 use case::{Case, CaseError};
 use forms::Form;
+use numbers::Words;
 use std::alloc::Global;
 use std::io::Read;
 use std::process::ExitCode;
@@ -143,24 +144,38 @@ impl Table {
         form: Form,
         inputs: &str,
     ) -> Result<String, CaseError> {
+        let mut words = Words::of(inputs);
+        let told = self.told::<C>(alloc, form, inputs, &mut words)?;
+        words.check()?;
+        Ok(told)
+    }
+
+    /// The same, with the words of the inputs for those readers that take words.
+    fn told<C: CapRep>(
+        self,
+        alloc: Global,
+        form: Form,
+        inputs: &str,
+        read: &mut Words,
+    ) -> Result<String, CaseError> {
         match self {
-            Table::Words => words::answer::<C>(alloc, inputs),
-            Table::Parts => parts::answer(alloc, inputs),
-            Table::Windows => windows::answer::<C>(alloc, inputs),
-            Table::Requests => requests::answer::<C>(alloc, inputs),
-            Table::Agreements => agreements::answer::<C>(alloc, inputs),
-            Table::Rights => rights::answer::<C>(alloc, inputs),
-            Table::CapabilityRows => capability_rows::answer::<C>(alloc, inputs),
-            Table::Accesses => checks::access::<C>(alloc, inputs),
-            Table::Jumps => checks::jump::<C>(alloc, inputs),
-            Table::Invocations => checks::invocation::<C>(alloc, inputs),
+            Table::Words => words::answer::<C>(alloc, read),
+            Table::Parts => parts::answer(alloc, read),
+            Table::Windows => windows::answer::<C>(alloc, read),
+            Table::Requests => requests::answer::<C>(alloc, read),
+            Table::Agreements => agreements::answer::<C>(alloc, read),
+            Table::Rights => rights::answer::<C>(alloc, read),
+            Table::CapabilityRows => capability_rows::answer::<C>(alloc, read),
+            Table::Accesses => checks::access::<C>(alloc, read),
+            Table::Jumps => checks::jump::<C>(alloc, read),
+            Table::Invocations => checks::invocation::<C>(alloc, read),
             Table::Registers => register_script::answer::<C>(alloc, inputs),
             Table::Devices => device_script::answer(alloc, inputs),
             Table::Memory => memory_script::answer(alloc, inputs),
-            Table::Integers => integers::answer(alloc, inputs),
-            Table::Encodings => encodings::answer(alloc, inputs),
+            Table::Integers => integers::answer(alloc, read),
+            Table::Encodings => encodings::answer(alloc, read),
             Table::Images => images::answer(alloc, inputs),
-            Table::Failures => failures::answer(alloc, inputs),
+            Table::Failures => failures::answer(alloc, read),
             Table::Programs => programs::answer(alloc, form, inputs),
             Table::Assembled => assemblies::words(alloc, inputs),
             Table::Assemblies => assemblies::parts(alloc, inputs),

@@ -71,30 +71,32 @@ impl Called for Memory {
     ) -> Result<String, CaseError> {
         match called {
             "read" => {
-                let size = size(words)?;
-                match self.read(words.hex()?, size) {
+                let size = size(words);
+                match self.read(words.hex(), size) {
                     Ok(number) => hex(alloc, number),
                     Err(fault) => fault_name(alloc, fault),
                 }
             }
             "write" => {
-                let size = size(words)?;
-                let [address, value] = words.hexes::<2>()?;
+                let size = size(words);
+                let address = words.hex();
+                let value = words.hex();
                 done(alloc, self.write(address, size, value))
             }
-            "readc" => word_text(alloc, self.read_cap(words.hex()?)),
+            "readc" => word_text(alloc, self.read_cap(words.hex())),
             "writec" => {
-                let address = words.hex()?;
-                let word = cap_word(words)?;
-                done(alloc, self.write_cap(address, word, words.bit()?))
+                let address = words.hex();
+                let word = cap_word(words);
+                done(alloc, self.write_cap(address, word, words.bit()))
             }
             "fill" => {
-                let address = words.hex()?;
-                let contents = bytes(alloc, words.word()?)?;
+                let address = words.hex();
+                let contents = bytes(alloc, words.word())?;
                 done(alloc, self.fill(address, &contents))
             }
             "tagged" => {
-                let [from, to] = words.hexes::<2>()?;
+                let from = words.hex();
+                let to = words.hex();
                 tagged_text(alloc, self, from, to)
             }
             _ => Err(CaseError::Unreadable),
@@ -108,7 +110,9 @@ pub(crate) fn answer(alloc: Global, inputs: &str) -> Result<String, CaseError> {
         Some((pages, script)) => (pages, Some(script)),
         None => (inputs, None),
     };
-    let pages = Words::of(pages).hex32()?;
+    let mut words = Words::of(pages);
+    let pages = words.hex32();
+    words.check()?;
     match (Memory::new(alloc, pages), script) {
         (Ok(mut memory), Some(script)) => answers(alloc, &mut memory, script),
         (Ok(memory), None) => hex(alloc, u64::from(memory.pages())),

@@ -55,10 +55,10 @@ fn put_named(text: &mut String, asked: &str, name: &[u8]) -> Result<(), CaseErro
 
 /// The name of a number: of a register in a mode, or of a special one.
 fn name_of(words: &mut Words) -> Result<Option<&'static str>, CaseError> {
-    let asked = words.word()?;
-    let number = words.decimal()?;
+    let asked = words.word();
+    let number = words.decimal();
     match asked {
-        "register_name" if number < 32 => Ok(Some(register_name(number as u8, words.bit()?))),
+        "register_name" if number < 32 => Ok(Some(register_name(number as u8, words.bit()))),
         "csr_name" if number < 4096 => Ok(csr_name(number as u16)),
         "scr_name" if number < 32 => Ok(scr_name(number as u8)),
         _ => Err(CaseError::Unreadable),
@@ -74,7 +74,9 @@ pub(crate) fn answer(alloc: Global, inputs: &str) -> Result<String, CaseError> {
         let (name, _) = unquoted(alloc, rest)?;
         put_named(&mut told, asked, &name)?;
     } else {
-        told.push_str(name_of(&mut Words::of(inputs))?.unwrap_or("-"))?;
+        let mut words = Words::of(inputs);
+        told.push_str(name_of(&mut words)?.unwrap_or("-"))?;
+        words.check()?;
     }
     Ok(told)
 }

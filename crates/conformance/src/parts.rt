@@ -8,9 +8,8 @@ use word_cap::parts;
 
 /// A word's high half and its address; answered by the exponent, the mantissas B and T, the edge, the corrections of base and top,
 /// and whether bit 64 of the top is inverted.
-pub(crate) fn answer(alloc: Global, inputs: &str) -> Result<String, CaseError> {
-    let mut words = Words::of(inputs);
-    let parts = parts(cap_word(&mut words)?);
+pub(crate) fn answer(alloc: Global, words: &mut Words) -> Result<String, CaseError> {
+    let parts = parts(cap_word(words));
     let e = parts.e;
     let b = parts.b;
     let t = parts.t;

@@ -3,9 +3,9 @@
 use crate::case::CaseError;
 use crate::failing::Narrow;
 use crate::numbers::Words;
-use crate::programs::assembly_of;
 use crate::quoted::{put_quoted, unquoted};
-use image::Sink;
+use assembler::assemble;
+use image::{Image, Sink};
 use sim_run::{Plan, PlanFault, list, plan};
 use std::alloc::{AllocError, Global};
 
@@ -62,18 +62,27 @@ pub(crate) fn answer(alloc: Global, inputs: &str) -> Result<String, CaseError> {
     Ok(told)
 }
 
+/// Answered by `whole` or `cut`, how often a call has failed, and the listing of an image, or what is written of it.
+fn listed(alloc: Global, image: &Image, fails_at: u64) -> Result<String, CaseError> {
+    let mut held = Vec::new(alloc);
+    let mut sink = Narrow::new(&mut held, 7, fails_at);
+    let is_whole = list(image, &mut sink).is_ok();
+    let failures = sink.failures();
+    let end = if is_whole { "whole" } else { "cut" };
+    let mut told = format!(in alloc; "{end} {failures} ")?;
+    put_quoted(&mut told, &held)?;
+    Ok(told)
+}
+
 /// A text of the assembly language in quotes, and the number of the call that fails of a sink that takes seven bytes a call, or nothing;
 /// answered by `whole` or `cut`, how often a call has failed, and the listing of the text's image, or what is written of it.
 pub(crate) fn listing(alloc: Global, inputs: &str) -> Result<String, CaseError> {
     let (text, rest) = unquoted(alloc, inputs)?;
-    let fails_at = Words::of(rest).call()?;
-    let assembly = assembly_of(alloc, &text)?;
-    let mut listed = Vec::new(alloc);
-    let mut sink = Narrow::new(&mut listed, 7, fails_at);
-    let is_whole = list(assembly.image(), &mut sink).is_ok();
-    let failures = sink.failures();
-    let end = if is_whole { "whole" } else { "cut" };
-    let mut told = format!(in alloc; "{end} {failures} ")?;
-    put_quoted(&mut told, &listed)?;
-    Ok(told)
+    let mut words = Words::of(rest);
+    let fails_at = words.call();
+    words.check()?;
+    match assemble(alloc, &text) {
+        Ok(assembly) => listed(alloc, assembly.image(), fails_at),
+        Err(_) => Err(CaseError::Unreadable),
+    }
 }

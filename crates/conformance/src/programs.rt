@@ -5,8 +5,9 @@ use crate::forms::Form;
 use crate::numbers::Words;
 use crate::seen::put_seen;
 use crate::telling::put_bytes;
-use assembler::{Assembly, assemble};
+use assembler::assemble;
 use cap_bounds::CapRep;
+use image::Image;
 use machine::{End, Event, Machine};
 use sim_run::{Schedule, verdict};
 use std::alloc::{AllocError, Global};
@@ -31,23 +32,18 @@ pub(crate) struct Timetable<'a> {
 /// The timetable of words: steps, gap, tick, the bytes that come, or `-`, and the number of the byte that can't be sent, or nothing.
 fn timetable_of(words: &str) -> Result<Timetable<'_>, CaseError> {
     let mut words = Words::of(words);
-    let schedule = Schedule {
-        steps: words.decimal()?,
-        gap: words.decimal()?,
-        tick: words.decimal()?,
-    };
-    let keys = words.word()?;
+    let steps = words.decimal();
+    let gap = words.decimal();
+    let tick = words.decimal();
+    let keys = words.word();
     let keys = if keys == "-" { "" } else { keys };
+    let fails_at = words.call();
+    words.check()?;
     Ok(Timetable {
-        schedule,
+        schedule: Schedule { steps, gap, tick },
         keys: keys.as_bytes(),
-        fails_at: words.call()?,
+        fails_at,
     })
-}
-
-/// What a text of the assembly language without a fault makes.
-pub(crate) fn assembly_of(alloc: Global, text: &[u8]) -> Result<Assembly, CaseError> {
-    assemble(alloc, text).map_err(|_| CaseError::Unreadable)
 }
 
 /// The text of a line and of statements, which are parted by `; `.
@@ -100,17 +96,14 @@ impl Outcome {
         deed: &str,
     ) -> Result<bool, CaseError> {
         let mut words = Words::of(deed);
-        let event = match words.word()? {
-            "step" => Event::Step,
-            "tick" => Event::Tick,
-            "byte" => Event::Byte(words.byte()?),
-            "steps" => {
-                self.run(alloc, machine, words.decimal()?)?;
-                return Ok(true);
-            }
+        match words.word() {
+            "step" => self.event(machine, Event::Step)?,
+            "tick" => self.event(machine, Event::Tick)?,
+            "byte" => self.event(machine, Event::Byte(words.byte()))?,
+            "steps" => self.run(alloc, machine, words.decimal())?,
             _ => return Ok(false),
-        };
-        self.event(machine, event)?;
+        }
+        words.check()?;
         Ok(true)
     }
 
@@ -166,6 +159,29 @@ impl Outcome {
     }
 }
 
+/// The text of a program in a mode.
+fn text_in_mode(alloc: Global, mode: &str, statements: &str) -> Result<String, AllocError> {
+    let mode = format!(in alloc; ".mode {mode}")?;
+    text_of(alloc, &mode, statements)
+}
+
+/// What is told to the queries among deeds over an image's program.
+fn ran(alloc: Global, form: Form, image: &Image, deeds: &str) -> Result<String, CaseError> {
+    let Some(deeds) = deeds.strip_prefix("scheduled ") else {
+        return form.run(alloc, image, None, deeds);
+    };
+    let (words, deeds) = deeds.split_once("; ").ok_or(CaseError::Unreadable)?;
+    form.run(alloc, image, Some(timetable_of(words)?), deeds)
+}
+
+/// The same over a program's text.
+fn ran_text(alloc: Global, form: Form, text: &str, deeds: &str) -> Result<String, CaseError> {
+    match assemble(alloc, text.as_bytes()) {
+        Ok(assembly) => ran(alloc, form, assembly.image(), deeds),
+        Err(_) => Err(CaseError::Unreadable),
+    }
+}
+
 /// The mode, ` | `, the program's statements, ` | `, and what is done and asked in order; statements and deeds are parted by `; `.
 ///
 /// A deed is an event, `step`, `tick` or `byte B`; a run, `steps N`; or a query, whose answers follow one another in the case's answer:
@@ -175,15 +191,6 @@ impl Outcome {
 pub(crate) fn answer(alloc: Global, form: Form, inputs: &str) -> Result<String, CaseError> {
     let (mode, rest) = inputs.split_once(" | ").ok_or(CaseError::Unreadable)?;
     let (statements, deeds) = rest.split_once(" | ").ok_or(CaseError::Unreadable)?;
-    let mode = format!(in alloc; ".mode {mode}")?;
-    let text = text_of(alloc, &mode, statements)?;
-    let assembly = assembly_of(alloc, text.as_bytes())?;
-    let image = assembly.image();
-    match deeds.strip_prefix("scheduled ") {
-        Some(deeds) => {
-            let (words, deeds) = deeds.split_once("; ").ok_or(CaseError::Unreadable)?;
-            form.run(alloc, image, Some(timetable_of(words)?), deeds)
-        }
-        None => form.run(alloc, image, None, deeds),
-    }
+    let text = text_in_mode(alloc, mode, statements)?;
+    ran_text(alloc, form, &text, deeds)
 }

@@ -20,9 +20,8 @@ fn bounded_text<C: CapRep>(alloc: Global, bounded: C, exact: bool) -> Result<Str
 
 /// A value and a length; answered by the value with the bounds of that many bytes from its address, whether rounding changed
 /// nothing, and the result's permissions, flag, object type, base and top.
-pub(crate) fn answer<C: CapRep>(alloc: Global, inputs: &str) -> Result<String, CaseError> {
-    let mut words = Words::of(inputs);
-    let operand = value::<C>(&mut words)?;
-    let (bounded, exact) = operand.set_bounds(words.hex()?);
+pub(crate) fn answer<C: CapRep>(alloc: Global, words: &mut Words) -> Result<String, CaseError> {
+    let operand = value::<C>(words);
+    let (bounded, exact) = operand.set_bounds(words.hex());
     bounded_text(alloc, bounded, exact)
 }

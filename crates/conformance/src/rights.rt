@@ -30,7 +30,7 @@ const PERMISSIONS: [Permission; 12] = [
 
 /// The permission whose bit is the next word.
 fn permission(words: &mut Words) -> Result<Permission, CaseError> {
-    let bit = usize::from(words.small()?);
+    let bit = usize::from(words.small());
     PERMISSIONS.get(bit).copied().ok_or(CaseError::Unreadable)
 }
 
@@ -61,10 +61,12 @@ fn set_of_names(names: &str) -> Result<Perms, CaseError> {
 
 /// Base, top, address, permissions, flag and type, each a word; answered by whether they are a capability.
 fn record(alloc: Global, words: &mut Words) -> Result<String, CaseError> {
-    let [base, top, address] = words.hexes::<3>()?;
-    let perms = words.hex16()?;
-    let flag = words.bit()?;
-    let otype = words.hex32()?;
+    let base = words.hex();
+    let top = words.hex();
+    let address = words.hex();
+    let perms = words.hex16();
+    let flag = words.bit();
+    let otype = words.hex32();
     let record = PlainCap::of(base, u128::from(top), address, perms, flag, otype);
     bit(alloc, record.is_some())
 }
@@ -74,13 +76,13 @@ fn record(alloc: Global, words: &mut Words) -> Result<String, CaseError> {
 /// `granule LENGTH`, by the granule of that length; and that of `record`.
 fn asked(alloc: Global, what: &str, words: &mut Words) -> Result<String, CaseError> {
     match what {
-        "type" => type_text(alloc, words.hex32()?),
+        "type" => type_text(alloc, words.hex32()),
         "set" => hex(alloc, u64::from(Perms::of(permission(words)?).bits())),
-        "names" => hex(alloc, u64::from(set_of_names(words.word()?)?.bits())),
-        "granule" => hex(alloc, granule(words.hex()?) as u64),
+        "names" => hex(alloc, u64::from(set_of_names(words.word())?.bits())),
+        "granule" => hex(alloc, granule(words.hex()) as u64),
         "record" => record(alloc, words),
-        "shown" => hex(alloc, Perms::from_bits(words.hex16()?).hardware()),
-        "named" => hex(alloc, u64::from(Perms::from_hardware(words.hex()?).bits())),
+        "shown" => hex(alloc, Perms::from_bits(words.hex16()).hardware()),
+        "named" => hex(alloc, u64::from(Perms::from_hardware(words.hex()).bits())),
         _ => Err(CaseError::Unreadable),
     }
 }
@@ -98,19 +100,18 @@ fn with_another<C: CapRep>(alloc: Global, what: &str, c: C, other: C) -> Result<
 
 /// A question about a value, and behind it a permission's bit, a set of permissions, a flag or another value; answered by a truth
 /// value or a value. The others are those of `asked`.
-pub(crate) fn answer<C: CapRep>(alloc: Global, inputs: &str) -> Result<String, CaseError> {
-    let mut words = Words::of(inputs);
-    let what = words.word()?;
+pub(crate) fn answer<C: CapRep>(alloc: Global, words: &mut Words) -> Result<String, CaseError> {
+    let what = words.word();
     if let "type" | "set" | "shown" | "named" | "names" | "granule" | "record" = what {
-        return asked(alloc, what, &mut words);
+        return asked(alloc, what, words);
     }
-    let c = value::<C>(&mut words)?;
+    let c = value::<C>(words);
     match what {
-        "permits" => bit(alloc, permits(c, permission(&mut words)?)),
+        "permits" => bit(alloc, permits(c, permission(words)?)),
         "opened" => text(alloc, opened(c)),
         "entry" => text(alloc, seal_entry(c)),
-        "perms" => text(alloc, and_perms(c, Perms::from_bits(words.hex16()?))),
-        "flags" => text(alloc, set_flags(c, words.bit()?)),
-        _ => with_another(alloc, what, c, value(&mut words)?),
+        "perms" => text(alloc, and_perms(c, Perms::from_bits(words.hex16()))),
+        "flags" => text(alloc, set_flags(c, words.bit())),
+        _ => with_another(alloc, what, c, value(words)),
     }
 }

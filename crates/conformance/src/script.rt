@@ -13,8 +13,10 @@ pub(crate) trait Called {
 /// The answer of one call.
 fn answer<T: Called>(alloc: Global, called: &mut T, call: &str) -> Result<String, CaseError> {
     let mut words = Words::of(call);
-    let name = words.word()?;
-    called.call(alloc, name, &mut words)
+    let name = words.word();
+    let told = called.call(alloc, name, &mut words)?;
+    words.check()?;
+    Ok(told)
 }
 
 /// The answers of a script's calls.

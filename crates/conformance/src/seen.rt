@@ -203,12 +203,12 @@ pub(crate) fn put_seen<C: CapRep>(
     query: &str,
 ) -> Result<(), CaseError> {
     let mut words = Words::of(query);
-    match words.word()? {
-        "granule" => put_granule_at(text, machine, words.hex()?),
-        "word" => put_word_at(text, machine, words.hex()?),
+    match words.word() {
+        "granule" => put_granule_at(text, machine, words.hex()),
+        "word" => put_word_at(text, machine, words.hex()),
         "same" => {
-            let first = value_of(machine, words.word()?)?;
-            put_same(text, first, value_of(machine, words.word()?)?)
+            let first = value_of(machine, words.word())?;
+            put_same(text, first, value_of(machine, words.word())?)
         }
         word => match words.next() {
             Some(name) => put_of_register(text, word, value_of(machine, name)?),

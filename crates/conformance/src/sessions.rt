@@ -2,7 +2,6 @@
 
 use crate::case::{CaseError, HELD};
 use crate::forms::Form;
-use crate::programs::{assembly_of, text_of};
 use crate::quoted::{put_quoted, unescaped};
 use crate::talks::{commanded, cut_short};
 use crate::text::name;
@@ -169,8 +168,6 @@ impl Errand<'_> {
 /// not empty, without it.
 pub(crate) fn answer(alloc: Global, form: Form, block: &str) -> Result<String, CaseError> {
     let conversation = Conversation::of(alloc, block)?;
-    let text = text_of(alloc, "", conversation.statements)?;
-    let assembly = assembly_of(alloc, text.as_bytes())?;
     let typed = conversation.typed.as_slice();
     let cut = match typed {
         [.., b'\n', b'\n'] | [b'\n'] | [] => typed,
@@ -184,7 +181,7 @@ pub(crate) fn answer(alloc: Global, form: Form, block: &str) -> Result<String, C
             answers: &conversation.answers,
             left,
         };
-        let told = form.ask(alloc, assembly.image(), errand)?;
+        let told = form.ask_program(alloc, conversation.statements, errand)?;
         if told.as_str() != HELD {
             return Ok(told);
         }

@@ -18,10 +18,8 @@ pub(crate) fn word(alloc: Global, inputs: &str) -> Result<String, CaseError> {
 /// A number, and of how many of its digits its text is.
 pub(crate) fn digits(alloc: Global, inputs: &str) -> Result<String, CaseError> {
     let mut words = Words::of(inputs);
-    let number = u128::from_str_radix(words.word()?, 16).map_err(|_| CaseError::Unreadable)?;
-    let width = words.decimal()?;
-    if width > 17 {
-        return Err(CaseError::Unreadable);
-    }
+    let number = u128::from_str_radix(words.word(), 16).map_err(|_| CaseError::Unreadable)?;
+    let width = words.decimal().min(17);
+    words.check()?;
     Ok(String::from_str(alloc, hex_digits(number, width as usize).as_str())?)
 }

@@ -4,7 +4,6 @@ use crate::case::CaseError;
 use crate::failing::{Narrow, Slow};
 use crate::forms::Form;
 use crate::numbers::Words;
-use crate::programs::{assembly_of, text_of};
 use crate::quoted::{put_quoted, unquoted};
 use crate::sessions::Errand;
 use cap_bounds::CapRep;
@@ -71,18 +70,14 @@ pub(crate) fn cut_short<C: CapRep>(
 pub(crate) fn answer(alloc: Global, form: Form, inputs: &str) -> Result<String, CaseError> {
     let (asked, rest) = inputs.split_once(" | ").ok_or(CaseError::Unreadable)?;
     let (statements, lines) = rest.split_once(" | ").ok_or(CaseError::Unreadable)?;
-    let assembly = assembly_of(alloc, text_of(alloc, "", statements)?.as_bytes())?;
     let mut words = Words::of(asked);
-    if words.word()? == "commands" {
-        return form.ask(alloc, assembly.image(), Errand::Commands(lines));
+    if words.word() == "commands" {
+        return form.ask_program(alloc, statements, Errand::Commands(lines));
     }
-    let read = words.call()?;
-    let write = words.call()?;
+    let read = words.call();
+    let write = words.call();
+    words.check()?;
     let (typed, _) = unquoted(alloc, lines)?;
-    let errand = Errand::Cut {
-        typed: &typed,
-        read,
-        write,
-    };
-    form.ask(alloc, assembly.image(), errand)
+    let typed = typed.as_slice();
+    form.ask_program(alloc, statements, Errand::Cut { typed, read, write })
 }

@@ -16,10 +16,9 @@ fn moved_text<C: CapRep>(alloc: Global, stays: bool, moved: C) -> Result<String,
 }
 
 /// A value and an address; answered by whether the bounds stay with that address, and by the value with it, its base and its top.
-pub(crate) fn answer<C: CapRep>(alloc: Global, inputs: &str) -> Result<String, CaseError> {
-    let mut words = Words::of(inputs);
-    let c = value::<C>(&mut words)?;
-    let address = words.hex()?;
+pub(crate) fn answer<C: CapRep>(alloc: Global, words: &mut Words) -> Result<String, CaseError> {
+    let c = value::<C>(words);
+    let address = words.hex();
     moved_text(
         alloc,
         representable(c.word(), address),

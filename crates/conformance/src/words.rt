@@ -46,10 +46,9 @@ fn value_text<C: CapRep>(
 
 /// The word's sixteen bytes in memory and its tag; answered by the value, whether the word is well-formed, permissions, flag and
 /// object type, the fields IE, T and B as they stand in the word, base and top; where the word gives other bytes, it is unreadable.
-pub(crate) fn answer<C: CapRep>(alloc: Global, inputs: &str) -> Result<String, CaseError> {
-    let mut words = Words::of(inputs);
-    let word = word_in_memory(&bytes(alloc, words.word()?)?)?;
-    let tag = words.bit()?;
+pub(crate) fn answer<C: CapRep>(alloc: Global, words: &mut Words) -> Result<String, CaseError> {
+    let word = word_in_memory(&bytes(alloc, words.word())?)?;
+    let tag = words.bit();
     let well_formed = is_well_formed(word);
     let c = C::from_word(word, tag && well_formed);
     let bounds = bounds_text(alloc, word, c)?;
