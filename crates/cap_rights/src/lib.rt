@@ -18,6 +18,3 @@ pub use perms::Perms;
 pub use restricted::{and_perms, set_flags};
 pub use seals::{seal, seal_entry, unseal};
 pub use unsealed::opened;
-
-#[cfg(test)]
-mod tests;
