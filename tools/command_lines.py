@@ -3,7 +3,7 @@
 Values are from the rules of the command line, of listings and of the schedule.
 """
 
-from programs.items import halted, integer, line, sent
+from programs.items import csr, halted, integer, line, sent
 from quoting import quoted
 
 # A command line, and its plan: of a run the image, the steps, the gap, the tick and the input.
@@ -59,6 +59,17 @@ LISTING = """0000000080000000 100005b7 lui a1, 0x10000
 0000000080000106 00000000 .word 0x00000000
 """
 
+# An instruction and three bytes that are no word.
+CUT = ".word 0x100005b7\n.byte 0x0a, 0xff, 0"
+CUT_LISTING = """0000000080000000 100005b7 lui a1, 0x10000
+0000000080000004 .byte 0x0a
+0000000080000005 .byte 0xff
+0000000080000006 .byte 0x00
+"""
+
+# How many bytes the sink of a listing takes a call.
+MOST = 7
+
 FIRST_IMAGE = ["lui a1, 0x10000", "addi a0, zero, 65", "sb a0, 0(a1)", "lui a1, 0x100", "sd zero, 0(a1)"]
 
 # Sends three bytes that it receives, and halts with 0.
@@ -80,13 +91,18 @@ def plans():
 
 
 def listings():
-    yield "# a text => the listing of its image"
+    yield "# a text => how often a call of the sink has failed, and the listing of its image"
     for mode, store in enumerate(("sb a0, 0(a1)", "csb a0, 0(ca1)")):
-        yield f"{quoted(f'.mode {mode}' + chr(10) + LISTED)} => {quoted(LISTING.format(store))}"
+        yield f"{quoted(f'.mode {mode}' + chr(10) + LISTED)} => whole 0 {quoted(LISTING.format(store))}"
+    yield "# a text and the call that fails, from 0: each line is written by itself, seven bytes a call"
+    pieces = [row[at:at + MOST] for row in CUT_LISTING.splitlines(keepends=True) for at in range(0, len(row), MOST)]
+    for call in range(len(pieces)):
+        yield f"{quoted(CUT)} {call} => cut 1 {quoted(''.join(pieces[:call]))}"
+    yield f"{quoted(CUT)} {len(pieces)} => whole 0 {quoted(CUT_LISTING)}"
 
 
 def scheduled(program, steps, gap, tick, keys, *seen):
-    """A run of so many steps, with a byte of the keys each so many steps, and ticks."""
+    """A run of so many steps, with a byte of the keys each so many steps, and ticks. Behind the keys the byte that can't be sent."""
     return line(0, program, [f"scheduled {steps} {gap} {tick} {keys or '-'}", *seen])
 
 
@@ -96,13 +112,19 @@ def verdict(number, text):
 
 
 def runs():
-    yield "# mode | statements | deeds and queries => answers, as of programs; scheduled: steps, gap, tick, the bytes that come"
+    yield "# mode | statements | deeds and queries => answers, as of programs"
+    yield "# scheduled: steps, gap, tick, the bytes that come, and the number of the byte that can't be sent"
     yield "# the first image halts with its fifth step"
     for steps, end, last in ((5, "halted 0", 0), (4, "running", None)):
         yield scheduled(FIRST_IMAGE, steps, 1000, 100, "", ("end", end), halted(last), sent(b"A"))
     yield "# an echo; the third byte comes before step 2001"
     yield scheduled(ECHO, 22, 1, 100, "ABC", ("end", "halted 0"), sent(b"ABC"))
     yield scheduled(ECHO, 2000, 1000, 0, "ABC", ("end", "running"), sent(b"AB"))
+    yield "# of the same echo a byte can't be sent: the run ends after the step that sends it, the sixth of each turn"
+    for count in range(3):
+        yield scheduled(ECHO, 22, 1, 100, f"ABC {count}", ("end", "cut 1"), sent(b"ABC"[:count]), csr("minstret", 6 * (count + 1)),
+                        halted(None))
+    yield scheduled(ECHO, 22, 1, 100, "ABC 3", ("end", "halted 0"), sent(b"ABC"), csr("minstret", 22), halted(0))
     yield "# bytes come just before their step, and ticks just after"
     yield scheduled(WAITING, 4, 3, 0, "AB", integer("a0", 0), integer("a2", 1), ("mtime", "0"))
     yield scheduled(TIMES, 5, 1, 2, "", integer("a0", 0), integer("a2", 1), integer("a3", 1), integer("a4", 2))

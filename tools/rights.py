@@ -159,13 +159,26 @@ set 8 => 100
 set 9 => 200
 set 10 => 400
 set 11 => 800
+# sets by their permissions' names
+names LOAD+STORE+USER1 => 200c
+names SET_CID => 800
+names SEAL => 80
+names USER0 => 1000
 # a type has 18 bits, and the four greatest are reserved
 type 40000 => none
 type 0 => 0 0
 type 3fffb => 0 3fffb
 type 3fffc => 1 fffffffffffffffc
 type 3fffe => 1 fffffffffffffffe
-type 3ffff => 1 ffffffffffffffff""".splitlines()
+type 3ffff => 1 ffffffffffffffff
+# the granule of a length
+granule fff => 1
+granule 1000 => 8
+granule 1ff8 => 8
+granule 1fff => 10
+# base, top, address, permissions, flag and type => whether they are a capability: from 4096 bytes on bounds are multiples of 8
+record 0 1000 0 ffff 0 3ffff => 1
+record 0 1001 0 ffff 0 3ffff => 0""".splitlines()
 
 
 def lines():

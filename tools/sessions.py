@@ -5,7 +5,7 @@ one that begins with `< ` is typed and left unread, and every other line is answ
 In the texts here a line that begins with `! ` stands for lines of the state.
 """
 
-from quoting import escaped
+from quoting import escaped, quoted
 
 # Sends `A` and halts with 0.
 FIRST_IMAGE = "lui a1, 0x10000; addi a0, zero, 65; sb a0, 0(a1); lui a1, 0x100; sd zero, 0(a1)"
@@ -528,5 +528,55 @@ def cases():
         yield from conversation(about, RECEIVES, text)
 
 
+# ---- devices that fail
+
+# Lines at a machine of `RECEIVES`, each with its reply, and how the session stands after it: PCC's address, and how many bytes wait.
+PIECES = [
+    ("step 1\n", f"{STEP}\n", 0x8000_0004, 0),
+    ("frob\n", "fault B1\n", 0x8000_0004, 0),
+    ("byte 0x41\n", f"{STEP}\n", 0x8000_0004, 1),
+    ("step 1", f"{NEXT}\n", 0x8000_0008, 0),
+]
+
+
+def cut(read, write, answer, written, address, waiting):
+    """A conversation of all pieces, whose calls of these numbers fail."""
+    typed = quoted("".join(piece[0] for piece in PIECES))
+    return f"cut {read} {write} | {RECEIVES} | {typed} => {answer} {quoted(written)} {address:x} {waiting} 0"
+
+
+def cut_replies():
+    """Each call of the sink in turn fails: a beginning of all replies is written, and the session stands after the line of that call."""
+    whole = "".join(piece[1] for piece in PIECES)
+    call = 0
+    for _, reply, address, waits in PIECES:
+        for _ in reply:
+            yield cut("-", call, "Write", whole[:call], address, waits)
+            call += 1
+    yield cut("-", "-", "ok", whole, address, waits)
+
+
+def cut_lines():
+    """Each call of the source in turn fails, and behind the last line the one that meets the end: the replies to the lines before are
+    written, and the session stands after those."""
+    call, answered, address, waits = 0, "", 0x8000_0000, 0
+    for line, reply, after, then in PIECES:
+        for _ in range(len(line) + (not line.endswith("\n"))):
+            yield cut(call, "-", "Read", answered, address, waits)
+            call += 1
+        answered, address, waits = answered + reply, after, then
+
+
+def talks():
+    yield "# the numbers of the calls that fail, of what is read and of what is written | statements | what is typed"
+    yield "# => the answer, what is written, PCC's address, how many bytes wait, and whether the machine is halted"
+    yield from cut_replies()
+    yield from cut_lines()
+    yield "# commands | statements | lines => their answers, and the same behind them"
+    reply = quoted(f"{STEP}\n")
+    yield f"commands | {RECEIVES} | step 1; quit; frob => {reply} quit B1 80000004 0 0"
+
+
 def files():
     yield "sessions.txt", cases()
+    yield "talks.txt", talks()

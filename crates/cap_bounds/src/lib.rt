@@ -9,8 +9,6 @@ mod plain_cap;
 mod rep;
 mod rounding;
 mod set_bounds;
-#[cfg(test)]
-mod tests;
 mod words;
 
 pub use plain_cap::PlainCap;

@@ -20,6 +20,3 @@ pub use restricted::{and_perms, set_flags};
 pub use rights::within_rights;
 pub use seals::{seal, seal_entry, unseal};
 pub use unsealed::opened;
-
-#[cfg(test)]
-mod tests;

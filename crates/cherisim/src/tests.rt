@@ -89,6 +89,7 @@ fn the_program_runs_on_words(rt: HostRuntime) -> Result<(), Fail> {
     let image = Image::build(rt.alloc(), 1, ram::BASE, 0, &[])?;
     let machine: Machine<WordCap> = machine_of(rt.alloc(), &image)?;
     assert_eq!(rt; machine.scr(0).address(), ram::BASE);
+    assert_eq!(rt; size_of::<WordCap>(), 24);
     assert!(rt; size_of::<WordCap>() <= 32);
     Ok(())
 }

@@ -4,20 +4,35 @@ ghost use Rattle.std.specs.Prelude.{◌≤◌};
 
 use crate::case::CaseError;
 use crate::numbers::Words;
+use crate::text::bit;
+use crate::values::cap_word;
 use cap_bounds::{CapRep, PlainCap, is_well_formed};
 use cap_format::CapWord;
 use std::alloc::Global;
 use word_cap::parts;
 
+/// What each call says of a value.
+fn said<C: CapRep>(c: C) -> [u128; 8] {
+    let word = c.word().logical();
+    let base = u128::from(c.base());
+    let address = u128::from(c.address());
+    let perms = u128::from(c.perms());
+    let otype = u128::from(c.otype());
+    [
+        word,
+        u128::from(c.tag()),
+        base,
+        c.top(),
+        address,
+        perms,
+        u128::from(c.flag()),
+        otype,
+    ]
+}
+
 /// Whether two values are one, call by call.
 fn agree<A: CapRep, B: CapRep>(one: A, other: B) -> bool {
-    let bits = one.word() == other.word() && one.tag() == other.tag();
-    let bounds = one.base() == other.base() && one.top() == other.top();
-    let fields = one.address() == other.address()
-        && one.perms() == other.perms()
-        && one.flag() == other.flag()
-        && one.otype() == other.otype();
-    bits && bounds && fields
+    said(one) == said(other)
 }
 
 /// Whether they still are with this address.
@@ -32,6 +47,11 @@ fn agree_over<A: CapRep, B: CapRep>(one: A, other: B, length: u64) -> bool {
     agree(one, other) && one_exact == other_exact
 }
 
+/// Whether they still are with this address and with the one below it.
+fn agree_around<A: CapRep, B: CapRep>(one: A, other: B, end: u64) -> bool {
+    agree_at(one, other, end) && agree_at(one, other, end.wrapping_sub(1))
+}
+
 /// Whether they still are at the ends of the window and of the bounds, and beside them.
 fn agree_at_ends<A: CapRep, B: CapRep>(one: A, other: B) -> bool {
     let e = u32::from(parts(other.word()).e.min(49));
@@ -40,9 +60,17 @@ fn agree_at_ends<A: CapRep, B: CapRep>(one: A, other: B) -> bool {
     let start = (base >> e >> 11 << e << 11).wrapping_sub(step);
     let past = start.wrapping_add(step << 3);
     let top = (other.top() & u128::from(u64::MAX)) as u64;
-    [start, past, base, top].iter().all(|&end| {
-        agree_at(one, other, end) && agree_at(one, other, end.wrapping_sub(1))
-    })
+    agree_around(one, other, start)
+        && agree_around(one, other, past)
+        && agree_around(one, other, base)
+        && agree_around(one, other, top)
+}
+
+/// Whether they still are with the bounds of so many bytes, of one fewer and of one more.
+fn agree_over_around<A: CapRep, B: CapRep>(one: A, other: B, length: u64) -> bool {
+    agree_over(one, other, length)
+        && agree_over(one, other, length.wrapping_sub(1))
+        && agree_over(one, other, length.wrapping_add(1))
 }
 
 /// Whether they still are over the lengths at which rounding changes: about 1023 and 512 granules of `2^(e+3)` bytes.
@@ -51,18 +79,10 @@ fn agree_over_limits<A: CapRep, B: CapRep>(one: A, other: B, e: u32) -> bool
 {
     let granule = 8u64 << e;
     let most = granule.wrapping_mul(1023);
-    let half = granule << 9;
-    let around = [
-        most,
-        most.wrapping_sub(granule),
-        most.wrapping_add(granule),
-        half,
-    ];
-    around.iter().all(|&length| {
-        agree_over(one, other, length)
-            && agree_over(one, other, length.wrapping_sub(1))
-            && agree_over(one, other, length.wrapping_add(1))
-    })
+    agree_over_around(one, other, most)
+        && agree_over_around(one, other, most.wrapping_sub(granule))
+        && agree_over_around(one, other, most.wrapping_add(granule))
+        && agree_over_around(one, other, granule << 9)
 }
 
 /// Whether two forms of a word agree in all of this.
@@ -76,21 +96,21 @@ fn forms_agree<A: CapRep, B: CapRep>(one: A, other: B, length: u64, e: u32) -> b
         && agree(one.clear_tag(), other.clear_tag())
 }
 
-/// A word's high half and its address, a length and an exponent; answered by whether this form of the word, tagged if it may be,
-/// and the record of it agree: in every field, with the addresses at the ends of its window and its bounds, with bounds of that
-/// length and of those at which rounding changes at the exponent, and without the tag.
-pub(crate) fn answer<C: CapRep>(alloc: Global, inputs: &str) -> Result<String, CaseError> {
-    let mut words = Words::of(inputs);
-    let high = words.hex()?;
-    let address = words.hex()?;
-    let length = words.hex()?;
-    let e = u32::from(words.small()?);
-    if e > 50 {
-        return Err(CaseError::Unreadable);
-    }
-    let word = CapWord::from_logical(u128::from(high) << 64 | u128::from(address));
+/// Whether this form of a word, tagged if it may be, and the record of it agree.
+fn word_agrees<C: CapRep>(word: CapWord, length: u64, e: u32) -> bool
+    requires { e ≤ 50 }
+{
     let tag = is_well_formed(word);
     let record = PlainCap::from_word(word, tag);
-    let agree = u8::from(forms_agree(record, C::from_word(word, tag), length, e));
-    Ok(format!(in alloc; "{agree}")?)
+    forms_agree(record, C::from_word(word, tag), length, e)
+}
+
+/// A word's high half and its address, a length and an exponent, which counts as 50 at most; answered by whether this form of the
+/// word, tagged if it may be, and the record of it agree: in every field, with the addresses at the ends of its window and its bounds,
+/// with bounds of that length and of those at which rounding changes at the exponent, and without the tag.
+pub(crate) fn answer<C: CapRep>(alloc: Global, words: &mut Words) -> Result<String, CaseError> {
+    let word = cap_word(words);
+    let length = words.hex();
+    let e = u32::from(words.small()).min(50);
+    bit(alloc, word_agrees::<C>(word, length, e))
 }

@@ -35,17 +35,22 @@ fn put_words(text: &mut String, section: &Section) -> Result<(), AllocError> {
     Ok(())
 }
 
+/// Puts the words of the first section behind a text, or the fault.
+fn put_first(text: &mut String, made: &Result<Assembly, AsmFault>) -> Result<(), AllocError> {
+    match made {
+        Err(fault) => put_fault(text, *fault),
+        Ok(assembly) => match assembly.image().sections().first() {
+            Some(section) => put_words(text, section),
+            None => text.push_str("no words"),
+        },
+    }
+}
+
 /// A text in quotes; answered by the words of its first section, or by its fault's code and line.
 pub(crate) fn words(alloc: Global, inputs: &str) -> Result<String, CaseError> {
     let (text, _) = unquoted(alloc, inputs)?;
     let mut told = String::new(alloc);
-    match assemble(alloc, &text) {
-        Ok(assembly) => match assembly.image().sections().first() {
-            Some(section) => put_words(&mut told, section)?,
-            None => told.push_str("no words")?,
-        },
-        Err(fault) => put_fault(&mut told, fault)?,
-    }
+    put_first(&mut told, &assemble(alloc, &text))?;
     Ok(told)
 }
 
@@ -89,23 +94,32 @@ fn put_symbols(text: &mut String, assembly: &Assembly) -> Result<(), AllocError>
     Ok(())
 }
 
+/// Puts pages, entry and mode of an image behind a text.
+fn put_head(text: &mut String, image: &Image) -> Result<(), AllocError> {
+    let pages = image.pages();
+    let entry = image.entry();
+    let mode = u8::from(image.mode());
+    write!(text, "{pages} {entry:x} {mode}; ")
+}
+
+/// Puts what a text makes behind another, or the fault.
+fn put_made(text: &mut String, made: &Result<Assembly, AsmFault>) -> Result<(), AllocError> {
+    match made {
+        Err(fault) => put_fault(text, *fault),
+        Ok(assembly) => {
+            put_head(text, assembly.image())?;
+            put_sections(text, assembly.image().sections())?;
+            text.push_str("; ")?;
+            put_symbols(text, assembly)
+        }
+    }
+}
+
 /// A text in quotes; answered by pages, entry and mode, its sections and its symbols, or by its fault's code and line.
 pub(crate) fn parts(alloc: Global, inputs: &str) -> Result<String, CaseError> {
     let (text, _) = unquoted(alloc, inputs)?;
     let mut told = String::new(alloc);
-    match assemble(alloc, &text) {
-        Ok(assembly) => {
-            let image = assembly.image();
-            let pages = image.pages();
-            let entry = image.entry();
-            let mode = u8::from(image.mode());
-            write!(told, "{pages} {entry:x} {mode}; ")?;
-            put_sections(&mut told, image.sections())?;
-            told.push_str("; ")?;
-            put_symbols(&mut told, &assembly)?;
-        }
-        Err(fault) => put_fault(&mut told, fault)?,
-    }
+    put_made(&mut told, &assemble(alloc, &text))?;
     Ok(told)
 }
 
@@ -118,24 +132,30 @@ fn file_of(alloc: Global, image: &Image) -> Result<Vec<u8>, CaseError> {
     }
 }
 
+/// Answered by the bytes of an image's file as it is read from a file, or by the code of the fault.
+fn read_again(alloc: Global, file: &[u8]) -> Result<String, CaseError> {
+    match read(alloc, &mut FromRead::new(file)) {
+        Ok(image) => Ok(hex::encode(alloc, &file_of(alloc, &image)?)?),
+        Err(fault) => Ok(format!(in alloc; "{fault:?}")?),
+    }
+}
+
+/// The bytes of the file of a text's image.
+fn file_of_text(alloc: Global, text: &[u8]) -> Result<Vec<u8>, CaseError> {
+    match assemble(alloc, text) {
+        Ok(assembly) => file_of(alloc, assembly.image()),
+        Err(_) => Err(CaseError::Unreadable),
+    }
+}
+
 /// A text in quotes, and how many bytes of its image's file are read, with zeros behind its end; answered by the bytes of the file of
 /// the image that is read, or by the code of the fault.
 pub(crate) fn image_file(alloc: Global, inputs: &str) -> Result<String, CaseError> {
     let (text, rest) = unquoted(alloc, inputs)?;
-    let count = Words::of(rest).decimal()?;
-    let Ok(assembly) = assemble(alloc, &text) else {
-        return Err(CaseError::Unreadable);
-    };
-    let mut file = file_of(alloc, assembly.image())?;
+    let mut words = Words::of(rest);
+    let count = words.decimal();
+    words.check()?;
+    let mut file = file_of_text(alloc, &text)?;
     file.resize(count as usize, 0)?;
-    let mut told = String::new(alloc);
-    match read(alloc, &mut FromRead::new(file.as_slice())) {
-        Ok(image) => {
-            for byte in &file_of(alloc, &image)? {
-                write!(told, "{byte:02x}")?;
-            }
-        }
-        Err(fault) => write!(told, "{fault:?}")?,
-    }
-    Ok(told)
+    read_again(alloc, &file)
 }

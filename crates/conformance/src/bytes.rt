@@ -14,13 +14,9 @@ pub(crate) fn bytes(alloc: Global, word: &str) -> Result<Vec<u8>, CaseError> {
 }
 
 fn add_part(alloc: Global, all: &mut Vec<u8>, part: &str) -> Result<(), CaseError> {
-    if part == "-" {
-        return Ok(());
-    }
-    let (digits, count) = match part.split_once('*') {
-        Some((digits, count)) => (digits, count.parse().map_err(|_| CaseError::Unreadable)?),
-        None => (part, 1u16),
-    };
+    let part = if part == "-" { "" } else { part };
+    let (digits, count) = part.split_once('*').unwrap_or((part, "1"));
+    let count: u16 = count.parse().map_err(|_| CaseError::Unreadable)?;
     let bytes = hex::decode(alloc, digits).map_err(|_| CaseError::Unreadable)?;
     for _ in 0..count {
         all.extend_from_slice(&bytes)?;

@@ -1,6 +1,6 @@
 //! The checks before accesses, jumps and invocations: an address that is allowed, or a fault's `mcause` and `mtval`.
 
-ghost use Rattle.std.specs.Prelude.{◌<◌, IfOk};
+ghost use Rattle.std.specs.Prelude.{◌<◌};
 
 use crate::case::CaseError;
 use crate::numbers::Words;
@@ -30,30 +30,34 @@ fn outcome(alloc: Global, checked: Result<u64, Fault>) -> Result<String, CaseErr
 }
 
 /// The next word as a register's number in a fault, below 64.
-fn register(words: &mut Words) -> Result<u64, CaseError>
-    ensures { IfOk result (λ number. number < 64) }
+fn register(words: &mut Words) -> u64
+    ensures { result < 64 }
 {
-    let number = words.small()?;
+    let number = words.small();
     if number < 64 {
-        Ok(u64::from(number))
+        u64::from(number)
     } else {
-        Err(CaseError::Unreadable)
+        words.refuse();
+        0
     }
 }
 
 /// What is stored where a capability may be, by its name.
-fn stored(words: &mut Words) -> Result<Stored, CaseError> {
-    match words.word()? {
-        "untagged" => Ok(Stored::Untagged),
-        "local" => Ok(Stored::Local),
-        "global" => Ok(Stored::Global),
-        _ => Err(CaseError::Unreadable),
+fn stored(words: &mut Words) -> Stored {
+    match words.word() {
+        "untagged" => Stored::Untagged,
+        "local" => Stored::Local,
+        "global" => Stored::Global,
+        _ => {
+            words.refuse();
+            Stored::Untagged
+        }
     }
 }
 
 /// What a store of the next value stores.
 fn stored_text<C: CapRep>(alloc: Global, words: &mut Words) -> Result<String, CaseError> {
-    let stored = match Stored::of(value::<C>(words)?) {
+    let stored = match Stored::of(value::<C>(words)) {
         Stored::Untagged => "untagged",
         Stored::Local => "local",
         Stored::Global => "global",
@@ -61,53 +65,59 @@ fn stored_text<C: CapRep>(alloc: Global, words: &mut Words) -> Result<String, Ca
     name(alloc, stored)
 }
 
+/// An access of this kind, of which the next word says more.
+fn access_of(what: &str, words: &mut Words) -> Result<Access, CaseError> {
+    match what {
+        "load" => Ok(Access::Load(size(words))),
+        "store" => Ok(Access::Store(size(words))),
+        "loadc" => Ok(Access::LoadCapability),
+        "storec" => Ok(Access::StoreCapability(stored(words))),
+        _ => Err(CaseError::Unreadable),
+    }
+}
+
 /// `load SIZE`, `store SIZE`, `loadc`, or `storec` and what is stored; then the authority's register, the authority and the address.
 /// Or `stored` and a value, answered by what its store stores.
-pub(crate) fn access<C: CapRep>(alloc: Global, inputs: &str) -> Result<String, CaseError> {
-    let mut words = Words::of(inputs);
-    let access = match words.word()? {
-        "load" => Access::Load(size(&mut words)?),
-        "store" => Access::Store(size(&mut words)?),
-        "loadc" => Access::LoadCapability,
-        "storec" => Access::StoreCapability(stored(&mut words)?),
-        "stored" => return stored_text::<C>(alloc, &mut words),
-        _ => return Err(CaseError::Unreadable),
-    };
-    let register = register(&mut words)?;
-    let authority = value::<C>(&mut words)?;
-    let address = words.hex()?;
+pub(crate) fn access<C: CapRep>(alloc: Global, words: &mut Words) -> Result<String, CaseError> {
+    let what = words.word();
+    if what == "stored" {
+        return stored_text::<C>(alloc, words);
+    }
+    let access = access_of(what, words)?;
+    let register = register(words);
+    let authority = value::<C>(words);
+    let address = words.hex();
     outcome(alloc, check_access(authority, register, access, address))
 }
 
 /// `fetch PCC`, `target PCC TARGET` or `jump REGISTER VALUE OFFSET`. Or `to ADDRESS OFFSET`, answered by where such a jump goes.
-pub(crate) fn jump<C: CapRep>(alloc: Global, inputs: &str) -> Result<String, CaseError> {
-    let mut words = Words::of(inputs);
-    match words.word()? {
-        "fetch" => outcome(alloc, check_fetch(value::<C>(&mut words)?)),
+pub(crate) fn jump<C: CapRep>(alloc: Global, words: &mut Words) -> Result<String, CaseError> {
+    match words.word() {
+        "fetch" => outcome(alloc, check_fetch(value::<C>(words))),
         "target" => {
-            let pcc = value::<C>(&mut words)?;
-            outcome(alloc, check_target(pcc, words.hex()?))
+            let pcc = value::<C>(words);
+            outcome(alloc, check_target(pcc, words.hex()))
         }
         "jump" => {
-            let register = register(&mut words)?;
-            let c = value::<C>(&mut words)?;
-            outcome(alloc, check_jump(c, register, words.hex()?))
+            let register = register(words);
+            let c = value::<C>(words);
+            outcome(alloc, check_jump(c, register, words.hex()))
         }
         "to" => {
-            let address = words.hex()?;
-            hex(alloc, jump_target(address, words.hex()?))
+            let address = words.hex();
+            let offset = words.hex();
+            hex(alloc, jump_target(address, offset))
         }
         _ => Err(CaseError::Unreadable),
     }
 }
 
 /// A register and the code in it, and a register and the data in it.
-pub(crate) fn invocation<C: CapRep>(alloc: Global, inputs: &str) -> Result<String, CaseError> {
-    let mut words = Words::of(inputs);
-    let code_register = register(&mut words)?;
-    let code = value::<C>(&mut words)?;
-    let data_register = register(&mut words)?;
-    let data = value::<C>(&mut words)?;
+pub(crate) fn invocation<C: CapRep>(alloc: Global, words: &mut Words) -> Result<String, CaseError> {
+    let code_register = register(words);
+    let code = value::<C>(words);
+    let data_register = register(words);
+    let data = value::<C>(words);
     let checked = check_invoke(code, code_register, data, data_register);
     outcome(alloc, checked)
 }

@@ -57,22 +57,23 @@ fn access(
     words: &mut Words,
 ) -> Result<String, CaseError> {
     match called {
-        "peek" => loaded(alloc, devices.peek(words.hex()?)),
+        "peek" => loaded(alloc, devices.peek(words.hex())),
         "sends" => {
-            let address = words.hex()?;
-            match Devices::sends(address, words.hex()?) {
+            let address = words.hex();
+            let value = words.hex();
+            match Devices::sends(address, value) {
                 Some(byte) => hex(alloc, u64::from(byte)),
                 None => name(alloc, "none"),
             }
         }
         _ => {
-            let size = size(words)?;
-            let address = words.hex()?;
+            let size = size(words);
+            let address = words.hex();
             match called {
                 "gives" => bit(alloc, Devices::gives(address, size)),
                 "takes" => bit(alloc, Devices::takes(address, size)),
                 "read" => loaded(alloc, devices.read(address, size)),
-                "write" => stored(alloc, devices.write(address, size, words.hex()?)),
+                "write" => stored(alloc, devices.write(address, size, words.hex())),
                 _ => Err(CaseError::Unreadable),
             }
         }
@@ -90,7 +91,7 @@ impl Called for Devices {
         match called {
             "tick" => self.tick(),
             "receive" => {
-                for byte in bytes::bytes(alloc, words.word()?)?.iter() {
+                for byte in bytes::bytes(alloc, words.word())?.iter() {
                     self.receive(*byte);
                 }
             }

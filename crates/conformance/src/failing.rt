@@ -1,4 +1,4 @@
-//! Devices whose calls fail: they move one byte a call, and one of their calls fails.
+//! Devices whose calls fail: they move few bytes a call, and one of their calls fails.
 
 ghost use Rattle.std.specs.Prelude.{◌≡◌};
 
@@ -53,22 +53,24 @@ impl Source for Slow<'_> {
     }
 }
 
-/// Takes one byte a call, but for the call that fails.
+/// Takes so many bytes a call at most, but for the call that fails.
 #[derive(Drop)]
 pub(crate) struct Narrow<'a> {
     held: &'a mut Vec<u8>,
+    most: usize,
     calls: u64,
     fails_at: u64,
     failures: u64,
 }
 
 impl<'a> Narrow<'a> {
-    /// Puts bytes behind those that are held, and fails at the call of this number, from 0.
-    pub(crate) fn new(held: &'a mut Vec<u8>, fails_at: u64) -> Self
+    /// Puts bytes behind those that are held, `most` a call but one at least, and fails at the call of this number, from 0.
+    pub(crate) fn new(held: &'a mut Vec<u8>, most: usize, fails_at: u64) -> Self
         ensures { result.failures ≡ 0 }
     {
         Narrow {
             held,
+            most,
             calls: 0,
             fails_at,
             failures: 0,
@@ -82,14 +84,12 @@ impl Sink for Narrow<'_> {
     fn write(&mut self, bytes: &[u8]) -> Result<usize, DeviceFailed> {
         let call = self.calls;
         self.calls = call.saturating_add(1);
-        let Some(byte) = bytes.first() else {
-            return Ok(0);
-        };
-        if call == self.fails_at || self.held.push(*byte).is_err() {
+        let taken = bytes.len().min(self.most.max(1));
+        if call == self.fails_at || self.held.extend_from_slice(&bytes[..taken]).is_err() {
             self.failures += 1;
             return Err(DeviceFailed);
         }
-        Ok(1)
+        Ok(taken)
     }
 
     fn failures(&self) -> u64 {

@@ -40,7 +40,7 @@ fn read_slowly(alloc: Global, file: &[u8], fails_at: u64) -> Result<String, Case
 /// What writing an image comes to: how often a call failed, `ok` or the fault, and the bytes that the device holds.
 fn write_narrowly(alloc: Global, image: &Image, fails_at: u64) -> Result<String, CaseError> {
     let mut held = Vec::new(alloc);
-    let mut sink = Narrow::new(&mut held, fails_at);
+    let mut sink = Narrow::new(&mut held, 1, fails_at);
     let came = match write(image, &mut sink) {
         Ok(()) => "ok",
         Err(fault) => fault_name(fault),
@@ -50,54 +50,55 @@ fn write_narrowly(alloc: Global, image: &Image, fails_at: u64) -> Result<String,
     Ok(format!(in alloc; "{failures:x} {came} {bytes}")?)
 }
 
+/// What reading so many bytes from others gives, and the bytes that are read into.
+fn read_part(alloc: Global, words: &mut Words) -> Result<String, CaseError> {
+    let mut buffer = vec![in alloc; 0; usize::from(words.small())]?;
+    let bytes = bytes::bytes(alloc, words.word())?;
+    let mut source = FromRead::new(bytes.as_slice());
+    let answered = Source::read(&mut source, &mut buffer);
+    let told = called(alloc, answered, source.failures())?;
+    let held = bytes::text(alloc, &buffer)?;
+    Ok(format!(in alloc; "{told} {held}")?)
+}
+
+/// What writing bytes to a device of std that takes none comes to: `stuckwrite` in one call, or `stuckwriteall`.
+fn write_stuck(alloc: Global, what: &str, bytes: &[u8]) -> Result<String, CaseError> {
+    let mut sink = ToWrite::new(Stuck);
+    let answered = match what {
+        "stuckwrite" => Sink::write(&mut sink, bytes),
+        "stuckwriteall" => write_all(&mut sink, bytes).map(|()| bytes.len()),
+        _ => return Err(CaseError::Unreadable),
+    };
+    called(alloc, answered, sink.failures())
+}
+
 /// Calls of devices of std: `stuckread`, `stuckwrite BYTES` in one call, `stuckwriteall BYTES`, and `part SIZE BYTES`, which reads into
 /// so many bytes.
 fn std_call(alloc: Global, what: &str, words: &mut Words) -> Result<String, CaseError> {
-    if what == "stuckread" {
-        let mut source = FromRead::new(Stuck);
-        let answered = Source::read(&mut source, &mut [0; 4]);
-        return called(alloc, answered, source.failures());
-    }
-    let mut sink = ToWrite::new(Stuck);
     match what {
-        "stuckwrite" => {
-            let bytes = bytes::bytes(alloc, words.word()?)?;
-            let answered = Sink::write(&mut sink, &bytes);
-            called(alloc, answered, sink.failures())
+        "stuckread" => {
+            let mut source = FromRead::new(Stuck);
+            let answered = Source::read(&mut source, &mut [0; 4]);
+            called(alloc, answered, source.failures())
         }
-        "stuckwriteall" => {
-            let bytes = bytes::bytes(alloc, words.word()?)?;
-            let answered = write_all(&mut sink, &bytes).map(|()| bytes.len());
-            called(alloc, answered, sink.failures())
-        }
-        "part" => {
-            let mut buffer = vec![in alloc; 0; usize::from(words.small()?)]?;
-            let bytes = bytes::bytes(alloc, words.word()?)?;
-            let mut source = FromRead::new(bytes.as_slice());
-            let answered = Source::read(&mut source, &mut buffer);
-            let mut text = called(alloc, answered, source.failures())?;
-            text.push_str(" ")?;
-            text.push_str(&bytes::text(alloc, &buffer)?)?;
-            Ok(text)
-        }
-        _ => Err(CaseError::Unreadable),
+        "part" => read_part(alloc, words),
+        _ => write_stuck(alloc, what, &bytes::bytes(alloc, words.word())?),
     }
 }
 
 /// `read CALL FILE` or `write CALL FILE`: the call of that number fails, from 0; or a call of a device of std.
-pub(crate) fn answer(alloc: Global, inputs: &str) -> Result<String, CaseError> {
-    let mut words = Words::of(inputs);
-    let what = words.word()?;
+pub(crate) fn answer(alloc: Global, words: &mut Words) -> Result<String, CaseError> {
+    let what = words.word();
     match what {
         "read" | "write" => {
-            let fails_at = words.hex()?;
-            let file = bytes::bytes(alloc, words.word()?)?;
+            let fails_at = words.hex();
+            let file = bytes::bytes(alloc, words.word())?;
             if what == "read" {
                 read_slowly(alloc, &file, fails_at)
             } else {
                 write_narrowly(alloc, &image_of(alloc, &file)?, fails_at)
             }
         }
-        _ => std_call(alloc, what, &mut words),
+        _ => std_call(alloc, what, words),
     }
 }

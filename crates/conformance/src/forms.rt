@@ -1,18 +1,20 @@
 //! The forms of capabilities that there are, and machines that work with each.
 
 use crate::case::CaseError;
-use crate::programs::{Outcome, Timetable};
-use crate::sessions::{Said, conversed};
+use crate::failing::Narrow;
+use crate::programs::{Outcome, Timetable, text_of};
+use crate::sessions::Errand;
+use assembler::assemble;
 use cap_bounds::PlainCap;
 use debugger::Session;
-use image::{Image, ToWrite};
+use image::{DeviceFailed, Image, Sink};
 use machine::{End, Machine};
 use sim_run::run_scheduled;
 use std::alloc::Global;
 use word_cap::WordCap;
 
 /// A form of capabilities.
-#[derive(Clone, Copy, Debug)]
+#[derive(Clone, Copy)]
 pub(crate) enum Form {
     /// Records with decoded bounds.
     Records,
@@ -30,27 +32,36 @@ fn machine_of_words(alloc: Global, image: &Image) -> Result<Machine<WordCap>, Ca
     Machine::new(alloc, image).map_err(|_| CaseError::Memory)
 }
 
-/// What a machine sends on a schedule, and its end. A macro, since the size of a machine is known for each form alone.
+/// What a machine sends on a schedule, if it runs on one, and its end. A macro, since the size of a machine is known for each form alone.
 macro_rules! on_schedule {
     ($alloc:expr, $machine:expr, $timetable:expr) => {{
         let machine = $machine;
-        let timetable: Timetable = $timetable;
+        let mut sent = Vec::new($alloc);
+        let Some(timetable) = $timetable else {
+            return Ok(Outcome {
+                sent,
+                end: End::Running,
+                cut: None,
+            });
+        };
         if !timetable.schedule.is_in_range() || machine.halted().is_some() {
             return Err(CaseError::Unreadable);
         }
-        let mut sent = Vec::new($alloc);
-        let mut sink = ToWrite::new(&mut sent);
-        match run_scheduled(machine, timetable.schedule, timetable.keys, &mut sink) {
-            Ok(end) => Ok(Outcome { sent, end }),
-            Err(_) => Err(CaseError::Memory),
-        }
+        let mut sink = Narrow::new(&mut sent, 1, timetable.fails_at);
+        let ended = run_scheduled(machine, timetable.schedule, timetable.keys, &mut sink);
+        let failures = sink.failures();
+        let (end, cut) = match ended {
+            Ok(end) => (end, None),
+            Err(DeviceFailed) => (End::Running, Some(failures)),
+        };
+        Ok(Outcome { sent, end, cut })
     }};
 }
 
 fn records_on_schedule(
     alloc: Global,
     machine: &mut Machine<PlainCap>,
-    timetable: Timetable,
+    timetable: Option<Timetable>,
 ) -> Result<Outcome, CaseError> {
     on_schedule!(alloc, machine, timetable)
 }
@@ -58,7 +69,7 @@ fn records_on_schedule(
 fn words_on_schedule(
     alloc: Global,
     machine: &mut Machine<WordCap>,
-    timetable: Timetable,
+    timetable: Option<Timetable>,
 ) -> Result<Outcome, CaseError> {
     on_schedule!(alloc, machine, timetable)
 }
@@ -72,31 +83,12 @@ impl Form {
         }
     }
 
-    /// What is told to the queries among the deeds of a case over an image's program.
+    /// What is told to the queries among the deeds of a case over an image's program, behind a run on a schedule if there is one.
     pub(crate) fn run(
         self,
         alloc: Global,
         image: &Image,
-        deeds: &str,
-    ) -> Result<String, CaseError> {
-        let mut outcome = Outcome {
-            sent: Vec::new(alloc),
-            end: End::Running,
-        };
-        match self {
-            Form::Records => {
-                outcome.answers(alloc, &mut machine_of_records(alloc, image)?, deeds)
-            }
-            Form::Words => outcome.answers(alloc, &mut machine_of_words(alloc, image)?, deeds),
-        }
-    }
-
-    /// The same behind a run on a schedule.
-    pub(crate) fn run_scheduled(
-        self,
-        alloc: Global,
-        image: &Image,
-        timetable: Timetable,
+        timetable: Option<Timetable>,
         deeds: &str,
     ) -> Result<String, CaseError> {
         match self {
@@ -113,22 +105,31 @@ impl Form {
         }
     }
 
-    /// What a session with the machine of an image answers to what is typed.
-    pub(crate) fn talk(
-        self,
-        alloc: Global,
-        image: &Image,
-        typed: &[u8],
-    ) -> Result<Said, CaseError> {
+    /// What comes of what is asked of a session with the machine of an image.
+    fn ask(self, alloc: Global, image: &Image, errand: Errand) -> Result<String, CaseError> {
         match self {
             Form::Records => {
                 let machine = machine_of_records(alloc, image)?;
-                conversed(alloc, &mut Session::new(alloc, machine), typed)
+                errand.done(alloc, &mut Session::new(alloc, machine))
             }
             Form::Words => {
                 let machine = machine_of_words(alloc, image)?;
-                conversed(alloc, &mut Session::new(alloc, machine), typed)
+                errand.done(alloc, &mut Session::new(alloc, machine))
             }
+        }
+    }
+
+    /// The same of the machine of a program, by its statements, which are parted by `; `.
+    pub(crate) fn ask_program(
+        self,
+        alloc: Global,
+        statements: &str,
+        errand: Errand,
+    ) -> Result<String, CaseError> {
+        let text = text_of(alloc, "", statements)?;
+        match assemble(alloc, text.as_bytes()) {
+            Ok(assembly) => self.ask(alloc, assembly.image(), errand),
+            Err(_) => Err(CaseError::Unreadable),
         }
     }
 }

@@ -4,7 +4,7 @@ use crate::bytes;
 use crate::case::CaseError;
 use crate::numbers::Words;
 use crate::text::name;
-use image::{FromRead, Image, ImageFault, ToWrite, read, write};
+use image::{FromRead, Image, ImageFault, Section, ToWrite, read, write};
 use std::alloc::Global;
 
 /// The fault's name.
@@ -24,6 +24,13 @@ pub(crate) fn fault_name(fault: ImageFault) -> &'static str {
     }
 }
 
+/// Puts a section behind a text: its address and its bytes.
+fn put_section(alloc: Global, text: &mut String, section: &Section) -> Result<(), CaseError> {
+    let address = section.address();
+    let contents = bytes::text(alloc, section.bytes())?;
+    Ok(write!(text, " {address:x}:{contents}")?)
+}
+
 /// The pages, entry and mode of an image, and its sections by address and bytes.
 pub(crate) fn image_text(alloc: Global, image: &Image) -> Result<String, CaseError> {
     let pages = image.pages();
@@ -31,9 +38,7 @@ pub(crate) fn image_text(alloc: Global, image: &Image) -> Result<String, CaseErr
     let mode = u8::from(image.mode());
     let mut text = format!(in alloc; "{pages:x} {entry:x} {mode}")?;
     for section in image.sections() {
-        let address = section.address();
-        let contents = bytes::text(alloc, section.bytes())?;
-        text.push_str(&format!(in alloc; " {address:x}:{contents}")?)?;
+        put_section(alloc, &mut text, section)?;
     }
     Ok(text)
 }
@@ -47,46 +52,68 @@ fn file_text(alloc: Global, image: &Image) -> Result<String, CaseError> {
     }
 }
 
-/// The sections that the words are, each `ADDRESS:BYTES`.
+/// The section that a word is, `ADDRESS:BYTES`.
+fn section(alloc: Global, word: &str) -> Result<(u64, Vec<u8>), CaseError> {
+    let (address, contents) = word.split_once(':').ok_or(CaseError::Unreadable)?;
+    let address = u64::from_str_radix(address, 16).map_err(|_| CaseError::Unreadable)?;
+    Ok((address, bytes::bytes(alloc, contents)?))
+}
+
+/// The sections that the words are.
 fn sections(alloc: Global, words: Words) -> Result<Vec<(u64, Vec<u8>)>, CaseError> {
     let mut all = Vec::new(alloc);
     for word in words.rest() {
-        let (address, contents) = word.split_once(':').ok_or(CaseError::Unreadable)?;
-        let address = u64::from_str_radix(address, 16).map_err(|_| CaseError::Unreadable)?;
-        all.push((address, bytes::bytes(alloc, contents)?))?;
+        all.push(section(alloc, word)?)?;
     }
     Ok(all)
 }
 
-/// The image of pages, entry, mode and sections.
-fn built(alloc: Global, mut words: Words) -> Result<Result<Image, ImageFault>, CaseError> {
-    let pages = words.hex32()?;
-    let entry = words.hex()?;
-    let mode = words.hex32()?;
-    let held = sections(alloc, words)?;
+/// The same, lent.
+fn lent<'a>(alloc: Global, held: &'a [(u64, Vec<u8>)]) -> Result<Vec<(u64, &'a [u8])>, CaseError> {
     let mut lent = Vec::with_capacity(alloc, held.len())?;
-    for (address, contents) in held.iter() {
+    for (address, contents) in held {
         lent.push((*address, contents.as_slice()))?;
     }
-    Ok(Image::build(alloc, pages, entry, mode, &lent))
+    Ok(lent)
+}
+
+/// The image of pages, entry, mode and sections.
+fn built(alloc: Global, mut words: Words) -> Result<Result<Image, ImageFault>, CaseError> {
+    let pages = words.hex32();
+    let entry = words.hex();
+    let mode = words.hex32();
+    words.check()?;
+    let held = sections(alloc, words)?;
+    Ok(Image::build(alloc, pages, entry, mode, &lent(alloc, &held)?))
+}
+
+/// An image, or the bytes that it is written to; or the fault's name.
+fn told(
+    alloc: Global,
+    is_image: bool,
+    made: &Result<Image, ImageFault>,
+) -> Result<String, CaseError> {
+    match made {
+        Err(fault) => name(alloc, fault_name(*fault)),
+        Ok(image) if is_image => image_text(alloc, image),
+        Ok(image) => file_text(alloc, image),
+    }
 }
 
 /// `read FILE` or `copy FILE`, or `build` or `file` and pages, entry, mode and sections. `read` and `build` are answered by the image,
 /// `copy` and `file` by the bytes that it is written to; each by the name of a fault where there is no image.
 pub(crate) fn answer(alloc: Global, inputs: &str) -> Result<String, CaseError> {
     let mut words = Words::of(inputs);
-    let asked = words.word()?;
-    let made = match asked {
+    let asked = words.word();
+    match asked {
         "read" | "copy" => {
-            let file = bytes::bytes(alloc, words.word()?)?;
-            read(alloc, &mut FromRead::new(file.as_slice()))
+            let word = words.word();
+            words.check()?;
+            let file = bytes::bytes(alloc, word)?;
+            let made = read(alloc, &mut FromRead::new(file.as_slice()));
+            told(alloc, asked == "read", &made)
         }
-        "build" | "file" => built(alloc, words)?,
-        _ => return Err(CaseError::Unreadable),
-    };
-    match made {
-        Err(fault) => name(alloc, fault_name(fault)),
-        Ok(image) if asked == "read" || asked == "build" => image_text(alloc, &image),
-        Ok(image) => file_text(alloc, &image),
+        "build" | "file" => told(alloc, asked == "build", &built(alloc, words)?),
+        _ => Err(CaseError::Unreadable),
     }
 }

@@ -8,11 +8,10 @@ use isa_rows::Kind;
 use std::alloc::Global;
 
 /// A mnemonic, rs1's number, and rs2's or the immediate; answered by the result, of a branch by 1 where it is taken.
-pub(crate) fn answer(alloc: Global, inputs: &str) -> Result<String, CaseError> {
-    let mut words = Words::of(inputs);
-    let row = row(&mut words)?;
-    let a = words.hex()?;
-    let b = words.hex()?;
+pub(crate) fn answer(alloc: Global, words: &mut Words) -> Result<String, CaseError> {
+    let row = row(words)?;
+    let a = words.hex();
+    let b = words.hex();
     let result = match row.kind() {
         Kind::Integer => int_op(row, a, b),
         Kind::Branch => u64::from(branch_taken(row, a, b)),

@@ -35,6 +35,14 @@ fn put_fault(text: &mut String, fault: Option<LineFault>) -> Result<(), AllocErr
     }
 }
 
+/// Puts an expression, or its fault, behind a text.
+fn put_result(text: &mut String, read: Result<Expression, LineFault>) -> Result<(), AllocError> {
+    match read {
+        Ok(value) => put_expression(text, value),
+        Err(fault) => put_fault(text, Some(fault)),
+    }
+}
+
 /// Puts an instruction behind a text, with the address that it jumps to.
 fn put_insn(text: &mut String, insn: Insn, to: Option<Expression>) -> Result<(), AllocError> {
     let row = insn.row;
@@ -134,16 +142,14 @@ pub(crate) fn answer(alloc: Global, inputs: &str) -> Result<String, CaseError> {
     let (asked, rest) = inputs.split_once(' ').ok_or(CaseError::Unreadable)?;
     let (line, _) = unquoted(alloc, rest)?;
     let mut told = String::new(alloc);
-    match asked {
-        "statement" => put_meaning(&mut told, &line)?,
-        "fault" => put_fault(&mut told, parse_line(&line).fault)?,
-        "label" => put_name(&mut told, parse_line(&line).label)?,
-        "expression" => match expression(&line) {
-            Ok(value) => put_expression(&mut told, value)?,
-            Err(fault) => write!(told, "{fault:?}")?,
-        },
-        "piece" => put_pieces(&mut told, &line)?,
+    let written = match asked {
+        "statement" => put_meaning(&mut told, &line),
+        "fault" => put_fault(&mut told, parse_line(&line).fault),
+        "label" => put_name(&mut told, parse_line(&line).label),
+        "expression" => put_result(&mut told, expression(&line)),
+        "piece" => put_pieces(&mut told, &line),
         _ => return Err(CaseError::Unreadable),
-    }
+    };
+    written?;
     Ok(told)
 }

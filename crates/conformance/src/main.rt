@@ -36,6 +36,7 @@ mod sessions;
 mod shown;
 mod sizes;
 mod stretches;
+mod talks;
 mod telling;
 mod text;
 mod values;
@@ -45,14 +46,15 @@ mod words;
 use cap_bounds::{CapRep, PlainCap};
 use case::{Case, CaseError};
 use forms::Form;
+use numbers::Words;
 use std::alloc::Global;
 use std::io::Read;
 use std::process::ExitCode;
 use std::{fs, io};
 use word_cap::WordCap;
 
-/// A file of cases.
-#[derive(Clone, Copy, Debug)]
+/// What the cases of a file try.
+#[derive(Clone, Copy)]
 enum Table {
     Words,
     Parts,
@@ -64,9 +66,7 @@ enum Table {
     Accesses,
     Jumps,
     Invocations,
-    Csrs,
-    Special,
-    Traps,
+    Registers,
     Devices,
     Memory,
     Integers,
@@ -75,7 +75,6 @@ enum Table {
     Failures,
     Programs,
     Assembled,
-    Faults,
     Assemblies,
     ImageFiles,
     Lines,
@@ -83,93 +82,56 @@ enum Table {
     Shown,
     Digits,
     Sessions,
-    Runs,
+    Talks,
     Plans,
     Listings,
 }
 
-/// The files in the order in which they are tried.
-const TABLES: [Table; 32] = [
-    Table::Words,
-    Table::Parts,
-    Table::Windows,
-    Table::Requests,
-    Table::Agreements,
-    Table::Rights,
-    Table::CapabilityRows,
-    Table::Accesses,
-    Table::Jumps,
-    Table::Invocations,
-    Table::Csrs,
-    Table::Special,
-    Table::Traps,
-    Table::Devices,
-    Table::Memory,
-    Table::Integers,
-    Table::Encodings,
-    Table::Images,
-    Table::Failures,
-    Table::Programs,
-    Table::Assembled,
-    Table::Faults,
-    Table::Assemblies,
-    Table::ImageFiles,
-    Table::Lines,
-    Table::Names,
-    Table::Shown,
-    Table::Digits,
-    Table::Sessions,
-    Table::Runs,
-    Table::Plans,
-    Table::Listings,
+/// The files by name, without their endings, in the order in which they are tried.
+const FILES: [(&str, Table); 33] = [
+    ("words", Table::Words),
+    ("parts", Table::Parts),
+    ("windows", Table::Windows),
+    ("requests", Table::Requests),
+    ("agreements", Table::Agreements),
+    ("rights", Table::Rights),
+    ("capability_rows", Table::CapabilityRows),
+    ("accesses", Table::Accesses),
+    ("jumps", Table::Jumps),
+    ("invocations", Table::Invocations),
+    ("csrs", Table::Registers),
+    ("special", Table::Registers),
+    ("traps", Table::Registers),
+    ("devices", Table::Devices),
+    ("memory", Table::Memory),
+    ("integers", Table::Integers),
+    ("encodings", Table::Encodings),
+    ("images", Table::Images),
+    ("failures", Table::Failures),
+    ("programs", Table::Programs),
+    ("assembled", Table::Assembled),
+    ("faults", Table::Assembled),
+    ("assemblies", Table::Assemblies),
+    ("image_files", Table::ImageFiles),
+    ("lines", Table::Lines),
+    ("names", Table::Names),
+    ("shown", Table::Shown),
+    ("digits", Table::Digits),
+    ("sessions", Table::Sessions),
+    ("talks", Table::Talks),
+    ("runs", Table::Programs),
+    ("plans", Table::Plans),
+    ("listings", Table::Listings),
 ];
 
 impl Table {
-    /// The file's name, without its ending.
-    fn name(self) -> &'static str {
-        match self {
-            Table::Words => "words",
-            Table::Parts => "parts",
-            Table::Windows => "windows",
-            Table::Requests => "requests",
-            Table::Agreements => "agreements",
-            Table::Rights => "rights",
-            Table::CapabilityRows => "capability_rows",
-            Table::Accesses => "accesses",
-            Table::Jumps => "jumps",
-            Table::Invocations => "invocations",
-            Table::Csrs => "csrs",
-            Table::Special => "special",
-            Table::Traps => "traps",
-            Table::Devices => "devices",
-            Table::Memory => "memory",
-            Table::Integers => "integers",
-            Table::Encodings => "encodings",
-            Table::Images => "images",
-            Table::Failures => "failures",
-            Table::Programs => "programs",
-            Table::Assembled => "assembled",
-            Table::Faults => "faults",
-            Table::Assemblies => "assemblies",
-            Table::ImageFiles => "image_files",
-            Table::Lines => "lines",
-            Table::Names => "names",
-            Table::Shown => "shown",
-            Table::Digits => "digits",
-            Table::Sessions => "sessions",
-            Table::Runs => "runs",
-            Table::Plans => "plans",
-            Table::Listings => "listings",
-        }
-    }
-
     /// Whether its cases are tried with every form of capabilities.
     fn is_over_capabilities(self) -> bool {
         match self {
             Table::Devices | Table::Memory | Table::Integers | Table::Encodings | Table::Images => {
                 false
             }
-            Table::Failures | Table::Assembled | Table::Faults | Table::Assemblies => false,
+            Table::Failures | Table::Assembled | Table::Assemblies => false,
             Table::ImageFiles | Table::Lines | Table::Names | Table::Shown => false,
             Table::Digits | Table::Plans | Table::Listings | Table::Parts => false,
             _ => true,
@@ -183,29 +145,40 @@ impl Table {
         form: Form,
         inputs: &str,
     ) -> Result<String, CaseError> {
+        let mut words = Words::of(inputs);
+        let told = self.told::<C>(alloc, form, inputs, &mut words)?;
+        words.check()?;
+        Ok(told)
+    }
+
+    /// The same, with the words of the inputs for those readers that take words.
+    fn told<C: CapRep>(
+        self,
+        alloc: Global,
+        form: Form,
+        inputs: &str,
+        read: &mut Words,
+    ) -> Result<String, CaseError> {
         match self {
-            Table::Words => words::answer::<C>(alloc, inputs),
-            Table::Parts => parts::answer(alloc, inputs),
-            Table::Windows => windows::answer::<C>(alloc, inputs),
-            Table::Requests => requests::answer::<C>(alloc, inputs),
-            Table::Agreements => agreements::answer::<C>(alloc, inputs),
-            Table::Rights => rights::answer::<C>(alloc, inputs),
-            Table::CapabilityRows => capability_rows::answer::<C>(alloc, inputs),
-            Table::Accesses => checks::access::<C>(alloc, inputs),
-            Table::Jumps => checks::jump::<C>(alloc, inputs),
-            Table::Invocations => checks::invocation::<C>(alloc, inputs),
-            Table::Csrs => register_script::answer::<C>(alloc, inputs),
-            Table::Special => register_script::answer::<C>(alloc, inputs),
-            Table::Traps => register_script::answer::<C>(alloc, inputs),
+            Table::Words => words::answer::<C>(alloc, read),
+            Table::Parts => parts::answer(alloc, read),
+            Table::Windows => windows::answer::<C>(alloc, read),
+            Table::Requests => requests::answer::<C>(alloc, read),
+            Table::Agreements => agreements::answer::<C>(alloc, read),
+            Table::Rights => rights::answer::<C>(alloc, read),
+            Table::CapabilityRows => capability_rows::answer::<C>(alloc, read),
+            Table::Accesses => checks::access::<C>(alloc, read),
+            Table::Jumps => checks::jump::<C>(alloc, read),
+            Table::Invocations => checks::invocation::<C>(alloc, read),
+            Table::Registers => register_script::answer::<C>(alloc, inputs),
             Table::Devices => device_script::answer(alloc, inputs),
             Table::Memory => memory_script::answer(alloc, inputs),
-            Table::Integers => integers::answer(alloc, inputs),
-            Table::Encodings => encodings::answer(alloc, inputs),
+            Table::Integers => integers::answer(alloc, read),
+            Table::Encodings => encodings::answer(alloc, read),
             Table::Images => images::answer(alloc, inputs),
-            Table::Failures => failures::answer(alloc, inputs),
+            Table::Failures => failures::answer(alloc, read),
             Table::Programs => programs::answer(alloc, form, inputs),
             Table::Assembled => assemblies::words(alloc, inputs),
-            Table::Faults => assemblies::words(alloc, inputs),
             Table::Assemblies => assemblies::parts(alloc, inputs),
             Table::ImageFiles => assemblies::image_file(alloc, inputs),
             Table::Lines => lines::answer(alloc, inputs),
@@ -213,7 +186,7 @@ impl Table {
             Table::Shown => shown::word(alloc, inputs),
             Table::Digits => shown::digits(alloc, inputs),
             Table::Sessions => sessions::answer(alloc, form, inputs),
-            Table::Runs => programs::answer(alloc, form, inputs),
+            Table::Talks => talks::answer(alloc, form, inputs),
             Table::Plans => plans::answer(alloc, inputs),
             Table::Listings => plans::listing(alloc, inputs),
         }
@@ -221,21 +194,21 @@ impl Table {
 }
 
 /// What a file's cases came to.
-#[derive(Clone, Copy, Debug)]
+#[derive(Clone, Copy)]
 struct Tally {
     cases: u64,
     failed: u64,
 }
 
 /// Tells of a case that failed: its file and line, the form of capabilities, what was expected and what came.
-fn tell(rt: &HostRuntime, table: Table, case: &Case, form: Form, came: &str) -> io::Result<()> {
-    let name = table.name();
+fn tell(rt: &HostRuntime, case: &Case, form: Form, came: &str) -> io::Result<()> {
+    let file = case.file;
     let form = form.name();
     let line = case.line;
     let inputs = case.inputs.lines().next().unwrap_or("");
     let expected = case.expected;
     println!(rt;
-        "{name}.txt, line {line} ({form}): {inputs}\n  expected {expected}\n  came     {came}"
+        "{file}.txt, line {line} ({form}): {inputs}\n  expected {expected}\n  came     {came}"
     )
 }
 
@@ -244,11 +217,11 @@ fn holds<C: CapRep>(rt: &HostRuntime, table: Table, case: &Case, form: Form) -> 
     match table.answer::<C>(rt.alloc(), form, case.inputs) {
         Ok(came) if came.as_str() == case.expected => Ok(true),
         Ok(came) => {
-            tell(rt, table, case, form, &came)?;
+            tell(rt, case, form, &came)?;
             Ok(false)
         }
         Err(error) => {
-            tell(rt, table, case, form, error.text())?;
+            tell(rt, case, form, error.text())?;
             Ok(false)
         }
     }
@@ -267,7 +240,7 @@ fn count(rt: &HostRuntime, table: Table, case: &Case, tally: Tally) -> io::Resul
 }
 
 /// Tries the lines of a file.
-fn try_lines(rt: &HostRuntime, table: Table, text: &str) -> io::Result<Tally> {
+fn try_lines(rt: &HostRuntime, file: &str, table: Table, text: &str) -> io::Result<Tally> {
     let mut tally = Tally {
         cases: 0,
         failed: 0,
@@ -275,7 +248,7 @@ fn try_lines(rt: &HostRuntime, table: Table, text: &str) -> io::Result<Tally> {
     let mut number: u64 = 0;
     for line in text.lines() {
         number = number.wrapping_add(1);
-        if let Some(case) = Case::of(number, line) {
+        if let Some(case) = Case::of(file, number, line) {
             tally = count(rt, table, &case, tally)?;
         }
     }
@@ -283,7 +256,7 @@ fn try_lines(rt: &HostRuntime, table: Table, text: &str) -> io::Result<Tally> {
 }
 
 /// Tries the blocks of a file, which empty lines part: each that has a program is a case.
-fn try_blocks(rt: &HostRuntime, table: Table, text: &str) -> io::Result<Tally> {
+fn try_blocks(rt: &HostRuntime, file: &str, table: Table, text: &str) -> io::Result<Tally> {
     let mut tally = Tally {
         cases: 0,
         failed: 0,
@@ -291,7 +264,7 @@ fn try_blocks(rt: &HostRuntime, table: Table, text: &str) -> io::Result<Tally> {
     let mut number: u64 = 1;
     for block in text.split("\n\n") {
         if block.contains("\n@") {
-            tally = count(rt, table, &Case::block(number, block), tally)?;
+            tally = count(rt, table, &Case::block(file, number, block), tally)?;
         }
         let lines = block.split('\n').count() as u64;
         number = number.wrapping_add(lines).wrapping_add(1);
@@ -300,24 +273,23 @@ fn try_blocks(rt: &HostRuntime, table: Table, text: &str) -> io::Result<Tally> {
 }
 
 /// Tries a file, and prints how many cases it has.
-fn try_file(rt: &HostRuntime, table: Table) -> io::Result<Tally> {
-    let name = table.name();
-    let path = format!(in rt.alloc(); "{name}.txt")?;
+fn try_file(rt: &HostRuntime, file: &str, table: Table) -> io::Result<Tally> {
+    let path = format!(in rt.alloc(); "{file}.txt")?;
     let mut text = String::new(rt.alloc());
     fs::open(rt, &path)?.read_to_string(&mut text)?;
     let tally = match table {
-        Table::Sessions => try_blocks(rt, table, &text)?,
-        _ => try_lines(rt, table, &text)?,
+        Table::Sessions => try_blocks(rt, file, table, &text)?,
+        _ => try_lines(rt, file, table, &text)?,
     };
     let cases = tally.cases;
-    println!(rt; "{name}: {cases} cases")?;
+    println!(rt; "{file}: {cases} cases")?;
     Ok(tally)
 }
 
 fn main(rt: HostRuntime) -> io::Result<ExitCode> {
     let mut status = ExitCode::SUCCESS;
-    for table in TABLES {
-        let tally = try_file(&rt, table)?;
+    for (file, table) in FILES {
+        let tally = try_file(&rt, file, table)?;
         if tally.failed != 0 || tally.cases == 0 {
             status = ExitCode::FAILURE;
         }

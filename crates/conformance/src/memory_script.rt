@@ -6,7 +6,7 @@ use crate::numbers::Words;
 use crate::script::{Called, answers};
 use crate::sizes::size;
 use crate::text::{hex, name};
-use crate::values::high_half;
+use crate::values::{cap_word, high_half};
 use cap_format::CapWord;
 use std::alloc::Global;
 use tagged_memory::{Memory, MemoryFault};
@@ -71,33 +71,33 @@ impl Called for Memory {
     ) -> Result<String, CaseError> {
         match called {
             "read" => {
-                let size = size(words)?;
-                match self.read(words.hex()?, size) {
+                let size = size(words);
+                match self.read(words.hex(), size) {
                     Ok(number) => hex(alloc, number),
                     Err(fault) => fault_name(alloc, fault),
                 }
             }
             "write" => {
-                let size = size(words)?;
-                let address = words.hex()?;
-                done(alloc, self.write(address, size, words.hex()?))
+                let size = size(words);
+                let address = words.hex();
+                let value = words.hex();
+                done(alloc, self.write(address, size, value))
             }
-            "readc" => word_text(alloc, self.read_cap(words.hex()?)),
+            "readc" => word_text(alloc, self.read_cap(words.hex())),
             "writec" => {
-                let address = words.hex()?;
-                let high = words.hex()?;
-                let low = words.hex()?;
-                let word = CapWord::from_logical(u128::from(high) << 64 | u128::from(low));
-                done(alloc, self.write_cap(address, word, words.bit()?))
+                let address = words.hex();
+                let word = cap_word(words);
+                done(alloc, self.write_cap(address, word, words.bit()))
             }
             "fill" => {
-                let address = words.hex()?;
-                let contents = bytes(alloc, words.word()?)?;
+                let address = words.hex();
+                let contents = bytes(alloc, words.word())?;
                 done(alloc, self.fill(address, &contents))
             }
             "tagged" => {
-                let from = words.hex()?;
-                tagged_text(alloc, self, from, words.hex()?)
+                let from = words.hex();
+                let to = words.hex();
+                tagged_text(alloc, self, from, to)
             }
             _ => Err(CaseError::Unreadable),
         }
@@ -110,7 +110,9 @@ pub(crate) fn answer(alloc: Global, inputs: &str) -> Result<String, CaseError> {
         Some((pages, script)) => (pages, Some(script)),
         None => (inputs, None),
     };
-    let pages = Words::of(pages).hex32()?;
+    let mut words = Words::of(pages);
+    let pages = words.hex32();
+    words.check()?;
     match (Memory::new(alloc, pages), script) {
         (Ok(mut memory), Some(script)) => answers(alloc, &mut memory, script),
         (Ok(memory), None) => hex(alloc, u64::from(memory.pages())),

@@ -29,29 +29,36 @@ fn put_row(text: &mut String, name: &[u8]) -> Result<(), AllocError> {
     }
 }
 
+/// Puts what a row is written with behind a text, or `-` where the text names none.
+fn put_slots(text: &mut String, name: &[u8]) -> Result<(), AllocError> {
+    match row_named(name) {
+        Some(row) => {
+            let slots = slots_of(row);
+            write!(text, "{slots:?}")
+        }
+        None => text.push('-'),
+    }
+}
+
 /// What a text names: a register, a row, or what a row is written with.
 fn put_named(text: &mut String, asked: &str, name: &[u8]) -> Result<(), CaseError> {
-    match asked {
-        "register" => put_number(text, register_named(name).map(u16::from))?,
-        "csr" => put_number(text, csr_named(name))?,
-        "scr" => put_number(text, scr_named(name).map(u16::from))?,
-        "row" => put_row(text, name)?,
-        "slots" => {
-            let row = row_named(name).ok_or(CaseError::Unreadable)?;
-            let slots = slots_of(row);
-            write!(text, "{slots:?}")?;
-        }
+    let written = match asked {
+        "register" => put_number(text, register_named(name).map(u16::from)),
+        "csr" => put_number(text, csr_named(name)),
+        "scr" => put_number(text, scr_named(name).map(u16::from)),
+        "row" => put_row(text, name),
+        "slots" => put_slots(text, name),
         _ => return Err(CaseError::Unreadable),
-    }
-    Ok(())
+    };
+    Ok(written?)
 }
 
 /// The name of a number: of a register in a mode, or of a special one.
 fn name_of(words: &mut Words) -> Result<Option<&'static str>, CaseError> {
-    let asked = words.word()?;
-    let number = words.decimal()?;
+    let asked = words.word();
+    let number = words.decimal();
     match asked {
-        "register_name" if number < 32 => Ok(Some(register_name(number as u8, words.bit()?))),
+        "register_name" if number < 32 => Ok(Some(register_name(number as u8, words.bit()))),
         "csr_name" if number < 4096 => Ok(csr_name(number as u16)),
         "scr_name" if number < 32 => Ok(scr_name(number as u8)),
         _ => Err(CaseError::Unreadable),
@@ -67,7 +74,9 @@ pub(crate) fn answer(alloc: Global, inputs: &str) -> Result<String, CaseError> {
         let (name, _) = unquoted(alloc, rest)?;
         put_named(&mut told, asked, &name)?;
     } else {
-        told.push_str(name_of(&mut Words::of(inputs))?.unwrap_or("-"))?;
+        let mut words = Words::of(inputs);
+        told.push_str(name_of(&mut words)?.unwrap_or("-"))?;
+        words.check()?;
     }
     Ok(told)
 }

@@ -2,17 +2,14 @@
 
 use crate::case::CaseError;
 use crate::numbers::Words;
-use cap_format::CapWord;
+use crate::values::cap_word;
 use std::alloc::Global;
 use word_cap::parts;
 
 /// A word's high half and its address; answered by the exponent, the mantissas B and T, the edge, the corrections of base and top,
 /// and whether bit 64 of the top is inverted.
-pub(crate) fn answer(alloc: Global, inputs: &str) -> Result<String, CaseError> {
-    let mut words = Words::of(inputs);
-    let high = words.hex()?;
-    let address = words.hex()?;
-    let parts = parts(CapWord::from_logical(u128::from(high) << 64 | u128::from(address)));
+pub(crate) fn answer(alloc: Global, words: &mut Words) -> Result<String, CaseError> {
+    let parts = parts(cap_word(words));
     let e = parts.e;
     let b = parts.b;
     let t = parts.t;

@@ -8,37 +8,42 @@ use crate::stretches::put_next_ends;
 use crate::telling::put_bytes;
 use assembler::assemble;
 use cap_bounds::CapRep;
+use image::Image;
 use machine::{End, Event, Machine};
 use sim_run::{Schedule, verdict};
 use std::alloc::{AllocError, Global};
 
-/// What a machine has sent in the middle of a case, and how it stood behind the last run of events.
+/// What a machine has sent in the middle of a case, how it stood behind the last run of events, and how often what it sends to has
+/// failed where that cut the run.
 #[derive(Drop)]
 pub(crate) struct Outcome {
     pub sent: Vec<u8>,
     pub end: End,
+    pub cut: Option<u64>,
 }
 
-/// A run on a schedule, and the bytes that come.
-#[derive(Clone, Copy, Debug)]
+/// A run on a schedule, the bytes that come, and at which byte that is sent the sink fails.
+#[derive(Clone, Copy)]
 pub(crate) struct Timetable<'a> {
     pub schedule: Schedule,
     pub keys: &'a [u8],
+    pub fails_at: u64,
 }
 
-/// The timetable of words: steps, gap, tick, and the bytes that come, or `-`.
+/// The timetable of words: steps, gap, tick, the bytes that come, or `-`, and the number of the byte that can't be sent, or nothing.
 fn timetable_of(words: &str) -> Result<Timetable<'_>, CaseError> {
     let mut words = Words::of(words);
-    let schedule = Schedule {
-        steps: words.decimal()?,
-        gap: words.decimal()?,
-        tick: words.decimal()?,
-    };
-    let keys = words.word()?;
+    let steps = words.decimal();
+    let gap = words.decimal();
+    let tick = words.decimal();
+    let keys = words.word();
     let keys = if keys == "-" { "" } else { keys };
+    let fails_at = words.call();
+    words.check()?;
     Ok(Timetable {
-        schedule,
+        schedule: Schedule { steps, gap, tick },
         keys: keys.as_bytes(),
+        fails_at,
     })
 }
 
@@ -92,14 +97,31 @@ impl Outcome {
         deed: &str,
     ) -> Result<bool, CaseError> {
         let mut words = Words::of(deed);
-        match words.word()? {
+        match words.word() {
             "step" => self.event(machine, Event::Step)?,
-            "steps" => self.run(alloc, machine, words.decimal()?)?,
             "tick" => self.event(machine, Event::Tick)?,
-            "byte" => self.event(machine, Event::Byte(words.byte()?))?,
+            "byte" => self.event(machine, Event::Byte(words.byte()))?,
+            "steps" => self.run(alloc, machine, words.decimal())?,
             _ => return Ok(false),
         }
+        words.check()?;
         Ok(true)
+    }
+
+    /// Puts the end of the last run behind a text, or `cut` and how often its sink has failed.
+    fn put_end(&self, text: &mut String) -> Result<(), AllocError> {
+        match (self.cut, self.end) {
+            (Some(failures), _) => write!(text, "cut {failures}"),
+            (None, End::Running) => text.push_str("running"),
+            (None, End::Halted(number)) => write!(text, "halted {number:x}"),
+        }
+    }
+
+    /// Puts the status and the line of the end of the last run behind a text.
+    fn put_verdict(&self, text: &mut String) -> Result<(), AllocError> {
+        let (status, line) = verdict(self.end);
+        let line = if line.is_empty() { "-" } else { line.as_str() };
+        write!(text, "{status} {line}")
     }
 
     /// Puts what a query tells behind a text.
@@ -109,21 +131,14 @@ impl Outcome {
         machine: &Machine<C>,
         query: &str,
     ) -> Result<(), CaseError> {
-        match query {
-            "sent" => put_bytes(text, &self.sent)?,
-            "ends" => put_next_ends(text, machine)?,
-            "end" => match self.end {
-                End::Running => text.push_str("running")?,
-                End::Halted(number) => write!(text, "halted {number:x}")?,
-            },
-            "verdict" => {
-                let (status, line) = verdict(self.end);
-                let line = if line.is_empty() { "-" } else { line.as_str() };
-                write!(text, "{status} {line}")?;
-            }
-            _ => put_seen(text, machine, query)?,
-        }
-        Ok(())
+        let written = match query {
+            "sent" => put_bytes(text, &self.sent),
+            "ends" => return put_next_ends(text, machine),
+            "end" => self.put_end(text),
+            "verdict" => self.put_verdict(text),
+            _ => return put_seen(text, machine, query),
+        };
+        Ok(written?)
     }
 
     /// What is told to the queries among deeds, which a machine meets in order.
@@ -149,26 +164,39 @@ impl Outcome {
     }
 }
 
+/// The text of a program in a mode.
+fn text_in_mode(alloc: Global, mode: &str, statements: &str) -> Result<String, AllocError> {
+    let mode = format!(in alloc; ".mode {mode}")?;
+    text_of(alloc, &mode, statements)
+}
+
+/// What is told to the queries among deeds over an image's program.
+fn ran(alloc: Global, form: Form, image: &Image, deeds: &str) -> Result<String, CaseError> {
+    let Some(deeds) = deeds.strip_prefix("scheduled ") else {
+        return form.run(alloc, image, None, deeds);
+    };
+    let (words, deeds) = deeds.split_once("; ").ok_or(CaseError::Unreadable)?;
+    form.run(alloc, image, Some(timetable_of(words)?), deeds)
+}
+
+/// The same over a program's text.
+fn ran_text(alloc: Global, form: Form, text: &str, deeds: &str) -> Result<String, CaseError> {
+    match assemble(alloc, text.as_bytes()) {
+        Ok(assembly) => ran(alloc, form, assembly.image(), deeds),
+        Err(_) => Err(CaseError::Unreadable),
+    }
+}
+
 /// The mode, ` | `, the program's statements, ` | `, and what is done and asked in order; statements and deeds are parted by `; `.
 ///
 /// A deed is an event, `step`, `tick` or `byte B`; a run, `steps N`; or a query, whose answers follow one another in the case's answer:
 /// `stretch LETTERS`, the events of a stretch and how it ends, `ends`, why a step would end one, `sent`, the bytes sent so far, `end`,
 /// the end of the last run, `verdict`, the status and the line of that end, or one of `put_seen`.
-/// The first deed may be a run on a schedule, `scheduled STEPS GAP TICK KEYS`.
+/// The first deed may be a run on a schedule, `scheduled STEPS GAP TICK KEYS`, and behind these the number of the byte that can't be
+/// sent, from 0.
 pub(crate) fn answer(alloc: Global, form: Form, inputs: &str) -> Result<String, CaseError> {
     let (mode, rest) = inputs.split_once(" | ").ok_or(CaseError::Unreadable)?;
     let (statements, deeds) = rest.split_once(" | ").ok_or(CaseError::Unreadable)?;
-    let mode = format!(in alloc; ".mode {mode}")?;
-    let text = text_of(alloc, &mode, statements)?;
-    let Ok(assembly) = assemble(alloc, text.as_bytes()) else {
-        return Err(CaseError::Unreadable);
-    };
-    let image = assembly.image();
-    match deeds.strip_prefix("scheduled ") {
-        Some(deeds) => {
-            let (words, deeds) = deeds.split_once("; ").ok_or(CaseError::Unreadable)?;
-            form.run_scheduled(alloc, image, timetable_of(words)?, deeds)
-        }
-        None => form.run(alloc, image, deeds),
-    }
+    let text = text_in_mode(alloc, mode, statements)?;
+    ran_text(alloc, form, &text, deeds)
 }

@@ -60,17 +60,17 @@ fn csrs_text(alloc: Global, csrs: Csrs) -> Result<String, CaseError> {
 }
 
 /// The control registers of the next eight words.
-fn csrs_of(words: &mut Words) -> Result<Csrs, CaseError> {
-    Ok(Csrs {
-        mstatus_mie: words.bit()?,
-        mstatus_mpie: words.bit()?,
-        mie: words.hex()?,
-        mscratch: words.hex()?,
-        mcause: words.hex()?,
-        mtval: words.hex()?,
-        mcycle: words.hex()?,
-        minstret: words.hex()?,
-    })
+fn csrs_of(words: &mut Words) -> Csrs {
+    Csrs {
+        mstatus_mie: words.bit(),
+        mstatus_mpie: words.bit(),
+        mie: words.hex(),
+        mscratch: words.hex(),
+        mcause: words.hex(),
+        mtval: words.hex(),
+        mcycle: words.hex(),
+        minstret: words.hex(),
+    }
 }
 
 /// The special registers from PCC to MEPCC, parted by `,`.
@@ -94,7 +94,7 @@ impl<C: CapRep> Registers<C> {
         words: &mut Words,
     ) -> Result<String, CaseError> {
         match called {
-            "set" => self.csrs = csrs_of(words)?,
+            "set" => self.csrs = csrs_of(words),
             "cycle" => self.csrs.count_cycle(),
             "instruction" => self.csrs.count_instruction(),
             "csrs" => return csrs_text(alloc, self.csrs),
@@ -110,21 +110,21 @@ impl<C: CapRep> Registers<C> {
         called: &str,
         words: &mut Words,
     ) -> Result<String, CaseError> {
-        let number = words.hex16()?;
+        let number = words.hex16();
         match called {
-            "check" => done(alloc, check_csr(&self.scrs, number, words.bit()?)),
+            "check" => done(alloc, check_csr(&self.scrs, number, words.bit())),
             "write" => {
-                let value = words.hex()?;
+                let value = words.hex();
                 done(
                     alloc,
                     write_csr(&mut self.csrs, &mut self.scrs, number, value),
                 )
             }
-            "read" => match read_csr(&self.csrs, &self.scrs, words.hex()?, number) {
+            "read" => match read_csr(&self.csrs, &self.scrs, words.hex(), number) {
                 Ok(value) => hex(alloc, value),
                 Err(fault) => fault_name(alloc, fault),
             },
-            "look" => match csr_value(&self.csrs, &self.scrs, words.hex()?, number) {
+            "look" => match csr_value(&self.csrs, &self.scrs, words.hex(), number) {
                 Some(value) => hex(alloc, value),
                 None => name(alloc, "none"),
             },
@@ -142,12 +142,12 @@ impl<C: CapRep> Registers<C> {
         if called == "scrs" {
             return scrs_text(alloc, &self.scrs);
         }
-        let number = words.small()?;
+        let number = words.small();
         match called {
-            "checkscr" => held(alloc, check_scr(&self.scrs, number, words.bit()?)),
+            "checkscr" => held(alloc, check_scr(&self.scrs, number, words.bit())),
             "get" => held(alloc, special_rw(&mut self.scrs, number, None)),
             "swap" => {
-                let new = value(words)?;
+                let new = value(words);
                 held(alloc, special_rw(&mut self.scrs, number, Some(new)))
             }
             _ => Err(CaseError::Unreadable),
@@ -163,11 +163,9 @@ impl<C: CapRep> Registers<C> {
     ) -> Result<String, CaseError> {
         match called {
             "trap" => {
-                let fault = Fault {
-                    mcause: words.hex()?,
-                    mtval: words.hex()?,
-                };
-                enter_trap(&mut self.scrs, &mut self.csrs, fault);
+                let mcause = words.hex();
+                let mtval = words.hex();
+                enter_trap(&mut self.scrs, &mut self.csrs, Fault { mcause, mtval });
                 name(alloc, "ok")
             }
             "returns" => match check_return(&self.scrs) {
@@ -175,8 +173,8 @@ impl<C: CapRep> Registers<C> {
                 Err(fault) => fault_name(alloc, fault),
             },
             "leave" => done(alloc, leave_trap(&mut self.scrs, &mut self.csrs)),
-            "target" => text(alloc, target(value::<C>(words)?)),
-            "pending" => match pending(&self.csrs, words.hex()?) {
+            "target" => text(alloc, target(value::<C>(words))),
+            "pending" => match pending(&self.csrs, words.hex()) {
                 Some(interrupt) => fault_text(alloc, interrupt.fault()),
                 None => name(alloc, "none"),
             },
@@ -206,9 +204,10 @@ impl<C: CapRep> Called for Registers<C> {
 pub(crate) fn answer<C: CapRep>(alloc: Global, inputs: &str) -> Result<String, CaseError> {
     let (begin, script) = inputs.split_once(';').ok_or(CaseError::Unreadable)?;
     let mut words = Words::of(begin);
-    let pcc = value::<C>(&mut words)?;
-    let root = value::<C>(&mut words)?;
-    let null = value::<C>(&mut words)?;
+    let pcc = value::<C>(&mut words);
+    let root = value::<C>(&mut words);
+    let null = value::<C>(&mut words);
+    words.check()?;
     if pcc.address() % 4 != 0 {
         return Err(CaseError::Unreadable);
     }

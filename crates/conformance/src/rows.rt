@@ -6,7 +6,7 @@ use isa_rows::{ROWS, Row};
 
 /// The row whose mnemonic is the next word.
 pub(crate) fn row(words: &mut Words) -> Result<Row, CaseError> {
-    let name = words.word()?;
+    let name = words.word();
     ROWS.iter()
         .find(|row| row.name() == name)
         .copied()

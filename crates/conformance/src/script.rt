@@ -10,6 +10,15 @@ pub(crate) trait Called {
     fn call(&mut self, alloc: Global, name: &str, words: &mut Words) -> Result<String, CaseError>;
 }
 
+/// The answer of one call.
+fn answer<T: Called>(alloc: Global, called: &mut T, call: &str) -> Result<String, CaseError> {
+    let mut words = Words::of(call);
+    let name = words.word();
+    let told = called.call(alloc, name, &mut words)?;
+    words.check()?;
+    Ok(told)
+}
+
 /// The answers of a script's calls.
 pub(crate) fn answers<T: Called>(
     alloc: Global,
@@ -18,9 +27,7 @@ pub(crate) fn answers<T: Called>(
 ) -> Result<String, CaseError> {
     let mut text = String::new(alloc);
     for call in script.split(';') {
-        let mut words = Words::of(call);
-        let name = words.word()?;
-        let answer = called.call(alloc, name, &mut words)?;
+        let answer = answer(alloc, called, call)?;
         if !text.is_empty() {
             text.push_str("; ")?;
         }

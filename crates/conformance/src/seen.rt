@@ -6,7 +6,7 @@ use crate::case::CaseError;
 use crate::numbers::Words;
 use crate::telling::{halves, put_bytes, put_granule, put_value};
 use asm_names::{csr_named, register_name, register_named, scr_named};
-use base::Size;
+use base::{Size, is_csr, is_scr};
 use cap_bounds::CapRep;
 use machine::Machine;
 use std::alloc::AllocError;
@@ -26,30 +26,15 @@ fn value_of<C: CapRep>(machine: &Machine<C>, name: &str) -> Result<C, CaseError>
         return Ok(machine.reg(n));
     }
     match scr_named(name.as_bytes()) {
-        Some(0) => Ok(machine.scr(0)),
-        Some(1) => Ok(machine.scr(1)),
-        Some(28) => Ok(machine.scr(28)),
-        Some(29) => Ok(machine.scr(29)),
-        Some(30) => Ok(machine.scr(30)),
-        Some(31) => Ok(machine.scr(31)),
+        Some(n) if is_scr(n) => Ok(machine.scr(n)),
         _ => Err(CaseError::Unreadable),
     }
 }
 
 /// What a read of the control and status register of a name gives.
 fn csr_of<C: CapRep>(machine: &Machine<C>, name: &str) -> Option<u64> {
-    match csr_named(name.as_bytes())? {
-        0x300 => Some(machine.csr(0x300)),
-        0x301 => Some(machine.csr(0x301)),
-        0x304 => Some(machine.csr(0x304)),
-        0x305 => Some(machine.csr(0x305)),
-        0x340 => Some(machine.csr(0x340)),
-        0x341 => Some(machine.csr(0x341)),
-        MCAUSE => Some(machine.csr(MCAUSE)),
-        MTVAL => Some(machine.csr(MTVAL)),
-        0x344 => Some(machine.csr(0x344)),
-        0xb00 => Some(machine.csr(0xb00)),
-        0xb02 => Some(machine.csr(0xb02)),
+    match csr_named(name.as_bytes()) {
+        Some(n) if is_csr(n) => Some(machine.csr(n)),
         _ => None,
     }
 }
@@ -124,36 +109,62 @@ fn device_of<C: CapRep>(machine: &Machine<C>, name: &str) -> Option<u64> {
 fn put_of_register<C: CapRep>(text: &mut String, query: &str, value: C) -> Result<(), CaseError> {
     let address = value.address();
     let otype = value.otype();
+    let permissions = value.perms();
+    let (high, low) = halves(value);
     let tag = u8::from(value.tag());
-    match query {
-        "address" => write!(text, "{address:x}")?,
-        "permissions" => {
-            let permissions = value.perms();
-            write!(text, "{permissions:x}")?;
-        }
-        "fields" => write!(text, "{address:x} {otype:x} {tag}")?,
-        "bits" => {
-            let (high, address) = halves(value);
-            write!(text, "{high:016x} {address:016x} {tag}")?;
-        }
-        "bytes" => put_granule(text, value.word().to_memory(), value.tag())?,
+    let written = match query {
+        "address" => write!(text, "{address:x}"),
+        "permissions" => write!(text, "{permissions:x}"),
+        "fields" => write!(text, "{address:x} {otype:x} {tag}"),
+        "bits" => write!(text, "{high:016x} {low:016x} {tag}"),
+        "bytes" => put_granule(text, value.word().to_memory(), value.tag()),
         _ => return Err(CaseError::Unreadable),
-    }
-    Ok(())
+    };
+    Ok(written?)
 }
 
-/// Puts what a query of one word tells behind a text.
+/// Puts what the register or the device's state of a name holds behind a text.
 fn put_named<C: CapRep>(
     text: &mut String,
     machine: &Machine<C>,
     name: &str,
 ) -> Result<(), CaseError> {
-    if let Some(number) = csr_of(machine, name).or(device_of(machine, name)) {
-        write!(text, "{number:x}")?;
-    } else {
-        put_value(text, value_of(machine, name)?)?;
+    let written = match csr_of(machine, name).or(device_of(machine, name)) {
+        Some(number) => write!(text, "{number:x}"),
+        None => put_value(text, value_of(machine, name)?),
+    };
+    Ok(written?)
+}
+
+/// Puts the number with which a machine is halted behind a text, or `no`.
+fn put_halted(text: &mut String, halted: Option<u64>) -> Result<(), AllocError> {
+    match halted {
+        Some(number) => write!(text, "{number:x}"),
+        None => text.push_str("no"),
     }
-    Ok(())
+}
+
+/// Puts what a query of one word tells behind a text.
+fn put_of_machine<C: CapRep>(
+    text: &mut String,
+    machine: &Machine<C>,
+    query: &str,
+) -> Result<(), CaseError> {
+    let written = match query {
+        "trap" => put_trap(text, machine),
+        "registers" => put_registers(text, machine),
+        "ram" => put_ram(text, machine),
+        "waiting" => put_bytes(text, machine.devices().waiting()),
+        "halted" => put_halted(text, machine.halted()),
+        _ => return put_named(text, machine, query),
+    };
+    Ok(written?)
+}
+
+/// Puts whether two registers hold the same behind a text.
+fn put_same<C: CapRep>(text: &mut String, first: C, second: C) -> Result<(), CaseError> {
+    let same = u8::from(halves(first) == halves(second) && first.tag() == second.tag());
+    Ok(write!(text, "{same}")?)
 }
 
 /// Puts the granule at an address, and its tag, behind a text.
@@ -192,27 +203,16 @@ pub(crate) fn put_seen<C: CapRep>(
     query: &str,
 ) -> Result<(), CaseError> {
     let mut words = Words::of(query);
-    match words.word()? {
-        "trap" => put_trap(text, machine)?,
-        "registers" => put_registers(text, machine)?,
-        "ram" => put_ram(text, machine)?,
-        "waiting" => put_bytes(text, machine.devices().waiting())?,
-        "halted" => match machine.halted() {
-            Some(number) => write!(text, "{number:x}")?,
-            None => text.push_str("no")?,
-        },
-        "granule" => put_granule_at(text, machine, words.hex()?)?,
-        "word" => put_word_at(text, machine, words.hex()?)?,
+    match words.word() {
+        "granule" => put_granule_at(text, machine, words.hex()),
+        "word" => put_word_at(text, machine, words.hex()),
         "same" => {
-            let first = value_of(machine, words.word()?)?;
-            let second = value_of(machine, words.word()?)?;
-            let same = u8::from(halves(first) == halves(second) && first.tag() == second.tag());
-            write!(text, "{same}")?;
+            let first = value_of(machine, words.word())?;
+            put_same(text, first, value_of(machine, words.word())?)
         }
-        word => match words.word() {
-            Ok(name) => put_of_register(text, word, value_of(machine, name)?)?,
-            Err(_) => put_named(text, machine, word)?,
+        word => match words.next() {
+            Some(name) => put_of_register(text, word, value_of(machine, name)?),
+            None => put_of_machine(text, machine, word),
         },
     }
-    Ok(())
 }

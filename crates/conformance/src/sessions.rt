@@ -2,9 +2,9 @@
 
 use crate::case::{CaseError, HELD};
 use crate::forms::Form;
-use crate::programs::text_of;
 use crate::quoted::{put_quoted, unescaped};
-use assembler::assemble;
+use crate::talks::{commanded, cut_short};
+use crate::text::name;
 use cap_bounds::CapRep;
 use debugger::{Session, talk};
 use image::{FromRead, ToWrite};
@@ -64,15 +64,34 @@ impl<'a> Conversation<'a> {
     }
 }
 
-/// What a session has answered, and how many bytes it has left unread.
+/// What is asked of a session.
+#[derive(Clone, Copy)]
+pub(crate) enum Errand<'a> {
+    /// To answer what is typed by these answers, with so many bytes left unread.
+    Talk {
+        typed: &'a [u8],
+        answers: &'a str,
+        left: usize,
+    },
+    /// To answer what is typed over devices that fail at these calls.
+    Cut {
+        typed: &'a [u8],
+        read: u64,
+        write: u64,
+    },
+    /// To do what lines say.
+    Commands(&'a str),
+}
+
+/// What has been answered, and how many bytes are left unread.
 #[derive(Drop)]
-pub(crate) struct Said {
+struct Said {
     answers: Vec<u8>,
     left: usize,
 }
 
 /// What a session answers to what is typed.
-pub(crate) fn conversed<C: CapRep>(
+fn conversed<C: CapRep>(
     alloc: Global,
     session: &mut Session<C>,
     typed: &[u8],
@@ -93,37 +112,62 @@ pub(crate) fn conversed<C: CapRep>(
     }
 }
 
-/// The first line that is said where another is expected, or how much is said and left.
-fn difference(alloc: Global, said: &Said, answers: &str, left: usize) -> Result<String, CaseError> {
-    let mut told = String::new(alloc);
-    for (came, expected) in said
-        .answers
-        .split(|byte| *byte == b'\n')
-        .zip(answers.split('\n'))
-    {
+/// The first line that is said where another is expected, with that one.
+fn difference<'a>(said: &'a [u8], answers: &'a str) -> Option<(&'a [u8], &'a str)> {
+    let mut lines = said.split(|byte| *byte == b'\n');
+    for expected in answers.split('\n') {
+        let came = lines.next().unwrap_or(b"");
         if came != expected.as_bytes() {
-            put_quoted(&mut told, came)?;
-            write!(told, " in place of {expected}")?;
-            return Ok(told);
+            return Some((came, expected));
         }
     }
+    None
+}
+
+/// What is said where something else is expected.
+fn told_apart(alloc: Global, said: &Said, answers: &str, left: usize) -> Result<String, CaseError> {
     let said_bytes = said.answers.len();
     let said_left = said.left;
-    write!(
-        told,
-        "{said_bytes} bytes are said and {said_left} left, not {left}"
-    )?;
+    let mut told = format!(in alloc; "{said_bytes} bytes and {said_left} left, not {left}: ")?;
+    if let Some((came, expected)) = difference(&said.answers, answers) {
+        put_quoted(&mut told, came)?;
+        write!(told, " in place of {expected}")?;
+    }
     Ok(told)
+}
+
+/// `HELD`, or what is said where something else is expected.
+fn compared(alloc: Global, said: &Said, answers: &str, left: usize) -> Result<String, CaseError> {
+    if said.answers.as_slice() == answers.as_bytes() && said.left == left {
+        name(alloc, HELD)
+    } else {
+        told_apart(alloc, said, answers, left)
+    }
+}
+
+impl Errand<'_> {
+    /// What comes of it.
+    pub(crate) fn done<C: CapRep>(
+        self,
+        alloc: Global,
+        session: &mut Session<C>,
+    ) -> Result<String, CaseError> {
+        match self {
+            Errand::Talk {
+                typed,
+                answers,
+                left,
+            } => compared(alloc, &conversed(alloc, session, typed)?, answers, left),
+            Errand::Cut { typed, read, write } => cut_short(alloc, session, typed, read, write),
+            Errand::Commands(lines) => commanded(alloc, session, lines),
+        }
+    }
 }
 
 /// A block of lines; answered by `HELD`, or by the first difference. It is tried with the last line's line feed and, where that line is
 /// not empty, without it.
 pub(crate) fn answer(alloc: Global, form: Form, block: &str) -> Result<String, CaseError> {
     let conversation = Conversation::of(alloc, block)?;
-    let text = text_of(alloc, "", conversation.statements)?;
-    let Ok(assembly) = assemble(alloc, text.as_bytes()) else {
-        return Err(CaseError::Unreadable);
-    };
     let typed = conversation.typed.as_slice();
     let cut = match typed {
         [.., b'\n', b'\n'] | [b'\n'] | [] => typed,
@@ -132,9 +176,14 @@ pub(crate) fn answer(alloc: Global, form: Form, block: &str) -> Result<String, C
     for typed in [typed, cut] {
         let shorter = conversation.typed.len().saturating_sub(typed.len());
         let left = conversation.left.saturating_sub(shorter);
-        let said = form.talk(alloc, assembly.image(), typed)?;
-        if said.answers.as_slice() != conversation.answers.as_bytes() || said.left != left {
-            return difference(alloc, &said, &conversation.answers, left);
+        let errand = Errand::Talk {
+            typed,
+            answers: &conversation.answers,
+            left,
+        };
+        let told = form.ask_program(alloc, conversation.statements, errand)?;
+        if told.as_str() != HELD {
+            return Ok(told);
         }
     }
     Ok(String::from_str(alloc, HELD)?)

@@ -6,16 +6,22 @@ use cap_bounds::{CapRep, is_well_formed};
 use cap_format::CapWord;
 use std::alloc::Global;
 
+/// The capability word that the next two words are: its high half and its address.
+pub(crate) fn cap_word(words: &mut Words) -> CapWord {
+    let high = words.hex();
+    let address = words.hex();
+    CapWord::from_logical(u128::from(high) << 64 | u128::from(address))
+}
+
 /// The value that the next three words are; what is tagged is to be well-formed.
-pub(crate) fn value<C: CapRep>(words: &mut Words) -> Result<C, CaseError> {
-    let high = words.hex()?;
-    let address = words.hex()?;
-    let tag = words.bit()?;
-    let word = CapWord::from_logical(u128::from(high) << 64 | u128::from(address));
-    if tag && !is_well_formed(word) {
-        return Err(CaseError::Unreadable);
+pub(crate) fn value<C: CapRep>(words: &mut Words) -> C {
+    let word = cap_word(words);
+    let tag = words.bit();
+    let well_formed = is_well_formed(word);
+    if tag && !well_formed {
+        words.refuse();
     }
-    Ok(C::from_word(word, tag))
+    C::from_word(word, tag && well_formed)
 }
 
 /// Bits 127..64 of a capability word.

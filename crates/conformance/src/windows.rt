@@ -6,15 +6,22 @@ use crate::values::{text, value};
 use cap_bounds::{CapRep, representable};
 use std::alloc::Global;
 
-/// A value and an address; answered by whether the bounds stay with that address, and by the value with it, its base and its top.
-pub(crate) fn answer<C: CapRep>(alloc: Global, inputs: &str) -> Result<String, CaseError> {
-    let mut words = Words::of(inputs);
-    let c = value::<C>(&mut words)?;
-    let address = words.hex()?;
-    let stays = u8::from(representable(c.word(), address));
-    let moved = c.set_address(address);
-    let value = text(alloc, moved)?;
+/// Whether bounds stay, and the value that is moved, its base and its top.
+fn moved_text<C: CapRep>(alloc: Global, stays: bool, moved: C) -> Result<String, CaseError> {
+    let stays = u8::from(stays);
     let base = moved.base();
     let top = moved.top();
+    let value = text(alloc, moved)?;
     Ok(format!(in alloc; "{stays} {value} {base:x} {top:x}")?)
+}
+
+/// A value and an address; answered by whether the bounds stay with that address, and by the value with it, its base and its top.
+pub(crate) fn answer<C: CapRep>(alloc: Global, words: &mut Words) -> Result<String, CaseError> {
+    let c = value::<C>(words);
+    let address = words.hex();
+    moved_text(
+        alloc,
+        representable(c.word(), address),
+        c.set_address(address),
+    )
 }

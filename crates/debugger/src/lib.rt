@@ -19,6 +19,3 @@ pub use fault::{DebugFault, TalkFault};
 pub use reply::Reply;
 pub use session::Session;
 pub use talking::talk;
-
-#[cfg(test)]
-mod tests;

@@ -9,8 +9,6 @@ mod plans;
 mod reading;
 mod run;
 mod schedule;
-#[cfg(test)]
-mod tests;
 
 pub use ending::verdict;
 pub use fault::PlanFault;

@@ -6,8 +6,6 @@ mod mantissas;
 mod rep;
 mod rounding;
 mod set_bounds;
-#[cfg(test)]
-mod tests;
 mod window;
 mod word_cap;
 mod word_parts;
