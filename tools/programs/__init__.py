@@ -31,5 +31,18 @@ def lines():
     yield from stretches.cases()
 
 
+def advances(cases):
+    """The cases with a run of steps, which are done as many at once as the machine does."""
+    yield "# the programs with a run of steps, done as many at once as the machine does"
+    for case in cases:
+        inputs, arrow, answer = case.partition(" => ")
+        statements, bar, deeds = inputs.rpartition(" | ")
+        fast = "; ".join(deed.replace("steps ", "advance ") if deed.startswith("steps ") else deed for deed in deeds.split("; "))
+        if fast != deeds:
+            yield statements + bar + fast + arrow + answer
+
+
 def files():
-    yield "programs.txt", lines()
+    cases = list(lines())
+    yield "programs.txt", cases
+    yield "advances.txt", advances(cases)

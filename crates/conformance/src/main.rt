@@ -88,7 +88,7 @@ enum Table {
 }
 
 /// The files by name, without their endings, in the order in which they are tried.
-const FILES: [(&str, Table); 33] = [
+const FILES: [(&str, Table); 34] = [
     ("words", Table::Words),
     ("parts", Table::Parts),
     ("windows", Table::Windows),
@@ -109,6 +109,7 @@ const FILES: [(&str, Table); 33] = [
     ("images", Table::Images),
     ("failures", Table::Failures),
     ("programs", Table::Programs),
+    ("advances", Table::Programs),
     ("assembled", Table::Assembled),
     ("faults", Table::Assembled),
     ("assemblies", Table::Assemblies),

@@ -89,6 +89,26 @@ impl Outcome {
         }
     }
 
+    /// Meets so many steps, as many at once as the machine does.
+    fn advance<C: CapRep>(
+        &mut self,
+        machine: &mut Machine<C>,
+        steps: u64,
+    ) -> Result<(), AllocError> {
+        let mut left = steps;
+        for _ in 0..steps {
+            if left > 0 {
+                let advance = machine.advance(left);
+                left = left.saturating_sub(advance.steps);
+                if let Some(byte) = advance.byte {
+                    self.sent.push(byte)?;
+                }
+            }
+        }
+        self.end = machine.halted().map_or(End::Running, End::Halted);
+        Ok(())
+    }
+
     /// Meets the events of a deed, and says whether it is one.
     fn meets<C: CapRep>(
         &mut self,
@@ -102,6 +122,7 @@ impl Outcome {
             "tick" => self.event(machine, Event::Tick)?,
             "byte" => self.event(machine, Event::Byte(words.byte()))?,
             "steps" => self.run(alloc, machine, words.decimal())?,
+            "advance" => self.advance(machine, words.decimal())?,
             _ => return Ok(false),
         }
         words.check()?;
@@ -189,7 +210,8 @@ fn ran_text(alloc: Global, form: Form, text: &str, deeds: &str) -> Result<String
 
 /// The mode, ` | `, the program's statements, ` | `, and what is done and asked in order; statements and deeds are parted by `; `.
 ///
-/// A deed is an event, `step`, `tick` or `byte B`; a run, `steps N`; or a query, whose answers follow one another in the case's answer:
+/// A deed is an event, `step`, `tick` or `byte B`; a run, `steps N`, or the same steps as many at once as the machine does, `advance N`;
+/// or a query, whose answers follow one another in the case's answer:
 /// `stretch LETTERS`, the events of a stretch and how it ends, `ends`, why a step would end one, `sent`, the bytes sent so far, `end`,
 /// the end of the last run, `verdict`, the status and the line of that end, or one of `put_seen`.
 /// The first deed may be a run on a schedule, `scheduled STEPS GAP TICK KEYS`, and behind these the number of the byte that can't be
