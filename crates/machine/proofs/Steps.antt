@@ -1,11 +1,15 @@
--- Steps one after the other are a run over as many events.
-use Rattle.std.proofs.Common.{◌≡◌, ℕ, zero, suc, ◌-◌, ◌<◌, ◌≤◌, [], ◌∷◌, ◌++◌, replicate, refl, sym, ap, ◌∙◌, append-nil, arith}
+-- Steps one after the other are a run over as many events, and runs in two parts.
+use Rattle.std.proofs.Common.{◌≡◌, ℕ, zero, suc, ◌+◌, ◌-◌, ◌<◌, ◌≤◌, List, [], ◌∷◌, ◌++◌, length, get_or, take, drop, replicate, refl, sym, ap, subst, ◌∙◌}
+use Rattle.std.proofs.Common.{append_assoc, append-nil, arith}
 use Rattle.std.specs.Prelude.{option_to_list, None}
+use Rattle.hart.specs.declared.event.Event.{Event}
 use Rattle.hart.specs.declared.event.Event.TheVariants.{Step}
 use Rattle.hart.specs.State.{State}
+use Rattle.hart.specs.Event.{after, sent}
 use Rattle.hart.specs.Step.{stepped, step_sent}
-use Rattle.hart.specs.Steps.{steps_after, IsSilent}
+use Rattle.hart.specs.Steps.{steps_after, AreQuiet}
 use Rattle.machine.specs.Run.{run_after, run_sent}
+use Rattle.machine.specs.Steps.{BeginWithSteps}
 
 first-step : (n : ℕ) (s : State) → steps_after n (stepped s) ≡ steps_after (suc n) s
 first-step zero s = refl
@@ -15,10 +19,14 @@ pub run_after-steps : (n : ℕ) (s : State) → run_after (replicate n Step) s �
 run_after-steps zero s = refl
 run_after-steps (suc n) s = run_after-steps n (stepped s) ∙ first-step n s
 
-silent-rest : (n : ℕ) (s : State) → IsSilent (suc n) s → IsSilent n (stepped s)
+-- the first n steps send nothing
+abbrev AreSilent : ℕ → State → Type 0
+AreSilent n s = (k : ℕ) → k < n → step_sent (steps_after k s) ≡ None
+
+silent-rest : (n : ℕ) (s : State) → AreSilent (suc n) s → AreSilent n (stepped s)
 silent-rest n s silent k below = ap step_sent (first-step k s) ∙ silent (suc k) (omega arith)
 
-run_sent-last : (n : ℕ) (s : State) → IsSilent n s → run_sent (replicate (suc n) Step) s ≡ option_to_list (step_sent (steps_after n s))
+run_sent-last : (n : ℕ) (s : State) → AreSilent n s → run_sent (replicate (suc n) Step) s ≡ option_to_list (step_sent (steps_after n s))
 run_sent-last zero s silent = append-nil (option_to_list (step_sent s))
 run_sent-last (suc n) s silent =
     ap (λ byte. option_to_list byte ++ run_sent (replicate (suc n) Step) (stepped s)) (silent 0 (omega arith))
@@ -27,9 +35,58 @@ run_sent-last (suc n) s silent =
 not_some : 1 ≤ 0 → ⊥
 not_some some = omega arith
 
-pub run_sent-steps : (n : ℕ) (s : State) → 1 ≤ n → IsSilent (n - 1) s
+too_many : (k : ℕ) → suc k ≤ 0 → ⊥
+too_many k few = omega arith
+
+none_below : (n : ℕ) → n < 0 → ⊥
+none_below n below = omega arith
+
+pub run_sent-steps : (n : ℕ) (s : State) → 1 ≤ n → AreSilent (n - 1) s
     → run_sent (replicate n Step) s ≡ option_to_list (step_sent (steps_after (n - 1) s))
 run_sent-steps zero s some silent = absurd (not_some some)
 run_sent-steps (suc n) s some silent =
     let one_less : suc n - 1 ≡ n = omega arith in
     run_sent-last n s (rw one_less at silent) ∙ ap (λ k. option_to_list (step_sent (steps_after k s))) (sym one_less)
+
+-- ---- steps among other events
+
+pub BeginWithSteps-take : (k n : ℕ) (es : List Event) → k ≤ n → BeginWithSteps n es → take k es ≡ replicate k Step
+BeginWithSteps-take zero n es few begin = refl
+BeginWithSteps-take (suc k) zero es few begin = absurd (too_many k few)
+BeginWithSteps-take (suc k) (suc n) [] few begin = absurd begin
+BeginWithSteps-take (suc k) (suc n) (e ∷ es) few begin =
+    ap (λ x. x ∷ take k es) begin.0 ∙ ap (λ rest. Step ∷ rest) (BeginWithSteps-take k n es (omega arith) begin.1)
+
+pub BeginWithSteps-drop : (k n : ℕ) (es : List Event) → BeginWithSteps n es → BeginWithSteps (n - k) (drop k es)
+BeginWithSteps-drop zero n es begin =
+    let all : n - 0 ≡ n = omega arith in
+    subst (λ m. BeginWithSteps m es) (sym all) begin
+BeginWithSteps-drop (suc k) zero es begin =
+    let none : zero - suc k ≡ 0 = omega arith in
+    subst (λ m. BeginWithSteps m (drop (suc k) es)) (sym none) tt
+BeginWithSteps-drop (suc k) (suc n) [] begin = absurd begin
+BeginWithSteps-drop (suc k) (suc n) (e ∷ es) begin =
+    let less : suc n - suc k ≡ n - k = omega arith in
+    subst (λ m. BeginWithSteps m (drop k es)) (sym less) (BeginWithSteps-drop k n es begin.1)
+
+-- one step more
+pub BeginWithSteps-more : (n : ℕ) (es : List Event) (d : Event) → n < length es → BeginWithSteps n es → get_or es n d ≡ Step
+    → BeginWithSteps (n + 1) es
+BeginWithSteps-more n [] d below begin is = absurd (none_below n below)
+BeginWithSteps-more zero (e ∷ es) d below begin is = (is, tt)
+BeginWithSteps-more (suc n) (e ∷ es) d below begin is = (begin.0, BeginWithSteps-more n es d (omega arith) begin.1 is)
+
+-- ---- a run in two parts
+
+pub run_after-split : (n : ℕ) (es : List Event) (s : State) → run_after (drop n es) (run_after (take n es) s) ≡ run_after es s
+run_after-split zero es s = refl
+run_after-split (suc n) [] s = refl
+run_after-split (suc n) (e ∷ es) s = run_after-split n es (after e s)
+
+pub run_sent-split : (n : ℕ) (es : List Event) (s : State)
+    → run_sent (take n es) s ++ run_sent (drop n es) (run_after (take n es) s) ≡ run_sent es s
+run_sent-split zero es s = refl
+run_sent-split (suc n) [] s = refl
+run_sent-split (suc n) (e ∷ es) s =
+    append_assoc (option_to_list (sent e s)) (run_sent (take n es) (after e s)) _
+    ∙ ap (λ bytes. option_to_list (sent e s) ++ bytes) (run_sent-split n es (after e s))

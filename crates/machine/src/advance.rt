@@ -1,13 +1,43 @@
-//! Many steps in one call.
+//! Many steps in one call, and runs of them among other events.
 
-ghost use Rattle.std.specs.Prelude.{◌≡◌, ◌≤◌, replicate, option_to_list};
+ghost use Rattle.std.specs.Prelude.{◌≡◌, ◌≤◌, ◌-◌, ℕ, ◌<◌, length, take, replicate, option_to_list};
 ghost use Rattle.hart.specs.declared.event.Event.TheVariants.{Step};
 ghost use Rattle.hart.specs.IsState.{IsState};
 ghost use Rattle.machine.specs.Run.{run_after, run_sent};
+ghost use Rattle.machine.specs.Steps.{BeginWithSteps};
 
 use crate::machine::Machine;
 use cap_bounds::CapRep;
-use hart::Advance;
+use hart::{Advance, Event};
+
+/// How many steps events begin with.
+fn leading_steps(events: &[Event]) -> usize
+    ensures few { result ≤ length events.now }
+    ensures steps { BeginWithSteps result events.now }
+{
+    let mut count = 0;
+    for event in events {
+        if *event != Event::Step {
+            break;
+        }
+        count += 1;
+    }
+    count
+}
+
+/// How many steps events begin with, where so many are known: they are counted anew only where none is.
+pub(crate) fn known_steps(events: &[Event], known: usize) -> usize
+    requires few { known ≤ length events.now }
+    requires steps { BeginWithSteps known events.now }
+    ensures few { result ≤ length events.now }
+    ensures steps { BeginWithSteps result events.now }
+{
+    if known == 0 {
+        leading_steps(events)
+    } else {
+        known
+    }
+}
 
 impl<C: CapRep> Machine<C> {
     /// Does steps, one at least and `most` at most, and answers how many and the byte that they sent, if they sent one.
@@ -21,8 +51,30 @@ impl<C: CapRep> Machine<C> {
         ensures few { result.steps ≤ most }
         ensures state { self.new ≡ run_after (replicate result.steps Step) self.old }
         ensures bytes { run_sent (replicate result.steps Step) self.old ≡ option_to_list result.byte }
+        ensures devices { (k : ℕ) → k < result.steps → (run_after (replicate k Step) self.old).devices ≡ self.old.devices }
         ensures is_state { IsState self.new }
     {
         self.hart.advance(most)
+    }
+
+    /// Meets the first of events, or of the steps that they begin with as many as are done at once, and answers how many those are.
+    #[inline]
+    pub(crate) fn meet_first(&mut self, events: &[Event], steps: usize) -> Advance
+        requires any { 1 ≤ length events.now }
+        requires few { steps ≤ length events.now }
+        requires steps { BeginWithSteps steps events.now }
+        ensures some { 1 ≤ result.steps }
+        ensures few { result.steps ≤ length events.now }
+        ensures state { self.new ≡ run_after (take result.steps events.now) self.old }
+        ensures bytes { run_sent (take result.steps events.now) self.old ≡ option_to_list result.byte }
+    {
+        if steps == 0 {
+            let out = self.event(events[0]);
+            return Advance {
+                steps: 1,
+                byte: out.byte,
+            };
+        }
+        self.advance(steps as u64)
     }
 }

@@ -13,6 +13,7 @@ ghost use Rattle.hart.specs.Event.{after, sent};
 ghost use Rattle.hart.specs.Opening.{opening};
 ghost use Rattle.machine.specs.Run.{run_after, run_sent, end_of};
 
+use crate::advance::known_steps;
 use crate::end::End;
 use crate::fault::MachineFault;
 use cap_bounds::CapRep;
@@ -95,9 +96,15 @@ impl<C: CapRep> Machine<C> {
             self.hart.is_state();
             return Err(MachineFault::M5);
         }
-        for event in events {
-            let sent = self.event(*event);
-            emit(out, sent.byte);
+        let mut rest = events;
+        let mut steps = 0;
+        while !rest.is_empty() {
+            steps = known_steps(rest, steps);
+            let met = self.meet_first(rest, steps);
+            emit(out, met.byte);
+            let count = met.steps as usize;
+            rest = &rest[count..];
+            steps = steps.saturating_sub(count);
         }
         Ok(match self.halted() {
             Some(number) => End::Halted(number),
