@@ -1,7 +1,10 @@
 -- Steps one after the other are a run over as many events, and runs in two parts.
 use Rattle.std.proofs.Common.{◌≡◌, ℕ, zero, suc, ◌+◌, ◌-◌, ◌<◌, ◌≤◌, List, [], ◌∷◌, ◌++◌, length, get_or, take, drop, replicate, refl, sym, ap, subst, ◌∙◌}
-use Rattle.std.proofs.Common.{append_assoc, append-nil, arith}
-use Rattle.std.specs.Prelude.{option_to_list, None}
+use Rattle.std.proofs.Common.{add-one, append_assoc, append-nil, arith}
+use Rattle.std.proofs.Math.Seq.{take-length}
+use Rattle.std.proofs.lemmas.Bool.Decides.{nat_tests}
+use Rattle.std.proofs.lemmas.List.{length-drop}
+use Rattle.std.specs.Prelude.{Option, None, Bool, true, ◌==◌, option_to_list}
 use Rattle.hart.specs.declared.event.Event.{Event}
 use Rattle.hart.specs.declared.event.Event.TheVariants.{Step}
 use Rattle.hart.specs.State.{State}
@@ -32,6 +35,12 @@ run_sent-last (suc n) s silent =
     ap (λ byte. option_to_list byte ++ run_sent (replicate (suc n) Step) (stepped s)) (silent 0 (omega arith))
     ∙ run_sent-last n (stepped s) (silent-rest n s silent) ∙ ap (λ t. option_to_list (step_sent t)) (first-step n s)
 
+pub run_sent-none : (n : ℕ) (s : State) → AreSilent n s → run_sent (replicate n Step) s ≡ []
+run_sent-none zero s silent = refl
+run_sent-none (suc n) s silent =
+    ap (λ byte. option_to_list byte ++ run_sent (replicate n Step) (stepped s)) (silent 0 (omega arith))
+    ∙ run_sent-none n (stepped s) (silent-rest n s silent)
+
 not_some : 1 ≤ 0 → ⊥
 not_some some = omega arith
 
@@ -57,7 +66,7 @@ BeginWithSteps-take (suc k) (suc n) [] few begin = absurd begin
 BeginWithSteps-take (suc k) (suc n) (e ∷ es) few begin =
     ap (λ x. x ∷ take k es) begin.0 ∙ ap (λ rest. Step ∷ rest) (BeginWithSteps-take k n es (omega arith) begin.1)
 
-pub BeginWithSteps-drop : (k n : ℕ) (es : List Event) → BeginWithSteps n es → BeginWithSteps (n - k) (drop k es)
+BeginWithSteps-drop : (k n : ℕ) (es : List Event) → BeginWithSteps n es → BeginWithSteps (n - k) (drop k es)
 BeginWithSteps-drop zero n es begin =
     let all : n - 0 ≡ n = omega arith in
     subst (λ m. BeginWithSteps m es) (sym all) begin
@@ -69,24 +78,70 @@ BeginWithSteps-drop (suc k) (suc n) (e ∷ es) begin =
     let less : suc n - suc k ≡ n - k = omega arith in
     subst (λ m. BeginWithSteps m (drop k es)) (sym less) (BeginWithSteps-drop k n es begin.1)
 
+one_more : (n : ℕ) (es : List Event) (d : Event) → n < length es → BeginWithSteps n es → get_or es n d ≡ Step
+    → BeginWithSteps (suc n) es
+one_more n [] d below begin is = absurd (none_below n below)
+one_more zero (e ∷ es) d below begin is = (is, tt)
+one_more (suc n) (e ∷ es) d below begin is = (begin.0, one_more n es d (omega arith) begin.1 is)
+
 -- one step more
 pub BeginWithSteps-more : (n : ℕ) (es : List Event) (d : Event) → n < length es → BeginWithSteps n es → get_or es n d ≡ Step
     → BeginWithSteps (n + 1) es
-BeginWithSteps-more n [] d below begin is = absurd (none_below n below)
-BeginWithSteps-more zero (e ∷ es) d below begin is = (is, tt)
-BeginWithSteps-more (suc n) (e ∷ es) d below begin is = (begin.0, BeginWithSteps-more n es d (omega arith) begin.1 is)
+BeginWithSteps-more n es d below begin is =
+    subst (λ m. BeginWithSteps m es) (sym (add-one n)) (one_more n es d below begin is)
+
+-- the first event alone
+pub take_first : (es : List Event) (d : Event) → 1 ≤ length es → take 1 es ≡ get_or es 0 d ∷ []
+take_first [] d any = absurd (not_some any)
+take_first (e ∷ es) d any = refl
 
 -- ---- a run in two parts
 
-pub run_after-split : (n : ℕ) (es : List Event) (s : State) → run_after (drop n es) (run_after (take n es) s) ≡ run_after es s
+run_after-split : (n : ℕ) (es : List Event) (s : State) → run_after (drop n es) (run_after (take n es) s) ≡ run_after es s
 run_after-split zero es s = refl
 run_after-split (suc n) [] s = refl
 run_after-split (suc n) (e ∷ es) s = run_after-split n es (after e s)
 
-pub run_sent-split : (n : ℕ) (es : List Event) (s : State)
+run_sent-split : (n : ℕ) (es : List Event) (s : State)
     → run_sent (take n es) s ++ run_sent (drop n es) (run_after (take n es) s) ≡ run_sent es s
 run_sent-split zero es s = refl
 run_sent-split (suc n) [] s = refl
 run_sent-split (suc n) (e ∷ es) s =
     append_assoc (option_to_list (sent e s)) (run_sent (take n es) (after e s)) _
     ∙ ap (λ bytes. option_to_list (sent e s) ++ bytes) (run_sent-split n es (after e s))
+
+-- what is left of a list behind its first k elements, as a slice gives it
+pub slice_rest : (k : ℕ) (rest : List Event) → take (length rest - k) (drop k rest) ≡ drop k rest
+slice_rest k rest = ap (λ n. take n (drop k rest)) (sym (length-drop k rest)) ∙ take-length (drop k rest)
+
+is_zero : (n : ℕ) → (n == 0) ≡ true → n ≡ 0
+is_zero n holds = grind (arith, nat_tests)
+
+length_some : (e : Event) (es : List Event) → length (e ∷ es) ≡ 0 → ⊥
+length_some e es none = omega arith
+
+pub none_left : (es : List Event) (empty : Bool) → empty ≡ (length es == 0) → empty ≡ true → es ≡ []
+none_left [] empty is holds = refl
+none_left (e ∷ es) empty is holds = absurd (length_some e es (is_zero (length (e ∷ es)) (sym is ∙ holds)))
+
+-- the machine m has met the first k of these events, and the others are left
+module _ (k : ℕ) (rest left : List Event) (is : left ≡ drop k rest) (s m : State) (met : m ≡ run_after (take k rest) s) where
+  pub state_left : (all : State) → run_after rest s ≡ all → run_after left m ≡ all
+  state_left all whole =
+      ap (λ es. run_after es m) is ∙ ap (run_after (drop k rest)) met ∙ run_after-split k rest s ∙ whole
+
+  pub bytes_left : (byte : Option ℕ) (bytes out all : List ℕ) → bytes ≡ out ++ option_to_list byte
+      → run_sent (take k rest) s ≡ option_to_list byte → out ++ run_sent rest s ≡ all → bytes ++ run_sent left m ≡ all
+  bytes_left byte bytes out all emitted sent whole =
+      ap (λ x. x ++ run_sent left m) (emitted ∙ ap (λ x. out ++ x) (sym sent))
+      ∙ ap (λ es. (out ++ run_sent (take k rest) s) ++ run_sent es m) is
+      ∙ ap (λ v. (out ++ run_sent (take k rest) s) ++ run_sent (drop k rest) v) met
+      ∙ append_assoc out (run_sent (take k rest) s) _
+      ∙ ap (λ x. out ++ x) (run_sent-split k rest s) ∙ whole
+
+pub length_left : (k : ℕ) (rest left : List Event) → left ≡ drop k rest → length left ≡ length rest - k
+length_left k rest left is = ap (λ (es : List Event). length es) is ∙ length-drop k rest
+
+pub steps_left : (k n m : ℕ) (rest left : List Event) → left ≡ drop k rest → m ≡ n - k → BeginWithSteps n rest → BeginWithSteps m left
+steps_left k n m rest left is less begin =
+    subst (λ es. BeginWithSteps m es) (sym is) (subst (λ j. BeginWithSteps j (drop k rest)) (sym less) (BeginWithSteps-drop k n rest begin))

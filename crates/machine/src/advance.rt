@@ -1,6 +1,6 @@
 //! Many steps in one call, and runs of them among other events.
 
-ghost use Rattle.std.specs.Prelude.{◌≡◌, ◌≤◌, ◌-◌, ℕ, ◌<◌, length, take, replicate, option_to_list};
+ghost use Rattle.std.specs.Prelude.{◌≡◌, ◌≤◌, ◌-◌, ℕ, ◌<◌, [], length, take, replicate, option_to_list};
 ghost use Rattle.hart.specs.declared.event.Event.TheVariants.{Step};
 ghost use Rattle.hart.specs.IsState.{IsState};
 ghost use Rattle.machine.specs.Run.{run_after, run_sent};
@@ -17,10 +17,10 @@ fn leading_steps(events: &[Event]) -> usize
 {
     let mut count = 0;
     for event in events {
-        if *event != Event::Step {
-            break;
+        match event {
+            Event::Step => count += 1,
+            _ => break,
         }
-        count += 1;
     }
     count
 }
@@ -51,6 +51,7 @@ impl<C: CapRep> Machine<C> {
         ensures few { result.steps ≤ most }
         ensures state { self.new ≡ run_after (replicate result.steps Step) self.old }
         ensures bytes { run_sent (replicate result.steps Step) self.old ≡ option_to_list result.byte }
+        ensures silent { run_sent (replicate (result.steps - 1) Step) self.old ≡ [] }
         ensures devices { (k : ℕ) → k < result.steps → (run_after (replicate k Step) self.old).devices ≡ self.old.devices }
         ensures is_state { IsState self.new }
     {

@@ -1,4 +1,6 @@
 pub mod Events
 pub mod Scheduled
+pub mod Alone
+pub mod StepsMet
 pub mod Found
 pub mod Listed

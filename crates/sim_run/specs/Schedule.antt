@@ -1,6 +1,6 @@
 -- A run on a schedule: which events come in which order, and what of them was done where a byte could not be written.
-use Rattle.std.specs.Prelude.{◌≡◌, ◌≤◌, ℕ, ◌+◌, ◌-◌, ◌/◌, ◌%◌, ◌==◌, ◌&&◌, not, Bool, true, List, [], ◌∷◌, ◌++◌, Option, None, is_some, map}
-use Rattle.std.specs.Prelude.{option_to_list, slice_get, zero, suc, if◌then◌else◌}
+use Rattle.std.specs.Prelude.{◌≡◌, ◌≤◌, ◌<◌, ℕ, ◌+◌, ◌-◌, ◌/◌, ◌%◌, ◌==◌, ◌&&◌, not, Bool, true, false, List, [], ◌∷◌, ◌++◌, Option, None, is_some, map}
+use Rattle.std.specs.Prelude.{option_to_list, replicate, slice_get, zero, suc, if◌then◌else◌}
 use Rattle.std.specs.Io.KnownBytes.{Appends}
 use Rattle.hart.specs.declared.event.Event.{Event}
 use Rattle.hart.specs.declared.event.Event.TheVariants.{Step, Tick, Byte}
@@ -30,11 +30,20 @@ is_tick_after schedule step = not (schedule.tick == 0) && step % schedule.tick =
 abbrev pub around : Option ℕ → Bool → List Event
 around byte ticks = map Byte (option_to_list byte) ++ Step ∷ (if ticks then Tick ∷ [] else [])
 
+-- so many steps, with the byte before the first of them and the tick after the last
+abbrev pub block : Option ℕ → ℕ → Bool → List Event
+block byte n ticks = map Byte (option_to_list byte) ++ (replicate n Step ++ (if ticks then Tick ∷ [] else []))
+
 -- the events of the first steps
 abbrev pub first_steps : Schedule → List ℕ → ℕ → List Event
 first_steps schedule input zero = []
 first_steps schedule input (suc n) =
     first_steps schedule input n ++ around (byte_before schedule input (n + 1)) (is_tick_after schedule (n + 1))
+
+-- Between the n steps after the first m comes no byte, and no tick.
+pub record AreAlone (schedule : Schedule) (input : List ℕ) (m n : ℕ) : Type 0 where
+  pub bytes : (j : ℕ) → 1 ≤ j → j < n → byte_before schedule input (m + j + 1) ≡ None
+  pub ticks : (j : ℕ) → 1 ≤ j → j < n → is_tick_after schedule (m + j) ≡ false
 
 abbrev pub is_halted : State → Bool
 is_halted s = is_some s.devices.halted

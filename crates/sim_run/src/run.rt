@@ -1,11 +1,10 @@
-ghost use Rattle.std.specs.Prelude.{◌≡◌, ◌≤◌, ◌<◌, ◌-◌, ◌^◌, IfOk, OnOk, OnErr, true, false, is_some, [], ◌∷◌, map, option_to_list};
+ghost use Rattle.std.specs.Prelude.{ℕ, ◌≡◌, ◌≤◌, ◌<◌, ◌+◌, ◌-◌, ◌^◌, None, IfOk, OnOk, OnErr, true, false, is_some, [], ◌∷◌, map, replicate, option_to_list};
 ghost use Rattle.std.specs.Prelude.{if◌then◌else◌};
 ghost use Rattle.std.specs.Io.KnownBytes.{Appends, Keeps};
 ghost use Rattle.image.specs.Devices.{Counts};
-ghost use Rattle.hart.specs.declared.event.Event.TheVariants.{Tick, Byte};
-ghost use Rattle.hart.specs.Event.{after, sent};
+ghost use Rattle.hart.specs.declared.event.Event.TheVariants.{Step, Tick, Byte};
 ghost use Rattle.machine.specs.Run.{run_after, run_sent, end_of};
-ghost use Rattle.sim_run.specs.Schedule.{byte_before, is_tick_after, around, is_halted, up_to_halt, scheduled, IsCutShort, IsInRange};
+ghost use Rattle.sim_run.specs.Schedule.{byte_before, is_tick_after, block, AreAlone, is_halted, up_to_halt, scheduled, IsCutShort, IsInRange};
 
 use crate::schedule::Schedule;
 use cap_bounds::CapRep;
@@ -34,22 +33,57 @@ impl Schedule {
     {
         self.tick != 0 && step % self.tick == 0
     }
+
+    /// How many steps come after the first `done` without a byte or a tick between them: at least one, and no more than are left.
+    fn steps_alone(self, input: &[u8], done: u64) -> u64
+        requires gap { 1 ≤ self.gap }
+        requires more { done < self.steps }
+        ensures some { 1 ≤ result }
+        ensures few { done + result ≤ self.steps }
+        ensures alone { AreAlone self input.now done result }
+    {
+        let left = self.steps - done;
+        let to_byte = self.steps_to_byte(input, done);
+        let to_tick = self.steps_to_tick(done);
+        left.min(to_byte).min(to_tick)
+    }
+
+    /// How many steps come after the first `done` without a byte between them; where none is to come, 2^64 - 1.
+    fn steps_to_byte(self, input: &[u8], done: u64) -> u64
+        requires gap { 1 ≤ self.gap }
+        ensures some { 1 ≤ result }
+        ensures alone { (j : ℕ) → 1 ≤ j → j < result → byte_before self input.now (done + j + 1) ≡ None }
+    {
+        let last = (input.len() as u64).saturating_sub(1);
+        if done / self.gap < last {
+            self.gap - done % self.gap
+        } else {
+            u64::MAX
+        }
+    }
+
+    /// How many steps come after the first `done` without a tick between them; where none is to come, 2^64 - 1.
+    fn steps_to_tick(self, done: u64) -> u64
+        ensures some { 1 ≤ result }
+        ensures alone { (j : ℕ) → 1 ≤ j → j < result → is_tick_after self (done + j) ≡ false }
+    {
+        if self.tick != 0 {
+            self.tick - done % self.tick
+        } else {
+            u64::MAX
+        }
+    }
 }
 
-/// Meets an event, and writes the byte that is sent, if one is.
-fn meet<C: CapRep, W: Sink>(
-    machine: &mut Machine<C>,
-    event: Event,
-    sink: &mut W,
-) -> Result<(), DeviceFailed>
+/// Writes the byte that a step sent, if it sent one.
+fn write_sent<W: Sink>(byte: Option<u8>, sink: &mut W) -> Result<(), DeviceFailed>
     requires { W.failed sink.old < 2 ^ 64 - 1 }
-    ensures state { machine.new ≡ after event machine.old }
-    ensures ok { OnOk result (Appends (W.held sink.old) (W.held sink.new) (option_to_list (sent event machine.old))) }
+    ensures ok { OnOk result (Appends (W.held sink.old) (W.held sink.new) (option_to_list byte)) }
     ensures err { OnErr result (Keeps (W.held sink.old) (W.held sink.new)) }
-    ensures unwritten { OnErr result (is_some (sent event machine.old) ≡ true) }
+    ensures unwritten { OnErr result (is_some byte ≡ true) }
     ensures count { Counts (W.failed sink.old) (W.failed sink.new) result }
 {
-    match machine.event(event).byte {
+    match byte {
         None => Ok(()),
         Some(byte) => {
             sink.write(&[byte])?;
@@ -76,24 +110,52 @@ fn pass<C: CapRep>(machine: &mut Machine<C>, ticks: bool)
     }
 }
 
-/// Does a step, with the byte before it and the tick after it.
-fn meet_around<C: CapRep, W: Sink>(
+/// Does so many steps, or those up to the one that halts the machine, and writes each byte that they send at once.
+fn meet_steps<C: CapRep, W: Sink>(
+    machine: &mut Machine<C>,
+    count: u64,
+    sink: &mut W,
+) -> Result<(), DeviceFailed>
+    requires failed { W.failed sink.old < 2 ^ 64 - 1 }
+    requires running { is_halted machine.old ≡ false }
+    ensures state { OnOk result (machine.new ≡ run_after (up_to_halt (replicate count Step) machine.old) machine.old) }
+    ensures ok { OnOk result (Appends (W.held sink.old) (W.held sink.new)
+        (run_sent (up_to_halt (replicate count Step) machine.old) machine.old)) }
+    ensures err { OnErr result (IsCutShort (up_to_halt (replicate count Step) machine.old) machine.old machine.new
+        (W.held sink.old) (W.held sink.new)) }
+    ensures count { Counts (W.failed sink.old) (W.failed sink.new) result }
+{
+    let mut done = 0;
+    while done < count {
+        let met = machine.advance(count - done);
+        write_sent(met.byte, sink)?;
+        if machine.halted().is_some() {
+            return Ok(());
+        }
+        done += met.steps;
+    }
+    Ok(())
+}
+
+/// Does so many steps, with the byte before the first of them and the tick after the last.
+fn meet_block<C: CapRep, W: Sink>(
     machine: &mut Machine<C>,
     byte: Option<u8>,
+    count: u64,
     ticks: bool,
     sink: &mut W,
 ) -> Result<(), DeviceFailed>
     requires failed { W.failed sink.old < 2 ^ 64 - 1 }
     requires running { is_halted machine.old ≡ false }
-    ensures state { OnOk result (machine.new ≡ run_after (up_to_halt (around byte ticks) machine.old) machine.old) }
+    ensures state { OnOk result (machine.new ≡ run_after (up_to_halt (block byte count ticks) machine.old) machine.old) }
     ensures ok { OnOk result (Appends (W.held sink.old) (W.held sink.new)
-        (run_sent (up_to_halt (around byte ticks) machine.old) machine.old)) }
-    ensures err { OnErr result (IsCutShort (up_to_halt (around byte ticks) machine.old) machine.old machine.new
+        (run_sent (up_to_halt (block byte count ticks) machine.old) machine.old)) }
+    ensures err { OnErr result (IsCutShort (up_to_halt (block byte count ticks) machine.old) machine.old machine.new
         (W.held sink.old) (W.held sink.new)) }
     ensures count { Counts (W.failed sink.old) (W.failed sink.new) result }
 {
     bring(machine, byte);
-    meet(machine, Event::Step, sink)?;
+    meet_steps(machine, count, sink)?;
     let running = machine.halted().is_none();
     pass(machine, ticks && running);
     Ok(())
@@ -120,14 +182,16 @@ pub fn run_scheduled<C: CapRep, W: Sink>(
         (W.held sink.old) (W.held sink.new)) }
     ensures count { Counts (W.failed sink.old) (W.failed sink.new) result }
 {
-    for done in 0..schedule.steps {
-        let step = done + 1;
-        let byte = schedule.byte_before(input, step);
-        let ticks = schedule.is_tick_after(step);
-        meet_around(machine, byte, ticks, sink)?;
+    let mut done = 0;
+    while done < schedule.steps {
+        let byte = schedule.byte_before(input, done + 1);
+        let count = schedule.steps_alone(input, done);
+        let ticks = schedule.is_tick_after(done + count);
+        meet_block(machine, byte, count, ticks, sink)?;
         if let Some(number) = machine.halted() {
             return Ok(End::Halted(number));
         }
+        done += count;
     }
     Ok(End::Running)
 }

@@ -3,7 +3,7 @@ use Rattle.std.specs.Prelude.{option_to_list}
 use Rattle.hart.specs.State.{State}
 use Rattle.hart.specs.Step.{step_sent}
 use Rattle.hart.specs.Steps.{steps_after, AreQuiet}
-use Rattle.machine.proofs.Steps.{run_after-steps, run_sent-steps}
+use Rattle.machine.proofs.Steps.{run_after-steps, run_sent-steps, run_sent-none}
 use Rattle.machine.proofs.machine.Machine.advance.Goals as goal
 
 pub returns-clause-state : goal.returns-clause-state
@@ -17,6 +17,12 @@ returns-clause-bytes g c =
     let quiet = subst (AreQuiet (steps - 1)) c.self.view_is c.advance.ensures.quiet in
     run_sent-steps steps c.args.self.now c.advance.ensures.some quiet.silent
     ∙ ap option_to_list (sym (c.advance.ensures.byte ∙ ap (λ s. step_sent (steps_after (steps - 1) s)) c.self.view_is))
+
+pub returns-clause-silent : goal.returns-clause-silent
+returns-clause-silent g c =
+    let steps = c.advance.result.steps in
+    let quiet = subst (AreQuiet (steps - 1)) c.self.view_is c.advance.ensures.quiet in
+    run_sent-none (steps - 1) c.args.self.now quiet.silent
 
 pub returns-clause-devices : goal.returns-clause-devices
 returns-clause-devices g c = λ k below.
