@@ -1,5 +1,5 @@
 -- A run goes on by one event.
-use Rattle.std.proofs.Common.{◌≡◌, ℕ, zero, suc, ◌-◌, ◌<◌, Bool, true, false, List, [], ◌∷◌, ◌++◌, refl, sym, ap, ◌∙◌, append_assoc, arith}
+use Rattle.std.proofs.Common.{◌≡◌, ℕ, zero, suc, ◌-◌, ◌<◌, ◌≤◌, Bool, true, false, List, [], ◌∷◌, ◌++◌, refl, sym, ap, ◌∙◌, append_assoc, arith}
 use Rattle.std.specs.Prelude.{option_to_list, replicate, not, ◌&&◌, ◌||◌, ◌==◌, nat_lt, is_some}
 use Rattle.std.proofs.lemmas.Bool.Decides.{nat_tests}
 use Rattle.hart.specs.declared.event.Event.{Event}
@@ -29,6 +29,32 @@ less_one n = omega arith
 pub one_of_many : (n : ℕ) (e : Event) → 0 < n → replicate n e ≡ e ∷ replicate (n - 1) e
 one_of_many zero e h = absurd (omega arith)
 one_of_many (suc n) e h = rw (less_one n) refl
+
+too_many : (k : ℕ) → suc k ≤ 0 → ⊥
+too_many k few = omega arith
+
+-- k steps of n, and then the others
+pub state_many : (n k : ℕ) (s : State) → k ≤ n
+    → run_after (replicate (n - k) Step) (run_after (replicate k Step) s) ≡ run_after (replicate n Step) s
+state_many n zero s few =
+    let all : n - 0 ≡ n = omega arith in
+    ap (λ m. run_after (replicate m Step) s) all
+state_many zero (suc k) s few = absurd (too_many k few)
+state_many (suc n) (suc k) s few =
+    let less : suc n - suc k ≡ n - k = omega arith in
+    ap (λ m. run_after (replicate m Step) (run_after (replicate (suc k) Step) s)) less ∙ state_many n k (after Step s) (omega arith)
+
+pub bytes_many : (n k : ℕ) (s : State) → k ≤ n
+    → run_sent (replicate k Step) s ++ run_sent (replicate (n - k) Step) (run_after (replicate k Step) s) ≡ run_sent (replicate n Step) s
+bytes_many n zero s few =
+    let all : n - 0 ≡ n = omega arith in
+    ap (λ m. run_sent (replicate m Step) s) all
+bytes_many zero (suc k) s few = absurd (too_many k few)
+bytes_many (suc n) (suc k) s few =
+    let less : suc n - suc k ≡ n - k = omega arith in
+    ap (λ m. run_sent (replicate (suc k) Step) s ++ run_sent (replicate m Step) (run_after (replicate (suc k) Step) s)) less
+    ∙ append_assoc (option_to_list (sent Step s)) (run_sent (replicate k Step) (after Step s)) _
+    ∙ ap (λ bytes. option_to_list (sent Step s) ++ bytes) (bytes_many n k (after Step s) (omega arith))
 
 some_left : (n : ℕ) → nat_lt 0 (suc n) ≡ true
 some_left n = grind (arith, nat_tests)

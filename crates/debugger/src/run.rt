@@ -3,6 +3,7 @@ ghost use Rattle.std.specs.Prelude.{◌≡◌, ◌+◌, ◌*◌, ◌<◌, ◌≤
 ghost use Rattle.std.specs.Prelude.{string_bytes, string_len, string_capacity};
 ghost use Rattle.std.specs.List.{flat_map};
 ghost use Rattle.special_regs.specs.Scrs.{scr_value};
+ghost use Rattle.hart.specs.declared.event.Event.TheVariants.{Step};
 ghost use Rattle.hart.specs.State.{pc_of};
 ghost use Rattle.machine.specs.Run.{run_after, run_sent};
 ghost use Rattle.disassembler.specs.Hex.{hex_of};
@@ -43,6 +44,21 @@ fn repeat<C: CapRep>(machine: &mut Machine<C>, event: Event, times: u64, sent: &
         let out = machine.event(event);
         emit(sent, out.byte);
         left -= 1;
+    }
+}
+
+/// Gives so many steps, and puts what they send behind the other bytes, for which there is room.
+fn steps<C: CapRep>(machine: &mut Machine<C>, times: u64, sent: &mut Vec<u8>)
+    requires { vec_len sent.old + times ≤ vec_capacity sent.old }
+    ensures state { machine.new ≡ run_after (replicate times Step) machine.old }
+    ensures bytes { sent.new.items ≡ sent.old.items ++ run_sent (replicate times Step) machine.old }
+    ensures len { vec_len sent.new ≤ vec_len sent.old + times }
+{
+    let mut left = times;
+    while left > 0 {
+        let met = machine.advance(left);
+        emit(sent, met.byte);
+        left -= met.steps;
     }
 }
 
@@ -101,7 +117,7 @@ fn give<C: CapRep>(machine: &mut Machine<C>, command: Command, sent: &mut Vec<u8
 {
     match command {
         Command::Step(n) => {
-            repeat(machine, Event::Step, n, sent);
+            steps(machine, n, sent);
             n
         }
         Command::Tick(n) => {
