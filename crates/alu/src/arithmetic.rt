@@ -9,7 +9,7 @@ use isa_rows::Row;
 /// What a row of integer arithmetic computes (unprivileged manual, RV64I, Integer Computational
 /// Instructions): `a` is rs1's number, `b` is rs2's or the immediate. For LUI the result is `b`.
 #[tactic(auto, unfolding(crate::specs::Integer::int_result, isa_rows::specs::Line::line_of))]
-#[inline]
+#[inline(always)]
 pub fn int_op(row: Row, a: u64, b: u64) -> u64
     requires { kind_of row ≡ kind.Integer }
     ensures { result ≡ int_result row a b }

@@ -8,7 +8,7 @@ use isa_rows::Row;
 /// Whether a branch is taken (unprivileged manual, RV64I, Conditional Branches): `a` and `b` are the
 /// numbers in rs1 and rs2.
 #[tactic(auto, unfolding(crate::specs::Integer::branch_result, isa_rows::specs::Line::line_of))]
-#[inline]
+#[inline(always)]
 pub fn branch_taken(row: Row, a: u64, b: u64) -> bool
     requires { kind_of row ≡ kind.Branch }
     ensures { result ≡ branch_result row a b }

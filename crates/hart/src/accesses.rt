@@ -8,7 +8,7 @@ use base::Size;
 use isa_rows::{Row, Through, Transfer, Width};
 
 /// How many bytes a load or store of data moves.
-#[inline]
+#[inline(always)]
 #[tactic(auto, unfolding(crate::specs::Accesses::size_of))]
 pub(crate) fn size_of(row: Row) -> Size
     ensures { result ≡ spec.size_of row }
@@ -25,7 +25,7 @@ pub(crate) fn size_of(row: Row) -> Size
 }
 
 /// Whether a load sign-extends.
-#[inline]
+#[inline(always)]
 #[tactic(auto, unfolding(crate::specs::Accesses::sign_extends))]
 fn sign_extends(row: Row) -> bool
     ensures { result ≡ spec.sign_extends row }
@@ -42,7 +42,7 @@ fn sign_extends(row: Row) -> bool
 }
 
 /// The number of so many bytes, sign-extended to 64 bits.
-#[inline]
+#[inline(always)]
 #[tactic(auto, unfolding(isa_rows::specs::Insn::sign_extended))]
 fn sign_extended(size: Size, number: u64) -> u64
     requires { number < 256 ^ bytes_of size }
@@ -57,7 +57,7 @@ fn sign_extended(size: Size, number: u64) -> u64
 }
 
 /// The number that a load gives, of the one in so many bytes.
-#[inline]
+#[inline(always)]
 #[tactic(auto, unfolding(crate::specs::Accesses::loaded))]
 pub(crate) fn loaded(row: Row, size: Size, number: u64) -> u64
     requires { number < 256 ^ bytes_of size }
@@ -71,7 +71,7 @@ pub(crate) fn loaded(row: Row, size: Size, number: u64) -> u64
 }
 
 /// Whether the authority is the capability in rs1, or else the default data capability.
-#[inline]
+#[inline(always)]
 #[tactic(auto, unfolding(crate::specs::Accesses::through_rs1))]
 pub(crate) fn through_rs1(row: Row, capability_mode: bool) -> bool
     ensures { result ≡ spec.through_rs1 row capability_mode }

@@ -16,7 +16,7 @@ use isa_rows::{Format, Insn, Row};
 
 impl<C: CapRep> Hart<C> {
     /// Integer arithmetic.
-    #[inline]
+    #[inline(always)]
     #[tactic(auto, unfolding(crate::specs::ComputeRows::integer_effect, crate::specs::Applying::CanApply))]
     pub(crate) fn plan_integer(&self, insn: Insn) -> Effect<C>
         requires kind { kind_of insn.row ≡ kind.Integer }
