@@ -8,3 +8,7 @@ pub mod EffectLaws
 pub mod LeftLaws
 pub mod RowLaws
 pub mod StepLaws
+pub mod Worlds
+pub mod WorldLooks
+pub mod SameBytesLaws
+pub mod SameEffectLaws
