@@ -12,3 +12,4 @@ pub mod Worlds
 pub mod WorldLooks
 pub mod SameBytesLaws
 pub mod SameEffectLaws
+pub mod AgreeLaws
