@@ -13,3 +13,4 @@ pub mod WorldLooks
 pub mod SameBytesLaws
 pub mod SameEffectLaws
 pub mod AgreeLaws
+pub mod TwoWorldsLaws
