@@ -1,7 +1,7 @@
 -- Agreeing states have the same reachable values, so agreement goes both ways, and over a third state.
 use Rattle.std.proofs.Common.{◌≡◌, ℕ, ◌+◌, ◌<◌, ◌≤◌, true, inl, refl, sym, ap, ◌∙◌, arith}
 use Rattle.base.specs.Ram.{ram_base}
-use Rattle.cap_bounds.specs.CapValue.{CapValue, is_tagged, value_of}
+use Rattle.cap_bounds.specs.CapValue.{CapValue, value_of}
 use Rattle.cap_rights.specs.Rights.{OpensSystem, OpensGranule}
 use Rattle.tagged_memory.specs.Memory.{IsMemory, has_tag, word_at}
 use Rattle.tagged_memory.specs.MemoryLaws.{in_ram}
@@ -11,7 +11,7 @@ use Rattle.hart.specs.State.{State}
 use Rattle.authority.specs.Authority.{HasSystem, SameScrs}
 use Rattle.authority.specs.Reachable.{IsRoot, in_register, in_pcc, in_ddc, IsSpecial, in_mtcc, in_mtdc, in_mscratchc, in_mepcc, IsHeldAt}
 use Rattle.authority.specs.Reachable.{IsReachable, from_root, from_special, from_granule}
-use Rattle.authority.specs.SameBytesLaws.{HasSameBytes, word_at-same}
+use Rattle.authority.specs.SameBytesLaws.{word_at-same}
 use Rattle.authority.specs.Worlds.{IsReadable, IsTagReadable, Agree}
 
 SameScrs-sym : (x y : Scrs) → SameScrs x y → SameScrs y x

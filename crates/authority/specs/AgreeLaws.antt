@@ -1,11 +1,8 @@
 -- Agreeing states have the same looks: each place that a step looks at is one that a reachable capability opens. And what can be read
 -- later could be read before.
-use Rattle.std.proofs.Common.{◌≡◌, ℕ, ◌+◌, ◌-◌, ◌<◌, ◌≤◌, true, None, inl, inr, arith, lit≤, refl}
-use Rattle.std.specs.Prelude.{slice_index}
+use Rattle.std.proofs.Common.{◌≡◌, ℕ, ◌+◌, ◌<◌, ◌≤◌, true, inl, inr, arith, refl}
 use Rattle.base.specs.Ram.{ram_base}
 use Rattle.base.specs.Size.{bytes_of}
-use Rattle.cap_bounds.specs.CapValue.{CapValue}
-use Rattle.cap_checks.specs.FirstFault.{access_fault, fetch_fault}
 use Rattle.cap_checks.specs.declared.access.Access.TheVariants as access
 use Rattle.cap_rights.specs.Permission.{permits}
 use Rattle.cap_rights.specs.RightsLaws.{OpensByte-outer, OpensGranule-outer}

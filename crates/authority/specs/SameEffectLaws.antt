@@ -1,6 +1,6 @@
 -- The effect of a step is a function of its looks: one line a kind of row.
-use Rattle.std.proofs.Common.{◌≡◌, ℕ, ◌+◌, ◌<◌, ◌≤◌, Bool, true, false, eqb, leb, not, ◌&&◌, cond, length, refl, sym, ap, subst, ◌∙◌}
-use Rattle.std.proofs.Common.{Option, None, Some, Result, Ok, Err, lit≤}
+use Rattle.std.proofs.Common.{◌≡◌, ℕ, ◌+◌, ◌≤◌, Bool, true, false, eqb, leb, not, ◌&&◌, cond, length, refl, ap, subst, ◌∙◌}
+use Rattle.std.proofs.Common.{Option, None, Some, Ok, Err, lit≤}
 use Rattle.std.proofs.lemmas.Bool.{cond_both, eqb-true}
 use Rattle.base.specs.Fault.{fault}
 use Rattle.base.specs.Ram.{ram_base}
@@ -27,7 +27,7 @@ use Rattle.isa_rows.specs.declared.rows.Row.{Row}
 use Rattle.isa_rows.specs.declared.rows.Row.TheVariants.{Csrrwi, Csrrsi, Csrrci}
 use Rattle.special_regs.specs.CsrValues.{csr_value}
 use Rattle.special_regs.specs.Interrupts.{pending}
-use Rattle.special_regs.specs.Refusals.{has_system_access, csr_fault, scr_fault, return_fault}
+use Rattle.special_regs.specs.Refusals.{csr_fault, scr_fault, return_fault}
 use Rattle.special_regs.specs.Scrs.{Scrs, scr_value}
 use Rattle.special_regs.specs.Traps.{is_sentry}
 use Rattle.special_regs.specs.declared.interrupts.Interrupt.{Interrupt}
@@ -42,14 +42,14 @@ use Rattle.hart.specs.MemoryRows.{device_store, mapped_store, store_effect, load
 use Rattle.hart.specs.MemoryRows.{load_capability_effect, mapped_capability_store, store_capability_effect}
 use Rattle.hart.specs.Registers.{register}
 use Rattle.hart.specs.State.{State, pc_of}
-use Rattle.hart.specs.Step.{kind_effect, fetched, fetch, decoded_effect, fetched_effect, decided, step_effect}
+use Rattle.hart.specs.Step.{kind_effect, fetched, decoded_effect, fetched_effect, decided, step_effect}
 use Rattle.hart.specs.SystemRows.{csr_number, csr_source, csr_writes, csr_new, csr_done, csr_effect, special_done, special_effect}
 use Rattle.hart.specs.SystemRows.{return_effect}
 use Rattle.hart.specs.declared.effect.Effect.{Effect}
-use Rattle.hart.specs.declared.effect.Effect.TheVariants.{Trap, Write, Store, StoreCapability, Special, Csr, Return}
+use Rattle.hart.specs.declared.effect.Effect.TheVariants.{Trap, Write, Store, StoreCapability, Csr, Return}
 use Rattle.authority.specs.Authority.{SameScrs}
 use Rattle.authority.specs.RowLaws.{csr-access, scr-access, return-access}
-use Rattle.authority.specs.WorldLooks.{IsNext, Loads, LoadsCapability, SameLooks}
+use Rattle.authority.specs.WorldLooks.{IsNext, LoadsCapability, SameLooks}
 
 -- ---- a state with another memory and other system registers
 

@@ -1,19 +1,18 @@
 -- Agreeing states step alike: the same outcome, the same byte, and behind a plain event they agree again. One line an effect.
-use Rattle.std.proofs.Common.{◌≡◌, ℕ, ◌+◌, ◌-◌, ◌*◌, ◌/◌, ◌%◌, ◌^◌, ◌<◌, ◌≤◌, Bool, true, false, eqb, not, ◌&&◌, cond, List, length}
+use Rattle.std.proofs.Common.{◌≡◌, ℕ, ◌+◌, ◌-◌, ◌%◌, ◌^◌, ◌<◌, ◌≤◌, Bool, true, eqb, not, ◌&&◌, cond, List, length}
 use Rattle.std.proofs.Common.{Option, None, Some, refl, sym, ap, subst, ◌∙◌, ◌⊎◌, inl, inr, arith}
 use Rattle.std.specs.Prelude.{slice_index}
-use Rattle.std.proofs.lemmas.Bool.{cases_lt, cases_eq}
+use Rattle.std.proofs.lemmas.Bool.{cases_lt}
 use Rattle.byteorder.specs.Endian.{little_bytes}
 use Rattle.byteorder.specs.Numbers.{length-bytes_low_first}
 use Rattle.base.specs.Ram.{ram_base}
 use Rattle.base.specs.Size.{bytes_of}
 use Rattle.cap_bounds.specs.CapValue.{CapValue, word_of, is_tagged}
-use Rattle.devices.specs.Devices.{Devices}
 use Rattle.special_regs.specs.Scrs.{Scrs}
 use Rattle.special_regs.specs.Traps.{target, returned_scrs}
 use Rattle.special_regs.specs.Writes.{views_written, scr_written}
 use Rattle.tagged_memory.specs.AccessLaws.{in_ram-place_fault}
-use Rattle.tagged_memory.specs.Memory.{Memory, is_in_ram, has_tag, touches, place_fault, data_written, capability_written}
+use Rattle.tagged_memory.specs.Memory.{Memory, is_in_ram, has_tag, touches, data_written, capability_written}
 use Rattle.tagged_memory.specs.MemoryLaws.{in_ram, length-data_written, byte-data_written, tags-data_written, length-capability_written}
 use Rattle.tagged_memory.specs.MemoryLaws.{byte-capability_written, has_tag-capability_written}
 use Rattle.tagged_memory.specs.Replaced.{element-new}
@@ -32,7 +31,6 @@ use Rattle.hart.specs.declared.event.Event.TheVariants.{Step, Tick, Byte}
 use Rattle.authority.specs.AgreeLaws.{looks-agree, IsReadable-before, IsTagReadable-before}
 use Rattle.authority.specs.Authority.{HasSystem, SameScrs}
 use Rattle.authority.specs.Derives.{Derives}
-use Rattle.authority.specs.EffectLaws.{effect-framed}
 use Rattle.authority.specs.Grounded.{GrowsNot}
 use Rattle.authority.specs.GroundedLaws.{HasSystem-before}
 use Rattle.authority.specs.SameEffectLaws.{joined, elsewise, is_elsewise, same-joined, in_ram-same, step_effect-same}

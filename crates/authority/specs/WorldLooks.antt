@@ -1,5 +1,5 @@
 -- What a step looks at, kind by kind: its effect depends on nothing else of the state.
-use Rattle.std.specs.Prelude.{◌≡◌, ℕ, true, length, Some, None}
+use Rattle.std.specs.Prelude.{◌≡◌, true, length, Some, None}
 use Rattle.base.specs.Size.{bytes_of}
 use Rattle.cap_checks.specs.FirstFault.{access_fault, fetch_fault}
 use Rattle.cap_checks.specs.declared.access.Access.TheVariants as access

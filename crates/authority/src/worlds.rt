@@ -39,11 +39,7 @@ pub fn agreement_goes_both_ways()
 /// Agreement says nothing of what is hidden: a byte of RAM that is not readable may be anything in the other state, and so may the four
 /// special registers where no reachable capability opens them.
 pub fn hidden_parts_may_differ()
-    ensures byte {
-        (s : State) (k b : ℕ) → Not (IsReadable s (ram_base + k))
-        → Agree s (record s { memory = record s.memory { bytes = slice_set s.memory.bytes k b } })
-    }
-    ensures registers {
-        (s : State) (x : Scrs) → Not (HasSystem s) → Agree s (record s { scrs = record x { pcc = s.scrs.pcc; ddc = s.scrs.ddc } })
-    }
+    ensures byte { (s : State) (k b : ℕ) → Not (IsReadable s (ram_base + k))
+        → Agree s (record s { memory = record s.memory { bytes = slice_set s.memory.bytes k b } }) }
+    ensures registers { (s : State) (x : Scrs) → Not (HasSystem s) → Agree s (record s { scrs = record x { pcc = s.scrs.pcc; ddc = s.scrs.ddc } }) }
 {}
