@@ -1,6 +1,6 @@
 -- The stretches of two states that agree: they go on together by one event, and end together.
 use Rattle.std.proofs.Common.{◌≡◌, ℕ, zero, suc, ◌+◌, ◌<◌, ◌≤◌, List, [], ◌∷◌, ◌++◌, length, get_or, take, drop, None, Some, Option}
-use Rattle.std.proofs.Common.{inl, inr, refl, sym, ap, ◌∙◌, subst, arith, is_some, true}
+use Rattle.std.proofs.Common.{inl, inr, refl, sym, ap, ◌∙◌, subst, arith}
 use Rattle.std.proofs.lemmas.Bool.{cases_lt}
 use Rattle.std.specs.Prelude.{option_to_list}
 use Rattle.hart.specs.declared.ends.Why.{Why}
@@ -124,3 +124,28 @@ one-stretch (e ∷ es) s (suc i) zero v w first second = absurd (goes-on w e es 
 one-stretch (e ∷ es) s (suc i) (suc j) v w first second =
     let rest = one-stretch es (after e s) i j v w (rest-stretch e es s i v first) (rest-stretch e es s j w second) in
     (ap suc rest.0, rest.1)
+
+-- ---- two machines
+
+-- two stretches over the same events that end together
+pub record EndTogether (events : List Event) (s t : State) (i j : ℕ) (v w : Option Why) (later other : State) : Type 0 where
+  pub done : i ≡ j
+  pub why : v ≡ w
+  pub bytes : run_sent (take j events) t ≡ run_sent (take i events) s
+  pub agree : Agree later other
+
+pub end-together : (events : List Event) (s t : State) (i j : ℕ) (v w : Option Why) (later other : State)
+    → IsSameStretch events i v s t → later ≡ run_after (take i events) s → other ≡ run_after (take j events) t → j ≤ length events
+    → ArePlain (take j events) t → EndsBefore w (drop j events) other → EndTogether events s t i j v w later other
+end-together events s t i j v w later other same first second some plain end =
+    let stretch : IsStretch events j w t =
+    record { some = some; plain = plain; end = subst (EndsBefore w (drop j events)) second end } in
+    let one = one-stretch events t i j v w same.stretch stretch in
+    let twin : IsTwin (take i events) s t = same.twins i (omega arith) in
+    record {
+      done = one.0;
+      why = one.1;
+      bytes = ap (λ n. run_sent (take n events) t) (sym one.0) ∙ twin.bytes;
+      agree = subst (λ x. Agree x other) (sym first)
+          (subst (Agree (run_after (take i events) s)) (ap (λ n. run_after (take n events) t) one.0 ∙ sym second) twin.agree);
+    }

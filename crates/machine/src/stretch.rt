@@ -57,9 +57,7 @@ impl<C: CapRep> Machine<C> {
         ensures left_alone { IfOk result (λ r. (k : ℕ) → k ≤ r.done → LeavesAlone self.old (run_after (take k events.now) self.old)) }
         ensures silent { IfOk result (λ r. IsSilent self.old (run_sent (take r.done events.now) self.old)) }
 
-        ensures two_worlds {
-            IfOk result (λ r. (t : State) → Agree self.old t → IsSameStretch events.now r.done r.why self.old t)
-        }
+        ensures two_worlds { IfOk result (λ r. (t : State) → Agree self.old t → IsSameStretch events.now r.done r.why self.old t) }
 
         ensures fault { IfErr result (λ fault. fault ≡ MachineFault.M5) }
         ensures same_state { OnErr result (self.new ≡ self.old) }

@@ -1,4 +1,4 @@
-use Rattle.std.proofs.Common.{◌≡◌, ◌≤◌, ◌++◌, ◌+◌, ap, refl, sym, ◌∙◌, arith, subst, take, drop, length, [], None}
+use Rattle.std.proofs.Common.{◌≤◌, ◌++◌, ◌+◌, ap, refl, sym, ◌∙◌, arith, subst, take, drop, length, None}
 use Rattle.std.proofs.lemmas.Grind.{common_steps}
 use Rattle.std.proofs.lemmas.List.{append-nil, drop_all}
 use Rattle.std.specs.Prelude.{option_to_list}
