@@ -8,3 +8,9 @@ pub mod EffectLaws
 pub mod LeftLaws
 pub mod RowLaws
 pub mod StepLaws
+pub mod Worlds
+pub mod WorldLooks
+pub mod SameBytesLaws
+pub mod SameEffectLaws
+pub mod AgreeLaws
+pub mod TwoWorldsLaws

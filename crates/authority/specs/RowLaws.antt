@@ -83,14 +83,14 @@ unless_refused-derives (Some S2) n word e s derives = tt
 -- ---- what passes its checks
 
 -- the authority of an access
-record IsAllowed (c : CapValue) (p : Permission) (address size : ℕ) : Type 0 where
-  tagged : is_tagged c ≡ true
-  unsealed : is_sealed c ≡ false
-  permitted : permits c p ≡ true
-  base : value_base c ≤ address
-  top : address + size ≤ value_top c
+pub record IsAllowed (c : CapValue) (p : Permission) (address size : ℕ) : Type 0 where
+  pub tagged : is_tagged c ≡ true
+  pub unsealed : is_sealed c ≡ false
+  pub permitted : permits c p ≡ true
+  pub base : value_base c ≤ address
+  pub top : address + size ≤ value_top c
 
-allowed : (authority : CapValue) (number : ℕ) (a : Access) (address : ℕ) → access_fault authority number a address ≡ None
+pub allowed : (authority : CapValue) (number : ℕ) (a : Access) (address : ℕ) → access_fault authority number a address ≡ None
     → IsAllowed authority (needed a) address (width_of a)
 unfolding access_fault holds
 allowed authority number a address none =
@@ -110,30 +110,49 @@ pub record IsFetched (s : State) : Type 0 where
   pub tagged : is_tagged s.scrs.pcc ≡ true
   pub unsealed : is_sealed s.scrs.pcc ≡ false
   pub executes : permits s.scrs.pcc permission.Execute ≡ true
+  pub base : value_base s.scrs.pcc ≤ pc_of s
+  pub top : pc_of s + 4 ≤ value_top s.scrs.pcc
 
 pub fetched-pcc : (s : State) → fetch_fault s.scrs.pcc ≡ None → IsFetched s
-unfolding fetch_fault
+unfolding fetch_fault holds
 fetched-pcc s none =
     let all : EachHolds (fetch_checks s.scrs.pcc) = first_fault-none (fetch_checks s.scrs.pcc) none in
-    record { tagged = all.0; unsealed = not-true _ all.1.0; executes = all.1.1.0 }
+    let bounds =
+    and_parts (leb (value_base s.scrs.pcc) (pc_of s)) (leb (pc_of s + 4) (value_top s.scrs.pcc)) all.1.1.1.0 in
+    record {
+      tagged = all.0;
+      unsealed = not-true _ all.1.0;
+      executes = all.1.1.0;
+      base = leb-true _ _ bounds.0;
+      top = leb-true _ _ bounds.1;
+    }
 
 -- PCC opens the system where it may use system registers
-system-pcc : (s : State) → IsFetched s → has_system_access s.scrs ≡ true → HasSystem s
+pub system-pcc : (s : State) → IsFetched s → has_system_access s.scrs ≡ true → HasSystem s
 system-pcc s fetched access = record {
   source = s.scrs.pcc;
   reachable = from_root fetched.tagged (in_pcc refl);
   opens = record { unsealed = fetched.unsealed; executes = fetched.executes; system = access };
 }
 
+-- the authority of a load or store is a root
+module _ (s : State) (insn : Insn) where
+  authority-root : (rs1 : Bool) → IsRoot s (authority_through rs1 insn s)
+  authority-root true = in_register insn.rs1 refl
+  authority-root false = in_ddc refl
+
+  pub reachable-authority : is_tagged (authority_of insn s) ≡ true → IsReachable s (authority_of insn s)
+  reachable-authority tagged = from_root tagged (authority-root (through_rs1 insn.row (in_capability_mode s)))
+
 -- the access that the second of two conditions asks for
 second-holds : (first : Bool × SpecialFault) (second : Bool) → first_fault (first ∷ (second, S2) ∷ []) ≡ None → second ≡ true
 second-holds first second none = (first_fault-none (first ∷ (second, S2) ∷ []) none).1.0
 
-csr-access : (s : State) (n : ℕ) (writes : Bool) → csr_fault s.scrs n writes ≡ None → has_system_access s.scrs ≡ true
+pub csr-access : (s : State) (n : ℕ) (writes : Bool) → csr_fault s.scrs n writes ≡ None → has_system_access s.scrs ≡ true
 unfolding csr_fault
 csr-access s n writes none = second-holds (is_csr n && not (writes && is_read_only n), S1) (has_system_access s.scrs) none
 
-scr-access : (s : State) (n : ℕ) (writes : Bool) → scr_fault s.scrs n writes ≡ None → MTCC ≤ n → has_system_access s.scrs ≡ true
+pub scr-access : (s : State) (n : ℕ) (writes : Bool) → scr_fault s.scrs n writes ≡ None → MTCC ≤ n → has_system_access s.scrs ≡ true
 unfolding scr_fault
 scr-access s n writes none high =
     let access : Bool = has_system_access s.scrs in
@@ -143,7 +162,7 @@ scr-access s n writes none high =
       | inr given ↦ given
     ]
 
-return-access : (s : State) → return_fault s.scrs ≡ None → has_system_access s.scrs ≡ true
+pub return-access : (s : State) → return_fault s.scrs ≡ None → has_system_access s.scrs ≡ true
 unfolding return_fault
 return-access s none = (first_fault-none ((has_system_access s.scrs, S2) ∷ []) none).0
 
@@ -279,20 +298,13 @@ module _ (s : State) (is : IsState s) (insn : Insn) where
 
   -- ---- memory
 
-  authority-root : (rs1 : Bool) → IsRoot s (authority_through rs1 insn s)
-  authority-root true = in_register insn.rs1 refl
-  authority-root false = in_ddc refl
-
-  reachable-authority : is_tagged (authority_of insn s) ≡ true → IsReachable s (authority_of insn s)
-  reachable-authority tagged = from_root tagged (authority-root (through_rs1 insn.row (in_capability_mode s)))
-
   may_write : (address size : ℕ) → IsAllowed (authority_of insn s) permission.Store address size → MayWrite s address size
   may_write address size allows = λ a low high.
       let base = allows.base in
       let top = allows.top in
       record {
         source = authority_of insn s;
-        reachable = reachable-authority allows.tagged;
+        reachable = reachable-authority s insn allows.tagged;
         opens = record { unsealed = allows.unsealed; stores = allows.permitted; base = omega arith; top = omega arith };
       }
 
@@ -362,7 +374,7 @@ module _ (s : State) (is : IsState s) (insn : Insn) where
         top = allows.top;
       } in
       grounded-reachable s (value_of (word_at s.memory address) true)
-      (from_granule {c = authority} address (reachable-authority allows.tagged) opens (record { tagged = parts.0; value = refl })))
+      (from_granule {c = authority} address (reachable-authority s insn allows.tagged) opens (record { tagged = parts.0; value = refl })))
 
   mapped_capability_load-derives : (address : ℕ) → IsAllowed (authority_of insn s) permission.Load address 16
       → Derives (mapped_capability_load (authority_of insn s) insn.rd address s) s

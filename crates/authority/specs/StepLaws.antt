@@ -54,7 +54,7 @@ module _ (s : State) (is : IsState s) where
   decided-derives (Some interrupt) = tt
   decided-derives None = fetched_effect-derives (fetch s) (fetched-checked (fetch_fault s.scrs.pcc) refl)
 
-  step_effect-derives : Derives (step_effect s) s
+  pub step_effect-derives : Derives (step_effect s) s
   unfolding step_effect
   step_effect-derives = decided-derives (pending s.csrs (interrupts_of s.devices))
 

@@ -1,6 +1,6 @@
 -- What a capability gives to whoever holds it: the values that lie within its rights, and what it opens (UCAM-CL-TR-987, capability
 -- monotonicity and intentional use).
-use Rattle.std.specs.Prelude.{◌≡◌, ℕ, ◌+◌, ◌<◌, ◌≤◌, true, false}
+use Rattle.std.specs.Prelude.{◌≡◌, ℕ, ◌+◌, ◌<◌, ◌≤◌, true, false, ◌⊎◌}
 use Rattle.cap_bounds.specs.CapValue.{CapValue, is_sealed, value_base, value_top}
 use Rattle.cap_rights.specs.declared.permission.Permission.TheVariants as permission
 use Rattle.cap_rights.specs.Permission.{permits}
@@ -30,6 +30,13 @@ pub record OpensGranule (c : CapValue) (granule : ℕ) : Type 0 where
 pub record OpensStore (c : CapValue) (address : ℕ) : Type 0 where
   pub unsealed : is_sealed c ≡ false
   pub stores : permits c permission.Store ≡ true
+  pub base : value_base c ≤ address
+  pub top : address < value_top c
+
+-- unsealed, with Load or Execute, and the address lies in its bounds: the byte there may be loaded, or fetched as code
+pub record OpensByte (c : CapValue) (address : ℕ) : Type 0 where
+  pub unsealed : is_sealed c ≡ false
+  pub reads : (permits c permission.Load ≡ true) ⊎ (permits c permission.Execute ≡ true)
   pub base : value_base c ≤ address
   pub top : address < value_top c
 

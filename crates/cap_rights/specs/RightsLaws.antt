@@ -1,6 +1,6 @@
 -- Rights pass outwards: whoever is within the rights of a value is within those of each value that this one is within the rights of,
 -- and opens nothing that it does not open.
-use Rattle.std.proofs.Common.{◌≡◌, ℕ, Bool, true, false, ◌&&◌, eqb, sym, ap, ◌∙◌, inl, inr, refl, subst, arith, IsTrue, ◌↔◌}
+use Rattle.std.proofs.Common.{◌≡◌, ℕ, Bool, true, false, ◌&&◌, eqb, sym, ap, ◌∙◌, ◌⊎◌, inl, inr, refl, subst, arith, IsTrue, ◌↔◌}
 use Rattle.std.specs.Prelude.{bit_and}
 use Rattle.std.specs.Bool.{beq}
 use Rattle.std.specs.Int.Bits.{and_self}
@@ -16,7 +16,7 @@ use Rattle.cap_rights.specs.PermsLaws.{permits-among}
 use Rattle.cap_rights.specs.Derivations.{subset, equal_exact}
 use Rattle.cap_rights.specs.DerivationLaws.{subset-IsWithin}
 use Rattle.cap_rights.specs.Within.{IsWithin}
-use Rattle.cap_rights.specs.Rights.{IsInRightsOf, OpensSystem, OpensGranule, OpensStore, OpensType}
+use Rattle.cap_rights.specs.Rights.{IsInRightsOf, OpensSystem, OpensGranule, OpensStore, OpensByte, OpensType}
 
 -- ---- bounds and permissions
 
@@ -116,6 +116,26 @@ module _ (v c : CapValue) where
       record {
         unsealed = outer.0;
         stores = permits-outer v c permission.Store within opens.stores;
+        base = omega arith;
+        top = omega arith;
+      }
+
+  reads-outer : IsWithin v c → (permits v permission.Load ≡ true) ⊎ (permits v permission.Execute ≡ true)
+      → (permits c permission.Load ≡ true) ⊎ (permits c permission.Execute ≡ true)
+  reads-outer within (inl loads) = inl (permits-outer v c permission.Load within loads)
+  reads-outer within (inr executes) = inr (permits-outer v c permission.Execute within executes)
+
+  pub OpensByte-outer : (address : ℕ) → IsInRightsOf v c → OpensByte v address → OpensByte c address
+  OpensByte-outer address rights opens =
+      let outer = unsealed-outer v c opens.unsealed rights in
+      let within = outer.1 in
+      let low = within.base in
+      let high = within.top in
+      let base = opens.base in
+      let top = opens.top in
+      record {
+        unsealed = outer.0;
+        reads = reads-outer within opens.reads;
         base = omega arith;
         top = omega arith;
       }

@@ -8,7 +8,7 @@ ghost use Rattle.cap_bounds.specs.SetBounds.{with_bounds};
 ghost use Rattle.cap_rights.specs.Opened.{opened};
 ghost use Rattle.cap_rights.specs.Derivations.{and_perms, set_flags, seal, unseal, seal_entry, subset};
 ghost use Rattle.cap_rights.specs.Within.{IsWithin, IsWithinIfTagged};
-ghost use Rattle.cap_rights.specs.Rights.{IsInRightsOf, OpensSystem, OpensGranule, OpensStore, OpensType};
+ghost use Rattle.cap_rights.specs.Rights.{IsInRightsOf, OpensSystem, OpensGranule, OpensStore, OpensByte, OpensType};
 ghost use Rattle.cap_rights.specs.Derived.{IsDerivedIfTagged, IsSealedWith};
 ghost use Rattle.cap_rights.specs.Perms.{set_of_one, PermittedIsAmongThePermissions, ViewNamesItsSet};
 ghost use Rattle.cap_rights.specs.declared.permission.Permission.TheVariants as permission;
@@ -76,6 +76,7 @@ pub fn rights_pass_outwards()
     ensures system { (v c : CapValue) → IsInRightsOf v c → OpensSystem v → OpensSystem c }
     ensures granule { (v c : CapValue) (granule : ℕ) → IsInRightsOf v c → OpensGranule v granule → OpensGranule c granule }
     ensures store { (v c : CapValue) (address : ℕ) → IsInRightsOf v c → OpensStore v address → OpensStore c address }
+    ensures byte { (v c : CapValue) (address : ℕ) → IsInRightsOf v c → OpensByte v address → OpensByte c address }
     ensures object_type { (v c : CapValue) (otype : ℕ) → IsInRightsOf v c → OpensType v otype → OpensType c otype }
 {}
 

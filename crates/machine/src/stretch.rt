@@ -5,8 +5,10 @@ ghost use Rattle.hart.specs.Ends.{why_of};
 ghost use Rattle.hart.specs.Event.{outcome};
 ghost use Rattle.hart.specs.IsState.{IsState};
 ghost use Rattle.machine.specs.Run.{run_after, run_sent};
-ghost use Rattle.machine.specs.Stretch.{ArePlain, EndsBefore};
+ghost use Rattle.machine.specs.Stretch.{ArePlain, EndsBefore, IsSameStretch};
+ghost use Rattle.hart.specs.State.{State};
 ghost use Rattle.authority.specs.Authority.{NoNewRights, NewSealsAllowed, LeavesAlone, IsSilent};
+ghost use Rattle.authority.specs.Worlds.{Agree};
 
 use crate::fault::MachineFault;
 use crate::machine::{Machine, emit};
@@ -36,7 +38,8 @@ impl<C: CapRep> Machine<C> {
     ///
     /// Behind each of the events that are met, what is reachable is within the rights of what was reachable at the start, a seal that
     /// is new is a sentry's or one that a capability reachable at the start may put on, and what no such capability opens is left
-    /// alone. Room is made as for `run`, and M5 leaves the same.
+    /// alone. From every state that agrees with the start, the same events make the same stretch, and agree behind each. Room is made
+    /// as for `run`, and M5 leaves the same.
     pub fn run_stretch(
         &mut self,
         events: &[Event],
@@ -53,6 +56,8 @@ impl<C: CapRep> Machine<C> {
         ensures new_seals { IfOk result (λ r. (k : ℕ) → k ≤ r.done → NewSealsAllowed self.old (run_after (take k events.now) self.old)) }
         ensures left_alone { IfOk result (λ r. (k : ℕ) → k ≤ r.done → LeavesAlone self.old (run_after (take k events.now) self.old)) }
         ensures silent { IfOk result (λ r. IsSilent self.old (run_sent (take r.done events.now) self.old)) }
+
+        ensures two_worlds { IfOk result (λ r. (t : State) → Agree self.old t → IsSameStretch events.now r.done r.why self.old t) }
 
         ensures fault { IfErr result (λ fault. fault ≡ MachineFault.M5) }
         ensures same_state { OnErr result (self.new ≡ self.old) }

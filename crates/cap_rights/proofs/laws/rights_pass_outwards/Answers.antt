@@ -1,5 +1,5 @@
 use Rattle.cap_rights.specs.RightsLaws.{IsInRightsOf-refl, IsInRightsOf-trans, OpensSystem-outer, OpensGranule-outer}
-use Rattle.cap_rights.specs.RightsLaws.{OpensStore-outer, OpensType-outer}
+use Rattle.cap_rights.specs.RightsLaws.{OpensStore-outer, OpensByte-outer, OpensType-outer}
 use Rattle.cap_rights.proofs.laws.rights_pass_outwards.Goals as goal
 
 pub returns-clause-itself : goal.returns-clause-itself
@@ -16,6 +16,9 @@ returns-clause-granule c = OpensGranule-outer
 
 pub returns-clause-store : goal.returns-clause-store
 returns-clause-store c = OpensStore-outer
+
+pub returns-clause-byte : goal.returns-clause-byte
+returns-clause-byte c = OpensByte-outer
 
 pub returns-clause-object_type : goal.returns-clause-object_type
 returns-clause-object_type c = OpensType-outer

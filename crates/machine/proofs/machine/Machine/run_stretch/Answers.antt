@@ -1,9 +1,13 @@
-use Rattle.std.proofs.Common.{◌++◌, ◌+◌, ap, refl, sym, ◌∙◌, arith}
+use Rattle.std.proofs.Common.{◌≤◌, ◌++◌, ◌+◌, ap, refl, sym, ◌∙◌, arith, subst, take, drop, length, None}
 use Rattle.std.proofs.lemmas.Grind.{common_steps}
-use Rattle.std.proofs.lemmas.List.{append-nil}
+use Rattle.std.proofs.lemmas.List.{append-nil, drop_all}
 use Rattle.std.specs.Prelude.{option_to_list}
 use Rattle.machine.proofs.Stretches.{KeepsUpTo-none, ArePlain-more, rights-kept, seals-kept, left-kept, silent-kept, ends-before}
 use Rattle.machine.proofs.Stretches.{plain-next, state-next, bytes-next, keeps-next}
+use Rattle.machine.proofs.Twins.{AreTwins-none, AreTwins-more, IsSameStretch-twins}
+use Rattle.hart.specs.IsState.{IsState}
+use Rattle.machine.specs.Stretch.{EndsBefore}
+use Rattle.machine.specs.Run.{run_after}
 use Rattle.machine.proofs.machine.Machine.run_stretch.Goals as goal
 
 pub loop-event-init : goal.loop-event-init
@@ -13,6 +17,7 @@ loop-event-init g c = record {
   bytes = c.reserve.ensures.items ∙ sym (append-nil c.args.out.now.items);
   plain = tt;
   keeps = KeepsUpTo-none c.args.events.now c.args.self.now;
+  twins = AreTwins-none c.args.events.now c.args.self.now;
   room = grind (arith, common_steps);
 }
 
@@ -33,6 +38,8 @@ loop-event-preserved g c =
           (c.emit.ensures.items ∙ ap (λ b. l.out.items ++ option_to_list b) c.event-sent.ensures.byte) l.invariant.bytes;
       plain = ArePlain-more events i _ below s l.invariant.plain (plain-next events i _ below l.self why told s l.invariant.state none);
       keeps = keeps-next events i _ below l.self why told s l.invariant.state none c.next_ends-why.ensures.state l.invariant.keeps;
+      twins = λ t agree. AreTwins-more events i _ below s (subst IsState l.invariant.state c.next_ends-why.ensures.state)
+          (plain-next events i _ below l.self why told s l.invariant.state none) t (l.invariant.twins t agree);
       room = omega (arith, c.emit.ensures.len, c.emit.ensures.room, l.invariant.room);
     }
 
@@ -81,3 +88,24 @@ pub returns-clause-silent : goal.returns-clause-silent
 returns-clause-silent g c =
     let l = c.loop-event in
     silent-kept c.args.events.now c.args.self.now l.event-index l.done l.invariant.done l.invariant.keeps
+
+pub returns-then-is_some-clause-two_worlds : goal.returns-then-is_some-clause-two_worlds
+returns-then-is_some-clause-two_worlds g c =
+    let l = c.loop-event in
+    let events = c.args.events.now in
+    let s = c.args.self.now in
+    let why = c.next_ends-why.result in
+    let below = c.loop-event-test.true in
+    let reached = l.invariant.state ∙ ap (λ n. run_after (take n events) s) (sym l.invariant.done) in
+    IsSameStretch-twins events s l.event-index l.done l.invariant.done (omega arith) l.invariant.twins why
+    (subst (EndsBefore why (drop l.done events)) reached
+    (ends-before events l.event-index _ below l.self why c.next_ends-why.ensures.why l.done l.invariant.done
+    (sym c.is_some.ensures ∙ c.if-is_some.true)))
+
+pub returns-clause-two_worlds : goal.returns-clause-two_worlds
+returns-clause-two_worlds g c =
+    let l = c.loop-event in
+    let events = c.args.events.now in
+    let s = c.args.self.now in
+    let all : length events ≤ l.done = omega arith in
+    IsSameStretch-twins events s l.event-index l.done l.invariant.done (omega arith) l.invariant.twins None (drop_all l.done events all)

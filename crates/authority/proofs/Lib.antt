@@ -1,0 +1,2 @@
+mod AgreesBothWays
+mod HiddenParts

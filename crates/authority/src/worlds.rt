@@ -1,0 +1,45 @@
+//! What holds of two worlds, states that agree in all that reachable capabilities open: each function's contract is a law over the
+//! definitions alone, and its body is empty.
+
+ghost use Rattle.std.specs.Prelude.{◌≡◌, ℕ, ◌+◌, slice_set};
+ghost use Rattle.base.specs.Ram.{ram_base};
+ghost use Rattle.cap_bounds.specs.CapValue.{CapValue};
+ghost use Rattle.tagged_memory.specs.Memory.{IsMemory};
+ghost use Rattle.special_regs.specs.Scrs.{Scrs};
+ghost use Rattle.hart.specs.declared.event.Event.{Event};
+ghost use Rattle.hart.specs.Event.{after, sent, outcome};
+ghost use Rattle.hart.specs.IsState.{IsState};
+ghost use Rattle.hart.specs.Outcome.{Plain};
+ghost use Rattle.hart.specs.State.{State};
+ghost use Rattle.hart.specs.Step.{step_effect};
+ghost use Rattle.authority.specs.Authority.{Not, HasSystem};
+ghost use Rattle.authority.specs.Reachable.{IsReachable};
+ghost use Rattle.authority.specs.WorldLooks.{SameLooks};
+ghost use Rattle.authority.specs.Worlds.{IsReadable, Agree};
+
+/// The effect of a step is a function of its looks, agreeing states have the same looks, so each event has the same outcome and sends
+/// the same byte in both; and behind a plain event they agree again.
+pub fn agreeing_states_step_alike()
+    ensures effect { (s t : State) → SameLooks s t → step_effect t ≡ step_effect s }
+    ensures looks { (s t : State) → Agree s t → SameLooks s t }
+    ensures outcome { (e : Event) (s t : State) → Agree s t → outcome e t ≡ outcome e s }
+    ensures byte { (e : Event) (s t : State) → Agree s t → sent e t ≡ sent e s }
+    ensures agreement { (e : Event) (s t : State) → IsState s → outcome e s ≡ Plain → Agree s t → Agree (after e s) (after e t) }
+{}
+
+/// Agreement goes both ways: the same values are reachable in both states. It holds between a state and itself, and over a third.
+pub fn agreement_goes_both_ways()
+    ensures there { (s t : State) → IsMemory s.memory → Agree s t → (v : CapValue) → IsReachable s v → IsReachable t v }
+    ensures back { (s t : State) → IsMemory s.memory → Agree s t → (v : CapValue) → IsReachable t v → IsReachable s v }
+    ensures itself { (s : State) → Agree s s }
+    ensures other { (s t : State) → IsMemory s.memory → Agree s t → Agree t s }
+    ensures third { (s t u : State) → IsMemory s.memory → Agree s t → Agree t u → Agree s u }
+{}
+
+/// Agreement says nothing of what is hidden: a byte of RAM that is not readable may be anything in the other state, and so may the four
+/// special registers where no reachable capability opens them.
+pub fn hidden_parts_may_differ()
+    ensures byte { (s : State) (k b : ℕ) → Not (IsReadable s (ram_base + k))
+        → Agree s (record s { memory = record s.memory { bytes = slice_set s.memory.bytes k b } }) }
+    ensures registers { (s : State) (x : Scrs) → Not (HasSystem s) → Agree s (record s { scrs = record x { pcc = s.scrs.pcc; ddc = s.scrs.ddc } }) }
+{}
