@@ -1,5 +1,5 @@
 -- When an access is refused, by arithmetic.
-use Rattle.std.proofs.Common.{◌≡◌, ℕ, ◌+◌, ◌%◌, ◌<◌, ◌≤◌, List, [], Bool, Option, Some, None, Ok, Err, length, refl, sym, ap, ◌∙◌, arith}
+use Rattle.std.proofs.Common.{◌≡◌, ℕ, ◌+◌, ◌%◌, ◌<◌, ◌≤◌, List, [], Option, Some, None, Ok, Err, length, refl, sym, ap, ◌∙◌, arith}
 use Rattle.std.proofs.lemmas.Bool.Decides.{nat_tests}
 use Rattle.tagged_memory.specs.declared.fault.MemoryFault.{MemoryFault}
 use Rattle.tagged_memory.specs.declared.fault.MemoryFault.TheVariants.{M3, M4}
@@ -21,16 +21,16 @@ pub fill_fault-inside : (m : Memory) (address size : ℕ) → ram_base ≤ addre
 unfolding fill_fault is_in_ram
 fill_fault-inside m address size low high = grind (arith, nat_tests)
 
--- the truth values have no part in it
-pub fill_fault-by_bytes : (bytes : List ℕ) (tags : List Bool) (address size : ℕ)
-    → fill_fault (memory_of bytes tags) address size ≡ fill_fault (memory_of bytes []) address size
+-- the tags have no part in it
+pub fill_fault-by_bytes : (bytes planes : List ℕ) (address size : ℕ)
+    → fill_fault (memory_of bytes planes) address size ≡ fill_fault (memory_of bytes []) address size
 unfolding fill_fault is_in_ram
-fill_fault-by_bytes bytes tags address size = refl
+fill_fault-by_bytes bytes planes address size = refl
 
-pub place_fault-by_bytes : (bytes : List ℕ) (tags : List Bool) (address size : ℕ)
-    → place_fault (memory_of bytes tags) address size ≡ place_fault (memory_of bytes []) address size
+pub place_fault-by_bytes : (bytes planes : List ℕ) (address size : ℕ)
+    → place_fault (memory_of bytes planes) address size ≡ place_fault (memory_of bytes []) address size
 unfolding place_fault is_in_ram
-place_fault-by_bytes bytes tags address size = refl
+place_fault-by_bytes bytes planes address size = refl
 
 pub place_fault-aligned : (m : Memory) (address size : ℕ) → address % size ≡ 0 → place_fault m address size ≡ fill_fault m address size
 unfolding place_fault fill_fault
@@ -50,49 +50,49 @@ unless_refused None x y f e = cc
 unless_refused (Some g) x y f e = let same : g ≡ f = cc in cc
 
 -- what the place of an access tells of the access of a memory with those bytes
-pub access-refused : {X : Type 0} {m : Memory} (bytes : List ℕ) (tags : List Bool) (slice : List ℕ) (address size x : ℕ) (y : X)
+pub access-refused : {X : Type 0} {m : Memory} (bytes planes slice : List ℕ) (address size x : ℕ) (y : X)
     (f : MemoryFault)
-    → memory_of bytes tags ≡ m → slice ≡ bytes → Err f ≡ unless (place_fault (memory_of slice []) address size) x
+    → memory_of bytes planes ≡ m → slice ≡ bytes → Err f ≡ unless (place_fault (memory_of slice []) address size) x
     → Err f ≡ unless (place_fault m address size) y
-access-refused {m = m} bytes tags slice address size x y f view read e =
+access-refused {m = m} bytes planes slice address size x y f view read e =
     let here : place_fault m address size ≡ Some f =
     sym (ap (λ n. place_fault n address size) view)
-    ∙ place_fault-by_bytes bytes tags address size
+    ∙ place_fault-by_bytes bytes planes address size
     ∙ sym (ap (λ b. place_fault (memory_of b []) address size) read)
     ∙ unless_refused (place_fault (memory_of slice []) address size) x y f e in
     sym (ap (λ g. unless g y) here)
 
-pub access-given : {X : Type 0} {m : Memory} (bytes : List ℕ) (tags : List Bool) (slice : List ℕ) (address size x p : ℕ) (y : X)
-    → memory_of bytes tags ≡ m → slice ≡ bytes → Ok p ≡ unless (place_fault (memory_of slice []) address size) x
+pub access-given : {X : Type 0} {m : Memory} (bytes planes slice : List ℕ) (address size x p : ℕ) (y : X)
+    → memory_of bytes planes ≡ m → slice ≡ bytes → Ok p ≡ unless (place_fault (memory_of slice []) address size) x
     → Ok y ≡ unless (place_fault m address size) y
-access-given {m = m} bytes tags slice address size x p y view read e =
+access-given {m = m} bytes planes slice address size x p y view read e =
     let here : place_fault m address size ≡ None =
     sym (ap (λ n. place_fault n address size) view)
-    ∙ place_fault-by_bytes bytes tags address size
+    ∙ place_fault-by_bytes bytes planes address size
     ∙ sym (ap (λ b. place_fault (memory_of b []) address size) read)
     ∙ (unless_given (place_fault (memory_of slice []) address size) x p e).0 in
     sym (ap (λ g. unless g y) here)
 
 -- the same for bytes that are filled in
-pub fill-refused : {X : Type 0} {m : Memory} (bytes : List ℕ) (tags : List Bool) (slice : List ℕ) (address size x : ℕ) (y : X)
+pub fill-refused : {X : Type 0} {m : Memory} (bytes planes slice : List ℕ) (address size x : ℕ) (y : X)
     (f : MemoryFault)
-    → memory_of bytes tags ≡ m → slice ≡ bytes → Err f ≡ unless (fill_fault (memory_of slice []) address size) x
+    → memory_of bytes planes ≡ m → slice ≡ bytes → Err f ≡ unless (fill_fault (memory_of slice []) address size) x
     → Err f ≡ unless (fill_fault m address size) y
-fill-refused {m = m} bytes tags slice address size x y f view read e =
+fill-refused {m = m} bytes planes slice address size x y f view read e =
     let here : fill_fault m address size ≡ Some f =
     sym (ap (λ n. fill_fault n address size) view)
-    ∙ fill_fault-by_bytes bytes tags address size
+    ∙ fill_fault-by_bytes bytes planes address size
     ∙ sym (ap (λ b. fill_fault (memory_of b []) address size) read)
     ∙ unless_refused (fill_fault (memory_of slice []) address size) x y f e in
     sym (ap (λ g. unless g y) here)
 
-pub fill-given : {X : Type 0} {m : Memory} (bytes : List ℕ) (tags : List Bool) (slice : List ℕ) (address size x p : ℕ) (y : X)
-    → memory_of bytes tags ≡ m → slice ≡ bytes → Ok p ≡ unless (fill_fault (memory_of slice []) address size) x
+pub fill-given : {X : Type 0} {m : Memory} (bytes planes slice : List ℕ) (address size x p : ℕ) (y : X)
+    → memory_of bytes planes ≡ m → slice ≡ bytes → Ok p ≡ unless (fill_fault (memory_of slice []) address size) x
     → Ok y ≡ unless (fill_fault m address size) y
-fill-given {m = m} bytes tags slice address size x p y view read e =
+fill-given {m = m} bytes planes slice address size x p y view read e =
     let here : fill_fault m address size ≡ None =
     sym (ap (λ n. fill_fault n address size) view)
-    ∙ fill_fault-by_bytes bytes tags address size
+    ∙ fill_fault-by_bytes bytes planes address size
     ∙ sym (ap (λ b. fill_fault (memory_of b []) address size) read)
     ∙ (unless_given (fill_fault (memory_of slice []) address size) x p e).0 in
     sym (ap (λ g. unless g y) here)

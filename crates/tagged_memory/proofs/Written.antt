@@ -1,9 +1,9 @@
 -- What the code reads and writes, as the definitions of memory have it.
-use Rattle.std.proofs.Common.{◌≡◌, ℕ, ◌+◌, ◌-◌, ◌*◌, ◌/◌, ◌%◌, ◌<◌, ◌≤◌, Bool, true, false, cond, not, ◌&&◌, List, [], ◌++◌, length, take}
-use Rattle.std.proofs.Common.{drop, get_or, set, Vec, refl, sym, ap, ◌∙◌, arith, ⊎_elim, inl, inr, replicate}
-use Rattle.std.proofs.lemmas.Bool.{cases_eq, lt-ltb, le-ltb, and_from, and_left, and_right, cases_lt}
-use Rattle.std.proofs.lemmas.List.{take_rest, drop-drop, drop_all, append-nil, append_assoc, length-drop, get_or-set_same, get_or-set_other}
-use Rattle.std.proofs.lemmas.List.{get_or-replicate, length-replicate, with_items_is}
+use Rattle.std.proofs.Common.{◌≡◌, ℕ, ◌+◌, ◌-◌, ◌*◌, ◌/◌, ◌%◌, ◌<◌, ◌≤◌, Bool, true, false, cond, eqb, not, ◌&&◌, List, [], ◌++◌, length, take}
+use Rattle.std.proofs.Common.{drop, set, Vec, refl, sym, ap, ◌∙◌, arith, ⊎_elim}
+use Rattle.std.proofs.lemmas.Bool.{cases_eq, eq-eqb, ne_eqb, lt-ltb, le-ltb, and_from, and_left, and_right, cases_lt}
+use Rattle.std.proofs.lemmas.List.{take_rest, drop-drop, drop_all, append-nil, append_assoc, length-drop}
+use Rattle.std.proofs.lemmas.List.{with_items_is}
 use Rattle.std.specs.FinSet as finite
 use Rattle.std.specs.Vec.{with_items}
 use Rattle.byteorder.specs.Endian.{little_number}
@@ -11,17 +11,19 @@ use Rattle.cap_format.specs.Word.{memory_bytes, word_of_memory}
 use Rattle.base.specs.Ram.{ram_base}
 use Rattle.tagged_memory.specs.Memory.{Memory, number_at, word_at, has_tag, touches, data_written, capability_written}
 use Rattle.tagged_memory.specs.Layout.{memory_of, tags_from}
-use Rattle.tagged_memory.specs.Replaced.{replaced, length-same, element-kept, element-new}
+use Rattle.tagged_memory.specs.Replaced.{replaced, length-same}
 use Rattle.base.specs.Size.{bytes_of}
 use Rattle.base.specs.declared.size.Size.{Size}
 use Rattle.base.specs.declared.size.Size.TheVariants.{Byte, Half, Word, Double}
+use Rattle.tagged_memory.specs.Planes.{tag_at, tags_of}
+use Rattle.tagged_memory.proofs.TagBits.{length-tags_of, get_or-tags_of, tags_of-set}
 use Rattle.tagged_memory.proofs.Tags.{contains_at, tags_from-retained, tags_from-inserted, tags_from-removed}
 
 -- a number that is read at its place is the number at its address
-pub number_here : {m : Memory} (bytes : List ℕ) (tags : List Bool) (slice : List ℕ) (address n place : ℕ) → memory_of bytes tags ≡ m
+pub number_here : {m : Memory} (bytes planes slice : List ℕ) (address n place : ℕ) → memory_of bytes planes ≡ m
     → slice ≡ bytes → ram_base + place ≡ address
     → little_number n (take (length slice - place) (drop place slice)) ≡ number_at m address n
-number_here bytes tags slice address n place view read at =
+number_here bytes planes slice address n place view read at =
     let back : place ≡ address - ram_base = omega arith in
     ap (little_number n) (take_rest slice place ∙ ap (drop place) read ∙ ap (λ k. drop k bytes) back)
     ∙ ap (λ x. number_at x address n) view
@@ -48,33 +50,35 @@ and_not_false true b e = sym (ap not e)
 and_not_false false b e = refl
 
 -- a write inside one granule touches that granule alone
-pub granule_cleared : (tags : List Bool) (place n address i : ℕ) → ram_base + place ≡ address → 1 ≤ n → i * 16 ≤ place
-    → place + n ≤ i * 16 + 16 → i < length tags → (k : ℕ)
-    → get_or (set tags i false) k false ≡ (get_or tags k false && not (touches address n (ram_base + 16 * k)))
-granule_cleared tags place n address i at some low high within k = ⊎_elim (λ same.
+pub granule_cleared : (planes : List ℕ) (place n address granule k : ℕ) → ram_base + place ≡ address → 1 ≤ n → granule * 16 ≤ place
+    → place + n ≤ granule * 16 + 16
+    → cond (eqb k granule) false (tag_at planes k) ≡ (tag_at planes k && not (touches address n (ram_base + 16 * k)))
+granule_cleared planes place n address granule k at some low high = ⊎_elim (λ same.
     let first : ram_base + 16 * k < address + n = omega arith in
     let second : address < ram_base + 16 * k + 16 = omega arith in
-    ap (λ j. get_or (set tags i false) j false) same
-    ∙ get_or-set_same tags i false false within
-    ∙ and_not_true (get_or tags k false) (touches address n (ram_base + 16 * k))
+    ap (λ b. cond b false (tag_at planes k)) (eq-eqb k granule same)
+    ∙ and_not_true (tag_at planes k) (touches address n (ram_base + 16 * k))
     (and_from _ _ (lt-ltb _ _ some) (and_from _ _ (lt-ltb _ _ first) (lt-ltb _ _ second)))) (λ other.
-    get_or-set_other tags i k false false other
-    ∙ and_not_false (get_or tags k false) (touches address n (ram_base + 16 * k))
+    ap (λ b. cond b false (tag_at planes k)) (ne_eqb k granule other)
+    ∙ and_not_false (tag_at planes k) (touches address n (ram_base + 16 * k))
     (⊎_elim (λ below. let h : ram_base + 16 * k + 16 ≤ address = omega arith in and_right _ _ (and_right _ _ (le-ltb _ _ h)))
     (λ above. let h : address + n ≤ ram_base + 16 * k = omega (arith, other) in and_right _ _ (and_left _ _ (le-ltb _ _ h)))
-    (cases_lt k i))) (cases_eq k i)
+    (cases_lt k granule))) (cases_eq k granule)
 
--- bytes and truth values that changed as a write of data says are the memory that it makes
-pub data_written-is : {m : Memory} (bytes : List ℕ) (tags us : List Bool) (address place : ℕ) (new : List ℕ) → memory_of bytes tags ≡ m
-    → ram_base + place ≡ address → length us ≡ length tags
-    → ((k : ℕ) → get_or us k false ≡ (get_or tags k false && not (touches address (length new) (ram_base + 16 * k))))
-    → memory_of (replaced bytes place new) us ≡ data_written m address new
+-- bytes and tags that changed as a write of data says are the memory that it makes
+pub data_written-is : {m : Memory} (bytes planes new_planes : List ℕ) (address place : ℕ) (new : List ℕ) → memory_of bytes planes ≡ m
+    → ram_base + place ≡ address → length new_planes ≡ length planes
+    → ((k : ℕ) → tag_at new_planes k ≡ (tag_at planes k && not (touches address (length new) (ram_base + 16 * k))))
+    → memory_of (replaced bytes place new) new_planes ≡ data_written m address new
 unfolding data_written
-data_written-is bytes tags us address place new view at same each =
+data_written-is bytes planes new_planes address place new view at same each =
     let back : place ≡ address - ram_base = omega arith in
-    ap (λ k. memory_of (replaced bytes k new) us) back
+    let long : length (tags_of new_planes) ≡ length (tags_of planes) = omega (arith, length-tags_of new_planes, length-tags_of planes) in
+    ap (λ k. memory_of (replaced bytes k new) new_planes) back
     ∙ ap (λ s. record { bytes = replaced bytes (address - ram_base) new; tags = s })
-    (tags_from-retained ram_base tags us (λ g. not (touches address (length new) g)) same each)
+    (tags_from-retained ram_base (tags_of planes) (tags_of new_planes) (λ g. not (touches address (length new) g)) long (λ k.
+    get_or-tags_of new_planes k ∙ each k
+    ∙ ap (λ tag. tag && not (touches address (length new) (ram_base + 16 * k))) (sym (get_or-tags_of planes k))))
     ∙ ap (λ x. data_written x address new) view
 
 -- what a `Vec` holds after a write to the first part of the rest of it
@@ -100,19 +104,20 @@ number_in_granule Half address place at aligned = (omega arith, omega arith)
 number_in_granule Word address place at aligned = (omega arith, omega arith)
 number_in_granule Double address place at aligned = (omega arith, omega arith)
 
--- the truth value of the granule that a place is in
-pub tag_here : {m : Memory} (bytes : List ℕ) (tags : List Bool) (address place : ℕ) → memory_of bytes tags ≡ m → ram_base + place ≡ address
+-- the tag of the granule that a place is in
+pub tag_here : {m : Memory} (bytes planes : List ℕ) (address place : ℕ) → memory_of bytes planes ≡ m → ram_base + place ≡ address
     → address % 16 ≡ 0
-    → get_or tags (place / 16) false ≡ has_tag m address
-tag_here bytes tags address place view at aligned =
+    → tag_at planes (place / 16) ≡ has_tag m address
+tag_here bytes planes address place view at aligned =
     let granule : address ≡ ram_base + 16 * (place / 16) = omega arith in
-    sym (contains_at ram_base tags (place / 16) address granule) ∙ ap (λ m. has_tag m address) view
+    sym (contains_at ram_base (tags_of planes) (place / 16) address granule ∙ get_or-tags_of planes (place / 16))
+    ∙ ap (λ m. has_tag m address) view
 
 -- the word that is read at its place is the word at its address
-pub word_here : {m : Memory} (bytes : List ℕ) (tags : List Bool) (slice : List ℕ) (address place : ℕ) → memory_of bytes tags ≡ m
+pub word_here : {m : Memory} (bytes planes slice : List ℕ) (address place : ℕ) → memory_of bytes planes ≡ m
     → slice ≡ bytes → ram_base + place ≡ address
     → word_of_memory (take 16 (take (length slice - place) (drop place slice))) ≡ word_at m address
-word_here bytes tags slice address place view read at =
+word_here bytes planes slice address place view read at =
     let back : place ≡ address - ram_base = omega arith in
     ap (λ xs. word_of_memory (take 16 xs)) (take_rest slice place ∙ ap (drop place) read ∙ ap (λ k. drop k bytes) back)
     ∙ ap (λ x. word_at x address) view
@@ -123,53 +128,17 @@ tags_after : (tags : List Bool) (i address : ℕ) (tag : Bool) → i < length ta
 tags_after tags i address true h at = tags_from-inserted ram_base tags i address h at
 tags_after tags i address false h at = tags_from-removed ram_base tags i address h at
 
--- bytes and truth values that changed as a write of a capability says are the memory that it makes
-pub capability_written-is : {m : Memory} (bytes : List ℕ) (tags : List Bool) (address place word : ℕ) (tag : Bool)
-    → memory_of bytes tags ≡ m → ram_base + place ≡ address → address % 16 ≡ 0 → place / 16 < length tags
-    → memory_of (replaced bytes place (memory_bytes word)) (set tags (place / 16) tag) ≡ capability_written m address word tag
+-- bytes and tags that changed as a write of a capability says are the memory that it makes
+pub capability_written-is : {m : Memory} (bytes planes new_planes : List ℕ) (address place word : ℕ) (tag : Bool)
+    → memory_of bytes planes ≡ m → ram_base + place ≡ address → address % 16 ≡ 0 → place / 16 < 64 * length planes
+    → length new_planes ≡ length planes
+    → ((k : ℕ) → tag_at new_planes k ≡ cond (eqb k (place / 16)) tag (tag_at planes k))
+    → memory_of (replaced bytes place (memory_bytes word)) new_planes ≡ capability_written m address word tag
 unfolding capability_written
-capability_written-is bytes tags address place word tag view at aligned within =
+capability_written-is bytes planes new_planes address place word tag view at aligned within same each =
     let back : place ≡ address - ram_base = omega arith in
-    ap (λ k. memory_of (replaced bytes k (memory_bytes word)) (set tags (place / 16) tag)) back
+    ap (λ k. memory_of (replaced bytes k (memory_bytes word)) new_planes) back
     ∙ ap (λ s. record { bytes = replaced bytes (address - ram_base) (memory_bytes word); tags = s })
-    (tags_after tags (place / 16) address tag within (omega arith))
+    (ap (tags_from ram_base) (tags_of-set planes new_planes (place / 16) tag within same each)
+    ∙ tags_after (tags_of planes) (place / 16) address tag (omega (arith, length-tags_of planes)) (omega arith))
     ∙ ap (λ x. capability_written x address word tag) view
-
--- a list whose middle is replaced
-middle : {X : Type 0} (xs ys : List X) (a n : ℕ) → length ys ≡ n → take a xs ++ (ys ++ drop n (drop a xs)) ≡ replaced xs a ys
-middle xs ys a n size =
-    ap (λ zs. take a xs ++ (ys ++ zs)) (drop-drop n a xs ∙ ap (λ m. drop (a + m) xs) (sym size))
-    ∙ sym (append_assoc (take a xs) ys (drop (a + length ys) xs))
-
--- truth values that are all taken from one granule to another are those of the granules touched
-pub granules_cleared : (tags part : List Bool) (place size first n : ℕ) → first ≡ place / 16 → first + n ≡ (place + size + 15) / 16
-    → 1 ≤ size → place + size ≤ 16 * length tags → part ≡ replicate n false → (k : ℕ)
-    → get_or (take first tags ++ (part ++ drop n (drop first tags))) k false
-    ≡ (get_or tags k false && not (touches (ram_base + place) size (ram_base + 16 * k)))
-granules_cleared tags part place size first n begin end some room e k =
-    let len : length (replicate n false) ≡ n = length-replicate n false in
-    let shape : take first tags ++ (part ++ drop n (drop first tags)) ≡ replaced tags first (replicate n false) =
-    ap (λ xs. take first tags ++ (xs ++ drop n (drop first tags))) e ∙ middle tags (replicate n false) first n len in
-    let fits : first + length (replicate n false) ≤ length tags = omega arith in
-    ap (λ xs. get_or xs k false) shape
-    ∙ ⊎_elim (λ below.
-    let apart : ram_base + 16 * k + 16 ≤ ram_base + place = omega arith in
-    element-kept tags first (replicate n false) fits k false (inl below)
-    ∙ and_not_false (get_or tags k false) (touches (ram_base + place) size (ram_base + 16 * k))
-    (and_right _ _ (and_right _ _ (le-ltb _ _ apart)))) (λ above. ⊎_elim (λ inside.
-    let last : ram_base + 16 * k < ram_base + place + size = omega arith in
-    let start : ram_base + place < ram_base + 16 * k + 16 = omega arith in
-    element-new tags first (replicate n false) fits k false above (omega arith)
-    ∙ get_or-replicate n (k - first) false false (omega arith)
-    ∙ and_not_true (get_or tags k false) (touches (ram_base + place) size (ram_base + 16 * k))
-    (and_from _ _ (lt-ltb _ _ some) (and_from _ _ (lt-ltb _ _ last) (lt-ltb _ _ start)))) (λ past.
-    let apart : ram_base + place + size ≤ ram_base + 16 * k = omega arith in
-    element-kept tags first (replicate n false) fits k false (inr (omega arith))
-    ∙ and_not_false (get_or tags k false) (touches (ram_base + place) size (ram_base + 16 * k))
-    (and_right _ _ (and_left _ _ (le-ltb _ _ apart)))) (cases_lt k (first + n))) (cases_lt k first)
-
--- where there is no byte, no granule is touched
-pub none_cleared : (tags : List Bool) (address size k : ℕ) → size ≤ 0
-    → get_or tags k false ≡ (get_or tags k false && not (touches address size (ram_base + 16 * k)))
-none_cleared tags address size k none =
-    and_not_false (get_or tags k false) (touches address size (ram_base + 16 * k)) (and_left _ _ (le-ltb _ _ none))

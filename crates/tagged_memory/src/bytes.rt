@@ -1,6 +1,4 @@
-ghost use Rattle.std.specs.Prelude.{◌≡◌, ℕ, ◌+◌, ◌*◌, ◌^◌, ◌<◌, ◌≤◌, ◌++◌, ◌&&◌, not, false, drop, take, length, slice_index_or};
-ghost use Rattle.base.specs.Ram.{ram_base};
-ghost use Rattle.tagged_memory.specs.Memory.{touches};
+ghost use Rattle.std.specs.Prelude.{◌≡◌, ◌+◌, ◌^◌, ◌<◌, ◌≤◌, ◌++◌, drop, take, length};
 ghost use Rattle.tagged_memory.specs.Replaced.{replaced};
 ghost use Rattle.byteorder.specs.Endian.{little_bytes, little_number};
 ghost use Rattle.cap_format.specs.Word.{memory_bytes, word_of_memory};
@@ -66,20 +64,4 @@ pub fn write_bytes(bytes: &mut [u8], place: usize, contents: &[u8])
     ensures { bytes.new ≡ replaced bytes.old place contents.now }
 {
     bytes[place..place + contents.len()].copy_from_slice(contents);
-}
-
-/// Takes the tag of each granule that some of `size` bytes from a place lie in.
-pub fn clear_granules(tags: &mut [bool], place: usize, size: usize)
-    requires room { place + size ≤ 16 * length tags.old }
-    requires small { length tags.old < 2 ^ 32 }
-    ensures len { length tags.new ≡ length tags.old }
-    ensures cleared { (k : ℕ) → slice_index_or tags.new k false
-        ≡ (slice_index_or tags.old k false && not (touches (ram_base + place) size (ram_base + 16 * k))) }
-{
-    if size == 0 {
-        return;
-    }
-    let first = place / 16;
-    let end = (place + size).div_ceil(16);
-    tags[first..end].fill(false);
 }

@@ -1,33 +1,38 @@
-ghost use Rattle.std.specs.Prelude.{◌≡◌, ◌+◌, ◌*◌, ◌^◌, ◌<◌, length, position};
+ghost use Rattle.std.specs.Prelude.{◌≡◌, ◌+◌, ◌*◌, ◌-◌, ◌^◌, ◌<◌, ◌≤◌, drop, length, take};
+ghost use Rattle.base.specs.Ram.{ram_base};
+
+use crate::planes::next_tag;
+use base::ram;
 
 /// An iterator over the addresses of tagged granules, ascending.
 #[derive(Debug, Drop)]
 pub struct Tagged<'a> {
-    /// The tags of the granules that are left.
-    tags: &'a [bool],
-    /// The address of the first of them.
-    address: u64,
-    ghost in_range: { address + 16 * length tags.now < 2 ^ 64 },
+    /// The tags of RAM's granules, 64 a word.
+    planes: &'a [u64],
+    /// The number of the first granule that is left.
+    next: usize,
+    /// The number of the first granule past those that are left.
+    end: usize,
+    ghost within: { end ≤ 64 * length planes.now },
+    ghost small: { length planes.now < 2 ^ 32 },
 }
 
 impl<'a> Tagged<'a> {
+    ghost use Rattle.tagged_memory.specs.Planes.{tags_of};
     ghost use Rattle.tagged_memory.specs.Tagged.{addresses_of, tagged_rest};
 
-    /// The tagged ones of the granules with these tags, the first at an address.
-    pub(crate) fn new(tags: &'a [bool], address: u64) -> Self
-        requires { address + 16 * length tags.now < 2 ^ 64 }
-        ensures { tagged_rest result ≡ addresses_of address tags.now }
+    /// The tagged ones of the granules from `first` on and below `end`.
+    pub(crate) fn new(planes: &'a [u64], first: usize, end: usize) -> Self
+        requires within { end ≤ 64 * length planes.now }
+        requires small { length planes.now < 2 ^ 32 }
+        ensures { tagged_rest result ≡ addresses_of (ram_base + 16 * first) (take (end - first) (drop first (tags_of planes.now))) }
     {
-        Tagged { tags, address }
+        Tagged {
+            planes,
+            next: first,
+            end,
+        }
     }
-}
-
-/// The first granule that is tagged.
-#[inline]
-fn first_tag(tags: &[bool]) -> Option<usize>
-    ensures { result ≡ position (λ tag. tag) tags.now }
-{
-    tags.iter().position(|tag| *tag)
 }
 
 impl<'a> Iterator for Tagged<'a> {
@@ -41,10 +46,14 @@ impl<'a> Iterator for Tagged<'a> {
     ghost remaining = { item_count tagged_rest };
 
     fn next(&mut self) -> Option<u64> {
-        let skipped = first_tag(self.tags)?;
-        let address = self.address + 16 * skipped as u64;
-        self.tags = &self.tags[skipped + 1..];
-        self.address = address + 16;
-        Some(address)
+        if self.next >= self.end {
+            return None;
+        }
+        let granule = next_tag(self.planes, self.next);
+        if granule >= self.end {
+            return None;
+        }
+        self.next = granule + 1;
+        Some(ram::BASE + 16 * granule as u64)
     }
 }

@@ -1,6 +1,6 @@
-use Rattle.std.proofs.Common.{◌≡◌, ◌/◌, ◌<◌, length, ap, sym, ◌∙◌, arith}
-use Rattle.std.proofs.lemmas.List.{get_or_read}
+use Rattle.std.proofs.Common.{◌≡◌, ◌/◌, ap, ◌∙◌}
 use Rattle.tagged_memory.specs.Memory.{word_at, has_tag}
+use Rattle.tagged_memory.specs.Planes.{tag_at}
 use Rattle.tagged_memory.proofs.Written.{word_here, tag_here}
 use Rattle.tagged_memory.proofs.memory.Memory.get_cap.Goals as goal
 
@@ -8,13 +8,11 @@ pub returns : goal.returns
 returns c =
     let p = c.args.place in
     let bytes = c.self.inside.bytes.items in
-    let tags = c.self.inside.tags.items in
+    let planes = c.self.inside.planes.items in
     let place = c.requires.within in
-    let room : length c.args.self.now.bytes ≡ length bytes = sym (ap (λ m. length m.bytes) c.self.view_is) in
-    let inside : p / 16 < length tags = omega (arith, place.within, room, c.self.invariant.whole_pages, c.self.invariant.tag_each) in
     let word : c.read_word.result ≡ word_at c.args.self.now c.args.address = c.read_word.ensures
-    ∙ word_here bytes tags c.deref.result.now c.args.address p c.self.view_is c.deref.ensures.value place.from_base in
-    let tag : c.index.result.now ≡ has_tag c.args.self.now c.args.address =
-    get_or_read tags (p / 16) c.index.result.now inside c.index.ensures _
-    ∙ tag_here bytes tags c.args.address p c.self.view_is place.from_base c.requires.aligned in
+    ∙ word_here bytes planes c.deref.result.now c.args.address p c.self.view_is c.deref.ensures.value place.from_base in
+    let tag : c.has_tag.result ≡ has_tag c.args.self.now c.args.address = c.has_tag.ensures
+    ∙ ap (λ xs. tag_at xs (p / 16)) c.deref-2.ensures.value
+    ∙ tag_here bytes planes c.args.address p c.self.view_is place.from_base c.requires.aligned in
     λ i. (word i, tag i)
