@@ -31,6 +31,7 @@ mod requests;
 mod rights;
 mod rows;
 mod script;
+mod searches;
 mod seen;
 mod sessions;
 mod shown;
@@ -69,6 +70,7 @@ enum Table {
     Registers,
     Devices,
     Memory,
+    Searches,
     Integers,
     Encodings,
     Images,
@@ -88,7 +90,7 @@ enum Table {
 }
 
 /// The files by name, without their endings, in the order in which they are tried.
-const FILES: [(&str, Table); 34] = [
+const FILES: [(&str, Table); 35] = [
     ("words", Table::Words),
     ("parts", Table::Parts),
     ("windows", Table::Windows),
@@ -104,6 +106,7 @@ const FILES: [(&str, Table); 34] = [
     ("traps", Table::Registers),
     ("devices", Table::Devices),
     ("memory", Table::Memory),
+    ("searches", Table::Searches),
     ("integers", Table::Integers),
     ("encodings", Table::Encodings),
     ("images", Table::Images),
@@ -132,7 +135,7 @@ impl Table {
             Table::Devices | Table::Memory | Table::Integers | Table::Encodings | Table::Images => {
                 false
             }
-            Table::Failures | Table::Assembled | Table::Assemblies => false,
+            Table::Failures | Table::Assembled | Table::Assemblies | Table::Searches => false,
             Table::ImageFiles | Table::Lines | Table::Names | Table::Shown => false,
             Table::Digits | Table::Plans | Table::Listings | Table::Parts => false,
             _ => true,
@@ -174,6 +177,7 @@ impl Table {
             Table::Registers => register_script::answer::<C>(alloc, inputs),
             Table::Devices => device_script::answer(alloc, inputs),
             Table::Memory => memory_script::answer(alloc, inputs),
+            Table::Searches => searches::answer(alloc, inputs),
             Table::Integers => integers::answer(alloc, read),
             Table::Encodings => encodings::answer(alloc, read),
             Table::Images => images::answer(alloc, inputs),
