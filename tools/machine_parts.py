@@ -119,6 +119,19 @@ def tagged(addresses):
     return [(f"writec {address:x} {ROOT} 1", "ok") for address in addresses]
 
 
+def granule(number):
+    """The address of a granule, by its number from 0."""
+    return 0x80000000 + 16 * number
+
+
+def planes(granules, pages):
+    """The words of tags of so many pages of which these granules are tagged."""
+    words = [0] * (4 * pages)
+    for number in granules:
+        words[number // 64] |= 1 << number % 64
+    return " ".join(f"{word:x}" for word in words)
+
+
 def memory():
     yield "# pages, of 4096 bytes; calls => what each answers"
     yield "# pages are 1 to 4096"
@@ -165,11 +178,42 @@ def memory():
     yield memory_script(
         *granules, ("fill 8000001f 07*18", "ok"), ("tagged 0 ffffffffffffffff", "80000000 80000040"), ("read 1 8000001e", "ff"),
         ("read 1 8000001f", "7"), ("read 2 80000030", "7"), ("fill 80000048 -", "ok"), ("readc 80000040", f"{ROOT} 1"))
+    yield "# tags are bits, 64 granules a word, the first granule's the lowest of the first word"
+    yield memory_script(("planes", planes([], 1)))
+    for pages, granules in ((1, (0, 63, 64, 255)), (2, (256 + 1,)), (3, (11 * 64,))):
+        yield memory_script(*tagged(map(granule, granules)), ("planes", planes(granules, pages)),
+                            ("tagged 0 ffffffffffffffff", " ".join(f"{granule(number):x}" for number in granules)), pages=pages)
+    yield memory_script(*tagged(map(granule, (0, 1, 2))), ("write 1 8000001f 0", "ok"), ("planes", planes((0, 2), 1)),
+                        (f"writec 80000000 {ROOT} 0", "ok"), ("planes", planes((2,), 1)))
+    yield "# filling takes the tags of whole words and of the words that it begins and ends in"
+    among = (62, 63, 64, 127, 128, 191, 192, 193)
+    for begins, ends in ((63, 192), (64, 191), (63, 127), (128, 192), (62, 62), (191, 193)):
+        left = [number for number in among if not begins <= number <= ends]
+        count = max(16 * (ends - begins) - 14, 1)
+        yield memory_script(*tagged(map(granule, among)), (f"fill {granule(begins) + 15:x} 07*{count}", "ok"), ("planes", planes(left, 1)))
+    yield "# of all RAM that there can be, one granule: the last"
+    yield memory_script(*tagged((0x80FFFFF0,)), ("tagged 0 ffffffffffffffff", "80fffff0"), pages=0x1000)
+    yield memory_script(*tagged((0x80000FF0,)), ("tagged 80000000 80001000", "80000ff0"))
     yield "# there is no place past the end"
     for call, answer in (("fill 80001000 -", "ok"), ("fill 80001001 -", "M3"), ("fill 80000fff 0102", "M3"), ("fill 7fffffff 0102", "M3")):
         yield memory_script((call, answer), ("read 1 80000fff", "0"))
 
 
+def searches():
+    """Words as hexadecimal digits, and the place of the first that isn't 0, or how many they are."""
+    yield "# words => the index of the first that isn't 0, or how many there are"
+    for count in (1, 7, 8, 9, 15, 16, 17, 24):
+        yield f"{' '.join(['0'] * count)} => {count}"
+        for place in sorted({0, count // 2, count - 1}):
+            words = ["0"] * count
+            words[place] = f"{1 << (place * 7 % 64):x}"
+            yield f"{' '.join(words)} => {place}"
+            if place + 1 < count:
+                yield f"{' '.join(words[:place + 1] + ['ffffffffffffffff'] * (count - place - 1))} => {place}"
+    yield f"{' '.join(['0'] * 7 + ['8000000000000000'])} => 7"
+
+
 def files():
+    yield "searches.txt", list(searches())
     yield "devices.txt", list(devices())
     yield "memory.txt", list(memory())

@@ -25,14 +25,14 @@ REFUSED = [
         "until 0x80000004 0", "until 0x80000004 1 1", "until -1 1", "until 18446744073709551616 1", "until 0x80000004 0xf4241",
         "until x 1", "until . 1", "reg", "reg a0 a1", "reg a0,", "reg 10", "reg X1", "reg A0", "reg x01", "reg c32", "reg x-1",
         "reg s12", "reg t7", "reg a8", "reg czero", "reg cx5", "reg cc5", "reg null", "reg pcc", "reg ddc", "reg mstatus",
-        "reg c", "reg x", "regs a0", "scr pcc", "csr mstatus", "quit 0", "mem", "mem 0x80000000", "mem 0x80000000 0",
+        "reg c", "reg x", "regs a0", "scr pcc", "csr mstatus", "caps 1", "quit 0", "mem", "mem 0x80000000", "mem 0x80000000 0",
         "mem 0x80000000 0x1001", "mem 0x80000000 1 1", "mem 0x80000000 -1", "mem -1 1", "mem 0x10000000000000000 1",
         "mem 18446744073709551616 1", "mem 0 0", "mem 0 4097", "mem .text 1", "dis", "dis 0x80000000", "dis 0x80000000 0",
         "dis 0x80000000 0x401", "dis 0x80000000 1 1", "dis 0x80000001 1", "dis 0x80000003 1", "dis 2 1", "dis 1 1025",
         "dis 0xfffffffffffffffd 1", "dis 0x10000000000000000 1", "dis -4 1", "reg ca0\x0c",
     ]),
     ("B1", [
-        "", " ", "caps 1", "STEP 1", "Quit", "quit#", "#", "step,1", "steps 1", "ste 1", "reg\x0bca0", "regs\0", "step\x7f1",
+        "", " ", "cap", "caps1", "CAPS", "STEP 1", "Quit", "quit#", "#", "step,1", "steps 1", "ste 1", "reg\x0bca0", "regs\0", "step\x7f1",
         "\t \r",
     ]),
     ("B2", [
@@ -433,7 +433,7 @@ STEPPED = [
     ("dis 0x80000004 1024", "fault B3"),
     ("dis 0xfffffffffffffffc 1024", "fault B3"),
     ("frob", "fault B1"),
-    ("caps", "fault B1"),
+    ("caps", ""),
     ("Step 1", "fault B1"),
     ("", "fault B1"),
     ("frob \xe9", "fault B2"),
@@ -522,6 +522,18 @@ def cases():
                             "auipc a1, 0x1; cspecialrw ca0, ddc, cnull; csetaddr ca0, ca0, a1; csetboundsimm ca0, ca0, 4095",
                             "> step 4\nevents 4 out - pc 0000000080000010 running\n> reg ca0\n"
                             "ca0 v:1 a:0000000080001000 b:0000000080001000 t:00000000080001fff p:78fff f:0 o:3ffff")
+    yield from conversation("what RAM holds is shown, until a byte is stored over it",
+                            "auipc a1, 0x1; cspecialrw ca0, ddc, cnull; csetaddr ca0, ca0, a1; csetboundsimm ca0, ca0, 4095; "
+                            "addi a2, a1, -2048; sc ca0, -1792(a2); sb zero, -1777(a2)",
+                            "> caps\n> step 6\nevents 6 out - pc 0000000080000018 running\n> caps\n"
+                            "0000000080000100 v:1 a:0000000080001000 b:0000000080001000 t:00000000080001fff p:78fff f:0 o:3ffff\n"
+                            "> step 1\nevents 1 out - pc 000000008000001c running\n> caps")
+    yield from conversation("capabilities in RAM are shown in ascending order, and data is not",
+                            "auipc a1, 0x1; cspecialrw ca0, ddc, cnull; sc ca0, -16(a1); addi a2, a1, -2048; sc ca0, -1024(a2); "
+                            "sc cnull, 0(a2)",
+                            "> step 6\nevents 6 out - pc 0000000080000018 running\n> caps\n"
+                            "! root 0000000080000400 0\n! root 0000000080000ff0 0\n> mem 0x80000400 8\n"
+                            "0000000080000400: 00 00 00 00 00 00 00 00")
     yield from conversation("a line has 255 bytes at most", "",
                             f"{typed('regs' + 251 * ' ')}\n! regs\n{typed('regs' + 252 * ' ')}\nfault B2")
     for about, text in TALKS:

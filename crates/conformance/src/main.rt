@@ -31,6 +31,7 @@ mod requests;
 mod rights;
 mod rows;
 mod script;
+mod searches;
 mod seen;
 mod sessions;
 mod shown;
@@ -70,6 +71,7 @@ enum Table {
     Registers,
     Devices,
     Memory,
+    Searches,
     Integers,
     Encodings,
     Images,
@@ -106,6 +108,7 @@ const FILES: [(&str, Table); 35] = [
     ("traps", Table::Registers),
     ("devices", Table::Devices),
     ("memory", Table::Memory),
+    ("searches", Table::Searches),
     ("integers", Table::Integers),
     ("encodings", Table::Encodings),
     ("images", Table::Images),
@@ -135,7 +138,7 @@ impl Table {
             Table::Devices | Table::Memory | Table::Integers | Table::Encodings | Table::Images => {
                 false
             }
-            Table::Failures | Table::Assembled | Table::Assemblies => false,
+            Table::Failures | Table::Assembled | Table::Assemblies | Table::Searches => false,
             Table::ImageFiles | Table::Lines | Table::Names | Table::Shown => false,
             Table::Digits | Table::Plans | Table::Listings | Table::Parts => false,
             _ => true,
@@ -177,6 +180,7 @@ impl Table {
             Table::Registers => register_script::answer::<C>(alloc, inputs),
             Table::Devices => device_script::answer(alloc, inputs),
             Table::Memory => memory_script::answer(alloc, inputs),
+            Table::Searches => searches::answer(alloc, inputs),
             Table::Integers => integers::answer(alloc, read),
             Table::Encodings => encodings::answer(alloc, read),
             Table::Images => images::answer(alloc, inputs),

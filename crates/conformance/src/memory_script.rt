@@ -60,9 +60,21 @@ fn tagged_text(alloc: Global, memory: &Memory, from: u64, to: u64) -> Result<Str
     }
 }
 
+/// The words of tags.
+fn planes_text(alloc: Global, memory: &Memory) -> Result<String, CaseError> {
+    let mut text = String::new(alloc);
+    for word in memory.planes() {
+        if !text.is_empty() {
+            text.push_str(" ")?;
+        }
+        text.push_str(&hex(alloc, *word)?)?;
+    }
+    Ok(text)
+}
+
 impl Called for Memory {
-    /// `read SIZE ADDRESS`, `write SIZE ADDRESS VALUE`, `readc ADDRESS`, `writec ADDRESS HIGH LOW TAG`, `fill ADDRESS BYTES` and
-    /// `tagged FROM TO`.
+    /// `read SIZE ADDRESS`, `write SIZE ADDRESS VALUE`, `readc ADDRESS`, `writec ADDRESS HIGH LOW TAG`, `fill ADDRESS BYTES`,
+    /// `tagged FROM TO` and `planes`.
     fn call(
         &mut self,
         alloc: Global,
@@ -99,6 +111,7 @@ impl Called for Memory {
                 let to = words.hex();
                 tagged_text(alloc, self, from, to)
             }
+            "planes" => planes_text(alloc, self),
             _ => Err(CaseError::Unreadable),
         }
     }

@@ -23,6 +23,8 @@ pub data Command : Type 0 where
   regs : Command
   scr : Command
   csr : Command
+  -- the capabilities in RAM
+  caps : Command
   -- bytes from an address, and words as instructions
   mem : ℕ → ℕ → Command
   dis : ℕ → ℕ → Command
@@ -94,10 +96,11 @@ command_named name operands =
     else (if is_word name (codes "regs") then operands_or_B2 (nothing_more regs operands)
     else (if is_word name (codes "scr") then operands_or_B2 (nothing_more scr operands)
     else (if is_word name (codes "csr") then operands_or_B2 (nothing_more csr operands)
+    else (if is_word name (codes "caps") then operands_or_B2 (nothing_more caps operands)
     else (if is_word name (codes "mem") then operands_or_B2 (address_and_number mem 4096 operands)
     else (if is_word name (codes "dis") then operands_or_B2 (at_a_word (address_and_number dis 1024 operands))
     else (if is_word name (codes "quit") then operands_or_B2 (nothing_more quit operands)
-    else Err B1))))))))))
+    else Err B1)))))))))))
 
 abbrev pub command_of_words : List (List ℕ) → Result Command DebugFault
 command_of_words [] = Err B1

@@ -2,8 +2,9 @@
 use Rattle.std.specs.Prelude.{ℕ, zero, suc, ◌+◌, ◌*◌, Bool, true, false, not, ◌||◌, ◌==◌, if◌then◌else◌, List, [], ◌∷◌, ◌++◌, length, take}
 use Rattle.std.specs.Prelude.{drop, replicate, Option, Some, None, is_some, Result, Ok, Err, codes, decimal}
 use Rattle.std.specs.List.{flat_map}
-use Rattle.cap_bounds.specs.CapValue.{CapValue, value_flag}
-use Rattle.tagged_memory.specs.Memory.{Memory, is_in_ram, bytes_at, number_at}
+use Rattle.base.specs.Ram.{ram_base}
+use Rattle.cap_bounds.specs.CapValue.{CapValue, value_of, value_flag}
+use Rattle.tagged_memory.specs.Memory.{Memory, is_in_ram, bytes_at, number_at, word_at, has_tag, tagged_between}
 use Rattle.special_regs.specs.Scrs.{scr_values}
 use Rattle.special_regs.specs.CsrValues.{csr_values}
 use Rattle.devices.specs.Devices.{interrupts_of}
@@ -20,7 +21,7 @@ use Rattle.debugger.specs.declared.fault.DebugFault.TheVariants.{B3}
 use Rattle.disassembler.specs.Hex.{hex_of}
 use Rattle.disassembler.specs.Shown.{name_or, word_line}
 use Rattle.debugger.specs.Capability.{value_line}
-use Rattle.debugger.specs.Command.{Command, step, tick, byte, until, reg, regs, scr, csr, mem, dis, quit, command_of}
+use Rattle.debugger.specs.Command.{Command, step, tick, byte, until, reg, regs, scr, csr, caps, mem, dis, quit, command_of}
 
 -- ---- commands that give events
 
@@ -40,6 +41,7 @@ events_of (reg n) s = []
 events_of regs s = []
 events_of scr s = []
 events_of csr s = []
+events_of caps s = []
 events_of (mem address n) s = []
 events_of (dis address n) s = []
 events_of quit s = []
@@ -72,6 +74,14 @@ scr_lines values = flat_map (λ p. value_line (name_or [] (scr_name p.0)) p.1) v
 abbrev pub csr_lines : List (ℕ × ℕ) → List ℕ
 csr_lines values = flat_map (λ p. name_or [] (csr_name p.0) ++ codes " " ++ hex_of 16 p.1 ++ codes "\n") values
 
+-- what a granule of memory holds, under its address
+abbrev pub cap_line : Memory → ℕ → List ℕ
+cap_line m granule = value_line (hex_of 16 granule) (value_of (word_at m granule) (has_tag m granule))
+
+-- the tagged granules of RAM in ascending order, one a line
+abbrev pub cap_lines : Memory → List ℕ
+cap_lines m = flat_map (cap_line m) (tagged_between m ram_base (ram_base + length m.bytes))
+
 -- lines of up to 16 bytes, the first from an address on
 abbrev pub byte_line : ℕ → List ℕ → List ℕ
 byte_line address bytes = hex_of 16 address ++ codes ":" ++ flat_map (λ b. codes " " ++ hex_of 2 b) bytes ++ codes "\n"
@@ -99,6 +109,7 @@ is_outside (reg n) s = false
 is_outside regs s = false
 is_outside scr s = false
 is_outside csr s = false
+is_outside caps s = false
 is_outside (mem address n) s = not (is_in_ram s.memory address n)
 is_outside (dis address n) s = not (is_in_ram s.memory address (4 * n))
 is_outside quit s = false
@@ -117,6 +128,7 @@ answer_to (reg n) s = told (value_line (name_or [] (register_name true n)) (regi
 answer_to regs s = told (register_lines s 0 capability_names)
 answer_to scr s = told (scr_lines (scr_values s.scrs))
 answer_to csr s = told (csr_lines (csr_values s.csrs s.scrs (interrupts_of s.devices)))
+answer_to caps s = told (cap_lines s.memory)
 answer_to (mem address n) s = told (byte_lines n address (bytes_at s.memory address n))
 answer_to (dis address n) s = told (word_lines (value_flag s.scrs.pcc) s.memory n address)
 answer_to quit s = ended

@@ -4,8 +4,8 @@ use Rattle.asm_lines.specs.declared.fault.LineFault.{LineFault}
 use Rattle.asm_lines.specs.Operand.{wrapped}
 use Rattle.debugger.specs.declared.fault.DebugFault.{DebugFault}
 use Rattle.debugger.specs.declared.command.Command.{Command as Request}
-use Rattle.debugger.specs.declared.command.Command.TheVariants.{Step, Tick, Byte, Until, Reg, Regs, Scr, Csr, Mem, Dis, Quit}
-use Rattle.debugger.specs.Command.{Command, step, tick, byte, until, reg, regs, scr, csr, mem, dis, quit}
+use Rattle.debugger.specs.declared.command.Command.TheVariants.{Step, Tick, Byte, Until, Reg, Regs, Scr, Csr, Caps, Mem, Dis, Quit}
+use Rattle.debugger.specs.Command.{Command, step, tick, byte, until, reg, regs, scr, csr, caps, mem, dis, quit}
 
 abbrev pub seen_command : Request → Command
 seen_command (Step n) = step n
@@ -16,6 +16,7 @@ seen_command (Reg n) = reg n
 seen_command Regs = regs
 seen_command Scr = scr
 seen_command Csr = csr
+seen_command Caps = caps
 seen_command (Mem address n) = mem address n
 seen_command (Dis address n) = dis address n
 seen_command Quit = quit
@@ -49,6 +50,7 @@ IsWithinLimits (Reg n) = n < 32
 IsWithinLimits Regs = ⊤
 IsWithinLimits Scr = ⊤
 IsWithinLimits Csr = ⊤
+IsWithinLimits Caps = ⊤
 IsWithinLimits (Mem address n) = n ≤ 4096
 IsWithinLimits (Dis address n) = (n ≤ 1024) × (address % 4 ≡ 0)
 IsWithinLimits Quit = ⊤
@@ -63,6 +65,7 @@ most_of (Reg n) = 0
 most_of Regs = 0
 most_of Scr = 0
 most_of Csr = 0
+most_of Caps = 0
 most_of (Mem address n) = 0
 most_of (Dis address n) = 0
 most_of Quit = 0

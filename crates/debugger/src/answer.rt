@@ -3,11 +3,12 @@ ghost use Rattle.std.specs.Prelude.{◌≡◌, ◌<◌, ◌≤◌, ◌*◌, ◌%
 ghost use Rattle.cap_bounds.specs.CapValue.{value_flag};
 ghost use Rattle.special_regs.specs.Scrs.{scr_value};
 ghost use Rattle.machine.specs.Run.{run_after};
-ghost use Rattle.debugger.specs.Command.{reg, regs, scr, csr, mem, dis};
+ghost use Rattle.debugger.specs.Command.{reg, regs, scr, csr, caps, mem, dis};
 ghost use Rattle.debugger.specs.Reply.{told, events_of, events_line, is_outside, answer_to};
 ghost use Rattle.debugger.specs.Seen.{seen_command, IsWithinLimits};
 ghost use Rattle.debugger.specs.Answers.{seen_reply};
 
+use crate::caps::put_caps;
 use crate::command::Command;
 use crate::fault::DebugFault;
 use crate::ram::{put_memory, put_words};
@@ -83,6 +84,16 @@ fn control_registers<C: CapRep>(alloc: Global, machine: &Machine<C>) -> Result<R
 }
 
 #[tactic(auto, unfolding(crate::specs::Reply::answer_to))]
+fn capabilities<C: CapRep>(alloc: Global, machine: &Machine<C>) -> Result<Reply, DebugFault>
+    ensures reply { IfOk result (λ reply. seen_reply reply ≡ answer_to caps machine.now) }
+    ensures err { IfErr result (λ fault. fault ≡ DebugFault.B4) }
+{
+    let mut text = String::new(alloc);
+    put_caps::<C>(&mut text, machine.memory())?;
+    Ok(Reply::Text(text))
+}
+
+#[tactic(auto, unfolding(crate::specs::Reply::answer_to))]
 fn memory<C: CapRep>(
     alloc: Global,
     machine: &Machine<C>,
@@ -151,6 +162,7 @@ pub(crate) fn answer<C: CapRep>(
         Command::Regs => registers(alloc, machine),
         Command::Scr => special_registers(alloc, machine),
         Command::Csr => control_registers(alloc, machine),
+        Command::Caps => capabilities(alloc, machine),
         Command::Mem { address, count } => memory(alloc, machine, address, count),
         Command::Dis { address, count } => words(alloc, machine, address, count),
         Command::Step(_) => events(alloc, machine, command),

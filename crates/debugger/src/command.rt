@@ -43,6 +43,8 @@ pub(crate) enum Command {
     Scr,
     /// The control and status registers.
     Csr,
+    /// The capabilities in RAM.
+    Caps,
     /// So many bytes from an address.
     Mem { address: u64, count: u64 },
     /// So many words from an address, as instructions.
@@ -164,6 +166,8 @@ fn command_named(name: &[u8], operands: &[u8]) -> Result<Command, DebugFault>
         nothing_more(Command::Scr, operands)
     } else if name == "csr".as_bytes() {
         nothing_more(Command::Csr, operands)
+    } else if name == "caps".as_bytes() {
+        nothing_more(Command::Caps, operands)
     } else if name == "mem".as_bytes() {
         let (address, count) = address_and_number(operands, MOST_SHOWN)?;
         Ok(Command::Mem { address, count })

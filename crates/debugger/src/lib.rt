@@ -2,6 +2,7 @@
 #![tactic(auto)]
 
 mod answer;
+mod caps;
 mod command;
 mod fault;
 mod ram;

@@ -35,12 +35,13 @@ fn to_try(name: &'static str, has_input: bool, gap: u64, tick: u64) -> Example {
 }
 
 /// The examples, with bytes and ticks as their texts say.
-fn examples() -> [Example; 6] {
+fn examples() -> [Example; 7] {
     [
         to_try("hello", false, 1000, 100),
         to_try("echo", true, 20, 100),
         to_try("primes", false, 1000, 100),
         to_try("bounds", false, 1000, 100),
+        to_try("list", false, 1000, 100),
         to_try("sealed", false, 1000, 100),
         to_try("timer", false, 1000, 10),
     ]
@@ -92,7 +93,7 @@ fn is_as_expected(rt: &HostRuntime, example: &Example) -> io::Result<bool> {
     Ok(sent_by(rt.alloc(), &text, &input, example.schedule).is_some_and(|sent| sent == expected))
 }
 
-/// Whether the session that docs/DEBUGGER.md shows is answered as it shows.
+/// Whether a session that docs/DEBUGGER.md shows is answered as it shows.
 fn is_answered_as_expected(rt: &HostRuntime, example: &Example) -> io::Result<bool> {
     let text = file(rt, example, "s")?;
     let commands = file(rt, example, "commands")?;
@@ -110,12 +111,13 @@ fn main(rt: HostRuntime) -> io::Result<ExitCode> {
             status = ExitCode::FAILURE;
         }
     }
-    let debugged = to_try("bounds", false, 1000, 100);
-    if is_answered_as_expected(&rt, &debugged)? {
-        println!(rt; "bounds, debugged: as expected")?;
-    } else {
-        println!(rt; "bounds, debugged: not as expected")?;
-        status = ExitCode::FAILURE;
+    for name in ["bounds", "list"] {
+        if is_answered_as_expected(&rt, &to_try(name, false, 1000, 100))? {
+            println!(rt; "{name}, debugged: as expected")?;
+        } else {
+            println!(rt; "{name}, debugged: not as expected")?;
+            status = ExitCode::FAILURE;
+        }
     }
     Ok(status)
 }
