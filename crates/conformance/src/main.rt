@@ -92,7 +92,7 @@ enum Table {
 }
 
 /// The files by name, without their endings, in the order in which they are tried.
-const FILES: [(&str, Table); 35] = [
+const FILES: [(&str, Table); 36] = [
     ("words", Table::Words),
     ("parts", Table::Parts),
     ("windows", Table::Windows),
