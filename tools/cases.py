@@ -26,6 +26,7 @@ SOURCES = [
     "isa_vectors",
     "images",
     "programs",
+    "worlds",
     "asm_texts",
     "asm_vectors",
     "asm_lines",

@@ -42,6 +42,7 @@ mod text;
 mod values;
 mod windows;
 mod words;
+mod worlds;
 
 use cap_bounds::{CapRep, PlainCap};
 use case::{Case, CaseError};
@@ -85,10 +86,11 @@ enum Table {
     Talks,
     Plans,
     Listings,
+    Worlds,
 }
 
 /// The files by name, without their endings, in the order in which they are tried.
-const FILES: [(&str, Table); 34] = [
+const FILES: [(&str, Table); 35] = [
     ("words", Table::Words),
     ("parts", Table::Parts),
     ("windows", Table::Windows),
@@ -123,6 +125,7 @@ const FILES: [(&str, Table); 34] = [
     ("runs", Table::Programs),
     ("plans", Table::Plans),
     ("listings", Table::Listings),
+    ("worlds", Table::Worlds),
 ];
 
 impl Table {
@@ -190,6 +193,7 @@ impl Table {
             Table::Talks => talks::answer(alloc, form, inputs),
             Table::Plans => plans::answer(alloc, inputs),
             Table::Listings => plans::listing(alloc, inputs),
+            Table::Worlds => worlds::answer(alloc, form, inputs),
         }
     }
 }

@@ -208,6 +208,18 @@ fn ran_text(alloc: Global, form: Form, text: &str, deeds: &str) -> Result<String
     }
 }
 
+/// The same over a program's mode and statements.
+pub(crate) fn ran_program(
+    alloc: Global,
+    form: Form,
+    mode: &str,
+    statements: &str,
+    deeds: &str,
+) -> Result<String, CaseError> {
+    let text = text_in_mode(alloc, mode, statements)?;
+    ran_text(alloc, form, &text, deeds)
+}
+
 /// The mode, ` | `, the program's statements, ` | `, and what is done and asked in order; statements and deeds are parted by `; `.
 ///
 /// A deed is an event, `step`, `tick` or `byte B`; a run, `steps N`, or the same steps as many at once as the machine does, `advance N`;
@@ -219,6 +231,5 @@ fn ran_text(alloc: Global, form: Form, text: &str, deeds: &str) -> Result<String
 pub(crate) fn answer(alloc: Global, form: Form, inputs: &str) -> Result<String, CaseError> {
     let (mode, rest) = inputs.split_once(" | ").ok_or(CaseError::Unreadable)?;
     let (statements, deeds) = rest.split_once(" | ").ok_or(CaseError::Unreadable)?;
-    let text = text_in_mode(alloc, mode, statements)?;
-    ran_text(alloc, form, &text, deeds)
+    ran_program(alloc, form, mode, statements, deeds)
 }
