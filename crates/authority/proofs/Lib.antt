@@ -1,2 +1,3 @@
 mod AgreesBothWays
 mod HiddenParts
+mod Granules

@@ -237,7 +237,8 @@ module _ (s : State) (is : IsState s) (m : Memory) (x : Scrs) (agree : Agree s (
   event-elsewise Tick plain =
       agree-by s (after Tick s) (after Tick (elsewise s m x)) (event-grows_not s is Tick refl) refl refl refl refl refl memory agree.scrs
   event-elsewise (Byte b) plain =
-      agree-by s (after (Byte b) s) (after (Byte b) (elsewise s m x)) (event-grows_not s is (Byte b) refl) refl refl refl refl refl memory agree.scrs
+      let grows = event-grows_not s is (Byte b) refl in
+      agree-by s (after (Byte b) s) (after (Byte b) (elsewise s m x)) grows refl refl refl refl refl memory agree.scrs
 
 pub event-agrees : (e : Event) (s t : State) → IsState s → outcome e s ≡ Plain → Agree s t → Agree (after e s) (after e t)
 event-agrees e s t is plain agree =

@@ -1,10 +1,10 @@
 //! What holds of two worlds, states that agree in all that reachable capabilities open: each function's contract is a law over the
 //! definitions alone, and its body is empty.
 
-ghost use Rattle.std.specs.Prelude.{◌≡◌, ℕ, ◌+◌, slice_set};
+ghost use Rattle.std.specs.Prelude.{◌≡◌, ℕ, ◌+◌, ◌%◌, true, length, slice_set};
 ghost use Rattle.base.specs.Ram.{ram_base};
 ghost use Rattle.cap_bounds.specs.CapValue.{CapValue};
-ghost use Rattle.tagged_memory.specs.Memory.{IsMemory};
+ghost use Rattle.tagged_memory.specs.Memory.{Memory, IsMemory, is_in_ram, has_tag};
 ghost use Rattle.special_regs.specs.Scrs.{Scrs};
 ghost use Rattle.hart.specs.declared.event.Event.{Event};
 ghost use Rattle.hart.specs.Event.{after, sent, outcome};
@@ -15,7 +15,7 @@ ghost use Rattle.hart.specs.Step.{step_effect};
 ghost use Rattle.authority.specs.Authority.{Not, HasSystem};
 ghost use Rattle.authority.specs.Reachable.{IsReachable};
 ghost use Rattle.authority.specs.WorldLooks.{SameLooks};
-ghost use Rattle.authority.specs.Worlds.{IsReadable, Agree};
+ghost use Rattle.authority.specs.Worlds.{IsReadable, IsTagReadable, Agree};
 
 /// The effect of a step is a function of its looks, agreeing states have the same looks, so each event has the same outcome and sends
 /// the same byte in both; and behind a plain event they agree again.
@@ -36,10 +36,19 @@ pub fn agreement_goes_both_ways()
     ensures third { (s t u : State) → IsMemory s.memory → Agree s t → Agree t u → Agree s u }
 {}
 
+/// Where the readable tags of two memories agree at the granules of RAM, they agree everywhere: agreement, which asks for them wherever a
+/// capability opens 16 bytes, asks for no more than that.
+pub fn tags_lie_at_granules()
+    ensures { (s : State) (m : Memory) → IsMemory s.memory → IsMemory m → length m.bytes ≡ length s.memory.bytes
+        → ((g : ℕ) → g % 16 ≡ 0 → is_in_ram s.memory g 16 ≡ true → IsTagReadable s g → has_tag m g ≡ has_tag s.memory g)
+        → (g : ℕ) → IsTagReadable s g → has_tag m g ≡ has_tag s.memory g }
+{}
+
 /// Agreement says nothing of what is hidden: a byte of RAM that is not readable may be anything in the other state, and so may the four
 /// special registers where no reachable capability opens them.
 pub fn hidden_parts_may_differ()
     ensures byte { (s : State) (k b : ℕ) → Not (IsReadable s (ram_base + k))
         → Agree s (record s { memory = record s.memory { bytes = slice_set s.memory.bytes k b } }) }
-    ensures registers { (s : State) (x : Scrs) → Not (HasSystem s) → Agree s (record s { scrs = record x { pcc = s.scrs.pcc; ddc = s.scrs.ddc } }) }
+    ensures registers { (s : State) (other : Scrs) → Not (HasSystem s)
+        → Agree s (record s { scrs = record other { pcc = s.scrs.pcc; ddc = s.scrs.ddc } }) }
 {}
