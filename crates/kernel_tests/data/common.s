@@ -127,7 +127,8 @@ make_compartment:
 
         .align  12
 
-# Trap entry, at the beginning of a page. MScratchC leads to the frame of the compartment that runs; register n goes to 16 * n there, MEPCC to 0.
+# Trap entry, at the beginning of a page. MScratchC leads to the frame of the compartment that runs: register n goes to 16 * n
+# there, and MEPCC to 0.
 trap:   cspecialrw c31, mscratchc, c31  # register 31 and the frame change places
         csc     c1, 16(c31)
         csc     c2, 32(c31)

@@ -3,121 +3,153 @@
 #![tactic(auto)]
 
 use assembler::assemble;
-use cap_bounds::{CapRep, PlainCap};
+use cap_bounds::PlainCap;
 use image::ToWrite;
 use machine::Machine;
 use sim_run::{Schedule, run_scheduled, verdict};
 use std::alloc::Global;
 use std::io::Read;
-use std::process::ExitCode;
 use std::{fs, io};
 use word_cap::WordCap;
 
-/// A run: the texts of the two compartments, and the steps from one tick of the timer to the next.
+/// A run: the names of the two compartments' texts, and the steps from one tick of the timer to the next.
 #[derive(Clone, Copy, Debug)]
-struct Pairing {
+struct Meeting {
     a: &'static str,
     b: &'static str,
     tick: u64,
 }
 
-/// The texts that meet, in the order of the lines that are printed.
-fn pairings() -> [Pairing; 7] {
+fn meet(a: &'static str, b: &'static str, tick: u64) -> Meeting {
+    Meeting { a, b, tick }
+}
+
+/// The runs that show what the kernel gives and what it keeps apart.
+fn policy() -> [Meeting; 7] {
     [
-        Pairing {
-            a: "a-yield.s",
-            b: "b.s",
-            tick: 0,
-        },
-        Pairing {
-            a: "a-loop.s",
-            b: "b.s",
-            tick: 10,
-        },
-        Pairing {
-            a: "a-integer.s",
-            b: "b.s",
-            tick: 0,
-        },
-        Pairing {
-            a: "a-past.s",
-            b: "b.s",
-            tick: 0,
-        },
-        Pairing {
-            a: "a-jump.s",
-            b: "b.s",
-            tick: 0,
-        },
-        Pairing {
-            a: "a-mix.s",
-            b: "b.s",
-            tick: 0,
-        },
-        Pairing {
-            a: "a-call.s",
-            b: "b-call.s",
-            tick: 0,
-        },
+        meet("a-yield", "b", 0),
+        meet("a-loop", "b", 10),
+        meet("a-integer", "b", 0),
+        meet("a-past", "b", 0),
+        meet("a-jump", "b", 0),
+        meet("a-mix", "b", 0),
+        meet("a-call", "b-call", 0),
+    ]
+}
+
+/// Further attacks, and what a compartment may do.
+fn further() -> [Meeting; 22] {
+    [
+        meet("a-own-code", "b", 0),
+        meet("a-widen", "b", 0),
+        meet("a-unseal", "b", 0),
+        meet("a-forge", "b", 0),
+        meet("a-frame", "b", 0),
+        meet("a-default", "b", 0),
+        meet("a-mtvec", "b", 0),
+        meet("a-mepc", "b", 0),
+        meet("a-mie", "b", 0),
+        meet("a-mscratchc", "b", 0),
+        meet("a-mret", "b", 0),
+        meet("a-execute", "b", 0),
+        meet("a-write-code", "b", 0),
+        meet("a-run-off", "b", 0),
+        meet("a-no-row", "b", 0),
+        meet("a-no-door", "b", 0),
+        meet("a-divide", "b", 0),
+        meet("a-local", "b", 0),
+        meet("a-loop", "b-busy", 10),
+        meet("a-keep", "b-look", 0),
+        meet("a-lend", "b-borrow", 0),
+        meet("a-lend", "b-greedy", 0),
     ]
 }
 
 /// What a run of 100000 steps at most sends, and its status: `None` where the text is not assembled or memory is wanting.
-fn run<C: CapRep>(alloc: Global, text: &[u8], tick: u64) -> Option<(Vec<u8>, u8)> {
-    let schedule = Schedule {
-        steps: 100_000,
-        gap: 1000,
-        tick,
-    };
-    if !schedule.is_in_range() {
-        return None;
-    }
-    let assembly = assemble(alloc, text).ok()?;
-    let mut machine: Machine<C> = Machine::new(alloc, assembly.image()).ok()?;
-    let mut sent = Vec::new(alloc);
-    let mut sink = ToWrite::new(&mut sent);
-    let end = run_scheduled(&mut machine, schedule, &[], &mut sink).ok()?;
-    Some((sent, verdict(end).0))
+/// A macro, since the size of a machine is known for each form of capability alone.
+macro_rules! run_on {
+    ($capability:ty, $alloc:expr, $text:expr, $tick:expr) => {{
+        let schedule = Schedule {
+            steps: 100_000,
+            gap: 1000,
+            tick: $tick,
+        };
+        if !schedule.is_in_range() {
+            return None;
+        }
+        let assembly = assemble($alloc, $text).ok()?;
+        let mut machine: Machine<$capability> = Machine::new($alloc, assembly.image()).ok()?;
+        let mut sent = Vec::new($alloc);
+        let mut sink = ToWrite::new(&mut sent);
+        let end = run_scheduled(&mut machine, schedule, &[], &mut sink).ok()?;
+        Some((sent, verdict(end).0))
+    }};
+}
+
+/// A run on capabilities of 128 bits.
+fn run_on_words(alloc: Global, text: &[u8], tick: u64) -> Option<(Vec<u8>, u8)> {
+    run_on!(WordCap, alloc, text, tick)
+}
+
+/// A run on records.
+fn run_on_records(alloc: Global, text: &[u8], tick: u64) -> Option<(Vec<u8>, u8)> {
+    run_on!(PlainCap, alloc, text, tick)
+}
+
+/// Puts a text behind those before it.
+fn join(rt: &HostRuntime, text: &mut Vec<u8>, name: &str) -> io::Result<()> {
+    let file = format!(in rt.alloc(); "{name}.s")?;
+    fs::open(rt, &file)?.read_to_end(text)?;
+    Ok(())
 }
 
 /// The kernel, B and A as one text.
-fn joined(rt: &HostRuntime, pairing: &Pairing) -> io::Result<Vec<u8>> {
+fn joined(rt: &HostRuntime, meeting: &Meeting) -> io::Result<Vec<u8>> {
     let mut text = Vec::new(rt.alloc());
-    fs::open(rt, "common.s")?.read_to_end(&mut text)?;
-    fs::open(rt, pairing.b)?.read_to_end(&mut text)?;
-    fs::open(rt, pairing.a)?.read_to_end(&mut text)?;
+    join(rt, &mut text, "common")?;
+    join(rt, &mut text, meeting.b)?;
+    join(rt, &mut text, meeting.a)?;
     Ok(text)
 }
 
 /// Prints the line of a run.
 fn tell(
     rt: &HostRuntime,
-    pairing: &Pairing,
+    meeting: &Meeting,
     form: &str,
     came: Option<(Vec<u8>, u8)>,
 ) -> io::Result<()> {
     let Some((sent, status)) = came else {
-        return println!(rt; "{} {}, {form}: not run", pairing.a, pairing.b);
+        return println!(rt; "{} and {} on {form}: not run", meeting.a, meeting.b);
     };
     let sent = String::from_utf8_lossy(rt.alloc(), &sent)?;
-    println!(rt; "{} {}, {form}: {sent} {status}", pairing.a, pairing.b)
+    println!(rt;
+        "{} and {} on {form}: {sent}, status {status}",
+        meeting.a, meeting.b
+    )
 }
 
-fn main(rt: HostRuntime) -> io::Result<ExitCode> {
-    for pairing in &pairings() {
-        let text = joined(&rt, pairing)?;
+/// Runs each meeting in both forms.
+fn run_all(rt: &HostRuntime, meetings: &[Meeting]) -> io::Result<()> {
+    for meeting in meetings {
+        let text = joined(rt, meeting)?;
         tell(
-            &rt,
-            pairing,
+            rt,
+            meeting,
             "words",
-            run::<WordCap>(rt.alloc(), &text, pairing.tick),
+            run_on_words(rt.alloc(), &text, meeting.tick),
         )?;
         tell(
-            &rt,
-            pairing,
+            rt,
+            meeting,
             "records",
-            run::<PlainCap>(rt.alloc(), &text, pairing.tick),
+            run_on_records(rt.alloc(), &text, meeting.tick),
         )?;
     }
-    Ok(ExitCode::SUCCESS)
+    Ok(())
+}
+
+fn main(rt: HostRuntime) -> io::Result<()> {
+    run_all(&rt, &policy())?;
+    run_all(&rt, &further())
 }
