@@ -1,11 +1,14 @@
 //! Joins the kernel with a text of each compartment, runs the machine that this makes, once on words and once on records, and prints
-//! what it sends and the status that the run has.
+//! what it sends and the status that the run has. Of some it also prints how A's first stretch goes, and that it leaves the rest alone.
 #![tactic(auto)]
 
+mod stretches;
+
+use crate::stretches::{Course, course_of};
 use assembler::assemble;
 use cap_bounds::PlainCap;
 use image::ToWrite;
-use machine::Machine;
+use machine::{Machine, Why};
 use sim_run::{Schedule, run_scheduled, verdict};
 use std::alloc::Global;
 use std::io::Read;
@@ -149,7 +152,54 @@ fn run_all(rt: &HostRuntime, meetings: &[Meeting]) -> io::Result<()> {
     Ok(())
 }
 
+/// The meetings of which A's first stretch is shown.
+fn shown() -> [Meeting; 4] {
+    [
+        meet("a-integer", "b", 0),
+        meet("a-past", "b", 0),
+        meet("a-forge", "b", 0),
+        meet("a-call", "b-call", 0),
+    ]
+}
+
+/// What ends a stretch.
+fn ending_of(why: Option<Why>) -> &'static str {
+    match why {
+        None => "nothing",
+        Some(Why::Trap) => "a trap",
+        Some(Why::Unseal) => "an unsealing",
+        Some(Why::SealedJump) => "a sealed jump",
+    }
+}
+
+/// Prints the line of a stretch.
+fn tell_course(rt: &HostRuntime, meeting: &Meeting, course: Option<Course>) -> io::Result<()> {
+    let Some(course) = course else {
+        return println!(rt; "{} alone: not run", meeting.a);
+    };
+    let rest = if course.is_same {
+        "the same"
+    } else {
+        "not the same"
+    };
+    let ending = ending_of(course.why);
+    println!(rt;
+        "{} alone: {} steps, then {ending} at {}; the rest is {rest}",
+        meeting.a, course.done, course.place
+    )
+}
+
+/// Tells each meeting's first stretch of A.
+fn tell_all(rt: &HostRuntime, meetings: &[Meeting]) -> io::Result<()> {
+    for meeting in meetings {
+        let text = joined(rt, meeting)?;
+        tell_course(rt, meeting, course_of(rt.alloc(), &text))?;
+    }
+    Ok(())
+}
+
 fn main(rt: HostRuntime) -> io::Result<()> {
     run_all(&rt, &policy())?;
-    run_all(&rt, &further())
+    run_all(&rt, &further())?;
+    tell_all(&rt, &shown())
 }
