@@ -41,7 +41,7 @@ fn policy() -> [Meeting; 7] {
 }
 
 /// Further attacks, and what a compartment may do.
-fn further() -> [Meeting; 22] {
+fn further() -> [Meeting; 23] {
     [
         meet("a-own-code", "b", 0),
         meet("a-widen", "b", 0),
@@ -65,6 +65,7 @@ fn further() -> [Meeting; 22] {
         meet("a-keep", "b-look", 0),
         meet("a-lend", "b-borrow", 0),
         meet("a-lend", "b-greedy", 0),
+        meet("a-lend-local", "b-keeper", 0),
     ]
 }
 
