@@ -1,0 +1,298 @@
+# common: a kernel for two compartments, A and B, that do not trust one another.
+#
+# It is joined in front of a text of B and a text of A, which place a page of code (b_code, a_code) and a page of data (b_data,
+# a_data) each. The first word of a page of code is where the compartment starts. The second is its door: there, and nowhere
+# else, the other compartment comes in, by CInvoke of the pair that the kernel sealed.
+#
+# A compartment starts with these registers; every other one is null, and so is DDC whenever it is given the processor:
+#   cgp        its data
+#   cs0, cs1   the other's door: code and data, sealed with the other's type (1 for A, 2 for B)
+#   cs2, cs3   its own door, sealed with its own type, to be passed on
+# None of them has Access_System_Registers, Seal or Unseal. So a compartment has no way to the kernel but a trap.
+#
+# A system call is ECALL with a number in a7: 0 ends the compartment, 1 sends the low byte of a0, 2 lets the other one run.
+# Another number does nothing. A CHERI fault sends '!', the compartment's letter and the cause as two hexadecimal digits, and
+# ends the compartment; another exception sends '?' in place of '!', and mcause. The one that runs is the one that faults,
+# also while it is behind the other's door. When both have ended the machine halts with 0.
+
+        .pages  16
+        .mode   1
+
+# ---- Start. PCC is root until the first mret, and all that anybody has is made from it here. -------------------------------
+
+start:  cmove   ct0, cnull
+        cspecialrw cnull, ddc, ct0      # null: an integer is no way to memory. (Register 0 as the source writes nothing.)
+
+# where traps go: the kernel's page of code, to be run and not to be read
+        cla     ct0, trap
+        lui     t1, 1                   # a page
+        csetboundsexact ct0, ct0, t1
+        li      t1, 0x402               # Execute, Access_System_Registers
+        candperm ct0, ct0, t1
+        cspecialrw cnull, mtcc, ct0
+
+# the devices, 8 bytes each: a capability to each in a table that only MTDC leads to
+        cspecialrw cs5, pcc, cnull
+        cla     cs4, devices
+        li      a2, 8                   # Store
+        lui     a1, 0x10000             # transmit
+        cjal    cra, make_device
+        lui     a1, 0x100               # halt
+        cjal    cra, make_device
+        lui     a1, 0x2004              # mtimecmp
+        cjal    cra, make_device
+        lui     a1, 0x200c
+        addi    a1, a1, -8              # mtime
+        li      a2, 4                   # Load
+        cjal    cra, make_device
+        cla     cs4, devices
+        csetboundsimm cs4, cs4, 64
+        li      t0, 0x14                # Load, Load_Capability
+        candperm cs4, cs4, t0
+        cspecialrw cnull, mtdc, cs4
+
+# the two frames, where a trap saves what a compartment had
+        li      a0, 544
+        li      t1, 0x7c                # Load, Store, and both for capabilities, also for those that are not Global
+        cla     cs0, a_frame
+        csetboundsexact cs0, cs0, a0
+        candperm cs0, cs0, t1
+        cla     cs1, b_frame
+        csetboundsexact cs1, cs1, a0
+        candperm cs1, cs1, t1
+        csc     cs1, 512(cs0)           # each leads to the other's
+        csc     cs0, 512(cs1)
+
+# the two compartments
+        cla     ca0, a_code
+        cla     ca1, a_data
+        cmove   ca2, cs0
+        li      a3, 1                   # A's type
+        li      a4, 65                  # 'A'
+        cjal    cra, make_compartment
+        csc     ca0, 128(cs1)           # A's door, for B
+        csc     ca1, 144(cs1)
+        cla     ca0, b_code
+        cla     ca1, b_data
+        cmove   ca2, cs1
+        li      a3, 2                   # B's type
+        li      a4, 66                  # 'B'
+        cjal    cra, make_compartment
+        csc     ca0, 128(cs0)           # B's door, for A
+        csc     ca1, 144(cs0)
+
+# the clock, and A first. The mret gives away PCC, and the frame overwrites every register: nothing is left of root.
+        cjal    cra, set_clock
+        li      t0, 128
+        csrrs   zero, mie, t0           # the timer alone may interrupt
+        csrrs   zero, mstatus, t0       # MPIE: from the mret on
+        cmove   c31, cs0
+        j       resume
+
+# make_device: the capability to the register at a1 with the permissions in a2, into the next place of the table in cs4.
+make_device:
+        csetaddr ct0, cs5, a1
+        li      t1, 8
+        csetboundsexact ct0, ct0, t1
+        candperm ct0, ct0, a2
+        csc     ct0, 0(cs4)
+        cincoffsetimm cs4, cs4, 16
+        cjalr   cnull, 0(cra)
+
+# make_compartment: of root at its code (ca0) and at its data (ca1), its frame (ca2), its type (a3) and its letter (a4).
+# Answers its door, sealed, in ca0 and ca1: all that an outsider is given.
+make_compartment:
+        lui     t0, 1                   # a page
+        csetboundsexact ca0, ca0, t0
+        csetboundsexact ca1, ca1, t0
+        li      t1, 0x107               # Global, Execute, Load, CInvoke
+        candperm ca0, ca0, t1
+        li      t1, 0x13d               # Global, Load, Store, Load_Capability, Store_Capability, CInvoke
+        candperm ca1, ca1, t1
+        csc     ca0, 0(ca2)             # MEPCC: it starts at its first word
+        csc     ca1, 48(ca2)            # cgp
+        csd     a4, 528(ca2)
+        li      t0, 1
+        csd     t0, 536(ca2)            # it has not ended
+        csetaddr ct0, cs5, a3           # the type to seal with is this one's address
+        csetboundsimm ct0, ct0, 1
+        cincoffsetimm ca0, ca0, 4       # the door: its second word
+        cseal   ca0, ca0, ct0
+        cseal   ca1, ca1, ct0
+        csc     ca0, 288(ca2)           # cs2
+        csc     ca1, 304(ca2)           # cs3
+        cjalr   cnull, 0(cra)
+
+# ---- The kernel's code: all of it that is left after the start. ------------------------------------------------------------
+
+        .align  12
+
+# Trap entry, at the beginning of a page. MScratchC leads to the frame of the compartment that runs: register n goes to 16 * n
+# there, and MEPCC to 0.
+trap:   cspecialrw c31, mscratchc, c31  # register 31 and the frame change places
+        csc     c1, 16(c31)
+        csc     c2, 32(c31)
+        csc     c3, 48(c31)
+        csc     c4, 64(c31)
+        csc     c5, 80(c31)
+        csc     c6, 96(c31)
+        csc     c7, 112(c31)
+        csc     c8, 128(c31)
+        csc     c9, 144(c31)
+        csc     c10, 160(c31)
+        csc     c11, 176(c31)
+        csc     c12, 192(c31)
+        csc     c13, 208(c31)
+        csc     c14, 224(c31)
+        csc     c15, 240(c31)
+        csc     c16, 256(c31)
+        csc     c17, 272(c31)
+        csc     c18, 288(c31)
+        csc     c19, 304(c31)
+        csc     c20, 320(c31)
+        csc     c21, 336(c31)
+        csc     c22, 352(c31)
+        csc     c23, 368(c31)
+        csc     c24, 384(c31)
+        csc     c25, 400(c31)
+        csc     c26, 416(c31)
+        csc     c27, 432(c31)
+        csc     c28, 448(c31)
+        csc     c29, 464(c31)
+        csc     c30, 480(c31)
+        cspecialrw c1, mscratchc, c31   # and back: c1 is what register 31 was
+        csc     c1, 496(c31)
+        cspecialrw c1, mepcc, cnull
+        csc     c1, 0(c31)
+
+# Dispatch. From here on c31 is the frame of the compartment that trapped, and a0 and a7 are still its own.
+        csrrs   t0, mcause, zero
+        blt     t0, zero, tick          # interrupts have bit 63 set, and only the timer's is let in
+        li      t1, 11
+        beq     t0, t1, system_call
+        j       fault
+
+# A system call: go on behind the ECALL, unless it ends the compartment.
+system_call:
+        clc     ct0, 0(c31)
+        cincoffsetimm ct0, ct0, 4
+        csc     ct0, 0(c31)
+        beq     a7, zero, ending
+        li      t0, 1
+        beq     a7, t0, call_send
+        li      t0, 2
+        beq     a7, t0, switch
+        j       resume
+
+call_send:
+        cjal    cra, send
+        j       resume
+
+# The timer: the next interrupt is 50 ticks away, and the other one runs.
+tick:   cjal    cra, set_clock
+        j       switch
+
+# A fault: '!', letter and CHERI cause, or '?', letter and mcause. t0 is mcause.
+fault:  mv      s0, t0
+        li      a0, 63                  # '?'
+        li      t1, 28                  # a CHERI fault
+        bne     s0, t1, tell
+        csrrs   s0, mtval, zero         # 32 times the register, and the cause
+        andi    s0, s0, 31
+        li      a0, 33                  # '!'
+tell:   cjal    cra, send
+        cld     a0, 528(c31)
+        cjal    cra, send
+        srli    a0, s0, 4
+        cjal    cra, send_digit
+        andi    a0, s0, 15
+        cjal    cra, send_digit
+        j       ending
+
+# Ending: the other one goes on, or nobody.
+ending: csd     zero, 536(c31)
+        clc     ct0, 512(c31)
+        cld     t1, 536(ct0)
+        bne     t1, zero, switch
+        cspecialrw ct0, mtdc, cnull
+        clc     ct0, 16(ct0)
+        csd     zero, 0(ct0)            # halt with 0
+
+# Switch: to the other one, unless it has ended.
+switch: clc     ct0, 512(c31)
+        cld     t1, 536(ct0)
+        beq     t1, zero, resume
+        cmove   c31, ct0
+
+# Resume: the compartment of the frame in c31, with every register as it was, and none of anybody else's. DDC can be written
+# without Access_System_Registers, and a frame has no place for it: it is null for whoever runs next.
+resume: cspecialrw cnull, mscratchc, c31
+        cmove   c1, cnull
+        cspecialrw cnull, ddc, c1
+        clc     c1, 0(c31)
+        cspecialrw cnull, mepcc, c1
+        clc     c1, 16(c31)
+        clc     c2, 32(c31)
+        clc     c3, 48(c31)
+        clc     c4, 64(c31)
+        clc     c5, 80(c31)
+        clc     c6, 96(c31)
+        clc     c7, 112(c31)
+        clc     c8, 128(c31)
+        clc     c9, 144(c31)
+        clc     c10, 160(c31)
+        clc     c11, 176(c31)
+        clc     c12, 192(c31)
+        clc     c13, 208(c31)
+        clc     c14, 224(c31)
+        clc     c15, 240(c31)
+        clc     c16, 256(c31)
+        clc     c17, 272(c31)
+        clc     c18, 288(c31)
+        clc     c19, 304(c31)
+        clc     c20, 320(c31)
+        clc     c21, 336(c31)
+        clc     c22, 352(c31)
+        clc     c23, 368(c31)
+        clc     c24, 384(c31)
+        clc     c25, 400(c31)
+        clc     c26, 416(c31)
+        clc     c27, 432(c31)
+        clc     c28, 448(c31)
+        clc     c29, 464(c31)
+        clc     c30, 480(c31)
+        clc     c31, 496(c31)
+        mret
+
+# set_clock: mtimecmp is mtime + 50. Changes ct0 and t1.
+set_clock:
+        cspecialrw ct0, mtdc, cnull
+        clc     ct0, 48(ct0)
+        cld     t1, 0(ct0)
+        addi    t1, t1, 50
+        cspecialrw ct0, mtdc, cnull
+        clc     ct0, 32(ct0)
+        csd     t1, 0(ct0)
+        cjalr   cnull, 0(cra)
+
+# send_digit: the hexadecimal digit of a0, which is below 16.
+send_digit:
+        addi    a0, a0, 48              # '0'
+        li      t1, 58
+        blt     a0, t1, send
+        addi    a0, a0, 39              # from 'a' on
+
+# send: the low byte of a0. Changes ct0.
+send:   cspecialrw ct0, mtdc, cnull
+        clc     ct0, 0(ct0)
+        csb     a0, 0(ct0)
+        cjalr   cnull, 0(cra)
+
+# ---- The kernel's data. ----------------------------------------------------------------------------------------------------
+
+        .align  12
+devices: .zero  64                      # capabilities to transmit, halt, mtimecmp, mtime
+
+# A frame: 32 capabilities; the other's frame at 512; the letter at 528; 0 at 536 once the compartment has ended.
+a_frame: .zero  544
+b_frame: .zero  544
