@@ -207,53 +207,53 @@ run_sent-ticked false s = refl
 
 -- t is the machine after the byte, and u after the steps
 module _ (byte : Option ℕ) (n : ℕ) (ticks : Bool) (s t : State) (running : is_halted s ≡ false) (at_byte : t ≡ run_after (brought byte) s)
-    where
-  pub still : is_halted t ≡ false
-  still = ap is_halted at_byte ∙ is_halted-brought byte s ∙ running
+  where
+    pub still : is_halted t ≡ false
+    still = ap is_halted at_byte ∙ is_halted-brought byte s ∙ running
 
-  up_to_halt-block : (u : State) → u ≡ run_after (up_to_halt (replicate n Step) t) t
-      → up_to_halt (block byte n ticks) s ≡ brought byte ++ (up_to_halt (replicate n Step) t ++ ticked_after ticks u)
-  up_to_halt-block u at_steps =
-      up_to_halt-brought byte (replicate n Step ++ ticking ticks) s running
-      ∙ ap (λ v. brought byte ++ up_to_halt (replicate n Step ++ ticking ticks) v) (sym at_byte)
-      ∙ ap (λ es. brought byte ++ es) (up_to_halt-append (replicate n Step) (ticking ticks) t still)
-      ∙ ap (λ v. brought byte ++ (up_to_halt (replicate n Step) t ++ then_up_to_halt (ticking ticks) v)) (sym at_steps)
-      ∙ ap (λ es. brought byte ++ (up_to_halt (replicate n Step) t ++ es)) (then_ticked ticks u)
+    up_to_halt-block : (u : State) → u ≡ run_after (up_to_halt (replicate n Step) t) t
+        → up_to_halt (block byte n ticks) s ≡ brought byte ++ (up_to_halt (replicate n Step) t ++ ticked_after ticks u)
+    up_to_halt-block u at_steps =
+        up_to_halt-brought byte (replicate n Step ++ ticking ticks) s running
+        ∙ ap (λ v. brought byte ++ up_to_halt (replicate n Step ++ ticking ticks) v) (sym at_byte)
+        ∙ ap (λ es. brought byte ++ es) (up_to_halt-append (replicate n Step) (ticking ticks) t still)
+        ∙ ap (λ v. brought byte ++ (up_to_halt (replicate n Step) t ++ then_up_to_halt (ticking ticks) v)) (sym at_steps)
+        ∙ ap (λ es. brought byte ++ (up_to_halt (replicate n Step) t ++ es)) (then_ticked ticks u)
 
-  pub state_of_block : (ends : Bool) (u v : State) → u ≡ run_after (up_to_halt (replicate n Step) t) t
-      → ends ≡ (ticks && not (is_halted u)) → v ≡ run_after (if ends then Tick ∷ [] else []) u
-      → v ≡ run_after (up_to_halt (block byte n ticks) s) s
-  state_of_block ends u v at_steps last at_tick =
-      at_tick ∙ ap (λ b. run_after (if b then Tick ∷ [] else []) u) last
-      ∙ ap (λ w. run_after (ticked_after ticks u) w) at_steps
-      ∙ sym (run_after-append (up_to_halt (replicate n Step) t) (ticked_after ticks u) t)
-      ∙ ap (λ w. run_after (up_to_halt (replicate n Step) t ++ ticked_after ticks u) w) at_byte
-      ∙ sym (run_after-append (brought byte) (up_to_halt (replicate n Step) t ++ ticked_after ticks u) s)
-      ∙ ap (λ es. run_after es s) (sym (up_to_halt-block u at_steps))
+    pub state_of_block : (ends : Bool) (u v : State) → u ≡ run_after (up_to_halt (replicate n Step) t) t
+        → ends ≡ (ticks && not (is_halted u)) → v ≡ run_after (if ends then Tick ∷ [] else []) u
+        → v ≡ run_after (up_to_halt (block byte n ticks) s) s
+    state_of_block ends u v at_steps last at_tick =
+        at_tick ∙ ap (λ b. run_after (if b then Tick ∷ [] else []) u) last
+        ∙ ap (λ w. run_after (ticked_after ticks u) w) at_steps
+        ∙ sym (run_after-append (up_to_halt (replicate n Step) t) (ticked_after ticks u) t)
+        ∙ ap (λ w. run_after (up_to_halt (replicate n Step) t ++ ticked_after ticks u) w) at_byte
+        ∙ sym (run_after-append (brought byte) (up_to_halt (replicate n Step) t ++ ticked_after ticks u) s)
+        ∙ ap (λ es. run_after es s) (sym (up_to_halt-block u at_steps))
 
-  -- a byte that comes and a tick send nothing
-  pub sent_by_block : (u : State) (a b : Option (List ℕ)) → u ≡ run_after (up_to_halt (replicate n Step) t) t
-      → Appends a b (run_sent (up_to_halt (replicate n Step) t) t) → Appends a b (run_sent (up_to_halt (block byte n ticks) s) s)
-  sent_by_block u a b at_steps written =
-      let steps = up_to_halt (replicate n Step) t in
-      let bytes : run_sent (up_to_halt (block byte n ticks) s) s ≡ run_sent steps t =
-      ap (λ es. run_sent es s) (up_to_halt-block u at_steps)
-      ∙ run_sent-append (brought byte) (steps ++ ticked_after ticks u) s
-      ∙ ap (λ bs. bs ++ run_sent (steps ++ ticked_after ticks u) (run_after (brought byte) s)) (run_sent-brought byte s)
-      ∙ ap (λ w. run_sent (steps ++ ticked_after ticks u) w) (sym at_byte)
-      ∙ run_sent-append steps (ticked_after ticks u) t
-      ∙ ap (λ bs. run_sent steps t ++ bs) (run_sent-ticked (ticks && not (is_halted u)) (run_after steps t))
-      ∙ append-nil (run_sent steps t) in
-      subst (λ bs. Appends a b bs) (sym bytes) written
+    -- a byte that comes and a tick send nothing
+    pub sent_by_block : (u : State) (a b : Option (List ℕ)) → u ≡ run_after (up_to_halt (replicate n Step) t) t
+        → Appends a b (run_sent (up_to_halt (replicate n Step) t) t) → Appends a b (run_sent (up_to_halt (block byte n ticks) s) s)
+    sent_by_block u a b at_steps written =
+        let steps = up_to_halt (replicate n Step) t in
+        let bytes : run_sent (up_to_halt (block byte n ticks) s) s ≡ run_sent steps t =
+        ap (λ es. run_sent es s) (up_to_halt-block u at_steps)
+        ∙ run_sent-append (brought byte) (steps ++ ticked_after ticks u) s
+        ∙ ap (λ bs. bs ++ run_sent (steps ++ ticked_after ticks u) (run_after (brought byte) s)) (run_sent-brought byte s)
+        ∙ ap (λ w. run_sent (steps ++ ticked_after ticks u) w) (sym at_byte)
+        ∙ run_sent-append steps (ticked_after ticks u) t
+        ∙ ap (λ bs. run_sent steps t ++ bs) (run_sent-ticked (ticks && not (is_halted u)) (run_after steps t))
+        ∙ append-nil (run_sent steps t) in
+        subst (λ bs. Appends a b bs) (sym bytes) written
 
-  pub cut_in_block : (u : State) (a b : Option (List ℕ)) → IsCutShort (up_to_halt (replicate n Step) t) t u a b
-      → IsCutShort (up_to_halt (block byte n ticks) s) s u a b
-  cut_in_block u a b cut =
-      let steps = up_to_halt (replicate n Step) t in
-      let later = ticked_after ticks (run_after steps t) in
-      subst (λ es. IsCutShort es s u a b) (sym (up_to_halt-block (run_after steps t) refl))
-      (cut_within (brought byte) steps later s u a a b (subst (λ bs. Appends a a bs) (sym (run_sent-brought byte s)) (Appends-nil a))
-      (subst (λ w. IsCutShort steps w u a b) at_byte cut))
+    pub cut_in_block : (u : State) (a b : Option (List ℕ)) → IsCutShort (up_to_halt (replicate n Step) t) t u a b
+        → IsCutShort (up_to_halt (block byte n ticks) s) s u a b
+    cut_in_block u a b cut =
+        let steps = up_to_halt (replicate n Step) t in
+        let later = ticked_after ticks (run_after steps t) in
+        subst (λ es. IsCutShort es s u a b) (sym (up_to_halt-block (run_after steps t) refl))
+        (cut_within (brought byte) steps later s u a a b (subst (λ bs. Appends a a bs) (sym (run_sent-brought byte s)) (Appends-nil a))
+        (subst (λ w. IsCutShort steps w u a b) at_byte cut))
 
 -- a tick comes where one is due and the machine is not halted
 pub tick_if_due : (ends ticks running : Bool) (halted : Option ℕ) (s : State) → is_some halted ≡ not running

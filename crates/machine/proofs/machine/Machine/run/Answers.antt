@@ -14,11 +14,20 @@ loop-rest-preserved g c =
       bytes = bytes_left k rest _ (slice_rest k rest) l.self met.new.self met.ensures.state met.result.byte _ l.out.items _
           c.emit.ensures.items met.ensures.bytes l.invariant.bytes;
       few = omega (
-        arith, known.ensures.few, met.ensures.few, c.saturating_sub-steps.ensures, length_left k rest _ (slice_rest k rest),
+        arith,
+        known.ensures.few,
+        met.ensures.few,
+        c.saturating_sub-steps.ensures,
+        length_left k rest _ (slice_rest k rest),
       );
       steps = steps_left k known.result _ rest _ (slice_rest k rest) c.saturating_sub-steps.ensures known.ensures.steps;
       room = omega (
-        arith, met.ensures.some, met.ensures.few, c.emit.ensures.len, c.emit.ensures.room, l.invariant.room,
+        arith,
+        met.ensures.some,
+        met.ensures.few,
+        c.emit.ensures.len,
+        c.emit.ensures.room,
+        l.invariant.room,
         length_left k rest _ (slice_rest k rest),
       );
     }
