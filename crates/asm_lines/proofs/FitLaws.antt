@@ -18,10 +18,13 @@ use Rattle.asm_lines.specs.declared.fault.LineFault.TheVariants.{A2, A8, A9}
 use Rattle.asm_lines.specs.Text.{pieces_of, mnemonic_of, operands_of, is_foreign, label_of, statement_text, trimmed, uncommented}
 use Rattle.asm_lines.specs.Number.{Expression, number_of, expression_of}
 use Rattle.asm_lines.specs.Operand.{Draft, up_to, wrapped, filled_draft, filled_fault}
-use Rattle.asm_lines.specs.Statement.{Statement, instruction, setting, origin, contents, row, pages, mode, align, zeros, values, text, Said}
+use Rattle.asm_lines.specs.declared.parsed.Directive.{Directive}
+use Rattle.asm_lines.specs.declared.parsed.Directive.TheVariants.{Align, Zero, Values, Ascii}
+use Rattle.asm_lines.specs.Statement.{Statement, instruction, setting, origin, contents, row, pages, mode, item, values, Said}
+use Rattle.asm_lines.specs.Statement.{most_of, count_said, data_said, directives, directive_in, placing_said}
 use Rattle.asm_lines.specs.Statement.{said, said_unless, said_by, is_word, Pattern, pattern, plain, row_pattern, pattern_of, pattern_said}
 use Rattle.asm_lines.specs.Statement.{draft_of, row_said, load_said, register_load, number_said, page_range, pages_said, mode_said}
-use Rattle.asm_lines.specs.Statement.{origin_said, align_said, zeros_said, entry_said, values_said, values_fault, text_said, is_quoted}
+use Rattle.asm_lines.specs.Statement.{origin_said, entry_said, values_said, values_fault, is_quoted}
 use Rattle.asm_lines.specs.Line.{Line, labelled, line_said, line_of_text, line_meaning, FitsAt, RowFits}
 use Rattle.asm_lines.proofs.SlotLaws.{Kind, below, Bounds, IsWithin, bounds_of, filled-within}
 use Rattle.asm_lines.proofs.FormatLaws.{suits, fits-at}
@@ -210,9 +213,24 @@ values-fits size [] i target e h = cc
 values-fits size (b ∷ bs) i target e h =
     unless-fits (contents (values size (b ∷ bs))) (values_fault size (pieces_of (b ∷ bs))) (λ j t p q. cc) i target e h
 
-quoted-fits : (test : Bool) (between : List ℕ) → SaidFits (if test then said (Some (contents (text between))) None else said None (Some A2))
+quoted-fits : (test : Bool) (between : List ℕ)
+    → SaidFits (if test then said (Some (contents (item Ascii 0 between))) None else said None (Some A2))
 quoted-fits true between i target e h = cc
 quoted-fits false between i target e h = cc
+
+count-fits : (d : Directive) (r : Result ℤ LineFault) → SaidFits (count_said d r)
+count-fits d r = number-fits (λ n. contents (item d n [])) None (up_to (most_of d) r) (λ n i t q. cc)
+
+data-fits : (d : Directive) (operands : List ℕ) → SaidFits (data_said d operands)
+data-fits Align operands = count-fits Align (number_of operands)
+data-fits Zero operands = count-fits Zero (number_of operands)
+data-fits (Values size) operands = values-fits size operands
+data-fits Ascii operands = quoted-fits (is_quoted operands) (take (length operands - 2) (drop 1 operands))
+
+placing-fits : (d : Option Directive) (word operands : List ℕ) → SaidFits (placing_said d word operands)
+placing-fits (Some d) word operands = data-fits d operands
+placing-fits None word operands =
+    the-pattern-fits (pattern_of word (length operands == 0)) operands (pattern-suits word (length operands == 0))
 
 -- of statements that fit, one that tests choose
 one-fits : (test : Bool) (s t : Said) → SaidFits s → SaidFits t → SaidFits (if test then s else t)
@@ -233,17 +251,7 @@ said-fits word operands =
     one-fits (is_word word (codes ".entry")) (entry_said (expression_of operands)) _ (entry-fits (expression_of operands)) (
     one-fits (is_word word (codes ".org")) (origin_said number) _
     (number-fits origin None (up_to (2 ^ 64 - 1) number) (λ n i t q. cc)) (
-    one-fits (is_word word (codes ".align")) (align_said number) _
-    (number-fits (λ n. contents (align n)) None (up_to 12 number) (λ n i t q. cc)) (
-    one-fits (is_word word (codes ".zero")) (zeros_said number) _
-    (number-fits (λ n. contents (zeros n)) None (up_to 268435456 number) (λ n i t q. cc)) (
-    one-fits (is_word word (codes ".byte")) (values_said 1 operands) _ (values-fits 1 operands) (
-    one-fits (is_word word (codes ".half")) (values_said 2 operands) _ (values-fits 2 operands) (
-    one-fits (is_word word (codes ".word")) (values_said 4 operands) _ (values-fits 4 operands) (
-    one-fits (is_word word (codes ".dword")) (values_said 8 operands) _ (values-fits 8 operands) (
-    one-fits (is_word word (codes ".ascii")) (text_said operands) _
-    (quoted-fits (is_quoted operands) (take (length operands - 2) (drop 1 operands))) (
-    the-pattern-fits (pattern_of word (length operands == 0)) operands (pattern-suits word (length operands == 0)))))))))))))))
+    placing-fits (directive_in directives word) word operands))))))
 
 -- the same, where what is said is one equation
 pub said_by-fits : (word operands : List ℕ) (i : Insn) (target : Option Expression)

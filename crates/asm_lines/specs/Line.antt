@@ -19,12 +19,11 @@ use Rattle.asm_lines.specs.declared.parsed.Instruction.TheVariants.{Row, Load}
 use Rattle.asm_lines.specs.declared.parsed.Setting.{Setting as ReadSetting}
 use Rattle.asm_lines.specs.declared.parsed.Setting.TheVariants.{Pages, Mode, Entry}
 use Rattle.asm_lines.specs.declared.parsed.Data.{Data as ReadData}
-use Rattle.asm_lines.specs.declared.parsed.Data.TheVariants.{Align, Zero, Values, Text}
 use Rattle.asm_lines.specs.declared.parsed.Expression.{Expression as Written}
 use Rattle.asm_lines.specs.Text.{is_foreign, trimmed, uncommented, label_of, statement_text, mnemonic_of, operands_of}
 use Rattle.asm_lines.specs.Number.{Expression, expression}
 use Rattle.asm_lines.specs.Statement.{Statement, instruction, setting, origin, contents, Instruction, row, load, Setting, pages, mode}
-use Rattle.asm_lines.specs.Statement.{entry, Data, align, zeros, values, text, is_size, Said, said, said_by}
+use Rattle.asm_lines.specs.Statement.{entry, Data, item, is_in_bounds, Said, said, said_by}
 
 pub record Line : Type 0 where
   pub label : Option (List ℕ)
@@ -90,11 +89,11 @@ IsSettingBounded (Pages n) = n ≤ most_pages
 IsSettingBounded (Mode m) = Unit {0}
 IsSettingBounded (Entry e) = HasOffset e
 
+abbrev pub seen_data : ReadData → Data
+seen_data d = item d.directive d.number d.text.now
+
 abbrev pub IsDataBounded : ReadData → Type 0
-IsDataBounded (Align n) = n ≤ 12
-IsDataBounded (Zero n) = n ≤ 268435456
-IsDataBounded (Values size operands) = is_size size ≡ true
-IsDataBounded (Text between) = Unit {0}
+IsDataBounded d = is_in_bounds (seen_data d) ≡ true
 
 abbrev pub IsBounded : Read → Type 0
 IsBounded (read.Instruction i) = IsInstructionBounded i
@@ -114,12 +113,6 @@ abbrev pub seen_setting : ReadSetting → Setting
 seen_setting (Pages n) = pages n
 seen_setting (Mode m) = mode m
 seen_setting (Entry e) = entry (seen_expression e)
-
-abbrev pub seen_data : ReadData → Data
-seen_data (Align n) = align n
-seen_data (Zero n) = zeros n
-seen_data (Values size operands) = values size operands.now
-seen_data (Text between) = text between.now
 
 abbrev pub seen_statement : Read → Statement
 seen_statement (read.Instruction i) = instruction (seen_instruction i)

@@ -1,6 +1,6 @@
 -- Statements: rows and their aliases, the two-row loads of a value, directives.
 use Rattle.base.specs.Ram.{most_pages}
-use Rattle.std.specs.Prelude.{ℕ, ◌*◌, ◌-◌, ◌^◌, Bool, true, false, not, ◌&&◌, ◌||◌, ◌==◌, nat_eq, if◌then◌else◌, ℤ, pos, neg_ℤ}
+use Rattle.std.specs.Prelude.{ℕ, ◌*◌, ◌-◌, ◌^◌, Bool, true, false, not, ◌&&◌, ◌||◌, ◌==◌, nat_eq, nat_le, if◌then◌else◌, ℤ, pos, neg_ℤ}
 use Rattle.std.specs.Prelude.{int_lt, List, [], ◌∷◌, length, take, drop, slice_index, Option, Some, None, Result, Ok, Err, codes}
 use Rattle.std.specs.Cmp.Lexicographic.{pointwise}
 use Rattle.isa_rows.specs.declared.rows.Row.{Row}
@@ -15,6 +15,8 @@ use Rattle.asm_names.specs.Registers.{register_named}
 use Rattle.asm_names.specs.Slots.{slots_of}
 use Rattle.asm_lines.specs.declared.fault.LineFault.{LineFault}
 use Rattle.asm_lines.specs.declared.fault.LineFault.TheVariants.{A1, A2, A3, A8, A9}
+use Rattle.asm_lines.specs.declared.parsed.Directive.{Directive}
+use Rattle.asm_lines.specs.declared.parsed.Directive.TheVariants.{Align, Zero, Values, Ascii}
 use Rattle.asm_lines.specs.Text.{pieces_of}
 use Rattle.asm_lines.specs.Number.{Expression, expression, number_of, expression_of}
 use Rattle.asm_lines.specs.Operand.{Draft, up_to, wrapped, told_fault, fault_of, filled_draft, filled_fault}
@@ -32,14 +34,13 @@ pub data Setting : Type 0 where
   mode : Bool → Setting
   entry : Expression → Setting
 
--- what places bytes that are no instruction's
+-- what places bytes that are no instruction's: a directive, its number (0 where it takes none), and its other operands
 pub data Data : Type 0 where
-  align : ℕ → Data
-  zeros : ℕ → Data
-  -- values of so many bytes, and the expressions with commas between
-  values : ℕ → List ℕ → Data
-  -- what stands between the quotes
-  text : List ℕ → Data
+  item : Directive → ℕ → List ℕ → Data
+
+-- values of so many bytes: expressions with commas between
+abbrev pub values : ℕ → List ℕ → Data
+values size operands = item (Values size) 0 operands
 
 pub data Statement : Type 0 where
   instruction : Instruction → Statement
@@ -135,7 +136,7 @@ abbrev pub page_range : Result ℤ LineFault → Result ℤ LineFault
 page_range (Ok n) = if int_lt n (pos 1) || int_lt (pos most_pages) n then Err A3 else Ok n
 page_range (Err fault) = Err fault
 
--- .pages, .mode, .org, .align and .zero, by the number behind them
+-- .pages, .mode and .org, by the number behind them
 abbrev pub pages_said : Result ℤ LineFault → Said
 pages_said number = number_said (λ n. setting (pages n)) (Some (setting (pages 0))) (page_range number)
 
@@ -144,12 +145,6 @@ mode_said number = number_said (λ n. setting (mode (n == 1))) (Some (setting (m
 
 abbrev pub origin_said : Result ℤ LineFault → Said
 origin_said number = number_said origin None (up_to (2 ^ 64 - 1) number)
-
-abbrev pub align_said : Result ℤ LineFault → Said
-align_said number = number_said (λ n. contents (align n)) None (up_to 12 number)
-
-abbrev pub zeros_said : Result ℤ LineFault → Said
-zeros_said number = number_said (λ n. contents (zeros n)) None (up_to 268435456 number)
 
 abbrev pub entry_said : Result Expression LineFault → Said
 entry_said e = said_unless (setting (entry (expression_or_nought e))) (fault_of e)
@@ -210,7 +205,52 @@ text_bytes between = text_bytes_from false between
 
 abbrev pub text_said : List ℕ → Said
 text_said operands =
-    if is_quoted operands then said (Some (contents (text (take (length operands - 2) (drop 1 operands))))) None else said None (Some A2)
+    if is_quoted operands then said (Some (contents (item Ascii 0 (take (length operands - 2) (drop 1 operands))))) None
+    else said None (Some A2)
+
+-- The directives that place bytes, by name.
+abbrev pub directives : List (List ℕ × Directive)
+directives =
+    (codes ".align", Align)
+    ∷ (codes ".zero", Zero)
+    ∷ (codes ".byte", Values 1)
+    ∷ (codes ".half", Values 2)
+    ∷ (codes ".word", Values 4)
+    ∷ (codes ".dword", Values 8)
+    ∷ (codes ".ascii", Ascii)
+    ∷ []
+
+abbrev pub directive_in : List (List ℕ × Directive) → List ℕ → Option Directive
+directive_in [] word = None
+directive_in (d ∷ ds) word = if is_word word d.0 then Some d.1 else directive_in ds word
+
+-- the greatest number that a directive takes
+abbrev pub most_of : Directive → ℕ
+most_of Align = 12
+most_of Zero = 268435456
+most_of other = 0
+
+-- a directive with a number
+abbrev pub count_said : Directive → Result ℤ LineFault → Said
+count_said d number = number_said (λ n. contents (item d n [])) None (up_to (most_of d) number)
+
+abbrev pub data_said : Directive → List ℕ → Said
+data_said (Values size) operands = values_said size operands
+data_said Ascii operands = text_said operands
+data_said d operands = count_said d (number_of operands)
+
+-- what the lines of a text say of their data: values have a size, and a number is none that the directive refuses
+abbrev pub is_sized : Directive → Bool
+is_sized (Values size) = is_size size
+is_sized other = true
+
+abbrev pub is_in_bounds : Data → Bool
+is_in_bounds (item d number text) = is_sized d && nat_le number (most_of d)
+
+-- a directive that places bytes, or else an instruction
+abbrev pub placing_said : Option Directive → List ℕ → List ℕ → Said
+placing_said (Some d) word operands = data_said d operands
+placing_said None word operands = pattern_said (pattern_of word (length operands == 0)) operands
 
 -- what a mnemonic and its operands say
 unfoldable pub said_by : List ℕ → List ℕ → Said
@@ -221,11 +261,4 @@ said_by word operands =
     else (if is_word word (codes ".mode") then mode_said (number_of operands)
     else (if is_word word (codes ".entry") then entry_said (expression_of operands)
     else (if is_word word (codes ".org") then origin_said (number_of operands)
-    else (if is_word word (codes ".align") then align_said (number_of operands)
-    else (if is_word word (codes ".zero") then zeros_said (number_of operands)
-    else (if is_word word (codes ".byte") then values_said 1 operands
-    else (if is_word word (codes ".half") then values_said 2 operands
-    else (if is_word word (codes ".word") then values_said 4 operands
-    else (if is_word word (codes ".dword") then values_said 8 operands
-    else (if is_word word (codes ".ascii") then text_said operands
-    else pattern_said (pattern_of word (length operands == 0)) operands))))))))))))
+    else placing_said (directive_in directives word) word operands)))))

@@ -3,6 +3,7 @@
 
 mod class;
 mod comment;
+mod data;
 mod fault;
 mod filling;
 mod line;
@@ -20,6 +21,6 @@ pub use fault::LineFault;
 pub use line::parse_line;
 pub use number::expression;
 pub use operand::natural;
-pub use parsed::{Data, Expression, Instruction, Parsed, Setting, Statement};
+pub use parsed::{Data, Directive, Expression, Instruction, Parsed, Setting, Statement};
 pub use text::split_piece;
 pub use values::is_in_size;

@@ -47,17 +47,27 @@ pub enum Setting<'a> {
     Entry(Expression<'a>),
 }
 
-/// What places bytes that are no instruction's.
+/// A directive that places bytes.
 #[derive(Clone, Copy, Debug, PartialEq, Eq)]
-pub enum Data<'a> {
-    /// `.align`: zeros up to a multiple of two to this power, 0 to 12.
-    Align(u32),
-    /// `.zero`: so many zeros, 0 to 268435456.
-    Zero(u64),
-    /// `.byte`, `.half`, `.word`, `.dword`: the number of bytes of each value (1, 2, 4 or 8), and the expressions with commas between.
-    Values { size: u8, operands: &'a [u8] },
-    /// `.ascii`: what stands between the quotes, with its escapes.
-    Text(&'a [u8]),
+pub enum Directive {
+    /// `.align`: zeros up to a multiple of two to the power of its number.
+    Align,
+    /// `.zero`: so many zeros as its number says.
+    Zero,
+    /// `.byte`, `.half`, `.word`, `.dword`: values of so many bytes (1, 2, 4 or 8), expressions with commas between.
+    Values(u8),
+    /// `.ascii`: the bytes of a text between quotes.
+    Ascii,
+}
+
+/// What places bytes that are no instruction's: a directive and its operands.
+#[derive(Clone, Copy, Debug, PartialEq, Eq)]
+pub struct Data<'a> {
+    pub directive: Directive,
+    /// The number behind `.align` (0 to 12) and `.zero` (0 to 268435456); 0 behind another directive.
+    pub number: u64,
+    /// The operands of a directive that has no number; of a text, what stands between the quotes, with its escapes.
+    pub text: &'a [u8],
 }
 
 /// What one line says.

@@ -2,20 +2,19 @@
 ghost use Rattle.std.specs.Prelude.{◌≡◌, ◌<◌, Some, None, option_map, IfOk, IfSome, IsTrue};
 ghost use Rattle.asm_lines.specs.Text.{pieces_of};
 ghost use Rattle.asm_lines.specs.Number.{number_of, expression_of};
-ghost use Rattle.asm_lines.specs.Statement.{said, said_unless, is_size, pattern_said, load_said, register_load, entry_said, pages_said};
-ghost use Rattle.asm_lines.specs.Statement.{mode_said, origin_said, align_said, zeros_said, values_said, text_said, said_by};
+ghost use Rattle.asm_lines.specs.Statement.{said, said_unless, pattern_said, load_said, register_load, entry_said, pages_said};
+ghost use Rattle.asm_lines.specs.Statement.{mode_said, origin_said, directives, directive_in, placing_said, said_by};
 ghost use Rattle.asm_lines.specs.Line.{seen_statement, seen_result, HasOffset, IsBounded, IsBoundedIfAny};
 ghost use Rattle.asm_lines.specs.Seen.{seen_pattern, seen_said};
 
+use crate::data::{data_said, directive_named};
 use crate::fault::LineFault;
 use crate::filling::{filled, first_rest};
 use crate::number::expression;
 use crate::operand::{Draft, natural, register};
-use crate::parsed::{Data, Expression, Instruction, Setting, Statement};
+use crate::parsed::{Expression, Instruction, Setting, Statement};
 use crate::pattern::{Pattern, is_word, pattern_of};
-use crate::quoted::closes;
 use crate::text::split_piece;
-use crate::values::values_fault;
 use base::ram;
 
 /// A statement, unless a fault leaves none, and the first fault that its line decides.
@@ -184,53 +183,15 @@ fn origin_said<'a>(operands: &[u8]) -> Said<'a>
     }
 }
 
-/// `.align`: a number of 0 to 12.
-fn align_said<'a>(operands: &[u8]) -> Said<'a>
-    ensures value { seen_said result ≡ align_said (number_of operands.now) }
+/// What a directive that places bytes, or else an instruction, and its operands say.
+fn placing_said<'a>(word: &[u8], operands: &'a [u8]) -> Said<'a>
+    ensures value { seen_said result ≡ placing_said (directive_in directives word.now) word.now operands.now }
     ensures bounds { IsBoundedIfAny result.statement }
 {
-    match natural(operands, 12) {
-        Ok(power) => Said::plain(Statement::Data(Data::Align(power as u32))),
-        Err(fault) => Said::fault(fault),
+    match directive_named(word) {
+        Some(directive) => data_said(directive, operands),
+        None => pattern_said(pattern_of(word, operands.is_empty()), operands),
     }
-}
-
-/// `.zero`: a number of 0 to 268435456.
-fn zeros_said<'a>(operands: &[u8]) -> Said<'a>
-    ensures value { seen_said result ≡ zeros_said (number_of operands.now) }
-    ensures bounds { IsBoundedIfAny result.statement }
-{
-    match natural(operands, 268_435_456) {
-        Ok(count) => Said::plain(Statement::Data(Data::Zero(count))),
-        Err(fault) => Said::fault(fault),
-    }
-}
-
-/// `.byte`, `.half`, `.word` and `.dword`: one value or more.
-fn values_said<'a>(size: u8, operands: &'a [u8]) -> Said<'a>
-    requires { IsTrue (is_size size) }
-    ensures value { seen_said result ≡ values_said size operands.now }
-    ensures bounds { IsBoundedIfAny result.statement }
-{
-    if operands.is_empty() {
-        return Said::fault(LineFault::A2);
-    }
-    Said::unless(
-        Statement::Data(Data::Values { size, operands }),
-        values_fault(size, operands),
-    )
-}
-
-/// `.ascii`: a text between quotes.
-fn text_said<'a>(operands: &'a [u8]) -> Said<'a>
-    ensures value { seen_said result ≡ text_said operands.now }
-    ensures bounds { IsBoundedIfAny result.statement }
-{
-    if operands.is_empty() || operands[0] != b'"' || !closes(&operands[1..]) {
-        return Said::fault(LineFault::A2);
-    }
-    let between = &operands[1..operands.len() - 1];
-    Said::plain(Statement::Data(Data::Text(between)))
 }
 
 /// What a mnemonic and its operands say.
@@ -251,21 +212,7 @@ pub(crate) fn said_by<'a>(word: &[u8], operands: &'a [u8]) -> Said<'a>
         entry_said(operands)
     } else if is_word(word, ".org") {
         origin_said(operands)
-    } else if is_word(word, ".align") {
-        align_said(operands)
-    } else if is_word(word, ".zero") {
-        zeros_said(operands)
-    } else if is_word(word, ".byte") {
-        values_said(1, operands)
-    } else if is_word(word, ".half") {
-        values_said(2, operands)
-    } else if is_word(word, ".word") {
-        values_said(4, operands)
-    } else if is_word(word, ".dword") {
-        values_said(8, operands)
-    } else if is_word(word, ".ascii") {
-        text_said(operands)
     } else {
-        pattern_said(pattern_of(word, operands.is_empty()), operands)
+        placing_said(word, operands)
     }
 }

@@ -7,7 +7,8 @@ use Rattle.isa_rows.specs.declared.operands.Insn.{Insn}
 use Rattle.isa_rows.specs.Line.{line_of}
 use Rattle.asm_lines.specs.Text.{pieces_of}
 use Rattle.asm_lines.specs.Number.{Expression, expression_of, is_in_limits}
-use Rattle.asm_lines.specs.Statement.{row, load, entry, values, expression_or_nought}
+use Rattle.asm_lines.specs.declared.parsed.Directive.TheVariants.{Values}
+use Rattle.asm_lines.specs.Statement.{row, load, entry, item, expression_or_nought}
 use Rattle.assembler.specs.declared.fault.AsmCode.TheVariants.{A3, A5, A6}
 use Rattle.assembler.specs.declared.checks.Test.TheVariants.{IsUnknown, IsBeyond}
 use Rattle.assembler.specs.Places.{Symbols}
@@ -82,13 +83,13 @@ far-values page_count symbols here size [] = refl
 far-values page_count symbols here size (p ∷ ps) =
     false-or _ _ (never-far (value_of symbols here (expression_or_nought (expression_of p)))) (far-values page_count symbols here size ps)
 
-pub asked_values : (page_count : ℕ) (symbols : Symbols) (here size : ℕ) (operands : List ℕ)
+pub asked_values : (page_count : ℕ) (symbols : Symbols) (here size n : ℕ) (operands : List ℕ)
     → first_fault
     ((not (any_passes (IsBeyond size) symbols here (pieces_of operands)), A3)
     ∷ (not (any_passes IsUnknown symbols here (pieces_of operands)), A5)
     ∷ [])
-    ≡ asked_fault page_count symbols here (asked_by_data (values size operands))
-asked_values page_count symbols here size operands =
+    ≡ asked_fault page_count symbols here (asked_by_data (item (Values size) n operands))
+asked_values page_count symbols here size n operands =
     let ps = pieces_of operands in
     rw (beyond-values symbols here size ps, unknown-values symbols here size ps, far-values page_count symbols here size ps) refl
 

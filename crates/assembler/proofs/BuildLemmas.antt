@@ -13,9 +13,10 @@ use Rattle.asm_lines.specs.Text.{pieces_of}
 use Rattle.asm_lines.specs.Operand.{wrapped}
 use Rattle.asm_lines.specs.Number.{expression_of}
 use Rattle.asm_lines.specs.Statement.{Statement, instruction, setting, origin, contents, Instruction, row, load, pages, mode, entry, Data}
-use Rattle.asm_lines.specs.Statement.{align, zeros, values, text, expression_or_nought}
+use Rattle.asm_lines.specs.declared.parsed.Directive.TheVariants.{Align, Zero, Values, Ascii}
+use Rattle.asm_lines.specs.Statement.{item, expression_or_nought}
 use Rattle.asm_lines.specs.Line.{Line}
-use Rattle.assembler.specs.Places.{Symbols, aligned, instruction_size, data_size, size_at, end_of, end_after}
+use Rattle.assembler.specs.Places.{Symbols, zero_count, instruction_size, data_size, size_at, end_of, end_after}
 use Rattle.assembler.specs.Values.{value_of, known_and, is_entry, has_unknown_name, is_out_of_reach}
 use Rattle.assembler.specs.Bytes.{or_zero, value_at, insn_bytes, value_bytes, instruction_bytes, data_bytes, bytes_at}
 use Rattle.assembler.specs.Faults.{Assembled, given, page_count, is_misplaced, is_statement_misplaced, line_fault, lacks_place}
@@ -60,10 +61,10 @@ instruction-length symbols here (row i target) = refl
 instruction-length symbols here (load capability rd value) = refl
 
 data-length : (symbols : Symbols) (here : ℕ) (d : Data) → length (data_bytes symbols here d) ≡ data_size d here
-data-length symbols here (align bits) = length-replicate (aligned here bits - here) 0
-data-length symbols here (zeros n) = length-replicate n 0
-data-length symbols here (values size operands) = length-values symbols here size (pieces_of operands)
-data-length symbols here (text between) = refl
+data-length symbols here (item Align n operands) = length-replicate (zero_count Align here n) 0
+data-length symbols here (item Zero n operands) = length-replicate n 0
+data-length symbols here (item (Values size) n operands) = length-values symbols here size (pieces_of operands)
+data-length symbols here (item Ascii n between) = refl
 
 instruction-placed : (symbols : Symbols) (here : ℕ) (i : Instruction)
     → length (bytes_at symbols here (instruction i)) ≡ size_at (instruction i) here

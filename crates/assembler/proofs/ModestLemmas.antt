@@ -1,5 +1,6 @@
 -- The statement of a line has a size of values, an alignment to at most 4096 bytes, at most 2 ^ 28 zeros, and texts within the line.
-use Rattle.std.proofs.Common.{◌≡◌, ℕ, ◌+◌, ◌≤◌, ◌-◌, ◌%◌, ◌^◌, Bool, true, false, not, ◌||◌, ◌==◌, nat_lt, nat_le, if◌then◌else◌, ℤ, pos}
+use Rattle.std.proofs.Common.{◌≡◌, ℕ, ◌+◌, ◌<◌, ◌≤◌, ◌-◌, ◌%◌, ◌^◌, Bool, true, false, not, ◌&&◌, ◌||◌, ◌==◌, nat_lt, nat_le}
+use Rattle.std.proofs.Common.{if◌then◌else◌, ℤ, pos}
 use Rattle.std.proofs.Common.{negsuc, List, [], ◌∷◌, length, take, drop, Option, Some, None, Result, Ok, Err, codes, refl, arith}
 use Rattle.std.specs.List.{prefix_len, suffix_len, position_or_len, after_first}
 use Rattle.std.proofs.lemmas.List.{length-drop, length-take}
@@ -10,11 +11,13 @@ use Rattle.asm_lines.specs.Text.{is_blank, trimmed_start, uncommented_from, quot
 use Rattle.asm_lines.specs.Text.{trimmed, uncommented, label_of, statement_text, mnemonic_of, operands_of}
 use Rattle.asm_lines.specs.Number.{Expression, number_of, expression_of}
 use Rattle.asm_lines.specs.Operand.{up_to, wrapped, filled_draft, filled_fault}
-use Rattle.asm_lines.specs.Statement.{Statement, instruction, setting, origin, contents, row, load, pages, mode, entry, align, zeros}
-use Rattle.asm_lines.specs.Statement.{values, text, is_size, Said, said, said_by, is_word, Pattern, pattern_of, pattern_said, draft_of}
+use Rattle.asm_lines.specs.declared.parsed.Directive.{Directive}
+use Rattle.asm_lines.specs.declared.parsed.Directive.TheVariants.{Align, Zero, Values, Ascii}
+use Rattle.asm_lines.specs.Statement.{Statement, instruction, setting, origin, contents, row, load, pages, mode, entry, item}
+use Rattle.asm_lines.specs.Statement.{values, is_sized, most_of, Said, said, said_by, is_word, Pattern, pattern_of, pattern_said, draft_of}
 use Rattle.asm_lines.specs.Statement.{said_unless, leaves_statement, register_load, load_said, number_said, page_range, pages_said}
-use Rattle.asm_lines.specs.Statement.{mode_said, origin_said, align_said, zeros_said, entry_said, values_said, values_fault, text_said}
-use Rattle.asm_lines.specs.Statement.{is_quoted, expression_or_nought}
+use Rattle.asm_lines.specs.Statement.{mode_said, origin_said, entry_said, values_said, values_fault, count_said, data_said, directives}
+use Rattle.asm_lines.specs.Statement.{directive_in, placing_said, is_quoted, is_size, expression_or_nought}
 use Rattle.asm_lines.specs.Line.{Line, line_meaning, line_said, line_of_text, labelled}
 use Rattle.assembler.proofs.TestLemmas.{both-true, not-below}
 use Rattle.assembler.specs.Modest.{is_modest, is_modest_or_none, is_modest_line}
@@ -62,32 +65,19 @@ number-modest : (make : ℕ → Statement) (other : Option Statement) (r : Resul
 number-modest make other (Ok n) f h = f (wrapped n)
 number-modest make other (Err fault) f h = other-modest other fault h
 
-align-within : (n : ℕ) → (nat_lt n 0 || nat_lt 12 n) ≡ false → nat_le (n % 2 ^ 64) 12 ≡ true
-align-within n h = grind (arith, nat_tests)
+count-within : (n most : ℕ) → most < 2 ^ 64 → (nat_lt n 0 || nat_lt most n) ≡ false → nat_le (n % 2 ^ 64) most ≡ true
+count-within n most h e = grind (arith, nat_tests)
 
-zeros-within : (n : ℕ) → (nat_lt n 0 || nat_lt 268435456 n) ≡ false → nat_le (n % 2 ^ 64) 268435456 ≡ true
-zeros-within n h = grind (arith, nat_tests)
-
-zeros-modest : (r : Result ℤ LineFault) → IsModest (zeros_said r)
-zeros-modest (Ok (pos n)) =
-    elim (nat_lt n 0 || nat_lt 268435456 n) as
-    (λ b. (nat_lt n 0 || nat_lt 268435456 n) ≡ b
-    → IsModest (number_said (λ m. contents (zeros m)) None (if b then Err A3 else Ok (pos n)))) [
+count-modest : (d : Directive) (r : Result ℤ LineFault) → is_sized d ≡ true → most_of d < 2 ^ 64 → IsModest (count_said d r)
+count-modest d (Ok (pos n)) h small =
+    elim (nat_lt n 0 || nat_lt (most_of d) n) as
+    (λ b. (nat_lt n 0 || nat_lt (most_of d) n) ≡ b
+    → IsModest (number_said (λ m. contents (item d m [])) None (if b then Err A3 else Ok (pos n)))) [
       | true ↦ λ e. refl
-      | false ↦ λ e. zeros-within n e
+      | false ↦ λ e. both-true _ true (both-true _ _ h (count-within n (most_of d) small e)) refl
     ] refl
-zeros-modest (Ok (negsuc n)) = refl
-zeros-modest (Err fault) = other-modest None fault refl
-
-align-modest : (r : Result ℤ LineFault) → IsModest (align_said r)
-align-modest (Ok (pos n)) =
-    elim (nat_lt n 0 || nat_lt 12 n) as
-    (λ b. (nat_lt n 0 || nat_lt 12 n) ≡ b → IsModest (number_said (λ m. contents (align m)) None (if b then Err A3 else Ok (pos n)))) [
-      | true ↦ λ e. refl
-      | false ↦ λ e. align-within n e
-    ] refl
-align-modest (Ok (negsuc n)) = refl
-align-modest (Err fault) = other-modest None fault refl
+count-modest d (Ok (negsuc n)) h small = refl
+count-modest d (Err fault) h small = other-modest None fault refl
 
 entry-modest : (x : Result Expression LineFault) → IsModest (entry_said x)
 entry-modest (Ok x) = refl
@@ -100,10 +90,10 @@ values-modest : (size : ℕ) (operands : List ℕ) → is_size size ≡ true →
 values-modest size [] h g = refl
 values-modest size (b ∷ bs) h g =
     unless-modest (contents (values size (b ∷ bs))) (values_fault size (pieces_of (b ∷ bs)))
-    (both-true (is_size size) (nat_le (length (b ∷ bs)) 255) h (short _ g))
+    (both-true (is_size size && true) (nat_le (length (b ∷ bs)) 255) (both-true (is_size size) true h refl) (short _ g))
 
 quoted-modest : (test : Bool) (between : List ℕ) → length between ≤ 255
-    → IsModest (if test then said (Some (contents (text between))) None else said None (Some A2))
+    → IsModest (if test then said (Some (contents (item Ascii 0 between))) None else said None (Some A2))
 quoted-modest true between h = short _ h
 quoted-modest false between h = refl
 
@@ -117,6 +107,26 @@ one-modest : (test : Bool) (s t : Said) → IsModest s → IsModest t → IsMode
 one-modest true s t f g = f
 one-modest false s t f g = g
 
+data-modest : (d : Directive) (operands : List ℕ) → is_sized d ≡ true → length operands ≤ 255 → IsModest (data_said d operands)
+data-modest Align operands h g = count-modest Align (number_of operands) refl (omega arith)
+data-modest Zero operands h g = count-modest Zero (number_of operands) refl (omega arith)
+data-modest (Values size) operands h g = values-modest size operands h g
+data-modest Ascii operands h g =
+    quoted-modest (is_quoted operands) (take (length operands - 2) (drop 1 operands))
+    (omega (arith, length-take-most (length operands - 2) (drop 1 operands), length-drop-le 1 operands))
+
+abbrev AreSized : List (List ℕ × Directive) → Type 0
+AreSized [] = Unit {0}
+AreSized (d ∷ ds) = (is_sized d.1 ≡ true) × AreSized ds
+
+placing-modest : (ds : List (List ℕ × Directive)) (word operands : List ℕ) → AreSized ds → length operands ≤ 255
+    → IsModest (placing_said (directive_in ds word) word operands)
+placing-modest [] word operands h g = pattern-modest (pattern_of word (length operands == 0)) operands
+placing-modest (d ∷ ds) word operands h g =
+    elim (is_word word d.0) as
+    (λ b. IsModest (placing_said (if b then Some d.1 else directive_in ds word) word operands))
+    [ true ↦ data-modest d.1 operands h.0 g | false ↦ placing-modest ds word operands h.1 g ]
+
 said-modest : (word operands : List ℕ) → length operands ≤ 255 → IsModest (said_by word operands)
 unfolding said_by
 said-modest word operands short-enough =
@@ -129,16 +139,7 @@ said-modest word operands short-enough =
     (number-modest (λ m. setting (mode (m == 1))) (Some (setting (mode false))) (up_to 1 n) (λ _. refl) refl) (
     one-modest (is_word word (codes ".entry")) (entry_said (expression_of operands)) _ (entry-modest (expression_of operands)) (
     one-modest (is_word word (codes ".org")) (origin_said n) _ (number-modest origin None (up_to (2 ^ 64 - 1) n) (λ _. refl) refl) (
-    one-modest (is_word word (codes ".align")) (align_said n) _ (align-modest n) (
-    one-modest (is_word word (codes ".zero")) (zeros_said n) _ (zeros-modest n) (
-    one-modest (is_word word (codes ".byte")) (values_said 1 operands) _ (values-modest 1 operands refl short-enough) (
-    one-modest (is_word word (codes ".half")) (values_said 2 operands) _ (values-modest 2 operands refl short-enough) (
-    one-modest (is_word word (codes ".word")) (values_said 4 operands) _ (values-modest 4 operands refl short-enough) (
-    one-modest (is_word word (codes ".dword")) (values_said 8 operands) _ (values-modest 8 operands refl short-enough) (
-    one-modest (is_word word (codes ".ascii")) (text_said operands) _
-    (quoted-modest (is_quoted operands) (take (length operands - 2) (drop 1 operands))
-    (omega (arith, length-take-most (length operands - 2) (drop 1 operands), length-drop-le 1 operands))) (
-    pattern-modest (pattern_of word (length operands == 0)) operands)))))))))))))
+    placing-modest directives word operands (refl, (refl, (refl, (refl, (refl, (refl, (refl, tt))))))) short-enough))))))
 
 operands-shorter : (statement : List ℕ) → length (operands_of statement) ≤ length statement
 operands-shorter statement =

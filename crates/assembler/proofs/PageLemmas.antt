@@ -9,10 +9,12 @@ use Rattle.asm_lines.specs.declared.fault.LineFault.TheVariants.{A2, A3, A8, A9}
 use Rattle.asm_lines.specs.Text.{pieces_of, is_foreign, trimmed, uncommented, label_of, statement_text, mnemonic_of, operands_of}
 use Rattle.asm_lines.specs.Number.{Expression, number_of, expression_of}
 use Rattle.asm_lines.specs.Operand.{up_to, wrapped, filled_draft, filled_fault}
-use Rattle.asm_lines.specs.Statement.{Statement, instruction, setting, origin, contents, row, pages, mode, align, zeros, values, text, Said}
+use Rattle.asm_lines.specs.declared.parsed.Directive.{Directive}
+use Rattle.asm_lines.specs.declared.parsed.Directive.TheVariants.{Align, Zero, Values, Ascii}
+use Rattle.asm_lines.specs.Statement.{Statement, instruction, setting, origin, contents, row, pages, mode, item, values, Said}
 use Rattle.asm_lines.specs.Statement.{said, said_by, is_word, Pattern, pattern_of, pattern_said, draft_of, said_unless, register_load}
-use Rattle.asm_lines.specs.Statement.{load_said, number_said, pages_said, mode_said, origin_said, align_said, zeros_said, entry_said}
-use Rattle.asm_lines.specs.Statement.{values_said, values_fault, text_said, is_quoted}
+use Rattle.asm_lines.specs.Statement.{load_said, number_said, pages_said, mode_said, origin_said, entry_said, most_of, data_said}
+use Rattle.asm_lines.specs.Statement.{values_said, values_fault, directives, directive_in, placing_said, is_quoted}
 use Rattle.asm_lines.specs.Line.{Line, line_meaning, line_said, line_of_text, labelled}
 use Rattle.assembler.specs.Buildable.{is_paged, is_paged_unless, is_paged_line}
 
@@ -68,9 +70,20 @@ values-paged : (size : ℕ) (operands : List ℕ) → IsPaged (values_said size 
 values-paged size [] = refl
 values-paged size (b ∷ bs) = unless-paged (contents (values size (b ∷ bs))) (values_fault size (pieces_of (b ∷ bs))) refl
 
-quoted-paged : (test : Bool) (between : List ℕ) → IsPaged (if test then said (Some (contents (text between))) None else said None (Some A2))
+quoted-paged : (test : Bool) (between : List ℕ)
+    → IsPaged (if test then said (Some (contents (item Ascii 0 between))) None else said None (Some A2))
 quoted-paged true between = refl
 quoted-paged false between = refl
+
+data-paged : (d : Directive) (operands : List ℕ) → IsPaged (data_said d operands)
+data-paged Align operands = number-paged (λ n. contents (item Align n [])) None (up_to (most_of Align) (number_of operands)) (λ _. refl)
+data-paged Zero operands = number-paged (λ n. contents (item Zero n [])) None (up_to (most_of Zero) (number_of operands)) (λ _. refl)
+data-paged (Values size) operands = values-paged size operands
+data-paged Ascii operands = quoted-paged (is_quoted operands) (take (length operands - 2) (drop 1 operands))
+
+placing-paged : (d : Option Directive) (word operands : List ℕ) → IsPaged (placing_said d word operands)
+placing-paged (Some d) word operands = data-paged d operands
+placing-paged None word operands = pattern-paged (pattern_of word (length operands == 0)) operands
 
 one-paged : (test : Bool) (s t : Said) → IsPaged s → IsPaged t → IsPaged (if test then s else t)
 one-paged true s t f g = f
@@ -87,16 +100,7 @@ said-paged word operands =
     (number-paged (λ m. setting (mode (m == 1))) (Some (setting (mode false))) (up_to 1 n) (λ _. refl)) (
     one-paged (is_word word (codes ".entry")) (entry_said (expression_of operands)) _ (entry-paged (expression_of operands)) (
     one-paged (is_word word (codes ".org")) (origin_said n) _ (number-paged origin None (up_to (2 ^ 64 - 1) n) (λ _. refl)) (
-    one-paged (is_word word (codes ".align")) (align_said n) _ (number-paged (λ m. contents (align m)) None (up_to 12 n) (λ _. refl)) (
-    one-paged (is_word word (codes ".zero")) (zeros_said n) _
-    (number-paged (λ m. contents (zeros m)) None (up_to 268435456 n) (λ _. refl)) (
-    one-paged (is_word word (codes ".byte")) (values_said 1 operands) _ (values-paged 1 operands) (
-    one-paged (is_word word (codes ".half")) (values_said 2 operands) _ (values-paged 2 operands) (
-    one-paged (is_word word (codes ".word")) (values_said 4 operands) _ (values-paged 4 operands) (
-    one-paged (is_word word (codes ".dword")) (values_said 8 operands) _ (values-paged 8 operands) (
-    one-paged (is_word word (codes ".ascii")) (text_said operands) _
-    (quoted-paged (is_quoted operands) (take (length operands - 2) (drop 1 operands))) (
-    pattern-paged (pattern_of word (length operands == 0)) operands)))))))))))))
+    placing-paged (directive_in directives word) word operands))))))
 
 line_said-paged : (label : Option (List ℕ)) (statement : List ℕ) → is_paged_line (line_said label statement) ≡ true
 line_said-paged label [] = refl

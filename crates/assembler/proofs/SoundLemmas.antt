@@ -15,22 +15,23 @@ use Rattle.asm_lines.specs.declared.parsed.Statement.{Statement as Read}
 use Rattle.asm_lines.specs.declared.parsed.Statement.TheVariants as read
 use Rattle.asm_lines.specs.declared.parsed.Instruction.TheVariants.{Row, Load}
 use Rattle.asm_lines.specs.declared.parsed.Setting.TheVariants.{Entry}
-use Rattle.asm_lines.specs.declared.parsed.Data.TheVariants.{Values}
+use Rattle.asm_lines.specs.declared.parsed.Directive.{Directive}
+use Rattle.asm_lines.specs.declared.parsed.Directive.TheVariants.{Align, Zero, Values, Ascii}
 use Rattle.asm_lines.specs.Text.{pieces_of}
 use Rattle.asm_lines.specs.Number.{is_in_limits}
 use Rattle.asm_lines.specs.Operand.{wrapped}
-use Rattle.asm_lines.specs.Statement.{Statement, is_size, is_in_size}
+use Rattle.asm_lines.specs.Statement.{Statement, item, is_size, is_sized, is_in_size}
 use Rattle.asm_lines.specs.Line.{Line, RowFits, IsTargetOffset, IsBounded, IsBoundedIfAny, seen_expression, seen_statement, seen_line}
 use Rattle.assembler.specs.declared.fault.AsmCode.{AsmCode}
 use Rattle.assembler.specs.declared.fault.AsmCode.TheVariants.{A1, A2, A3, A4, A5, A6, A7}
 use Rattle.assembler.specs.Places.{Symbols, size_at}
-use Rattle.assembler.specs.Values.{value_of, known_and, is_reached, reach_of, asked_value, asked_by, has_value_beyond, has_unknown_name}
-use Rattle.assembler.specs.Values.{is_out_of_reach}
+use Rattle.assembler.specs.Values.{value_of, known_and, is_reached, reach_of, asked_value, asked_by_data, asked_by, has_value_beyond}
+use Rattle.assembler.specs.Values.{has_unknown_name, is_out_of_reach}
 use Rattle.assembler.specs.Checks.{named_fault}
 use Rattle.assembler.specs.Bytes.{or_zero}
 use Rattle.assembler.specs.Faults.{Assembled, page_count, line_fault, is_statement_misplaced, lacks_place, is_instruction}
 use Rattle.assembler.specs.FaultLaws.{fault_by, fault_in_text, statement_fault, line_fault-by}
-use Rattle.assembler.proofs.TestLemmas.{or-false, not-false}
+use Rattle.assembler.proofs.TestLemmas.{or-false, not-false, and-first}
 use Rattle.assembler.specs.Sound.{IsValued, HasWords}
 use Rattle.assembler.proofs.AskedLemmas.{AreLimited, known-asked}
 
@@ -117,11 +118,17 @@ limited-values : (size : ℕ) (ps : List (List ℕ)) → is_size size ≡ true �
 limited-values size [] h = tt
 limited-values size (p ∷ ps) h = (λ v g. in-size-limits size v (one-size size h) g, limited-values size ps h)
 
+limited-data : (d : Directive) (number : ℕ) (operands : List ℕ) → is_sized d ≡ true → AreLimited (asked_by_data (item d number operands))
+limited-data Align number operands h = tt
+limited-data Zero number operands h = tt
+limited-data (Values size) number operands h = limited-values size (pieces_of operands) h
+limited-data Ascii number operands h = tt
+
 limited : (r : Read) → IsBounded r → AreLimited (asked_by (seen_statement r))
 limited (read.Instruction (Row i (Some e))) b = (λ v h. h, tt)
 limited (read.Instruction (Load capability rd value)) b = (λ v h. h, tt)
 limited (read.Setting (Entry e)) b = (λ v h. h, tt)
-limited (read.Data (Values size operands)) b = limited-values size (pieces_of operands.now) b
+limited (read.Data d) b = limited-data d.directive d.number d.text.now (and-first _ _ b)
 limited other b = tt
 
 -- each value of a statement without a fault is known

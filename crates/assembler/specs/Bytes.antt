@@ -1,5 +1,5 @@
 -- The bytes that a statement places.
-use Rattle.std.specs.Prelude.{ℕ, ◌-◌, ◌*◌, ◌%◌, ◌^◌, Bool, if◌then◌else◌, ℤ, pos, ◌+ℤ◌, ◌-ℤ◌, ◌*ℤ◌, List, [], ◌++◌, replicate, Option, Some}
+use Rattle.std.specs.Prelude.{ℕ, ◌*◌, ◌%◌, ◌^◌, Bool, if◌then◌else◌, ℤ, pos, ◌+ℤ◌, ◌-ℤ◌, ◌*ℤ◌, List, [], ◌++◌, replicate, Option, Some}
 use Rattle.std.specs.Prelude.{None}
 use Rattle.std.specs.Int.{int_div_euclid}
 use Rattle.std.specs.List.{flat_map}
@@ -11,9 +11,9 @@ use Rattle.isa_rows.specs.InsnLaws.{insn_word}
 use Rattle.asm_lines.specs.Text.{pieces_of}
 use Rattle.asm_lines.specs.Number.{Expression, expression_of}
 use Rattle.asm_lines.specs.Operand.{wrapped}
-use Rattle.asm_lines.specs.Statement.{Statement, instruction, contents, Instruction, row, load, Data, align, zeros, values, text}
-use Rattle.asm_lines.specs.Statement.{text_bytes, expression_or_nought}
-use Rattle.assembler.specs.Places.{Symbols, aligned}
+use Rattle.asm_lines.specs.declared.parsed.Directive.TheVariants.{Values, Ascii}
+use Rattle.asm_lines.specs.Statement.{Statement, instruction, contents, Instruction, row, load, Data, item, text_bytes, expression_or_nought}
+use Rattle.assembler.specs.Places.{Symbols, zero_count}
 use Rattle.assembler.specs.Values.{value_of}
 
 -- the value of an expression whose name is known
@@ -55,10 +55,9 @@ instruction_bytes symbols here (row i target) = insn_bytes (aimed symbols here i
 instruction_bytes symbols here (load capability rd value) = load_bytes capability rd (value_at symbols here value -ℤ pos here)
 
 abbrev pub data_bytes : Symbols → ℕ → Data → List ℕ
-data_bytes symbols here (align bits) = replicate (aligned here bits - here) 0
-data_bytes symbols here (zeros n) = replicate n 0
-data_bytes symbols here (values size operands) = flat_map (value_bytes symbols here size) (pieces_of operands)
-data_bytes symbols here (text between) = text_bytes between
+data_bytes symbols here (item (Values size) n operands) = flat_map (value_bytes symbols here size) (pieces_of operands)
+data_bytes symbols here (item Ascii n between) = text_bytes between
+data_bytes symbols here (item d n operands) = replicate (zero_count d here n) 0
 
 unfoldable pub bytes_at : Symbols → ℕ → Statement → List ℕ
 bytes_at symbols here (instruction i) = instruction_bytes symbols here i

@@ -1,14 +1,11 @@
 -- What holds of each statement that a line says.
 use Rattle.std.specs.Prelude.{ℕ, ◌+◌, ◌^◌, ◌<◌, ◌≤◌, ◌⊎◌, Bool, true, ◌&&◌, nat_le, length, Option, Some, None}
-use Rattle.asm_lines.specs.Statement.{Statement, contents, Data, align, zeros, values, text, is_size}
+use Rattle.asm_lines.specs.Statement.{Statement, contents, Data, item, is_in_bounds}
 use Rattle.asm_lines.specs.Line.{Line}
 
--- values have a size, an alignment is to at most 4096 bytes, zeros are at most 2 ^ 28, and a text is part of a line
+-- a number is none that the directive refuses, and operands are part of a line
 abbrev pub is_modest_data : Data → Bool
-is_modest_data (align bits) = nat_le bits 12
-is_modest_data (zeros n) = nat_le n 268435456
-is_modest_data (values size operands) = is_size size && nat_le (length operands) 255
-is_modest_data (text between) = nat_le (length between) 255
+is_modest_data (item d number text) = is_in_bounds (item d number text) && nat_le (length text) 255
 
 abbrev pub is_modest : Statement → Bool
 is_modest (contents d) = is_modest_data d

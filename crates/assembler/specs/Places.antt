@@ -5,8 +5,9 @@ use Rattle.std.specs.Prelude.{is_some, ◌==◌}
 use Rattle.std.specs.List.{slice_split}
 use Rattle.std.specs.Cmp.Lexicographic.{pointwise}
 use Rattle.asm_lines.specs.Text.{pieces_of}
-use Rattle.asm_lines.specs.Statement.{Statement, instruction, setting, origin, contents, Instruction, row, load, Data, align, zeros, values}
-use Rattle.asm_lines.specs.Statement.{text, text_bytes}
+use Rattle.asm_lines.specs.declared.parsed.Directive.{Directive}
+use Rattle.asm_lines.specs.declared.parsed.Directive.TheVariants.{Align, Zero, Values, Ascii}
+use Rattle.asm_lines.specs.Statement.{Statement, instruction, setting, origin, contents, Instruction, row, load, Data, item, text_bytes}
 use Rattle.asm_lines.specs.Line.{Line, line_meaning}
 
 -- the lines of a text: what stands between line feeds (behind the last one an empty line, which says nothing)
@@ -30,11 +31,16 @@ abbrev pub instruction_size : Instruction → ℕ
 instruction_size (row i target) = 4
 instruction_size (load capability rd value) = 8
 
+-- the zeros that a directive places, by its place and its number
+abbrev pub zero_count : Directive → ℕ → ℕ → ℕ
+zero_count Align place n = aligned place n - place
+zero_count Zero place n = n
+zero_count other place n = 0
+
 abbrev pub data_size : Data → ℕ → ℕ
-data_size (align bits) place = aligned place bits - place
-data_size (zeros n) place = n
-data_size (values size operands) place = size * length (pieces_of operands)
-data_size (text between) place = length (text_bytes between)
+data_size (item (Values size) n operands) place = size * length (pieces_of operands)
+data_size (item Ascii n between) place = length (text_bytes between)
+data_size (item d n operands) place = zero_count d place n
 
 unfoldable pub size_at : Statement → ℕ → ℕ
 size_at (instruction i) place = instruction_size i

@@ -10,7 +10,8 @@ use Rattle.asm_lines.specs.Text.{pieces_of, is_dot}
 use Rattle.asm_lines.specs.Number.{Expression, expression_of, is_in_limits}
 use Rattle.asm_lines.specs.Operand.{wrapped}
 use Rattle.asm_lines.specs.Statement.{Statement, instruction, setting, origin, contents, Instruction, row, load, Setting, entry, Data}
-use Rattle.asm_lines.specs.Statement.{values, is_in_size, expression_or_nought}
+use Rattle.asm_lines.specs.declared.parsed.Directive.TheVariants.{Values}
+use Rattle.asm_lines.specs.Statement.{item, is_in_size, expression_or_nought}
 use Rattle.assembler.specs.Places.{Symbols, value_in}
 
 -- the value of an expression of a statement at a place; none where its name is unknown. The name `.` is worth the place.
@@ -73,7 +74,7 @@ abbrev pub asked_value : ℕ → List ℕ → Asked
 asked_value size piece = asked (expression_or_nought (expression_of piece)) (is_in_size size) (λ page_count here v. true)
 
 abbrev pub asked_by_data : Data → List Asked
-asked_by_data (values size operands) = map (asked_value size) (pieces_of operands)
+asked_by_data (item (Values size) n operands) = map (asked_value size) (pieces_of operands)
 asked_by_data other = []
 
 abbrev pub asked_by : Statement → List Asked

@@ -20,9 +20,9 @@ ghost use Rattle.assembler.specs.Bytes.{bytes_at, value_bytes};
 
 use crate::checks::{distance, operand, pieces};
 use crate::labels::Labels;
-use crate::places::aligned;
+use crate::places::zero_count;
 use crate::values::{Worth, value, wrapped};
-use asm_lines::{Data, Expression, Instruction, Statement, split_piece};
+use asm_lines::{Data, Directive, Expression, Instruction, Statement, split_piece};
 use byteorder::{ByteOrder, LittleEndian};
 use isa_rows::{Insn, Row};
 use isa_table::encode;
@@ -321,11 +321,10 @@ fn push_data(
     requires known { AreKnown labels.now here (asked_by_data (seen_data item.now)) }
     ensures { OnOk result (bytes.new.items ≡ bytes.old.items ++ data_bytes labels.now here (seen_data item.now)) }
 {
-    match item {
-        Data::Align(bits) => push_zeros(bytes, (aligned(here, *bits) - here) as usize),
-        Data::Zero(count) => push_zeros(bytes, *count as usize),
-        Data::Values { size, operands } => push_values(bytes, *size, labels, here, operands),
-        Data::Text(between) => push_text(bytes, between),
+    match item.directive {
+        Directive::Values(size) => push_values(bytes, size, labels, here, item.text),
+        Directive::Ascii => push_text(bytes, item.text),
+        directive => push_zeros(bytes, zero_count(directive, here, item.number) as usize),
     }
 }
 

@@ -16,7 +16,8 @@ use crate::fault::AsmCode;
 use crate::labels::Labels;
 use crate::values::{Worth, value, wrapped};
 use asm_lines::{
-    Data, Expression, Instruction, Setting, Statement, expression, is_in_size, split_piece,
+    Data, Directive, Expression, Instruction, Setting, Statement, expression, is_in_size,
+    split_piece,
 };
 use image::is_good_header;
 use isa_rows::{Format, Insn};
@@ -243,8 +244,8 @@ fn data_fault(labels: &Labels, here: u128, item: &Data<'_>) -> Option<AsmCode>
     requires { IsTrue (is_modest_data (seen_data item.now)) }
     ensures { (page_count : ℕ) → result ≡ asked_fault page_count labels.now here (asked_by_data (seen_data item.now)) }
 {
-    match item {
-        Data::Values { size, operands } => values_fault(*size, labels, here, operands),
+    match item.directive {
+        Directive::Values(size) => values_fault(size, labels, here, item.text),
         _ => None,
     }
 }

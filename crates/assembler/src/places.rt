@@ -1,14 +1,14 @@
 //! Where statements stand.
 ghost use Rattle.std.specs.Prelude.{◌≡◌, ◌+◌, ◌*◌, ◌<◌, ◌≤◌, ◌^◌, length, IsTrue, OnOk};
 ghost use Rattle.asm_lines.specs.Line.{seen_instruction, seen_data, seen_statement, seen_line};
-ghost use Rattle.asm_lines.specs.Statement.{text_bytes};
+ghost use Rattle.asm_lines.specs.Statement.{text_bytes, most_of};
 ghost use Rattle.asm_lines.specs.Text.{pieces_of};
 ghost use Rattle.assembler.specs.Modest.{is_modest_data, is_modest, is_modest_line, IsNear};
-ghost use Rattle.assembler.specs.Places.{aligned, instruction_size, data_size, size_at, end_of, places_after, opening_places};
+ghost use Rattle.assembler.specs.Places.{aligned, instruction_size, zero_count, data_size, size_at, end_of, places_after, opening_places};
 
 use crate::checks::pieces;
 use crate::labels::Labels;
-use asm_lines::{Data, Instruction, Parsed, Statement, split_piece};
+use asm_lines::{Data, Directive, Instruction, Parsed, Statement, split_piece};
 use base::ram;
 use std::alloc::{AllocError, Global};
 use std::marker::Model;
@@ -56,7 +56,7 @@ fn power(bits: u32) -> u128
 }
 
 /// The next multiple of two to a power of at most 12.
-pub(crate) fn aligned(place: u128, bits: u32) -> u128
+fn aligned(place: u128, bits: u32) -> u128
     requires bits { bits ≤ 12 }
     requires place { place < 2 ^ 100 }
     ensures value { result ≡ aligned place bits }
@@ -77,6 +77,20 @@ fn instruction_size(instruction: &Instruction<'_>) -> u128
     }
 }
 
+/// The number of zeros that a directive places, by its place and its number.
+pub(crate) fn zero_count(directive: Directive, place: u128, number: u64) -> u128
+    requires number { number ≤ most_of directive }
+    requires place { place < 2 ^ 100 }
+    ensures value { result ≡ zero_count directive place number }
+    ensures bound { result ≤ 2 ^ 28 }
+{
+    match directive {
+        Directive::Align => aligned(place, number as u32) - place,
+        Directive::Zero => u128::from(number),
+        _ => 0,
+    }
+}
+
 /// The number of bytes of data at a place.
 fn data_size(item: &Data<'_>, place: u128) -> u128
     requires modest { IsTrue (is_modest_data (seen_data item.now)) }
@@ -84,11 +98,10 @@ fn data_size(item: &Data<'_>, place: u128) -> u128
     ensures value { result ≡ data_size (seen_data item.now) place }
     ensures bound { result ≤ 2 ^ 28 }
 {
-    match item {
-        Data::Align(bits) => aligned(place, *bits) - place,
-        Data::Zero(count) => u128::from(*count),
-        Data::Values { size, operands } => u128::from(*size) * piece_count(operands),
-        Data::Text(between) => text_length(between),
+    match item.directive {
+        Directive::Values(size) => u128::from(size) * piece_count(item.text),
+        Directive::Ascii => text_length(item.text),
+        directive => zero_count(directive, place, item.number),
     }
 }
 

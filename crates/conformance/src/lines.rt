@@ -3,8 +3,8 @@
 use crate::case::CaseError;
 use crate::quoted::{put_quoted, unquoted};
 use asm_lines::{
-    Data, Expression, Instruction, LineFault, Setting, Statement, expression, parse_line,
-    split_piece,
+    Data, Directive, Expression, Instruction, LineFault, Setting, Statement, expression,
+    parse_line, split_piece,
 };
 use isa_rows::Insn;
 use std::alloc::{AllocError, Global};
@@ -91,16 +91,17 @@ fn put_setting(text: &mut String, setting: Setting) -> Result<(), AllocError> {
 
 /// Puts data behind a text: its kind and what is placed.
 fn put_data(text: &mut String, item: Data) -> Result<(), AllocError> {
-    match item {
-        Data::Align(power) => write!(text, "align {power}"),
-        Data::Zero(count) => write!(text, "zero {count}"),
-        Data::Values { size, operands } => {
+    let number = item.number;
+    match item.directive {
+        Directive::Align => write!(text, "align {number}"),
+        Directive::Zero => write!(text, "zero {number}"),
+        Directive::Values(size) => {
             write!(text, "values {size} ")?;
-            put_quoted(text, operands)
+            put_quoted(text, item.text)
         }
-        Data::Text(bytes) => {
+        Directive::Ascii => {
             text.push_str("text ")?;
-            put_quoted(text, bytes)
+            put_quoted(text, item.text)
         }
     }
 }

@@ -5,4 +5,5 @@ use Rattle.assembler.proofs.checks.data_fault.Goals as goal
 pub returns-in-Values : goal.returns-in-Values
 returns-in-Values c = λ page_count.
     rw c.in-Values.is
-    (c.values_fault.ensures ∙ asked_values page_count c.args.labels.now c.args.here c.in-Values.size c.in-Values.operands.now)
+    (c.values_fault.ensures
+    ∙ asked_values page_count c.args.labels.now c.args.here c.in-Values.size c.args.item.now.number c.args.item.now.text.now)
