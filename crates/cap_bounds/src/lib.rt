@@ -13,5 +13,5 @@ mod words;
 
 pub use plain_cap::PlainCap;
 pub use rep::CapRep;
-pub use rounding::granule;
+pub use rounding::{granule, is_exact};
 pub use words::{is_well_formed, representable};

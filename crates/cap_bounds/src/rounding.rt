@@ -95,6 +95,13 @@ pub(crate) fn rounded_out(base: u64, top: u128) -> Rounded
     }
 }
 
+/// Whether bounds can be exactly the `length` bytes from `base`: rounding them out changes nothing.
+pub fn is_exact(base: u64, length: u64) -> bool
+    ensures { result ≡ is_exact base (base + length) }
+{
+    rounded_out(base, u128::from(base) + u128::from(length)).exact
+}
+
 /// The least exponent at which a length of 4096 bytes or more takes fewer than 1024 granules.
 ///
 /// That of its leading zeros, at which it takes 512 granules at least, or the next one where it is rounded up to 1024.

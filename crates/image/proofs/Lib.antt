@@ -1,5 +1,6 @@
 mod Taking
 mod Going
+mod GoingOn
 mod Valid
 mod Ending
 mod Numbers

@@ -3,7 +3,7 @@ use Rattle.std.proofs.Common.{◌≡◌, ℕ, List, ◌++◌, Option, Some, None
 use Rattle.std.proofs.KnownBytes.{Consumes-trans}
 use Rattle.std.specs.Io.KnownBytes.{Consumes}
 use Rattle.image.specs.declared.fault.ImageFault.{ImageFault}
-use Rattle.image.specs.declared.fault.ImageFault.TheVariants.{L1, L2, L3, L4, L5, L6, L7, L8, L9, L10, L11}
+use Rattle.image.specs.declared.fault.ImageFault.TheVariants.{L1, L2, L3, L4, L5, L6, L7, L8, L9, L10, L11, L12, L13, L14, L15}
 use Rattle.image.specs.Grammar.{◌>>=◌}
 use Rattle.std.specs.Result.{IfErr}
 use Rattle.image.specs.Reads.{IsOfBytes, ConsumesBeginning, CountsL10, Takes}
@@ -84,6 +84,13 @@ Takes-checked part check a b y (Err fault) first e = (
       (λ all. (part all >>= λ p. (check p.0 >>= λ z. Ok (z, p.1))) ≡ Err fault) first.1 (λ rest _. rw (first.2 rest, ← e) refl) (always b),
 )
 
+-- a first part that was read, and then one that may stop
+pub Takes-then : {X Y Z : Type 0} (view : X → Z) (part : List ℕ → Result (Y × List ℕ) ImageFault)
+    (more : Y → List ℕ → Result (Z × List ℕ) ImageFault) (a b c : Option (List ℕ)) (y : Y) (r : Result X ImageFault)
+    → Got part a b y → Takes view (more y) b c r → Takes view (then_part part more) a c r
+Takes-then view part more a b c y (Ok x) first second = Got-then part more a b c y (view x) first second
+Takes-then view part more a b c y (Err fault) first second = Stopped-then part more a b c y fault first second
+
 -- the count stays where the answer is no failure of the device
 pub CountsL10-of_bytes : {X : Type 0} (old new : ℕ) (r : Result X ImageFault) → new ≡ old → IfErr r IsOfBytes → CountsL10 old new r
 CountsL10-of_bytes old new (Ok x) e h = e
@@ -98,3 +105,7 @@ CountsL10-of_bytes old new (Err L8) e h = e
 CountsL10-of_bytes old new (Err L9) e h = e
 CountsL10-of_bytes old new (Err L10) e h = absurd h
 CountsL10-of_bytes old new (Err L11) e h = e
+CountsL10-of_bytes old new (Err L12) e h = e
+CountsL10-of_bytes old new (Err L13) e h = e
+CountsL10-of_bytes old new (Err L14) e h = e
+CountsL10-of_bytes old new (Err L15) e h = e

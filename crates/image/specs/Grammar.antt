@@ -1,14 +1,16 @@
--- Images as bytes, version 1. All numbers are little-endian.
+-- Images as bytes. All numbers are little-endian.
 use Rattle.std.specs.Prelude.{◌≡◌, ◌<◌, ℕ, zero, suc, ◌+◌, Bool, ◌==◌, nat_eq, nat_lt, nat_le, if◌then◌else◌, List, [], ◌∷◌}
 use Rattle.std.specs.Prelude.{◌++◌, length, slice_index, take, drop, Option, Result, Ok, Err, codes}
 use Rattle.std.specs.List.{flat_map, starts_with}
 use Rattle.byteorder.specs.Endian.{little_bytes, little_number}
 use Rattle.base.specs.FirstFault.{first_fault, unless}
+use Rattle.image.specs.declared.cap_entry.CapEntry.{CapEntry}
 use Rattle.image.specs.declared.fault.ImageFault.{ImageFault}
-use Rattle.image.specs.declared.fault.ImageFault.TheVariants.{L1, L2, L3, L4, L5, L8, L9}
+use Rattle.image.specs.declared.fault.ImageFault.TheVariants.{L1, L2, L3, L4, L5, L8, L9, L15}
 use Rattle.image.specs.declared.parts.Header.{Header}
 use Rattle.image.specs.declared.parts.Span.{Span}
-use Rattle.image.specs.Image.{Image, Section, IsImage, image_of, is_good_header, mode_number, span_fault}
+use Rattle.image.specs.Image.{Image, Section, IsImage, image_of, is_version, is_good_header, mode_number, span_fault}
+use Rattle.image.specs.Image.{most_capabilities_of, capability_fault}
 
 -- ---- the spelling of an image
 
@@ -17,9 +19,10 @@ abbrev pub magic : List ℕ
 magic = codes "CHERIIMG"
 
 -- 32 bytes: the magic, the version, the pages, the entry, the count of sections and the mode
-unfoldable pub header_bytes : ℕ → ℕ → ℕ → ℕ → List ℕ
-header_bytes pages entry count mode =
-    magic ++ (little_bytes 4 1 ++ (little_bytes 4 pages ++ (little_bytes 8 entry ++ (little_bytes 4 count ++ little_bytes 4 mode))))
+unfoldable pub header_bytes : ℕ → ℕ → ℕ → ℕ → ℕ → List ℕ
+header_bytes version pages entry count mode =
+    magic
+    ++ (little_bytes 4 version ++ (little_bytes 4 pages ++ (little_bytes 8 entry ++ (little_bytes 4 count ++ little_bytes 4 mode))))
 
 -- 16 bytes: where a section lies, and how many bytes it has
 unfoldable pub span_bytes : ℕ → ℕ → List ℕ
@@ -28,8 +31,20 @@ span_bytes address size = little_bytes 8 address ++ little_bytes 8 size
 abbrev pub section_bytes : Section → List ℕ
 section_bytes s = span_bytes s.address (length s.bytes) ++ s.bytes
 
+-- 32 bytes: the place, the base, the length, the permissions and the flag
+unfoldable pub capability_bytes : CapEntry → List ℕ
+capability_bytes c =
+    little_bytes 8 c.place ++ (little_bytes 8 c.base ++ (little_bytes 8 c.length ++ (little_bytes 4 c.perms ++ little_bytes 4 c.flag)))
+
+-- behind the sections: in version 1 nothing, in version 2 the count of capabilities in 4 bytes, and each of them
+unfoldable pub capabilities_bytes : ℕ → List CapEntry → List ℕ
+capabilities_bytes version capabilities =
+    if version == 1 then [] else little_bytes 4 (length capabilities) ++ flat_map capability_bytes capabilities
+
 unfoldable pub spelling : Image → List ℕ
-spelling i = header_bytes i.pages i.entry (length i.sections) (mode_number i.mode) ++ flat_map section_bytes i.sections
+spelling i =
+    header_bytes i.version i.pages i.entry (length i.sections) (mode_number i.mode)
+    ++ (flat_map section_bytes i.sections ++ capabilities_bytes i.version i.capabilities)
 
 -- These bytes are the image, each of them.
 abbrev pub IsSpelling : List ℕ → Image → Type 0
@@ -58,8 +73,8 @@ taken size cut_short bytes = if nat_lt (length bytes) size then Err cut_short el
 abbrev pub header_checks : List ℕ → List (Bool × ImageFault)
 header_checks bytes =
     (starts_with nat_eq bytes magic, L2)
-    ∷ (number_at 8 4 bytes == 1, L3)
-    ∷ (is_good_header (number_at 12 4 bytes) (number_at 16 8 bytes) (number_at 28 4 bytes), L4)
+    ∷ (is_version (number_at 8 4 bytes), L3)
+    ∷ (is_good_header (number_at 8 4 bytes) (number_at 12 4 bytes) (number_at 16 8 bytes) (number_at 28 4 bytes), L4)
     ∷ (nat_le (number_at 24 4 bytes) 64, L5)
     ∷ []
 
@@ -68,7 +83,13 @@ header_fault bytes = first_fault (header_checks bytes)
 
 abbrev pub header_of : List ℕ → Header
 header_of bytes =
-    record { pages = number_at 12 4 bytes; entry = number_at 16 8 bytes; count = number_at 24 4 bytes; mode = number_at 28 4 bytes }
+    record {
+      version = number_at 8 4 bytes;
+      pages = number_at 12 4 bytes;
+      entry = number_at 16 8 bytes;
+      count = number_at 24 4 bytes;
+      mode = number_at 28 4 bytes;
+    }
 
 -- the header in front, and the rest
 unfoldable pub header_at : List ℕ → Result (Header × List ℕ) ImageFault
@@ -100,12 +121,59 @@ sections_at pages (suc n) free bytes = do
   others ← sections_at pages n (first.0.address + length first.0.bytes) first.1
   Ok (first.0 ∷ others.0, others.1)
 
+-- the capability that 32 bytes are
+abbrev pub capability_in : List ℕ → CapEntry
+capability_in bytes =
+    record {
+      place = number_at 0 8 bytes;
+      base = number_at 8 8 bytes;
+      length = number_at 16 8 bytes;
+      perms = number_at 24 4 bytes;
+      flag = number_at 28 4 bytes;
+    }
+
+-- the capability in front, if the one before it stands at `before`, and the rest
+unfoldable pub capability_at : ℕ → ℕ → List ℕ → Result (CapEntry × List ℕ) ImageFault
+capability_at pages before bytes = do
+  front ← taken 32 L8 bytes
+  capability ← unless (capability_fault pages before (capability_in front.0)) (capability_in front.0)
+  Ok (capability, front.1)
+
+-- so many capabilities in order, and the rest
+unfoldable pub entries_at : ℕ → ℕ → ℕ → List ℕ → Result (List CapEntry × List ℕ) ImageFault
+entries_at pages zero before bytes = Ok ([], bytes)
+entries_at pages (suc n) before bytes = do
+  first ← capability_at pages before bytes
+  others ← entries_at pages n first.0.place first.1
+  Ok (first.0 ∷ others.0, others.1)
+
+-- a count, or the fault that it is more than the most
+abbrev pub unless_more : ℕ → ℕ → Result ℕ ImageFault
+unless_more most count = if nat_le count most then Ok count else Err L15
+
+-- the count of capabilities in front, and the rest
+unfoldable pub count_at : ℕ → List ℕ → Result (ℕ × List ℕ) ImageFault
+count_at version bytes = do
+  front ← taken 4 L8 bytes
+  count ← unless_more (most_capabilities_of version) (number_at 0 4 front.0)
+  Ok (count, front.1)
+
+-- the capabilities in front, which version 1 has not, and the rest
+unfoldable pub capabilities_at : ℕ → ℕ → List ℕ → Result (List CapEntry × List ℕ) ImageFault
+capabilities_at version pages bytes =
+    if version == 1 then Ok ([], bytes) else count_at version bytes >>= λ count. entries_at pages count.0 0 count.1
+
+-- the image of a header, sections and capabilities
+abbrev pub headed : Header → List Section → List CapEntry → Image
+headed header sections capabilities = image_of header.version header.pages header.entry header.mode sections capabilities
+
 -- the image in front, and the rest
 unfoldable pub image_at : List ℕ → Result (Image × List ℕ) ImageFault
 image_at bytes = do
   header ← header_at bytes
   sections ← sections_at header.0.pages header.0.count 0 header.1
-  Ok (image_of header.0.pages header.0.entry header.0.mode sections.0, sections.1)
+  capabilities ← capabilities_at header.0.version header.0.pages sections.1
+  Ok (headed header.0 sections.0 capabilities.0, capabilities.1)
 
 -- the image that the bytes are, each of them
 unfoldable pub reading : List ℕ → Result Image ImageFault

@@ -13,9 +13,9 @@ pub enum ImageFault {
     L1,
     /// The first 8 bytes are not `CHERIIMG`.
     L2,
-    /// A version that is not 1.
+    /// A version that is neither 1 nor 2.
     L3,
-    /// Pages not 1 to 4096; an entry that is no multiple of 4 or has not four bytes in RAM; a mode that is not 0 or 1.
+    /// Pages not 1 to 4096 (version 2: to 65536); an entry that is no multiple of 4 or has not four bytes in RAM; a mode that is not 0 or 1.
     L4,
     /// More than 64 sections.
     L5,
@@ -23,14 +23,22 @@ pub enum ImageFault {
     L6,
     /// A section that begins before the end of the one before it.
     L7,
-    /// A section whose address and length, or whose bytes, are cut short.
+    /// A section whose address and length, or whose bytes, are cut short; or the number of capabilities, or a capability.
     L8,
-    /// Bytes after the last section.
+    /// Bytes after the last section, or the last capability.
     L9,
     /// The reader or the writer failed.
     L10,
     /// No memory.
     L11,
+    /// A capability's place that is no granule of RAM, or is not above the place before.
+    L12,
+    /// A capability whose base and length end above 2^64, or are changed by rounding out.
+    L13,
+    /// Permissions above 0xFFFF, or a flag above 1.
+    L14,
+    /// More than 1024 capabilities.
+    L15,
 }
 
 impl From<DeviceFailed> for ImageFault {

@@ -1,6 +1,7 @@
 //! Images: what a machine begins with, their files, and the devices that files come from and go to.
 #![tactic(auto)]
 
+mod cap_entry;
 mod devices;
 mod fault;
 mod from_read;
@@ -12,6 +13,7 @@ mod section;
 mod to_write;
 mod writing;
 
+pub use cap_entry::{CapEntry, is_exact_range};
 pub use devices::{DeviceFailed, Sink, Source, write_all};
 pub use fault::ImageFault;
 pub use from_read::FromRead;

@@ -2,13 +2,14 @@
 
 ghost use Rattle.std.specs.Prelude.{◌≡◌, ◌+◌, ◌≤◌, IfOk, IfErr, length};
 ghost use Rattle.base.specs.Ram.{ram_end};
-ghost use Rattle.image.specs.Image.{span_fault};
+ghost use Rattle.image.specs.Image.{span_fault, capability_fault, most_capabilities_of};
 ghost use Rattle.base.specs.FirstFault.{unless};
-ghost use Rattle.image.specs.Grammar.{number_at, header_fault, header_of};
+ghost use Rattle.image.specs.Grammar.{number_at, header_fault, header_of, capability_in, unless_more};
 ghost use Rattle.image.specs.Reads.{IsOfBytes};
 
+use crate::cap_entry::CapEntry;
 use crate::fault::ImageFault;
-use crate::image::{fault_of_span, is_good_header};
+use crate::image::{fault_of_capability, fault_of_span, is_good_header, most_capabilities};
 use byteorder::{ByteOrder, LittleEndian};
 
 /// The first bytes of an image file.
@@ -17,6 +18,7 @@ pub const MAGIC: &[u8; 8] = b"CHERIIMG";
 /// The numbers of a header that a reader needs.
 #[derive(Clone, Copy, Debug)]
 pub struct Header {
+    pub version: u32,
     pub pages: u32,
     pub entry: u64,
     pub count: u32,
@@ -37,6 +39,7 @@ pub fn header_in(bytes: &[u8; 32]) -> Result<Header, ImageFault>
     ensures fault { IfErr result IsOfBytes }
 {
     let header = Header {
+        version: LittleEndian::read_u32(&bytes[8..12]),
         pages: LittleEndian::read_u32(&bytes[12..16]),
         entry: LittleEndian::read_u64(&bytes[16..24]),
         count: LittleEndian::read_u32(&bytes[24..28]),
@@ -44,9 +47,9 @@ pub fn header_in(bytes: &[u8; 32]) -> Result<Header, ImageFault>
     };
     if !bytes.starts_with(MAGIC) {
         Err(ImageFault::L2)
-    } else if LittleEndian::read_u32(&bytes[8..12]) != 1 {
+    } else if header.version != 1 && header.version != 2 {
         Err(ImageFault::L3)
-    } else if !is_good_header(header.pages, header.entry, header.mode) {
+    } else if !is_good_header(header.version, header.pages, header.entry, header.mode) {
         Err(ImageFault::L4)
     } else if header.count > 64 {
         Err(ImageFault::L5)
@@ -67,5 +70,36 @@ pub fn span_in(bytes: &[u8; 16], pages: u32, free: u64) -> Result<Span, ImageFau
     match fault_of_span(pages, free, address, size) {
         Some(fault) => Err(fault),
         None => Ok(Span { address, size }),
+    }
+}
+
+/// The number of capabilities that 4 bytes say, or that they are more than the version may have.
+pub fn count_in(bytes: &[u8; 4], version: u32) -> Result<u32, ImageFault>
+    ensures value { result ≡ unless_more (most_capabilities_of version) (number_at 0 4 bytes.now) }
+    ensures fault { IfErr result IsOfBytes }
+{
+    let count = LittleEndian::read_u32(bytes);
+    if count > most_capabilities(version) {
+        Err(ImageFault::L15)
+    } else {
+        Ok(count)
+    }
+}
+
+/// The capability that 32 bytes are, where the one before it stands at `before`, or its fault.
+pub fn capability_of(bytes: &[u8; 32], pages: u32, before: u64) -> Result<CapEntry, ImageFault>
+    ensures value { result ≡ unless (capability_fault pages before (capability_in bytes.now)) (capability_in bytes.now) }
+    ensures fault { IfErr result IsOfBytes }
+{
+    let capability = CapEntry {
+        place: LittleEndian::read_u64(&bytes[0..8]),
+        base: LittleEndian::read_u64(&bytes[8..16]),
+        length: LittleEndian::read_u64(&bytes[16..24]),
+        perms: LittleEndian::read_u32(&bytes[24..28]),
+        flag: LittleEndian::read_u32(&bytes[28..32]),
+    };
+    match fault_of_capability(pages, before, capability) {
+        Some(fault) => Err(fault),
+        None => Ok(capability),
     }
 }

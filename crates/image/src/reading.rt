@@ -5,13 +5,15 @@ ghost use Rattle.std.specs.Io.KnownBytes.{Consumes, IsAtEnd};
 ghost use Rattle.image.specs.declared.fault.ImageFault.TheVariants.{L8, L9};
 ghost use Rattle.image.specs.Devices.{Counts};
 ghost use Rattle.base.specs.Ram.{ram_end};
-ghost use Rattle.image.specs.Grammar.{taken, header_at, span_at, section_at, sections_at, image_at, reading};
+ghost use Rattle.image.specs.Grammar.{taken, header_at, span_at, section_at, sections_at, capability_at, entries_at, count_at};
+ghost use Rattle.image.specs.Grammar.{capabilities_at, image_at, reading};
 ghost use Rattle.image.specs.Reads.{IsOfBytes, IsNotAtEnd, Answers, ConsumesBeginning, CountsL10, Takes};
 
+use crate::cap_entry::CapEntry;
 use crate::devices::{DeviceFailed, Source};
 use crate::fault::ImageFault;
 use crate::image::Image;
-use crate::parts::{Header, Span, header_in, span_in};
+use crate::parts::{Header, Span, capability_of, count_in, header_in, span_in};
 use crate::section::Section;
 use std::alloc::Global;
 
@@ -130,6 +132,68 @@ fn sections<R: Source>(
     Ok(sections)
 }
 
+/// The capability in front, if the one before it stands at `before`.
+#[tactic(auto, unfolding(crate::specs::Grammar::capability_at))]
+fn capability<R: Source>(source: &mut R, pages: u32, before: u64) -> Result<CapEntry, ImageFault>
+    requires { R.failed source.old < 2 ^ 64 - 1 }
+    ensures part { Takes (λ c. c) (capability_at pages before) (R.left source.old) (R.left source.new) result }
+    ensures count { CountsL10 (R.failed source.old) (R.failed source.new) result }
+{
+    let bytes = next(source, ImageFault::L8)?;
+    capability_of(&bytes, pages, before)
+}
+
+/// So many capabilities in order.
+fn entries<R: Source>(
+    alloc: Global,
+    source: &mut R,
+    pages: u32,
+    count: u32,
+) -> Result<Vec<CapEntry>, ImageFault>
+    requires { R.failed source.old < 2 ^ 64 - 1 }
+    ensures part { Takes (λ v. v.items) (entries_at pages count 0) (R.left source.old) (R.left source.new) result }
+    ensures count { CountsL10 (R.failed source.old) (R.failed source.new) result }
+{
+    let mut entries = Vec::new(alloc);
+    let mut before = 0;
+    for _ in 0..count {
+        let capability = capability(source, pages, before)?;
+        before = capability.place;
+        entries.push(capability)?;
+    }
+    Ok(entries)
+}
+
+/// The number of capabilities in front.
+#[tactic(auto, unfolding(crate::specs::Grammar::count_at))]
+fn count<R: Source>(source: &mut R, version: u32) -> Result<u32, ImageFault>
+    requires { R.failed source.old < 2 ^ 64 - 1 }
+    ensures part { Takes (λ count. count) (count_at version) (R.left source.old) (R.left source.new) result }
+    ensures count { CountsL10 (R.failed source.old) (R.failed source.new) result }
+{
+    let bytes = next(source, ImageFault::L8)?;
+    count_in(&bytes, version)
+}
+
+/// The capabilities in front, which version 1 has not.
+#[tactic(auto, unfolding(crate::specs::Grammar::capabilities_at))]
+fn capabilities<R: Source>(
+    alloc: Global,
+    source: &mut R,
+    version: u32,
+    pages: u32,
+) -> Result<Vec<CapEntry>, ImageFault>
+    requires { R.failed source.old < 2 ^ 64 - 1 }
+    ensures part { Takes (λ v. v.items) (capabilities_at version pages) (R.left source.old) (R.left source.new) result }
+    ensures count { CountsL10 (R.failed source.old) (R.failed source.new) result }
+{
+    if version == 1 {
+        return Ok(Vec::new(alloc));
+    }
+    let count = count(source, version)?;
+    entries(alloc, source, pages, count)
+}
+
 /// The image in front.
 #[tactic(auto, unfolding(crate::specs::Grammar::image_at))]
 fn front<R: Source>(alloc: Global, source: &mut R) -> Result<Image, ImageFault>
@@ -139,7 +203,15 @@ fn front<R: Source>(alloc: Global, source: &mut R) -> Result<Image, ImageFault>
 {
     let header = header(source)?;
     let sections = sections(alloc, source, header.pages, header.count)?;
-    Ok(Image::new(header.pages, header.entry, header.mode, sections))
+    let capabilities = capabilities(alloc, source, header.version, header.pages)?;
+    Ok(Image::new(
+        header.version,
+        header.pages,
+        header.entry,
+        header.mode,
+        sections,
+        capabilities,
+    ))
 }
 
 /// That the source has no byte left, or else L9.
@@ -160,7 +232,8 @@ fn end<R: Source>(source: &mut R) -> Result<(), ImageFault>
 
 /// Reads an image, to the end of the source.
 ///
-/// The first of these, in this order: L1 to L5 of the header; for each section its 16 bytes L8, L6, L7 and its bytes L8; L9.
+/// The first of these, in this order: L1 to L5 of the header; for each section its 16 bytes L8, L6, L7 and its bytes L8; in
+/// version 2 the 4 bytes of the number of capabilities L8, L15, and for each of them its 32 bytes L8, L12, L13, L14; L9.
 /// L10, where a call of the source failed, and L11, no memory, may come in place of any check not yet made. A refusal has
 /// taken some beginning of the bytes.
 pub fn read<R: Source>(alloc: Global, source: &mut R) -> Result<Image, ImageFault>
