@@ -19,9 +19,9 @@ use Rattle.asm_lines.specs.Text.{pieces_of, mnemonic_of, operands_of, is_foreign
 use Rattle.asm_lines.specs.Number.{Expression, number_of, expression_of}
 use Rattle.asm_lines.specs.Operand.{Draft, up_to, wrapped, filled_draft, filled_fault}
 use Rattle.asm_lines.specs.declared.parsed.Directive.{Directive}
-use Rattle.asm_lines.specs.declared.parsed.Directive.TheVariants.{Align, Zero, Values, Ascii}
+use Rattle.asm_lines.specs.declared.parsed.Directive.TheVariants.{Align, Zero, Values, Ascii, Capability}
 use Rattle.asm_lines.specs.Statement.{Statement, instruction, setting, origin, contents, row, pages, mode, item, values, Said}
-use Rattle.asm_lines.specs.Statement.{most_of, count_said, data_said, directives, directive_in, placing_said}
+use Rattle.asm_lines.specs.Statement.{most_of, count_said, data_said, directives, directive_in, placing_said, capability_fault}
 use Rattle.asm_lines.specs.Statement.{said, said_unless, said_by, is_word, Pattern, pattern, plain, row_pattern, pattern_of, pattern_said}
 use Rattle.asm_lines.specs.Statement.{draft_of, row_said, load_said, register_load, number_said, page_range, pages_said, mode_said}
 use Rattle.asm_lines.specs.Statement.{origin_said, entry_said, values_said, values_fault, is_quoted}
@@ -226,6 +226,7 @@ data-fits Align operands = count-fits Align (number_of operands)
 data-fits Zero operands = count-fits Zero (number_of operands)
 data-fits (Values size) operands = values-fits size operands
 data-fits Ascii operands = quoted-fits (is_quoted operands) (take (length operands - 2) (drop 1 operands))
+data-fits Capability operands = unless-fits (contents (item Capability 0 operands)) (capability_fault operands) (λ i t p q. cc)
 
 placing-fits : (d : Option Directive) (word operands : List ℕ) → SaidFits (placing_said d word operands)
 placing-fits (Some d) word operands = data-fits d operands

@@ -1,7 +1,7 @@
 -- Statements: rows and their aliases, the two-row loads of a value, directives.
 use Rattle.base.specs.Ram.{most_pages}
 use Rattle.std.specs.Prelude.{ℕ, ◌*◌, ◌-◌, ◌^◌, Bool, true, false, not, ◌&&◌, ◌||◌, ◌==◌, nat_eq, nat_le, if◌then◌else◌, ℤ, pos, neg_ℤ}
-use Rattle.std.specs.Prelude.{int_lt, List, [], ◌∷◌, length, take, drop, slice_index, Option, Some, None, Result, Ok, Err, codes}
+use Rattle.std.specs.Prelude.{int_lt, List, [], ◌∷◌, length, take, drop, get_or, slice_index, Option, Some, None, Result, Ok, Err, codes}
 use Rattle.std.specs.Cmp.Lexicographic.{pointwise}
 use Rattle.isa_rows.specs.declared.rows.Row.{Row}
 use Rattle.isa_rows.specs.declared.rows.Row.TheVariants.{Addi, Jal, Jalr, Fence, FenceI}
@@ -16,7 +16,7 @@ use Rattle.asm_names.specs.Slots.{slots_of}
 use Rattle.asm_lines.specs.declared.fault.LineFault.{LineFault}
 use Rattle.asm_lines.specs.declared.fault.LineFault.TheVariants.{A1, A2, A3, A8, A9}
 use Rattle.asm_lines.specs.declared.parsed.Directive.{Directive}
-use Rattle.asm_lines.specs.declared.parsed.Directive.TheVariants.{Align, Zero, Values, Ascii}
+use Rattle.asm_lines.specs.declared.parsed.Directive.TheVariants.{Align, Zero, Values, Ascii, Capability}
 use Rattle.asm_lines.specs.Text.{pieces_of}
 use Rattle.asm_lines.specs.Number.{Expression, expression, number_of, expression_of}
 use Rattle.asm_lines.specs.Operand.{Draft, up_to, wrapped, told_fault, fault_of, filled_draft, filled_fault}
@@ -158,25 +158,44 @@ abbrev pub is_in_size : ℕ → ℤ → Bool
 is_in_size size n = not (int_lt n (neg_ℤ (pos (2 ^ (8 * size - 1))))) && int_lt n (pos (2 ^ (8 * size)))
 
 -- what of a value the line alone decides: its form, and the range of a number
-abbrev pub known_value_fault : ℕ → Option (List ℕ) → ℤ → Option LineFault
-known_value_fault size None n = if is_in_size size n then None else Some A3
-known_value_fault size (Some name) n = None
+abbrev pub known_value_fault : (ℤ → Bool) → Option (List ℕ) → ℤ → Option LineFault
+known_value_fault is_in_range None n = if is_in_range n then None else Some A3
+known_value_fault is_in_range (Some name) n = None
 
-abbrev pub plain_value_fault : ℕ → Expression → Option LineFault
-plain_value_fault size e = known_value_fault size e.name e.offset
+abbrev pub plain_value_fault : (ℤ → Bool) → Expression → Option LineFault
+plain_value_fault is_in_range e = known_value_fault is_in_range e.name e.offset
 
-abbrev pub value_fault : ℕ → Result Expression LineFault → Option LineFault
-value_fault size (Ok e) = plain_value_fault size e
-value_fault size (Err fault) = Some fault
+abbrev pub value_fault : (ℤ → Bool) → Result Expression LineFault → Option LineFault
+value_fault is_in_range (Ok e) = plain_value_fault is_in_range e
+value_fault is_in_range (Err fault) = Some fault
 
 abbrev pub values_fault : ℕ → List (List ℕ) → Option LineFault
 values_fault size [] = None
-values_fault size (p ∷ ps) = told_fault (value_fault size (expression_of p)) (values_fault size ps)
+values_fault size (p ∷ ps) = told_fault (value_fault (is_in_size size) (expression_of p)) (values_fault size ps)
 
 -- one value or more
 abbrev pub values_said : ℕ → List ℕ → Said
 values_said size [] = said None (Some A2)
 values_said size (b ∷ bs) = said_unless (contents (values size (b ∷ bs))) (values_fault size (pieces_of (b ∷ bs)))
+
+-- a number of at most so much
+abbrev pub is_natural : ℕ → ℤ → Bool
+is_natural most n = not (int_lt n (pos 0) || int_lt (pos most) n)
+
+-- the operands of .cap, each with the greatest number that it can be: base, length, permissions and flag
+abbrev pub capability_parts : List (ℕ × ℕ)
+capability_parts = (0, 2 ^ 64 - 1) ∷ (1, 2 ^ 64 - 1) ∷ (2, 0xffff) ∷ (3, 1) ∷ []
+
+abbrev pub operand_at : ℕ → List ℕ → Result Expression LineFault
+operand_at i operands = expression_of (get_or (pieces_of operands) i [])
+
+abbrev pub parts_fault : List (ℕ × ℕ) → List ℕ → Option LineFault
+parts_fault [] operands = None
+parts_fault (p ∷ ps) operands = told_fault (value_fault (is_natural p.1) (operand_at p.0 operands)) (parts_fault ps operands)
+
+abbrev pub capability_fault : List ℕ → Option LineFault
+capability_fault operands =
+    if length (pieces_of operands) == length capability_parts then parts_fault capability_parts operands else Some A2
 
 -- the byte that an escape stands for: \n, \0, \\ and \"
 abbrev pub is_escape : ℕ → Bool
@@ -218,6 +237,7 @@ directives =
     ∷ (codes ".word", Values 4)
     ∷ (codes ".dword", Values 8)
     ∷ (codes ".ascii", Ascii)
+    ∷ (codes ".cap", Capability)
     ∷ []
 
 abbrev pub directive_in : List (List ℕ × Directive) → List ℕ → Option Directive
@@ -237,6 +257,7 @@ count_said d number = number_said (λ n. contents (item d n [])) None (up_to (mo
 abbrev pub data_said : Directive → List ℕ → Said
 data_said (Values size) operands = values_said size operands
 data_said Ascii operands = text_said operands
+data_said Capability operands = said_unless (contents (item Capability 0 operands)) (capability_fault operands)
 data_said d operands = count_said d (number_of operands)
 
 -- what the lines of a text say of their data: values have a size, and a number is none that the directive refuses

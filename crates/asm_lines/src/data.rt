@@ -1,7 +1,9 @@
 //! Directives that place bytes.
 ghost use Rattle.std.specs.Prelude.{◌≡◌, IsTrue, IfSome};
 ghost use Rattle.asm_lines.specs.Number.{number_of};
+ghost use Rattle.asm_lines.specs.declared.parsed.Directive.TheVariants.{Capability};
 ghost use Rattle.asm_lines.specs.Statement.{is_size, is_sized, most_of, directives, directive_in, count_said, values_said, text_said, data_said};
+ghost use Rattle.asm_lines.specs.Statement.{contents, item, said_unless, capability_fault};
 ghost use Rattle.asm_lines.specs.Line.{IsBoundedIfAny};
 ghost use Rattle.asm_lines.specs.Seen.{seen_said};
 
@@ -11,7 +13,7 @@ use crate::parsed::{Data, Directive, Statement};
 use crate::pattern::is_word;
 use crate::quoted::closes;
 use crate::statement::Said;
-use crate::values::values_fault;
+use crate::values::{capability_fault, values_fault};
 
 /// The directive of a name, if it places bytes.
 pub(crate) fn directive_named(word: &[u8]) -> Option<Directive>
@@ -32,6 +34,8 @@ pub(crate) fn directive_named(word: &[u8]) -> Option<Directive>
         Some(Directive::Values(8))
     } else if is_word(word, ".ascii") {
         Some(Directive::Ascii)
+    } else if is_word(word, ".cap") {
+        Some(Directive::Capability)
     } else {
         None
     }
@@ -99,6 +103,19 @@ fn text_said<'a>(operands: &'a [u8]) -> Said<'a>
     Said::plain(Statement::Data(text))
 }
 
+/// `.cap`: four operands.
+fn capability_said<'a>(operands: &'a [u8]) -> Said<'a>
+    ensures value { seen_said result ≡ said_unless (contents (item Capability 0 operands.now)) (capability_fault operands.now) }
+    ensures bounds { IsBoundedIfAny result.statement }
+{
+    let capability = Data {
+        directive: Directive::Capability,
+        number: 0,
+        text: operands,
+    };
+    Said::unless(Statement::Data(capability), capability_fault(operands))
+}
+
 /// What a directive and its operands say.
 pub(crate) fn data_said<'a>(directive: Directive, operands: &'a [u8]) -> Said<'a>
     requires { IsTrue (is_sized directive) }
@@ -108,6 +125,7 @@ pub(crate) fn data_said<'a>(directive: Directive, operands: &'a [u8]) -> Said<'a
     match directive {
         Directive::Values(size) => values_said(size, operands),
         Directive::Ascii => text_said(operands),
+        Directive::Capability => capability_said(operands),
         _ => count_said(directive, operands),
     }
 }

@@ -23,4 +23,4 @@ pub use number::expression;
 pub use operand::natural;
 pub use parsed::{Data, Directive, Expression, Instruction, Parsed, Setting, Statement};
 pub use text::split_piece;
-pub use values::is_in_size;
+pub use values::{is_in_size, is_natural, operand_at, operand_count};

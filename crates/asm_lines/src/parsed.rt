@@ -58,6 +58,8 @@ pub enum Directive {
     Values(u8),
     /// `.ascii`: the bytes of a text between quotes.
     Ascii,
+    /// `.cap`: a capability, by its base, length, permissions and flag, expressions with commas between; zeros until it is put there.
+    Capability,
 }
 
 /// What places bytes that are no instruction's: a directive and its operands.

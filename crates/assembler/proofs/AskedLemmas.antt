@@ -7,13 +7,13 @@ use Rattle.isa_rows.specs.declared.operands.Insn.{Insn}
 use Rattle.isa_rows.specs.Line.{line_of}
 use Rattle.asm_lines.specs.Text.{pieces_of}
 use Rattle.asm_lines.specs.Number.{Expression, expression_of, is_in_limits}
-use Rattle.asm_lines.specs.declared.parsed.Directive.TheVariants.{Values}
-use Rattle.asm_lines.specs.Statement.{row, load, entry, item, expression_or_nought}
+use Rattle.asm_lines.specs.declared.parsed.Directive.TheVariants.{Values, Capability}
+use Rattle.asm_lines.specs.Statement.{row, load, entry, item, capability_parts, expression_or_nought}
 use Rattle.assembler.specs.declared.fault.AsmCode.TheVariants.{A3, A5, A6}
 use Rattle.assembler.specs.declared.checks.Test.TheVariants.{IsUnknown, IsBeyond}
 use Rattle.assembler.specs.Places.{Symbols}
 use Rattle.assembler.specs.Values.{value_of, known_and, reach_of, is_reached, is_loadable, is_entry, Asked, asked, asked_by_instruction}
-use Rattle.assembler.specs.Values.{asked_by_setting, asked_value, asked_by_data, is_beyond, is_unknown, is_far}
+use Rattle.assembler.specs.Values.{asked_by_setting, asked_value, asked_part, part_of, asked_by_data, is_beyond, is_unknown, is_far}
 use Rattle.assembler.specs.Checks.{asked_fault, value_fault, passes, any_passes}
 use Rattle.assembler.specs.Sound.{IsKnown, AreKnown}
 use Rattle.assembler.proofs.TestLemmas.{or-false, false-or}
@@ -92,6 +92,21 @@ pub asked_values : (page_count : ℕ) (symbols : Symbols) (here size n : ℕ) (o
 asked_values page_count symbols here size n operands =
     let ps = pieces_of operands in
     rw (beyond-values symbols here size ps, unknown-values symbols here size ps, far-values page_count symbols here size ps) refl
+
+-- of the operands of .cap, of which each is in reach
+far-parts : (page_count : ℕ) (symbols : Symbols) (here : ℕ) (operands : List ℕ) (parts : List (ℕ × ℕ))
+    → list_any (is_far page_count symbols here) (map (asked_part operands) parts) ≡ false
+far-parts page_count symbols here operands [] = refl
+far-parts page_count symbols here operands (p ∷ ps) =
+    false-or _ _ (never-far (value_of symbols here (part_of operands p.0))) (far-parts page_count symbols here operands ps)
+
+pub asked_parts : (page_count : ℕ) (symbols : Symbols) (here n : ℕ) (operands : List ℕ)
+    → first_fault
+    ((not (list_any (is_beyond symbols here) (map (asked_part operands) capability_parts)), A3)
+    ∷ (not (list_any (is_unknown symbols here) (map (asked_part operands) capability_parts)), A5)
+    ∷ [])
+    ≡ asked_fault page_count symbols here (asked_by_data (item Capability n operands))
+asked_parts page_count symbols here n operands = rw (far-parts page_count symbols here operands capability_parts) refl
 
 -- a range that lies within the limits of numbers
 abbrev pub IsLimited : Asked → Type 0

@@ -1,5 +1,5 @@
 -- Of lines without a fault an image can be built.
-use Rattle.std.proofs.Common.{◌≡◌, ℕ, ◌+◌, ◌-◌, ◌*◌, ◌<◌, ◌≤◌, Bool, true, false, not, ◌&&◌, ◌||◌, ◌==◌, nat_lt, nat_le, ℤ, List}
+use Rattle.std.proofs.Common.{◌≡◌, ℕ, ◌+◌, ◌-◌, ◌*◌, ◌%◌, ◌^◌, ◌<◌, ◌≤◌, ◌⊎◌, inl, inr, if◌then◌else◌, Bool, true, false, not, ◌&&◌, ◌||◌, ◌==◌, nat_lt, nat_le, ℤ, List}
 use Rattle.std.proofs.Common.{[], ◌∷◌, ◌++◌, length, length-append, zero, suc, Option, Some, None, is_some, is_none, refl, sym, ap, ◌∙◌}
 use Rattle.std.proofs.Common.{subst, arith}
 use Rattle.std.specs.Int.{bytes_low_first}
@@ -7,26 +7,39 @@ use Rattle.std.specs.List.{flat_map}
 use Rattle.std.proofs.lemmas.List.{length-replicate}
 use Rattle.std.proofs.lemmas.Bool.{le-leb}
 use Rattle.std.proofs.lemmas.Bool.Decides.{nat_tests}
-use Rattle.base.specs.Ram.{ram_base, ram_end, most_pages}
-use Rattle.image.specs.Image.{Section, is_good_header, sections_fault, build_fault}
+use Rattle.base.specs.Ram.{ram_base, ram_end, most_pages, most_pages_version_1}
+use Rattle.cap_bounds.specs.Rounding.{is_exact}
+use Rattle.image.specs.declared.cap_entry.CapEntry.{CapEntry}
+use Rattle.image.specs.Image.{Section, is_good_header, is_exact_range, sections_fault, build_fault}
+use Rattle.image.specs.ImageLaws.{IsGoodCapability, GoodParts, no_build_fault, header_ranges, good_header-version_1}
+use Rattle.asm_lines.specs.declared.parsed.Directive.{Directive}
+use Rattle.asm_lines.specs.declared.parsed.Statement.{Statement as Read}
+use Rattle.asm_lines.specs.declared.parsed.Statement.TheVariants as read
+use Rattle.asm_lines.specs.Line.{seen_statement}
+use Rattle.assembler.specs.Capabilities.{capability_in, is_inexact, part_value, capability_at, entered, with_capability}
+use Rattle.assembler.specs.Sound.{ArePartsKnown, IsPutThere}
+use Rattle.assembler.specs.Text.{version_for, version_of}
+use Rattle.assembler.proofs.CapabilityLemmas.{held-grown, held-entered, length-entered, ascending-entered, ascending-none, taken-own}
+use Rattle.assembler.proofs.CapabilityLemmas.{free-behind}
 use Rattle.asm_lines.specs.Text.{pieces_of}
 use Rattle.asm_lines.specs.Operand.{wrapped}
 use Rattle.asm_lines.specs.Number.{expression_of}
 use Rattle.asm_lines.specs.Statement.{Statement, instruction, setting, origin, contents, Instruction, row, load, pages, mode, entry, Data}
-use Rattle.asm_lines.specs.declared.parsed.Directive.TheVariants.{Align, Zero, Values, Ascii}
+use Rattle.asm_lines.specs.declared.parsed.Directive.TheVariants.{Align, Zero, Values, Ascii, Capability}
 use Rattle.asm_lines.specs.Statement.{item, expression_or_nought}
 use Rattle.asm_lines.specs.Line.{Line}
 use Rattle.assembler.specs.Places.{Symbols, zero_count, instruction_size, data_size, size_at, end_of, end_after}
 use Rattle.assembler.specs.Values.{value_of, known_and, is_entry, has_unknown_name, is_out_of_reach}
 use Rattle.assembler.specs.Bytes.{or_zero, value_at, insn_bytes, value_bytes, instruction_bytes, data_bytes, bytes_at}
-use Rattle.assembler.specs.Faults.{Assembled, given, page_count, is_misplaced, is_statement_misplaced, line_fault, lacks_place}
+use Rattle.assembler.specs.Faults.{Assembled, given, page_count, is_misplaced, is_statement_misplaced, line_fault, lacks_place, is_taken}
 use Rattle.assembler.specs.Faults.{is_instruction, closed, filled, empty_at, with_bytes, with_statement, with_statement_of, assembled_after}
 use Rattle.assembler.specs.Faults.{opening}
 use Rattle.assembler.specs.FaultLaws.{fault_in_text}
-use Rattle.assembler.specs.Buildable.{is_paged, is_paged_or_none, is_paged_line, is_paged_unless, IsUnbegun, IsBuildable}
-use Rattle.assembler.proofs.TestLemmas.{or-false, and-second, and-rest, not-false, not-below, true-false}
+use Rattle.assembler.specs.Buildable.{is_paged, is_paged_or_none, is_paged_line, is_paged_unless, IsUnbegun, IsBuildable, AreAscending}
+use Rattle.assembler.specs.Buildable.{AreHeld}
+use Rattle.assembler.proofs.TestLemmas.{or-false, and-first, and-second, and-rest, not-false, not-below, true-false}
 use Rattle.assembler.proofs.SectionLemmas.{AreGood, closed-good, IsFree, grown}
-use Rattle.assembler.proofs.SoundLemmas.{IsFaultless, statement_fault-none, line_fault-none}
+use Rattle.assembler.proofs.SoundLemmas.{IsFaultless, statement_fault-none, line_fault-none, in-range}
 
 no-byte : (bytes : List ℕ) → bytes ≡ [] → 0 < length bytes → ⊥
 no-byte [] e h = omega arith
@@ -65,6 +78,7 @@ data-length symbols here (item Align n operands) = length-replicate (zero_count 
 data-length symbols here (item Zero n operands) = length-replicate n 0
 data-length symbols here (item (Values size) n operands) = length-values symbols here size (pieces_of operands)
 data-length symbols here (item Ascii n between) = refl
+data-length symbols here (item Capability n operands) = length-replicate {A = ℕ} 16 0
 
 instruction-placed : (symbols : Symbols) (here : ℕ) (i : Instruction)
     → length (bytes_at symbols here (instruction i)) ≡ size_at (instruction i) here
@@ -77,16 +91,16 @@ data-placed symbols here d = data-length symbols here d
 
 -- ---- headers
 
-good-mode : (count start m : ℕ) → m ≤ 1 → is_good_header count start 0 ≡ true → is_good_header count start m ≡ true
+good-mode : (v count start m : ℕ) → m ≤ 1 → is_good_header v count start 0 ≡ true → is_good_header v count start m ≡ true
 unfolding is_good_header
-good-mode count start m h g = grind (arith, nat_tests)
+good-mode v count start m h g = grind (arith, nat_tests)
 
-good-base : (count : ℕ) → (nat_le 1 count && nat_le count most_pages) ≡ true → is_good_header count ram_base 0 ≡ true
+good-base : (count : ℕ) → (nat_le 1 count && nat_le count most_pages) ≡ true → is_good_header 2 count ram_base 0 ≡ true
 unfolding is_good_header
 good-base count h = grind (arith, nat_tests)
 
 good-entry : (count : ℕ) (value : Option ℤ) → is_none value ≡ false → known_and (λ v. not (is_entry count v)) value ≡ false
-    → is_good_header count (wrapped (or_zero value)) 0 ≡ true
+    → is_good_header 2 count (wrapped (or_zero value)) 0 ≡ true
 good-entry count None h g = cc
 good-entry count (Some v) h g = and-second _ _ (not-false (is_entry count v) g)
 
@@ -111,10 +125,135 @@ is-free s n is_code h f =
       few = room-left (length s.current.bytes) (length s.done) d.0;
     }
 
-grown-buildable : (s : Assembled) (bytes : List ℕ) (n end : ℕ) (symbols : Symbols) (is_code : Bool) → IsBuildable s → length bytes ≡ n
-    → end ≡ s.places.place + n → lacks_place s s.places.place n is_code ≡ false
-    → IsBuildable (at-place (with_bytes s bytes) end symbols)
-grown-buildable s bytes n end symbols is_code b e g h =
+-- ---- a capability without a fault
+
+multiple-of-16 : (p : ℕ) (more : Bool) → (not (p % 16 == 0) || more) ≡ false → p % 16 ≡ 0
+multiple-of-16 p more h = grind (arith, nat_tests)
+
+fewer : (n : ℕ) → nat_le 1024 n ≡ false → n < 1024
+fewer n h = grind (arith, nat_tests)
+
+-- what a line with .cap without a fault says
+record IsGoodStatement (symbols : Symbols) (s : Assembled) (operands : List ℕ) : Type 0 where
+  good : IsGoodCapability (page_count s) (capability_at symbols s.places.place operands)
+  free : is_taken s.places.place (s.places.place + 16) s.done ≡ false
+  few : length s.capabilities < 1024
+  known : ArePartsKnown symbols s.places.place (Some operands)
+
+exact-parts : (symbols : Symbols) (here n : ℕ) (operands : List ℕ) → is_inexact symbols here (contents (item Capability n operands)) ≡ false
+    → is_exact_range (part_value symbols here operands 0) (part_value symbols here operands 1) ≡ true
+unfolding is_inexact
+exact-parts symbols here n operands h = not-false _ h
+
+ends-below : (base size : ℕ) → is_exact_range base size ≡ true → (base + size ≤ 2 ^ 64) × (is_exact base (base + size) ≡ true)
+unfolding is_exact_range
+ends-below base size h =
+    let fits : ((nat_lt base (2 ^ 64) && nat_lt size (2 ^ 64)) && nat_le (base + size) (2 ^ 64)) ≡ true = and-first _ _ h in
+    let below : nat_le (base + size) (2 ^ 64) ≡ true = and-second (nat_lt base (2 ^ 64) && nat_lt size (2 ^ 64)) _ fits in
+    (grind (arith, nat_tests), and-second _ _ h)
+
+cap-placed : (s : Assembled) (n : ℕ) (operands : List ℕ)
+    → lacks_place s s.places.place (size_at (contents (item Capability n operands)) s.places.place) false ≡ false
+    → IsFree (page_count s) s.done s.current s.places.place 16
+unfolding size_at
+cap-placed s n operands h = is-free s 16 false h (omega arith)
+
+good-statement : (symbols : Symbols) (s : Assembled) (n : ℕ) (operands : List ℕ) → IsFaultless symbols s (contents (item Capability n operands))
+    → IsGoodStatement symbols s operands
+good-statement symbols s n operands f =
+    let r = in-range symbols s n operands f in
+    let room = cap-placed s n operands f.placed in
+    let granule = or-false (not (s.places.place % 16 == 0)) (nat_le 1024 (length s.capabilities)) f.granule in
+    let ends = ends-below _ _ (exact-parts symbols s.places.place n operands f.exact) in
+    record {
+      good = record {
+        aligned = multiple-of-16 s.places.place (nat_le 1024 (length s.capabilities)) f.granule;
+        above_base = room.above;
+        inside = room.below;
+        base_fits = omega (arith, r.base);
+        length_fits = omega (arith, r.length);
+        end_fits = ends.0;
+        exact = ends.1;
+        perms_fit = omega (arith, r.perms);
+        flag_fits = r.flag;
+      };
+      free = room.apart;
+      few = fewer (length s.capabilities) granule.1;
+      known = r.known;
+    }
+
+place-fits : (count place : ℕ) → count ≤ most_pages → place + 16 ≤ ram_end count → place < 2 ^ 64
+place-fits count place h g = omega (arith, h, g)
+
+put-data : (symbols : Symbols) (s : Assembled) (d : Directive) (n : ℕ) (operands : List ℕ) → IsBuildable s
+    → IsFaultless symbols s (contents (item d n operands)) → IsPutThere symbols s.places.place (contents (item d n operands))
+put-data symbols s Align n operands b f = (tt, tt)
+put-data symbols s Zero n operands b f = (tt, tt)
+put-data symbols s (Values size) n operands b f = (tt, tt)
+put-data symbols s Ascii n operands b f = (tt, tt)
+put-data symbols s Capability n operands b f =
+    let g = good-statement symbols s n operands f in
+    let few = (header_ranges 2 (page_count s) (given ram_base s.entry) 0 b.header).0 in
+    (g.known, (place-fits (page_count s) s.places.place few g.good.inside, omega (arith, g.good.perms_fit), omega (arith, g.good.flag_fits)))
+
+pub put_there : (symbols : Symbols) (s : Assembled) (r : Read) → IsBuildable s → IsFaultless symbols s (seen_statement r)
+    → IsPutThere symbols s.places.place (seen_statement r)
+put_there symbols s (read.Instruction i) b f = (tt, tt)
+put_there symbols s (read.Setting t) b f = (tt, tt)
+put_there symbols s (read.Origin n) b f = (tt, tt)
+put_there symbols s (read.Data d) b f = put-data symbols s d.directive d.number d.text.now b f
+
+-- ---- what bytes leave
+
+-- the capabilities behind a statement
+record AreKept (s : Assembled) (bytes : List ℕ) (capabilities : List CapEntry) : Type 0 where
+  ascending : AreAscending (page_count s) 0 capabilities
+  held : AreHeld (closed s.done (filled s.current bytes)) capabilities
+  few : length capabilities ≤ 1024
+
+same-kept : (s : Assembled) (bytes : List ℕ) → IsBuildable s → AreKept s bytes s.capabilities
+same-kept s bytes b =
+    record {
+      ascending = b.ascending;
+      held =
+          held-grown s.done s.current (filled s.current bytes) s.capabilities refl (omega (arith, length-append s.current.bytes bytes)) b.held;
+      few = b.few_capabilities;
+    }
+
+one-kept : (symbols : Symbols) (s : Assembled) (bytes : List ℕ) (n : ℕ) (operands : List ℕ) → IsBuildable s
+    → IsFaultless symbols s (contents (item Capability n operands)) → length bytes ≡ 16
+    → AreKept s bytes (entered (capability_at symbols s.places.place operands) s.capabilities)
+one-kept symbols s bytes n operands b f e =
+    let g = good-statement symbols s n operands f in
+    let c = capability_at symbols s.places.place operands in
+    let grew = length-append s.current.bytes bytes in
+    let same = same-kept s bytes b in
+    record {
+      ascending =
+          ascending-entered (page_count s) 0 (closed s.done s.current) c s.capabilities g.good (omega (arith, g.good.above_base))
+          (free-behind s.places.place s.done s.current b.place g.free) b.held b.ascending;
+      held =
+          held-entered (closed s.done (filled s.current bytes)) c s.capabilities
+          (taken-own s.places.place s.done (filled s.current bytes) (omega (arith, b.place)) (omega (arith, b.place, grew))) same.held;
+      few = omega (arith, g.few, length-entered c s.capabilities);
+    }
+
+data-kept : (symbols : Symbols) (s : Assembled) (d : Directive) (n : ℕ) (operands : List ℕ) → IsBuildable s
+    → IsFaultless symbols s (contents (item d n operands))
+    → AreKept s (bytes_at symbols s.places.place (contents (item d n operands)))
+    (with_capability symbols s.places.place (capability_in (contents (item d n operands))) s.capabilities)
+unfolding bytes_at
+data-kept symbols s Align n operands b f = same-kept s _ b
+data-kept symbols s Zero n operands b f = same-kept s _ b
+data-kept symbols s (Values size) n operands b f = same-kept s _ b
+data-kept symbols s Ascii n operands b f = same-kept s _ b
+data-kept symbols s Capability n operands b f = one-kept symbols s _ n operands b f (length-replicate {A = ℕ} 16 0)
+
+grown-buildable : (s : Assembled) (bytes : List ℕ) (capabilities : List CapEntry) (n end : ℕ) (symbols : Symbols) (is_code : Bool)
+    → IsBuildable s → AreKept s bytes capabilities → length bytes ≡ n → end ≡ s.places.place + n
+    → lacks_place s s.places.place n is_code ≡ false
+    → IsBuildable (at-place (record (with_bytes s bytes) { capabilities = capabilities }) end symbols)
+grown-buildable s bytes capabilities n end symbols is_code b kept e g h =
     let both : length (s.current.bytes ++ bytes) ≡ length s.current.bytes + n = omega (arith, length-append s.current.bytes bytes) in
     record {
       header = b.header;
@@ -126,14 +265,19 @@ grown-buildable s bytes n end symbols is_code b e g h =
           grown (page_count s) s.done s.current (filled s.current bytes) n s.places.place refl both b.place b.filled
           (is-free s n is_code h) b.current;
       unbegun = λ x. absurd (true-false x);
+      ascending = kept.ascending;
+      held = kept.held;
+      few_capabilities = kept.few;
     }
 
-statement-grown : (symbols new : Symbols) (s : Assembled) (t : Statement) → IsBuildable s → IsFaultless symbols s t
+statement-grown : (symbols new : Symbols) (s : Assembled) (t : Statement) (capabilities : List CapEntry) → IsBuildable s
+    → IsFaultless symbols s t → AreKept s (bytes_at symbols s.places.place t) capabilities
     → length (bytes_at symbols s.places.place t) ≡ size_at t s.places.place
-    → IsBuildable (at-place (with_bytes s (bytes_at symbols s.places.place t)) (s.places.place + size_at t s.places.place) new)
-statement-grown symbols new s t b f e =
-    grown-buildable s (bytes_at symbols s.places.place t) (size_at t s.places.place) (s.places.place + size_at t s.places.place) new
-    (is_instruction t) b e refl f.placed
+    → IsBuildable (at-place (record (with_bytes s (bytes_at symbols s.places.place t)) { capabilities = capabilities })
+    (s.places.place + size_at t s.places.place) new)
+statement-grown symbols new s t capabilities b f kept e =
+    grown-buildable s (bytes_at symbols s.places.place t) capabilities (size_at t s.places.place)
+    (s.places.place + size_at t s.places.place) new (is_instruction t) b kept e refl f.placed
 
 pages-buildable : (s : Assembled) (n : ℕ) (new : Symbols) → IsBuildable s → (is_some s.pages || s.begun) ≡ false
     → is_paged (setting (pages n)) ≡ true
@@ -141,16 +285,19 @@ pages-buildable : (s : Assembled) (n : ℕ) (new : Symbols) → IsBuildable s �
 pages-buildable s n new b h p =
     let u : IsUnbegun s = b.unbegun (or-false _ _ h).1 in
     record {
-      header = ap (λ e. is_good_header n (given ram_base e) 0) u.entry ∙ good-base n p;
+      header = ap (λ e. is_good_header 2 n (given ram_base e) 0) u.entry ∙ good-base n p;
       apart = ap (sections_fault n 0) u.done;
       filled = b.filled;
       few = b.few;
       place = b.place;
       current = λ f. absurd (no-byte s.current.bytes u.current f);
-      unbegun = λ x. record { done = u.done; current = u.current; entry = u.entry };
+      unbegun = λ x. record { done = u.done; current = u.current; entry = u.entry; capabilities = u.capabilities };
+      ascending = subst (AreAscending n 0) (sym u.capabilities) tt;
+      held = b.held;
+      few_capabilities = b.few_capabilities;
     }
 
-entry-buildable : (s : Assembled) (e : ℕ) (new : Symbols) → IsBuildable s → is_good_header (page_count s) e 0 ≡ true
+entry-buildable : (s : Assembled) (e : ℕ) (new : Symbols) → IsBuildable s → is_good_header 2 (page_count s) e 0 ≡ true
     → IsBuildable (at-place (record s { begun = true; entry = Some e }) s.places.place new)
 entry-buildable s e new b h =
     record {
@@ -161,6 +308,9 @@ entry-buildable s e new b h =
       place = b.place;
       current = b.current;
       unbegun = λ x. absurd (true-false x);
+      ascending = b.ascending;
+      held = b.held;
+      few_capabilities = b.few_capabilities;
     }
 
 org-buildable : (s : Assembled) (n : ℕ) (new : Symbols) → IsBuildable s
@@ -175,6 +325,9 @@ org-buildable s n new b =
       place = omega arith;
       current = λ f. absurd (no-byte [] refl f);
       unbegun = λ x. absurd (true-false x);
+      ascending = b.ascending;
+      held = b.held;
+      few_capabilities = b.few_capabilities;
     }
 
 same-buildable : (s : Assembled) (m : Option Bool) (new : Symbols) → IsBuildable s
@@ -187,7 +340,11 @@ same-buildable s m new b =
       few = b.few;
       place = b.place;
       current = b.current;
-      unbegun = λ x. let u = b.unbegun x in record { done = u.done; current = u.current; entry = u.entry };
+      unbegun = λ x.
+          let u = b.unbegun x in record { done = u.done; current = u.current; entry = u.entry; capabilities = u.capabilities };
+      ascending = b.ascending;
+      held = b.held;
+      few_capabilities = b.few_capabilities;
     }
 
 -- a setting takes no byte
@@ -198,7 +355,8 @@ statement-buildable : (symbols new : Symbols) (s : Assembled) (t : Statement) �
     → is_misplaced s t ≡ false → is_paged t ≡ true → IsBuildable (at-place (with_statement symbols s t) (end_of t s.places.place) new)
 unfolding size_at end_of has_unknown_name is_out_of_reach
 statement-buildable symbols new s (instruction i) b f m p =
-    statement-grown symbols new s (instruction i) b f (instruction-placed symbols s.places.place i)
+    statement-grown symbols new s (instruction i) s.capabilities b f (same-kept s (bytes_at symbols s.places.place (instruction i)) b)
+    (instruction-placed symbols s.places.place i)
 statement-buildable symbols new s (setting (pages n)) b f m p =
     at-same-place (record s { pages = Some n }) s.places.place new (pages-buildable s n new b m p)
 statement-buildable symbols new s (setting (mode x)) b f m p =
@@ -209,8 +367,10 @@ statement-buildable symbols new s (setting (entry e)) b f m p =
     (entry-buildable s value new b
     (good-entry (page_count s) (value_of symbols s.places.place e) (or-false _ _ f.named).0 (or-false _ _ f.near).0))
 statement-buildable symbols new s (origin n) b f m p = org-buildable s n new b
-statement-buildable symbols new s (contents d) b f m p =
-    statement-grown symbols new s (contents d) b f (data-placed symbols s.places.place d)
+statement-buildable symbols new s (contents (item d n operands)) b f m p =
+    statement-grown symbols new s (contents (item d n operands))
+    (with_capability symbols s.places.place (capability_in (contents (item d n operands))) s.capabilities) b f
+    (data-kept symbols s d n operands b f) (data-placed symbols s.places.place (item d n operands))
 
 any-buildable : (symbols new : Symbols) (s : Assembled) (t : Option Statement) → IsBuildable s → is_statement_misplaced s t ≡ false
     → fault_in_text symbols s t ≡ None → is_paged_or_none t ≡ true
@@ -235,24 +395,60 @@ opening-buildable =
       few = omega arith;
       place = refl;
       current = λ f. absurd (no-byte [] refl f);
-      unbegun = λ x. record { done = refl; current = refl; entry = refl };
+      unbegun = λ x. record { done = refl; current = refl; entry = refl; capabilities = refl };
+      ascending = tt;
+      held = tt;
+      few_capabilities = omega arith;
     }
 
-parts-none : (count start m : ℕ) (sections : List Section) → is_good_header count start m ≡ true → AreGood count sections
-    → build_fault count start m sections ≡ None
-unfolding build_fault
-parts-none count start m sections h good =
-    let a : nat_le (length sections) 64 ≡ true = le-leb (length sections) 64 good.few in
-    let b = good.apart in
-    cc
+-- in either version
+version-kept : (s : Assembled) (m : ℕ) → m ≤ 1 → IsBuildable s → (v : ℕ)
+    → version_of s ≡ v → (v ≡ 2) ⊎ ((v ≡ 1) × (length s.capabilities ≡ 0) × (page_count s ≤ most_pages_version_1))
+    → GoodParts v (page_count s) (given ram_base s.entry) m (closed s.done s.current) s.capabilities
+version-kept s m h b v e (inl two) =
+    let good = closed-good (page_count s) s.done s.current (record { apart = b.apart; filled = b.filled; few = b.few }) b.current in
+    rw two
+    (record {
+      version = refl;
+      header = good-mode 2 (page_count s) (given ram_base s.entry) m h b.header;
+      few_sections = good.few;
+      sections = good.apart;
+      few_capabilities = b.few_capabilities;
+      capabilities = ascending-none (page_count s) 0 s.capabilities b.ascending;
+    })
+version-kept s m h b v e (inr one) =
+    let good = closed-good (page_count s) s.done s.current (record { apart = b.apart; filled = b.filled; few = b.few }) b.current in
+    rw one.0
+    (record {
+      version = refl;
+      header =
+          good_header-version_1 (page_count s) (given ram_base s.entry) m
+          (good-mode 2 (page_count s) (given ram_base s.entry) m h b.header) one.2;
+      few_sections = good.few;
+      sections = good.apart;
+      few_capabilities = omega (arith, one.1);
+      capabilities = ascending-none (page_count s) 0 s.capabilities b.ascending;
+    })
 
--- an image can be built of it
+abbrev version_if : Bool → ℕ
+version_if x = if x then 1 else 2
+
+which-version : (size count : ℕ)
+    → (version_for size count ≡ 2) ⊎ ((version_for size count ≡ 1) × (count ≡ 0) × (size ≤ most_pages_version_1))
+which-version size count =
+    elim ((count == 0) && nat_le size most_pages_version_1) as
+    (λ x. ((count == 0) && nat_le size most_pages_version_1) ≡ x
+    → (version_if x ≡ 2) ⊎ ((version_if x ≡ 1) × (count ≡ 0) × (size ≤ most_pages_version_1))) [
+      | true ↦ λ e. inr (refl, grind (arith, nat_tests), grind (arith, nat_tests))
+      | false ↦ λ e. inl refl
+    ] refl
+
+-- it makes an image
 buildable-none : (s : Assembled) (m : ℕ) → m ≤ 1 → IsBuildable s
-    → build_fault (page_count s) (given ram_base s.entry) m (closed s.done s.current) ≡ None
+    → build_fault (version_of s) (page_count s) (given ram_base s.entry) m (closed s.done s.current) s.capabilities ≡ None
 buildable-none s m h b =
-    parts-none (page_count s) (given ram_base s.entry) m (closed s.done s.current)
-    (good-mode (page_count s) (given ram_base s.entry) m h b.header)
-    (closed-good (page_count s) s.done s.current (record { apart = b.apart; filled = b.filled; few = b.few }) b.current)
+    no_build_fault (version_of s) (page_count s) (given ram_base s.entry) m (closed s.done s.current) s.capabilities
+    (version-kept s m h b (version_of s) refl (which-version (page_count s) (length s.capabilities)))
 
 pub new_buildable : (s : Assembled) → s ≡ opening → IsBuildable s
 new_buildable s e = subst IsBuildable (sym e) opening-buildable
@@ -261,6 +457,7 @@ pub kept_buildable : (symbols : Symbols) (s new : Assembled) (l : Line) → new 
     → line_fault symbols s l ≡ None → is_paged_line l ≡ true → IsBuildable new
 kept_buildable symbols s new l e b h p = subst IsBuildable (sym e) (after-buildable symbols s l b h p)
 
-pub finished_none : (s : Assembled) (count start m : ℕ) (sections : List Section) → count ≡ page_count s → start ≡ given ram_base s.entry
-    → m ≤ 1 → sections ≡ closed s.done s.current → IsBuildable s → build_fault count start m sections ≡ None
-finished_none s count start m sections e f h g b = rw (e, f, g) (buildable-none s m h b)
+pub finished_none : (s : Assembled) (count start m : ℕ) (sections : List Section) (capabilities : List CapEntry) → count ≡ page_count s
+    → start ≡ given ram_base s.entry → m ≤ 1 → sections ≡ closed s.done s.current → capabilities ≡ s.capabilities → IsBuildable s
+    → build_fault (version_for count (length capabilities)) count start m sections capabilities ≡ None
+finished_none s count start m sections capabilities e f h g k b = rw (e, f, g, k) (buildable-none s m h b)

@@ -4,6 +4,7 @@ pub mod LineLemmas
 pub mod BlockLemmas
 pub mod ModestLemmas
 pub mod AskedLemmas
+pub mod CapabilityLemmas
 pub mod SoundLemmas
 pub mod LoadLemmas
 pub mod PageLemmas

@@ -12,12 +12,12 @@ use Rattle.asm_lines.specs.Text.{trimmed, uncommented, label_of, statement_text,
 use Rattle.asm_lines.specs.Number.{Expression, number_of, expression_of}
 use Rattle.asm_lines.specs.Operand.{up_to, wrapped, filled_draft, filled_fault}
 use Rattle.asm_lines.specs.declared.parsed.Directive.{Directive}
-use Rattle.asm_lines.specs.declared.parsed.Directive.TheVariants.{Align, Zero, Values, Ascii}
+use Rattle.asm_lines.specs.declared.parsed.Directive.TheVariants.{Align, Zero, Values, Ascii, Capability}
 use Rattle.asm_lines.specs.Statement.{Statement, instruction, setting, origin, contents, row, load, pages, mode, entry, item}
 use Rattle.asm_lines.specs.Statement.{values, is_sized, most_of, Said, said, said_by, is_word, Pattern, pattern_of, pattern_said, draft_of}
 use Rattle.asm_lines.specs.Statement.{said_unless, leaves_statement, register_load, load_said, number_said, page_range, pages_said}
 use Rattle.asm_lines.specs.Statement.{mode_said, origin_said, entry_said, values_said, values_fault, count_said, data_said, directives}
-use Rattle.asm_lines.specs.Statement.{directive_in, placing_said, is_quoted, is_size, expression_or_nought}
+use Rattle.asm_lines.specs.Statement.{directive_in, placing_said, capability_fault, is_quoted, is_size, expression_or_nought}
 use Rattle.asm_lines.specs.Line.{Line, line_meaning, line_said, line_of_text, labelled}
 use Rattle.assembler.proofs.TestLemmas.{both-true, not-below}
 use Rattle.assembler.specs.Modest.{is_modest, is_modest_or_none, is_modest_line}
@@ -114,6 +114,7 @@ data-modest (Values size) operands h g = values-modest size operands h g
 data-modest Ascii operands h g =
     quoted-modest (is_quoted operands) (take (length operands - 2) (drop 1 operands))
     (omega (arith, length-take-most (length operands - 2) (drop 1 operands), length-drop-le 1 operands))
+data-modest Capability operands h g = unless-modest (contents (item Capability 0 operands)) (capability_fault operands) (short _ g)
 
 abbrev AreSized : List (List ℕ × Directive) → Type 0
 AreSized [] = Unit {0}
@@ -139,7 +140,7 @@ said-modest word operands short-enough =
     (number-modest (λ m. setting (mode (m == 1))) (Some (setting (mode false))) (up_to 1 n) (λ _. refl) refl) (
     one-modest (is_word word (codes ".entry")) (entry_said (expression_of operands)) _ (entry-modest (expression_of operands)) (
     one-modest (is_word word (codes ".org")) (origin_said n) _ (number-modest origin None (up_to (2 ^ 64 - 1) n) (λ _. refl) refl) (
-    placing-modest directives word operands (refl, (refl, (refl, (refl, (refl, (refl, (refl, tt))))))) short-enough))))))
+    placing-modest directives word operands (refl, (refl, (refl, (refl, (refl, (refl, (refl, (refl, tt)))))))) short-enough))))))
 
 operands-shorter : (statement : List ℕ) → length (operands_of statement) ≤ length statement
 operands-shorter statement =

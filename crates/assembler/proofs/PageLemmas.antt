@@ -10,11 +10,11 @@ use Rattle.asm_lines.specs.Text.{pieces_of, is_foreign, trimmed, uncommented, la
 use Rattle.asm_lines.specs.Number.{Expression, number_of, expression_of}
 use Rattle.asm_lines.specs.Operand.{up_to, wrapped, filled_draft, filled_fault}
 use Rattle.asm_lines.specs.declared.parsed.Directive.{Directive}
-use Rattle.asm_lines.specs.declared.parsed.Directive.TheVariants.{Align, Zero, Values, Ascii}
+use Rattle.asm_lines.specs.declared.parsed.Directive.TheVariants.{Align, Zero, Values, Ascii, Capability}
 use Rattle.asm_lines.specs.Statement.{Statement, instruction, setting, origin, contents, row, pages, mode, item, values, Said}
 use Rattle.asm_lines.specs.Statement.{said, said_by, is_word, Pattern, pattern_of, pattern_said, draft_of, said_unless, register_load}
 use Rattle.asm_lines.specs.Statement.{load_said, number_said, pages_said, mode_said, origin_said, entry_said, most_of, data_said}
-use Rattle.asm_lines.specs.Statement.{values_said, values_fault, directives, directive_in, placing_said, is_quoted}
+use Rattle.asm_lines.specs.Statement.{values_said, values_fault, directives, directive_in, placing_said, capability_fault, is_quoted}
 use Rattle.asm_lines.specs.Line.{Line, line_meaning, line_said, line_of_text, labelled}
 use Rattle.assembler.specs.Buildable.{is_paged, is_paged_unless, is_paged_line}
 
@@ -80,6 +80,7 @@ data-paged Align operands = number-paged (λ n. contents (item Align n [])) None
 data-paged Zero operands = number-paged (λ n. contents (item Zero n [])) None (up_to (most_of Zero) (number_of operands)) (λ _. refl)
 data-paged (Values size) operands = values-paged size operands
 data-paged Ascii operands = quoted-paged (is_quoted operands) (take (length operands - 2) (drop 1 operands))
+data-paged Capability operands = unless-paged (contents (item Capability 0 operands)) (capability_fault operands) refl
 
 placing-paged : (d : Option Directive) (word operands : List ℕ) → IsPaged (placing_said d word operands)
 placing-paged (Some d) word operands = data-paged d operands

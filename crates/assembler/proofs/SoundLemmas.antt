@@ -1,6 +1,7 @@
 -- A line without a fault: its values are known, and its instructions have words.
-use Rattle.std.proofs.Common.{option_map, ◌≡◌, ℕ, Bool, true, false, not, ◌==◌, ◌⊎◌, inl, inr, map, if◌then◌else◌, ℤ, pos, negsuc, ◌-ℤ◌}
-use Rattle.std.proofs.Common.{List, [], ◌∷◌, Option, Some, None, is_none, refl, sym, ap, ◌∙◌, subst, arith}
+use Rattle.std.proofs.Common.{option_map, ◌≡◌, ℕ, ◌-◌, ◌^◌, ◌<◌, ◌≤◌, Bool, true, false, not, ◌&&◌, ◌==◌, ◌⊎◌, inl, inr, map, if◌then◌else◌, ℤ, pos}
+use Rattle.std.proofs.Common.{negsuc, ◌-ℤ◌}
+use Rattle.std.proofs.Common.{List, [], ◌∷◌, Option, Some, None, is_none, is_some, refl, sym, ap, ◌∙◌, subst, arith}
 use Rattle.std.specs.Option.{option_or}
 use Rattle.std.proofs.lemmas.Bool.Decides.{nat_tests}
 use Rattle.std.proofs.lemmas.Int.{ints}
@@ -16,23 +17,27 @@ use Rattle.asm_lines.specs.declared.parsed.Statement.TheVariants as read
 use Rattle.asm_lines.specs.declared.parsed.Instruction.TheVariants.{Row, Load}
 use Rattle.asm_lines.specs.declared.parsed.Setting.TheVariants.{Entry}
 use Rattle.asm_lines.specs.declared.parsed.Directive.{Directive}
-use Rattle.asm_lines.specs.declared.parsed.Directive.TheVariants.{Align, Zero, Values, Ascii}
+use Rattle.asm_lines.specs.declared.parsed.Directive.TheVariants.{Align, Zero, Values, Ascii, Capability}
 use Rattle.asm_lines.specs.Text.{pieces_of}
 use Rattle.asm_lines.specs.Number.{is_in_limits}
 use Rattle.asm_lines.specs.Operand.{wrapped}
-use Rattle.asm_lines.specs.Statement.{Statement, item, is_size, is_sized, is_in_size}
+use Rattle.asm_lines.specs.Statement.{Statement, instruction, setting, origin, contents, item, is_size, is_sized, is_in_size, is_natural}
+use Rattle.asm_lines.specs.Statement.{capability_parts}
 use Rattle.asm_lines.specs.Line.{Line, RowFits, IsTargetOffset, IsBounded, IsBoundedIfAny, seen_expression, seen_statement, seen_line}
 use Rattle.assembler.specs.declared.fault.AsmCode.{AsmCode}
-use Rattle.assembler.specs.declared.fault.AsmCode.TheVariants.{A1, A2, A3, A4, A5, A6, A7}
+use Rattle.assembler.specs.declared.fault.AsmCode.TheVariants.{A1, A2, A3, A4, A5, A6, A7, A11}
 use Rattle.assembler.specs.Places.{Symbols, size_at}
-use Rattle.assembler.specs.Values.{value_of, known_and, is_reached, reach_of, asked_value, asked_by_data, asked_by, has_value_beyond}
+use Rattle.assembler.specs.Values.{value_of, known_and, is_reached, reach_of, asked_value, asked_part, part_of, asked_by_data, asked_by}
+use Rattle.assembler.specs.Values.{has_value_beyond}
 use Rattle.assembler.specs.Values.{has_unknown_name, is_out_of_reach}
 use Rattle.assembler.specs.Checks.{named_fault}
 use Rattle.assembler.specs.Bytes.{or_zero}
-use Rattle.assembler.specs.Faults.{Assembled, page_count, line_fault, is_statement_misplaced, lacks_place, is_instruction}
+use Rattle.assembler.specs.Capabilities.{capability_in, is_inexact, has_inexact_range, part_value}
+use Rattle.assembler.specs.Faults.{Assembled, page_count, line_fault, is_statement_misplaced, lacks_place, lacks_granule}
+use Rattle.assembler.specs.Faults.{lacks_place_for, is_instruction}
 use Rattle.assembler.specs.FaultLaws.{fault_by, fault_in_text, statement_fault, line_fault-by}
 use Rattle.assembler.proofs.TestLemmas.{or-false, not-false, and-first}
-use Rattle.assembler.specs.Sound.{IsValued, HasWords}
+use Rattle.assembler.specs.Sound.{IsValued, HasWords, ArePartsKnown}
 use Rattle.assembler.proofs.AskedLemmas.{AreLimited, known-asked}
 
 -- a test before others that tells nothing
@@ -58,6 +63,8 @@ pub record IsFaultless (symbols : Symbols) (s : Assembled) (statement : Statemen
   pub named : has_unknown_name symbols s.places.place statement ≡ false
   pub near : is_out_of_reach (page_count s) symbols s.places.place statement ≡ false
   pub placed : lacks_place s s.places.place (size_at statement s.places.place) (is_instruction statement) ≡ false
+  pub granule : (is_some (capability_in statement) && lacks_granule s s.places.place) ≡ false
+  pub exact : is_inexact symbols s.places.place statement ≡ false
 
 pub statement_fault-none : (symbols : Symbols) (s : Assembled) (statement : Statement) → statement_fault symbols s statement ≡ None
     → IsFaultless symbols s statement
@@ -67,8 +74,10 @@ statement_fault-none symbols s statement h =
     let a = not-none _ A3 _ both.0 in
     let b = not-none _ A5 _ a.1 in
     let c = not-none _ A6 _ b.1 in
-    let d = if-none _ A7 None both.1 in
-    record { in_range = a.0; named = b.0; near = c.0; placed = d.0 }
+    let d = if-none _ A7 _ both.1 in
+    let e = if-none _ A11 None d.1 in
+    let place = or-false _ _ d.0 in
+    record { in_range = a.0; named = b.0; near = c.0; placed = place.0; granule = place.1; exact = e.0 }
 
 -- a line that has no fault
 pub record IsLineFaultless (symbols : Symbols) (s : Assembled) (l : Line) : Type 0 where
@@ -118,11 +127,26 @@ limited-values : (size : ℕ) (ps : List (List ℕ)) → is_size size ≡ true �
 limited-values size [] h = tt
 limited-values size (p ∷ ps) h = (λ v g. in-size-limits size v (one-size size h) g, limited-values size ps h)
 
+-- so do the operands of .cap
+natural-limits : (most : ℕ) (v : ℤ) → most < 2 ^ 64 → is_natural most v ≡ true → is_in_limits v ≡ true
+natural-limits most (pos n) h e = grind (arith, ints, nat_tests)
+natural-limits most (negsuc n) h e = cc
+
+pub limited-parts : (operands : List ℕ) → AreLimited (map (asked_part operands) capability_parts)
+limited-parts operands = (
+  λ v h. natural-limits (2 ^ 64 - 1) v (omega arith) h,
+  (
+    λ v h. natural-limits (2 ^ 64 - 1) v (omega arith) h,
+    (λ v h. natural-limits 0xffff v (omega arith) h, (λ v h. natural-limits 1 v (omega arith) h, tt)),
+  ),
+)
+
 limited-data : (d : Directive) (number : ℕ) (operands : List ℕ) → is_sized d ≡ true → AreLimited (asked_by_data (item d number operands))
 limited-data Align number operands h = tt
 limited-data Zero number operands h = tt
 limited-data (Values size) number operands h = limited-values size (pieces_of operands) h
 limited-data Ascii number operands h = tt
+limited-data Capability number operands h = limited-parts operands
 
 limited : (r : Read) → IsBounded r → AreLimited (asked_by (seen_statement r))
 limited (read.Instruction (Row i (Some e))) b = (λ v h. h, tt)
@@ -170,6 +194,91 @@ faultless-words symbols s l (read.Instruction (Load capability rd value)) b fits
 faultless-words symbols s l (read.Setting t) b fits e p f = tt
 faultless-words symbols s l (read.Origin n) b fits e p f = tt
 faultless-words symbols s l (read.Data d) b fits e p f = tt
+
+-- ---- the capability of a statement without a fault
+
+-- of a number that is known and at most so much
+natural-part : (most : ℕ) (value : Option ℤ) → most < 2 ^ 64 → is_none value ≡ false
+    → known_and (λ v. not (is_natural most v)) value ≡ false → wrapped (or_zero value) ≤ most
+natural-part most None small h g = cc
+natural-part most (Some (pos n)) small h g = grind (arith, nat_tests)
+natural-part most (Some (negsuc n)) small h g = cc
+
+-- the values of its operands, each in its range
+pub record AreInRange (symbols : Symbols) (here : ℕ) (operands : List ℕ) : Type 0 where
+  pub known : ArePartsKnown symbols here (Some operands)
+  pub base : part_value symbols here operands 0 ≤ 2 ^ 64 - 1
+  pub length : part_value symbols here operands 1 ≤ 2 ^ 64 - 1
+  pub perms : part_value symbols here operands 2 ≤ 0xffff
+  pub flag : part_value symbols here operands 3 ≤ 1
+
+parts-in-range : (symbols : Symbols) (here n : ℕ) (operands : List ℕ)
+    → has_value_beyond symbols here (contents (item Capability n operands)) ≡ false
+    → has_unknown_name symbols here (contents (item Capability n operands)) ≡ false → AreInRange symbols here operands
+unfolding has_value_beyond has_unknown_name
+parts-in-range symbols here n operands h g =
+    let b0 = or-false _ _ h in
+    let b1 = or-false _ _ b0.1 in
+    let b2 = or-false _ _ b1.1 in
+    let b3 = or-false _ _ b2.1 in
+    let k0 = or-false _ _ g in
+    let k1 = or-false _ _ k0.1 in
+    let k2 = or-false _ _ k1.1 in
+    let k3 = or-false _ _ k2.1 in
+    record {
+      known = known-asked symbols here (map (asked_part operands) capability_parts) (limited-parts operands) h g;
+      base = natural-part (2 ^ 64 - 1) (value_of symbols here (part_of operands 0)) (omega arith) k0.0 b0.0;
+      length = natural-part (2 ^ 64 - 1) (value_of symbols here (part_of operands 1)) (omega arith) k1.0 b1.0;
+      perms = natural-part 0xffff (value_of symbols here (part_of operands 2)) (omega arith) k2.0 b2.0;
+      flag = natural-part 1 (value_of symbols here (part_of operands 3)) (omega arith) k3.0 b3.0;
+    }
+
+pub in-range : (symbols : Symbols) (s : Assembled) (n : ℕ) (operands : List ℕ)
+    → IsFaultless symbols s (contents (item Capability n operands)) → AreInRange symbols s.places.place operands
+in-range symbols s n operands f = parts-in-range symbols s.places.place n operands f.in_range f.named
+
+-- what it names is known already where nothing that it names has a fault
+known-parts : (page_count : ℕ) (symbols : Symbols) (here : ℕ) (d : Directive) (n : ℕ) (operands : List ℕ)
+    → named_fault page_count symbols here (contents (item d n operands)) ≡ None
+    → ArePartsKnown symbols here (capability_in (contents (item d n operands)))
+unfolding named_fault has_value_beyond has_unknown_name
+known-parts page_count symbols here Align n operands h = tt
+known-parts page_count symbols here Zero n operands h = tt
+known-parts page_count symbols here (Values size) n operands h = tt
+known-parts page_count symbols here Ascii n operands h = tt
+known-parts page_count symbols here Capability n operands h =
+    let a = not-none _ A3 _ h in let b = not-none _ A5 _ a.1 in (parts-in-range symbols here n operands a.0 b.0).known
+
+known-if-named : (page_count : ℕ) (symbols : Symbols) (here : ℕ) (s : Statement) → named_fault page_count symbols here s ≡ None
+    → ArePartsKnown symbols here (capability_in s)
+known-if-named page_count symbols here (instruction i) h = tt
+known-if-named page_count symbols here (setting t) h = tt
+known-if-named page_count symbols here (origin n) h = tt
+known-if-named page_count symbols here (contents (item d n operands)) h = known-parts page_count symbols here d n operands h
+
+pub parts-known : (page_count : ℕ) (symbols : Symbols) (here : ℕ) (s : Statement) (named : Option AsmCode) (operands : Option (List ℕ))
+    → named ≡ named_fault page_count symbols here s → named ≡ None → operands ≡ capability_in s → ArePartsKnown symbols here operands
+parts-known page_count symbols here s named operands e h same =
+    subst (ArePartsKnown symbols here) (sym same) (known-if-named page_count symbols here s (sym e ∙ h))
+
+none-of : (o : Option AsmCode) → is_some o ≡ false → o ≡ None
+none-of None h = refl
+none-of (Some x) h = cc
+
+pub named-none : (named : Option AsmCode) (some : Bool) → some ≡ is_some named → some ≡ false → named ≡ None
+named-none named some d e = none-of named (sym d ∙ e)
+
+-- where nothing that a statement names has a fault, nor has its place, its fault is that of its capability
+pub last-fault : (symbols : Symbols) (s : Assembled) (statement : Statement) (count place : ℕ) (named result : Option AsmCode)
+    (lacks : Bool) (operands : Option (List ℕ)) → count ≡ page_count s → place ≡ s.places.place
+    → named ≡ named_fault count symbols place statement → named ≡ None → lacks ≡ lacks_place_for s statement → lacks ≡ false
+    → operands ≡ capability_in statement → result ≡ (if has_inexact_range symbols place operands then Some A11 else None)
+    → result ≡ statement_fault symbols s statement
+unfolding statement_fault is_inexact
+last-fault symbols s statement count place named result lacks operands a b c d f g h r =
+    let n : named_fault (page_count s) symbols s.places.place statement ≡ None = rw (a, b) at (sym c ∙ d) in
+    let l : lacks_place_for s statement ≡ false = sym f ∙ g in
+    r ∙ rw (h, b, n, l) refl
 
 -- what a line without a fault gives those who place its statement
 pub record IsSound (symbols : Symbols) (s : Assembled) (r : Read) : Type 0 where

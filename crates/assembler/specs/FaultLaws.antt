@@ -8,16 +8,19 @@ use Rattle.asm_lines.specs.declared.fault.LineFault.TheVariants as line
 use Rattle.asm_lines.specs.Statement.{Statement}
 use Rattle.asm_lines.specs.Line.{Line}
 use Rattle.assembler.specs.declared.fault.AsmCode.{AsmCode}
-use Rattle.assembler.specs.declared.fault.AsmCode.TheVariants.{A1, A2, A3, A4, A5, A6, A7, A8, A9}
+use Rattle.assembler.specs.declared.fault.AsmCode.TheVariants.{A1, A2, A3, A4, A5, A6, A7, A8, A9, A11}
 use Rattle.assembler.specs.Places.{Symbols}
 use Rattle.assembler.specs.Values.{has_value_beyond, has_unknown_name, is_out_of_reach}
 use Rattle.assembler.specs.Checks.{named_fault}
+use Rattle.assembler.specs.Capabilities.{is_inexact}
 use Rattle.assembler.specs.Faults.{Assembled, page_count, lacks_place_for, is_repeated, is_statement_misplaced, line_fault}
 
--- the first fault of a statement that stands in the text, whose line alone has none: of what it names, then of its place
+-- the first fault of a statement that stands in the text, whose line alone has none: of what it names, then of its place, then of the
+-- capability that it says
 unfoldable pub statement_fault : Symbols → Assembled → Statement → Option AsmCode
 statement_fault symbols s statement =
-    option_or (named_fault (page_count s) symbols s.places.place statement) (if lacks_place_for s statement then Some A7 else None)
+    option_or (named_fault (page_count s) symbols s.places.place statement)
+    (if lacks_place_for s statement then Some A7 else (if is_inexact symbols s.places.place statement then Some A11 else None))
 
 abbrev pub fault_in_text : Symbols → Assembled → Option Statement → Option AsmCode
 fault_in_text symbols s None = None
@@ -40,14 +43,16 @@ turned : (b : Bool) (x y : Option AsmCode) → (if not b then x else y) ≡ (if 
 turned true x y = refl
 turned false x y = refl
 
-in_order : (in_range named near : Bool) (placeless : Bool)
-    → first_fault ((in_range, A3) ∷ (named, A5) ∷ (near, A6) ∷ (not placeless, A7) ∷ [])
-    ≡ option_or (first_fault ((in_range, A3) ∷ (named, A5) ∷ (near, A6) ∷ [])) (if placeless then Some A7 else None)
-in_order false named near placeless = refl
-in_order true false near placeless = refl
-in_order true true false placeless = refl
-in_order true true true true = refl
-in_order true true true false = refl
+in_order : (in_range named near : Bool) (placeless inexact : Bool)
+    → first_fault ((in_range, A3) ∷ (named, A5) ∷ (near, A6) ∷ (not placeless, A7) ∷ (not inexact, A11) ∷ [])
+    ≡ option_or (first_fault ((in_range, A3) ∷ (named, A5) ∷ (near, A6) ∷ []))
+    (if placeless then Some A7 else (if inexact then Some A11 else None))
+in_order false named near placeless inexact = refl
+in_order true false near placeless inexact = refl
+in_order true true false placeless inexact = refl
+in_order true true true true inexact = refl
+in_order true true true false true = refl
+in_order true true true false false = refl
 
 placed : (repeated misplaced : Bool) (rest other : Option AsmCode) → rest ≡ other
     → (if not repeated then (if not misplaced then rest else Some A2) else Some A4)
@@ -64,7 +69,8 @@ by_statement symbols s label None = placed (is_repeated s label) false None None
 by_statement symbols s label (Some statement) =
     placed (is_repeated s label) (is_statement_misplaced s (Some statement)) _ _
     (in_order (not (has_value_beyond symbols s.places.place statement)) (not (has_unknown_name symbols s.places.place statement))
-    (not (is_out_of_reach (page_count s) symbols s.places.place statement)) (lacks_place_for s statement))
+    (not (is_out_of_reach (page_count s) symbols s.places.place statement)) (lacks_place_for s statement)
+    (is_inexact symbols s.places.place statement))
 
 by_fault : (symbols : Symbols) (s : Assembled) (label : Option (List ℕ)) (statement : Option Statement) (fault : Option LineFault)
     → line_fault symbols s (record { label = label; statement = statement; fault = fault })

@@ -3,6 +3,7 @@ use Rattle.std.specs.Prelude.{ℕ, ◌+◌, ◌%◌, Bool, true, false, not, ◌
 use Rattle.std.specs.Prelude.{◌++◌, length, Option, Some, None, is_some}
 use Rattle.base.specs.FirstFault.{first_fault}
 use Rattle.base.specs.Ram.{ram_base, ram_end}
+use Rattle.image.specs.declared.cap_entry.CapEntry.{CapEntry}
 use Rattle.image.specs.Image.{Section}
 use Rattle.asm_lines.specs.declared.fault.LineFault.{LineFault}
 use Rattle.asm_lines.specs.declared.fault.LineFault.TheVariants as line
@@ -10,10 +11,11 @@ use Rattle.asm_lines.specs.Operand.{wrapped}
 use Rattle.asm_lines.specs.Statement.{Statement, instruction, setting, origin, Setting, pages, mode, entry}
 use Rattle.asm_lines.specs.Line.{Line}
 use Rattle.assembler.specs.declared.fault.AsmCode.{AsmCode}
-use Rattle.assembler.specs.declared.fault.AsmCode.TheVariants.{A1, A2, A3, A4, A5, A6, A7, A8, A9}
+use Rattle.assembler.specs.declared.fault.AsmCode.TheVariants.{A1, A2, A3, A4, A5, A6, A7, A8, A9, A11}
 use Rattle.assembler.specs.Places.{Symbols, Places, value_in, size_at, places_after, opening_places}
 use Rattle.assembler.specs.Values.{has_value_beyond, has_unknown_name, is_out_of_reach}
 use Rattle.assembler.specs.Bytes.{bytes_at, value_at}
+use Rattle.assembler.specs.Capabilities.{capability_in, is_inexact, with_capability}
 
 -- what the lines so far set and place: the finished sections in ascending order, none of them empty, and the one that is being filled
 pub record Assembled : Type 0 where
@@ -25,6 +27,8 @@ pub record Assembled : Type 0 where
   pub begun : Bool
   pub done : List Section
   pub current : Section
+  -- in ascending order of place
+  pub capabilities : List CapEntry
 
 abbrev pub given : {A : Type 0} → A → Option A → A
 given default None = default
@@ -60,8 +64,14 @@ lacks_place s place size is_code =
     && (nat_lt place ram_base || (nat_lt (ram_end (page_count s)) (place + size) || (is_taken place (place + size) s.done
     || (((length s.current.bytes == 0) && nat_le 64 (length s.done)) || (is_code && not (place % 4 == 0))))))
 
+-- a capability has none at no multiple of 16, nor as the 1025th
+abbrev pub lacks_granule : Assembled → ℕ → Bool
+lacks_granule s place = not (place % 16 == 0) || nat_le 1024 (length s.capabilities)
+
 abbrev pub lacks_place_for : Assembled → Statement → Bool
-lacks_place_for s statement = lacks_place s s.places.place (size_at statement s.places.place) (is_instruction statement)
+lacks_place_for s statement =
+    lacks_place s s.places.place (size_at statement s.places.place) (is_instruction statement)
+    || (is_some (capability_in statement) && lacks_granule s s.places.place)
 
 -- a test of the statement that a line leaves, if it leaves one
 abbrev pub does : (Statement → Bool) → Option Statement → Bool
@@ -100,6 +110,7 @@ line_checks symbols s l =
     ∷ (not (does (has_unknown_name symbols s.places.place) l.statement), A5)
     ∷ (not (does (is_out_of_reach (page_count s) symbols s.places.place) l.statement), A6)
     ∷ (not (does (lacks_place_for s) l.statement), A7)
+    ∷ (not (does (is_inexact symbols s.places.place) l.statement), A11)
     ∷ []
 
 unfoldable pub line_fault : Symbols → Assembled → Line → Option AsmCode
@@ -133,7 +144,10 @@ with_setting symbols s (entry e) = record s { begun = true; entry = Some (wrappe
 abbrev pub with_statement : Symbols → Assembled → Statement → Assembled
 with_statement symbols s (setting t) = with_setting symbols s t
 with_statement symbols s (origin n) = record s { begun = true; done = closed s.done s.current; current = empty_at n }
-with_statement symbols s other = with_bytes s (bytes_at symbols s.places.place other)
+with_statement symbols s other =
+    record (with_bytes s (bytes_at symbols s.places.place other)) {
+      capabilities = with_capability symbols s.places.place (capability_in other) s.capabilities;
+    }
 
 abbrev pub with_statement_of : Symbols → Assembled → Option Statement → Assembled
 with_statement_of symbols s None = s
@@ -144,4 +158,13 @@ assembled_after symbols s l = record (with_statement_of symbols s l.statement) {
 
 abbrev pub opening : Assembled
 opening =
-    record { places = opening_places; pages = None; mode = None; entry = None; begun = false; done = []; current = empty_at ram_base }
+    record {
+      places = opening_places;
+      pages = None;
+      mode = None;
+      entry = None;
+      begun = false;
+      done = [];
+      current = empty_at ram_base;
+      capabilities = [];
+    }

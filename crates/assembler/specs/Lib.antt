@@ -6,6 +6,7 @@ pub mod Blocks
 pub mod Modest
 pub mod Checks
 pub mod Bytes
+pub mod Capabilities
 pub mod Sound
 pub mod Faults
 pub mod FaultLaws

@@ -6,7 +6,7 @@ use Rattle.std.specs.List.{slice_split}
 use Rattle.std.specs.Cmp.Lexicographic.{pointwise}
 use Rattle.asm_lines.specs.Text.{pieces_of}
 use Rattle.asm_lines.specs.declared.parsed.Directive.{Directive}
-use Rattle.asm_lines.specs.declared.parsed.Directive.TheVariants.{Align, Zero, Values, Ascii}
+use Rattle.asm_lines.specs.declared.parsed.Directive.TheVariants.{Align, Zero, Values, Ascii, Capability}
 use Rattle.asm_lines.specs.Statement.{Statement, instruction, setting, origin, contents, Instruction, row, load, Data, item, text_bytes}
 use Rattle.asm_lines.specs.Line.{Line, line_meaning}
 
@@ -35,6 +35,7 @@ instruction_size (load capability rd value) = 8
 abbrev pub zero_count : Directive → ℕ → ℕ → ℕ
 zero_count Align place n = aligned place n - place
 zero_count Zero place n = n
+zero_count Capability place n = 16
 zero_count other place n = 0
 
 abbrev pub data_size : Data → ℕ → ℕ

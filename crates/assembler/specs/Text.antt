@@ -1,6 +1,6 @@
 -- What a whole text means: the first fault of its first faulty line, or an image and its labels.
-use Rattle.std.specs.Prelude.{ℕ, ◌+◌, false, List, [], ◌∷◌, Option, Some, None}
-use Rattle.base.specs.Ram.{ram_base}
+use Rattle.std.specs.Prelude.{ℕ, ◌+◌, false, ◌&&◌, ◌==◌, nat_le, if◌then◌else◌, List, [], ◌∷◌, length, Option, Some, None}
+use Rattle.base.specs.Ram.{ram_base, most_pages_version_1}
 use Rattle.image.specs.Image.{Image}
 use Rattle.asm_lines.specs.Line.{Line}
 use Rattle.assembler.specs.declared.fault.AsmCode.{AsmCode}
@@ -25,10 +25,24 @@ all_assembled symbols s (l ∷ ls) = all_assembled symbols (assembled_after symb
 abbrev pub text_fault : List ℕ → Option (ℕ × AsmCode)
 text_fault bytes = first_faulty_line (symbols_of bytes) opening 1 (lines_of bytes)
 
+-- version 2 where there is a capability or more pages than version 1 has
+abbrev pub version_for : ℕ → ℕ → ℕ
+version_for page_count capability_count = if (capability_count == 0) && nat_le page_count most_pages_version_1 then 1 else 2
+
+abbrev pub version_of : Assembled → ℕ
+version_of s = version_for (page_count s) (length s.capabilities)
+
 -- the image of a correct text: a page, integer mode and the beginning of RAM where it says nothing else
 abbrev pub image_of : Assembled → Image
 image_of s =
-    record { pages = page_count s; entry = given ram_base s.entry; mode = given false s.mode; sections = closed s.done s.current }
+    record {
+      version = version_of s;
+      pages = page_count s;
+      entry = given ram_base s.entry;
+      mode = given false s.mode;
+      sections = closed s.done s.current;
+      capabilities = s.capabilities;
+    }
 
 abbrev pub text_image : List ℕ → Image
 text_image bytes = image_of (all_assembled (symbols_of bytes) opening (lines_of bytes))

@@ -10,8 +10,8 @@ use Rattle.asm_lines.specs.Text.{pieces_of, is_dot}
 use Rattle.asm_lines.specs.Number.{Expression, expression_of, is_in_limits}
 use Rattle.asm_lines.specs.Operand.{wrapped}
 use Rattle.asm_lines.specs.Statement.{Statement, instruction, setting, origin, contents, Instruction, row, load, Setting, entry, Data}
-use Rattle.asm_lines.specs.declared.parsed.Directive.TheVariants.{Values}
-use Rattle.asm_lines.specs.Statement.{item, is_in_size, expression_or_nought}
+use Rattle.asm_lines.specs.declared.parsed.Directive.TheVariants.{Values, Capability}
+use Rattle.asm_lines.specs.Statement.{item, is_in_size, is_natural, operand_at, capability_parts, expression_or_nought}
 use Rattle.assembler.specs.Places.{Symbols, value_in}
 
 -- the value of an expression of a statement at a place; none where its name is unknown. The name `.` is worth the place.
@@ -44,9 +44,9 @@ is_reached reach distance =
 abbrev pub is_loadable : ℤ → Bool
 is_loadable distance = not (int_lt distance (neg_ℤ (pos (2 ^ 31)))) && int_lt distance (pos (2 ^ 31 - 2048))
 
--- an entry of an image of so many pages
+-- an entry of an image of so many pages, in either version
 abbrev pub is_entry : ℕ → ℤ → Bool
-is_entry page_count value = not (int_lt value (pos 0)) && is_good_header page_count (wrapped value) 0
+is_entry page_count value = not (int_lt value (pos 0)) && is_good_header 2 page_count (wrapped value) 0
 
 -- What a statement asks of an expression: the range of its value (another is A3), and what the value reaches in an image of so many pages,
 -- from the statement's place (another is A6).
@@ -73,8 +73,16 @@ asked_by_setting other = []
 abbrev pub asked_value : ℕ → List ℕ → Asked
 asked_value size piece = asked (expression_or_nought (expression_of piece)) (is_in_size size) (λ page_count here v. true)
 
+-- an operand of .cap
+abbrev pub part_of : List ℕ → ℕ → Expression
+part_of operands i = expression_or_nought (operand_at i operands)
+
+abbrev pub asked_part : List ℕ → ℕ × ℕ → Asked
+asked_part operands p = asked (part_of operands p.0) (is_natural p.1) (λ page_count here v. true)
+
 abbrev pub asked_by_data : Data → List Asked
 asked_by_data (item (Values size) n operands) = map (asked_value size) (pieces_of operands)
+asked_by_data (item Capability n operands) = map (asked_part operands) capability_parts
 asked_by_data other = []
 
 abbrev pub asked_by : Statement → List Asked

@@ -7,12 +7,14 @@ ghost use Rattle.assembler.specs.Bytes.{bytes_at};
 ghost use Rattle.assembler.specs.Modest.{is_modest};
 ghost use Rattle.assembler.specs.Sound.{IsValued, HasWords};
 ghost use Rattle.assembler.specs.Blocks.{meets};
+ghost use Rattle.assembler.specs.Text.{version_for};
 ghost use Rattle.assembler.specs.Faults.{is_taken, inserted, closed, empty_at, filled};
 
 use crate::bytes::push_bytes;
 use crate::labels::Labels;
 use asm_lines::Statement;
-use image::{Image, ImageFault};
+use base::ram;
+use image::{CapEntry, Image, ImageFault};
 use std::alloc::{AllocError, Global};
 use std::marker::Model;
 
@@ -142,21 +144,62 @@ fn lent(alloc: Global, blocks: &[Block]) -> Result<Vec<(u64, &[u8])>, AllocError
     Ok(parts)
 }
 
-/// An image of blocks that have no fault, so that only memory can be wanting.
-pub(crate) fn built(
+/// An image of version 1 of blocks that have no fault, so that only memory can be wanting.
+fn built_v1(
     alloc: Global,
     pages: u32,
     entry: u64,
     mode: u32,
     blocks: &[Block],
 ) -> Result<Image, AllocError>
-    requires { build_fault pages entry mode blocks.now ≡ None }
-    ensures { IfOk result (λ image. image ≡ image_of pages entry mode blocks.now) }
+    requires { build_fault 1 pages entry mode blocks.now [] ≡ None }
+    ensures { IfOk result (λ image. image ≡ image_of 1 pages entry mode blocks.now []) }
 {
     let parts = lent(alloc, blocks)?;
     match Image::build(alloc, pages, entry, mode, &parts) {
         Ok(image) => Ok(image),
         Err(ImageFault::L11) => Err(AllocError),
         Err(_) => unreachable!(),
+    }
+}
+
+/// An image of version 2 of blocks and capabilities that have no fault, so that only memory can be wanting.
+fn built_v2(
+    alloc: Global,
+    pages: u32,
+    entry: u64,
+    mode: u32,
+    blocks: &[Block],
+    capabilities: &[CapEntry],
+) -> Result<Image, AllocError>
+    requires { build_fault 2 pages entry mode blocks.now capabilities.now ≡ None }
+    ensures { IfOk result (λ image. image ≡ image_of 2 pages entry mode blocks.now capabilities.now) }
+{
+    let parts = lent(alloc, blocks)?;
+    match Image::build_v2(alloc, pages, entry, mode, &parts, capabilities) {
+        Ok(image) => Ok(image),
+        Err(ImageFault::L11) => Err(AllocError),
+        Err(_) => unreachable!(),
+    }
+}
+
+/// An image of blocks and capabilities that have no fault, in version 1 where that serves.
+#[tactic(auto, using(crate::proofs::CapabilityLemmas::none_there))]
+pub(crate) fn built(
+    alloc: Global,
+    pages: u32,
+    entry: u64,
+    mode: u32,
+    blocks: &[Block],
+    capabilities: &[CapEntry],
+) -> Result<Image, AllocError>
+    requires { build_fault (version_for pages (length capabilities.now)) pages entry mode blocks.now capabilities.now ≡ None }
+    ensures { IfOk result (λ image. image
+        ≡ image_of (version_for pages (length capabilities.now)) pages entry mode blocks.now capabilities.now) }
+{
+    if capabilities.is_empty() && pages <= ram::MOST_PAGES_VERSION_1 {
+        built_v1(alloc, pages, entry, mode, blocks)
+    } else {
+        built_v2(alloc, pages, entry, mode, blocks, capabilities)
     }
 }

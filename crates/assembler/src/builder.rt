@@ -1,7 +1,8 @@
 //! What the lines of a text set and place.
 ghost use Rattle.std.specs.Prelude.{◌≡◌, ◌+◌, ◌<◌, ◌^◌, ◌≤◌, None, Some, IsTrue, OnOk, IfOk};
 ghost use Rattle.asm_lines.specs.Line.{seen_setting, seen_statement, seen_line, RowFits, IsBoundedIfAny};
-ghost use Rattle.assembler.specs.Sound.{AreKnown, IsValued, HasWords};
+ghost use Rattle.assembler.specs.Capabilities.{capability_in, with_capability};
+ghost use Rattle.assembler.specs.Sound.{AreKnown, IsValued, HasWords, ArePartsKnown, HasSmallParts, IsPutThere};
 ghost use Rattle.assembler.specs.Values.{asked_by_setting};
 ghost use Rattle.assembler.specs.Buildable.{IsBuildable};
 ghost use Rattle.assembler.specs.Modest.{is_modest, is_modest_or_none, is_modest_line, IsNear};
@@ -9,12 +10,13 @@ ghost use Rattle.std.specs.Option.{option_map};
 ghost use Rattle.assembler.specs.Bytes.{bytes_at};
 ghost use Rattle.assembler.specs.Blocks.{begun_at};
 ghost use Rattle.assembler.specs.Text.{image_of};
-ghost use Rattle.assembler.specs.Faults.{page_count, is_misplaced, is_instruction, lacks_place, line_fault, assembled_after};
+ghost use Rattle.assembler.specs.Faults.{page_count, is_misplaced, is_instruction, lacks_place, line_fault, assembled_after, lacks_granule, lacks_place_for};
 ghost use Rattle.assembler.specs.Faults.{with_setting, with_statement, opening, is_repeated, is_statement_misplaced, with_bytes};
 ghost use Rattle.assembler.specs.FaultLaws.{statement_fault, fault_by, fault_in_text};
 
 use crate::blocks::{Block, built, close, is_taken};
 use crate::bytes::known;
+use crate::capabilities::{capability_in, enter, exact_fault};
 use crate::checks::named_fault;
 use crate::fault::AsmCode;
 use crate::labels::Labels;
@@ -22,7 +24,7 @@ use crate::places::{Places, size_at};
 use crate::values::wrapped;
 use asm_lines::{LineFault, Parsed, Setting, Statement};
 use base::ram;
-use image::Image;
+use image::{CapEntry, Image};
 use std::alloc::{AllocError, Global};
 use std::marker::Model;
 use std::mem;
@@ -37,6 +39,7 @@ pub(crate) struct Builder {
     begun: bool,
     done: Vec<Block>,
     current: Block,
+    capabilities: Vec<CapEntry>,
 }
 
 impl Model for Builder {
@@ -52,6 +55,7 @@ impl Model for Builder {
       begun = b.begun;
       done = b.done.items;
       current = b.current;
+      capabilities = b.capabilities.items;
     } };
 }
 
@@ -75,6 +79,7 @@ impl Builder {
             begun: false,
             done: Vec::new(alloc),
             current: Block::new(alloc, ram::BASE),
+            capabilities: Vec::new(alloc),
         }
     }
 
@@ -83,6 +88,14 @@ impl Builder {
         ensures { result ≡ page_count self.now }
     {
         self.pages.unwrap_or(1)
+    }
+
+    /// The place of the next statement.
+    fn place(&self) -> u128
+        ensures value { result ≡ self.now.places.place }
+        ensures bound { result < 2 ^ 100 }
+    {
+        self.places.place()
     }
 
     /// Whether a directive is repeated, or comes too late.
@@ -113,20 +126,41 @@ impl Builder {
                 || is_code && place % 4 != 0)
     }
 
+    /// Whether a capability has no place at a place: at no multiple of 16, or as the 1025th.
+    fn lacks_granule(&self, place: u128) -> bool
+        ensures { result ≡ lacks_granule self.now place }
+    {
+        place % 16 != 0 || self.capabilities.len() >= 1024
+    }
+
+    /// Whether a statement has no place, or bytes of it.
+    fn lacks_place_for(&self, statement: &Statement<'_>, operands: Option<&[u8]>) -> bool
+        requires modest { IsTrue (is_modest (seen_statement statement.now)) }
+        requires operands { option_map (λ t. t.now) operands ≡ capability_in (seen_statement statement.now) }
+        ensures { result ≡ lacks_place_for self.now (seen_statement statement.now) }
+    {
+        let place = self.places.place();
+        let size = size_at(statement, place);
+        self.lacks_place(place, size, is_instruction(statement))
+            || operands.is_some() && self.lacks_granule(place)
+    }
+
     /// The first fault of a statement whose line alone has none.
     #[tactic(auto, unfolding(crate::specs::FaultLaws::statement_fault))]
     fn statement_fault(&self, labels: &Labels, statement: &Statement<'_>) -> Option<AsmCode>
         requires { IsTrue (is_modest (seen_statement statement.now)) }
         ensures { result ≡ statement_fault labels.now self.now (seen_statement statement.now) }
     {
-        let place = self.places.place();
+        let place = self.place();
         let named = named_fault(self.page_count(), labels, place, statement);
         if named.is_some() {
             return named;
         }
-        let size = size_at(statement, place);
-        self.lacks_place(place, size, is_instruction(statement))
-            .then_some(AsmCode::A7)
+        let operands = capability_in(statement);
+        if self.lacks_place_for(statement, operands) {
+            return Some(AsmCode::A7);
+        }
+        exact_fault(labels, place, operands)
     }
 
     /// Whether a line defines a name that an earlier line defines.
@@ -201,6 +235,18 @@ impl Builder {
         Ok(())
     }
 
+    /// Puts the capability of a statement into RAM, if it is one.
+    fn enter(&mut self, labels: &Labels, operands: Option<&[u8]>) -> Result<(), AllocError>
+        requires known { ArePartsKnown labels.now self.old.places.place (option_map (λ t. t.now) operands) }
+        requires small { HasSmallParts labels.now self.old.places.place (option_map (λ t. t.now) operands) }
+        ensures { OnOk result (self.new ≡ record self.old {
+          capabilities = with_capability labels.now self.old.places.place (option_map (λ t. t.now) operands.entry) self.old.capabilities;
+        }) }
+    {
+        let place = self.places.place();
+        enter(&mut self.capabilities, labels, place, operands)
+    }
+
     /// Begins a section.
     fn begin(&mut self, alloc: Global, address: u64) -> Result<(), AllocError>
         ensures { OnOk result (self.new ≡ begun_at address self.old) }
@@ -237,12 +283,16 @@ impl Builder {
         requires modest { IsTrue (is_modest (seen_statement statement.now)) }
         requires valued { IsValued labels.now self.old.places.place (seen_statement statement.now) }
         requires words { HasWords labels.now self.old.places.place (seen_statement statement.now) }
+        requires put { IsPutThere labels.now self.old.places.place (seen_statement statement.now) }
         ensures { OnOk result (self.new ≡ with_statement labels.now self.old (seen_statement statement.now)) }
     {
         match statement {
             Statement::Setting(setting) => self.set(labels, setting),
             Statement::Origin(address) => self.begin(alloc, *address)?,
-            _ => self.fill(labels, statement)?,
+            _ => {
+                self.fill(labels, statement)?;
+                self.enter(labels, capability_in(statement))?;
+            }
         }
         Ok(())
     }
@@ -260,6 +310,7 @@ impl Builder {
         requires bounds { IsBoundedIfAny line.now.statement }
         requires faultless { line_fault labels.now self.old (seen_line line.now) ≡ None }
         requires room { self.old.places.place + 2 ^ 28 < 2 ^ 100 }
+        requires buildable { IsBuildable self.old }
         ensures value { OnOk result (self.new ≡ assembled_after labels.now self.old (seen_line line.now)) }
         ensures near { OnOk result (IsNear self.old.places.place self.new.places.place) }
     {
@@ -280,6 +331,6 @@ impl Builder {
         let mode = u32::from(self.mode.unwrap_or(false));
         let mut sections = self.done;
         close(&mut sections, self.current)?;
-        built(alloc, pages, entry, mode, &sections)
+        built(alloc, pages, entry, mode, &sections, &self.capabilities)
     }
 }

@@ -1,14 +1,15 @@
 //! The values of a statement: whether they are known, in range and within reach.
-ghost use Rattle.std.specs.Prelude.{◌≡◌, ℕ, ◌+◌, ◌≤◌, length, [], ◌∷◌, not, option_map, pos, ◌-ℤ◌, ◌<◌, ◌^◌, IsTrue};
+ghost use Rattle.std.specs.Prelude.{◌≡◌, ℕ, ◌+◌, ◌≤◌, length, [], ◌∷◌, map, not, is_none, option_map, pos, ◌-ℤ◌, ◌<◌, ◌^◌, IsTrue};
 ghost use Rattle.std.specs.Option.{option_map_or};
 ghost use Rattle.base.specs.FirstFault.{first_fault};
 ghost use Rattle.asm_lines.specs.Line.{seen_expression, seen_instruction, seen_setting, seen_data, seen_statement};
 ghost use Rattle.asm_lines.specs.Number.{is_in_limits, expression_of};
-ghost use Rattle.asm_lines.specs.Statement.{row, is_size, expression_or_nought};
+ghost use Rattle.asm_lines.specs.Statement.{row, is_size, is_natural, capability_parts, expression_or_nought};
 ghost use Rattle.asm_lines.specs.Text.{pieces_of, pieces_left};
 ghost use Rattle.assembler.specs.declared.fault.AsmCode.TheVariants.{A3, A5, A6};
 ghost use Rattle.assembler.specs.Values.{value_of, reach_of, is_reached, is_loadable, is_entry, asked_by_instruction, asked_by_setting};
-ghost use Rattle.assembler.specs.Values.{asked_by_data};
+ghost use Rattle.assembler.specs.Values.{asked_by_data, asked_part, part_of, known_and, is_beyond, is_unknown};
+ghost use Rattle.std.specs.List.{list_any};
 ghost use Rattle.assembler.specs.Modest.{is_modest_data, is_modest};
 ghost use Rattle.assembler.specs.Checks.{asked_fault, value_fault, passes, any_passes, is_test, named_fault};
 
@@ -17,7 +18,7 @@ use crate::labels::Labels;
 use crate::values::{Worth, value, wrapped};
 use asm_lines::{
     Data, Directive, Expression, Instruction, Setting, Statement, expression, is_in_size,
-    split_piece,
+    is_natural, operand_at, split_piece,
 };
 use image::is_good_header;
 use isa_rows::{Format, Insn};
@@ -127,7 +128,7 @@ fn is_entry(page_count: u32, value: i128) -> bool
     requires { IsTrue (is_in_limits value) }
     ensures { result ≡ is_entry page_count value }
 {
-    value >= 0 && is_good_header(page_count, wrapped(value), 0)
+    value >= 0 && is_good_header(2, page_count, wrapped(value), 0)
 }
 
 /// A6, unless a value is within reach.
@@ -195,6 +196,76 @@ fn values_fault(size: u8, labels: &Labels, here: u128, operands: &[u8]) -> Optio
     }
 }
 
+/// The expression of an operand of `.cap`, 0 where it cannot be read.
+pub(crate) fn part_of<'a>(operands: &'a [u8], index: usize) -> Expression<'a>
+    ensures { seen_expression result ≡ part_of operands.now index }
+{
+    match operand_at(operands, index) {
+        Ok(expression) => expression,
+        Err(_) => Expression {
+            name: None,
+            offset: 0,
+        },
+    }
+}
+
+/// Whether the value of an operand of `.cap` is beyond 0 to `most`.
+fn is_part_beyond(labels: &Labels, here: u128, operands: &[u8], index: usize, most: u64) -> bool
+    requires { most < 2 ^ 64 }
+    ensures { result ≡ known_and (λ v. not (is_natural most v)) (value_of labels.now here (part_of operands.now index)) }
+{
+    match value(labels, here, &part_of(operands, index)) {
+        Worth::Unknown => false,
+        Worth::Beyond => true,
+        Worth::Known(value) => !is_natural(most, value),
+    }
+}
+
+/// Whether the name of an operand of `.cap` is unknown.
+fn is_part_unknown(labels: &Labels, here: u128, operands: &[u8], index: usize) -> bool
+    ensures { result ≡ is_none (value_of labels.now here (part_of operands.now index)) }
+{
+    matches!(
+        value(labels, here, &part_of(operands, index)),
+        Worth::Unknown
+    )
+}
+
+/// Whether the value of some operand of `.cap` is out of range.
+fn are_parts_beyond(labels: &Labels, here: u128, operands: &[u8]) -> bool
+    ensures { result ≡ list_any (is_beyond labels.now here) (map (asked_part operands.now) capability_parts) }
+{
+    is_part_beyond(labels, here, operands, 0, u64::MAX)
+        || is_part_beyond(labels, here, operands, 1, u64::MAX)
+        || is_part_beyond(labels, here, operands, 2, 0xFFFF)
+        || is_part_beyond(labels, here, operands, 3, 1)
+}
+
+/// Whether the name of some operand of `.cap` is unknown.
+fn are_parts_unknown(labels: &Labels, here: u128, operands: &[u8]) -> bool
+    ensures { result ≡ list_any (is_unknown labels.now here) (map (asked_part operands.now) capability_parts) }
+{
+    is_part_unknown(labels, here, operands, 0)
+        || is_part_unknown(labels, here, operands, 1)
+        || is_part_unknown(labels, here, operands, 2)
+        || is_part_unknown(labels, here, operands, 3)
+}
+
+/// The fault of the operands of `.cap`.
+fn parts_fault(labels: &Labels, here: u128, operands: &[u8]) -> Option<AsmCode>
+    ensures { result ≡ first_fault
+        ((not (list_any (is_beyond labels.now here) (map (asked_part operands.now) capability_parts)), A3)
+        ∷ (not (list_any (is_unknown labels.now here) (map (asked_part operands.now) capability_parts)), A5) ∷ []) }
+{
+    if are_parts_beyond(labels, here, operands) {
+        Some(AsmCode::A3)
+    } else if are_parts_unknown(labels, here, operands) {
+        Some(AsmCode::A5)
+    } else {
+        None
+    }
+}
+
 /// The fault of an instruction's target, if it has one.
 fn row_fault(
     labels: &Labels,
@@ -246,6 +317,7 @@ fn data_fault(labels: &Labels, here: u128, item: &Data<'_>) -> Option<AsmCode>
 {
     match item.directive {
         Directive::Values(size) => values_fault(size, labels, here, item.text),
+        Directive::Capability => parts_fault(labels, here, item.text),
         _ => None,
     }
 }

@@ -3,7 +3,7 @@ ghost use Rattle.assembler.specs.declared.fault.AsmCode.TheVariants.{A10};
 
 use std::alloc::AllocError;
 
-/// What is wrong with a line, or A10. Within a line the first of this order is told: A8, A9, A4, A1, A2, A3, A5, A6, A7.
+/// What is wrong with a line, or A10. Within a line the first of this order is reported: A8, A9, A4, A1, A2, A3, A5, A6, A7, A11.
 #[derive(Clone, Copy, Debug, PartialEq, Eq)]
 pub enum AsmCode {
     /// An unknown mnemonic.
@@ -18,7 +18,8 @@ pub enum AsmCode {
     A5,
     /// A target out of range, or an entry that is none.
     A6,
-    /// A byte outside RAM or where another stands, a 65th section, an instruction at no multiple of 4.
+    /// A byte outside RAM or where another stands, a 65th section, an instruction at no multiple of 4, a capability at no multiple
+    /// of 16 or the 1025th.
     A7,
     /// A byte that is not ASCII.
     A8,
@@ -26,6 +27,8 @@ pub enum AsmCode {
     A9,
     /// No memory.
     A10,
+    /// A capability whose range ends above 2^64, or whose bounds are not exact.
+    A11,
 }
 
 /// The fault of a text: that of its first faulty line.

@@ -5,6 +5,7 @@ mod assembly;
 mod blocks;
 mod builder;
 mod bytes;
+mod capabilities;
 mod checks;
 mod fault;
 mod labels;

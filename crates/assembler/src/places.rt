@@ -87,6 +87,7 @@ pub(crate) fn zero_count(directive: Directive, place: u128, number: u64) -> u128
     match directive {
         Directive::Align => aligned(place, number as u32) - place,
         Directive::Zero => u128::from(number),
+        Directive::Capability => 16,
         _ => 0,
     }
 }

@@ -163,7 +163,7 @@ word_in_size word h = grind (arith, nat_tests)
 
 no_fault : (word : ℕ) → word < 2 ^ 32 → values_fault 4 (pieces_of (word_text word)) ≡ None
 no_fault word h =
-    ap (values_fault 4) (word_pieces word) ∙ ap (λ e. told_fault (value_fault 4 e) None) (word_value word h)
+    ap (values_fault 4) (word_pieces word) ∙ ap (λ e. told_fault (value_fault (is_in_size 4) e) None) (word_value word h)
     ∙ ap (λ t. told_fault (cond t None (Some A3)) None) (word_in_size word h)
 
 word_back : (word : ℕ) → word < 2 ^ 32 → line_meaning (codes ".word 0x" ++ hex_of 8 word)

@@ -22,6 +22,8 @@ use Rattle.assembler.specs.Places.{lines_of, all_places, opening_places, size_at
 use Rattle.assembler.specs.Values.{value_of, reach_of, has_value_beyond, has_unknown_name, is_out_of_reach}
 use Rattle.assembler.specs.Checks.{named_fault}
 use Rattle.assembler.specs.Bytes.{or_zero, insn_bytes, value_bytes, bytes_at, aimed}
+use Rattle.image.specs.Image.{Image}
+use Rattle.assembler.specs.Capabilities.{is_inexact}
 use Rattle.assembler.specs.Faults.{closed, filled, empty_at, opening, line_fault, assembled_after}
 use Rattle.assembler.specs.FaultLaws.{fault_by, statement_fault, line_fault-by}
 use Rattle.assembler.specs.Text.{found_or, first_faulty_line, all_assembled, image_of}
@@ -38,21 +40,32 @@ record IsPlaced (word : ℕ) (s : Statement) : Type 0 where
   image : image_of (all_assembled [] opening (sound_line s ∷ [])) ≡ image_of_word word
 
 -- the image of bytes at the beginning of RAM
+abbrev image_of_bytes : List ℕ → Image
+image_of_bytes bytes =
+    record {
+      version = 1;
+      pages = 1;
+      entry = ram_base;
+      mode = false;
+      sections = closed [] (filled (empty_at ram_base) bytes);
+      capabilities = [];
+    }
+
 row_image : (word : ℕ) (i : Insn) (target : Option Expression) → bytes_at [] ram_base (instruction (row i target)) ≡ little_bytes 4 word
     → image_of (all_assembled [] opening (sound_line (instruction (row i target)) ∷ [])) ≡ image_of_word word
 unfolding assembled_after
 row_image word i target e =
-    ap (λ bytes. record { pages = 1; entry = ram_base; mode = false; sections = closed [] (filled (empty_at ram_base) bytes) }) e
+    ap (λ bytes. image_of_bytes bytes) e
 
 values_image : (word : ℕ) (operands : List ℕ) → bytes_at [] ram_base (contents (values 4 operands)) ≡ little_bytes 4 word
     → image_of (all_assembled [] opening (sound_line (contents (values 4 operands)) ∷ [])) ≡ image_of_word word
 unfolding assembled_after
 values_image word operands e =
-    ap (λ bytes. record { pages = 1; entry = ram_base; mode = false; sections = closed [] (filled (empty_at ram_base) bytes) }) e
+    ap (λ bytes. image_of_bytes bytes) e
 
 -- an instruction without a target
 plain_fault : (i : Insn) → line_fault [] opening (sound_line (instruction (row i None))) ≡ None
-unfolding size_at fault_by statement_fault named_fault has_value_beyond has_unknown_name is_out_of_reach
+unfolding size_at is_inexact fault_by statement_fault named_fault has_value_beyond has_unknown_name is_out_of_reach
 plain_fault i = line_fault-by [] opening (sound_line (instruction (row i None))) ∙ refl
 
 plain_bytes : (word : ℕ) (i : Insn) → word ≡ insn_word i → bytes_at [] ram_base (instruction (row i None)) ≡ little_bytes 4 word
@@ -62,7 +75,7 @@ plain_bytes word i e = ap (little_bytes 4) (sym e)
 -- an instruction with one
 target_fault : (i : Insn) (imm : ℕ) → IsNear (reach_of (line_of i.row).format) (cast_signed w64 imm)
     → line_fault [] opening (sound_line (instruction (row i (Some (distance_to imm))))) ≡ None
-unfolding size_at fault_by statement_fault named_fault has_value_beyond has_unknown_name is_out_of_reach value_of
+unfolding size_at is_inexact fault_by statement_fault named_fault has_value_beyond has_unknown_name is_out_of_reach value_of
 target_fault i imm h =
     line_fault-by [] opening (sound_line (instruction (row i (Some (distance_to imm))))) ∙ rw (h.in_limits, h.reached) refl
 
@@ -108,7 +121,7 @@ module _ (word : ℕ) (below : word < 2 ^ 32) (text : List ℕ) (one : pieces_of
   in_size = grind (arith, nat_tests)
 
   word_fault : line_fault [] opening (sound_line (contents (values 4 text))) ≡ None
-  unfolding size_at fault_by statement_fault named_fault has_value_beyond has_unknown_name is_out_of_reach
+  unfolding size_at is_inexact fault_by statement_fault named_fault has_value_beyond has_unknown_name is_out_of_reach
   word_fault = line_fault-by [] opening (sound_line (contents (values 4 text))) ∙ rw (one, known, in_size) refl
 
   word_bytes : bytes_at [] ram_base (contents (values 4 text)) ≡ little_bytes 4 word

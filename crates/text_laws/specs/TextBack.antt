@@ -8,7 +8,14 @@ use Rattle.disassembler.specs.Shown.{shown_word}
 
 abbrev pub image_of_word : ℕ → Image
 image_of_word word =
-    record { pages = 1; entry = ram_base; mode = false; sections = (record { address = ram_base; bytes = little_bytes 4 word }) ∷ [] }
+    record {
+      version = 1;
+      pages = 1;
+      entry = ram_base;
+      mode = false;
+      sections = (record { address = ram_base; bytes = little_bytes 4 word }) ∷ [];
+      capabilities = [];
+    }
 
 -- The text is correct, and means the word.
 pub record IsWordAgain (mode : Bool) (word : ℕ) : Type 0 where
