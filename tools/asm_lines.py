@@ -10,6 +10,10 @@ def text(shown):
     return f"text {quoted(shown)}"
 
 
+def capability(operands):
+    return f"cap {quoted(operands)}"
+
+
 def statement(line, told, fault):
     return f"statement {quoted(line)} => {told or '-'} | {fault or '-'}"
 
@@ -68,22 +72,26 @@ A2 = [
     "lw a0, 0(a1) ,", "csrrw a0, sstatus, a1", "csrrw a0, MEPC, a1", "cspecialrw ca0, mepc, ca1", "beq a0, a1", "j", "j x+y",
     "j x*4", "j x+", "j x y", "j x+-0x4", "j x++4", "j +4", "la a0", "la a0, 1, 2", "la q, 1", "cla ca0, ", ".pages", ".pages x",
     ".pages 1, 2", ".mode 0 0", ".entry", ".entry 1, 2", ".org x", ".align", ".zero -", ".byte", ".byte 1,", ".dword , 1", ".ascii",
-    ".ascii a", ".ascii \"a", ".ascii \"a\\t\"", ".ascii \"a\\\"", ".ascii \"a\" b",
+    ".ascii a", ".ascii \"a", ".ascii \"a\\t\"", ".ascii \"a\\\"", ".ascii \"a\" b", ".cap", ".cap 0", ".cap 0, 0, 0", ".cap 0, 0, 0, 0, 0",
+    ".cap 0, 0, 0,", ".cap 0, , 0, 0", ".cap 0, 0, 0, +", ".cap (a0), 0, 0, 0",
 ]
 
 A3 = [
     "addi a0, a1, 2048", "addi a0, a1, -2049", "addi a0, a1, 18446744073709551616", "slli a0, a1, 64", "slli a0, a1, -1",
     "slliw a0, a1, 32", "lui a0, 0x100000", "lui a0, -1", "lw a0, 2048(a1)", "csetboundsimm ca0, ca1, 4096", "csrrwi a0, 0, 32",
     "csrrw a0, 4096, a1", "cspecialrw ca0, 32, ca1", "j x + 18446744073709551616", "j x - 0x10000000000000000",
-    "j -9223372036854775809", "la a0, 18446744073709551616", "cla ca0, -9223372036854775809", ".pages 0", ".pages 4097",
+    "j -9223372036854775809", "la a0, 18446744073709551616", "cla ca0, -9223372036854775809", ".pages 0", ".pages 65537",
     ".pages -1", ".mode 2", ".entry 0x10000000000000000", ".org -1", ".org 18446744073709551616", ".align 13", ".zero 268435457",
     ".byte 256", ".byte -129", ".byte 0, 255, -128, 256", ".half 65536", ".half -32769", ".word 4294967296", ".word -2147483649",
-    ".dword 18446744073709551616", ".dword -9223372036854775809",
+    ".dword 18446744073709551616", ".dword -9223372036854775809", ".cap -1, 0, 0, 0", ".cap 18446744073709551616, 0, 0, 0",
+    ".cap x + 18446744073709551616, 0, 0, 0", ".cap 0, -1, 0, 0", ".cap 0, 18446744073709551616, 0, 0", ".cap 0, 0, -1, 0",
+    ".cap 0, 0, 65536, 0", ".cap 0, 0, 0, -1", ".cap 0, 0, 0, 2", ".cap 2, 2, 2, 2",
 ]
 
 # A2 is told before A3, whichever stands first.
 BOTH = [
     "addi a0, q, 2048", "csrrw a0, 4096, q", "lw a0, 2048(q)", "la q, 18446744073709551616", ".byte 256, x x", "slli a0, a1, 64, 1",
+    ".cap -1, 0, 0, +", ".cap -, 0, 0, 2", ".cap 0, 0, 0, 2, 0", ".cap -1, 0, 0",
 ]
 
 # Expressions, and their name and number, or their fault.
@@ -115,7 +123,7 @@ STATEMENTS = [
     ("la a0, x + 1", "la 10 x 1", None),
     ("cla ca0, 5", "cla 10 - 5", None),
     (".pages 1", "pages 1", None),
-    (".pages 4096", "pages 4096", None),
+    (".pages 65536", "pages 65536", None),
     (".mode 0", "mode 0", None),
     (".mode 1", "mode 1", None),
     (".entry x", "entry x 0", None),
@@ -133,6 +141,10 @@ STATEMENTS = [
     (".ascii \"a#b\" # c", text("a#b"), None),
     (".ascii \"\\n\\0\\\\\\\"#\"#", text("\\n\\0\\\\\\\"#"), None),
     (".ascii \"a\tb\rc\"\r", text("a\tb\rc"), None),
+    (".cap 18446744073709551615, 18446744073709551615, 65535, 1", capability("18446744073709551615, 18446744073709551615, 65535, 1"), None),
+    (".cap 0,0,0,0", capability("0,0,0,0"), None),
+    (".cap x, . + 8, y - 1, z", capability("x, . + 8, y - 1, z"), None),
+    (".cap x, 0, 65536, 0", capability("x, 0, 65536, 0"), "A3"),
     (".pages 0", "pages 0", "A3"),
     (".mode 2", "mode 0", "A3"),
     (".entry 18446744073709551616", "entry - 0", "A3"),

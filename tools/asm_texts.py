@@ -78,7 +78,7 @@ FAULTS = [
     ("x:\nx: addi", 2, "A4"),
     ("x:\nx: addi a0, a0, 5000", 2, "A4"),
     ("x:\nx: j nowhere", 2, "A4"),
-    (".pages 1\n.pages 4097", 2, "A2"),
+    (".pages 1\n.pages 65537", 2, "A2"),
     ("addi a0, 5000", 1, "A2"),
     ("addi 5000, a0, 5000", 1, "A2"),
     ("addi a0, 5, 5000", 1, "A2"),
@@ -133,7 +133,7 @@ PAIRS = [
     ("beq a0, +, .+1", "A2"),
     (".entry 0x80000000\n.entry 4", "A2"),
     (".byte 1\naddi a0", "A2"),
-    ("nop\n.pages 4097", "A2"),
+    ("nop\n.pages 65537", "A2"),
     # A value out of range.
     (".byte 256, nowhere", "A3"),
     (".byte nowhere, 256", "A3"),
@@ -155,6 +155,80 @@ FAULTY = [
     ("", "j nowhere"),
     ("", "j .+1"),
     (".byte 1\n", "nop"),
+]
+
+# The faults of texts with .cap.
+CAPABILITIES = [
+    # Operands out of range, and a name that is unknown.
+    ("x: .cap x, 1, x, 0", 1, "A3"),
+    ("x: .cap x, 1, 0, x", 1, "A3"),
+    (".cap .-0x80000001, 0, 0, 0", 1, "A3"),
+    (".cap 0, .-0x80000001, 0, 0", 1, "A3"),
+    (".cap 0, 0, .-0x7fff0000, 0", 1, "A3"),
+    (".cap 0, 0, 0, .-0x7ffffffe", 1, "A3"),
+    (".cap nowhere, 0, 0, 0", 1, "A5"),
+    (".cap 0, nowhere, 0, 0", 1, "A5"),
+    (".cap 0, 0, nowhere, 0", 1, "A5"),
+    (".cap 0, 0, 0, nowhere", 1, "A5"),
+    (".cap nowhere, 0, 65536, 0", 1, "A3"),
+    ("x: .cap nowhere, 0, x, 0", 1, "A3"),
+    # At no multiple of 16, over other bytes, outside RAM.
+    (".byte 1\n.cap 0, 0, 0, 0", 2, "A7"),
+    ("nop\nnop\n.cap 0, 0, 0, 0", 3, "A7"),
+    (".org 0x80000008\n.byte 1\n.org 0x80000000\n.cap 0, 0, 0, 0", 4, "A7"),
+    (".cap 0, 0, 0, 0\n.org 0x8000000f\n.byte 1", 3, "A7"),
+    (".cap 0, 0, 0, 0\n.org 0x80000000\n.cap 0, 0, 0, 0", 3, "A7"),
+    (".org 0x80001000\n.cap 0, 0, 0, 0", 2, "A7"),
+    (".org 0x7ffffff0\n.cap 0, 0, 0, 0", 2, "A7"),
+    (".org 0xfffffffffffffff0\n.cap 0, 0, 0, 0", 2, "A7"),
+    ("j nowhere\n.cap 0, 0, 0, 0", 1, "A5"),
+    (".byte 1\n.cap nowhere, 0, 0, 0", 2, "A5"),
+    # Bounds that are not exact, or end above 2^64, behind all other faults.
+    (".cap 0x80001001, 4096, 0, 0", 1, "A11"),
+    (".cap 1, 8191, 0, 0", 1, "A11"),
+    (".cap 0xffffffffffffffff, 2, 0, 0", 1, "A11"),
+    (".cap 1, 0xffffffffffffffff, 0, 0", 1, "A11"),
+    (".cap 0xffffffffffffffff, 0xffffffffffffffff, 0, 0", 1, "A11"),
+    (".cap 0, 0xffffffffffffffff, 0, 0", 1, "A11"),
+    ("x: .cap x + 1, 4096, 0, 0", 1, "A11"),
+    ("nop\n.cap 0x80001001, 4096, 0, 0", 2, "A7"),
+    (".cap 0x80001001, 4096, 0, 2", 1, "A3"),
+    (".cap 0x80001001, 4096, 0, nowhere", 1, "A5"),
+    ("x:\nx: .cap 0x80001001, 4096, 0, 0", 2, "A4"),
+    # It begins what is placed.
+    (".cap 0, 0, 0, 0\n.mode 1", 2, "A2"),
+    # Its 16 bytes are taken under every fault but A2, A8 and A9: a jump over them does not reach.
+    ("j x\n.align 4\n.cap 0, 0, 65536, 0\n.zero 1048550\nx:", 1, "A6"),
+    ("j x\n.align 4\n.cap nowhere, 0, 0, 0\n.zero 1048550\nx:", 1, "A6"),
+    ("j x\n.cap 0, 0, 0, 0\n.zero 1048560\nx:", 1, "A6"),
+    ("j x\n.align 4\n.cap 0x80001001, 4096, 0, 0\n.zero 1048550\nx:", 1, "A6"),
+    ("y: j x\n.align 4\ny: .cap 0, 0, 0, 0\n.zero 1048550\nx:", 1, "A6"),
+    ("j x\n.align 4\n.cap 0, 0, 0\n.zero 1048550\nx:", 3, "A2"),
+    ("j x\n.align 4\n.cap 0, 0, 0, 0 # \x7f\n.zero 1048550\nx:", 3, "A8"),
+    ("j x\n.align 4\n.cap 0, 0, 0, 0" + 255 * " " + "\n.zero 1048550\nx:", 3, "A9"),
+]
+
+# 1024 capabilities.
+MOST = ".pages 5\n" + 1024 * ".cap 0,0,0,0\n"
+
+# Texts with capabilities: the sections, the symbols, the capabilities as place, base, length, permissions and flag.
+PUT = [
+    (".mode 1\n.org 0x80000100\n.cap 0x80001000, 4095, 65535, 0", [(0x8000_0100, 16)], {},
+     [(0x8000_0100, 0x8000_1000, 4095, 0xffff, 0)], {"mode": 1}),
+    ("x: .cap y, 16, 0x17, 1\ny: .zero 16\nz:", [(0x8000_0000, 32)], {"x": 0x8000_0000, "y": 0x8000_0010, "z": 0x8000_0020},
+     [(0x8000_0000, 0x8000_0010, 16, 0x17, 1)], {}),
+    (".org 0x80000020\n.cap 2, 0, 0, 0\n.cap 3, 0, 0, 0\n.org 0x80000010\n.cap 1, 0, 0, 0\n.org 0x80000ff0\n.cap 4, 0, 0, 0\n"
+     ".org 0x80000000\n.cap 0, 0, 0, 0",
+     [(0x8000_0000, 16), (0x8000_0010, 16), (0x8000_0020, 32), (0x8000_0ff0, 16)], {},
+     [(0x8000_0000 + place, base, 0, 0, 0) for place, base in ((0, 0), (16, 1), (32, 2), (48, 3), (0xff0, 4))], {}),
+    (".cap 0xffffffffffffffff, 1, 0, 0\n.cap 0xffffffffffffffff, 0, 0, 0\n.cap 0, 4095, 0, 0\n.cap 1, 4095, 0, 0\n.cap 0, 4096, 0, 0",
+     [(0x8000_0000, 80)], {},
+     [(0x8000_0000 + place, base, length, 0, 0) for place, base, length in
+      ((0, 2**64 - 1, 1), (16, 2**64 - 1, 0), (32, 0, 4095), (48, 1, 4095), (64, 0, 4096))], {}),
+    (".pages 4097", [], {}, [], {"pages": 4097}),
+    (".pages 65536\n.org 0x8fffffff\n.byte 1", [(0x8fff_ffff, 1)], {}, [], {"pages": 65536}),
+    (".pages 65536\n.entry 0x8ffffffc\n.org 0x8ffffff0\n.cap 0, 0, 0, 0", [(0x8fff_fff0, 16)], {}, [(0x8fff_fff0, 0, 0, 0, 0)],
+     {"pages": 65536, "entry": 0x8fff_fffc}),
 ]
 
 # Texts of one line that is too long, or of one that is as long as a line may be; a byte of 128 or more comes first.
@@ -196,10 +270,13 @@ def assembled(text, words):
     return f"{quoted(text)} => {' '.join(f'{word:08x}' for word in words) or 'no words'}"
 
 
-def assembly(text, sections, symbols, pages=1, entry=0x8000_0000, mode=0):
-    """A case of what a text makes."""
+def assembly(text, sections, symbols, pages=1, entry=0x8000_0000, mode=0, capabilities=None):
+    """A case of what a text makes: an image of version 1 where there are no capabilities, and else of version 2."""
     parts = [f"{pages} {entry:x} {mode}", " ".join(f"{at:x}+{count}" for at, count in sections) or "-",
              " ".join(f"{name}={value:x}" for name, value in symbols.items()) or "-"]
+    if capabilities is not None:
+        put = [f"{at:x}:{base:x}+{length:x},{perms:x},{flag}" for at, base, length, perms, flag in capabilities]
+        parts.append(" ".join(["version 2"] + put))
     return f"{quoted(text)} => {'; '.join(parts)}"
 
 
@@ -216,16 +293,23 @@ def faults():
     for text, code in LENGTHS:
         yield assembled(text, []) if code is None else fault(text, code, 1)
     yield fault(TOO_MANY, "A7", 195)
+    yield "# capabilities"
+    yield from (fault(text, code, line) for text, line, code in CAPABILITIES)
+    yield fault(MOST + ".cap 0,0,0,0", "A7", 1026)
+    yield fault(MOST + "foo", "A1", 1026)
 
 
 def assemblies():
-    yield "# a text => pages, entry, mode; each section as its place and its number of bytes; each symbol with its value"
+    yield "# a text => pages, entry, mode; each section as its place and its number of bytes; each symbol with its value; in version 2 each"
+    yield "# capability as its place, its base and length, its permissions and its flag"
     yield from (assembly(*row) for row in SECTIONS)
     yield assembly(".pages 4096\n.org 0x80ffffff\n.byte 1", [(0x80ff_ffff, 1)], {}, pages=4096)
     yield assembly(MANY, [(0x8000_0800 - 8 * number, 4) for number in reversed(range(64))], {})
     yield assembly("b:\n.pages 2\n.mode 1\n.entry a\nnop\n\ta: nop\n.c_1:\n_d: .zero 2\nend:", [(0x8000_0000, 10)],
                    {"b": 0x8000_0000, "a": 0x8000_0004, ".c_1": 0x8000_0008, "_d": 0x8000_0008, "end": 0x8000_000a},
                    pages=2, entry=0x8000_0004, mode=1)
+    for text, sections, symbols, capabilities, others in PUT:
+        yield assembly(text, sections, symbols, capabilities=capabilities, **others)
     # a label that blanks part from its colon, and two labels
     yield fault("b:\n.pages 2\n.mode 1\n.entry a\nnop\n a : nop\n\ta: nop\n.c_1: _d: nop\nend:", "A1", 6)
 
@@ -241,6 +325,13 @@ def image_file(words):
     return b"CHERIIMG" + b"".join(value.to_bytes(size, "little") for value, size in numbers + [(word, 4) for word in words])
 
 
+# A text with a capability in RAM, and its file: header, section, count of capabilities, capability.
+WITH_CAPABILITY = ".mode 1\n.org 0x80000100\n.cap 0x80001000, 4095, 65535, 0\n"
+ITS_FILE = ("4348455249494d47" "02000000" "01000000" "0000008000000000" "01000000" "01000000"
+            "0001008000000000" "1000000000000000" "00000000000000000000000000000000"
+            "01000000" "0001008000000000" "0010008000000000" "ff0f000000000000" "ffff0000" "00000000")
+
+
 def image_files():
     yield "# a text, and how many bytes of its image's file are read, with zeros behind its end => the file of what is read, or a fault"
     for text, words in [(FIRST, [0x1000_05b7, 0x0410_0513, 0x00a5_8023, 0x0010_05b7, 0x0005_b023]), (ONE, [0x22b5_055b])]:
@@ -248,6 +339,9 @@ def image_files():
         yield f"{quoted(text)} {len(file)} => {file.hex()}"
     for count, code in [(51, "L8"), (31, "L1"), (53, "L9")]:
         yield f"{quoted(ONE)} {count} => {code}"
+    yield f"{quoted(WITH_CAPABILITY)} 100 => {ITS_FILE}"
+    for count, code in [(99, "L8"), (68, "L8"), (101, "L9")]:
+        yield f"{quoted(WITH_CAPABILITY)} {count} => {code}"
 
 
 def files():

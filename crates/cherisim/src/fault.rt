@@ -66,6 +66,7 @@ fn asm_text(code: AsmCode) -> &'static str {
         AsmCode::A8 => "A8 byte not ASCII",
         AsmCode::A9 => "A9 line too long",
         AsmCode::A10 => "A10 no memory",
+        AsmCode::A11 => "A11 capability not exact",
     }
 }
 

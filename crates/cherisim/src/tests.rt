@@ -23,6 +23,7 @@ static ASM_TEXTS: &[(AsmCode, &str)] = &[
     (AsmCode::A8, "line 7: A8 byte not ASCII"),
     (AsmCode::A9, "line 7: A9 line too long"),
     (AsmCode::A10, "line 7: A10 no memory"),
+    (AsmCode::A11, "line 7: A11 capability not exact"),
 ];
 
 static IMAGE_TEXTS: &[(ImageFault, &str)] = &[

@@ -102,6 +102,23 @@ fn put_head(text: &mut String, image: &Image) -> Result<(), AllocError> {
     write!(text, "{pages} {entry:x} {mode}; ")
 }
 
+/// Puts the capabilities of an image of version 2 behind a text.
+fn put_capabilities(text: &mut String, image: &Image) -> Result<(), AllocError> {
+    if image.version() != 2 {
+        return Ok(());
+    }
+    text.push_str("; version 2")?;
+    for entry in image.capabilities() {
+        let place = entry.place;
+        let base = entry.base;
+        let length = entry.length;
+        let perms = entry.perms;
+        let flag = entry.flag;
+        write!(text, " {place:x}:{base:x}+{length:x},{perms:x},{flag}")?;
+    }
+    Ok(())
+}
+
 /// Puts what a text makes behind another, or the fault.
 fn put_made(text: &mut String, made: &Result<Assembly, AsmFault>) -> Result<(), AllocError> {
     match made {
@@ -110,12 +127,13 @@ fn put_made(text: &mut String, made: &Result<Assembly, AsmFault>) -> Result<(), 
             put_head(text, assembly.image())?;
             put_sections(text, assembly.image().sections())?;
             text.push_str("; ")?;
-            put_symbols(text, assembly)
+            put_symbols(text, assembly)?;
+            put_capabilities(text, assembly.image())
         }
     }
 }
 
-/// A text in quotes; answered by pages, entry and mode, its sections and its symbols, or by its fault's code and line.
+/// A text in quotes; answered by pages, entry and mode, its sections, its symbols and its capabilities, or by its fault's code and line.
 pub(crate) fn parts(alloc: Global, inputs: &str) -> Result<String, CaseError> {
     let (text, _) = unquoted(alloc, inputs)?;
     let mut told = String::new(alloc);

@@ -103,6 +103,10 @@ fn put_data(text: &mut String, item: Data) -> Result<(), AllocError> {
             text.push_str("text ")?;
             put_quoted(text, item.text)
         }
+        Directive::Capability => {
+            text.push_str("cap ")?;
+            put_quoted(text, item.text)
+        }
     }
 }
 

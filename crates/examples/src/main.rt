@@ -35,7 +35,7 @@ fn to_try(name: &'static str, has_input: bool, gap: u64, tick: u64) -> Example {
 }
 
 /// The examples, with bytes and ticks as their texts say.
-fn examples() -> [Example; 8] {
+fn examples() -> [Example; 9] {
     [
         to_try("hello", false, 1000, 100),
         to_try("echo", true, 20, 100),
@@ -45,6 +45,7 @@ fn examples() -> [Example; 8] {
         to_try("sealed", false, 1000, 100),
         to_try("timer", false, 1000, 10),
         to_try("compartments", false, 1000, 0),
+        to_try("granted", false, 1000, 100),
     ]
 }
 
