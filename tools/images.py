@@ -172,9 +172,126 @@ def faults():
         yield f"read {text(patched(TWO, changes)[:length])} => {fault}"
 
 
+# ---- version 2
+
+# the capability of 4095 bytes at 0x80001000 with every right, at 0x80000100
+GRANTED = (RAM + 0x100, 0x80001000, 4095, 0xFFFF, 0)
+ONE_CAPABILITY = bytes.fromhex(
+    "4348455249494d47" "02000000" "01000000" "0000008000000000" "00000000" "01000000"
+    "01000000" "0001008000000000" "0010008000000000" "ff0f000000000000" "ffff0000" "00000000")
+assert len(ONE_CAPABILITY) == 68
+MOST = 65536
+MOST_END = RAM + 4096 * MOST
+
+
+def capability(place, base, length, perms, flag):
+    """The 32 bytes of a capability."""
+    return number(place, 8) + number(base, 8) + number(length, 8) + number(perms, 4) + number(flag, 4)
+
+
+def asked_v2(what, pages, entry, mode, capabilities, sections, answer):
+    words = "".join(" " + " ".join(f"{part:x}" for part in parts) for parts in capabilities)
+    given = "".join(f" {address:x}:{text(contents)}" for address, contents in sections)
+    return f"{what} {pages:x} {entry:x} {mode:x} {len(capabilities):x}{words}{given} => {answer}"
+
+
+def shown_v2(pages, entry, mode, capabilities, sections=()):
+    """An image of version 2 as an answer has it."""
+    given = "".join(f" {address:x}:{text(contents)}" for address, contents in sections)
+    return f"v2 {pages:x} {entry:x} {mode:x}{given}" + "".join(" @" + ":".join(f"{part:x}" for part in parts) for parts in capabilities)
+
+
+def file_v2(pages, entry, mode, capabilities, sections=()):
+    front = b"CHERIIMG" + number(2, 4) + number(pages, 4) + number(entry, 8) + number(len(sections), 4) + number(mode, 4)
+    return (front + b"".join(section(*one) for one in sections) + number(len(capabilities), 4)
+            + b"".join(capability(*one) for one in capabilities))
+
+
+def both(capabilities, fault=None, pages=1, entry=RAM, mode=0, sections=()):
+    """A build and a file of the same parts: the image, or the same fault."""
+    answer = fault or shown_v2(pages, entry, mode, capabilities, sections)
+    yield asked_v2("build2", pages, entry, mode, capabilities, sections, answer)
+    yield f"read {text(file_v2(pages, entry, mode, capabilities, sections))} => {answer}"
+
+
+def granted(place=RAM + 0x100, base=0x80001000, length=4095, perms=0xFFFF, flag=0):
+    return place, base, length, perms, flag
+
+
+def second_version():
+    yield "# version 2: one capability, built, written and read; cut at every byte, and a byte too long"
+    yield asked_v2("file2", 1, RAM, 1, [GRANTED], (), ONE_CAPABILITY.hex())
+    yield f"copy {ONE_CAPABILITY.hex()} => {ONE_CAPABILITY.hex()}"
+    yield from both([GRANTED], mode=1)
+    for length in range(len(ONE_CAPABILITY)):
+        yield f"read {text(ONE_CAPABILITY[:length])} => {'L1' if length < 32 else 'L8'}"
+    yield f"read {text(ONE_CAPABILITY + bytes(1))} => L9"
+    yield f"read {text(patched(ONE_CAPABILITY, {8: 3}))} => L3"
+    yield f"read {text(patched(ONE_CAPABILITY, {8: 0}))} => L3"
+    yield "# the same bytes as version 1 have bytes after the last section"
+    yield f"read {text(patched(ONE_CAPABILITY, {8: 1}))} => L9"
+    yield "# none at all, and what sections version 1 may have"
+    yield from both([])
+    yield from both([], sections=[(RAM, b"\1\2\3\4"), (RAM + 4, b"\5")])
+    yield "# pages are 1 to 65536"
+    for pages in (4096, 4097, MOST):
+        yield from both([], pages=pages, entry=RAM + 4096 * pages - 4)
+    for pages in (0, MOST + 1, ONES32):
+        yield from both([], "L4", pages=pages)
+    yield "# a place is a granule of RAM"
+    for place, pages, fault in (
+            (RAM, 1, None), (END - 16, 1, None), (MOST_END - 16, MOST, None), (END - 8, 1, "L12"), (END, 1, "L12"), (MOST_END, MOST, "L12"),
+            (RAM - 16, 1, "L12"), (0, 1, "L12"), (RAM + 0x108, 1, "L12"), (RAM + 0x101, 1, "L12"), (ONES - 15, 1, "L12"), (ONES, 1, "L12")):
+        yield from both([granted(place)], fault, pages=pages)
+    yield "# and above the one before"
+    yield from both([granted(RAM), granted(RAM + 16), granted(END - 16)])
+    yield from both([granted(RAM + 16), granted(RAM + 16)], "L12")
+    yield from both([granted(RAM + 16), granted(RAM)], "L12")
+    yield "# it may touch sections, which end before it, cover it, or begin in it"
+    for address, contents in ((RAM + 0xF8, b"\7" * 8), (RAM + 0x100, b"\7" * 16), (RAM + 0x108, b"\7" * 16), (RAM + 0x110, b"\7")):
+        yield from both([GRANTED], sections=[(address, contents)])
+    yield "# bounds are those of a capability, and end at 2^64 at most"
+    for base, length, fault in (
+            (0, 0, None), (ONES, 0, None), (ONES, 1, None), (ONES, 2, "L13"), (ONES, ONES, "L13"), (1, ONES, "L13"), (0, ONES, "L13"),
+            (1 << 63, 1 << 63, None), (1 << 63, (1 << 63) + 1, "L13"), (0x80001001, 4095, None), (0x80001001, 4096, "L13"),
+            (0x80001000, 4096, None), (0x80001000, 4097, "L13"), (0x80001000, 4104, None), (0x80001008, 4096, None), (1, 8191, "L13"),
+            (0, 8192, None), (2**64 - 8192, 8192, None), (2**64 - 4096, 4097, "L13")):
+        yield from both([granted(base=base, length=length)], fault)
+    yield "# permissions have 16 bits, and a flag one"
+    for perms, flag, fault in (
+            (0, 0, None), (0, 1, None), (0xFFFF, 1, None), (0x8001, 0, None), (0x10000, 0, "L14"), (ONES32, 0, "L14"), (0, 2, "L14"),
+            (0, ONES32, "L14"), (0x10000, 2, "L14")):
+        yield from both([granted(perms=perms, flag=flag)], fault)
+    yield "# capabilities are at most 1024"
+    many = [granted(RAM + 16 * k, 16 * k, k, k, k % 2) for k in range(1025)]
+    yield from both(many[:1024], pages=5)
+    yield from both(many, "L15", pages=5)
+    yield f"read {text(patched(ONE_CAPABILITY, {34: 1}))} => L15"
+    yield f"read {text(patched(ONE_CAPABILITY, {32: 1, 33: 4}))} => L15"
+    yield f"read {text(patched(ONE_CAPABILITY, {32: 0, 33: 4}))} => L8"
+    yield f"read {text(patched(ONE_CAPABILITY, {32: 0}))} => L9"
+    yield f"read {text(patched(ONE_CAPABILITY, {32: 2}))} => L8"
+    yield "# the first fault of two, in a build and in a file"
+    place, range_, rights = granted(0), granted(length=ONES), granted(flag=2)
+    outside, before = (RAM - 1, b""), [(RAM + 4, b"\1"), (RAM, b"")]
+    for parts, fault, others in (
+            ([granted(0, length=ONES)], "L12", {}), ([granted(0, flag=2)], "L12", {}), ([granted(length=ONES, flag=2)], "L13", {}),
+            ([rights, place], "L14", {}), ([range_, place], "L13", {}), ([granted(flag=2), granted(0)], "L14", {}),
+            ([place, rights], "L12", {}), ([place] * 1025, "L15", {}), ([range_] * 1025, "L15", {}), ([rights] * 1025, "L15", {}),
+            ([place], "L4", {"pages": 0}), ([place] * 1025, "L4", {"pages": MOST + 1}), ([range_], "L4", {"mode": 2}),
+            ([place], "L5", {"sections": [outside] * 65}), ([place], "L6", {"sections": [outside]}), ([place], "L7", {"sections": before}),
+            ([place] * 1025, "L6", {"sections": [outside]}), ([rights] * 1025, "L7", {"sections": before})):
+        yield from both(parts, fault, **others)
+    for changes, length, fault in (
+            ({40: 0, 60: 1}, 68, "L12"), ({36: 8}, 67, "L8"), ({36: 8}, 69, "L12"), ({44: 1, 52: 0, 53: 0x10}, 69, "L13"), ({64: 2}, 69, "L14"),
+            ({34: 1}, 36, "L15"), ({34: 1}, 35, "L8"), ({64: 2, 44: 1, 52: 0, 53: 0x10}, 68, "L13"), ({64: 2, 36: 8}, 68, "L12")):
+        file = patched(ONE_CAPABILITY + bytes(1), changes)[:length]
+        yield f"read {text(file)} => {fault}"
+
+
 def lines():
     yield "# a file's bytes, or pages, entry, mode and sections => the image or, of copy and file, its bytes; or the fault"
-    for group in (headers, sections, first_faults, read_and_written, cut_short, faults):
+    for group in (headers, sections, first_faults, read_and_written, cut_short, faults, second_version):
         yield from group()
 
 
@@ -188,6 +305,14 @@ def failures():
     for call in range(len(FIRST)):
         yield f"write {call:x} {file} => 1 L10 {text(FIRST[:call])}"
     yield f"write {len(FIRST):x} {file} => 0 ok {file}"
+    yield "# and the same of a file of version 2"
+    second = text(ONE_CAPABILITY)
+    for call in range(len(ONE_CAPABILITY) + 1):
+        yield f"read {call:x} {second} => 1 L10"
+    yield f"read {len(ONE_CAPABILITY) + 1:x} {second} => 0 {shown_v2(1, RAM, 1, [GRANTED])}"
+    for call in range(len(ONE_CAPABILITY)):
+        yield f"write {call:x} {second} => 1 L10 {text(ONE_CAPABILITY[:call])}"
+    yield f"write {len(ONE_CAPABILITY):x} {second} => 0 ok {second}"
     yield "# a device of std fails where a call of it does, or where it takes no byte of some"
     yield from ("stuckread => failed 1", "stuckwrite - => 0 0", "stuckwriteall 74657874 => failed 1", "part 3 74657874 => 3 0 746578")
 

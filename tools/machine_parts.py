@@ -135,7 +135,7 @@ def planes(granules, pages):
 def memory():
     yield "# pages, of 4096 bytes; calls => what each answers"
     yield "# pages are 1 to 4096"
-    yield from ("0 => M1", "1001 => M1", "1 => 1", "1000 => 1000", "2 => 2")
+    yield from ("0 => M1", "10001 => M1", "1 => 1", "1000 => 1000", "1001 => 1001", "2 => 2")
     yield "# memory begins as zeros"
     yield memory_script(("read 8 80001ff8", "0"), ("readc 80001ff0", "00001ffffc018004 0 0"), ("tagged 0 ffffffffffffffff", "none"),
                         pages=2)

@@ -38,6 +38,10 @@ static IMAGE_TEXTS: &[(ImageFault, &str)] = &[
     (ImageFault::L9, "L9 bytes after the end"),
     (ImageFault::L10, "L10 device failed"),
     (ImageFault::L11, "L11 no memory"),
+    (ImageFault::L12, "L12 capability place"),
+    (ImageFault::L13, "L13 capability not exact"),
+    (ImageFault::L14, "L14 permissions or flag"),
+    (ImageFault::L15, "L15 too many capabilities"),
 ];
 
 static MACHINE_TEXTS: &[(MachineFault, &str)] = &[

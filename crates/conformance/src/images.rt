@@ -4,7 +4,7 @@ use crate::bytes;
 use crate::case::CaseError;
 use crate::numbers::Words;
 use crate::text::name;
-use image::{FromRead, Image, ImageFault, Section, ToWrite, read, write};
+use image::{CapEntry, FromRead, Image, ImageFault, Section, ToWrite, read, write};
 use std::alloc::Global;
 
 /// The fault's name.
@@ -21,6 +21,10 @@ pub(crate) fn fault_name(fault: ImageFault) -> &'static str {
         ImageFault::L9 => "L9",
         ImageFault::L10 => "L10",
         ImageFault::L11 => "L11",
+        ImageFault::L12 => "L12",
+        ImageFault::L13 => "L13",
+        ImageFault::L14 => "L14",
+        ImageFault::L15 => "L15",
     }
 }
 
@@ -31,14 +35,31 @@ fn put_section(alloc: Global, text: &mut String, section: &Section) -> Result<()
     Ok(write!(text, " {address:x}:{contents}")?)
 }
 
-/// The pages, entry and mode of an image, and its sections by address and bytes.
+/// Puts a capability behind a text: `@` and its place, base, length, permissions and flag.
+fn put_capability(text: &mut String, capability: CapEntry) -> Result<(), CaseError> {
+    let CapEntry {
+        place,
+        base,
+        length,
+        perms,
+        flag,
+    } = capability;
+    Ok(write!(text, " @{place:x}:{base:x}:{length:x}:{perms:x}:{flag:x}")?)
+}
+
+/// The pages, entry and mode of an image, and its sections by address and bytes; in version 2 with `v2` in front and its
+/// capabilities behind.
 pub(crate) fn image_text(alloc: Global, image: &Image) -> Result<String, CaseError> {
     let pages = image.pages();
     let entry = image.entry();
     let mode = u8::from(image.mode());
-    let mut text = format!(in alloc; "{pages:x} {entry:x} {mode}")?;
+    let version = if image.version() == 1 { "" } else { "v2 " };
+    let mut text = format!(in alloc; "{version}{pages:x} {entry:x} {mode}")?;
     for section in image.sections() {
         put_section(alloc, &mut text, section)?;
+    }
+    for capability in image.capabilities() {
+        put_capability(&mut text, *capability)?;
     }
     Ok(text)
 }
@@ -87,6 +108,33 @@ fn built(alloc: Global, mut words: Words) -> Result<Result<Image, ImageFault>, C
     Ok(Image::build(alloc, pages, entry, mode, &lent(alloc, &held)?))
 }
 
+/// The capabilities that the words are: their number, and of each place, base, length, permissions and flag.
+fn capabilities(alloc: Global, words: &mut Words) -> Result<Vec<CapEntry>, CaseError> {
+    let mut all = Vec::new(alloc);
+    for _ in 0..words.hex32() {
+        all.push(CapEntry {
+            place: words.hex(),
+            base: words.hex(),
+            length: words.hex(),
+            perms: words.hex32(),
+            flag: words.hex32(),
+        })?;
+    }
+    Ok(all)
+}
+
+/// The image of version 2 of pages, entry, mode, capabilities and sections.
+fn built_v2(alloc: Global, mut words: Words) -> Result<Result<Image, ImageFault>, CaseError> {
+    let pages = words.hex32();
+    let entry = words.hex();
+    let mode = words.hex32();
+    let entries = capabilities(alloc, &mut words)?;
+    words.check()?;
+    let held = sections(alloc, words)?;
+    let lent = lent(alloc, &held)?;
+    Ok(Image::build_v2(alloc, pages, entry, mode, &lent, &entries))
+}
+
 /// An image, or the bytes that it is written to; or the fault's name.
 fn told(
     alloc: Global,
@@ -100,8 +148,9 @@ fn told(
     }
 }
 
-/// `read FILE` or `copy FILE`, or `build` or `file` and pages, entry, mode and sections. `read` and `build` are answered by the image,
-/// `copy` and `file` by the bytes that it is written to; each by the name of a fault where there is no image.
+/// `read FILE` or `copy FILE`, or `build` or `file` and pages, entry, mode and sections, or `build2` or `file2` with the
+/// capabilities before the sections. `read` and `build` are answered by the image, `copy` and `file` by the bytes that it is
+/// written to; each by the name of a fault where there is no image.
 pub(crate) fn answer(alloc: Global, inputs: &str) -> Result<String, CaseError> {
     let mut words = Words::of(inputs);
     let asked = words.word();
@@ -114,6 +163,7 @@ pub(crate) fn answer(alloc: Global, inputs: &str) -> Result<String, CaseError> {
             told(alloc, asked == "read", &made)
         }
         "build" | "file" => told(alloc, asked == "build", &built(alloc, words)?),
+        "build2" | "file2" => told(alloc, asked == "build2", &built_v2(alloc, words)?),
         _ => Err(CaseError::Unreadable),
     }
 }

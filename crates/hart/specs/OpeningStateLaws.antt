@@ -14,10 +14,11 @@ use Rattle.devices.specs.SoundLaws.{AreSound-idle}
 use Rattle.special_regs.specs.Sound.{AreSound}
 use Rattle.special_regs.specs.SoundLaws.{AreInRange-zero}
 use Rattle.image.specs.Image.{Image, Section, IsImage, is_good_header, mode_number}
-use Rattle.image.specs.ImageLaws.{AllInRam, AllInRam-image, build_parts, entry_aligned, header_ranges, pages_some}
+use Rattle.image.specs.ImageLaws.{AllInRam, AllInRam-image, AreGoodCapabilities-image, image_parts, entry_aligned, header_ranges, pages_some}
 use Rattle.hart.specs.Registers.{null, register}
-use Rattle.hart.specs.Opening.{with_sections, opening_memory, opening_scrs, opening}
-use Rattle.hart.specs.OpeningLaws.{HoldsCapabilities-opening_memory}
+use Rattle.hart.specs.State.{HoldsCapabilities}
+use Rattle.hart.specs.Opening.{with_sections, loaded, opening_memory, opening_scrs, opening}
+use Rattle.hart.specs.OpeningLaws.{HoldsCapabilities-loaded, capabilities-put}
 use Rattle.hart.specs.IsState.{IsState}
 
 IsSound-null : IsSound null
@@ -41,14 +42,22 @@ IsMemory-with_sections (s ∷ ss) m pages memory whole inside bytes =
     (IsMemory-data_written m s.address s.bytes memory here (bytes 0 s (omega arith)))
     (length-data_written m s.address s.bytes here ∙ whole) inside.1 (λ k d below. bytes (suc k) d (omega arith))
 
+-- sections that lie in RAM leave its length
+pub length-loaded : (sections : List Section) (m : Memory) (pages : ℕ) → length m.bytes ≡ 4096 * pages → AllInRam pages sections
+    → length (with_sections sections m).bytes ≡ 4096 * pages
+length-loaded [] m pages whole inside = whole
+length-loaded (s ∷ ss) m pages whole inside =
+    let here : is_in_ram m s.address (length s.bytes) ≡ true = in_ram-from m s.address (length s.bytes) inside.0.0 (rw whole inside.0.1) in
+    length-loaded ss (data_written m s.address s.bytes) pages (length-data_written m s.address s.bytes here ∙ whole) inside.1
+
 module _ (i : Image) (valid : IsImage i) where
-  good : is_good_header i.pages i.entry (mode_number i.mode) ≡ true
-  good = (build_parts i.pages i.entry (mode_number i.mode) i.sections valid).0
+  good : is_good_header i.version i.pages i.entry (mode_number i.mode) ≡ true
+  good = (image_parts i valid).header
 
   entry-below : i.entry < 2 ^ 64
   entry-below =
-      let ranges = header_ranges i.pages i.entry (mode_number i.mode) good in
-      let few : i.pages ≤ 4096 = ranges.0 in
+      let ranges = header_ranges i.version i.pages i.entry (mode_number i.mode) good in
+      let few : i.pages ≤ 65536 = ranges.0 in
       let inside : i.entry + 4 ≤ ram_end i.pages = ranges.1 in
       omega arith
 
@@ -65,12 +74,16 @@ module _ (i : Image) (valid : IsImage i) where
         aligned = entry_aligned i valid;
       }
 
-  IsMemory-opening : HoldBytes i.sections → IsMemory (opening_memory i)
+  IsMemory-opening : HoldBytes i.sections → IsMemory (opening_memory i) × HoldsCapabilities (opening_memory i)
   IsMemory-opening bytes =
-      let ranges = header_ranges i.pages i.entry (mode_number i.mode) good in
-      let some = pages_some i.pages i.entry (mode_number i.mode) good in
-      IsMemory-with_sections i.sections (zeroed i.pages) i.pages (IsMemory-zeroed i.pages some ranges.0)
-      (length-replicate (4096 * i.pages) 0) (AllInRam-image i valid) bytes
+      let ranges = header_ranges i.version i.pages i.entry (mode_number i.mode) good in
+      let some = pages_some i.version i.pages i.entry (mode_number i.mode) good in
+      let zeros = length-replicate (4096 * i.pages) 0 in
+      let memory = IsMemory-with_sections i.sections (zeroed i.pages) i.pages (IsMemory-zeroed i.pages some ranges.0)
+      zeros (AllInRam-image i valid) bytes in
+      capabilities-put i.capabilities (loaded i) i.pages memory
+      (length-loaded i.sections (zeroed i.pages) i.pages zeros (AllInRam-image i valid)) (AreGoodCapabilities-image i valid)
+      (HoldsCapabilities-loaded i)
 
   pub IsState-opening : HoldBytes i.sections → IsState (opening i)
   IsState-opening bytes = record {
@@ -78,7 +91,7 @@ module _ (i : Image) (valid : IsImage i) where
     values = nulls 32;
     scrs = AreSound-opening;
     csrs = AreInRange-zero;
-    memory = IsMemory-opening bytes;
-    capabilities = HoldsCapabilities-opening_memory i;
+    memory = (IsMemory-opening bytes).0;
+    capabilities = (IsMemory-opening bytes).1;
     devices = AreSound-idle;
   }

@@ -6,7 +6,7 @@ use Rattle.std.proofs.lemmas.List.{take_all}
 use Rattle.byteorder.specs.Endian.{little_number}
 use Rattle.base.specs.Ram.{ram_end}
 use Rattle.image.specs.Image.{Image, Section, IsImage, mode_number}
-use Rattle.image.specs.ImageLaws.{AllInRam, AllInRam-image, build_parts, header_ranges}
+use Rattle.image.specs.ImageLaws.{AllInRam, AllInRam-image, image_parts, header_ranges}
 use Rattle.disassembler.specs.Shown.{word_line}
 use Rattle.sim_run.specs.Listing.{byte_line, byte_lines, lines_from}
 
@@ -113,6 +113,6 @@ pub ends_below : (image : Image) → IsImage image → (k : ℕ) (d : Section) �
     → (get_or image.sections k d).address + length (get_or image.sections k d).bytes < 2 ^ 64
 ends_below image valid k d below =
     let end = in_ram_at image.pages k image.sections d (AllInRam-image image valid) below in
-    let few = (header_ranges image.pages image.entry (mode_number image.mode)
-    (build_parts image.pages image.entry (mode_number image.mode) image.sections valid).0).0 in
+    let few =
+    (header_ranges image.version image.pages image.entry (mode_number image.mode) (image_parts image valid).header).0 in
     omega (arith, end, few)

@@ -38,7 +38,7 @@ bytes_of_zeros (suc n) (suc k) = bytes_of_zeros n k
 
 -- zeros and no tag lie as a memory's fields do, and are the memory that it begins as
 pub laid_out-zeroed : (pages : ℕ) (bytes planes : List ℕ) → bytes ≡ replicate (pages * 4096) 0 → planes ≡ replicate (pages * 4) 0
-    → 1 ≤ pages → pages ≤ 4096
+    → 1 ≤ pages → pages ≤ 65536
     → IsLaidOut bytes planes
 laid_out-zeroed pages bytes planes b t some most = record {
   pages = pages;

@@ -1,7 +1,7 @@
 /// Why memory is not made, or not accessed.
 #[derive(Clone, Copy, Debug, PartialEq, Eq, Hash)]
 pub enum MemoryFault {
-    /// The number of pages is not 1 to 4096.
+    /// The number of pages is not 1 to 65536.
     M1,
     /// No room is left on the machine that this runs on.
     M2,

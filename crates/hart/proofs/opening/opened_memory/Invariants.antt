@@ -1,12 +1,14 @@
 use Rattle.std.proofs.Common.{◌≡◌, ◌*◌, drop, length}
-use Rattle.image.specs.ImageLaws.{AllInRam}
-use Rattle.hart.specs.Opening.{with_sections, opening_memory}
+use Rattle.image.specs.ImageLaws.{AreGoodCapabilities}
+use Rattle.hart.specs.State.{HoldsCapabilities}
+use Rattle.hart.specs.Opening.{with_capabilities, opening_memory}
 use Rattle.hart.proofs.opening.opened_memory.Given as goal
 
--- loading the rest gives what loading all gives, and the rest lies in RAM
-abbrev pub invariant-loop-section : goal.invariant-loop-section
-invariant-loop-section l = record {
+-- putting the rest gives what putting all gives, the rest has no fault, and capabilities are held so far
+abbrev pub invariant-loop-entry : goal.invariant-loop-entry
+invariant-loop-entry g l = record {
   whole : length l.memory.bytes ≡ 4096 * l.image.pages;
-  inside : AllInRam l.image.pages (drop l.section-index l.section-items);
-  rest : with_sections (drop l.section-index l.section-items) l.memory ≡ opening_memory l.image;
+  good : AreGoodCapabilities l.image.pages (drop l.entry-index l.entry-items);
+  rest : with_capabilities (drop l.entry-index l.entry-items) l.memory ≡ opening_memory l.image;
+  holds : HoldsCapabilities l.memory;
 }

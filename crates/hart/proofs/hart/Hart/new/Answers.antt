@@ -1,8 +1,6 @@
-use Rattle.std.proofs.Common.{◌%◌, sym, ap, subst, ◌∙◌}
+use Rattle.std.proofs.Common.{◌%◌, ap, ◌∙◌}
 use Rattle.cap_bounds.specs.CapValue.{value_address}
 use Rattle.image.specs.ImageLaws.{entry_aligned}
-use Rattle.hart.specs.State.{HoldsCapabilities}
-use Rattle.hart.specs.OpeningLaws.{HoldsCapabilities-opening_memory}
 use Rattle.hart.proofs.hart.Hart.new.Goals as goal
 
 pub new-requires-2 : goal.new-requires-2
@@ -11,4 +9,4 @@ new-requires-2 g c =
     ∙ entry_aligned c.args.image.now c.entry.ensures.valid
 
 pub invariant_of-hart : goal.invariant_of-hart
-invariant_of-hart g c = subst HoldsCapabilities (sym c.in_ok-memory.ensures) (HoldsCapabilities-opening_memory c.args.image.now)
+invariant_of-hart g c = c.in_ok-memory.ensures.capabilities
