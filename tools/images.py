@@ -161,7 +161,7 @@ def faults():
         yield f"read {text(patched(FIRST, changes))} => {fault}"
     yield "# the first fault of two"
     for changes, length, fault in (
-            ({0: 0}, 31, "L1"), ({0: 0, 8: 2}, 72, "L2"), ({8: 2, 12: 0}, 72, "L3"), ({28: 2, 24: 65}, 72, "L4"),
+            ({0: 0}, 31, "L1"), ({0: 0, 8: 3}, 72, "L2"), ({8: 3, 12: 0}, 72, "L3"), ({28: 2, 24: 65}, 72, "L4"),
             ({24: 65, 35: 0x7F}, 72, "L5"),
             ({24: 65}, 40, "L5"),
             # of one section: its 16 bytes, outside RAM, behind the one before it, its bytes
@@ -283,7 +283,7 @@ def second_version():
             ([place] * 1025, "L6", {"sections": [outside]}), ([rights] * 1025, "L7", {"sections": before})):
         yield from both(parts, fault, **others)
     for changes, length, fault in (
-            ({40: 0, 60: 1}, 68, "L12"), ({36: 8}, 67, "L8"), ({36: 8}, 69, "L12"), ({44: 1, 52: 0, 53: 0x10}, 69, "L13"), ({64: 2}, 69, "L14"),
+            ({40: 1, 62: 1}, 68, "L12"), ({36: 8}, 67, "L8"), ({36: 8}, 69, "L12"), ({44: 1, 52: 0, 53: 0x10}, 69, "L13"), ({64: 2}, 69, "L14"),
             ({34: 1}, 36, "L15"), ({34: 1}, 35, "L8"), ({64: 2, 44: 1, 52: 0, 53: 0x10}, 68, "L13"), ({64: 2, 36: 8}, 68, "L12")):
         file = patched(ONE_CAPABILITY + bytes(1), changes)[:length]
         yield f"read {text(file)} => {fault}"

@@ -1,6 +1,6 @@
 """Cases over programs: what the whole machine shows behind statements of assembly. Values are the architecture's, worked out by hand."""
 
-from . import derivations, integers, invocations, jumps, loads, machines, memory, stretches, system, traps
+from . import derivations, integers, invocations, jumps, loads, machines, memory, opened, stretches, system, traps
 from .items import BOTH, ENTRY, NULL, at, bits, csr, line, together
 
 HEAD = "# mode | statements | events and queries => answers"
@@ -29,6 +29,7 @@ def lines():
             yield from (steps_line(mode, steps) for mode in BOTH)
     yield from machines.cases()
     yield from stretches.cases()
+    yield from opened.cases()
 
 
 def advances(cases):

@@ -10,7 +10,7 @@ use image::{DeviceFailed, FromRead, Image, Sink, Source, ToWrite, read, write, w
 use std::alloc::Global;
 
 /// The image of a file without a fault.
-fn image_of(alloc: Global, file: &[u8]) -> Result<Image, CaseError> {
+pub(crate) fn image_of(alloc: Global, file: &[u8]) -> Result<Image, CaseError> {
     read(alloc, &mut FromRead::new(file)).map_err(|_| CaseError::Unreadable)
 }
 

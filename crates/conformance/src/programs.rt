@@ -1,6 +1,8 @@
 //! Programs that run on the whole machine, and what is seen of it between their events and behind them.
 
+use crate::bytes;
 use crate::case::CaseError;
+use crate::failures::image_of;
 use crate::forms::Form;
 use crate::numbers::Words;
 use crate::seen::put_seen;
@@ -220,7 +222,14 @@ pub(crate) fn ran_program(
     ran_text(alloc, form, &text, deeds)
 }
 
+/// The same over the bytes of an image's file.
+fn ran_file(alloc: Global, form: Form, file: &str, deeds: &str) -> Result<String, CaseError> {
+    let file = bytes::bytes(alloc, file)?;
+    ran(alloc, form, &image_of(alloc, &file)?, deeds)
+}
+
 /// The mode, ` | `, the program's statements, ` | `, and what is done and asked in order; statements and deeds are parted by `; `.
+/// Or `file`, ` | `, the bytes of an image's file, ` | `, and deeds.
 ///
 /// A deed is an event, `step`, `tick` or `byte B`; a run, `steps N`, or the same steps as many at once as the machine does, `advance N`;
 /// or a query, whose answers follow one another in the case's answer:
@@ -231,5 +240,8 @@ pub(crate) fn ran_program(
 pub(crate) fn answer(alloc: Global, form: Form, inputs: &str) -> Result<String, CaseError> {
     let (mode, rest) = inputs.split_once(" | ").ok_or(CaseError::Unreadable)?;
     let (statements, deeds) = rest.split_once(" | ").ok_or(CaseError::Unreadable)?;
+    if mode == "file" {
+        return ran_file(alloc, form, statements, deeds);
+    }
     ran_program(alloc, form, mode, statements, deeds)
 }
