@@ -12,5 +12,6 @@ pub values_step : (size : ℕ) (rest : Option (List ℕ)) (text p : List ℕ) (l
     → told_fault (told_fault fault (value_fault (is_in_size size) (expression_of p))) (values_fault size left) ≡ whole
 values_step size rest text p left fault whole some cut e =
     let first : told_fault fault (values_fault size (pieces_between text)) ≡ whole = rw some at e in
-    let next : told_fault fault (told_fault (value_fault (is_in_size size) (expression_of p)) (values_fault size left)) ≡ whole = rw cut at first in
+    let next : told_fault fault (told_fault (value_fault (is_in_size size) (expression_of p)) (values_fault size left)) ≡ whole =
+    rw cut at first in
     sym (told_in_turn fault (value_fault (is_in_size size) (expression_of p)) (values_fault size left)) ∙ next

@@ -2,8 +2,8 @@
 ghost use Rattle.std.specs.Prelude.{◌≡◌, IsTrue, IfSome};
 ghost use Rattle.asm_lines.specs.Number.{number_of};
 ghost use Rattle.asm_lines.specs.declared.parsed.Directive.TheVariants.{Capability};
-ghost use Rattle.asm_lines.specs.Statement.{is_size, is_sized, most_of, directives, directive_in, count_said, values_said, text_said, data_said};
-ghost use Rattle.asm_lines.specs.Statement.{contents, item, said_unless, capability_fault};
+ghost use Rattle.asm_lines.specs.Statement.{is_size, is_sized, most_of, directives, directive_in, count_said, values_said, text_said};
+ghost use Rattle.asm_lines.specs.Statement.{data_said, contents, item, said_unless, capability_fault};
 ghost use Rattle.asm_lines.specs.Line.{IsBoundedIfAny};
 ghost use Rattle.asm_lines.specs.Seen.{seen_said};
 
