@@ -1,5 +1,6 @@
 -- Of lines without a fault an image can be built.
-use Rattle.std.proofs.Common.{◌≡◌, ℕ, ◌+◌, ◌-◌, ◌*◌, ◌%◌, ◌^◌, ◌<◌, ◌≤◌, ◌⊎◌, inl, inr, if◌then◌else◌, Bool, true, false, not, ◌&&◌, ◌||◌, ◌==◌, nat_lt, nat_le, ℤ, List}
+use Rattle.std.proofs.Common.{◌≡◌, ℕ, ◌+◌, ◌-◌, ◌*◌, ◌%◌, ◌^◌, ◌<◌, ◌≤◌, ◌⊎◌, inl, inr, if◌then◌else◌, Bool, true, false, not, ◌&&◌, ◌||◌}
+use Rattle.std.proofs.Common.{◌==◌, nat_lt, nat_le, ℤ, List}
 use Rattle.std.proofs.Common.{[], ◌∷◌, ◌++◌, length, length-append, zero, suc, Option, Some, None, is_some, is_none, refl, sym, ap, ◌∙◌}
 use Rattle.std.proofs.Common.{subst, arith}
 use Rattle.std.specs.Int.{bytes_low_first}
@@ -158,8 +159,8 @@ cap-placed : (s : Assembled) (n : ℕ) (operands : List ℕ)
 unfolding size_at
 cap-placed s n operands h = is-free s 16 false h (omega arith)
 
-good-statement : (symbols : Symbols) (s : Assembled) (n : ℕ) (operands : List ℕ) → IsFaultless symbols s (contents (item Capability n operands))
-    → IsGoodStatement symbols s operands
+good-statement : (symbols : Symbols) (s : Assembled) (n : ℕ) (operands : List ℕ)
+    → IsFaultless symbols s (contents (item Capability n operands)) → IsGoodStatement symbols s operands
 good-statement symbols s n operands f =
     let r = in-range symbols s n operands f in
     let room = cap-placed s n operands f.placed in
@@ -194,7 +195,8 @@ put-data symbols s Ascii n operands b f = (tt, tt)
 put-data symbols s Capability n operands b f =
     let g = good-statement symbols s n operands f in
     let few = (header_ranges 2 (page_count s) (given ram_base s.entry) 0 b.header).0 in
-    (g.known, (place-fits (page_count s) s.places.place few g.good.inside, omega (arith, g.good.perms_fit), omega (arith, g.good.flag_fits)))
+    let place = place-fits (page_count s) s.places.place few g.good.inside in
+    (g.known, (place, omega (arith, g.good.perms_fit), omega (arith, g.good.flag_fits)))
 
 pub put_there : (symbols : Symbols) (s : Assembled) (r : Read) → IsBuildable s → IsFaultless symbols s (seen_statement r)
     → IsPutThere symbols s.places.place (seen_statement r)
@@ -216,7 +218,8 @@ same-kept s bytes b =
     record {
       ascending = b.ascending;
       held =
-          held-grown s.done s.current (filled s.current bytes) s.capabilities refl (omega (arith, length-append s.current.bytes bytes)) b.held;
+          held-grown s.done s.current (filled s.current bytes) s.capabilities refl
+          (omega (arith, length-append s.current.bytes bytes)) b.held;
       few = b.few_capabilities;
     }
 

@@ -1,6 +1,6 @@
 -- Capabilities in ascending order, each held by the bytes of a section, stay so when one is put among them whose place is free.
-use Rattle.std.proofs.Common.{◌≡◌, ℕ, ◌+◌, ◌%◌, ◌^◌, ◌<◌, ◌≤◌, Bool, true, false, not, ◌&&◌, ◌||◌, ◌==◌, nat_lt, nat_le, if◌then◌else◌, List}
-use Rattle.std.proofs.Common.{[], ◌∷◌, length, Option, None, refl, sym, ap, ◌∙◌, subst, arith}
+use Rattle.std.proofs.Common.{◌≡◌, ℕ, ◌+◌, ◌%◌, ◌^◌, ◌<◌, ◌≤◌, Bool, true, false, not, ◌&&◌, ◌||◌, ◌==◌, nat_lt, nat_le, if◌then◌else◌}
+use Rattle.std.proofs.Common.{List, [], ◌∷◌, length, Option, None, refl, sym, ap, ◌∙◌, subst, arith}
 use Rattle.std.proofs.lemmas.Bool.Decides.{nat_tests}
 use Rattle.base.specs.Ram.{ram_base, ram_end}
 use Rattle.cap_bounds.specs.Rounding.{is_exact}
@@ -37,7 +37,8 @@ or-mono false b x y f e h = or-second x y (sym e ∙ h)
 abbrev is_met : ℕ → ℕ → Section → Bool
 is_met from to s = nat_lt from (s.address + length s.bytes) && nat_lt s.address to
 
-taken-inserted : (from to : ℕ) (s : Section) (ss : List Section) → is_taken from to (inserted s ss) ≡ (is_met from to s || is_taken from to ss)
+taken-inserted : (from to : ℕ) (s : Section) (ss : List Section)
+    → is_taken from to (inserted s ss) ≡ (is_met from to s || is_taken from to ss)
 taken-inserted from to s [] = refl
 taken-inserted from to s (t ∷ ts) =
     elim (nat_lt s.address t.address) as
@@ -64,7 +65,8 @@ taken-grown from to done s t e le h =
             | true ↦ λ k. or-second _ _ k
             | false ↦ λ k.
                 or-mono (is_met from to s) (is_taken from to done) (is_met from to t) (is_taken from to done)
-                (λ m. rw e (met-grown from to s.address (length s.bytes) (length t.bytes) le m)) refl (sym (taken-inserted from to s done) ∙ k)
+                (λ m. rw e (met-grown from to s.address (length s.bytes) (length t.bytes) le m)) refl
+                (sym (taken-inserted from to s done) ∙ k)
           ] h
     ] refl
 

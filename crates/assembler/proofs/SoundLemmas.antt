@@ -1,6 +1,6 @@
 -- A line without a fault: its values are known, and its instructions have words.
-use Rattle.std.proofs.Common.{option_map, ◌≡◌, ℕ, ◌-◌, ◌^◌, ◌<◌, ◌≤◌, Bool, true, false, not, ◌&&◌, ◌==◌, ◌⊎◌, inl, inr, map, if◌then◌else◌, ℤ, pos}
-use Rattle.std.proofs.Common.{negsuc, ◌-ℤ◌}
+use Rattle.std.proofs.Common.{option_map, ◌≡◌, ℕ, ◌-◌, ◌^◌, ◌<◌, ◌≤◌, Bool, true, false, not, ◌&&◌, ◌==◌, ◌⊎◌, inl, inr, map}
+use Rattle.std.proofs.Common.{if◌then◌else◌, ℤ, pos, negsuc, ◌-ℤ◌}
 use Rattle.std.proofs.Common.{List, [], ◌∷◌, Option, Some, None, is_none, is_some, refl, sym, ap, ◌∙◌, subst, arith}
 use Rattle.std.specs.Option.{option_or}
 use Rattle.std.proofs.lemmas.Bool.Decides.{nat_tests}

@@ -12,7 +12,8 @@ use Rattle.asm_lines.specs.Text.{pieces_of}
 use Rattle.asm_lines.specs.Number.{Expression, expression_of}
 use Rattle.asm_lines.specs.Operand.{wrapped}
 use Rattle.asm_lines.specs.declared.parsed.Directive.TheVariants.{Values, Ascii}
-use Rattle.asm_lines.specs.Statement.{Statement, instruction, contents, Instruction, row, load, Data, item, text_bytes, expression_or_nought}
+use Rattle.asm_lines.specs.Statement.{Statement, instruction, contents, Instruction, row, load, Data, item, text_bytes}
+use Rattle.asm_lines.specs.Statement.{expression_or_nought}
 use Rattle.assembler.specs.Places.{Symbols, zero_count}
 use Rattle.assembler.specs.Values.{value_of}
 

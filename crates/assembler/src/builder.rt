@@ -10,7 +10,8 @@ ghost use Rattle.std.specs.Option.{option_map};
 ghost use Rattle.assembler.specs.Bytes.{bytes_at};
 ghost use Rattle.assembler.specs.Blocks.{begun_at};
 ghost use Rattle.assembler.specs.Text.{image_of};
-ghost use Rattle.assembler.specs.Faults.{page_count, is_misplaced, is_instruction, lacks_place, line_fault, assembled_after, lacks_granule, lacks_place_for};
+ghost use Rattle.assembler.specs.Faults.{page_count, is_misplaced, is_instruction, lacks_place, line_fault, assembled_after};
+ghost use Rattle.assembler.specs.Faults.{lacks_granule, lacks_place_for};
 ghost use Rattle.assembler.specs.Faults.{with_setting, with_statement, opening, is_repeated, is_statement_misplaced, with_bytes};
 ghost use Rattle.assembler.specs.FaultLaws.{statement_fault, fault_by, fault_in_text};
 
