@@ -14,7 +14,8 @@ use Rattle.devices.specs.SoundLaws.{AreSound-idle}
 use Rattle.special_regs.specs.Sound.{AreSound}
 use Rattle.special_regs.specs.SoundLaws.{AreInRange-zero}
 use Rattle.image.specs.Image.{Image, Section, IsImage, is_good_header, mode_number}
-use Rattle.image.specs.ImageLaws.{AllInRam, AllInRam-image, AreGoodCapabilities-image, image_parts, entry_aligned, header_ranges, pages_some}
+use Rattle.image.specs.ImageLaws.{AllInRam, AllInRam-image, AreGoodCapabilities-image, image_parts, entry_aligned, header_ranges}
+use Rattle.image.specs.ImageLaws.{pages_some}
 use Rattle.hart.specs.Registers.{null, register}
 use Rattle.hart.specs.State.{HoldsCapabilities}
 use Rattle.hart.specs.Opening.{with_sections, loaded, opening_memory, opening_scrs, opening}

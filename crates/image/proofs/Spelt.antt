@@ -1,5 +1,6 @@
 -- Bytes that are read as an image are its spelling.
-use Rattle.std.proofs.Common.{◌≡◌, ℕ, zero, suc, ◌+◌, cond, eqb, inl, inr, List, [], ◌∷◌, ◌++◌, length, take, drop, None, Result, Ok, Err, refl, sym}
+use Rattle.std.proofs.Common.{◌≡◌, ℕ, zero, suc, ◌+◌, cond, eqb, inl, inr, List, [], ◌∷◌, ◌++◌, length, take, drop, None, Result, Ok, Err}
+use Rattle.std.proofs.Common.{refl, sym}
 use Rattle.std.proofs.Common.{ap, subst, ◌∙◌, append_assoc, arith}
 use lib.Pointwise.{bytes_decides}
 use Rattle.std.specs.List.{flat_map}
@@ -177,8 +178,7 @@ count_spelt version bytes n rest fits e =
     let r = count_ok version bytes n rest e in
     let first : bytes ≡ little_bytes 4 (number_at 0 4 bytes) ++ drop 4 bytes = front_4 0 4 bytes fits r.long refl in
     let all : take 4 (take 4 bytes) ≡ take 4 bytes = take_all 4 (take 4 bytes) (omega (arith, length-take-le 4 bytes r.long)) in
-    let same : number_at 0 4 bytes ≡ n = ap (little_number 4) (sym all) ∙ r.said in
-    (
+    let same : number_at 0 4 bytes ≡ n = ap (little_number 4) (sym all) ∙ r.said in (
       first ∙ ap (λ k. little_bytes 4 k ++ drop 4 bytes) same ∙ ap (λ (l : List ℕ). little_bytes 4 n ++ l) r.after,
       subst AreBytes r.after (AreBytes-drop 4 bytes fits),
     )

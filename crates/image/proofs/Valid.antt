@@ -183,8 +183,7 @@ checked_ok {A} size fault check bytes x rest e =
     let a = bind_ok (taken size fault bytes) (λ front. check front.0 >>= λ y. Ok (y, front.1)) (x, rest) e in
     let b = bind_ok (check a.0.0) (λ y. Ok (y, a.0.1)) (x, rest) a.2 in
     let t = taken_ok size fault bytes a.0 a.1 in
-    let p : (b.0, a.0.1) ≡ (x, rest) = ok_is (b.0, a.0.1) (x, rest) b.2 in
-    (
+    let p : (b.0, a.0.1) ≡ (x, rest) = ok_is (b.0, a.0.1) (x, rest) b.2 in (
       t.0,
       ap check t.1 ∙ b.1 ∙ ap (λ (q : A × List ℕ). Ok q.0) p,
       t.2 ∙ ap (λ (q : A × List ℕ). q.1) p,

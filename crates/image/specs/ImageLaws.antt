@@ -1,5 +1,6 @@
 -- An image's sections and capabilities lie in its RAM.
-use Rattle.std.proofs.Common.{eqb, leb, sym, ◌∙◌, arith, inl, inr, ◌≡◌, ℕ, ◌+◌, ◌%◌, ◌^◌, ◌<◌, ◌≤◌, true, List, [], ◌∷◌, ◌++◌, length, Option, None}
+use Rattle.std.proofs.Common.{eqb, leb, sym, ◌∙◌, arith, inl, inr, ◌≡◌, ℕ, ◌+◌, ◌%◌, ◌^◌, ◌<◌, ◌≤◌, true, List, [], ◌∷◌, ◌++◌, length}
+use Rattle.std.proofs.Common.{Option, None}
 use Rattle.std.proofs.Common.{Some, refl, lit≤}
 use Rattle.std.specs.Prelude.{if◌then◌else◌}
 use Rattle.std.specs.Option.{option_or}

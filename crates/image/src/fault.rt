@@ -15,7 +15,8 @@ pub enum ImageFault {
     L2,
     /// A version that is neither 1 nor 2.
     L3,
-    /// Pages not 1 to 4096 (version 2: to 65536); an entry that is no multiple of 4 or has not four bytes in RAM; a mode that is not 0 or 1.
+    /// Pages not 1 to 4096, or in version 2 to 65536; an entry that is no multiple of 4 or has not four bytes in RAM; a mode that
+    /// is not 0 or 1.
     L4,
     /// More than 64 sections.
     L5,

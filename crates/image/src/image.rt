@@ -29,12 +29,22 @@ impl Model for Image {
     ghost Value = { spec.Image };
 
     ghost view = { λ i. record {
-        version = i.version; pages = i.pages; entry = i.entry; mode = i.mode; sections = i.sections.items;
-        capabilities = i.capabilities.items } };
+      version = i.version;
+      pages = i.pages;
+      entry = i.entry;
+      mode = i.mode;
+      sections = i.sections.items;
+      capabilities = i.capabilities.items;
+    } };
 
     ghost invariant = { λ i. spec.IsImage (record {
-        version = i.version; pages = i.pages; entry = i.entry; mode = i.mode; sections = i.sections.items;
-        capabilities = i.capabilities.items }) };
+      version = i.version;
+      pages = i.pages;
+      entry = i.entry;
+      mode = i.mode;
+      sections = i.sections.items;
+      capabilities = i.capabilities.items;
+    }) };
 }
 
 /// Where this many pages of RAM end.
@@ -121,7 +131,11 @@ fn is_capability_place(pages: u32, before: u64, place: u64) -> bool
 
 /// The fault of a capability, where the one before it stands at `before`.
 #[tactic(auto, unfolding(crate::specs::Image::capability_fault))]
-pub(crate) fn fault_of_capability(pages: u32, before: u64, capability: CapEntry) -> Option<ImageFault>
+pub(crate) fn fault_of_capability(
+    pages: u32,
+    before: u64,
+    capability: CapEntry,
+) -> Option<ImageFault>
     ensures value { result ≡ capability_fault pages before capability }
     ensures fault { IfSome result IsOfBytes }
 {

@@ -105,7 +105,11 @@ fn write_entries<W: Sink>(capabilities: &[CapEntry], sink: &mut W) -> Result<(),
 
 /// What stands behind the sections: in version 1 nothing.
 #[tactic(auto, unfolding(crate::specs::Grammar::capabilities_bytes))]
-fn write_capabilities<W: Sink>(version: u32, capabilities: &[CapEntry], sink: &mut W) -> Result<(), DeviceFailed>
+fn write_capabilities<W: Sink>(
+    version: u32,
+    capabilities: &[CapEntry],
+    sink: &mut W,
+) -> Result<(), DeviceFailed>
     requires failed { W.failed sink.old < 2 ^ 64 - 1 }
     requires few { length capabilities.now ≤ 1024 }
     ensures ok { OnOk result (Appends (W.held sink.old) (W.held sink.new) (capabilities_bytes version capabilities.now)) }

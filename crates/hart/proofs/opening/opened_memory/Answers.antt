@@ -58,5 +58,6 @@ loop-entry-preserved g c =
       whole = ap (λ m. length m.bytes) made ∙ length-put c.loop-entry.memory _ x i.whole all.0;
       good = all.1;
       rest = rw made (rw e at i.rest);
-      holds = subst HoldsCapabilities (sym made) (HoldsCapabilities-put c.loop-entry.memory _ x i.whole all.0 c.store_cap.ensures.was_sound i.holds);
+      holds = subst HoldsCapabilities (sym made)
+          (HoldsCapabilities-put c.loop-entry.memory _ x i.whole all.0 c.store_cap.ensures.was_sound i.holds);
     }

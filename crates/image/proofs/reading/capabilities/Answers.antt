@@ -21,6 +21,6 @@ returns-clause-part g c =
     let v = c.args.version in
     let pages = c.args.pages in
     let first = Takes-then (λ v. v.items) (count_at v) (λ n. entries_at pages n 0) a b d c.in_ok-count.count c.entries.result
-        c.in_ok-count.ensures.part c.entries.ensures.part in
+    c.in_ok-count.ensures.part c.entries.ensures.part in
     subst (λ (part : List ℕ → Result (List CapEntry × List ℕ) ImageFault). Takes (λ v. v.items) part a d c.entries.result)
     (λ i bytes. counted v pages c.if-version-eq1.false bytes i) first

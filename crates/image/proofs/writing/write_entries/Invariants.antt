@@ -7,6 +7,7 @@ use Rattle.image.proofs.writing.write_entries.Given as goal
 -- the capabilities before this one are written, and no call has failed
 abbrev pub invariant-loop-capability : goal.invariant-loop-capability
 invariant-loop-capability g l = record {
-  written : Appends (g.W.Sink.held l.initial.sink) (g.W.Sink.held l.sink) (flat_map capability_bytes (take l.capability-index l.capabilities));
+  written : Appends (g.W.Sink.held l.initial.sink) (g.W.Sink.held l.sink)
+      (flat_map capability_bytes (take l.capability-index l.capabilities));
   count : g.W.Sink.failed l.sink ≡ g.W.Sink.failed l.initial.sink;
 }
