@@ -1,6 +1,7 @@
 pub mod Csrs
 pub mod Scrs
 pub mod Traps
+pub mod Mtvec
 pub mod CsrValues
 pub mod Numbered
 pub mod NumberedLaws
