@@ -30,7 +30,7 @@ fn opened_memory(alloc: Global, image: &Image) -> Result<Memory, AllocError>
 }
 
 impl<C: CapRep> Hart<C> {
-    /// A hart in the opening state of an image. Only memory can be wanting.
+    /// A hart in the opening state of an image. `Err` is out of memory.
     pub fn new(alloc: Global, image: &Image) -> Result<Self, AllocError>
         ensures opening { IfOk result (λ hart. hart ≡ opening image.now) }
         ensures state { IfOk result IsState }

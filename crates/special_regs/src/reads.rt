@@ -65,7 +65,7 @@ pub fn read_csr<C: CapRep>(
     Ok(held_csr(csrs, scrs, mip, number))
 }
 
-/// Returns what control and status register `number`, which is to exist, holds while devices ask for the interrupts in `mip`.
+/// Returns what control and status register `number`, which must exist, holds while devices ask for the interrupts in `mip`.
 pub fn held_csr<C: CapRep>(csrs: &Csrs, scrs: &Scrs<C>, mip: u64, number: u16) -> u64
     requires { IsTrue (is_csr number) }
     ensures { spec.csr_value csrs.now scrs.now mip number ≡ Some result }
