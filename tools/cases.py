@@ -1,5 +1,5 @@
 #!/usr/bin/env python3
-"""Makes the files of cases in crates/conformance/data anew.
+"""Makes the files of cases in crates/conformance/data anew, and examples/compartments.s, which is three texts joined.
 
     python3 tools/cases.py            writes them
     python3 tools/cases.py --check    says which differ from those that stand there, and ends with 1 if any does
@@ -34,6 +34,7 @@ SOURCES = [
     "shown_vectors",
     "sessions",
     "command_lines",
+    "compartments",
 ]
 
 # The programs that some modules need, and Debian's packages that have them.
@@ -71,6 +72,7 @@ def main():
         if standing(path) == text:
             continue
         differing += 1
+        name = os.path.basename(path)
         print(f"{name} differs" if check else f"{name} is written")
         if not check:
             with open(path, "w", encoding="utf-8", newline="") as file:

@@ -106,14 +106,18 @@ def csr_values():
 
 
 def views():
-    yield "# mtvec and mepc set an address without its low bits"
+    yield "# mtvec and mepc set an address without its low bits, but that mtvec keeps them where they are 1"
     given, other = root(0x80000800), small(0x80001002)
     for value, want in ((0x80000103, 0x80000100), (0x80000102, 0x80000100), (0x80000101, 0x80000100), (0x80000104, 0x80000104),
-                        (ONES, ONES - 3)):
-        moved = root(want)
-        for number, now in ((0x305, scrs(PCC, given, moved, other, other, given)), (0x341, scrs(PCC, given, given, other, other, moved))):
-            yield script((NUMBERED_SET, (f"write {number:x} {value:x}", "ok"), (f"read {number:x} 0", f"{want:x}"), now, NUMBERED_STILL),
+                        (ONES, ONES - 3), (1, 0), (ONES - 2, ONES - 3)):
+        for number, kept in ((0x305, want + (value % 4 == 1)), (0x341, want)):
+            moved = root(kept)
+            now = scrs(PCC, given, *((moved, other, other, given) if number == 0x305 else (given, other, other, moved)))
+            yield script((NUMBERED_SET, (f"write {number:x} {value:x}", "ok"), (f"read {number:x} 0", f"{kept:x}"), now, NUMBERED_STILL),
                          given, other)
+    yield "# of low bits that MTCC and MEPCC have, mtvec reads 1 alone"
+    for address, mtvec in ((0x80000101, 0x80000101), (0x80000102, 0x80000100)):
+        yield script((("read 305 0", f"{mtvec:x}"), ("read 341 0", "80000100"), ("look 305 0", f"{mtvec:x}")), root(address))
     yield "# they read without the low bits, and a debugger needs no access"
     given = root(0x80000103)
     for perms, answer in ((ALL, "80000100"), (NO_SYSTEM_ACCESS, "S2")):
@@ -205,6 +209,41 @@ def entered():
         yield script((TRAP, ("get 0", text(untagged(sealed)))), askew, askew)
 
 
+# mcause of the timer's interrupt and of the external one
+TIMER, EXTERNAL = 1 << 63 | 7, 1 << 63 | 11
+
+
+def entry(cause):
+    """A trap of this cause."""
+    return f"trap {cause:x} 0", "ok"
+
+
+def vectored():
+    yield "# where MTCC's low bits are 1 an interrupt goes 4 bytes a number behind the base, and an exception to it"
+    for otype in (UNSEALED, SENTRY):
+        mtcc = root(0x80000101, otype)
+        for cause, place in ((TIMER, 0x8000011C), (EXTERNAL, 0x8000012C), (7, 0x80000100), (11, 0x80000100), (28, 0x80000100)):
+            yield script((entry(cause), ("get 0", text(root(place))), ("get 28", text(mtcc)), ("read 305 0", "80000101")), mtcc)
+    yield "# with other low bits every trap goes to the base"
+    for address in (0x80000100, 0x80000102, 0x80000103):
+        for cause in (TIMER, EXTERNAL, 11):
+            yield script((entry(cause), ("get 0", text(root(0x80000100)))), root(address))
+    yield "# an entry lies modulo 2^64"
+    for cause, place in ((TIMER, 24), (EXTERNAL, 40), (11, ONES - 3)):
+        yield script((entry(cause), ("get 0", text(root(place)))), root(ONES - 2))
+    yield "# an entry out of the bounds keeps the tag inside the window, and takes it behind"
+    for cause, place, tag in ((TIMER, 0x800047FC, True), (EXTERNAL, 0x8000480C, False), (3, 0x800047E0, True)):
+        entered = small(0x80001004)[0], place, tag
+        yield script((entry(cause), ("get 0", text(entered))), small(0x800047E1))
+    yield "# another seal takes the tag with the address, and keeps it where the address is the entry's"
+    for cause, address, place in ((TIMER, 0x80000101, 0x8000011C), (11, 0x80000101, 0x80000100), (TIMER, 0x80000100, 0x80000100)):
+        sealed = root(address, OWN_TYPE)
+        entered = sealed[0], place, address == place
+        yield script((entry(cause), ("get 0", text(entered)), ("get 28", text(sealed))), sealed)
+    yield "# a return goes to no entry"
+    yield script((entry(EXTERNAL), ("leave", "ok"), ("get 0", text(PCC))), root(0x80000101))
+
+
 def targets():
     yield "# low bits are cleared inside and outside the bounds; a window begins and ends at multiples of 4"
     for address, cleared in ((0x80001007, 0x80001004), (0x80001002, 0x80001000), (0x80000803, 0x80000800), (0x800047FF, 0x800047FC),
@@ -237,7 +276,7 @@ def left():
 
 def traps():
     yield "# PCC, the value of DDC, MTCC and MEPCC and that of MTDC and MScratchC; calls => what each answers"
-    for group in (entered, targets, left):
+    for group in (entered, vectored, targets, left):
         yield from group()
 
 

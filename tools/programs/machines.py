@@ -1,8 +1,8 @@
 """Programs with what is to be seen of the whole machine: halts, traps, devices and interrupts. Values are the architecture's."""
 
 from .items import (
-    CONSOLE, DONE, END, ENTRY, NULL, SENTRY, TIMER, UNSEALED, at, came_from, capability, end, granule, halted, integer, line, same, sent,
-    together, waiting,
+    CHERI, CONSOLE, DONE, END, ENTRY, NULL, SENTRY, TIMER, UNSEALED, at, came_from, capability, end, fields, granule, halted, integer,
+    line, number, same, sealed, sent, together, waiting,
 )
 
 # Sends `A` and halts with 0.
@@ -31,6 +31,7 @@ INTERRUPTS_ON = [
     "slli t0, t0, 31", "addi t1, t0, 0x100", "csrrw zero, mtvec, t1", "addi t2, zero, -1", "csrrw zero, mie, t2",
     "csrrsi zero, mstatus, 8", "jalr zero, 0(t0)",
 ]
+VECTORED = [statement.replace("0x100", "0x101") if statement == "addi t1, t0, 0x100" else statement for statement in INTERRUPTS_ON]
 INTERRUPTS_OFF = "csrrci zero, mstatus, 8"
 
 # Counts its turns in s0. Its trap handler counts the timer's interrupts in s1, one for 7 ticks, and sends each byte that comes.
@@ -44,10 +45,10 @@ COUNT_AND_ECHO = [
 ]
 
 
-def prepared(*deeds, program=()):
+def prepared(*deeds, program=(), set_up=INTERRUPTS_ON):
     """A case of a program with both interrupts on, in integer mode: the deeds come when the set-up is done."""
-    texts = [f".entry {SET_UP:#x}", *program, f".org {HANDLER:#x}", *TAKE_BYTE, f".org {SET_UP:#x}", *INTERRUPTS_ON]
-    return line(0, texts, [f"steps {len(INTERRUPTS_ON)}", *deeds])
+    texts = [f".entry {SET_UP:#x}", *program, f".org {HANDLER:#x}", *TAKE_BYTE, f".org {SET_UP:#x}", *set_up]
+    return line(0, texts, [f"steps {len(set_up)}", *deeds])
 
 
 def numbers(**values):
@@ -223,6 +224,32 @@ def interrupts():
                    program=["wfi", seven])
 
 
+def vectored():
+    """Traps with the low bits of MTCC's address 1."""
+    yield "# in vectored mode an interrupt goes 4 bytes a number behind the base, and an exception to it"
+    for events, mcause, place, mip in [
+        (["byte 41", "tick", "tick"], CONSOLE, HANDLER + 44, 0x880),
+        (["tick", "tick"], TIMER, HANDLER + 28, 0x80),
+        ([], 11, HANDLER, 0),
+    ]:
+        yield prepared(*events, "step", *standing(mcause, place, 0x1880, mip), came_from(ENTRY), *numbers(mtvec=HANDLER + 1),
+                       capability("mtcc", 0, END, HANDLER + 1, 0xffff, False, UNSEALED), program=["ecall"], set_up=VECTORED)
+    yield "# a return goes back, and the next interrupt to its own entry"
+    yield prepared("byte 41", "tick", "tick", "step", at(HANDLER + 44), "steps 2", at(ENTRY), integer("a0", 0x41), "step",
+                   *standing(TIMER, HANDLER + 28, 0x1880, 0x80), program=[f".org {HANDLER + 44:#x}", *TAKE_BYTE], set_up=VECTORED)
+    yield "# an entry behind the window of MTCC: no tag, and the next trap goes to the base, which is out of its bounds"
+    program = [*number("t0", 0x8000_1000), "cspecialrw ca0, ddc, cnull", "csetaddr ca0, ca0, t0", *number("t0", 4095),
+               "csetbounds ca0, ca0, t0", *number("t0", 0x8000_47f1), "csetaddr ca0, ca0, t0", "cspecialrw cnull, mtcc, ca0"]
+    yield prepared(f"steps {len(program)}", "byte 41", "step", *numbers(mcause=CONSOLE), fields("pcc", 0x8000_481c, UNSEALED, False),
+                   "step", *numbers(mcause=CHERI, mtval=0x402), fields("pcc", 0x8000_47f0, UNSEALED, True),
+                   "step", *numbers(mcause=CHERI, mtval=0x401), fields("pcc", 0x8000_47f0, UNSEALED, True), program=program)
+    yield "# a sealed value that stands at the entry keeps its tag, and is refused at the fetch"
+    program = [*number("t0", HANDLER), "cspecialrw ca0, ddc, cnull", "csetaddr ca0, ca0, t0", *sealed("a0", 5),
+               "cspecialrw cnull, mtcc, ca0", "ecall"]
+    yield prepared(f"steps {len(program)}", *numbers(mcause=11), fields("pcc", HANDLER, 5, True), "step",
+                   *numbers(mcause=CHERI, mtval=0x403), fields("pcc", HANDLER, 5, True), program=program)
+
+
 def event_at(place):
     """What comes at one of many events: now and then a byte, each tenth time a tick."""
     if place % 97 == 5:
@@ -260,5 +287,5 @@ def sealed_values():
 
 
 def cases():
-    for part in (first_image, programs, faults, console, timer, interrupts, long_run, sealed_values):
+    for part in (first_image, programs, faults, console, timer, interrupts, vectored, long_run, sealed_values):
         yield from part()

@@ -169,6 +169,10 @@ MASKS = [
                 [integer("a1", 0xffff_ffff_ffff_fffc), integer("a2", 0)],
             ),
             (
+                ["addi a0, zero, -3", "csrrw zero, mtvec, a0", "csrrw a1, mtvec, zero", "csrrs a2, mtvec, zero"],
+                [integer("a1", 0xffff_ffff_ffff_fffd), integer("a2", 0)],
+            ),
+            (
                 ["addi a0, zero, -1", "csrrw zero, mepc, a0", "csrrw a1, mepc, zero", "csrrs a2, mepc, zero"],
                 [integer("a1", 0xffff_ffff_ffff_fffc), integer("a2", 0)],
             ),

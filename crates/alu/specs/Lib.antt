@@ -1,2 +1,4 @@
+-- What to read
 pub mod Integer
+-- Laws
 pub mod IntegerLaws

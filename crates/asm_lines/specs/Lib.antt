@@ -1,7 +1,9 @@
+-- What to read
 pub mod Text
-pub mod Class
 pub mod Number
 pub mod Operand
 pub mod Statement
 pub mod Line
+-- Inner words
+pub mod Class
 pub mod Seen

@@ -1,6 +1,13 @@
+-- What to read
 pub mod Places
-pub mod Labels
 pub mod Values
+pub mod Bytes
+pub mod Faults
+pub mod Text
+-- Laws
+pub mod FaultLaws
+-- Inner words
+pub mod Labels
 pub mod Worth
 pub mod Blocks
 pub mod Modest
@@ -8,9 +15,6 @@ pub mod Checks
 pub mod Bytes
 pub mod Capabilities
 pub mod Sound
-pub mod Faults
-pub mod FaultLaws
 pub mod Buildable
-pub mod Text
 pub mod Left
 pub mod Assembly

@@ -16,6 +16,7 @@ use Rattle.tagged_memory.specs.MemoryLaws.{word_at-capability_written_other, has
 use Rattle.tagged_memory.specs.MemoryLaws.{has_tag-capability_written_other}
 use Rattle.tagged_memory.specs.AccessLaws.{in_ram-place_fault, aligned-place_fault}
 use Rattle.special_regs.specs.Scrs.{Scrs}
+use Rattle.special_regs.specs.Mtvec.{mtvec_of}
 use Rattle.special_regs.specs.Traps.{is_sentry, sentry_opened, aligned, target, returned_scrs}
 use Rattle.special_regs.specs.Writes.{views_written, scr_written}
 use Rattle.cap_bounds.specs.SoundLaws.{word_of-below}
@@ -165,8 +166,8 @@ unfolding views_written
 scrs-views s number value has = record {
   pcc = grounded-pcc s;
   ddc = grounded-ddc s;
-  mtcc = replaced s (eqb number MTVEC) s.scrs.mtcc (at_address s.scrs.mtcc (value / 4 * 4))
-      (at_address-special s s.scrs.mtcc (value / 4 * 4) has (in_mtcc refl));
+  mtcc = replaced s (eqb number MTVEC) s.scrs.mtcc (at_address s.scrs.mtcc (mtvec_of value))
+      (at_address-special s s.scrs.mtcc (mtvec_of value) has (in_mtcc refl));
   mtdc = inl refl;
   mscratchc = inl refl;
   mepcc = replaced s (eqb number MEPC) s.scrs.mepcc (at_address s.scrs.mepcc (value / 4 * 4))

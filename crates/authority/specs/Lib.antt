@@ -1,16 +1,19 @@
+-- What to read
 pub mod Reachable
 pub mod Authority
-pub mod Grounded
+pub mod Worlds
+pub mod WorldLooks
+-- Laws
 pub mod GroundedLaws
 pub mod FrameLaws
-pub mod Derives
 pub mod EffectLaws
 pub mod LeftLaws
 pub mod RowLaws
 pub mod StepLaws
-pub mod Worlds
-pub mod WorldLooks
 pub mod SameBytesLaws
 pub mod SameEffectLaws
 pub mod AgreeLaws
 pub mod TwoWorldsLaws
+-- Inner words
+pub mod Grounded
+pub mod Derives

@@ -1,3 +1,4 @@
+-- What to read
 pub mod Size
 pub mod Bits
 pub mod Fault
@@ -5,5 +6,6 @@ pub mod FirstFault
 pub mod Ram
 pub mod ObjectType
 pub mod Registers
+-- Laws
 pub mod FaultLaws
 pub mod FirstFaultLaws

@@ -1,10 +1,14 @@
+-- What to read
 pub mod Least
 pub mod Mantissa
 pub mod Window
 pub mod Record
 pub mod CapValue
 pub mod SetAddress
-pub mod PlainCap
+pub mod Root
+pub mod Rounding
+pub mod SetBounds
+-- Laws
 pub mod LeastLaws
 pub mod ExponentLaws
 pub mod SetAddressLaws
@@ -18,12 +22,11 @@ pub mod WordLaws
 pub mod EncodingLaws
 pub mod RecordLaws
 pub mod FieldLaws
-pub mod Root
 pub mod RootLaws
-pub mod Rounding
-pub mod SetBounds
 pub mod RoundingLaws
 pub mod LengthExponentLaws
 pub mod SetBoundsLaws
 pub mod SoundLaws
 pub mod InsideLaws
+-- Inner words
+pub mod PlainCap

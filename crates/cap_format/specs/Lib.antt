@@ -1,3 +1,6 @@
+-- What to read
 pub mod Word
+-- Laws
 pub mod WordLaws
+-- Inner words
 pub mod Halves

@@ -1,3 +1,5 @@
+-- What to read
 pub mod CapabilityRows
+-- Laws
 pub mod RowLaws
 pub mod MadeLaws

@@ -1,3 +1,4 @@
+-- What to read
 pub mod Permission
 pub mod Perms
 pub mod ObjectType
@@ -5,10 +6,12 @@ pub mod Opened
 pub mod Derivations
 pub mod Within
 pub mod Rights
-pub mod Derived
+-- Laws
 pub mod OpenedLaws
 pub mod FieldLaws
 pub mod PermsLaws
 pub mod DerivationLaws
 pub mod RightsLaws
 pub mod DerivedLaws
+-- Inner words
+pub mod Derived

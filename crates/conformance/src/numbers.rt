@@ -5,7 +5,7 @@ ghost use Rattle.std.specs.Prelude.{◌≤◌};
 use crate::case::CaseError;
 use std::str::SplitWhitespace;
 
-/// The words of a case's inputs, from left to right. A word that is wanting or can't be read counts as 0 or as no text, and is told by
+/// The words of a case's inputs, from left to right. A word that is missing or can't be read counts as 0 or as no text, and is told by
 /// `check`.
 #[derive(Drop)]
 pub(crate) struct Words<'a> {
@@ -30,7 +30,7 @@ impl<'a> Words<'a> {
         }
     }
 
-    /// Says that a word isn't what it is to be.
+    /// Notes that a word isn't what it must be.
     pub(crate) fn refuse(&mut self) {
         self.is_good = false;
     }

@@ -8,7 +8,7 @@ use Rattle.disassembler.specs.Hex.{hex_of}
 abbrev pub digit : Bool → List ℕ
 digit b = if b then codes "1" else codes "0"
 
--- tag, address, base, top, the permissions as CGetPerm tells them, flag and type
+-- tag, address, base, top, the permissions as CGetPerm gives them, flag and type
 unfoldable pub shown_value : CapValue → List ℕ
 shown_value v =
     codes "v:" ++ digit (is_tagged v) ++ codes " a:" ++ hex_of 16 (value_address v) ++ codes " b:" ++ hex_of 16 (value_base v)

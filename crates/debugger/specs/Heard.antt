@@ -11,7 +11,7 @@ use Rattle.debugger.specs.Standing.{Standing}
 use Rattle.debugger.specs.Conversation.{fault_text, reply_to}
 use Rattle.debugger.specs.Talk.{most_heard, is_feed, fed, replies, state_after_all, goes_on, IsTold}
 
--- what is left where a refusal was not written: a beginning of its text, or nothing of one for want of memory
+-- what is left where a refusal was not written: a beginning of its text, or nothing of one for lack of memory
 abbrev pub FailsToRefuse : TalkFault → DebugFault → Option (List ℕ) → Option (List ℕ) → Type 0
 FailsToRefuse Read fault held_old held_new = ⊥
 FailsToRefuse Write fault held_old held_new = (fault ≢ B4) × AppendsBeginning held_old held_new (fault_text fault)

@@ -1,10 +1,12 @@
+-- What to read
 pub mod Capability
 pub mod Command
 pub mod Reply
 pub mod Conversation
+pub mod Answers
+pub mod Talk
+-- Inner words
 pub mod Seen
 pub mod Lines
-pub mod Answers
 pub mod Standing
-pub mod Talk
 pub mod Heard

@@ -29,7 +29,7 @@ fn put_flag(text: &mut String, name: &str, flag: bool) -> Result<(), AllocError>
     put(text, if flag { "1" } else { "0" })
 }
 
-/// Puts every field of a value behind a text: the type as 5 digits, the permissions as CGetPerm tells them.
+/// Puts every field of a value behind a text: the type as 5 digits, the permissions as CGetPerm gives them.
 #[tactic(auto, unfolding(crate::specs::Capability::shown_value))]
 fn put_value<C: CapRep>(text: &mut String, value: C) -> Result<(), AllocError>
     ensures { OnOk result (string_bytes text.new ≡ string_bytes text.old ++ shown_value (C.value value)) }

@@ -52,7 +52,7 @@ fn put<W: Sink>(sink: &mut W, text: &str) -> Result<(), TalkFault>
     }
 }
 
-/// Writes what a refusal prints. A refusal for want of memory prints nothing, and is a fault of the conversation.
+/// Writes what a refusal prints. A refusal for lack of memory prints nothing, and is a fault of the conversation.
 fn put_refusal<W: Sink>(sink: &mut W, fault: DebugFault) -> Result<(), TalkFault>
     requires { W.failed sink.old < 2 ^ 64 - 1 }
     ensures ok { OnOk result (Appends (W.held sink.old) (W.held sink.new) (fault_text fault)) }

@@ -1,5 +1,8 @@
+-- What to read
 pub mod Devices
+pub mod Sound
+-- Laws
+pub mod SoundLaws
+-- Inner words
 pub mod Held
 pub mod Map
-pub mod Sound
-pub mod SoundLaws

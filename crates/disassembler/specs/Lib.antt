@@ -1,5 +1,8 @@
+-- What to read
 pub mod Hex
 pub mod Shown
-pub mod Widths
+-- Laws
 pub mod HexLaws
 pub mod LengthLaws
+-- Inner words
+pub mod Widths

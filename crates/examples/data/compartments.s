@@ -37,6 +37,7 @@ start:  cmove   ct0, cnull
         csetboundsexact ct0, ct0, t1
         li      t1, 0x402               # Execute, Access_System_Registers
         candperm ct0, ct0, t1
+        cincoffsetimm ct0, ct0, 1       # vectored: an interrupt goes 4 bytes a number behind the page's beginning
         cspecialrw cnull, mtcc, ct0
 
 # the devices, 8 bytes each: a capability to each in a table that only MTDC leads to
@@ -135,11 +136,14 @@ make_compartment:
 
         .align  12
 
-# Trap entry, at the beginning of a page. MScratchC leads to the frame of the compartment that runs: register n goes to 16 * n
-# there, and MEPCC to 0.
-trap:   cspecialrw c31, mscratchc, c31  # register 31 and the frame change places
-        csc     c1, 16(c31)
-        csc     c2, 32(c31)
+# The entries of traps, at the beginning of a page: exceptions at 0, interrupt n at 4 * n.
+trap:   j       exception
+        .zero   24
+        j       timer                   # 7, and only the timer's is let in
+
+# save: registers 2 to 31 and MEPCC into the frame in c31. Whoever traps has put register 1 there, and register 31 into MScratchC.
+# Register n goes to 16 * n in the frame, and MEPCC to 0.
+save:   csc     c2, 32(c31)
         csc     c3, 48(c31)
         csc     c4, 64(c31)
         csc     c5, 80(c31)
@@ -168,14 +172,19 @@ trap:   cspecialrw c31, mscratchc, c31  # register 31 and the frame change place
         csc     c28, 448(c31)
         csc     c29, 464(c31)
         csc     c30, 480(c31)
-        cspecialrw c1, mscratchc, c31   # and back: c1 is what register 31 was
-        csc     c1, 496(c31)
-        cspecialrw c1, mepcc, cnull
-        csc     c1, 0(c31)
+        cspecialrw c2, mscratchc, c31   # and back: c2 is what register 31 was
+        csc     c2, 496(c31)
+        cspecialrw c2, mepcc, cnull
+        csc     c2, 0(c31)
+        cjalr   cnull, 0(cra)
 
-# Dispatch. From here on c31 is the frame of the compartment that trapped, and a0 and a7 are still its own.
+# An exception. MScratchC leads to the frame of the compartment that runs; behind `save` so does c31, and a0 and a7 are still the
+# compartment's own.
+exception:
+        cspecialrw c31, mscratchc, c31  # register 31 and the frame change places
+        csc     c1, 16(c31)
+        cjal    cra, save
         csrrs   t0, mcause, zero
-        blt     t0, zero, tick          # interrupts have bit 63 set, and only the timer's is let in
         li      t1, 11
         beq     t0, t1, system_call
         j       fault
@@ -196,8 +205,11 @@ call_send:
         cjal    cra, send
         j       resume
 
-# The timer: the next interrupt is 50 ticks away, and the other one runs.
-tick:   cjal    cra, set_clock
+# The timer's interrupt: the next one is 50 ticks away, and the other compartment runs.
+timer:  cspecialrw c31, mscratchc, c31
+        csc     c1, 16(c31)
+        cjal    cra, save
+        cjal    cra, set_clock
         j       switch
 
 # A fault: '!', letter and CHERI cause, or '?', letter and mcause. t0 is mcause.

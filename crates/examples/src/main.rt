@@ -72,7 +72,7 @@ fn file(rt: &HostRuntime, example: &Example, kind: &str) -> io::Result<Vec<u8>> 
     Ok(bytes)
 }
 
-/// What a session with a program's machine answers to commands: `None` where the program is not assembled or memory is wanting.
+/// What a session with a program's machine answers to commands: `None` where the program is not assembled or there is no memory.
 fn answered(alloc: Global, text: &[u8], commands: &[u8]) -> Option<Vec<u8>> {
     let assembly = assemble(alloc, text).ok()?;
     let machine: Machine<WordCap> = Machine::new(alloc, assembly.image()).ok()?;

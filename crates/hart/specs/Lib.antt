@@ -1,7 +1,7 @@
+-- What to read
 pub mod Registers
 pub mod State
 pub mod Effect
-pub mod Applying
 pub mod Looks
 pub mod Accesses
 pub mod MemoryRows
@@ -12,14 +12,17 @@ pub mod Outcome
 pub mod Step
 pub mod Event
 pub mod Ends
-pub mod StateLaws
 pub mod Opening
-pub mod OpeningLaws
 pub mod IsState
 pub mod IsEvent
+pub mod Steps
+-- Laws
+pub mod StateLaws
+pub mod OpeningLaws
 pub mod AppliedLaws
 pub mod PlannedLaws
 pub mod EventLaws
 pub mod OpeningStateLaws
+-- Inner words
+pub mod Applying
 pub mod PlainRun
-pub mod Steps

@@ -80,7 +80,7 @@ impl<C: CapRep> Hart<C> {
 
     fn trap(&mut self, fault: Fault)
         ensures { self.new ≡ record self.old {
-          scrs = trapped_scrs self.old.scrs;
+          scrs = trapped_scrs fault self.old.scrs;
           csrs = cycle_counted (trapped_csrs fault self.old.csrs);
         } }
     {

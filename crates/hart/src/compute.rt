@@ -1,4 +1,4 @@
-//! The rows that compute: arithmetic, and what is told of and made of capabilities.
+//! The rows that compute: arithmetic, and what is read of and made of capabilities.
 
 ghost use Rattle.std.specs.Prelude.{◌≡◌};
 ghost use Rattle.isa_rows.specs.Kind.{kind_of};

@@ -54,7 +54,7 @@ impl<C: CapRep> Hart<C> {
         self.scrs.get(n).unwrap()
     }
 
-    /// What a read of control and status register `n` gives; it is to be one that there is.
+    /// What a read of control and status register `n` gives; the register must exist.
     pub fn csr(&self, n: u16) -> u64
         requires { IsTrue (is_csr n) }
         ensures value { csr_value self.now.csrs self.now.scrs (interrupts_of self.now.devices) n ≡ Some result }

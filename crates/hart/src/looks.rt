@@ -17,7 +17,7 @@ pub(crate) fn illegal_effect<C: CapRep>(word: u32) -> Effect<C>
     Effect::Trap(Fault::of(Cause::IllegalInstruction, u64::from(word)))
 }
 
-/// The trap where a system register is refused. A refusal for want of access names a register, below 64.
+/// The trap where a system register is refused. A refusal for lack of access names a register, below 64.
 pub(crate) fn refused_effect<C: CapRep>(
     refusal: SpecialFault,
     register: u64,

@@ -57,7 +57,7 @@ fn opened_memory<C: CapRep>(alloc: Global, image: &Image) -> Result<Memory, Allo
 }
 
 impl<C: CapRep> Hart<C> {
-    /// A hart in the opening state of an image. Only memory can be wanting.
+    /// A hart in the opening state of an image. `Err` is out of memory.
     pub fn new(alloc: Global, image: &Image) -> Result<Self, AllocError>
         ensures opening { IfOk result (λ hart. hart ≡ opening image.now) }
         ensures state { IfOk result IsState }

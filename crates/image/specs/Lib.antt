@@ -1,6 +1,9 @@
-pub mod Devices
+-- What to read
 pub mod Image
-pub mod ImageLaws
 pub mod Grammar
 pub mod Reads
+-- Laws
+pub mod ImageLaws
 pub mod BeginningLaws
+-- Inner words
+pub mod Devices

@@ -1,2 +1,3 @@
+-- Inner words
 pub mod Decision
 pub mod Inverse

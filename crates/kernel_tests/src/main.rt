@@ -69,7 +69,7 @@ fn further() -> [Meeting; 23] {
     ]
 }
 
-/// What a run of 100000 steps at most sends, and its status: `None` where the text is not assembled or memory is wanting.
+/// What a run of 100000 steps at most sends, and its status: `None` where the text is not assembled or there is no memory.
 /// A macro, since the size of a machine is known for each form of capability alone.
 macro_rules! run_on {
     ($capability:ty, $alloc:expr, $text:expr, $tick:expr) => {{

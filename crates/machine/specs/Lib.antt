@@ -1,3 +1,4 @@
+-- What to read
 pub mod Run
 pub mod Steps
 pub mod Stretch

@@ -133,7 +133,7 @@ impl<C: CapRep> Machine<C> {
         self.hart.scr(n)
     }
 
-    /// What a read of control and status register `n` gives; it is to be one that there is.
+    /// What a read of control and status register `n` gives; the register must exist.
     pub fn csr(&self, n: u16) -> u64
         requires { IsTrue (is_csr n) }
         ensures value { csr_value self.now.csrs self.now.scrs (interrupts_of self.now.devices) n ≡ Some result }

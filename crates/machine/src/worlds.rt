@@ -28,7 +28,7 @@ pub fn events_make_one_stretch()
         → (i ≡ j) × (v ≡ w) }
 {}
 
-/// Makes room for so many bytes more in both lists, whose bytes stay. M5 is for want of it.
+/// Makes room for so many bytes more in both lists, whose bytes stay. M5 is out of memory.
 fn make_room(one: &mut Vec<u8>, two: &mut Vec<u8>, count: usize) -> Result<(), MachineFault>
     ensures one_items { one.new.items ≡ one.old.items }
     ensures two_items { two.new.items ≡ two.old.items }

@@ -87,7 +87,7 @@ fn sum_to(last: u32) -> u64
     last * (last + 1) / 2
 }
 
-/// A machine of one page that begins with these words: `None` is for want of memory, or for words that are no image.
+/// A machine of one page that begins with these words: `None` where there is no memory, or the words are no image.
 fn machine_of(alloc: Global, words: &[u32]) -> Option<Machine<WordCap>> {
     let mut bytes = Vec::new(alloc);
     for word in words {

@@ -8,7 +8,7 @@ use Rattle.sim_run.specs.declared.plans.Plan.TheVariants.{Asm, Run, Dis, Debug, 
 use Rattle.sim_run.specs.declared.schedule.Schedule.{Schedule}
 use Rattle.sim_run.specs.Schedule.{IsInRange}
 
--- a word that has to stand at its place, and an option --ID VALUE
+-- an argument that must be there, and an option --ID VALUE
 abbrev pub operand : Text → Rule
 operand id = record (new_rule id) { required = true }
 

@@ -1,3 +1,4 @@
+-- What to read
 pub mod CommandLine
 pub mod Schedule
 pub mod Verdict

@@ -24,7 +24,7 @@ Without a command the program runs a first image of five instructions, which pri
 The status is 0 where all went well, for `run` where the machine halted with 0; 1 where `run` ended
 otherwise; 2 for a command line that is no command; 3 for any other fault.";
 
-/// A word that has to stand at its place.
+/// An argument that must be there.
 fn operand<'a>(alloc: Global, id: &'a str, help: &'a str) -> Arg<'a>
     ensures rule { rule_of result ≡ operand id.entry.now }
     ensures local { result.global ≡ false }

@@ -8,6 +8,7 @@ use Rattle.base.specs.Bits.{bit}
 use Rattle.cap_bounds.specs.CapValue.{value_address}
 use Rattle.special_regs.specs.declared.csrs.Csrs.{Csrs}
 use Rattle.special_regs.specs.Scrs.{Scrs}
+use Rattle.special_regs.specs.Mtvec.{mtvec_of}
 use Rattle.special_regs.specs.Writes.{mie_bit, mpie_bit}
 
 -- mstatus: MIE and MPIE at their bits, and bits 12..11 read 3, machine mode
@@ -20,7 +21,7 @@ csr_values c s mip =
     (MSTATUS, mstatus c)
     ∷ (MISA, 0x8000_0000_0000_1100)
     ∷ (MIE, c.mie)
-    ∷ (MTVEC, value_address s.mtcc / 4 * 4)
+    ∷ (MTVEC, mtvec_of (value_address s.mtcc))
     ∷ (MSCRATCH, c.mscratch)
     ∷ (MEPC, value_address s.mepcc / 4 * 4)
     ∷ (MCAUSE, c.mcause)

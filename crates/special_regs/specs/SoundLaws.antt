@@ -22,7 +22,9 @@ use Rattle.special_regs.specs.CsrValues.{mstatus, csr_values, csr_value}
 use Rattle.special_regs.specs.Interrupts.{cause_of}
 use Rattle.special_regs.specs.Numbered.{value_at}
 use Rattle.special_regs.specs.Scrs.{Scrs, IsAligned, scr_values, scr_value}
+use Rattle.special_regs.specs.Mtvec.{is_vectored, mtvec_of}
 use Rattle.special_regs.specs.Traps.{is_sentry, sentry_opened, aligned, target, trapped_scrs, trapped_csrs, returned_scrs, returned_csrs}
+use Rattle.special_regs.specs.Traps.{vector_of, entry_address, placed_at}
 use Rattle.special_regs.specs.Writes.{interrupt_bits, csrs_written, views_written, scr_written}
 use Rattle.special_regs.specs.Sound.{AreSound, AreInRange}
 
@@ -50,6 +52,10 @@ mstatus-below c = omega (arith, bit-small c.mstatus_mpie, bit-small c.mstatus_mi
 view-below : (v : CapValue) → IsSound v → value_address v / 4 * 4 < 2 ^ 64
 view-below v sound = let fits = value_address-below v sound in omega arith
 
+mtvec_of-below : (n : ℕ) → n < 2 ^ 64 → mtvec_of n < 2 ^ 64
+unfolding mtvec_of
+mtvec_of-below n fits = cond_both (is_vectored n) n (n / 4 * 4) (λ m. m < 2 ^ 64) (λ _. fits) (λ _. omega arith)
+
 pub csr_value-below : (c : Csrs) (s : Scrs) (mip n : ℕ) → AreInRange c → AreSound s → mip < 2 ^ 64
     → IfSome (csr_value c s mip n) (λ v. v < 2 ^ 64)
 unfolding csr_value
@@ -62,7 +68,7 @@ csr_value-below c s mip n range sound fits =
         (
           range.mie,
           (
-            view-below s.mtcc sound.mtcc,
+            mtvec_of-below _ (value_address-below s.mtcc sound.mtcc),
             (
               range.mscratch,
               (
@@ -121,15 +127,41 @@ AreSound-pcc s v sound value multiple = record {
   aligned = multiple;
 }
 
-pub AreSound-trapped : (s : Scrs) → AreSound s → AreSound (trapped_scrs s)
-AreSound-trapped s sound = record {
-  pcc = IsSound-aligned _ (IsSound-sentry_opened s.mtcc sound.mtcc);
+-- a trap begins at an address of 64 bits that is a multiple of 4
+pub entry_address-below : (f : Fault) (mtvec : ℕ) → entry_address f mtvec < 2 ^ 64
+unfolding entry_address
+entry_address-below f mtvec = mod_below (mtvec / 4 * 4 + cond (is_vectored mtvec) (4 * vector_of f) 0) (2 ^ 64) (pow_pos 64)
+
+entry-aligned : (b : Bool) (base k : ℕ) → (base * 4 + cond b (4 * k) 0) % 2 ^ 64 % 4 ≡ 0
+entry-aligned true base k = omega arith
+entry-aligned false base k = omega arith
+
+pub entry_address-aligned : (f : Fault) (mtvec : ℕ) → entry_address f mtvec % 4 ≡ 0
+unfolding entry_address
+entry_address-aligned f mtvec = entry-aligned (is_vectored mtvec) (mtvec / 4) (vector_of f)
+
+IsSound-placed_at : (a : ℕ) (v : CapValue) → a < 2 ^ 64 → IsSound v → IsSound (placed_at a v)
+unfolding placed_at
+IsSound-placed_at a v fits sound =
+    cond_both (eqb (value_address v) a) v (at_address v a) IsSound (λ _. sound) (λ _. IsSound-at_address v a sound fits)
+
+-- a value that is placed at a multiple of 4 is there
+pub IsAligned-placed_at : (a : ℕ) (v : CapValue) → a < 2 ^ 64 → a % 4 ≡ 0 → IsAligned (placed_at a v)
+unfolding placed_at
+IsAligned-placed_at a v fits multiple =
+    cond_both (eqb (value_address v) a) v (at_address v a) IsAligned (λ e. rw (eqb-true _ _ e) multiple)
+    (λ _. IsAligned-at_address v a fits multiple)
+
+pub AreSound-trapped : (f : Fault) (s : Scrs) → AreSound s → AreSound (trapped_scrs f s)
+AreSound-trapped f s sound = record {
+  pcc = IsSound-placed_at _ _ (entry_address-below f (value_address s.mtcc)) (IsSound-sentry_opened s.mtcc sound.mtcc);
   ddc = sound.ddc;
   mtcc = sound.mtcc;
   mtdc = sound.mtdc;
   mscratchc = sound.mscratchc;
   mepcc = sound.pcc;
-  aligned = IsAligned-aligned _ (IsSound-sentry_opened s.mtcc sound.mtcc);
+  aligned =
+      IsAligned-placed_at _ _ (entry_address-below f (value_address s.mtcc)) (entry_address-aligned f (value_address s.mtcc));
 }
 
 pub AreSound-returned : (s : Scrs) → AreSound s → AreSound (returned_scrs s)
@@ -157,10 +189,11 @@ pub AreSound-views_written : (n value : ℕ) (s : Scrs) → value < 2 ^ 64 → A
 unfolding views_written
 AreSound-views_written n value s fits sound =
     let low : value / 4 * 4 < 2 ^ 64 = omega arith in
+    let mtvec = mtvec_of-below value fits in
     record {
       pcc = sound.pcc;
       ddc = sound.ddc;
-      mtcc = written_if (eqb n MTVEC) (at_address s.mtcc (value / 4 * 4)) s.mtcc (IsSound-at_address s.mtcc _ sound.mtcc low) sound.mtcc;
+      mtcc = written_if (eqb n MTVEC) (at_address s.mtcc (mtvec_of value)) s.mtcc (IsSound-at_address s.mtcc _ sound.mtcc mtvec) sound.mtcc;
       mtdc = sound.mtdc;
       mscratchc = sound.mscratchc;
       mepcc = written_if (eqb n MEPC) (at_address s.mepcc (value / 4 * 4)) s.mepcc (IsSound-at_address s.mepcc _ sound.mepcc low)

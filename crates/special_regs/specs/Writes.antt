@@ -8,6 +8,7 @@ use Rattle.base.specs.declared.registers.scr.TheConstants.{DDC, MTCC, MTDC, MSCR
 use Rattle.base.specs.declared.interrupt.TheConstants.{TIMER, EXTERNAL}
 use Rattle.special_regs.specs.declared.csrs.Csrs.{Csrs}
 use Rattle.special_regs.specs.Scrs.{Scrs}
+use Rattle.special_regs.specs.Mtvec.{mtvec_of}
 
 -- bit k of a number is 1
 abbrev pub has_bit : ℕ → ℕ → Bool
@@ -37,10 +38,11 @@ csrs_written n value c = record c {
   minstret = if n == MINSTRET then value else c.minstret;
 }
 
--- A write of mtvec sets MTCC's address, and one of mepc MEPCC's, to the number with its low two bits cleared.
+-- A write of mtvec sets MTCC's address to what it keeps of the number, and one of mepc MEPCC's to the number with its low two bits
+-- cleared.
 unfoldable pub views_written : ℕ → ℕ → Scrs → Scrs
 views_written n value s = record s {
-  mtcc = if n == MTVEC then at_address s.mtcc (value / 4 * 4) else s.mtcc;
+  mtcc = if n == MTVEC then at_address s.mtcc (mtvec_of value) else s.mtcc;
   mepcc = if n == MEPC then at_address s.mepcc (value / 4 * 4) else s.mepcc;
 }
 

@@ -5,6 +5,7 @@ ghost use Rattle.special_regs.specs.Refusals.{csr_fault};
 
 use crate::access::check_csr;
 use crate::csrs::Csrs;
+use crate::mtvec::mtvec_of;
 use crate::refusal::SpecialFault;
 use crate::scrs::Scrs;
 use crate::writes::{MIE_BIT, MPIE_BIT};
@@ -35,7 +36,7 @@ pub fn csr_value<C: CapRep>(csrs: &Csrs, scrs: &Scrs<C>, mip: u64, number: u16) 
         csr::MSTATUS => Some(mstatus(csrs)),
         csr::MISA => Some(INSTRUCTION_SET),
         csr::MIE => Some(csrs.mie),
-        csr::MTVEC => Some(scrs.mtcc().address() / 4 * 4),
+        csr::MTVEC => Some(mtvec_of(scrs.mtcc().address())),
         csr::MSCRATCH => Some(csrs.mscratch),
         csr::MEPC => Some(scrs.mepcc().address() / 4 * 4),
         csr::MCAUSE => Some(csrs.mcause),
@@ -64,7 +65,7 @@ pub fn read_csr<C: CapRep>(
     Ok(held_csr(csrs, scrs, mip, number))
 }
 
-/// Returns what control and status register `number`, which is to exist, holds while devices ask for the interrupts in `mip`.
+/// Returns what control and status register `number`, which must exist, holds while devices ask for the interrupts in `mip`.
 pub fn held_csr<C: CapRep>(csrs: &Csrs, scrs: &Scrs<C>, mip: u64, number: u16) -> u64
     requires { IsTrue (is_csr number) }
     ensures { spec.csr_value csrs.now scrs.now mip number ≡ Some result }

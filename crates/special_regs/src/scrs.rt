@@ -36,7 +36,7 @@ impl<C: CapRep> Model for Scrs<C> {
 }
 
 impl<C: CapRep> Scrs<C> {
-    /// Creates the registers as they begin: root in DDC, MTCC and MEPCC, null in MTDC and MScratchC. The address of `pcc` is to be
+    /// Creates the registers as they begin: root in DDC, MTCC and MEPCC, null in MTDC and MScratchC. The address of `pcc` must be
     /// a multiple of 4.
     pub fn new(pcc: C, root: C, null: C) -> Self
         requires { IsAligned (C.value pcc) }

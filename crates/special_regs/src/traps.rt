@@ -5,7 +5,9 @@ ghost use Rattle.special_regs.specs.Traps.{sentry_opened, aligned, trapped_scrs,
 ghost use Rattle.special_regs.specs.Traps as spec;
 
 use crate::access::has_system_access;
+use crate::bits::has_bit;
 use crate::csrs::Csrs;
+use crate::mtvec::is_vectored;
 use crate::refusal::SpecialFault;
 use crate::scrs::Scrs;
 use base::{Fault, otype, scr};
@@ -28,8 +30,8 @@ fn unseal_sentry<C: CapRep>(c: C) -> C
     if is_sentry(c) { opened(c) } else { c }
 }
 
-/// Returns where a trap goes to from MTCC, or a return from MEPCC: a tagged sentry is unsealed, and low address bits that are not 0
-/// are cleared, which may cost another value its tag.
+/// Returns where a return goes to from MEPCC: a tagged sentry is unsealed, and low address bits that are not 0 are cleared, which may
+/// cost another value its tag.
 #[tactic(auto, unfolding(crate::specs::Traps::aligned))]
 pub fn target<C: CapRep>(c: C) -> C
     ensures value { C.value result ≡ spec.target (C.value c) }
@@ -44,15 +46,61 @@ pub fn target<C: CapRep>(c: C) -> C
     }
 }
 
-/// Enters a trap: MEPCC becomes PCC, PCC becomes MTCC's target, the fault is kept in mcause and mtval, and interrupts are off.
+/// Returns the number of an interrupt, which its cause holds below bit 63; 0 for an exception.
+fn vector_of(fault: Fault) -> u64
+    ensures { result ≡ spec.vector_of fault }
+{
+    if has_bit(fault.mcause, 63) {
+        fault.mcause % (1 << 63)
+    } else {
+        0
+    }
+}
+
+/// Returns the address at which a trap begins: mtvec's base, and for a vectored interrupt four bytes a number behind it.
+#[tactic(auto, unfolding(crate::specs::Traps::entry_address))]
+fn entry_address(fault: Fault, mtvec: u64) -> u64
+    ensures { result ≡ spec.entry_address fault mtvec }
+{
+    let base = mtvec / 4 * 4;
+    if is_vectored(mtvec) {
+        base.wrapping_add(vector_of(fault).wrapping_mul(4))
+    } else {
+        base
+    }
+}
+
+/// Returns a value at an address. One that is there already stays as it is, so that it keeps a seal with its tag.
+#[tactic(auto, unfolding(crate::specs::Traps::placed_at))]
+fn place_at<C: CapRep>(address: u64, c: C) -> C
+    ensures { C.value result ≡ spec.placed_at address (C.value c) }
+{
+    if c.address() == address {
+        c
+    } else {
+        c.set_address(address)
+    }
+}
+
+/// Returns where a trap goes to from MTCC: a tagged sentry is unsealed, and the address is set to the trap's where it differs, which
+/// may cost another value its tag.
+fn trap_target<C: CapRep>(fault: Fault, mtcc: C) -> C
+    ensures value { C.value result ≡ spec.trap_target fault (C.value mtcc) }
+    ensures aligned { IsAligned (C.value result) }
+{
+    place_at(entry_address(fault, mtcc.address()), unseal_sentry(mtcc))
+}
+
+/// Enters a trap: MEPCC becomes PCC, PCC becomes MTCC at the trap's entry, the fault is kept in mcause and mtval, and interrupts are
+/// off.
 #[tactic(auto, unfolding(crate::specs::Writes::scr_written))]
 pub fn enter_trap<C: CapRep>(scrs: &mut Scrs<C>, csrs: &mut Csrs, fault: Fault)
-    ensures scrs { scrs.new ≡ trapped_scrs scrs.old }
+    ensures scrs { scrs.new ≡ trapped_scrs fault scrs.old }
     ensures csrs { csrs.new ≡ trapped_csrs fault csrs.old }
 {
     let pcc = scrs.pcc();
     scrs.set(scr::MEPCC, pcc);
-    scrs.set_pcc(target(scrs.mtcc()));
+    scrs.set_pcc(trap_target(fault, scrs.mtcc()));
     csrs.mcause = fault.mcause;
     csrs.mtval = fault.mtval;
     csrs.mstatus_mpie = csrs.mstatus_mie;

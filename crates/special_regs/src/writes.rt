@@ -6,6 +6,7 @@ ghost use Rattle.special_regs.specs.Writes.{csrs_written, views_written, scr_wri
 use crate::access::{check_csr, check_scr};
 use crate::bits::has_bit;
 use crate::csrs::Csrs;
+use crate::mtvec::mtvec_of;
 use crate::refusal::SpecialFault;
 use crate::scrs::Scrs;
 use base::{csr, interrupt, scr};
@@ -23,8 +24,8 @@ const INTERRUPT_BITS: u64 = 1 << interrupt::TIMER | 1 << interrupt::EXTERNAL;
 /// Writes control and status register `number`. S1 where there is no such register or it is only read, then S2 without access; a
 /// refused write changes nothing.
 ///
-/// Of mstatus MIE and MPIE are kept, of mie two bits. mtvec and mepc set the address of MTCC and MEPCC to a multiple of 4. misa and
-/// mip stay as they are.
+/// Of mstatus MIE and MPIE are kept, of mie two bits. mepc sets the address of MEPCC to a multiple of 4, mtvec that of MTCC to one or,
+/// where the low two bits are 1, to one more. misa and mip stay as they are.
 pub fn write_csr<C: CapRep>(
     csrs: &mut Csrs,
     scrs: &mut Scrs<C>,
@@ -56,7 +57,7 @@ pub fn set_csr<C: CapRep>(csrs: &mut Csrs, scrs: &mut Scrs<C>, number: u16, valu
             csrs.mstatus_mpie = has_bit(value, MPIE_BIT);
         }
         csr::MIE => csrs.mie = value & INTERRUPT_BITS,
-        csr::MTVEC => scrs.set(scr::MTCC, scrs.mtcc().set_address(value / 4 * 4)),
+        csr::MTVEC => scrs.set(scr::MTCC, scrs.mtcc().set_address(mtvec_of(value))),
         csr::MSCRATCH => csrs.mscratch = value,
         csr::MEPC => scrs.set(scr::MEPCC, scrs.mepcc().set_address(value / 4 * 4)),
         csr::MCAUSE => csrs.mcause = value,

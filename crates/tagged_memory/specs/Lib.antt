@@ -1,8 +1,11 @@
-pub mod Layout
-pub mod Replaced
-pub mod MemoryLaws
+-- What to read
 pub mod Memory
 pub mod Planes
-pub mod Tagged
+-- Laws
+pub mod MemoryLaws
 pub mod AccessLaws
 pub mod ReadLaws
+-- Inner words
+pub mod Layout
+pub mod Replaced
+pub mod Tagged

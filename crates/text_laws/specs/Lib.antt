@@ -1,2 +1,3 @@
+-- What to read
 pub mod ReadBack
 pub mod TextBack

@@ -1,0 +1,106 @@
+#!/usr/bin/env python3
+"""The reading order of docs/MODEL.md: its tables, with the lines of each page.
+
+    python3 tools/reading_order.py            prints the tables
+    python3 tools/reading_order.py --check    says whether they stand in docs/MODEL.md, and ends with 1 if not
+
+The twelve pages of the step have to be all files that hart/specs/Step names, directly or not, each behind those that it names; what
+is missing, too much or too early is printed.
+"""
+import os
+import re
+import sys
+
+TOP = os.path.join(os.path.dirname(os.path.abspath(__file__)), "..")
+
+# Pages: what each is about, and its files.
+STEP = [
+    ("words: fields, mantissas, windows", "base/specs/Bits; cap_format/specs/Word; cap_bounds/specs/Mantissa, Window"),
+    ("capabilities: records, values", "base/specs/ObjectType; cap_bounds/specs/Least, Record, CapValue"),
+    ("addresses and bounds that are set", "cap_bounds/specs/SetAddress, Rounding, SetBounds"),
+    ("what may be derived", "cap_rights/specs/Permission, Perms, ObjectType, Opened, Derivations"),
+    ("memory and its tags", "base/specs/Size, Ram; tagged_memory/specs/Memory"),
+    ("the table of rows", "isa_rows/specs/Line, Forms, Shape, Insn, Kind, Decoded"),
+    ("integer rows", "alu/specs/Integer"),
+    ("capability rows", "cap_insns/specs/CapabilityRows"),
+    ("faults, and which comes first", "base/specs/Registers, Fault, FirstFault; cap_checks/specs/Access, FirstFault"),
+    ("special registers and traps",
+     "special_regs/specs/Scrs, Csrs, Numbered, Mtvec, CsrValues, Writes, Refusals, Interrupts, Traps"),
+    ("devices", "devices/specs/Devices"),
+    ("the step", "hart/specs/State, Registers, Looks, Accesses, ComputeRows, MemoryRows, JumpRows, SystemRows, Effect, Outcome, Step"),
+]
+REST = [
+    ("runs: the opening state, events, *machine run*", "image/specs/Image; hart/specs/Opening, Event; machine/specs/Run"),
+    ("image files", "image/specs/Grammar, Reads"),
+    ("a text: its lines",
+     "asm_names/specs/Mnemonic, Registers, SpecialNames, Slots; asm_lines/specs/Text, Number, Operand, Statement, Line"),
+    ("a text: what it means", "assembler/specs/Places, Values, Bytes, Faults, Text"),
+    ("shown texts", "disassembler/specs/Hex, Shown"),
+    ("sessions", "debugger/specs/Capability, Command, Reply, Answers, Conversation, Talk"),
+    ("the command line and runs on a schedule", "sim_run/specs/CommandLine, Schedule, Verdict, Listing"),
+]
+
+
+def files_of(text):
+    """The pairs of crate and file of a page."""
+    for part in text.split("; "):
+        crate, names = part.split("/specs/")
+        yield from ((crate, name) for name in names.split(", "))
+
+
+def source(file):
+    """The text of a file, or nothing where this repository has none of that name."""
+    path = os.path.join(TOP, "crates", file[0], "specs", file[1] + ".antt")
+    if not os.path.exists(path):
+        return ""
+    with open(path, encoding="utf-8") as text:
+        return text.read()
+
+
+def named_from(first):
+    """The files that a file names, and those that they name in turn."""
+    found, left = set(), [first]
+    while left:
+        file = left.pop()
+        if file not in found and source(file):
+            found.add(file)
+            left += re.findall(r"^(?:pub )?use Rattle\.(\w+)\.specs\.(\w+)\.\{", source(file), re.MULTILINE)
+    return found
+
+
+def too_early(pages):
+    """The files that name one of a later page."""
+    before = set()
+    for _, text in pages:
+        files = set(files_of(text))
+        before |= files
+        yield from (f"too early: {file}" for file in sorted(files) if named_from(file) - before)
+
+
+def table(pages):
+    """The table of some pages."""
+    yield "| | Page | Files | Lines |"
+    yield "|---|---|---|---|"
+    for number, (about, text) in enumerate(pages, 1):
+        yield f"| {number} | {about} | {text} | {sum(source(file).count(chr(10)) for file in files_of(text))} |"
+
+
+def main():
+    listed = {file for _, text in STEP for file in files_of(text)}
+    named = named_from(("hart", "Step"))
+    wrong = [f"missing: {file}" for file in sorted(named - listed)] + [f"too much: {file}" for file in sorted(listed - named)]
+    wrong += too_early(STEP)
+    wrong += [f"no such file: {file}" for _, text in REST for file in files_of(text) if not source(file)]
+    tables = ["\n".join(table(pages)) + "\n" for pages in (STEP, REST)]
+    if sys.argv[1:] == ["--check"]:
+        with open(os.path.join(TOP, "docs", "MODEL.md"), encoding="utf-8") as model:
+            text = model.read()
+        wrong += [f"docs/MODEL.md has another table of {name}" for name, made in zip(("the step", "the rest"), tables) if made not in text]
+    else:
+        print("\n".join(tables))
+    print("".join(line + "\n" for line in wrong), end="")
+    return 1 if wrong else 0
+
+
+if __name__ == "__main__":
+    sys.exit(main())
