@@ -25,7 +25,7 @@ pub(crate) fn window(e: u32, b: u64, address: u64) -> u64
 
 /// The base that an exponent and B give with an address: its window's number and B, in units of `2^e`.
 #[inline(always)]
-fn base_at(e: u32, b: u64, address: u64) -> u64
+pub(crate) fn base_at(e: u32, b: u64, address: u64) -> u64
     requires exponent { e ≤ 52 }
     requires mantissa { b < 2 ^ 14 }
     ensures { result ≡ decoded_base e b address }
