@@ -1,5 +1,6 @@
 -- A word's bounds stay with another address exactly where its window is that of the word's own.
-use Rattle.std.proofs.Common.{◌≡◌, ℕ, ◌+◌, ◌-◌, ◌*◌, ◌/◌, ◌%◌, ◌^◌, ◌<◌, ◌≤◌, eqb, bit_xor, ◌↔◌, IsTrue, refl, sym, ap, ◌∙◌, inl, inr, arith}
+use Rattle.std.proofs.Common.{◌≡◌, ℕ, ◌+◌, ◌-◌, ◌*◌, ◌/◌, ◌%◌, ◌^◌, ◌<◌, ◌≤◌, eqb, bit_xor, ◌↔◌, IsTrue}
+use Rattle.std.proofs.Common.{refl, sym, ap, ◌∙◌, inl, inr, arith}
 use Rattle.std.proofs.Math.Nat.{mul_assoc, mod-lt, div-lt_iff_lt-mul, mul-lt-mul_of_pos_right}
 use Rattle.std.specs.Int.Bits.{xor_assoc, xor_self, xor_zero_l, xor_zero_r}
 use Rattle.std.proofs.lemmas.Nat.{pow-add, pow_pos, shr-shr, xor_block, xor_mod, xor_shr, mul-mod_first}
@@ -166,7 +167,8 @@ units_of_base w e b low mantissa =
     let space : 2 ^ (50 - e + 14) * 2 ^ e ≡ 2 ^ 64 = sym (pow-add 2 (50 - e + 14) e) ∙ ap (λ n. 2 ^ n) total in
     let own : (w * 16384 + b) % 16384 ≡ b = omega arith in
     let rounds : 2 ^ (50 - e + 14) ≡ 2 ^ (50 - e) * 16384 = pow-add 2 (50 - e) 14 in
-    (mod-scaled (w * 16384 + b) (2 ^ (50 - e + 14)) (2 ^ e) (pow_pos (50 - e + 14)) (pow_pos e) ∙ ap (λ n. (w * 16384 + b) * 2 ^ e % n) space,
+    (mod-scaled (w * 16384 + b) (2 ^ (50 - e + 14)) (2 ^ e) (pow_pos (50 - e + 14)) (pow_pos e)
+    ∙ ap (λ n. (w * 16384 + b) * 2 ^ e % n) space,
     ap (λ n. (w * 16384 + b) % n % 16384) rounds ∙ mod-twice (w * 16384 + b) (2 ^ (50 - e)) ∙ own)
 
 -- an address less than a length behind the base gives the same base
@@ -181,7 +183,8 @@ decoded_base-inside e b own address most mantissa own_fits fits inside = elim (c
       let base : p * 2 ^ e ≡ decoded_base e b own = units.0 ∙ window_number-base e b own most mantissa own_fits in
       let base_fits : p * 2 ^ e < 2 ^ 64 = rw base (decoded_base-below e b own) in
       let near : (address + (2 ^ 64 - p * 2 ^ e)) % 2 ^ 64 / 2 ^ e < 8192 = rw base inside in
-      let short : (address + (2 ^ 64 - p * 2 ^ e)) % 2 ^ 64 < 2 ^ (e + 13) = omega (arith, (div-lt_iff_lt-mul (pow_pos e)).0 near, pow-add 2 e 13) in
+      let short : (address + (2 ^ 64 - p * 2 ^ e)) % 2 ^ 64 < 2 ^ (e + 13) =
+      omega (arith, (div-lt_iff_lt-mul (pow_pos e)).0 near, pow-add 2 e 13) in
       let holds = is_in_window-behind e (p * 2 ^ e) address base_fits fits short in
       let again = decoded_base-in_window e p address most base_fits holds in
       sym (ap (λ n. decoded_base e n address) (sym units.1) ∙ again ∙ base)
