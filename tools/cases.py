@@ -27,6 +27,7 @@ SOURCES = [
     "images",
     "programs",
     "worlds",
+    "schedules",
     "asm_texts",
     "asm_vectors",
     "asm_lines",

@@ -143,6 +143,10 @@ impl CapRep for PlainCap {
         }
     }
 
+    fn holds(self, address: u64, size: u64) -> bool {
+        self.base() <= address && u128::from(address) + u128::from(size) <= self.top()
+    }
+
     fn perms(self) -> u16 {
         match self {
             PlainCap::Tagged(c) => c.perms,

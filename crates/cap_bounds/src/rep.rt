@@ -1,4 +1,4 @@
-ghost use Rattle.std.specs.Prelude.{◌≡◌, ◌^◌, ◌<◌, IsTrue};
+ghost use Rattle.std.specs.Prelude.{◌≡◌, ◌+◌, ◌^◌, ◌<◌, ◌&&◌, nat_le, IsTrue};
 ghost use Rattle.cap_bounds.specs.Record.{IsWordWellFormed};
 ghost use Rattle.cap_bounds.specs.CapValue.{CapValue, IsSound, value_of, word_of, is_tagged, value_base, value_top, value_address};
 ghost use Rattle.cap_bounds.specs.CapValue.{value_perms, value_flag, value_otype, without_tag};
@@ -40,6 +40,10 @@ pub trait CapRep: Copy {
     fn top(self) -> u128
         ensures value { result ≡ value_top (value self) }
         ensures range { result < 2 ^ 65 };
+
+    /// Whether the bounds hold the `size` bytes from an address, in whole numbers.
+    fn holds(self, address: u64, size: u64) -> bool
+        ensures { result ≡ (nat_le (value_base (value self)) address && nat_le (address + size) (value_top (value self))) };
 
     /// The permissions: hardware permissions at bits 0 to 11, user permissions at bits 12 to 15.
     fn perms(self) -> u16

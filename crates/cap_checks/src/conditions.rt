@@ -48,6 +48,7 @@ pub(crate) fn check_permission<C: CapRep>(
 
 /// Reports a length violation unless the `size` bytes from an address lie in the value's bounds.
 #[inline(always)]
+#[tactic(auto, unfolding(crate::specs::FirstFault::holds))]
 pub(crate) fn check_bounds<C: CapRep>(
     c: C,
     register: u64,
@@ -58,18 +59,9 @@ pub(crate) fn check_bounds<C: CapRep>(
     ensures { result ≡ if spec.holds (C.value c) address size then Ok tt else Err (cheri register forbids.Length) }
 {
     check(
-        holds(c, address, size),
+        c.holds(address, size),
         Fault::cheri(register, CheriCause::Length),
     )
-}
-
-/// Tells whether the `size` bytes from an address lie in the value's bounds, in whole numbers.
-#[inline]
-#[tactic(auto, unfolding(crate::specs::FirstFault::holds))]
-fn holds<C: CapRep>(c: C, address: u64, size: u64) -> bool
-    ensures { result ≡ spec.holds (C.value c) address size }
-{
-    c.base() <= address && u128::from(address) + u128::from(size) <= c.top()
 }
 
 /// Tells whether the value, tagged or not, has another type than what is unsealed.

@@ -2,7 +2,7 @@
 
 use crate::case::CaseError;
 use crate::failing::Narrow;
-use crate::programs::{Outcome, Timetable, text_of};
+use crate::programs::{Outcome, Pace, Timetable, text_of};
 use crate::sessions::Errand;
 use assembler::assemble;
 use cap_bounds::PlainCap;
@@ -46,6 +46,15 @@ macro_rules! on_schedule {
         };
         if !timetable.schedule.is_in_range() || machine.halted().is_some() {
             return Err(CaseError::Unreadable);
+        }
+        if let Pace::Singly = timetable.pace {
+            let mut outcome = Outcome {
+                sent,
+                end: End::Running,
+                cut: None,
+            };
+            outcome.meet_singly(machine, timetable)?;
+            return Ok(outcome);
         }
         let mut sink = Narrow::new(&mut sent, 1, timetable.fails_at);
         let ended = run_scheduled(machine, timetable.schedule, timetable.keys, &mut sink);

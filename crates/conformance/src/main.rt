@@ -30,6 +30,7 @@ mod register_script;
 mod requests;
 mod rights;
 mod rows;
+mod schedules;
 mod script;
 mod searches;
 mod seen;
@@ -89,10 +90,11 @@ enum Table {
     Plans,
     Listings,
     Worlds,
+    Schedules,
 }
 
 /// The files by name, without their endings, in the order in which they are tried.
-const FILES: [(&str, Table); 36] = [
+const FILES: [(&str, Table); 37] = [
     ("words", Table::Words),
     ("parts", Table::Parts),
     ("windows", Table::Windows),
@@ -129,6 +131,7 @@ const FILES: [(&str, Table); 36] = [
     ("plans", Table::Plans),
     ("listings", Table::Listings),
     ("worlds", Table::Worlds),
+    ("schedules", Table::Schedules),
 ];
 
 impl Table {
@@ -198,6 +201,7 @@ impl Table {
             Table::Plans => plans::answer(alloc, inputs),
             Table::Listings => plans::listing(alloc, inputs),
             Table::Worlds => worlds::answer(alloc, form, inputs),
+            Table::Schedules => schedules::answer(alloc, form, inputs),
         }
     }
 }

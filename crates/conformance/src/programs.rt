@@ -24,12 +24,22 @@ pub(crate) struct Outcome {
     pub cut: Option<u64>,
 }
 
-/// A run on a schedule, the bytes that come, and at which byte that is sent the sink fails.
+/// How a run meets the events of its schedule.
+#[derive(Clone, Copy)]
+pub(crate) enum Pace {
+    /// As a run on a schedule does, many steps at once.
+    AtOnce,
+    /// One at a time.
+    Singly,
+}
+
+/// A run on a schedule, the bytes that come, at which byte that is sent the sink fails, and how the events are met.
 #[derive(Clone, Copy)]
 pub(crate) struct Timetable<'a> {
     pub schedule: Schedule,
     pub keys: &'a [u8],
     pub fails_at: u64,
+    pub pace: Pace,
 }
 
 /// The timetable of words: steps, gap, tick, the bytes that come, or `-`, and the number of the byte that can't be sent, or nothing.
@@ -46,6 +56,7 @@ fn timetable_of(words: &str) -> Result<Timetable<'_>, CaseError> {
         schedule: Schedule { steps, gap, tick },
         keys: keys.as_bytes(),
         fails_at,
+        pace: Pace::AtOnce,
     })
 }
 
@@ -60,7 +71,7 @@ pub(crate) fn text_of(alloc: Global, first: &str, statements: &str) -> Result<St
 
 impl Outcome {
     /// Meets one event.
-    fn event<C: CapRep>(
+    pub(crate) fn event<C: CapRep>(
         &mut self,
         machine: &mut Machine<C>,
         event: Event,
@@ -188,7 +199,7 @@ impl Outcome {
 }
 
 /// The text of a program in a mode.
-fn text_in_mode(alloc: Global, mode: &str, statements: &str) -> Result<String, AllocError> {
+pub(crate) fn text_in_mode(alloc: Global, mode: &str, statements: &str) -> Result<String, AllocError> {
     let mode = format!(in alloc; ".mode {mode}")?;
     text_of(alloc, &mode, statements)
 }

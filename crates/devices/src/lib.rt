@@ -13,3 +13,4 @@ mod timer;
 
 pub use devices::{Devices, Effect};
 pub use fault::DeviceFault;
+pub use map::RECEIVE;

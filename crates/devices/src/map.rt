@@ -5,6 +5,9 @@ ghost use Rattle.devices.specs.Map.{address_of};
 /// Bit 1 of status: a byte was lost.
 pub(crate) const OVERRUN: u64 = 2;
 
+/// Where receive begins: the one register from which a load takes something, the oldest byte that waits.
+pub const RECEIVE: u64 = 0x1000_0008;
+
 /// A register of the devices.
 #[derive(Clone, Copy, PartialEq, Eq)]
 pub(crate) enum Register {
@@ -36,7 +39,7 @@ impl Register {
             0x0200_4000 => Some(Register::TimerCompare),
             0x0200_bff8 => Some(Register::Timer),
             0x1000_0000 => Some(Register::Transmit),
-            0x1000_0008 => Some(Register::Receive),
+            RECEIVE => Some(Register::Receive),
             0x1000_0010 => Some(Register::Status),
             0x1000_0018 => Some(Register::Control),
             _ => None,

@@ -4,3 +4,4 @@ pub mod Loads
 pub mod Places
 pub mod PlainRun
 pub mod PlainSteps
+pub mod Quiet

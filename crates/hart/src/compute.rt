@@ -36,6 +36,7 @@ impl<C: CapRep> Hart<C> {
     }
 
     /// Multiplication and division.
+    #[inline(always)]
     #[tactic(auto, unfolding(crate::specs::ComputeRows::mul_div_effect, crate::specs::Applying::CanApply))]
     pub(crate) fn plan_mul_div(&self, insn: Insn) -> Effect<C>
         requires kind { kind_of insn.row ≡ kind.MulDiv }

@@ -46,7 +46,7 @@ fn kept_if<C: CapRep>(keeps: bool, word: CapWord, tag: bool) -> C
 
 impl<C: CapRep> Hart<C> {
     /// Where an access is made: rs1's number and the immediate.
-    #[inline]
+    #[inline(always)]
     pub(crate) fn place(&self, insn: Insn) -> u64
         requires registers { HasRegisters insn }
         ensures { result ≡ place_of insn self.now }
@@ -55,7 +55,7 @@ impl<C: CapRep> Hart<C> {
     }
 
     /// The authority: the capability in rs1, or the default data capability.
-    #[inline]
+    #[inline(always)]
     fn authority(&self, insn: Insn) -> Authority<C>
         requires registers { HasRegisters insn }
         ensures capability { C.value result.capability ≡ authority_of insn self.now }
@@ -76,7 +76,7 @@ impl<C: CapRep> Hart<C> {
     }
 
     /// Whether RAM holds so many bytes at an aligned address: an access to them has no fault then.
-    #[inline]
+    #[inline(always)]
     #[tactic(auto, unfolding(tagged_memory::specs::Memory::place_fault))]
     fn holds(&self, address: u64, size: Size) -> bool
         requires { address % bytes_of size ≡ 0 }
@@ -87,7 +87,7 @@ impl<C: CapRep> Hart<C> {
     }
 
     /// Whether RAM holds a granule.
-    #[inline]
+    #[inline(always)]
     #[tactic(auto, unfolding(tagged_memory::specs::Memory::place_fault))]
     fn holds_granule(&self, address: u64) -> bool
         requires { address % 16 ≡ 0 }
@@ -98,7 +98,7 @@ impl<C: CapRep> Hart<C> {
     }
 
     /// A load that its authority allows: from RAM, or from a device register that can be loaded.
-    #[inline]
+    #[inline(always)]
     #[tactic(auto, unfolding(crate::specs::MemoryRows::mapped_load, crate::specs::Applying::CanApply))]
     fn plan_mapped_load(&self, insn: Insn, address: u64, size: Size) -> Effect<C>
         requires registers { HasRegisters insn }
@@ -126,7 +126,7 @@ impl<C: CapRep> Hart<C> {
     }
 
     /// A load of data.
-    #[inline]
+    #[inline(always)]
     #[tactic(auto, unfolding(crate::specs::MemoryRows::load_effect, crate::specs::Applying::CanApply))]
     pub(crate) fn plan_load(&self, insn: Insn) -> Effect<C>
         requires registers { HasRegisters insn }
@@ -148,7 +148,7 @@ impl<C: CapRep> Hart<C> {
     }
 
     /// A store that its authority allows: into RAM, or into a device register that takes it.
-    #[inline]
+    #[inline(always)]
     #[tactic(auto, unfolding(crate::specs::MemoryRows::mapped_store, crate::specs::Applying::CanApply))]
     fn plan_mapped_store(&self, address: u64, size: Size, number: u64) -> Effect<C>
         requires { address % bytes_of size ≡ 0 }
@@ -170,7 +170,7 @@ impl<C: CapRep> Hart<C> {
     }
 
     /// A store of data.
-    #[inline]
+    #[inline(always)]
     #[tactic(auto, unfolding(crate::specs::MemoryRows::store_effect, crate::specs::Applying::CanApply))]
     pub(crate) fn plan_store(&self, insn: Insn) -> Effect<C>
         requires registers { HasRegisters insn }
@@ -192,6 +192,7 @@ impl<C: CapRep> Hart<C> {
     }
 
     /// The word of a granule in RAM, with its tag if the authority has Load_Capability.
+    #[inline(always)]
     #[tactic(auto, unfolding(tagged_memory::specs::Memory::place_fault))]
     fn loaded_capability(&self, authority: C, address: u64) -> C
         requires aligned { address % 16 ≡ 0 }
@@ -203,6 +204,7 @@ impl<C: CapRep> Hart<C> {
     }
 
     /// A load of a capability that its authority allows: from RAM alone, without its tag where the authority lacks Load_Capability.
+    #[inline(always)]
     #[tactic(auto, unfolding(crate::specs::MemoryRows::mapped_capability_load, crate::specs::Applying::CanApply))]
     fn plan_mapped_capability_load(&self, authority: C, rd: u8, address: u64) -> Effect<C>
         requires register { rd < 32 }
@@ -220,6 +222,7 @@ impl<C: CapRep> Hart<C> {
     }
 
     /// A load of a capability.
+    #[inline(always)]
     #[tactic(auto, unfolding(crate::specs::MemoryRows::load_capability_effect, crate::specs::Applying::CanApply))]
     pub(crate) fn plan_load_capability(&self, insn: Insn) -> Effect<C>
         requires registers { HasRegisters insn }
@@ -240,6 +243,7 @@ impl<C: CapRep> Hart<C> {
     }
 
     /// A store of a capability that its authority allows: into RAM alone.
+    #[inline(always)]
     #[tactic(auto, unfolding(crate::specs::MemoryRows::mapped_capability_store, crate::specs::Applying::CanApply))]
     fn plan_mapped_capability_store(&self, address: u64, value: C) -> Effect<C>
         requires { address % 16 ≡ 0 }
@@ -254,6 +258,7 @@ impl<C: CapRep> Hart<C> {
     }
 
     /// A store of a capability, or of 128 bits without a tag.
+    #[inline(always)]
     #[tactic(auto, unfolding(crate::specs::MemoryRows::store_capability_effect, crate::specs::Applying::CanApply))]
     pub(crate) fn plan_store_capability(&self, insn: Insn) -> Effect<C>
         requires registers { HasRegisters insn }

@@ -5,5 +5,6 @@ pub mod PartsLemmas
 pub mod Moves
 pub mod SameWindow
 pub mod Granules
+pub mod Holds
 pub mod Encodings
 pub mod Requests

@@ -1,6 +1,7 @@
 -- A word's bounds stay with another address exactly where its window is that of the word's own.
-use Rattle.std.proofs.Common.{◌≡◌, ℕ, ◌+◌, ◌*◌, ◌/◌, ◌%◌, ◌^◌, ◌<◌, ◌≤◌, eqb, bit_xor, ◌↔◌, IsTrue, refl, sym, ap, ◌∙◌, inl, inr, arith}
-use Rattle.std.proofs.Math.Nat.{mul_assoc}
+use Rattle.std.proofs.Common.{◌≡◌, ℕ, ◌+◌, ◌-◌, ◌*◌, ◌/◌, ◌%◌, ◌^◌, ◌<◌, ◌≤◌, eqb, bit_xor, ◌↔◌, IsTrue}
+use Rattle.std.proofs.Common.{refl, sym, ap, ◌∙◌, inl, inr, arith}
+use Rattle.std.proofs.Math.Nat.{mul_assoc, mod-lt, div-lt_iff_lt-mul, mul-lt-mul_of_pos_right}
 use Rattle.std.specs.Int.Bits.{xor_assoc, xor_self, xor_zero_l, xor_zero_r}
 use Rattle.std.proofs.lemmas.Nat.{pow-add, pow_pos, shr-shr, xor_block, xor_mod, xor_shr, mul-mod_first}
 use Rattle.std.proofs.lemmas.Bool.{cases_lt, eqb-true, eq-eqb}
@@ -9,7 +10,9 @@ use Rattle.cap_bounds.specs.Mantissa.{exponent_of, base_mantissa, low_top_mantis
 use Rattle.cap_bounds.specs.MantissaLaws.{exponent_of-high, base_mantissa-below}
 use Rattle.cap_bounds.specs.Window.{decoded_base, decoded_top, base_of_word, top_of_word}
 use Rattle.cap_bounds.specs.SetAddress.{KeepsBounds}
-use Rattle.cap_bounds.specs.BaseLaws.{decoded_top-low, decoded_top-high}
+use Rattle.cap_bounds.specs.BaseLaws.{decoded_top-low, decoded_top-high, decoded_base-high, decoded_base-below, decoded_base-in_window}
+use Rattle.cap_bounds.specs.InsideLaws.{is_in_window-behind}
+use Rattle.cap_bounds.specs.RemainderLaws.{mod-apart, mod-is}
 use Rattle.word_cap.proofs.Windows.{window_number, window_number-base}
 
 -- numbers whose exclusive or is 0 are one
@@ -141,3 +144,57 @@ keeps_bounds-near word own address fits place near =
     decoded_base-near (exponent_of word) (base_mantissa word) own address (exponent_of-high word)
     (base_mantissa-below word) own_fits fits near in
     (keeps_bounds-base word address fits).0 (rw place at same)
+
+-- ---- addresses in the bounds
+
+mod-scaled : (x k u : ℕ) → 0 < k → 0 < u → x % k * u ≡ x * u % (k * u)
+mod-scaled x k u some unit =
+    let split : x ≡ x % k + x / k * k = omega arith in
+    let scaled : x * u ≡ x % k * u + x / k * (k * u) = ap (λ n. n * u) split ∙ omega arith in
+    let small : x % k < k = mod-lt x some in
+    sym (mod-is (x * u) (x % k * u) 0 (x / k) (k * u) (mul-lt-mul_of_pos_right small unit) (omega (arith, scaled)))
+
+mod-twice : (n m : ℕ) → n % (m * 16384) % 16384 ≡ n % 16384
+mod-twice n m =
+    let split : n ≡ n % (m * 16384) + n / (m * 16384) * (m * 16384) = omega arith in
+    mod-apart (n % (m * 16384)) n (n / (m * 16384) * m) 0 16384 (omega (arith, split, mul_assoc (n / (m * 16384)) m 16384))
+
+-- a base in units of 2 ^ e, whose mantissa is b
+units_of_base : (w e b : ℕ) → e ≤ 50 → b < 16384
+    → ((w * 16384 + b) % 2 ^ (50 - e + 14) * 2 ^ e ≡ (w * 16384 + b) * 2 ^ e % 2 ^ 64) × ((w * 16384 + b) % 2 ^ (50 - e + 14) % 16384 ≡ b)
+units_of_base w e b low mantissa =
+    let total : 50 - e + 14 + e ≡ 64 = omega arith in
+    let space : 2 ^ (50 - e + 14) * 2 ^ e ≡ 2 ^ 64 = sym (pow-add 2 (50 - e + 14) e) ∙ ap (λ n. 2 ^ n) total in
+    let own : (w * 16384 + b) % 16384 ≡ b = omega arith in
+    let rounds : 2 ^ (50 - e + 14) ≡ 2 ^ (50 - e) * 16384 = pow-add 2 (50 - e) 14 in
+    (mod-scaled (w * 16384 + b) (2 ^ (50 - e + 14)) (2 ^ e) (pow_pos (50 - e + 14)) (pow_pos e)
+    ∙ ap (λ n. (w * 16384 + b) * 2 ^ e % n) space,
+    ap (λ n. (w * 16384 + b) % n % 16384) rounds ∙ mod-twice (w * 16384 + b) (2 ^ (50 - e)) ∙ own)
+
+-- an address less than a length behind the base gives the same base
+decoded_base-inside : (e b own address : ℕ) → e ≤ 52 → b < 16384 → own < 2 ^ 64 → address < 2 ^ 64
+    → (address + (2 ^ 64 - decoded_base e b own)) % 2 ^ 64 / 2 ^ e < 8192 → decoded_base e b own ≡ decoded_base e b address
+decoded_base-inside e b own address most mantissa own_fits fits inside = elim (cases_lt 50 e) [
+  | inl above ↦ decoded_base-high e b own above ∙ sym (decoded_base-high e b address above)
+  | inr low ↦
+      let w : ℕ = window_number (own / 2 ^ e) b in
+      let units = units_of_base w e b low mantissa in
+      let p : ℕ = (w * 16384 + b) % 2 ^ (50 - e + 14) in
+      let base : p * 2 ^ e ≡ decoded_base e b own = units.0 ∙ window_number-base e b own most mantissa own_fits in
+      let base_fits : p * 2 ^ e < 2 ^ 64 = rw base (decoded_base-below e b own) in
+      let near : (address + (2 ^ 64 - p * 2 ^ e)) % 2 ^ 64 / 2 ^ e < 8192 = rw base inside in
+      let short : (address + (2 ^ 64 - p * 2 ^ e)) % 2 ^ 64 < 2 ^ (e + 13) =
+      omega (arith, (div-lt_iff_lt-mul (pow_pos e)).0 near, pow-add 2 e 13) in
+      let holds = is_in_window-behind e (p * 2 ^ e) address base_fits fits short in
+      let again = decoded_base-in_window e p address most base_fits holds in
+      sym (ap (λ n. decoded_base e n address) (sym units.1) ∙ again ∙ base)
+]
+
+pub keeps_bounds-inside : (word own address base e b : ℕ) → address < 2 ^ 64 → own ≡ address_of word → e ≡ exponent_of word
+    → b ≡ base_mantissa word → base ≡ decoded_base e b own → (address + (2 ^ 64 - base)) % 2 ^ 64 / 2 ^ e < 8192 → KeepsBounds word address
+keeps_bounds-inside word own address base e b fits place exponent mantissa is inside =
+    let own_fits : own < 2 ^ 64 = omega arith in
+    let most : e ≤ 52 = rw exponent (exponent_of-high word) in
+    let small : b < 16384 = rw mantissa (base_mantissa-below word) in
+    let same = decoded_base-inside e b own address most small own_fits fits (rw is at inside) in
+    (keeps_bounds-base word address fits).0 (rw (exponent, mantissa, place) at same)

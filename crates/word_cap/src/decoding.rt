@@ -1,6 +1,6 @@
 //! The parts that the bounds of a word are decoded from, and the bounds.
 
-ghost use Rattle.std.specs.Prelude.{◌≡◌, pos, ◌+◌, ◌*◌, ◌/◌, ◌%◌, ◌^◌, ◌<◌, ◌≤◌, ◌-ℤ◌, nat_lt};
+ghost use Rattle.std.specs.Prelude.{◌≡◌, pos, ◌+◌, ◌*◌, ◌/◌, ◌%◌, ◌^◌, ◌<◌, ◌≤◌, ◌&&◌, ◌-ℤ◌, nat_le, nat_lt};
 ghost use Rattle.base.specs.Bits.{bit};
 ghost use Rattle.cap_bounds.specs.Window.{decoded_base, decoded_top, base_of_word, top_of_word};
 ghost use Rattle.word_cap.specs.Parts.{ArePartsOf, GiveBoundsOf, edge_of, eighth_of, corrected_top, is_flipped};
@@ -25,7 +25,7 @@ pub(crate) fn window(e: u32, b: u64, address: u64) -> u64
 
 /// The base that an exponent and B give with an address: its window's number and B, in units of `2^e`.
 #[inline(always)]
-fn base_at(e: u32, b: u64, address: u64) -> u64
+pub(crate) fn base_at(e: u32, b: u64, address: u64) -> u64
     requires exponent { e ≤ 52 }
     requires mantissa { b < 2 ^ 14 }
     ensures { result ≡ decoded_base e b address }
@@ -168,4 +168,24 @@ pub(crate) fn bounds_of(word: CapWord) -> Bounds
         base: base_at(e, b, address),
         top: top_at(e, b, length, address),
     }
+}
+
+/// Whether a word's bounds hold the `size` bytes from an address. Up to an exponent of 50 the length decides, and no top is built.
+#[inline(always)]
+pub(crate) fn bounds_hold(word: CapWord, address: u64, size: u64) -> bool
+    ensures { result ≡ (nat_le (base_of_word word) address && nat_le (address + size) (top_of_word word)) }
+{
+    let mantissas = mantissas_of(word);
+    let base = base_at(mantissas.exponent, mantissas.base, word.address());
+    if address < base {
+        return false;
+    }
+    if mantissas.exponent > 50 {
+        return u128::from(address) + u128::from(size) <= bounds_of(word).top;
+    }
+    let length = mantissas.length << mantissas.exponent;
+    if length < size {
+        return false;
+    }
+    address - base <= length - size
 }

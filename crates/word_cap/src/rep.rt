@@ -1,6 +1,6 @@
 //! What a word and a tag stand for.
 
-use crate::decoding::bounds_of;
+use crate::decoding::{bounds_hold, bounds_of};
 use crate::rounding::encoding_of;
 use crate::set_bounds::{may_bound, word_with};
 use crate::window::keeps_tag;
@@ -45,6 +45,11 @@ impl CapRep for WordCap {
     #[inline(always)]
     fn top(self) -> u128 {
         bounds_of(self.word).top
+    }
+
+    #[inline(always)]
+    fn holds(self, address: u64, size: u64) -> bool {
+        bounds_hold(self.word, address, size)
     }
 
     #[inline(always)]

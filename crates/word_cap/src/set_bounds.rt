@@ -1,27 +1,16 @@
 //! Setting the bounds of a word.
 
-ghost use Rattle.std.specs.Prelude.{◌≡◌, ◌+◌, ◌^◌, ◌<◌, ◌&&◌, nat_le};
+ghost use Rattle.std.specs.Prelude.{◌≡◌, ◌^◌, ◌<◌};
 ghost use Rattle.cap_format.specs.Word.{address_of, flag_of, otype_of, perms_of};
-ghost use Rattle.cap_bounds.specs.Window.{base_of_word, top_of_word};
 ghost use Rattle.cap_bounds.specs.SetBounds.{may_bound};
 ghost use Rattle.cap_bounds.specs.WordLaws.{joined};
 ghost use Rattle.word_cap.specs.WordCap.{word_value};
 
-use crate::decoding::bounds_of;
+use crate::decoding::bounds_hold;
 use crate::rounding::Encoding;
 use crate::word_cap::WordCap;
 use base::otype;
 use cap_format::CapWord;
-
-/// Whether a word's bounds hold a request from its address.
-#[inline(always)]
-fn bounds_hold(word: CapWord, length: u64) -> bool
-    ensures { result ≡ (nat_le (base_of_word word) (address_of word) && nat_le (address_of word + length) (top_of_word word)) }
-{
-    let bounds = bounds_of(word);
-    let end = u128::from(word.address()) + u128::from(length);
-    bounds.base <= word.address() && end <= bounds.top
-}
 
 /// Whether the value is an unsealed capability whose bounds hold the request.
 #[inline(always)]
@@ -34,7 +23,7 @@ pub(crate) fn may_bound(c: WordCap, length: u64) -> bool
     if c.word.otype() != otype::UNSEALED {
         return false;
     }
-    bounds_hold(c.word, length)
+    bounds_hold(c.word, c.word.address(), length)
 }
 
 /// The word with these bounds and its own permissions, flag, object type and address. Its reserved bits are cleared.

@@ -6,7 +6,7 @@ ghost use Rattle.cap_bounds.specs.Record.{IsWordWellFormed};
 ghost use Rattle.cap_bounds.specs.CapValue.{value_of};
 ghost use Rattle.cap_bounds.specs.SetAddress.{KeepsBounds, at_address};
 
-use crate::decoding::window;
+use crate::decoding::{base_at, window};
 use crate::mantissas::mantissas_of;
 use crate::word_cap::WordCap;
 use base::otype;
@@ -14,8 +14,9 @@ use cap_format::CapWord;
 
 /// Whether a word's bounds stay with this address in place of its own: where it lies in the window of the old one.
 ///
-/// The numbers of windows go round at `2^(50 - e)`, and with an exponent of 50 or more there is one window. An address in the same
-/// 2048 bytes as the old one is in the same eighth of a window at every exponent.
+/// All addresses in the bounds do: those less than the length behind the base. An address in the same 2048 bytes as the old one
+/// does too, since it is in the same eighth of a window at every exponent. Only for another are windows compared: their numbers go
+/// round at `2^(50 - e)`, and with an exponent of 50 or more there is one window.
 #[inline(always)]
 pub(crate) fn keeps_bounds(word: CapWord, address: u64) -> bool
     ensures { IsTrue result ↔ KeepsBounds word address }
@@ -25,6 +26,10 @@ pub(crate) fn keeps_bounds(word: CapWord, address: u64) -> bool
     }
     let mantissas = mantissas_of(word);
     let (e, b) = (mantissas.exponent, mantissas.base);
+    let behind = address.wrapping_sub(base_at(e, b, word.address()));
+    if behind >> e < mantissas.length {
+        return true;
+    }
     (window(e, b, word.address()) ^ window(e, b, address)) << 14 << e == 0
 }
 

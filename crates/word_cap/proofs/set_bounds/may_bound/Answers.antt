@@ -1,6 +1,7 @@
-use Rattle.std.proofs.Common.{sym, ap, ◌∙◌}
+use Rattle.std.proofs.Common.{◌+◌, ◌&&◌, leb, sym, ap, ◌∙◌}
 use Rattle.std.proofs.lemmas.Bool.{not-true, not-false, eq-eqb, ne_eqb}
 use Rattle.cap_bounds.specs.CapValue.{value_of}
+use Rattle.cap_bounds.specs.Window.{base_of_word, top_of_word}
 use Rattle.cap_bounds.specs.SetBounds.{may_bound}
 use Rattle.word_cap.proofs.Requests.{may_bound-data, may_bound-sealed, may_bound-unsealed}
 use Rattle.word_cap.proofs.set_bounds.may_bound.Goals as goal
@@ -20,5 +21,6 @@ pub returns : goal.returns
 returns c =
     let unsealed = eq-eqb _ 0x3_ffff (sym c.otype.ensures ∙ c.if-otype-ne-UNSEALED.false) in
     c.bounds_hold.ensures
+    ∙ ap (λ n. leb (base_of_word c.args.c.word) n && leb (n + c.args.length) (top_of_word c.args.c.word)) c.address.ensures
     ∙ sym (ap (λ tag. may_bound (value_of c.args.c.word tag) c.args.length) (not-false c.args.c.tag c.if-not-c.false)
     ∙ may_bound-unsealed c.args.c.word c.args.length unsealed)

@@ -1,5 +1,5 @@
-use Rattle.std.proofs.Common.{refl}
-use Rattle.word_cap.proofs.SameWindow.{keeps_bounds-near, keeps_bounds-windows}
+use Rattle.std.proofs.Common.{refl, arith}
+use Rattle.word_cap.proofs.SameWindow.{keeps_bounds-inside, keeps_bounds-near, keeps_bounds-windows}
 use Rattle.word_cap.proofs.window.keeps_bounds.Goals as goal
 
 pub returns-then-address-lt2048 : goal.returns-then-address-lt2048
@@ -11,6 +11,15 @@ returns-then-address-lt2048 c =
 pub returns : goal.returns
 returns c =
     keeps_bounds-windows c.args.word c.args.address c.window.result c.window-2.result c.mantissas_of-mantissas.result.exponent
-    c.mantissas_of-mantissas.result.base c.address-2.result
-    c.ranges.address.fits c.mantissas_of-mantissas.ensures.exponent c.mantissas_of-mantissas.ensures.base c.address-2.ensures
+    c.mantissas_of-mantissas.result.base c.address-3.result
+    c.ranges.address.fits c.mantissas_of-mantissas.ensures.exponent c.mantissas_of-mantissas.ensures.base c.address-3.ensures
     c.window.ensures.base c.window-2.ensures.base
+
+pub returns-then-behind-e : goal.returns-then-behind-e
+returns-then-behind-e c =
+    let found = c.mantissas_of-mantissas.ensures in
+    let kept =
+    keeps_bounds-inside c.args.word c.address-2.result c.args.address c.base_at.result c.mantissas_of-mantissas.result.exponent
+    c.mantissas_of-mantissas.result.base c.ranges.address.fits c.address-2.ensures found.exponent found.base c.base_at.ensures
+    (omega (arith, c.if-behind-e.true, found.length_range)) in
+    (λ _. kept, λ _. refl)
