@@ -9,3 +9,5 @@ pub mod LoadLemmas
 pub mod PageLemmas
 pub mod SectionLemmas
 pub mod BuildLemmas
+pub mod PieceLemmas
+pub mod WorthLemmas

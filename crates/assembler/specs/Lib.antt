@@ -13,3 +13,4 @@ pub mod Buildable
 pub mod Text
 pub mod Left
 pub mod Assembly
+pub mod Pieces

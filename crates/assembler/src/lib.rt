@@ -8,6 +8,7 @@ mod bytes;
 mod checks;
 mod fault;
 mod labels;
+pub mod laws;
 mod lines;
 mod places;
 mod values;
