@@ -1,5 +1,6 @@
 -- The sections that lines fill have the bytes that their statements place, each once.
-use Rattle.std.proofs.Common.{◌≡◌, ℕ, ◌+◌, ◌<◌, ◌≤◌, Bool, true, false, cond, ◌==◌, nat_lt, if◌then◌else◌, List, [], ◌∷◌, ◌++◌}
+use Rattle.std.proofs.Common.{◌≡◌, ℕ, ◌+◌, ◌<◌, ◌≤◌, Bool, true, false, cond, ◌==◌, nat_lt, if◌then◌else◌}
+use Rattle.std.proofs.Common.{List, [], ◌∷◌, ◌++◌}
 use Rattle.std.proofs.Common.{length, map, suc, Option, Some, None, refl, ap, ◌∙◌, arith}
 use Rattle.std.proofs.lemmas.Bool.Decides.{nat_tests}
 use Rattle.std.specs.List.{slice_split}
@@ -40,7 +41,8 @@ count-inserted : (test : ℕ → ℕ → Bool) (s : Section) (ss : List Section)
 count-inserted test s [] = refl
 count-inserted test s (t ∷ ts) =
     elim (nat_lt s.address t.address) as
-    (λ x. count_bytes test (if x then s ∷ t ∷ ts else (t ∷ inserted s ts)) ≡ count_from test s.address s.bytes + count_bytes test (t ∷ ts)) [
+    (λ x. count_bytes test (if x then s ∷ t ∷ ts else (t ∷ inserted s ts))
+    ≡ count_from test s.address s.bytes + count_bytes test (t ∷ ts)) [
       | true ↦ refl
       | false ↦ omega (arith, count-inserted test s ts)
     ]
@@ -62,7 +64,8 @@ count-closed test done current =
 abbrev total : (ℕ → ℕ → Bool) → Assembled → ℕ
 total test s = count_from test s.current.address s.current.bytes + count_bytes test s.done
 
-placed-counted : (test : ℕ → ℕ → Bool) (s : Assembled) (bytes : List ℕ) → s.places.place ≡ s.current.address + length s.current.bytes
+placed-counted : (test : ℕ → ℕ → Bool) (s : Assembled) (bytes : List ℕ)
+    → s.places.place ≡ s.current.address + length s.current.bytes
     → total test (with_bytes s bytes) ≡ total test s + count_from test s.places.place bytes
 placed-counted test s bytes e =
     let grown = count-append test s.current.address s.current.bytes bytes in
@@ -122,7 +125,8 @@ all-counted test symbols s number (text ∷ texts) b h =
     let place = ap (λ n. count_bytes test (pieces_from symbols n (map line_meaning texts))) (after-place symbols s l) in
     record { counted = omega (arith, rest.counted, here, place); buildable = rest.buildable }
 
-text-counted : (test : ℕ → ℕ → Bool) (text : List ℕ) → text_fault text ≡ None → Counted test (symbols_of text) opening (lines_of text)
+text-counted : (test : ℕ → ℕ → Bool) (text : List ℕ) → text_fault text ≡ None
+    → Counted test (symbols_of text) opening (lines_of text)
 text-counted test text h =
     all-counted test (symbols_of text) opening 1 (slice_split (λ b. b == 10) text) (new_buildable opening refl) h
 

@@ -1,5 +1,6 @@
 -- In a correct text each label is worth the place of its line.
-use Rattle.std.proofs.Common.{◌≡◌, ℕ, ◌+◌, Bool, true, false, not, nat_eq, if◌then◌else◌, List, [], ◌∷◌, ◌++◌, Option, Some, None, is_some}
+use Rattle.std.proofs.Common.{◌≡◌, ℕ, ◌+◌, Bool, true, false, not, nat_eq, if◌then◌else◌, List, [], ◌∷◌, ◌++◌}
+use Rattle.std.proofs.Common.{Option, Some, None, is_some}
 use Rattle.std.proofs.Common.{IfSome, refl, ap, ◌∙◌, subst, arith}
 use Rattle.std.specs.Cmp.Lexicographic.{pointwise}
 use Rattle.base.specs.Ram.{ram_base}
@@ -40,7 +41,8 @@ value-kept (x ∷ xs) ys name v h =
     ] h
 
 -- a name that has no value has that of the label behind
-value-added : (xs : Symbols) (name : List ℕ) (v : ℕ) → is_some (value_in xs name) ≡ false → value_in (xs ++ (name, v) ∷ []) name ≡ Some v
+value-added : (xs : Symbols) (name : List ℕ) (v : ℕ) → is_some (value_in xs name) ≡ false
+    → value_in (xs ++ (name, v) ∷ []) name ≡ Some v
 value-added [] name v h = ap (λ b. if b then Some v else None) (same-name name)
 value-added (x ∷ xs) name v h =
     elim (pointwise nat_eq name x.0) as
@@ -73,7 +75,8 @@ label-worth (Some name) s h =
     ∙ value-added s.places.symbols name s.places.place h
 
 worth-kept : (label : Option (List ℕ)) (lines : List Line) (p : Places) (v : ℕ)
-    → IfSome label (λ name. value_in p.symbols name ≡ Some v) → IfSome label (λ name. value_in (all_places lines p).symbols name ≡ Some v)
+    → IfSome label (λ name. value_in p.symbols name ≡ Some v)
+    → IfSome label (λ name. value_in (all_places lines p).symbols name ≡ Some v)
 worth-kept None lines p v h = tt
 worth-kept (Some name) lines p v h = all-kept lines p name v h
 
