@@ -2,15 +2,35 @@
 
 use crate::fault::{ProgramFault, reading_fault};
 use image::{FromRead, Image};
-use std::fs::{self, File};
-use std::io::Read;
+use std::alloc::Global;
+use std::io;
+use std::io::{Read, Write};
+
+/// The files that a program reaches by their names.
+pub trait Folder {
+    /// A file that is read.
+    type Opened: Read + Drop;
+
+    /// A file that is written.
+    type Made: Write + Drop;
+
+    /// Opens the file of this name for reading.
+    fn open(&mut self, name: &str) -> io::Result<Self::Opened>;
+
+    /// Makes a file of this name, or empties the one that there is.
+    fn make(&mut self, name: &str) -> io::Result<Self::Made>;
+}
 
 /// All bytes of a file.
-pub fn read_file<'a>(rt: &HostRuntime, name: &'a str) -> Result<Vec<u8>, ProgramFault<'a>> {
-    let Ok(mut file) = fs::open(rt, name) else {
+pub fn read_file<'a, F: Folder>(
+    alloc: Global,
+    folder: &mut F,
+    name: &'a str,
+) -> Result<Vec<u8>, ProgramFault<'a>> {
+    let Ok(mut file) = folder.open(name) else {
         return Err(ProgramFault::File(name));
     };
-    let mut bytes = Vec::new(rt.alloc());
+    let mut bytes = Vec::new(alloc);
     match file.read_to_end(&mut bytes) {
         Ok(_) => Ok(bytes),
         Err(error) => Err(reading_fault(&error)),
@@ -18,14 +38,21 @@ pub fn read_file<'a>(rt: &HostRuntime, name: &'a str) -> Result<Vec<u8>, Program
 }
 
 /// The image of a file.
-pub fn read_image<'a>(rt: &HostRuntime, name: &'a str) -> Result<Image, ProgramFault<'a>> {
-    let Ok(file) = fs::open(rt, name) else {
+pub fn read_image<'a, F: Folder>(
+    alloc: Global,
+    folder: &mut F,
+    name: &'a str,
+) -> Result<Image, ProgramFault<'a>> {
+    let Ok(file) = folder.open(name) else {
         return Err(ProgramFault::File(name));
     };
-    Ok(image::read(rt.alloc(), &mut FromRead::new(file))?)
+    Ok(image::read(alloc, &mut FromRead::new(file))?)
 }
 
 /// A new file of this name, or the one that there is, emptied.
-pub fn make_file<'a>(rt: &HostRuntime, name: &'a str) -> Result<File, ProgramFault<'a>> {
-    File::create(rt, name).map_err(|_| ProgramFault::File(name))
+pub fn make_file<'a, F: Folder>(
+    folder: &mut F,
+    name: &'a str,
+) -> Result<F::Made, ProgramFault<'a>> {
+    folder.make(name).map_err(|_| ProgramFault::File(name))
 }

@@ -1,13 +1,19 @@
 //! The command `dis`.
 
 use crate::fault::ProgramFault;
-use crate::files::read_image;
+use crate::files::{Folder, read_image};
 use image::ToWrite;
 use sim_run::list;
-use std::io;
+use std::alloc::Global;
+use std::io::Write;
 
-/// Lists the image of a file on standard output.
-pub fn list_file<'a>(rt: &HostRuntime, name: &'a str) -> Result<(), ProgramFault<'a>> {
-    let image = read_image(rt, name)?;
-    Ok(list(&image, &mut ToWrite::new(io::writer(rt)))?)
+/// Lists the image of a file on `output`.
+pub fn list_file<'a, F: Folder, O: Write + Drop>(
+    alloc: Global,
+    folder: &mut F,
+    name: &'a str,
+    output: O,
+) -> Result<(), ProgramFault<'a>> {
+    let image = read_image(alloc, folder, name)?;
+    Ok(list(&image, &mut ToWrite::new(output))?)
 }
