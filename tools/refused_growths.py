@@ -32,7 +32,11 @@ static int is_refused(void) { met += 1; return met == wanted; }
 void *malloc(unsigned long size) { return is_refused() ? 0 : __libc_malloc(size); }
 void *calloc(unsigned long count, unsigned long size) { return is_refused() ? 0 : __libc_calloc(count, size); }
 void *realloc(void *old, unsigned long size) { return is_refused() ? 0 : __libc_realloc(old, size); }
-__attribute__((constructor)) static void begin(void) { char *word = getenv("REFUSED_GROWTH"); met = 0; wanted = word ? strtoul(word, 0, 10) : 0; }
+__attribute__((constructor)) static void begin(void) {
+    char *word = getenv("REFUSED_GROWTH");
+    met = 0;
+    wanted = word ? strtoul(word, 0, 10) : 0;
+}
 __attribute__((destructor)) static void end(void) { if (met < wanted) write(2, "fewer", 5); else write(2, "refused", 7); }
 """
 
