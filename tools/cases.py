@@ -34,6 +34,7 @@ SOURCES = [
     "shown_vectors",
     "sessions",
     "command_lines",
+    "program_cases",
 ]
 
 # The programs that some modules need, and Debian's packages that have them.
