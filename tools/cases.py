@@ -36,6 +36,7 @@ SOURCES = [
     "sessions",
     "command_lines",
     "compartments",
+    "program_cases",
 ]
 
 # The programs that some modules need, and Debian's packages that have them.

@@ -145,6 +145,20 @@ def cut_short():
     for length, fault in ((0, "L1"), (31, "L1"), (32, "L8"), (47, "L8"), (48, "L8"), (51, "L8"), (52, None)):
         yield f"read {text(ONE_INSN[:length])} => {fault or '1 80000000 0 80000000:5b05b522'}"
     yield f"read {text(ONE_INSN + bytes(1))} => L9"
+    yield "# the image of five instructions, cut behind each of its bytes"
+    assert len(FIRST) == 68
+    yield from (f"read {text(FIRST[:length])} => {'L1' if length < 32 else 'L8'}" for length in range(68))
+
+
+def limits():
+    yield "# as many sections as 32 bits count; a section of 2^64 - 1 bytes, of which none comes; two sections at one place"
+    yield f"read {text(header(1, RAM, ONES32, 0))} => L5"
+    yield f"read {text(header(1, RAM, 1, 0) + number(RAM, 8) + number(ONES, 8))} => L6"
+    two = header(1, RAM, 2, 0) + section(RAM, bytes.fromhex("01020304")) + section(RAM, bytes.fromhex("05"))
+    yield f"read {text(two)} => L7"
+    yield "# an entry at RAM's last word, and at RAM's end"
+    yield f"read {text(header(1, END - 4, 0, 0))} => 1 80000ffc 0"
+    yield f"read {text(header(1, END, 0, 0))} => L4"
 
 
 def faults():
@@ -291,7 +305,7 @@ def second_version():
 
 def lines():
     yield "# a file's bytes, or pages, entry, mode and sections => the image or, of copy and file, its bytes; or the fault"
-    for group in (headers, sections, first_faults, read_and_written, cut_short, faults, second_version):
+    for group in (headers, sections, first_faults, read_and_written, cut_short, limits, faults, second_version):
         yield from group()
 
 

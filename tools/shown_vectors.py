@@ -251,4 +251,7 @@ def files():
 
 
 if __name__ == "__main__" and sys.argv[1:] == ["--compare"]:
-    compare(whole()[0])
+    try:
+        compare(whole()[0])
+    except FileNotFoundError as missing:
+        sys.exit(f"tools/shown_vectors.py needs {missing.filename}, of Debian's package binutils-riscv64-linux-gnu")

@@ -10,3 +10,5 @@ pub mod LoadLemmas
 pub mod PageLemmas
 pub mod SectionLemmas
 pub mod BuildLemmas
+pub mod PieceLemmas
+pub mod WorthLemmas

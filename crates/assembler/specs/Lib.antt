@@ -12,9 +12,9 @@ pub mod Worth
 pub mod Blocks
 pub mod Modest
 pub mod Checks
-pub mod Bytes
 pub mod Capabilities
 pub mod Sound
 pub mod Buildable
 pub mod Left
 pub mod Assembly
+pub mod Pieces

@@ -9,6 +9,7 @@ mod capabilities;
 mod checks;
 mod fault;
 mod labels;
+pub mod laws;
 mod lines;
 mod places;
 mod values;

@@ -1,32 +1,12 @@
 //! A CHERI-RISC-V machine on the command line.
 #![tactic(auto)]
 
-mod assembling;
-mod debugging;
-mod fault;
-mod files;
-mod listing;
-mod running;
-#[cfg(test)]
-mod tests;
+mod disk;
 
-ghost use Rattle.sim_run.specs.CommandLine.{HasRanges};
-
-use assembling::assemble_file;
-use debugging::debug_file;
-use fault::{ProgramFault, reading_fault};
-use listing::list_file;
-use machine::End;
-use running::{run_file, run_first};
-use sim_run::{Plan, PlanFault, plan, verdict};
+use commands::{ProgramFault, reading_fault, status_of, tell_fault};
+use disk::Disk;
 use std::process::ExitCode;
 use std::{env, io};
-
-/// The command line was refused, or asks for help.
-const REFUSED: u8 = 2;
-
-/// Another fault.
-const FAULT: u8 = 3;
 
 /// The words of the command line, the program's name first.
 fn words_of(rt: &HostRuntime) -> Result<Vec<String>, ProgramFault<'static>> {
@@ -37,73 +17,26 @@ fn words_of(rt: &HostRuntime) -> Result<Vec<String>, ProgramFault<'static>> {
     words.collect(rt.alloc()).map_err(|_| ProgramFault::Memory)
 }
 
-/// Tells how a run ended, and answers the status.
-fn tell_end(rt: &HostRuntime, end: End) -> u8 {
-    let (status, line) = verdict(end);
-    if status != 0 {
-        let _ = eprintln!(rt; "{line}");
-    }
-    status
-}
-
-/// Does what the plan says, and answers the status.
-fn carry_out<'a>(rt: &HostRuntime, plan: Plan<'a>) -> Result<u8, ProgramFault<'a>>
-    requires { HasRanges plan }
-{
-    match plan {
-        Plan::First => Ok(tell_end(rt, run_first(rt)?)),
-        Plan::Run {
-            image,
-            schedule,
-            input,
-        } => Ok(tell_end(rt, run_file(rt, image, schedule, input)?)),
-        Plan::Asm { input, output } => {
-            assemble_file(rt, input, output)?;
-            Ok(0)
-        }
-        Plan::Dis { image } => {
-            list_file(rt, image)?;
-            Ok(0)
-        }
-        Plan::Debug { image } => {
-            debug_file(rt, image)?;
-            Ok(0)
+/// Does what the words of the command line ask, and answers the status.
+fn status(rt: &HostRuntime, words: &[String]) -> u8 {
+    let stderr = rt.stderr();
+    let mut errors = io::writer(&stderr);
+    let mut texts = Vec::new(rt.alloc());
+    for word in words {
+        if texts.push(word.as_str()).is_err() {
+            return tell_fault(&mut errors, &ProgramFault::Memory);
         }
     }
-}
-
-/// Reads the command line and does what it asks, and answers the status.
-fn status_of(rt: &HostRuntime, words: &[&str]) -> u8 {
-    let done = match plan(rt.alloc(), words) {
-        Ok(plan) => carry_out(rt, plan),
-        Err(PlanFault::Memory) => Err(ProgramFault::Memory),
-        Err(PlanFault::Refused(text)) => {
-            let _ = eprint!(rt; "{text}");
-            Ok(REFUSED)
-        }
-    };
-    match done {
-        Ok(status) => status,
-        Err(fault) => tell_fault(rt, &fault),
-    }
-}
-
-/// Tells a fault, and answers the status.
-fn tell_fault(rt: &HostRuntime, fault: &ProgramFault<'_>) -> u8 {
-    let _ = eprintln!(rt; "cherisim: {fault}");
-    FAULT
+    let mut disk = Disk::new(rt);
+    let input = rt.reader();
+    let output = io::writer(rt);
+    status_of(rt.alloc(), &mut disk, input, output, &mut errors, &texts)
 }
 
 fn main(rt: HostRuntime) -> io::Result<ExitCode> {
-    let words = match words_of(&rt) {
-        Ok(words) => words,
-        Err(fault) => return Ok(ExitCode::from(tell_fault(&rt, &fault))),
+    let status = match words_of(&rt) {
+        Ok(words) => status(&rt, &words),
+        Err(fault) => tell_fault(&mut io::writer(&rt.stderr()), &fault),
     };
-    let mut texts = Vec::new(rt.alloc());
-    for word in &words {
-        if texts.push(word.as_str()).is_err() {
-            return Ok(ExitCode::from(tell_fault(&rt, &ProgramFault::Memory)));
-        }
-    }
-    Ok(ExitCode::from(status_of(&rt, texts.as_slice())))
+    Ok(ExitCode::from(status))
 }

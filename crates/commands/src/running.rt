@@ -5,12 +5,12 @@ ghost use Rattle.hart.specs.Opening.{opening};
 ghost use Rattle.sim_run.specs.Schedule.{IsInRange};
 
 use crate::fault::ProgramFault;
-use crate::files::{read_file, read_image};
+use crate::files::{Folder, read_file, read_image};
 use image::{Image, ToWrite};
 use machine::{End, Machine};
 use sim_run::{Schedule, run_scheduled};
 use std::alloc::Global;
-use std::io;
+use std::io::Write;
 use word_cap::WordCap;
 
 /// Where the first image begins.
@@ -29,44 +29,47 @@ pub fn machine_of<'a>(alloc: Global, image: &Image) -> Result<Machine<WordCap>, 
     Ok(Machine::new(alloc, image)?)
 }
 
-/// Runs a machine from its image, and writes to standard output what it sends.
-fn run_machine<'a>(
-    rt: &HostRuntime,
+/// Runs a machine from its image, and writes to `output` what it sends.
+fn run_machine<'a, O: Write + Drop>(
+    alloc: Global,
     image: &Image,
     schedule: Schedule,
     input: &[u8],
+    output: O,
 ) -> Result<End, ProgramFault<'a>>
     requires { IsInRange schedule }
 {
-    let mut machine = machine_of(rt.alloc(), image)?;
-    let mut output = ToWrite::new(io::writer(rt));
-    Ok(run_scheduled(&mut machine, schedule, input, &mut output)?)
+    let mut machine = machine_of(alloc, image)?;
+    let mut sink = ToWrite::new(output);
+    Ok(run_scheduled(&mut machine, schedule, input, &mut sink)?)
 }
 
 /// Runs the image of a file, with the bytes of the file `input` on its console.
-pub fn run_file<'a>(
-    rt: &HostRuntime,
+pub fn run_file<'a, F: Folder, O: Write + Drop>(
+    alloc: Global,
+    folder: &mut F,
     name: &'a str,
     schedule: Schedule,
     input: Option<&'a str>,
+    output: O,
 ) -> Result<End, ProgramFault<'a>>
     requires { IsInRange schedule }
 {
-    let image = read_image(rt, name)?;
+    let image = read_image(alloc, folder, name)?;
     let bytes = match input {
-        Some(file) => read_file(rt, file)?,
-        None => Vec::new(rt.alloc()),
+        Some(file) => read_file(alloc, folder, file)?,
+        None => Vec::new(alloc),
     };
-    run_machine(rt, &image, schedule, bytes.as_slice())
+    run_machine(alloc, &image, schedule, bytes.as_slice(), output)
 }
 
 /// Runs the first image for its five steps: it sends `A` and halts with 0.
-pub fn run_first<'a>(rt: &HostRuntime) -> Result<End, ProgramFault<'a>> {
-    let image = Image::build(rt.alloc(), 1, ENTRY, 0, &[(ENTRY, &FIRST)])?;
+pub fn run_first<'a, O: Write + Drop>(alloc: Global, output: O) -> Result<End, ProgramFault<'a>> {
+    let image = Image::build(alloc, 1, ENTRY, 0, &[(ENTRY, &FIRST)])?;
     let schedule = Schedule {
         steps: 5,
         gap: 1000,
         tick: 100,
     };
-    run_machine(rt, &image, schedule, &[])
+    run_machine(alloc, &image, schedule, &[], output)
 }

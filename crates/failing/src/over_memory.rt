@@ -1,14 +1,12 @@
-//! Devices whose calls fail: they move few bytes a call, and one of their calls fails.
+//! A source and a sink over memory, one of whose calls fails.
 
 ghost use Rattle.std.specs.Prelude.{◌≡◌};
 
 use image::{DeviceFailed, Sink, Source};
-use std::io;
-use std::io::{Read, Write};
 
 /// Gives one byte a call, but for the call that fails.
 #[derive(Drop)]
-pub(crate) struct Slow<'a> {
+pub struct Slow<'a> {
     bytes: &'a [u8],
     calls: u64,
     fails_at: u64,
@@ -17,8 +15,8 @@ pub(crate) struct Slow<'a> {
 
 impl<'a> Slow<'a> {
     /// Gives these bytes, and fails at the call of this number, from 0.
-    pub(crate) fn new(bytes: &'a [u8], fails_at: u64) -> Self
-        ensures { result.failures ≡ 0 }
+    pub fn new(bytes: &'a [u8], fails_at: u64) -> Self
+        ensures { ⟦<Slow<'a> as Source>⟧.failed result ≡ 0 }
     {
         Slow {
             bytes,
@@ -55,7 +53,7 @@ impl Source for Slow<'_> {
 
 /// Takes so many bytes a call at most, but for the call that fails.
 #[derive(Drop)]
-pub(crate) struct Narrow<'a> {
+pub struct Narrow<'a> {
     held: &'a mut Vec<u8>,
     most: usize,
     calls: u64,
@@ -65,8 +63,8 @@ pub(crate) struct Narrow<'a> {
 
 impl<'a> Narrow<'a> {
     /// Puts bytes behind those that are held, `most` a call but one at least, and fails at the call of this number, from 0.
-    pub(crate) fn new(held: &'a mut Vec<u8>, most: usize, fails_at: u64) -> Self
-        ensures { result.failures ≡ 0 }
+    pub fn new(held: &'a mut Vec<u8>, most: usize, fails_at: u64) -> Self
+        ensures { ⟦<Narrow<'a> as Sink>⟧.failed result ≡ 0 }
     {
         Narrow {
             held,
@@ -94,25 +92,5 @@ impl Sink for Narrow<'_> {
 
     fn failures(&self) -> u64 {
         self.failures
-    }
-}
-
-/// A device of std that is interrupted at each read, and takes no byte at a write.
-#[derive(Drop)]
-pub(crate) struct Stuck;
-
-impl Read for Stuck {
-    fn read(&mut self, _buffer: &mut [u8]) -> io::Result<usize> {
-        Err(io::Error::from(io::ErrorKind::Interrupted))
-    }
-}
-
-impl Write for Stuck {
-    fn write(&mut self, _bytes: &[u8]) -> io::Result<usize> {
-        Ok(0)
-    }
-
-    fn flush(&mut self) -> io::Result<()> {
-        Ok(())
     }
 }

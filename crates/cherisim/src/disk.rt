@@ -1,0 +1,32 @@
+//! The host's files.
+
+use commands::Folder;
+use std::fs::{self, File};
+use std::io;
+
+/// The files of the host, by their paths.
+#[derive(Clone, Copy)]
+pub struct Disk<'a> {
+    rt: &'a HostRuntime,
+}
+
+impl<'a> Disk<'a> {
+    /// The files that the host's runtime reaches.
+    pub fn new(rt: &'a HostRuntime) -> Self {
+        Disk { rt }
+    }
+}
+
+impl Folder for Disk<'_> {
+    type Opened = File;
+
+    type Made = File;
+
+    fn open(&mut self, name: &str) -> io::Result<File> {
+        fs::open(self.rt, name)
+    }
+
+    fn make(&mut self, name: &str) -> io::Result<File> {
+        File::create(self.rt, name)
+    }
+}

@@ -1,0 +1,8 @@
+//! Devices of the tests: each gives or takes few bytes a call, and one of its calls fails, after which it works again.
+#![tactic(auto)]
+
+mod over_memory;
+mod over_std;
+
+pub use over_memory::{Narrow, Slow};
+pub use over_std::{Failure, Reader, Writer};

@@ -1,0 +1,203 @@
+//! A case: a command line, files, what is typed, and which device fails.
+//!
+//! A line is `WORDS | PARTS => STATUS | OPENED | SENT | TOLD | MADE`; `#` begins a line that is none. PARTS are parted by ` & `:
+//! `NAME "text"`, a file of this name; `NAME CALL "text"`, one whose call of this number, from 0, fails; `input "text"` and
+//! `input CALL "text"`, what is typed; `output CALL`, at which call the output fails; `errors CALL` of what is told; `made CALL`
+//! of a file that is written; and `full`, where no file can be made. Texts have the escapes `\n`, `\0`, `\xHH` and so on. The answer is
+//! the status, what was opened and made in order, what was sent, what was told, and what stands in the file that was made, if one was.
+//! Of a text by clap, status 2, only whether there is one is told, and where.
+
+use crate::desk::Desk;
+use crate::quoting::{put_quoted, unquoted};
+use commands::status_of;
+use failing::{Failure, Reader, Writer};
+use std::alloc::{AllocError, AllocFailed, Global};
+use std::io::ErrorKind;
+
+/// The kind of the errors of devices that fail: calls of std don't call again after one of it.
+pub const BROKEN: ErrorKind = ErrorKind::BrokenPipe;
+
+/// Why a case cannot be tried.
+#[derive(Clone, Copy, Debug)]
+pub enum CaseError {
+    /// It is none.
+    Unreadable,
+    /// Memory is out.
+    Memory,
+}
+
+impl CaseError {
+    pub fn text(self) -> &'static str {
+        match self {
+            CaseError::Unreadable => "no case",
+            CaseError::Memory => "no memory",
+        }
+    }
+}
+
+impl From<AllocError> for CaseError {
+    fn from(_: AllocError) -> Self {
+        CaseError::Memory
+    }
+}
+
+impl<T: Drop> From<AllocFailed<T>> for CaseError {
+    fn from(_: AllocFailed<T>) -> Self {
+        CaseError::Memory
+    }
+}
+
+/// A file, or what is typed, and the number of the call that fails.
+#[derive(Debug, Drop)]
+pub struct Content<'a> {
+    pub name: &'a str,
+    pub bytes: Vec<u8>,
+    pub fails_at: u64,
+}
+
+/// Which calls fail of what is written: their numbers, from 0, and 2^64 - 1 for none.
+#[derive(Clone, Copy, Debug)]
+struct Cuts {
+    output: u64,
+    errors: u64,
+    made: u64,
+    is_full: bool,
+}
+
+/// A line of the file of cases.
+#[derive(Clone, Copy, Debug)]
+pub struct Case<'a> {
+    pub inputs: &'a str,
+    pub expected: &'a str,
+}
+
+/// What came of a case.
+#[derive(Debug, Drop)]
+pub struct Came {
+    status: u8,
+    opened: String,
+    sent: Vec<u8>,
+    told: Vec<u8>,
+    made: Vec<u8>,
+}
+
+/// The number of a call.
+fn call_of(word: &str) -> Result<u64, CaseError> {
+    u64::from_str_radix(word, 10).map_err(|_| CaseError::Unreadable)
+}
+
+/// The content of a part `NAME "text"` or `NAME CALL "text"`.
+fn content_of<'a>(alloc: Global, name: &'a str, rest: &str) -> Result<Content<'a>, CaseError> {
+    let (call, text) = rest.split_once('"').ok_or(CaseError::Unreadable)?;
+    let fails_at = match call.strip_suffix(' ') {
+        Some(call) => call_of(call)?,
+        None => u64::MAX,
+    };
+    Ok(Content {
+        name,
+        bytes: unquoted(alloc, text)?,
+        fails_at,
+    })
+}
+
+impl Cuts {
+    const NONE: Cuts = Cuts {
+        output: u64::MAX,
+        errors: u64::MAX,
+        made: u64::MAX,
+        is_full: false,
+    };
+
+    /// Takes a part that names a call of what is written, and says whether it is one.
+    fn takes(&mut self, part: &str) -> Result<bool, CaseError> {
+        let (name, call) = part.split_once(' ').unwrap_or((part, "0"));
+        match name {
+            "output" => self.output = call_of(call)?,
+            "errors" => self.errors = call_of(call)?,
+            "made" => self.made = call_of(call)?,
+            "full" => self.is_full = true,
+            _ => return Ok(false),
+        }
+        Ok(true)
+    }
+}
+
+impl<'a> Case<'a> {
+    /// The case of a line: none where it is empty or a comment.
+    pub fn of(line: &'a str) -> Option<Self> {
+        if line.is_empty() || line.starts_with('#') {
+            return None;
+        }
+        let (inputs, expected) = line.split_once(" => ").unwrap_or((line, ""));
+        Some(Case { inputs, expected })
+    }
+
+    /// Does what the command line asks.
+    pub fn tried(&self, alloc: Global) -> Result<Came, CaseError> {
+        let (line, parts) = self
+            .inputs
+            .split_once(" | ")
+            .unwrap_or((self.inputs, "input \"\""));
+        let mut words = Vec::new(alloc);
+        for word in line.split(' ') {
+            words.push(word)?;
+        }
+        let mut files = Vec::new(alloc);
+        let mut cuts = Cuts::NONE;
+        for part in parts.split(" & ") {
+            if !cuts.takes(part)? {
+                let (name, rest) = part.split_once(' ').ok_or(CaseError::Unreadable)?;
+                files.push(content_of(alloc, name, rest)?)?;
+            }
+        }
+        carried(alloc, &words, &files, cuts)
+    }
+}
+
+/// What comes of a command line with these files, of which `input` is what is typed.
+fn carried(
+    alloc: Global,
+    words: &[&str],
+    files: &[Content],
+    cuts: Cuts,
+) -> Result<Came, CaseError> {
+    let mut opened = String::new(alloc);
+    let mut sent = Vec::new(alloc);
+    let mut told = Vec::new(alloc);
+    let mut made = Vec::new(alloc);
+    let input = match files.iter().find(|file| file.name == "input") {
+        Some(file) => Reader::new(&file.bytes, file.fails_at, BROKEN),
+        None => Reader::new(&[], u64::MAX, BROKEN),
+    };
+    let mut desk = Desk::new(files, &mut opened, &mut made, cuts.made, cuts.is_full);
+    let output = Writer::new(&mut sent, cuts.output, Failure::Error(BROKEN));
+    let mut errors = Writer::new(&mut told, cuts.errors, Failure::Error(BROKEN));
+    let status = status_of(alloc, &mut desk, input, output, &mut errors, words);
+    Ok(Came {
+        status,
+        opened,
+        sent,
+        told,
+        made,
+    })
+}
+
+impl Came {
+    /// What came, as the answer of a case has it.
+    pub fn text(&self, alloc: Global) -> Result<String, CaseError> {
+        let mut text = String::new(alloc);
+        let status = self.status;
+        let opened = self.opened.as_str();
+        write!(text, "{status} |{opened} | ")?;
+        put_quoted(&mut text, &self.sent)?;
+        text.push_str(" | ")?;
+        if status == 2 && !self.told.is_empty() {
+            text.push_str("a text")?;
+        } else {
+            put_quoted(&mut text, &self.told)?;
+        }
+        text.push_str(" | ")?;
+        put_quoted(&mut text, &self.made)?;
+        Ok(text)
+    }
+}

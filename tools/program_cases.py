@@ -1,0 +1,158 @@
+"""Command lines of the program with files and streams of the tests: each row of its table of statuses, and each order of its faults.
+
+The statuses, the order of faults and the texts are those of the program's description; images and words are made here, field by field.
+"""
+
+from images import FIRST, header, section
+from quoting import quoted
+
+RAM = 0x80000000
+A0, A1, A2 = 10, 11, 12
+
+
+def immediate(value, base, funct3, target, opcode):
+    return (value & 0xFFF) << 20 | base << 15 | funct3 << 12 | target << 7 | opcode
+
+
+def store(value, source, base, funct3):
+    return (value >> 5 & 0x7F) << 25 | source << 20 | base << 15 | funct3 << 12 | (value & 0x1F) << 7 | 0x23
+
+
+def branch(offset, first, second, funct3):
+    return ((offset >> 12 & 1) << 31 | (offset >> 5 & 0x3F) << 25 | second << 20 | first << 15 | funct3 << 12
+            | (offset >> 1 & 0xF) << 8 | (offset >> 11 & 1) << 7 | 0x63)
+
+
+def lui(target, upper):
+    return upper << 12 | target << 7 | 0x37
+
+
+def addi(target, base, value):
+    return immediate(value, base, 0, target, 0x13)
+
+
+def ld(target, base, value):
+    return immediate(value, base, 3, target, 0x03)
+
+
+def sb(source, base):
+    return store(0, source, base, 0)
+
+
+def sd(source, base):
+    return store(0, source, base, 3)
+
+
+def image(*words):
+    """The file of an image of one page with these words from its beginning on."""
+    return header(1, RAM, 1, 0) + section(RAM, b"".join(word.to_bytes(4, "little") for word in words))
+
+
+SENDS_A = [lui(A1, 0x10000), addi(A0, 0, 65), sb(A0, A1), lui(A1, 0x100), sd(0, A1)]
+assert image(*SENDS_A) == FIRST
+HALTS_WITH_7 = [lui(A1, 0x100), addi(A0, 0, 7), sd(A0, A1)]
+# waits for three bytes, and sends each
+ECHO = [lui(A1, 0x10000), addi(A2, 0, 3), ld(A0, A1, 16), branch(-4, A0, 0, 0), ld(A0, A1, 8), sb(A0, A1), addi(A2, A2, -1),
+        branch(-20, A2, 0, 1), lui(A1, 0x100), sd(0, A1)]
+# sends the low byte of the timer's count
+TELLS_TIME = [lui(A1, 0x200C), ld(A0, A1, -8), lui(A1, 0x10000), addi(A0, A0, 65), sb(A0, A1), lui(A1, 0x100), sd(0, A1)]
+
+FILE = f'first.img {quoted(FIRST)}'
+TEXT = 'a.s "lui a1, 0x10000\\naddi a0, zero, 65\\nsb a0, 0(a1)\\nlui a1, 0x100\\nsd zero, 0(a1)\\n"'
+BAD = 'bad.img "CHERIIMH"'
+REPLY = "events 5 out 41 pc 0000000080000014 halted 0\n"
+LISTED = ("0000000080000000 100005b7 lui a1, 0x10000\n0000000080000004 04100513 addi a0, zero, 65\n"
+          "0000000080000008 00a58023 sb a0, 0(a1)\n000000008000000c 001005b7 lui a1, 0x100\n0000000080000010 0005b023 sd zero, 0(a1)\n")
+
+
+def case(words, parts, status, opened="", sent=b"", told="", made=b""):
+    given = " ".join(["cherisim", *words.split()]) + " | " + " & ".join(parts or ['input ""'])
+    told = "a text" if status == 2 else quoted(told.encode())
+    opened = "".join(f" {deed}" for deed in opened.split(", ") if deed)
+    sent = sent.encode() if isinstance(sent, str) else sent
+    return f"{given} => {status} |{opened} | {quoted(sent)} | {told} | {quoted(made)}"
+
+
+def ends():
+    yield "# done: status 0"
+    yield case("", [], 0, sent=b"A")
+    yield case("asm a.s a.img", [TEXT], 0, "open a.s, make a.img", made=FIRST)
+    yield case("run first.img 5", [FILE], 0, "open first.img", b"A")
+    yield case("run first.img 100000000", [FILE], 0, "open first.img", b"A")
+    yield case("dis first.img", [FILE], 0, "open first.img", LISTED)
+    yield case("debug first.img", [FILE, 'input "step 5\\nquit\\nregs\\n"'], 0, "open first.img", REPLY)
+    yield case("debug first.img", [FILE, 'input "step 5"'], 0, "open first.img", REPLY)
+    yield case("debug first.img", [FILE], 0, "open first.img")
+    yield "# the bytes of a file come on the console, one before each so many steps, and ticks as often as they are asked for"
+    echo = f"echo.img {quoted(image(*ECHO))}"
+    yield case("run echo.img 22 --input keys --gap 1", [echo, 'keys "ABC"'], 0, "open echo.img, open keys", b"ABC")
+    yield case("run echo.img 22 --input keys --gap 7", [echo, 'keys "ABC"'], 0, "open echo.img, open keys", b"ABC")
+    yield case("run echo.img 22 --input keys --gap 1", [echo, 'keys "AB"', 'input "C"'], 1, "open echo.img, open keys", b"AB",
+               "cherisim: not halted\n")
+    yield case("run echo.img 21 --input keys --gap 1", [echo, 'keys "ABC"'], 1, "open echo.img, open keys", b"ABC",
+               "cherisim: not halted\n")
+    time = f"time.img {quoted(image(*TELLS_TIME))}"
+    yield case("run time.img 7 --tick 1", [time], 0, "open time.img", b"B")
+    yield case("run time.img 7 --tick 0", [time], 0, "open time.img", b"A")
+    yield "# a run that ended otherwise: status 1"
+    yield case("run first.img 4", [FILE], 1, "open first.img", b"A", "cherisim: not halted\n")
+    yield case("run seven.img 3", [f"seven.img {quoted(image(*HALTS_WITH_7))}"], 1, "open seven.img", b"", "cherisim: halted with 7\n")
+    yield "# a command line that is refused, or asks for help: status 2, a text of clap's, and no file is opened"
+    for words in ("frob", "--help", "asm a.s", "asm a.s a.img b.img", "run first.img", "run first.img 0", "run none.img 100000001",
+                  "run first.img 5 --gap 0", "run first.img 5 --gap 1000001", "run first.img 5 --tick 1000001", "run first.img x", "dis",
+                  "debug", "debug first.img 5"):
+        yield case(words, [FILE, TEXT], 2)
+
+
+def faults():
+    yield "# another fault: status 3, with its text"
+    for command in ("asm none out.img", "run none 5", "dis none", "debug none"):
+        yield case(command, [FILE], 3, "open none", told="cherisim: file none\n")
+    for command in ("run bad.img 5", "dis bad.img", "debug bad.img"):
+        yield case(command, [BAD], 3, "open bad.img", told="cherisim: L1 short header\n")
+    yield case("asm a.s out.img", ['a.s "nop\\nfrob a0\\n"'], 3, "open a.s", told="cherisim: line 2: A1 unknown mnemonic\n")
+    yield case("asm a.s out.img", [TEXT, "full"], 3, "open a.s, make out.img", told="cherisim: file out.img\n")
+    yield case("run first.img 5 --input none", [FILE], 3, "open first.img, open none", told="cherisim: file none\n")
+    yield "# the faults in order: the command line, the file that is read first, what it says, the other file, the work"
+    yield case("run none 0 --input none", [], 2)
+    yield case("asm none", [], 2)
+    yield case("run none 5 --input nowhere", [], 3, "open none", told="cherisim: file none\n")
+    yield case("run bad.img 5 --input none", [BAD], 3, "open bad.img", told="cherisim: L1 short header\n")
+    yield case("asm none out.img", ["full"], 3, "open none", told="cherisim: file none\n")
+    yield case("asm a.s out.img", ['a.s "frob\\nnop\\n"', "full"], 3, "open a.s", told="cherisim: line 1: A1 unknown mnemonic\n")
+    yield case("run first.img 5 --input none", [FILE, "output 0"], 3, "open first.img, open none", told="cherisim: file none\n")
+
+
+def failing():
+    yield "# calls of files and streams that fail, by their numbers from 0"
+    yield from (case("asm a.s out.img", [TEXT.replace("a.s", f"a.s {call}", 1)], 3, "open a.s", told="cherisim: read failed\n")
+                for call in (0, 1, 40))
+    for command in ("run", "dis", "debug"):
+        words = f"{command} first.img" + (" 5" if command == "run" else "")
+        yield from (case(words, [FILE.replace("first.img", f"first.img {call}", 1)], 3, "open first.img",
+                         told="cherisim: L10 device failed\n") for call in (0, 31, 32, 67, 68))
+        yield case(words, [FILE.replace("first.img", "first.img 69", 1), 'input "quit\\n"'], 0, "open first.img",
+                   {"run": b"A", "dis": LISTED, "debug": b""}[command])
+    yield from (case("run first.img 5 --input keys", [FILE, f'keys {call} "AB"'], 3, "open first.img, open keys",
+                     told="cherisim: read failed\n") for call in (0, 1, 2))
+    yield from (case("asm a.s out.img", [TEXT, f"made {call}"], 3, "open a.s, make out.img", told="cherisim: L10 device failed\n",
+                     made=FIRST[:call]) for call in (0, 1, 48, 67))
+    yield case("asm a.s out.img", [TEXT, "made 68"], 0, "open a.s, make out.img", made=FIRST)
+    yield case("run first.img 5", [FILE, "output 0"], 3, "open first.img", told="cherisim: write failed\n")
+    yield case("run first.img 5", [FILE, "output 1"], 0, "open first.img", b"A")
+    yield case("", ["output 0"], 3, told="cherisim: write failed\n")
+    yield from (case("dis first.img", [FILE, f"output {call}"], 3, "open first.img", LISTED[:call], "cherisim: write failed\n")
+                for call in (0, 1, 42, len(LISTED) - 1))
+    yield from (case("debug first.img", [FILE, 'input "step 5\\nquit\\n"', f"output {call}"], 3, "open first.img", REPLY[:call],
+                     "cherisim: write failed\n") for call in (0, 1, len(REPLY) - 1))
+    yield from (case("debug first.img", [FILE, f'input {call} "step 5\\nquit\\n"'], 3, "open first.img", sent, "cherisim: read failed\n")
+                for call, sent in ((0, ""), (6, ""), (7, REPLY), (11, REPLY)))
+    yield "# where nothing can be told, the status is the same"
+    yield case("run first.img 4", [FILE, "errors 0"], 1, "open first.img", b"A")
+    yield case("dis none", ["errors 9"], 3, "open none", told="cherisim:")
+
+
+def files():
+    lines = ["# a command line, files and streams => the status, what is opened and made, sent, told, and what stands in the file made"]
+    lines += [*ends(), *faults(), *failing()]
+    yield "../../program_tests/data/commands.txt", lines
