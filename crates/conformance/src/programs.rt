@@ -199,7 +199,11 @@ impl Outcome {
 }
 
 /// The text of a program in a mode.
-pub(crate) fn text_in_mode(alloc: Global, mode: &str, statements: &str) -> Result<String, AllocError> {
+pub(crate) fn text_in_mode(
+    alloc: Global,
+    mode: &str,
+    statements: &str,
+) -> Result<String, AllocError> {
     let mode = format!(in alloc; ".mode {mode}")?;
     text_of(alloc, &mode, statements)
 }

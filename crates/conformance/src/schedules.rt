@@ -33,7 +33,8 @@ const GRID: [(u64, u64); 9] = [
 const KEYS: &str = "seven bytes";
 
 /// What is asked behind a run: all of the state but tags in RAM, which loads show.
-const STATE: &str = "end; sent; halted; registers; ram; waiting; mtime; mtimecmp; overrun; control; mstatus; mie; mip; mscratch; \
+const STATE: &str =
+    "end; sent; halted; registers; ram; waiting; mtime; mtimecmp; overrun; control; mstatus; mie; mip; mscratch; \
 mcause; mtval; mcycle; minstret; bits pcc; bits ddc; bits mtcc; bits mtdc; bits mscratchc; bits mepcc";
 
 impl Outcome {
@@ -92,9 +93,7 @@ fn difference(
     if at_once == singly {
         return Ok(None);
     }
-    Ok(Some(
-        format!(in alloc; "tick {tick}, gap {gap}: {at_once} for {singly}")?,
-    ))
+    Ok(Some(format!(in alloc; "tick {tick}, gap {gap}: {at_once} for {singly}")?))
 }
 
 /// The mode, ` | `, and a program's statements. The answer is `same`, or the first schedule on which the two ways differ, and how.

@@ -166,10 +166,11 @@ units_of_base w e b low mantissa =
     let total : 50 - e + 14 + e ≡ 64 = omega arith in
     let space : 2 ^ (50 - e + 14) * 2 ^ e ≡ 2 ^ 64 = sym (pow-add 2 (50 - e + 14) e) ∙ ap (λ n. 2 ^ n) total in
     let own : (w * 16384 + b) % 16384 ≡ b = omega arith in
-    let rounds : 2 ^ (50 - e + 14) ≡ 2 ^ (50 - e) * 16384 = pow-add 2 (50 - e) 14 in
-    (mod-scaled (w * 16384 + b) (2 ^ (50 - e + 14)) (2 ^ e) (pow_pos (50 - e + 14)) (pow_pos e)
-    ∙ ap (λ n. (w * 16384 + b) * 2 ^ e % n) space,
-    ap (λ n. (w * 16384 + b) % n % 16384) rounds ∙ mod-twice (w * 16384 + b) (2 ^ (50 - e)) ∙ own)
+    let rounds : 2 ^ (50 - e + 14) ≡ 2 ^ (50 - e) * 16384 = pow-add 2 (50 - e) 14 in (
+      mod-scaled (w * 16384 + b) (2 ^ (50 - e + 14)) (2 ^ e) (pow_pos (50 - e + 14)) (pow_pos e)
+          ∙ ap (λ n. (w * 16384 + b) * 2 ^ e % n) space,
+      ap (λ n. (w * 16384 + b) % n % 16384) rounds ∙ mod-twice (w * 16384 + b) (2 ^ (50 - e)) ∙ own,
+    )
 
 -- an address less than a length behind the base gives the same base
 decoded_base-inside : (e b own address : ℕ) → e ≤ 52 → b < 16384 → own < 2 ^ 64 → address < 2 ^ 64
