@@ -8,6 +8,7 @@ use crate::fault::ProgramFault;
 use crate::files::Folder;
 use crate::listing::list_file;
 use crate::running::{run_file, run_first};
+use image::DeviceFailed;
 use machine::End;
 use sim_run::{Plan, PlanFault, plan, verdict};
 use std::alloc::Global;
@@ -18,6 +19,9 @@ const REFUSED: u8 = 2;
 
 /// The status of another fault.
 pub const FAULT: u8 = 3;
+
+/// What `--version` writes.
+const VERSION: &str = "cherisim 0.1.0\n";
 
 /// What became of a command that was carried out.
 #[derive(Clone, Copy, Debug)]
@@ -75,10 +79,23 @@ fn carry_out<'a, F: Folder, I: Read + Drop, O: Write + Drop>(
     }
 }
 
+/// Whether the words ask for the version alone.
+fn asks_version(words: &[&str]) -> bool {
+    words.len() == 2 && words[1] == "--version"
+}
+
+/// Writes the version, and answers the status.
+fn show_version<O: Write, E: Write>(mut output: O, errors: &mut E) -> u8 {
+    match output.write_all(VERSION.as_bytes()) {
+        Ok(()) => 0,
+        Err(_) => tell_fault(errors, &ProgramFault::Write(DeviceFailed)),
+    }
+}
+
 /// Reads the words of a command line, the program's name first, and does what they ask: with files in `folder`, what is typed
 /// from `input`, what is sent, listed or answered to `output`, and what is told of refusals, faults and ends to `errors`.
 ///
-/// Answers the status: 0 for what was done, of a run where the machine halted with 0; 1 for a run that ended otherwise; 2 for a
+/// Answers the status: 0 for what was done, the version shown among it, and of a run where the machine halted with 0; 1 for a run that ended otherwise; 2 for a
 /// command line that was refused or asks for help; 3 for another fault.
 pub fn status_of<F: Folder, I: Read + Drop, O: Write + Drop, E: Write>(
     alloc: Global,
@@ -88,6 +105,9 @@ pub fn status_of<F: Folder, I: Read + Drop, O: Write + Drop, E: Write>(
     errors: &mut E,
     words: &[&str],
 ) -> u8 {
+    if asks_version(words) {
+        return show_version(output, errors);
+    }
     let plan = match plan(alloc, words) {
         Ok(plan) => plan,
         Err(PlanFault::Memory) => return tell_fault(errors, &ProgramFault::Memory),
