@@ -327,8 +327,23 @@ def failures():
     for call in range(len(ONE_CAPABILITY)):
         yield f"write {call:x} {second} => 1 L10 {text(ONE_CAPABILITY[:call])}"
     yield f"write {len(ONE_CAPABILITY):x} {second} => 0 ok {second}"
-    yield "# a device of std fails where a call of it does, or where it takes no byte of some"
-    yield from ("stuckread => failed 1", "stuckwrite - => 0 0", "stuckwriteall 74657874 => failed 1", "part 3 74657874 => 3 0 746578")
+    yield "# a reader of std that is interrupted once: that call fails and is counted, and the next one goes on"
+    yield "interrupted - 6162 => 1 0 61;1 0 62;0 0 00;0 0 00;"
+    yield "interrupted 0 6162 => failed 1 00;1 1 61;1 1 62;0 1 00;"
+    yield "interrupted 1 6162 => 1 0 61;failed 1 00;1 1 62;0 1 00;"
+    yield "interrupted 2 6162 => 1 0 61;1 0 62;failed 1 00;0 1 00;"
+    yield "# a writer of std of which a call fails, or takes no byte: the same, and that byte isn't written; it is never flushed"
+    for failure in ("interrupted", "nobyte"):
+        yield f"broken - {failure} 616263 => 1 0;1 0;1 0; 616263"
+        yield f"broken 0 {failure} 616263 => failed 1;1 1;1 1; 6263"
+        yield f"broken 1 {failure} 616263 => 1 0;failed 1;1 1; 6163"
+        yield f"broken 2 {failure} 616263 => 1 0;1 0;failed 1; 6162"
+        yield f"brokenall - {failure} - => 0 0 -"
+        yield f"brokenall 0 {failure} - => 0 0 -"
+        yield f"brokenall - {failure} 616263 => 3 0 616263"
+        yield from (f"brokenall {call} {failure} 616263 => failed 1 {b'abc'[:call].hex() or '-'}" for call in range(3))
+    yield "# fewer bytes than there is room for"
+    yield "part 3 74657874 => 3 0 746578"
 
 
 def files():

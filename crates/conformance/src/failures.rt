@@ -2,12 +2,13 @@
 
 use crate::bytes;
 use crate::case::CaseError;
-use crate::failing::{Narrow, Slow, Stuck};
 use crate::images::{fault_name, image_text};
 use crate::numbers::Words;
 use crate::text::name;
+use failing::{Failure, Narrow, Reader, Slow, Writer};
 use image::{DeviceFailed, FromRead, Image, Sink, Source, ToWrite, read, write, write_all};
 use std::alloc::Global;
+use std::io::ErrorKind;
 
 /// The image of a file without a fault.
 pub(crate) fn image_of(alloc: Global, file: &[u8]) -> Result<Image, CaseError> {
@@ -61,28 +62,72 @@ fn read_part(alloc: Global, words: &mut Words) -> Result<String, CaseError> {
     Ok(format!(in alloc; "{told} {held}")?)
 }
 
-/// What writing bytes to a device of std that takes none comes to: `stuckwrite` in one call, or `stuckwriteall`.
-fn write_stuck(alloc: Global, what: &str, bytes: &[u8]) -> Result<String, CaseError> {
-    let mut sink = ToWrite::new(Stuck);
-    let answered = match what {
-        "stuckwrite" => Sink::write(&mut sink, bytes),
-        "stuckwriteall" => write_all(&mut sink, bytes).map(|()| bytes.len()),
-        _ => return Err(CaseError::Unreadable),
-    };
-    called(alloc, answered, sink.failures())
+/// What each byte is told as that is read from a reader of std, which is interrupted at a call, until the end comes.
+fn read_interrupted(alloc: Global, words: &mut Words) -> Result<String, CaseError> {
+    let call = words.call();
+    let bytes = bytes::bytes(alloc, words.word())?;
+    let mut source = FromRead::new(Reader::new(&bytes, call, ErrorKind::Interrupted));
+    let mut told = String::new(alloc);
+    for _ in 0..bytes.len().saturating_add(2) {
+        let mut place = [0];
+        let answered = Source::read(&mut source, &mut place);
+        told.push_str(&called(alloc, answered, source.failures())?)?;
+        told.push_str(" ")?;
+        told.push_str(&bytes::text(alloc, &place)?)?;
+        told.push_str(";")?;
+    }
+    Ok(told)
 }
 
-/// Calls of devices of std: `stuckread`, `stuckwrite BYTES` in one call, `stuckwriteall BYTES`, and `part SIZE BYTES`, which reads into
-/// so many bytes.
+/// How a call of a writer of std fails.
+fn failure_of(word: &str) -> Result<Failure, CaseError> {
+    match word {
+        "interrupted" => Ok(Failure::Error(ErrorKind::Interrupted)),
+        "nobyte" => Ok(Failure::NoByte),
+        _ => Err(CaseError::Unreadable),
+    }
+}
+
+/// What is told as each byte is written to a writer of std, of which one call fails so, and what it holds in the end.
+fn write_broken(alloc: Global, words: &mut Words) -> Result<String, CaseError> {
+    let call = words.call();
+    let failure = failure_of(words.word())?;
+    let bytes = bytes::bytes(alloc, words.word())?;
+    let mut held = Vec::new(alloc);
+    let mut sink = ToWrite::new(Writer::new(&mut held, call, failure));
+    let mut told = String::new(alloc);
+    for byte in &bytes {
+        let answered = Sink::write(&mut sink, &[*byte]);
+        told.push_str(&called(alloc, answered, sink.failures())?)?;
+        told.push_str(";")?;
+    }
+    told.push_str(" ")?;
+    told.push_str(&bytes::text(alloc, &held)?)?;
+    Ok(told)
+}
+
+/// What writing all bytes to a writer of std comes to, of which one call fails so, and what it holds in the end.
+fn write_all_broken(alloc: Global, words: &mut Words) -> Result<String, CaseError> {
+    let call = words.call();
+    let failure = failure_of(words.word())?;
+    let bytes = bytes::bytes(alloc, words.word())?;
+    let mut held = Vec::new(alloc);
+    let mut sink = ToWrite::new(Writer::new(&mut held, call, failure));
+    let answered = write_all(&mut sink, &bytes).map(|()| bytes.len());
+    let told = called(alloc, answered, sink.failures())?;
+    let held = bytes::text(alloc, &held)?;
+    Ok(format!(in alloc; "{told} {held}")?)
+}
+
+/// Calls of devices of std: `interrupted CALL BYTES`, a byte a call; `broken CALL FAILURE BYTES`, a byte a call, and `brokenall`, all in
+/// one, with `interrupted` or `nobyte` as the failure; and `part SIZE BYTES`, which reads into so many bytes.
 fn std_call(alloc: Global, what: &str, words: &mut Words) -> Result<String, CaseError> {
     match what {
-        "stuckread" => {
-            let mut source = FromRead::new(Stuck);
-            let answered = Source::read(&mut source, &mut [0; 4]);
-            called(alloc, answered, source.failures())
-        }
+        "interrupted" => read_interrupted(alloc, words),
+        "broken" => write_broken(alloc, words),
+        "brokenall" => write_all_broken(alloc, words),
         "part" => read_part(alloc, words),
-        _ => write_stuck(alloc, what, &bytes::bytes(alloc, words.word())?),
+        _ => Err(CaseError::Unreadable),
     }
 }
 

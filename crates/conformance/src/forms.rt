@@ -1,12 +1,12 @@
 //! The forms of capabilities that there are, and machines that work with each.
 
 use crate::case::CaseError;
-use crate::failing::Narrow;
 use crate::programs::{Outcome, Pace, Timetable, text_of};
 use crate::sessions::Errand;
 use assembler::assemble;
 use cap_bounds::PlainCap;
 use debugger::Session;
+use failing::Narrow;
 use image::{DeviceFailed, Image, Sink};
 use machine::{End, Machine};
 use sim_run::run_scheduled;

@@ -13,7 +13,6 @@ mod case;
 mod checks;
 mod device_script;
 mod encodings;
-mod failing;
 mod failures;
 mod forms;
 mod images;

@@ -1,10 +1,10 @@
 //! Command lines, and listings.
 
 use crate::case::CaseError;
-use crate::failing::Narrow;
 use crate::numbers::Words;
 use crate::quoted::{put_quoted, unquoted};
 use assembler::assemble;
+use failing::Narrow;
 use image::{Image, Sink};
 use sim_run::{Plan, PlanFault, list, plan};
 use std::alloc::{AllocError, Global};

@@ -1,13 +1,13 @@
 //! Calls of sessions: commands, and conversations over devices whose calls fail.
 
 use crate::case::CaseError;
-use crate::failing::{Narrow, Slow};
 use crate::forms::Form;
 use crate::numbers::Words;
 use crate::quoted::{put_quoted, unquoted};
 use crate::sessions::Errand;
 use cap_bounds::CapRep;
 use debugger::{DebugFault, Reply, Session, talk};
+use failing::{Narrow, Slow};
 use std::alloc::{AllocError, Global};
 
 /// Puts what a session answers to a line behind a text.
