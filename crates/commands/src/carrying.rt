@@ -95,8 +95,8 @@ fn show_version<O: Write, E: Write>(mut output: O, errors: &mut E) -> u8 {
 /// Reads the words of a command line, the program's name first, and does what they ask: with files in `folder`, what is typed
 /// from `input`, what is sent, listed or answered to `output`, and what is told of refusals, faults and ends to `errors`.
 ///
-/// Answers the status: 0 for what was done, the version shown among it, and of a run where the machine halted with 0; 1 for a run that ended otherwise; 2 for a
-/// command line that was refused or asks for help; 3 for another fault.
+/// Answers the status: 0 for what was done, the version shown among it, and of a run where the machine halted with 0; 1 for a run
+/// that ended otherwise; 2 for a command line that was refused or asks for help; 3 for another fault.
 pub fn status_of<F: Folder, I: Read + Drop, O: Write + Drop, E: Write>(
     alloc: Global,
     folder: &mut F,
