@@ -85,7 +85,7 @@ fn asks_version(words: &[&str]) -> bool {
 }
 
 /// Writes the version, and answers the status.
-fn show_version<O: Write, E: Write>(mut output: O, errors: &mut E) -> u8 {
+fn show_version<O: Write + Drop, E: Write>(mut output: O, errors: &mut E) -> u8 {
     match output.write_all(VERSION.as_bytes()) {
         Ok(()) => 0,
         Err(_) => tell_fault(errors, &ProgramFault::Write(DeviceFailed)),
