@@ -170,18 +170,27 @@ pub(crate) fn bounds_of(word: CapWord) -> Bounds
     }
 }
 
+/// The same of any exponent. Its own function, since hardly an access needs it and all others would carry its code.
+#[inline(never)]
+fn wide_bounds_hold(word: CapWord, address: u64, size: u64) -> bool
+    ensures { result ≡ (nat_le (base_of_word word) address && nat_le (address + size) (top_of_word word)) }
+{
+    let bounds = bounds_of(word);
+    bounds.base <= address && u128::from(address) + u128::from(size) <= bounds.top
+}
+
 /// Whether a word's bounds hold the `size` bytes from an address. Up to an exponent of 50 the length decides, and no top is built.
 #[inline(always)]
 pub(crate) fn bounds_hold(word: CapWord, address: u64, size: u64) -> bool
     ensures { result ≡ (nat_le (base_of_word word) address && nat_le (address + size) (top_of_word word)) }
 {
     let mantissas = mantissas_of(word);
+    if mantissas.exponent > 50 {
+        return wide_bounds_hold(word, address, size);
+    }
     let base = base_at(mantissas.exponent, mantissas.base, word.address());
     if address < base {
         return false;
-    }
-    if mantissas.exponent > 50 {
-        return u128::from(address) + u128::from(size) <= bounds_of(word).top;
     }
     let length = mantissas.length << mantissas.exponent;
     if length < size {

@@ -47,7 +47,8 @@ impl CapRep for WordCap {
         bounds_of(self.word).top
     }
 
-    #[inline(always)]
+    // a call, so that the checks that ask it stay small enough to be inlined themselves
+    #[inline(never)]
     fn holds(self, address: u64, size: u64) -> bool {
         bounds_hold(self.word, address, size)
     }
