@@ -62,6 +62,9 @@ fn read_part(alloc: Global, words: &mut Words) -> Result<String, CaseError> {
     Ok(format!(in alloc; "{told} {held}")?)
 }
 
+/// More calls than these fail in no case.
+const MOST_FAILURES: u64 = 1;
+
 /// What each byte is told as that is read from a reader of std, which is interrupted at a call, until the end comes.
 fn read_interrupted(alloc: Global, words: &mut Words) -> Result<String, CaseError> {
     let call = words.call();
@@ -69,6 +72,9 @@ fn read_interrupted(alloc: Global, words: &mut Words) -> Result<String, CaseErro
     let mut source = FromRead::new(Reader::new(&bytes, call, ErrorKind::Interrupted));
     let mut told = String::new(alloc);
     for _ in 0..bytes.len().saturating_add(2) {
+        if source.failures() > MOST_FAILURES {
+            return Err(CaseError::Unreadable);
+        }
         let mut place = [0];
         let answered = Source::read(&mut source, &mut place);
         told.push_str(&called(alloc, answered, source.failures())?)?;
@@ -97,6 +103,9 @@ fn write_broken(alloc: Global, words: &mut Words) -> Result<String, CaseError> {
     let mut sink = ToWrite::new(Writer::new(&mut held, call, failure));
     let mut told = String::new(alloc);
     for byte in &bytes {
+        if sink.failures() > MOST_FAILURES {
+            return Err(CaseError::Unreadable);
+        }
         let answered = Sink::write(&mut sink, &[*byte]);
         told.push_str(&called(alloc, answered, sink.failures())?)?;
         told.push_str(";")?;
