@@ -285,22 +285,55 @@ def second_version():
     yield f"read {text(patched(ONE_CAPABILITY, {32: 0, 33: 4}))} => L8"
     yield f"read {text(patched(ONE_CAPABILITY, {32: 0}))} => L9"
     yield f"read {text(patched(ONE_CAPABILITY, {32: 2}))} => L8"
-    yield "# the first fault of two, in a build and in a file"
-    place, range_, rights = granted(0), granted(length=ONES), granted(flag=2)
+    yield from pairs()
+
+
+# What is wrong with a capability, under its code: the parts of an entry that have other values.
+PLACES = ({"place": RAM + 0x108}, {"place": RAM - 16}, {"place": END}, {"place": RAM})
+RANGES = ({"length": 4097}, {"base": ONES, "length": 2})
+RIGHTS = ({"perms": 0x10000}, {"flag": 2})
+WRONG = {"L12": PLACES, "L13": RANGES, "L14": RIGHTS}
+
+
+def pairs():
+    """Two faults, and which is told: of one entry by the order of its checks, of two by the order of the entries, and what is asked of the header,
+    the sections and the count before any entry."""
+    yield "# the first fault of two of one capability, behind a sound one"
+    sound = granted(RAM)
+    for first, second in (("L12", "L13"), ("L12", "L14"), ("L13", "L14")):
+        for one in WRONG[first]:
+            for other in WRONG[second]:
+                yield from both([sound, granted(**one, **other)], first)
+    yield "# the first fault of two capabilities, whichever is first"
+    for first, some in WRONG.items():
+        for second, others in WRONG.items():
+            for other in others[:2]:
+                yield from both([sound, granted(**some[0]), granted(**{"place": RAM + 0x200, **other})], first)
+    yield "# too many of them is told before what is wrong with any"
+    for some in WRONG.values():
+        yield from both([granted(**some[0])] * 1025, "L15")
+    yield "# and what is wrong with the header and the sections before that"
     outside, before = (RAM - 1, b""), [(RAM + 4, b"\1"), (RAM, b"")]
-    for parts, fault, others in (
-            ([granted(0, length=ONES)], "L12", {}), ([granted(0, flag=2)], "L12", {}), ([granted(length=ONES, flag=2)], "L13", {}),
-            ([rights, place], "L14", {}), ([range_, place], "L13", {}), ([granted(flag=2), granted(0)], "L14", {}),
-            ([place, rights], "L12", {}), ([place] * 1025, "L15", {}), ([range_] * 1025, "L15", {}), ([rights] * 1025, "L15", {}),
-            ([place], "L4", {"pages": 0}), ([place] * 1025, "L4", {"pages": MOST + 1}), ([range_], "L4", {"mode": 2}),
-            ([place], "L5", {"sections": [outside] * 65}), ([place], "L6", {"sections": [outside]}), ([place], "L7", {"sections": before}),
-            ([place] * 1025, "L6", {"sections": [outside]}), ([rights] * 1025, "L7", {"sections": before})):
-        yield from both(parts, fault, **others)
-    for changes, length, fault in (
-            ({40: 1, 62: 1}, 68, "L12"), ({36: 8}, 67, "L8"), ({36: 8}, 69, "L12"), ({44: 1, 52: 0, 53: 0x10}, 69, "L13"), ({64: 2}, 69, "L14"),
-            ({34: 1}, 36, "L15"), ({34: 1}, 35, "L8"), ({64: 2, 44: 1, 52: 0, 53: 0x10}, 68, "L13"), ({64: 2, 36: 8}, 68, "L12")):
-        file = patched(ONE_CAPABILITY + bytes(1), changes)[:length]
-        yield f"read {text(file)} => {fault}"
+    earlier = {"L4": {"mode": 2}, "L5": {"sections": [outside] * 65}, "L6": {"sections": [outside]}, "L7": {"sections": before}}
+    for fault, others in earlier.items():
+        for some in WRONG.values():
+            yield from both([granted(**some[0])], fault, **others)
+    for fault, others in {**earlier, "L4": {"pages": MOST + 1}}.items():
+        file = file_v2(**{"pages": 1, "entry": RAM, "mode": 0, "capabilities": [], **others})
+        yield f"read {text(file[:-4] + number(1025, 4))} => {fault}"
+    yield asked_v2("build2", MOST + 1, RAM, 0, [granted(0)] * 1025, (), "L4")
+    yield "# a capability that is cut short is that before it is anything else, a sound one is read before what is behind the last"
+    for some in WRONG.values():
+        for fault, wrong in ((fault, one) for fault, ones in WRONG.items() for one in ones):
+            file = file_v2(1, RAM, 0, [sound, granted(**wrong), granted(**{"place": RAM + 0x200, **some[0]})])
+            yield f"read {text(file[:-33])} => L8"
+            yield f"read {text(file[:-1])} => {fault}"
+    for fault, ones in WRONG.items():
+        for wrong in ones:
+            yield f"read {text(file_v2(1, RAM, 0, [sound, granted(**wrong)]) + bytes(1))} => {fault}"
+    for count, behind, fault in ((1025, b"", "L15"), (1025, bytes(1), "L15"), (ONES32, b"", "L15")):
+        yield f"read {text(file_v2(1, RAM, 0, [])[:-4] + number(count, 4) + behind)} => {fault}"
+    yield f"read {text(file_v2(1, RAM, 0, [])[:-4] + number(1025, 4)[:3])} => L8"
 
 
 def lines():
