@@ -116,7 +116,7 @@ def worth(text, names=None):
                 raise NotUnderstood(f"{word} in: {text}")
             word = str(names[word])
         python += {"^": "**", "/": "//"}.get(word, word)
-    return eval(python, {"__builtins__": {}})  # pylint: disable=eval-used
+    return eval(python, {"__builtins__": {}})
 
 
 # ---- definitions
@@ -172,10 +172,11 @@ def statements(text):
 # ---- declarations
 
 
-def declared(path, pattern):
-    """What a pattern finds in each line of a file of src/, with the comment `///` before the line: (match, comment)."""
+def declared(path, pattern, text=None):
+    """What a pattern finds in each line of a file of src/, or of a part of it, with the comment `///` before the line: (match,
+    comment)."""
     comment, found = [], []
-    for line in text_of(path).split("\n"):
+    for line in (text or text_of(path)).split("\n"):
         line = line.strip()
         if line.startswith("///"):
             comment.append(line[3:].strip())
@@ -203,6 +204,5 @@ def variants(path, enum):
     begin = text.find(f"enum {enum} {{")
     if begin < 0:
         raise NotUnderstood(f"crates/{path}: no enum {enum}")
-    names = re.findall(r"^    (\w+)\b[^:]*?,$", text[begin:text.index("\n}", begin)], re.MULTILINE)
-    comments = {match.group(1): comment for match, comment in declared(path, r"(\w+)\b(?: = \d+|\(.*\))?,")}
-    return [(name, comments[name]) for name in names]
+    block = text[begin:text.index("\n}", begin)]
+    return [(match.group(1), comment) for match, comment in declared(path, r"(\w+)(?: = \d+|\(.*\))?,", block)]

@@ -205,10 +205,10 @@ def register_name(name):
 
 def widths():
     """Which loads and stores device registers take."""
-    load = matched(r"if not \(is_register address\) then Some V1 else \(if size == (\d+) then None else Some V2\)",
-                        DEVICES.body("read_fault"))
-    store = matched(r"if not \(is_register address\) then Some V1 else \(if \(size == (\d+)\) \|\| \(\(address == (\w+)\) && "
-                         r"\(size == (\d+)\)\) then None else Some V2\)", DEVICES.body("write_fault"))
+    unknown = r"if not \(is_register address\) then Some V1 else "
+    load = matched(unknown + r"\(if size == (\d+) then None else Some V2\)", DEVICES.body("read_fault"))
+    single = r"\(\(address == (\w+)\) && \(size == (\d+)\)\)"
+    store = matched(unknown + rf"\(if \(size == (\d+)\) \|\| {single} then None else Some V2\)", DEVICES.body("write_fault"))
     if load.group(1) != store.group(1):
         raise NotUnderstood(f"{DEVICES.file}: read_fault, write_fault")
     return (f"A register takes loads and stores of {load.group(1)} bytes at its own address; {register_name(store.group(2))} also stores "
@@ -516,6 +516,7 @@ def made_of_registers():
         "csr_checks": refusals("csr_fault", "pcc_register"),
         "csr_register": defined(system, "csr_effect"),
         "csr_writes": defined(system, "csr_writes"),
+        "csr_counted": defined("hart/specs/Effect", "applied", "(Csr w) s"),
         "special": special_table(),
         "special_checks": refusals("scr_fault", "special_register insn.rs2"),
         "special_register": defined(system, "special_effect"),

@@ -244,4 +244,7 @@ DEFINITIONS = {
         "In CSRRWI, CSRRSI and CSRRCI the field rs1 is the number that is written, set or cleared",
     "hart/specs/SystemRows csr_number: insn.imm % 2 ^ 12":
         "in CSR instructions the immediate is the register's number",
+    "hart/specs/Effect applied (Csr w) s: record (register_written w.rd w.old s) {scrs = moved ((pc_of s + 4) % 2 ^ 64) (views_written "
+    "w.number w.value s.scrs); csrs = csrs_written w.number w.value (counted s.csrs);}":
+        "An instruction that writes mcycle or minstret is counted before it writes, so that the register holds what was written",
 }
