@@ -375,7 +375,7 @@ def mtval_form():
     text = matched(r"fault cause\.Cheri \((.*)\)", FAULT.body("cheri")).group(1)
     number = worth(text.replace("cheri_number_of what", str(CHERI["Length"])), {"register": 10})
     return (f"mtval is {said('MTVAL', text)}. So `{number:#x}` is register 10 and cause {CHERI['Length']:#04x}, {cause('Length')}. General "
-            f"registers have their numbers, and a special register {register_at_fault(0)} and its number: PCC is "
+            f"registers count from 0, and special ones from {register_at_fault(0)}: PCC is "
             f"{register_at_fault(REGISTERS['PCC'][0])}, DDC {register_at_fault(REGISTERS['DDC'][0])}, MTCC "
             f"{register_at_fault(REGISTERS['MTCC'][0])}")
 
