@@ -19,8 +19,13 @@ import tempfile
 
 TOP = os.path.join(os.path.dirname(os.path.abspath(__file__)), "..")
 PROGRAM = os.path.join(TOP, "crates", "cherisim", "out", "cherisim")
+
+# The pages that another script tries.
 ELSEWHERE = ["docs/COMPILED.md"]
+
+# How long a command may take, and the status of `timeout` where it takes longer.
 SECONDS = 600
+OUT_OF_TIME = 124
 
 
 class Command:
@@ -32,11 +37,13 @@ class Command:
     def wrong(self, room):
         """Runs the command, and answers what is wrong with it, or nothing."""
         environment = {"PATH": f"{room}:{os.environ['PATH']}", "HOME": room, "LANG": "C.UTF-8"}
-        ran = subprocess.run(["bash", "-c", self.text], cwd=room, env=environment, stdin=subprocess.DEVNULL, stdout=subprocess.PIPE,
-                             stderr=subprocess.STDOUT, timeout=SECONDS, check=False)
+        ran = subprocess.run(["timeout", str(SECONDS), "bash", "-c", self.text], cwd=room, env=environment, stdin=subprocess.DEVNULL,
+                             stdout=subprocess.PIPE, stderr=subprocess.STDOUT, check=False)
         came = ran.stdout.decode(errors="replace")
         came += "" if came.endswith("\n") or not came else "\n"
         wanted = "".join(line + "\n" for line in self.printed)
+        if ran.returncode == OUT_OF_TIME:
+            return f"not ended after {SECONDS} seconds\n"
         if came != wanted:
             return f"stands:\n{wanted}came:\n{came}"
         return f"status {ran.returncode}, and nothing printed\n" if ran.returncode and not came else ""
@@ -44,12 +51,11 @@ class Command:
 
 def commands(page):
     """The commands of a page, in order."""
-    inside, found = False, []
+    inside, begun, found = False, False, []
     with open(os.path.join(TOP, page), encoding="utf-8") as file:
         for number, line in enumerate(file.read().split("\n"), 1):
             if line.startswith("```"):
-                inside = line == "```console"
-                begun = False
+                inside, begun = line == "```console", False
             elif inside and line.startswith("$ "):
                 found.append(Command(number, line[2:]))
                 begun = True
