@@ -15,7 +15,7 @@ import sys
 import programming_words as words
 from definitions import Definitions, NotUnderstood, bare, choices, constants, fields, items, matched, pair, split, text_of, variants, worth
 from markdown import table
-from programming_rows import format_table, row_count, rows_table
+from programming_rows import format_table, row_count, row_names, rows_table
 
 TOP = os.path.join(os.path.dirname(os.path.abspath(__file__)), "..")
 PROSE = os.path.join(TOP, "tools", "programming.md")
@@ -416,6 +416,39 @@ def type_table():
     return table(["Type", "Meaning", "CGetType"], rows)
 
 
+# ---- what instructions over capabilities give
+
+# The definition that says when the tag stays, by the function that makes the value.
+KEEPS_TAG = {
+    "at_address": ("cap_bounds/specs/SetAddress", "at_address"),
+    "with_bounds": ("cap_bounds/specs/SetBounds", "may_bound"),
+    "with_exact_bounds": ("cap_insns/specs/CapabilityRows", "with_exact_bounds"),
+    "seal": ("cap_rights/specs/Derivations", "may_seal"),
+    "unseal": ("cap_rights/specs/Derivations", "may_unseal"),
+    "and_perms": ("cap_rights/specs/Derivations", "and_perms"),
+    "set_flags": ("cap_rights/specs/Derivations", "set_flags"),
+    "seal_entry": ("cap_rights/specs/Derivations", "seal_entry"),
+}
+
+
+def tag_kept(body):
+    """When a result has the tag of cs1: nothing for a number, which has none."""
+    maker = body.split()[0]
+    if maker in KEEPS_TAG:
+        return defined(*KEEPS_TAG[maker])
+    return {"integer": "", "without_tag": "never", "cs1": "it is tagged"}[maker]
+
+
+def results_table():
+    names = row_names()
+    rows = []
+    for patterns, body in Definitions("cap_insns/specs/CapabilityRows").cases("row_value"):
+        row = patterns.split()[0]
+        if row != "_":
+            rows.append([f"`{names[row]}`", said("GIVES", body), tag_kept(body)])
+    return table(["Instruction", "Gives", "Tagged if"], rows)
+
+
 # ---- what happens
 
 
@@ -547,6 +580,9 @@ def made_of_rows():
         "root_perms": root_perms(),
         "types": type_table(),
         "sealed": defined("cap_bounds/specs/CapValue", "is_sealed"),
+        "results": results_table(),
+        "untagged": defined("cap_rights/specs/Derivations", "tagged_if"),
+        "rounded": defined("cap_bounds/specs/Rounding", "rounding_granule"),
         "row_count": row_count(),
         "formats": format_table(),
         "csr_fields": f"{defined('hart/specs/SystemRows', 'csr_source')}; {defined('hart/specs/SystemRows', 'csr_number')}",

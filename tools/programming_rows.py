@@ -110,6 +110,11 @@ def rows_table():
     return "\n\n".join(parts)
 
 
+def row_names():
+    """Each row as it is written in integer mode."""
+    return {row: written[0] for _, rows in row_groups() for row, _, _, written in rows}
+
+
 def row_count():
     count = sum(len(rows) for _, rows in row_groups())
     declared_ = declared("isa_rows/src/table.rt", r"pub const ROWS: \[Row; (\d+)\] = .*;")[0][0].group(1)

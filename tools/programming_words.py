@@ -123,6 +123,40 @@ HAPPENS = {
     "mstatus_mpie = true": "MPIE becomes 1",
 }
 
+# What the instructions over capabilities give (cap_insns/specs/CapabilityRows).
+GIVES = {
+    "at_address cs1 (sum (value_address cs1) insn.imm)": "cs1 with its address and the immediate added up as address",
+    "with_bounds cs1 insn.imm": "cs1 with bounds from its address on, as long as the immediate, rounded out",
+    "with_bounds cs1 (value_address cs2)": "cs1 with bounds from its address on, as long as rs2, rounded out",
+    "with_exact_bounds cs1 (value_address cs2)": "the same",
+    "seal cs1 cs2": "cs1 sealed with the type that is the address of cs2",
+    "unseal cs1 cs2": "cs1 unsealed, and Global only if cs2 is too",
+    "and_perms cs1 (perms_in_view (value_address cs2))": "cs1 with those of its permissions that are in rs2",
+    "set_flags cs1 (value_address cs2 % 2 == 1)": "cs1 with bit 0 of rs2 as flag",
+    "at_address cs1 (sum (value_base cs1) (value_address cs2))": "cs1 with its base and rs2 added up as address",
+    "at_address cs1 (value_address cs2)": "cs1 with rs2 as address",
+    "at_address cs1 (sum (value_address cs1) (value_address cs2))": "cs1 with its address and rs2 added up as address",
+    "integer (difference (value_address cs1) (value_address cs2))": "the address of cs1 less that of cs2",
+    "integer (bit (subset (outer_of insn.rs1 cs1 ddc) cs2))":
+        "1 if the tags are equal and the bounds and permissions of cs2 lie in those of cs1 (of DDC, if the field rs1 is 0), else 0",
+    "integer (bit (equal_exact cs1 cs2))": "1 if the tags and all 128 bits are equal, else 0",
+    "integer (hardware_view (value_perms cs1))": "the permissions, by the bits above",
+    "integer (signed_type (value_otype cs1))": "the object type, as shown above",
+    "integer (value_base cs1)": "the base",
+    "integer (length_of cs1)": "the top less the base, modulo 2^65 and at most 2^64 - 1",
+    "integer (bit (is_tagged cs1))": "1 if it is tagged, else 0",
+    "integer (bit (is_sealed cs1))": "1 if it is sealed, else 0",
+    "integer (difference (value_address cs1) (value_base cs1))": "the address less the base",
+    "integer (bit (value_flag cs1))": "the flag",
+    "integer (representable_length (value_address cs1))":
+        "the length rs1, rounded up to one that a capability with an aligned base can have exactly, modulo 2^64",
+    "integer (alignment_mask (value_address cs1))": "the mask that aligns a base for the length rs1",
+    "cs1": "cs1",
+    "without_tag cs1": "cs1",
+    "integer (value_address cs1)": "the address",
+    "seal_entry cs1": "cs1 as a sentry",
+}
+
 # Definitions that the page says in words, each with its body.
 DEFINITIONS = {
     "cap_checks/specs/FirstFault holds: nat_le (value_base v) address && nat_le (address + size) (value_top v)":
@@ -247,4 +281,33 @@ DEFINITIONS = {
     "hart/specs/Effect applied (Csr w) s: record (register_written w.rd w.old s) {scrs = moved ((pc_of s + 4) % 2 ^ 64) (views_written "
     "w.number w.value s.scrs); csrs = csrs_written w.number w.value (counted s.csrs);}":
         "An instruction that writes mcycle or minstret is counted before it writes, so that the register holds what was written",
+    "cap_bounds/specs/SetAddress at_address: if not (is_sealed (Cap r)) && window_holds r address then Cap (record r {address "
+    "= address}) else data_at (Cap r) address | data_at (Data n) address":
+        "it is tagged and unsealed, and the new address lies in its window",
+    "cap_bounds/specs/SetBounds may_bound: is_tagged v && (not (is_sealed v) && (nat_le (value_base v) (value_address v) && "
+    "nat_le (request_top v length) (value_top v)))":
+        "it is tagged and unsealed, and the request lies in its bounds",
+    "cap_insns/specs/CapabilityRows with_exact_bounds: tagged_if (bounds_exact v length) (with_bounds v length)":
+        "the same, and rounding changes nothing of the request",
+    "cap_rights/specs/Derivations may_seal: is_tagged v && is_tagged authority && not (is_sealed v) && not (is_sealed "
+    "authority) && permits authority Seal && address_in_bounds authority (value_address authority) && nat_le (value_address "
+    "authority) greatest_sealing_type":
+        "both are tagged and unsealed, cs2 has Seal, and its address lies in its bounds and is no reserved type",
+    "cap_rights/specs/Derivations may_unseal: is_tagged v && is_tagged authority && nat_le (value_otype v) "
+    "greatest_sealing_type && not (is_sealed authority) && permits authority Unseal && address_in_bounds authority "
+    "(value_address authority) && (value_address authority == value_otype v)":
+        "both are tagged, the type of cs1 isn't reserved, cs2 is unsealed with Unseal, and its address lies in its bounds and is "
+        "that type",
+    "cap_rights/specs/Derivations and_perms: tagged_if (not (is_sealed v)) (with_perms v (bit_and (value_perms v) mask))":
+        "it is tagged and unsealed",
+    "cap_rights/specs/Derivations set_flags: tagged_if (not (is_sealed v)) (with_flag v flag)":
+        "it is tagged and unsealed",
+    "cap_rights/specs/Derivations seal_entry: tagged_if (is_tagged v && not (is_sealed v) && permits v Execute) (with_type v "
+    "sentry_type)":
+        "it is tagged and unsealed, and has Execute",
+    "cap_rights/specs/Derivations tagged_if: if may then v else without_tag v":
+        "An instruction that may not keep the tag gives the same fields without it, and doesn't trap",
+    "cap_bounds/specs/Rounding rounding_granule: if nat_lt (top - base) 4096 then 1 else 2 ^ (rounding_exponent base top + 3)":
+        "A range of bounds below 4096 bytes stays as it is; a longer one is rounded out to multiples of 2^(E+3), with the least E "
+        "at which it touches fewer than 1024 of them",
 }
