@@ -1,0 +1,30 @@
+#!/usr/bin/env python3
+"""Tries the commands of docs/COMPILED.md where their compiler is installed, as tools/tried.py tries those of the other pages.
+
+    python3 tools/compiled.py [PROGRAM]
+
+Without the compiler it says so, and ends with 0.
+"""
+import shutil
+import sys
+
+from tried import PROGRAM, commands, tried
+
+PAGE = "docs/COMPILED.md"
+
+# The compiler, and Debian's package that has it.
+COMPILER, PACKAGE = "riscv64-unknown-elf-gcc", "gcc-riscv64-unknown-elf"
+
+
+def main():
+    if not any(command.text.startswith(f"{COMPILER} ") for command in commands(PAGE)):
+        print(f"{PAGE} has no command that begins with {COMPILER}")
+        return 1
+    if not shutil.which(COMPILER):
+        print(f"{PAGE} isn't tried: it needs {COMPILER}, of Debian's package {PACKAGE}")
+        return 0
+    return 0 if tried(PAGE, sys.argv[1] if len(sys.argv) > 1 else PROGRAM) else 1
+
+
+if __name__ == "__main__":
+    sys.exit(main())

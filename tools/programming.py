@@ -1,0 +1,666 @@
+#!/usr/bin/env python3
+"""docs/PROGRAMMING.md, the programmer's page, made of the repository's own tables.
+
+    python3 tools/programming.py            writes it
+    python3 tools/programming.py --check    says the first line that differs from what stands there, and ends with 1 if any does
+
+The prose stands in tools/programming.md, with a name in double braces for each table and number; tools/programming_words.py has the
+words for each condition and definition, by its text. Every number, name, bit, mask and order comes from the sources. A source that
+isn't understood, words that nothing asks for, or a name that the prose doesn't use ends the script with 1 too.
+"""
+import os
+import re
+import sys
+
+import programming_words as words
+from definitions import Definitions, NotUnderstood, bare, choices, constants, fields, items, matched, pair, split, text_of, variants, worth
+from markdown import table
+from programming_rows import format_table, row_count, row_names, rows_table
+
+TOP = os.path.join(os.path.dirname(os.path.abspath(__file__)), "..")
+PROSE = os.path.join(TOP, "tools", "programming.md")
+PAGE = os.path.join(TOP, "docs", "PROGRAMMING.md")
+
+FIRST_FAULT = Definitions("cap_checks/specs/FirstFault")
+ACCESS = Definitions("cap_checks/specs/Access")
+FAULT = Definitions("base/specs/Fault")
+DEVICES = Definitions("devices/specs/Devices")
+WRITES = Definitions("special_regs/specs/Writes")
+TRAPS = Definitions("special_regs/specs/Traps")
+INTERRUPTS = Definitions("special_regs/specs/Interrupts")
+REFUSALS = Definitions("special_regs/specs/Refusals")
+OPENING = Definitions("hart/specs/Opening")
+
+NUMBERS = {
+    name: worth(text)
+    for file in ("base/src/ram.rt", "base/src/otype.rt", "base/src/interrupt.rt")
+    for name, (text, _) in constants(file).items()
+}
+MCAUSE = FAULT.numbers("number_of", "cause.")
+CHERI = FAULT.numbers("cheri_number_of", "cheri_cause.")
+BITS = {name: worth(WRITES.body(name), NUMBERS) for name in ("mie_bit", "mpie_bit", "interrupt_bits")}
+
+used = set()
+
+
+def said(book, text):
+    """The words for a text of the sources."""
+    if text not in getattr(words, book):
+        raise NotUnderstood(f"tools/programming_words.py, {book}: no words for: {text}")
+    used.add((book, text))
+    return getattr(words, book)[text]
+
+
+def unused():
+    """The words that nothing asked for."""
+    for book in (name for name in dir(words) if name.isupper()):
+        yield from (f"{book}: {text}" for text in getattr(words, book) if (book, text) not in used)
+
+
+def defined(name, definition, pattern=None):
+    """The words for a definition: of all its cases, or of one."""
+    cases = Definitions(name).cases(definition)
+    bodies = [body for patterns, body in cases if pattern in (None, patterns)]
+    shown = definition if pattern is None else f"{definition} {pattern}"
+    return said("DEFINITIONS", f"{name} {shown}: {' | '.join(bodies)}")
+
+
+def steps(sentences):
+    """A numbered list."""
+    return "\n".join(f"{number}. {begun(sentence)}." for number, sentence in enumerate(sentences, 1))
+
+
+def begun(sentence):
+    """A sentence with a capital at its beginning, unless it begins with a register's name."""
+    return sentence if sentence.split()[0] in {name for _, name in listed("CSRS")} else sentence[0].upper() + sentence[1:]
+
+
+def cased(name):
+    """The words of a name in capitals and small letters."""
+    return re.findall(r"[A-Z][a-z]*", name)
+
+
+def permission(name):
+    """A permission's name as the manual writes it."""
+    return {"CInvoke": "CInvoke", "SetCid": "Set_CID"}.get(name, "_".join(cased(name)))
+
+
+PERMISSIONS = variants("cap_rights/src/permission.rt", "Permission")
+PERMISSION_NAMES = {name for name, _ in PERMISSIONS}
+
+
+def cause(name):
+    """A cause's name: that of the permission which is missing, or its words."""
+    if name == "Cheri":
+        return "CHERI"
+    return permission(name) if name in PERMISSION_NAMES and name != "Seal" else " ".join(cased(name)).lower()
+
+
+# ---- faults
+
+
+def mcause(name):
+    return f"mcause {MCAUSE[name]}, {cause(name)}"
+
+
+def cheri(name):
+    return f"CHERI cause {CHERI[name]:#04x}, {cause(name)}"
+
+
+def by_access(definition, prefix):
+    """What a definition over accesses says of loads and of stores; both kinds of each agree."""
+    found = {}
+    for pattern, body in ACCESS.cases(definition):
+        kind = "load" if pattern.strip("(").startswith("Load") else "store"
+        if not body.startswith(prefix) or found.setdefault(kind, body[len(prefix):]) != body[len(prefix):]:
+            raise NotUnderstood(f"{ACCESS.file}: {definition} {pattern}")
+    return found["load"], found["store"]
+
+
+def fault(text, register):
+    """The words for the fault of a list's entry; `register` is the one that a refusal names."""
+    if text == "cheri register (lacking access)":
+        load, store = by_access("lacking", "forbids.")
+        return f"{cheri(load)}, or {CHERI[store]:#04x}, {cause(store)}: {said('REGISTERS', 'register')}"
+    if text == "fault (misaligned access) address":
+        load, store = by_access("misaligned", "cause.")
+        return f"{mcause(load)}, or {MCAUSE[store]}, {cause(store)}: mtval is {said('MTVAL', 'address')}"
+    found = re.fullmatch(r"cheri (\w+) forbids\.(\w+)", text)
+    if found:
+        return f"{cheri(found.group(2))}: {said('REGISTERS', found.group(1))}"
+    found = re.fullmatch(r"fault cause\.(\w+) (.+)", text)
+    if found:
+        return f"{mcause(found.group(1))}: mtval is {said('MTVAL', bare(found.group(2)))}"
+    refused = dict((pattern.split()[0], body) for pattern, body in Definitions("hart/specs/Looks").cases("refused"))
+    if refused.get(text) == "illegal word":
+        return f"{mcause('IllegalInstruction')}: mtval is {said('MTVAL', 'word')}"
+    found = matched(r"Trap \(cheri register forbids\.(\w+)\)", refused.get(text, text))
+    return f"{cheri(found.group(1))}: {said('REGISTERS', register)}"
+
+
+def condition(text):
+    """The words for the condition of a list's entry."""
+    if text == "permits authority (needed access)":
+        load, store = by_access("needed", "permission.")
+        return f"it has {permission(load)} for a load, {permission(store)} for a store"
+    return said("CONDITIONS", text)
+
+
+def checks(text, register=None, behind=()):
+    """The table of a list of checks, with what is checked behind it."""
+    rows = [(condition(condition_), fault(fault_, register)) for condition_, fault_ in map(pair, items(text))]
+    return table(["", "Must hold", "Else"], [[str(number), *row] for number, row in enumerate([*rows, *behind], 1)])
+
+
+def refusals(name, register):
+    """The table of the list that a refusal is the first fault of."""
+    body = REFUSALS.body(name)
+    if not body.startswith("first_fault "):
+        raise NotUnderstood(f"{REFUSALS.file}: {name}")
+    return checks(body[len("first_fault "):], register)
+
+
+def access_table():
+    memory = Definitions("hart/specs/MemoryRows")
+    made_fault = r"Trap \(fault cause\.(\w+) address\)"
+    loads, stores = (matched(made_fault, memory.cases(name)[1][1]) for name in ("device_load", "device_store"))
+    last = ("RAM or a device register answers at the address",
+            f"{mcause(loads.group(1))}, or {MCAUSE[stores.group(1)]}, {cause(stores.group(1))}: mtval is {said('MTVAL', 'address')}")
+    return checks(FIRST_FAULT.body("access_checks"), behind=[last])
+
+
+def fetch_table():
+    last = (defined("hart/specs/Step", "fetched", "None s"), f"{mcause('FetchAccess')}: mtval is {said('MTVAL', 'pc_of s')}")
+    return checks(FIRST_FAULT.body("fetch_checks"), behind=[last])
+
+
+# ---- the map and the devices
+
+
+def map_table():
+    rows = []
+    places = {name: worth(DEVICES.body(name)) for name in items(
+        matched(r"list_any \(λ register\. address == register\) (.*)", DEVICES.body("is_register")).group(1))}
+    loads = {at: value for at, value in choices(DEVICES.body("value_at"))}
+    stores = {}
+    for name, text in fields(DEVICES.body("written")) + [("effect", DEVICES.body("effect_of"))]:
+        for at, value in choices(text):
+            if at is not None:
+                stores.setdefault(at, []).append(said("STORES", value))
+    shown = [body for _, body in Definitions("devices/specs/Map").cases("address_of")]
+    for name in shown:
+        at = f"address == {name}"
+        load = said("LOADS", loads.get(at, loads[None]))
+        store = "; ".join(text for text in stores.get(at, ["nothing"]) if text)
+        rows.append((places.pop(name), [register_name(name), load, store]))
+    if places:
+        raise NotUnderstood(f"{DEVICES.file}: no register for {places}")
+    return table(["Address", "Register", "A load gives", "A store"], [[f"`{address:#010x}`", *cells] for address, cells in sorted(rows)])
+
+
+def register_name(name):
+    """The name that software knows a device register by."""
+    return {"timer": "mtime", "timer_compare": "mtimecmp", "control_register": "control"}.get(name, name)
+
+
+def widths():
+    """Which loads and stores device registers take."""
+    unknown = r"if not \(is_register address\) then Some V1 else "
+    load = matched(unknown + r"\(if size == (\d+) then None else Some V2\)", DEVICES.body("read_fault"))
+    single = r"\(\(address == (\w+)\) && \(size == (\d+)\)\)"
+    store = matched(unknown + rf"\(if \(size == (\d+)\) \|\| {single} then None else Some V2\)", DEVICES.body("write_fault"))
+    if load.group(1) != store.group(1):
+        raise NotUnderstood(f"{DEVICES.file}: read_fault, write_fault")
+    return (f"A register takes loads and stores of {load.group(1)} bytes at its own address; {register_name(store.group(2))} also stores "
+            f"of {store.group(3)} byte. Any other load or store outside RAM is an access fault, and so is a fetch, or a load or store of "
+            "a capability, from or to a register")
+
+
+# ---- control and status registers
+
+
+def numbered(path):
+    """The constants of base's registers by name: (number, comment)."""
+    return {name: (worth(text), comment) for name, (text, comment) in constants(path).items()
+            if re.fullmatch(r"0x[0-9a-f]+|[0-9]+", text)}
+
+
+REGISTERS = numbered("base/src/registers.rt")
+
+
+def listed(name):
+    """The constants that a list of registers names, in order, each with the name that it is shown by."""
+    text = text_of("base/src/registers.rt")
+    begin = text.index(f"pub const {name}:")
+    found = re.findall(r"\((?:scr|csr)::(\w+)(?: as u16)?, \"(\w+)\"\)", text[begin:text.index("];", begin)])
+    count = int(re.search(r"; (\d+)\]", text[begin:]).group(1))
+    if len(found) != count:
+        raise NotUnderstood(f"base/src/registers.rt: {name} has {len(found)} of {count} lines")
+    return found
+
+
+def set_bits(number):
+    return [bit for bit in range(64) if number >> bit & 1]
+
+
+def mstatus_read():
+    """mstatus bit by bit."""
+    ones, named = [], {}
+    for part in split(Definitions("special_regs/specs/CsrValues").body("mstatus"), " + "):
+        found = re.fullmatch(r"bit c\.mstatus_(\w+) \* 2 \^ (\w+)", part)
+        if found:
+            named[BITS[found.group(2)]] = found.group(1).upper()
+        else:
+            ones += set_bits(worth(part))
+    bits = "; ".join(f"bit {bit}: {name}" for bit, name in sorted(named.items()))
+    return f"{bits}; bits {' and '.join(map(str, ones))} are 1; the other bits 0"
+
+
+def csr_read(text):
+    if text == "mstatus c":
+        return mstatus_read()
+    if text == "mip":
+        return f"{said('READS', text)}: bit {NUMBERS['TIMER']} the timer, bit {NUMBERS['EXTERNAL']} the console"
+    if re.fullmatch(r"0x[0-9A-Fa-f_]+", text):
+        number = worth(text)
+        letters = "".join(chr(ord("A") + bit) for bit in set_bits(number) if bit < 26)
+        return f"`{number:#018x}`: 64 bits, extensions {' and '.join(letters)}"
+    return "what is kept" if re.fullmatch(r"c\.\w+", text) else said("READS", text)
+
+
+def csr_written():
+    """What is kept of a write, by register."""
+    written = {}
+    for field, text in fields(WRITES.body("csrs_written")) + fields(WRITES.body("views_written")):
+        (at, value), (_, other) = choices(text)
+        if other not in (f"c.{field}", f"s.{field}"):
+            raise NotUnderstood(f"{WRITES.file}: {field} = {text}")
+        found = re.fullmatch(r"has_bit value (\w+)", value)
+        if found:
+            kept = str(BITS[found.group(1)])
+        elif value == "bit_and value interrupt_bits":
+            kept = " and ".join(map(str, set_bits(BITS["interrupt_bits"])))
+        else:
+            kept = said("WRITES", value)
+        written.setdefault(at.removeprefix("n == "), []).append(kept)
+    return {name: f"bits {' and '.join(map(str, sorted(kept)))}" if len(kept) > 1 or kept[0][0].isdigit() else kept[0]
+            for name, kept in written.items()}
+
+
+def csr_table():
+    reads = dict(map(pair, items(Definitions("special_regs/specs/CsrValues").body("csr_values"))))
+    read_only = items(bare(REFUSALS.body("is_read_only").removeprefix("list_any (λ k. n == k) ")))
+    written = csr_written()
+    rows = []
+    for constant, name in listed("CSRS"):
+        number, comment = REGISTERS[constant]
+        write = "illegal instruction" if constant in read_only else written.get(constant, "nothing; it is no fault")
+        rows.append([f"`{number:#05x}`", name, comment.rstrip("."), csr_read(reads.pop(constant)), write])
+    if reads:
+        raise NotUnderstood(f"special_regs/specs/CsrValues.antt: {reads}")
+    return table(["Number", "Name", "It is", "A read gives", "A write keeps"], rows)
+
+
+# ---- special capability registers
+
+
+def register_at_fault(number):
+    return worth(Definitions("base/specs/Registers").body("special_register"), {"n": number})
+
+
+def special_table():
+    opening = dict(fields(OPENING.body("opening_scrs")))
+    written = {}
+    for field, text in fields(WRITES.body("scr_written")):
+        (at, value), _ = choices(text)
+        if value != "v":
+            raise NotUnderstood(f"{WRITES.file}: {field} = {text}")
+        written[at.removeprefix("n == ")] = "cs1, whatever it is"
+    first = matched(r".*not \(nat_le (\w+) n\) \|\| has_system_access s.*", REFUSALS.body("scr_fault")).group(1)
+    rows = []
+    for constant, name in listed("SPECIAL_REGISTERS"):
+        number, comment = REGISTERS[constant]
+        who = "code with Access_System_Registers" if number >= REGISTERS[first][0] else "any code"
+        rows.append([str(number), name, comment.rstrip("."), who, written.get(constant, "illegal instruction"),
+                     str(register_at_fault(number)), said("OPENING", opening[name])])
+    return table(["Number", "Name", "It is", "Used by", "A write keeps", "Register in mtval", "It begins as"], rows)
+
+
+def general_table():
+    """Numbers and names of the registers, in four columns of pairs."""
+    names = Definitions("asm_names/specs/Registers")
+    columns = [[found for found in re.findall(r'codes "(\w+)"', names.body(body))] for body in ("integer_names", "capability_names")]
+    if [len(column) for column in columns] != [32, 32]:
+        raise NotUnderstood(f"{names.file}: names")
+    cells = [f"{number} `{name}` `{capability}`" for number, (name, capability) in enumerate(zip(*columns))]
+    return table(["", "", "", ""], [[cells[row + 8 * column] for column in range(4)] for row in range(8)])
+
+
+# ---- causes
+
+
+def mtval_by_cause():
+    """What mtval holds, by the cause, wherever a definition makes such a fault."""
+    found = {}
+    sources = ("base/specs/Fault", "cap_checks/specs/FirstFault", "hart/specs/Looks", "hart/specs/MemoryRows", "hart/specs/Step")
+    for source in sources:
+        for cases in Definitions(source).equations.values():
+            for _, body in cases:
+                for name, value in re.findall(r"fault cause\.(\w+) (\w+|\((?:[^()]|\([^()]*\))*\))", body):
+                    found.setdefault(name, []).append(said("MTVAL", bare(value)))
+                if "fault (misaligned access) address" in body:
+                    for name in by_access("misaligned", "cause."):
+                        found.setdefault(name, []).append(said("MTVAL", "address"))
+    return {name: " or ".join(dict.fromkeys(values)) for name, values in found.items()}
+
+
+def mcause_table():
+    mtval = mtval_by_cause()
+    rows = [[str(MCAUSE[name]), cause(name), comment.rstrip("."), mtval[name]] for name, comment in variants("base/src/cause.rt", "Cause")]
+    interrupt = dict(fields(INTERRUPTS.body("cause_of")))
+    for bit, name in sorted((NUMBERS[constant], name) for name, constant in INTERRUPTS.cases("bit_of")):
+        number = worth(interrupt["mcause"].replace("bit_of interrupt", str(bit)))
+        comment = constants("base/src/interrupt.rt")[name.upper()][1].rstrip(".")
+        rows.append([f"`{number:#018x}`", f"{name.lower()} interrupt", comment, said("MTVAL", interrupt["mtval"])])
+    return table(["mcause", "Cause", "It comes of", "mtval"], rows)
+
+
+def cheri_table():
+    rows = [[f"`{CHERI[name]:#04x}`", cause(name), comment.rstrip(".")] for name, comment in variants("base/src/cause.rt", "CheriCause")]
+    return table(["CHERI cause", "Name", "What is wrong"], rows)
+
+
+def mtval_form():
+    """How mtval is made of a register and a CHERI cause, with an example."""
+    text = matched(r"fault cause\.Cheri \((.*)\)", FAULT.body("cheri")).group(1)
+    number = worth(text.replace("cheri_number_of what", str(CHERI["Length"])), {"register": 10})
+    return (f"mtval is {said('MTVAL', text)}. So `{number:#x}` is register 10 and cause {CHERI['Length']:#04x}, {cause('Length')}. General "
+            f"registers count from 0, and special ones from {register_at_fault(0)}: PCC is "
+            f"{register_at_fault(REGISTERS['PCC'][0])}, DDC {register_at_fault(REGISTERS['DDC'][0])}, MTCC "
+            f"{register_at_fault(REGISTERS['MTCC'][0])}")
+
+
+# ---- capabilities
+
+
+def permission_table():
+    view = Definitions("cap_rights/specs/Perms").body("hardware_view")
+    place = matched(r"field word (\d+) (\d+)", Definitions("cap_format/specs/Word").body("perms_of"))
+    bits = {pattern: worth(body) for pattern, body in Definitions("cap_rights/specs/Permission").cases("bit_of")}
+    names = {bits[name]: (permission(name), comment.rstrip(".")) for name, comment in PERMISSIONS}
+    rows = []
+    for bit in range(int(place.group(2))):
+        shown = set_bits(worth(view, {"perms": 1 << bit}))
+        name, comment = names.get(bit, (f"user permission {bit - len(names)}", "For software: no instruction asks for it"))
+        rows.append([str(bit), name, str(shown[0]), str(int(place.group(1)) + bit), comment])
+    return table(["Bit", "Permission", "Bit in CGetPerm and CAndPerm", "Bit of the word", "With it"], rows)
+
+
+def root_perms():
+    record = matched(r"record_with 0 \(2 \^ 64\) address (0x\w+) flag unsealed_type",
+                          Definitions("cap_bounds/specs/Root").body("root_record"))
+    shown = worth(Definitions("cap_rights/specs/Perms").body("hardware_view"), {"perms": worth(record.group(1))})
+    return f"`{shown:#x}`"
+
+
+def type_table():
+    reserved, plain_ = choices(Definitions("cap_rights/specs/ObjectType").body("signed_type"))
+    if (reserved[0], plain_[1]) != ("is_reserved otype", "otype"):
+        raise NotUnderstood("cap_rights/specs/ObjectType.antt: signed_type")
+    first = NUMBERS["FIRST_RESERVED"]
+    names = {NUMBERS["UNSEALED"]: "unsealed", NUMBERS["SENTRY"]: "sentry: a sealed entry, which a jump opens"}
+    rows = [[f"`0x0` to `{first - 1:#x}`", "sealed by CSeal, opened by CUnseal and CInvoke", "the type"]]
+    for otype in range(first, NUMBERS["UNSEALED"] + 1):
+        rows.append([f"`{otype:#x}`", names.get(otype, "reserved: nothing seals with it"),
+                     f"`{worth(reserved[1], {'otype': otype}):#018x}`"])
+    return table(["Type", "Meaning", "CGetType"], rows)
+
+
+# ---- what instructions over capabilities give
+
+# The definition that says when the tag stays, by the function that makes the value.
+KEEPS_TAG = {
+    "at_address": ("cap_bounds/specs/SetAddress", "at_address"),
+    "with_bounds": ("cap_bounds/specs/SetBounds", "may_bound"),
+    "with_exact_bounds": ("cap_insns/specs/CapabilityRows", "with_exact_bounds"),
+    "seal": ("cap_rights/specs/Derivations", "may_seal"),
+    "unseal": ("cap_rights/specs/Derivations", "may_unseal"),
+    "and_perms": ("cap_rights/specs/Derivations", "and_perms"),
+    "set_flags": ("cap_rights/specs/Derivations", "set_flags"),
+    "seal_entry": ("cap_rights/specs/Derivations", "seal_entry"),
+}
+
+
+def tag_kept(body):
+    """When a result has the tag of cs1: nothing for a number, which has none."""
+    maker = body.split()[0]
+    if maker in KEEPS_TAG:
+        return defined(*KEEPS_TAG[maker])
+    return {"integer": "", "without_tag": "never", "cs1": "it is tagged"}[maker]
+
+
+def results_table():
+    names = row_names()
+    rows = []
+    for patterns, body in Definitions("cap_insns/specs/CapabilityRows").cases("row_value"):
+        row = patterns.split()[0]
+        if row != "_":
+            rows.append([f"`{names[row]}`", said("GIVES", body), tag_kept(body)])
+    return table(["Instruction", "Gives", "Tagged if"], rows)
+
+
+# ---- what happens
+
+
+def opening_list():
+    state = dict(fields(OPENING.body("opening")))
+    if state != {"registers": "null_registers", "scrs": "opening_scrs i", "csrs": "zero_csrs", "memory": "opening_memory i",
+                 "devices": "idle"}:
+        raise NotUnderstood(f"{OPENING.file}: opening")
+    lines = [f"The general registers: {defined('hart/specs/Registers', 'null_registers')}."]
+    lines += [f"{name.upper() if name != 'mscratchc' else 'MScratchC'}: {said('OPENING', text)}."
+              for name, text in fields(OPENING.body("opening_scrs"))]
+    csrs = [(name.replace("mstatus_", "").upper() if "mstatus" in name else name, said("OPENING", text))
+            for name, text in fields(Definitions("special_regs/specs/Csrs").body("zero_csrs"))]
+    devices = [(name, said("OPENING", text)) for name, text in fields(DEVICES.body("idle"))]
+    for pairs in (csrs, devices):
+        lines.append("; ".join(f"{name}: {text}" for name, text in pairs) + ".")
+    lines.append(f"RAM: {defined('hart/specs/Opening', 'loaded')}; {defined('hart/specs/Opening', 'opening_memory')}.")
+    return "\n".join(f"- {line}" for line in lines)
+
+
+def assignments(name, definition):
+    """What a definition assigns, in words."""
+    return [said("HAPPENS", f"{field} = {text}") for field, text in fields(Definitions(name).body(definition))]
+
+
+def pending_order():
+    """The interrupts in the order in which they are asked."""
+    (enabled, asked), _ = choices(INTERRUPTS.body("pending"))
+    if enabled != "c.mstatus_mie":
+        raise NotUnderstood(f"{INTERRUPTS.file}: pending")
+    order = [answer.removeprefix("Some ") for _, answer in choices(asked) if answer != "None"]
+    numbers = dict(INTERRUPTS.cases("bit_of"))
+    return " before ".join(f"the {name.lower()} interrupt ({NUMBERS[numbers[name]]})" for name in order)
+
+
+def vectors():
+    """How far behind the base the entries of interrupts stand in vectored mode."""
+    numbers = sorted((NUMBERS[constant], name) for name, constant in INTERRUPTS.cases("bit_of"))
+    return " and ".join(f"the {name.lower()} interrupt's entry is {4 * number} bytes behind the base" for number, name in numbers)
+
+
+def traps(*names):
+    """The words for definitions of trap entry and return, joined."""
+    return "; ".join(defined("special_regs/specs/Mtvec" if name == "is_vectored" else "special_regs/specs/Traps", name) for name in names)
+
+
+def trap_entry():
+    saved, moved = assignments("special_regs/specs/Traps", "trapped_scrs")
+    return steps([saved, *assignments("special_regs/specs/Traps", "trapped_csrs"), moved,
+                  defined("hart/specs/Effect", "applied", "(Trap fault) s")])
+
+
+def trap_return():
+    return steps([*assignments("special_regs/specs/Traps", "returned_scrs"), *assignments("special_regs/specs/Traps", "returned_csrs"),
+                  defined("hart/specs/Effect", "applied", "(Return sealed) s")])
+
+
+def step_list():
+    step = "hart/specs/Step"
+    asked = defined("special_regs/specs/Interrupts", "is_asked")
+    return steps([
+        defined(step, "stepped_unless"),
+        f"{asked}. {defined(step, 'decided')}: {pending_order()}",
+        defined(step, "fetched_effect"),
+        defined(step, "decoded_effect"),
+        "the instruction's own checks are made, in the order of the lists below. The first that fails is the trap, and nothing else "
+        "changes",
+        f"{defined('hart/specs/Effect', 'done_at')}; {defined('hart/specs/Effect', 'counted')}",
+    ])
+
+
+def made_of_devices():
+    devices = "devices/specs/Devices"
+    return {
+        "ram_base": f"`{NUMBERS['BASE']:#x}`",
+        "page_bytes": str(NUMBERS["PAGE_BYTES"]),
+        "most_pages": str(NUMBERS["MOST_PAGES"]),
+        "most_pages_version_1": str(NUMBERS["MOST_PAGES_VERSION_1"]),
+        "map": map_table(),
+        "widths": widths(),
+        "taken": defined(devices, "taken_at"),
+        "queue_limit": str(worth(DEVICES.body("queue_limit"))),
+        "received": defined(devices, "received"),
+        "ticked": defined(devices, "ticked"),
+        "asked": defined(devices, "interrupts_of"),
+        "timer_bit": str(NUMBERS["TIMER"]),
+        "external_bit": str(NUMBERS["EXTERNAL"]),
+    }
+
+
+def made_of_registers():
+    system = "hart/specs/SystemRows"
+    return {
+        "number": f"{defined('cap_bounds/specs/CapValue', 'integer')}; {defined('hart/specs/Registers', 'with_register')}",
+        "general": general_table(),
+        "mode": defined("hart/specs/Looks", "in_capability_mode"),
+        "csrs": csr_table(),
+        "csr_checks": refusals("csr_fault", "pcc_register"),
+        "csr_register": defined(system, "csr_effect"),
+        "csr_writes": defined(system, "csr_writes"),
+        "csr_counted": defined("hart/specs/Effect", "applied", "(Csr w) s"),
+        "special": special_table(),
+        "special_checks": refusals("scr_fault", "special_register insn.rs2"),
+        "special_register": defined(system, "special_effect"),
+        "special_writes": defined(system, "special_done"),
+        "opening": opening_list(),
+    }
+
+
+def made_of_traps():
+    return {
+        "mcause": mcause_table(),
+        "cheri": cheri_table(),
+        "mtval": mtval_form(),
+        "trap_entry": trap_entry(),
+        "entry": traps("entry_address", "vector_of", "is_vectored"),
+        "vectors": vectors(),
+        "trap_target": traps("trap_target", "sentry_opened", "placed_at"),
+        "return_checks": refusals("return_fault", "pcc_register"),
+        "return_register": defined("hart/specs/SystemRows", "return_effect"),
+        "return": trap_return(),
+        "return_target": traps("target", "aligned"),
+    }
+
+
+def made_of_rows():
+    return {
+        "permissions": permission_table(),
+        "root_perms": root_perms(),
+        "types": type_table(),
+        "sealed": defined("cap_bounds/specs/CapValue", "is_sealed"),
+        "results": results_table(),
+        "untagged": defined("cap_rights/specs/Derivations", "tagged_if"),
+        "rounded": defined("cap_bounds/specs/Rounding", "rounding_granule"),
+        "row_count": row_count(),
+        "formats": format_table(),
+        "csr_fields": f"{defined('hart/specs/SystemRows', 'csr_source')}; {defined('hart/specs/SystemRows', 'csr_number')}",
+        "rows": rows_table(),
+    }
+
+
+def made_of_checks():
+    memory, jumps, tags = "hart/specs/MemoryRows", "hart/specs/JumpRows", "tagged_memory/specs/Memory"
+    first_fault = "cap_checks/specs/FirstFault"
+    mapped = [defined(memory, name) for name in ("mapped_load", "mapped_store", "mapped_capability_load", "mapped_capability_store")]
+    return {
+        "step": step_list(),
+        "holds": defined(first_fault, "holds"),
+        "fetch": fetch_table(),
+        "place": defined(memory, "place_of"),
+        "authority": "; ".join([defined(memory, "authority_through"), defined("hart/specs/Accesses", "is_rs1"),
+                                defined(memory, "number_through")]),
+        "access": access_table(),
+        "mapped": f"{'. '.join(mapped[:3])}, {mapped[3]}",
+        "loaded_capability": defined(memory, "loaded_capability"),
+        "tags": f"{defined(tags, 'data_written')}; {defined(tags, 'capability_written')}",
+        "jump_target": defined(first_fault, "jump_target"),
+        "target": checks(FIRST_FAULT.body("target_checks")),
+        "link": f"{defined(jumps, 'link_of')}; {defined(jumps, 'sentry_link')}",
+        "entered": defined(jumps, "enter_effect"),
+        "invoked": defined(jumps, "invoke_effect"),
+        "jump": checks(FIRST_FAULT.body("jump_checks")),
+        "invoke_target": defined(first_fault, "invoke_target"),
+        "invoke": checks(FIRST_FAULT.body("invoke_checks")),
+    }
+
+
+def made():
+    """What stands for each name in the prose."""
+    return made_of_devices() | made_of_registers() | made_of_traps() | made_of_rows() | made_of_checks()
+
+
+def page():
+    """The page: the prose with what is made in its places."""
+    tables = made()
+    with open(PROSE, encoding="utf-8") as file:
+        prose = file.read()
+    asked = re.findall(r"\{\{(\w+)\}\}", prose)
+    wrong = [f"tools/programming.md: no {name}" for name in asked if name not in tables]
+    wrong += [f"tools/programming.md doesn't use {name}" for name in tables if name not in asked]
+    wrong += [f"tools/programming_words.py: nothing asks for {text}" for text in unused()]
+    if wrong:
+        raise NotUnderstood("\n".join(wrong))
+    return re.sub(r"\{\{(\w+)\}\}", lambda found: tables[found.group(1)], prose)
+
+
+def first_difference(made_, standing):
+    """The first line at which two texts differ, with both."""
+    made_, standing = made_.split("\n"), standing.split("\n")
+    for number in range(max(len(made_), len(standing))):
+        lines = [text[number] if number < len(text) else "(no line)" for text in (standing, made_)]
+        if lines[0] != lines[1]:
+            return f"docs/PROGRAMMING.md, line {number + 1}:\n  stands: {lines[0]}\n  made:   {lines[1]}"
+    return None
+
+
+def main():
+    try:
+        text = page()
+    except NotUnderstood as error:
+        print(error)
+        return 1
+    if sys.argv[1:] == ["--check"]:
+        with open(PAGE, encoding="utf-8") as file:
+            difference = first_difference(text, file.read())
+        if difference:
+            print(difference)
+        return 1 if difference else 0
+    with open(PAGE, "w", encoding="utf-8") as file:
+        file.write(text)
+    return 0
+
+
+if __name__ == "__main__":
+    sys.exit(main())
