@@ -23,12 +23,13 @@ REFUSED = [
         "step 18446744073709551616", "step 99999999999999999999999999", "tick", "tick 0", "tick -1", "tick 1 1", "tick x",
         "tick 0xf4241", "byte", "byte -1", "byte 0x100", "byte 1 2", "byte A", "byte 'A'", "until", "until 0x80000004",
         "until 0x80000004 0", "until 0x80000004 1 1", "until -1 1", "until 18446744073709551616 1", "until 0x80000004 0xf4241",
-        "until x 1", "until . 1", "reg", "reg a0 a1", "reg a0,", "reg 10", "reg X1", "reg A0", "reg x01", "reg c32", "reg x-1",
-        "reg s12", "reg t7", "reg a8", "reg czero", "reg cx5", "reg cc5", "reg null", "reg pcc", "reg ddc", "reg mstatus",
-        "reg c", "reg x", "regs a0", "scr pcc", "csr mstatus", "caps 1", "quit 0", "mem", "mem 0x80000000", "mem 0x80000000 0",
-        "mem 0x80000000 0x1001", "mem 0x80000000 1 1", "mem 0x80000000 -1", "mem -1 1", "mem 0x10000000000000000 1",
-        "mem 18446744073709551616 1", "mem 0 0", "mem 0 4097", "mem .text 1", "dis", "dis 0x80000000", "dis 0x80000000 0",
-        "dis 0x80000000 0x401", "dis 0x80000000 1 1", "dis 0x80000001 1", "dis 0x80000003 1", "dis 2 1", "dis 1 1025",
+        "until x 1", "until . 1", "trap", "trap 0", "trap -1", "trap 1 1", "trap x", "trap 0xf4241", "trap 0x80000004 1", "reg",
+        "reg a0 a1", "reg a0,", "reg 10", "reg X1", "reg A0", "reg x01", "reg c32", "reg x-1", "reg s12", "reg t7",
+        "reg a8", "reg czero", "reg cx5", "reg cc5", "reg null", "reg pcc", "reg ddc", "reg mstatus", "reg c", "reg x", "regs a0",
+        "scr pcc", "csr mstatus", "caps 1", "help 1", "help step", "quit 0", "mem", "mem 0x80000000", "mem 0x80000000 0",
+        "mem 0x80000000 0x1001", "mem 0x80000000 1 1", "mem 0x80000000 -1", "mem -1 1",
+        "mem 0x10000000000000000 1", "mem 18446744073709551616 1", "mem 0 0", "mem 0 4097", "mem .text 1", "dis", "dis 0x80000000",
+        "dis 0x80000000 0", "dis 0x80000000 0x401", "dis 0x80000000 1 1", "dis 0x80000001 1", "dis 0x80000003 1", "dis 2 1", "dis 1 1025",
         "dis 0xfffffffffffffffd 1", "dis 0x10000000000000000 1", "dis -4 1", "reg ca0\x0c",
     ]),
     ("B1", [
@@ -39,7 +40,7 @@ REFUSED = [
         "\xe9", "regs \xe9",
     ]),
     ("B1", [
-        "frob 0xffffffffffffffffffff", "load 0x80000000", "help",
+        "frob 0xffffffffffffffffffff", "load 0x80000000", "helps", "Help", "traps 1", "TRAP 1",
     ]),
 ]
 
@@ -239,6 +240,76 @@ events 2 out - pc 0000000080000014 running
 > reg a0
 ! number ca0 3
 """),
+    ("Steps end before the one that would trap, which is not given; a step that isn't plain and doesn't trap is",
+     "cspecialrw ca0, pcc, cnull; cincoffsetimm ca0, ca0, 16; csealentry ca0, ca0; jalr.cap cra, ca0; ecall", """
+> trap 3
+events 3 out - pc 000000008000000c running
+> trap 1000000
+events 1 out - pc 0000000080000010 running
+> trap 1000000
+events 0 out - pc 0000000080000010 running
+> csr
+! csr mcycle=4 minstret=4
+> step 1
+events 1 out - pc 0000000000000000 running
+> csr
+! csr mepc=80000010 mcause=b mcycle=5 minstret=4
+> trap 1
+events 0 out - pc 0000000000000000 running
+"""),
+    ("Without a trap the steps go up to the halt; a halted machine gives none", FIRST_IMAGE, """
+> trap 0x1
+events 1 out - pc 0000000080000004 running
+> trap 1000000
+events 4 out 41 pc 0000000080000014 halted 0
+> trap 1
+events 0 out - pc 0000000080000014 halted 0
+> csr
+! csr mcycle=5 minstret=5
+"""),
+    ("An interrupt that the next step would take is a trap too",
+     "lui a1, 0x2004; addi a0, zero, 128; csrrs zero, mie, a0; csrrsi zero, mstatus, 8; sd zero, 0(a1); addi a2, zero, 1", """
+> trap 10
+events 5 out - pc 0000000080000014 running
+> step 1
+events 1 out - pc 0000000000000000 running
+> csr
+! csr mstatus=1880 mie=80 mepc=80000014 mcause=8000000000000007 mip=80 mcycle=6 minstret=5
+"""),
+    ("The commands are listed, and nothing is changed", FIRST_IMAGE, """
+> help
+step N
+tick N
+byte B
+until ADDR N
+trap N
+reg R
+regs
+scr
+csr
+caps
+mem ADDR LEN
+dis ADDR N
+help
+quit
+> \\t\\thelp
+step N
+tick N
+byte B
+until ADDR N
+trap N
+reg R
+regs
+scr
+csr
+caps
+mem ADDR LEN
+dis ADDR N
+help
+quit
+> csr
+! csr
+"""),
     ("A halt with the greatest number", "lui a1, 0x100; addi a0, zero, -1; sd a0, 0(a1)", """
 > step 3
 events 3 out - pc 000000008000000c halted 18446744073709551615
@@ -424,7 +495,8 @@ STEPPED = [
     ("step 1000000", "events 1000000 out - pc 0000000080000014 halted 0"),
     ("until 0 1", "events 0 out - pc 0000000080000014 halted 0"),
     *((line, "fault B2") for line in (
-        "step 1000001", "tick 1000001", "until 0 1000001", "until 0x10000000000000000 1", "step 0", "step", "step 1 1", "step x",
+        "step 1000001", "tick 1000001", "trap 1000001", "until 0 1000001", "until 0x10000000000000000 1", "step 0", "step", "step 1 1",
+        "step x",
         "byte 256", "reg x32", "regs 1", "mem 0x80000000 4097")),
     ("mem 0x10000008 8", "fault B3"),
     ("mem 0x80000001 4096", "fault B3"),

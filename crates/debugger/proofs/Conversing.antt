@@ -11,7 +11,7 @@ use Rattle.hart.specs.State.{State}
 use Rattle.machine.specs.Run.{run_after}
 use Rattle.debugger.specs.declared.fault.DebugFault.{DebugFault}
 use Rattle.debugger.specs.declared.fault.DebugFault.TheVariants.{B2}
-use Rattle.debugger.specs.Command.{Command, step, tick, byte, until, reg, regs, scr, csr, caps, mem, dis, quit, command_of}
+use Rattle.debugger.specs.Command.{Command, step, tick, byte, until, reg, regs, scr, csr, caps, mem, dis, help, quit, command_of}
 use Rattle.debugger.specs.Reply.{answer_to, events_of, command_in, state_by, state_after}
 use Rattle.debugger.specs.Conversation.{reply_to, is_end, ends_by, is_last, replies_to, state_after_lines, unread_lines, conversation}
 use Rattle.debugger.specs.Conversation.{state_after_conversation, unread}
@@ -49,6 +49,7 @@ last_command csr s h = absurd (false≢true h)
 last_command caps s h = absurd (false≢true h)
 last_command (mem a n) s h = absurd (false≢true h)
 last_command (dis a n) s h = absurd (false≢true h)
+last_command help s h = absurd (false≢true h)
 last_command quit s h = refl
 
 last_by : (r : Result Command DebugFault) (s : State) → ends_by r s ≡ true → state_by r s ≡ s

@@ -1,13 +1,14 @@
 -- A run goes on by one event.
 use Rattle.std.proofs.Common.{◌≡◌, ℕ, zero, suc, ◌-◌, ◌<◌, ◌≤◌, Bool, true, false, List, [], ◌∷◌, ◌++◌, refl, sym, ap, ◌∙◌, append_assoc, arith}
-use Rattle.std.specs.Prelude.{option_to_list, replicate, not, ◌&&◌, ◌||◌, ◌==◌, nat_lt, is_some}
+use Rattle.std.specs.Prelude.{option_to_list, replicate, not, ◌&&◌, ◌||◌, nat_lt, is_some}
 use Rattle.std.proofs.lemmas.Bool.Decides.{nat_tests}
 use Rattle.hart.specs.declared.event.Event.{Event}
 use Rattle.hart.specs.declared.event.Event.TheVariants.{Step}
-use Rattle.hart.specs.State.{State, pc_of}
+use Rattle.hart.specs.State.{State}
 use Rattle.hart.specs.Event.{after, sent}
 use Rattle.machine.specs.Run.{run_after, run_sent}
-use Rattle.debugger.specs.Reply.{steps_until}
+use Rattle.debugger.specs.declared.command.Stop.{Stop}
+use Rattle.debugger.specs.Reply.{is_stop, steps_until}
 use Rattle.debugger.specs.Lines.{goes_on}
 
 module _ (es : List Event) (e : Event) (rest : List Event) (first : es ≡ e ∷ rest) (s n : State) (step : n ≡ after e s) where
@@ -70,19 +71,19 @@ not_both true h = refl
 not_both false h = absurd (cc)
 
 -- one step more, or none
-pub one_step : (address n : ℕ) (s m : State) → m ≡ after Step s → goes_on address n s ≡ true
-    → steps_until address n s ≡ Step ∷ steps_until address (n - 1) m
-one_step address zero s m e h = absurd (cc)
-one_step address (suc n) s m e h =
-    let other : ((pc_of s == address) || is_some s.devices.halted) ≡ false = both (nat_lt 0 (suc n)) _ h in
+pub one_step : (stop : Stop) (n : ℕ) (s m : State) → m ≡ after Step s → goes_on stop n s ≡ true
+    → steps_until stop n s ≡ Step ∷ steps_until stop (n - 1) m
+one_step stop zero s m e h = absurd (cc)
+one_step stop (suc n) s m e h =
+    let other : (is_stop stop s || is_some s.devices.halted) ≡ false = both (nat_lt 0 (suc n)) _ h in
     rw (other, less_one n, e) refl
 
-pub no_step : (address n : ℕ) (s : State) → goes_on address n s ≡ false → steps_until address n s ≡ []
-no_step address zero s h = refl
-no_step address (suc n) s h =
-    let other : ((pc_of s == address) || is_some s.devices.halted) ≡ true = not_both _ (rw (some_left n) at h) in
+pub no_step : (stop : Stop) (n : ℕ) (s : State) → goes_on stop n s ≡ false → steps_until stop n s ≡ []
+no_step stop zero s h = refl
+no_step stop (suc n) s h =
+    let other : (is_stop stop s || is_some s.devices.halted) ≡ true = not_both _ (rw (some_left n) at h) in
     rw other refl
 
-pub some_step : (address n : ℕ) (s : State) → goes_on address n s ≡ true → 0 < n
-some_step address zero s h = absurd (cc)
-some_step address (suc n) s h = omega arith
+pub some_step : (stop : Stop) (n : ℕ) (s : State) → goes_on stop n s ≡ true → 0 < n
+some_step stop zero s h = absurd (cc)
+some_step stop (suc n) s h = omega arith

@@ -10,14 +10,16 @@ use Rattle.asm_lines.specs.Number.{number_of}
 use Rattle.asm_lines.specs.Operand.{ranged, wrapped}
 use Rattle.debugger.specs.declared.fault.DebugFault.{DebugFault}
 use Rattle.debugger.specs.declared.fault.DebugFault.TheVariants.{B1, B2}
+use Rattle.debugger.specs.declared.command.Stop.{Stop}
+use Rattle.debugger.specs.declared.command.Stop.TheVariants.{Address, Trap}
 
 pub data Command : Type 0 where
   -- so many steps, so many ticks, one byte on the console's line
   step : ℕ → Command
   tick : ℕ → Command
   byte : ℕ → Command
-  -- steps until PCC's address is this one, at most so many
-  until : ℕ → ℕ → Command
+  -- steps until PCC's address is the one asked for, or the next step would trap; at most so many
+  until : Stop → ℕ → Command
   -- a register, all of them, the special capability registers, the control and status registers
   reg : ℕ → Command
   regs : Command
@@ -28,7 +30,15 @@ pub data Command : Type 0 where
   -- bytes from an address, and words as instructions
   mem : ℕ → ℕ → Command
   dis : ℕ → ℕ → Command
+  -- the commands with their operands
+  help : Command
   quit : Command
+
+-- what `help` answers, one a line
+abbrev pub help_lines : List (List ℕ)
+help_lines =
+    codes "step N" ∷ codes "tick N" ∷ codes "byte B" ∷ codes "until ADDR N" ∷ codes "trap N" ∷ codes "reg R" ∷ codes "regs"
+    ∷ codes "scr" ∷ codes "csr" ∷ codes "caps" ∷ codes "mem ADDR LEN" ∷ codes "dis ADDR N" ∷ codes "help" ∷ codes "quit" ∷ []
 
 -- the words of a line: what stands between spaces, tabs and carriage returns
 abbrev pub words_of : List ℕ → List (List ℕ)
@@ -91,7 +101,8 @@ command_named name operands =
     if is_word name (codes "step") then operands_or_B2 (one_number step 1 1000000 operands)
     else (if is_word name (codes "tick") then operands_or_B2 (one_number tick 1 1000000 operands)
     else (if is_word name (codes "byte") then operands_or_B2 (one_number byte 0 255 operands)
-    else (if is_word name (codes "until") then operands_or_B2 (address_and_number until 1000000 operands)
+    else (if is_word name (codes "until") then operands_or_B2 (address_and_number (λ address. until (Address address)) 1000000 operands)
+    else (if is_word name (codes "trap") then operands_or_B2 (one_number (until Trap) 1 1000000 operands)
     else (if is_word name (codes "reg") then operands_or_B2 (one_register operands)
     else (if is_word name (codes "regs") then operands_or_B2 (nothing_more regs operands)
     else (if is_word name (codes "scr") then operands_or_B2 (nothing_more scr operands)
@@ -99,8 +110,9 @@ command_named name operands =
     else (if is_word name (codes "caps") then operands_or_B2 (nothing_more caps operands)
     else (if is_word name (codes "mem") then operands_or_B2 (address_and_number mem 4096 operands)
     else (if is_word name (codes "dis") then operands_or_B2 (at_a_word (address_and_number dis 1024 operands))
+    else (if is_word name (codes "help") then operands_or_B2 (nothing_more help operands)
     else (if is_word name (codes "quit") then operands_or_B2 (nothing_more quit operands)
-    else Err B1)))))))))))
+    else Err B1)))))))))))))
 
 abbrev pub command_of_words : List (List ℕ) → Result Command DebugFault
 command_of_words [] = Err B1

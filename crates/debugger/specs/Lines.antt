@@ -1,17 +1,18 @@
 -- One line of each kind of register, by its number.
-use Rattle.std.specs.Prelude.{ℕ, Bool, true, not, ◌&&◌, ◌||◌, ◌==◌, nat_lt, is_some, List, [], ◌++◌, Option, Some, None, codes, decimal}
+use Rattle.std.specs.Prelude.{ℕ, Bool, true, not, ◌&&◌, ◌||◌, nat_lt, is_some, List, [], ◌++◌, Option, Some, None, codes, decimal}
 use Rattle.cap_bounds.specs.CapValue.{CapValue}
 use Rattle.special_regs.specs.declared.csrs.Csrs.{Csrs}
 use Rattle.special_regs.specs.Scrs.{Scrs, scr_value}
 use Rattle.special_regs.specs.CsrValues.{csr_value}
 use Rattle.hart.specs.State.{State, pc_of}
+use Rattle.debugger.specs.declared.command.Stop.{Stop}
 use Rattle.hart.specs.Registers.{register}
 use Rattle.asm_names.specs.Registers.{register_name}
 use Rattle.asm_names.specs.SpecialNames.{csr_name, scr_name}
 use Rattle.disassembler.specs.Hex.{hex_of}
 use Rattle.disassembler.specs.Shown.{name_or}
 use Rattle.debugger.specs.Capability.{value_line}
-use Rattle.debugger.specs.Reply.{shown_sent, shown_end}
+use Rattle.debugger.specs.Reply.{shown_sent, shown_end, is_stop}
 
 abbrev pub register_line : State → ℕ → List ℕ
 register_line s n = value_line (name_or [] (register_name true n)) (register s.registers n)
@@ -42,6 +43,6 @@ given_part count bytes = codes "events " ++ decimal count ++ codes " out " ++ sh
 abbrev pub place_part : State → List ℕ
 place_part s = codes " pc " ++ hex_of 16 (pc_of s) ++ codes " " ++ shown_end s.devices.halted ++ codes "\n"
 
--- whether `until` gives one more step
-abbrev pub goes_on : ℕ → ℕ → State → Bool
-goes_on address left s = nat_lt 0 left && not ((pc_of s == address) || is_some s.devices.halted)
+-- whether `until` or `trap` gives one more step
+abbrev pub goes_on : Stop → ℕ → State → Bool
+goes_on stop left s = nat_lt 0 left && not (is_stop stop s || is_some s.devices.halted)

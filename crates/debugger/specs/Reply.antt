@@ -13,6 +13,9 @@ use Rattle.hart.specs.declared.event.Event.TheVariants.{Step, Tick, Byte}
 use Rattle.hart.specs.State.{State, pc_of}
 use Rattle.hart.specs.Registers.{register}
 use Rattle.hart.specs.Event.{after}
+use Rattle.hart.specs.Step.{step_outcome}
+use Rattle.hart.specs.Outcome.{Outcome}
+use Rattle.hart.specs.Outcome as outcome
 use Rattle.machine.specs.Run.{run_after, run_sent}
 use Rattle.asm_names.specs.Registers.{capability_names, register_name}
 use Rattle.asm_names.specs.SpecialNames.{csr_name, scr_name}
@@ -21,22 +24,35 @@ use Rattle.debugger.specs.declared.fault.DebugFault.TheVariants.{B3}
 use Rattle.disassembler.specs.Hex.{hex_of}
 use Rattle.disassembler.specs.Shown.{name_or, word_line}
 use Rattle.debugger.specs.Capability.{value_line}
-use Rattle.debugger.specs.Command.{Command, step, tick, byte, until, reg, regs, scr, csr, caps, mem, dis, quit, command_of}
+use Rattle.debugger.specs.declared.command.Stop.{Stop}
+use Rattle.debugger.specs.declared.command.Stop.TheVariants.{Address, Trap}
+use Rattle.debugger.specs.Command.{Command, step, tick, byte, until, reg, regs, scr, csr, caps, mem, dis, help, quit}
+use Rattle.debugger.specs.Command.{help_lines, command_of}
 
 -- ---- commands that give events
 
--- the steps of `until`: given while PCC's address is another, the machine is not halted, and fewer than the most were
-abbrev pub steps_until : ℕ → ℕ → State → List Event
-steps_until address zero s = []
-steps_until address (suc n) s =
-    if (pc_of s == address) || is_some s.devices.halted then [] else (Step ∷ steps_until address n (after Step s))
+-- whether a step comes to a trap: of its instruction, or by an interrupt
+abbrev pub is_trap : Outcome → Bool
+is_trap outcome.Trap = true
+is_trap other = false
+
+-- whether a state is one before which a command stops
+abbrev pub is_stop : Stop → State → Bool
+is_stop (Address address) s = pc_of s == address
+is_stop Trap s = is_trap (step_outcome s)
+
+-- the steps of `until` and of `trap`: given while they don't stop, the machine is not halted, and fewer than the most were
+abbrev pub steps_until : Stop → ℕ → State → List Event
+steps_until stop zero s = []
+steps_until stop (suc n) s =
+    if is_stop stop s || is_some s.devices.halted then [] else (Step ∷ steps_until stop n (after Step s))
 
 -- the events that a command gives; a command that only shows gives none
 unfoldable pub events_of : Command → State → List Event
 events_of (step n) s = replicate n Step
 events_of (tick n) s = replicate n Tick
 events_of (byte b) s = Byte b ∷ []
-events_of (until address n) s = steps_until address n s
+events_of (until stop n) s = steps_until stop n s
 events_of (reg n) s = []
 events_of regs s = []
 events_of scr s = []
@@ -44,6 +60,7 @@ events_of csr s = []
 events_of caps s = []
 events_of (mem address n) s = []
 events_of (dis address n) s = []
+events_of help s = []
 events_of quit s = []
 
 -- the bytes that were sent, two digits each, or `-` for none
@@ -97,6 +114,10 @@ abbrev pub word_lines : Bool → Memory → ℕ → ℕ → List ℕ
 word_lines mode m zero address = []
 word_lines mode m (suc n) address = word_line mode address (number_at m address 4) ++ word_lines mode m n (address + 4)
 
+-- the commands, one a line
+abbrev pub help_text : List ℕ
+help_text = flat_map (λ line. line ++ codes "\n") help_lines
+
 -- ---- replies
 
 -- some byte that a command shows is outside RAM
@@ -104,7 +125,7 @@ abbrev pub is_outside : Command → State → Bool
 is_outside (step n) s = false
 is_outside (tick n) s = false
 is_outside (byte b) s = false
-is_outside (until address n) s = false
+is_outside (until stop n) s = false
 is_outside (reg n) s = false
 is_outside regs s = false
 is_outside scr s = false
@@ -112,6 +133,7 @@ is_outside csr s = false
 is_outside caps s = false
 is_outside (mem address n) s = not (is_in_ram s.memory address n)
 is_outside (dis address n) s = not (is_in_ram s.memory address (4 * n))
+is_outside help s = false
 is_outside quit s = false
 
 -- what a session answers: a text of lines, or that it ends
@@ -123,7 +145,7 @@ unfoldable pub answer_to : Command → State → Answer
 answer_to (step n) s = told (events_line (events_of (step n) s) s)
 answer_to (tick n) s = told (events_line (events_of (tick n) s) s)
 answer_to (byte b) s = told (events_line (events_of (byte b) s) s)
-answer_to (until address n) s = told (events_line (events_of (until address n) s) s)
+answer_to (until stop n) s = told (events_line (events_of (until stop n) s) s)
 answer_to (reg n) s = told (value_line (name_or [] (register_name true n)) (register s.registers n))
 answer_to regs s = told (register_lines s 0 capability_names)
 answer_to scr s = told (scr_lines (scr_values s.scrs))
@@ -131,6 +153,7 @@ answer_to csr s = told (csr_lines (csr_values s.csrs s.scrs (interrupts_of s.dev
 answer_to caps s = told (cap_lines s.memory)
 answer_to (mem address n) s = told (byte_lines n address (bytes_at s.memory address n))
 answer_to (dis address n) s = told (word_lines (value_flag s.scrs.pcc) s.memory n address)
+answer_to help s = told help_text
 answer_to quit s = ended
 
 -- what a line is refused by in a state: what it writes, then addresses outside RAM

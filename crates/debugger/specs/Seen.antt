@@ -4,14 +4,14 @@ use Rattle.asm_lines.specs.declared.fault.LineFault.{LineFault}
 use Rattle.asm_lines.specs.Operand.{wrapped}
 use Rattle.debugger.specs.declared.fault.DebugFault.{DebugFault}
 use Rattle.debugger.specs.declared.command.Command.{Command as Request}
-use Rattle.debugger.specs.declared.command.Command.TheVariants.{Step, Tick, Byte, Until, Reg, Regs, Scr, Csr, Caps, Mem, Dis, Quit}
-use Rattle.debugger.specs.Command.{Command, step, tick, byte, until, reg, regs, scr, csr, caps, mem, dis, quit}
+use Rattle.debugger.specs.declared.command.Command.TheVariants.{Step, Tick, Byte, Until, Reg, Regs, Scr, Csr, Caps, Mem, Dis, Help, Quit}
+use Rattle.debugger.specs.Command.{Command, step, tick, byte, until, reg, regs, scr, csr, caps, mem, dis, help, quit}
 
 abbrev pub seen_command : Request → Command
 seen_command (Step n) = step n
 seen_command (Tick n) = tick n
 seen_command (Byte b) = byte b
-seen_command (Until address n) = until address n
+seen_command (Until stop n) = until stop n
 seen_command (Reg n) = reg n
 seen_command Regs = regs
 seen_command Scr = scr
@@ -19,6 +19,7 @@ seen_command Csr = csr
 seen_command Caps = caps
 seen_command (Mem address n) = mem address n
 seen_command (Dis address n) = dis address n
+seen_command Help = help
 seen_command Quit = quit
 
 abbrev pub seen_request : Result Request DebugFault → Result Command DebugFault
@@ -45,7 +46,7 @@ abbrev pub IsWithinLimits : Request → Type 0
 IsWithinLimits (Step n) = n ≤ 1000000
 IsWithinLimits (Tick n) = n ≤ 1000000
 IsWithinLimits (Byte b) = ⊤
-IsWithinLimits (Until address n) = n ≤ 1000000
+IsWithinLimits (Until stop n) = n ≤ 1000000
 IsWithinLimits (Reg n) = n < 32
 IsWithinLimits Regs = ⊤
 IsWithinLimits Scr = ⊤
@@ -53,6 +54,7 @@ IsWithinLimits Csr = ⊤
 IsWithinLimits Caps = ⊤
 IsWithinLimits (Mem address n) = n ≤ 4096
 IsWithinLimits (Dis address n) = (n ≤ 1024) × (address % 4 ≡ 0)
+IsWithinLimits Help = ⊤
 IsWithinLimits Quit = ⊤
 
 -- the most events that a command gives
@@ -60,7 +62,7 @@ abbrev pub most_of : Request → ℕ
 most_of (Step n) = n
 most_of (Tick n) = n
 most_of (Byte b) = 1
-most_of (Until address n) = n
+most_of (Until stop n) = n
 most_of (Reg n) = 0
 most_of Regs = 0
 most_of Scr = 0
@@ -68,4 +70,5 @@ most_of Csr = 0
 most_of Caps = 0
 most_of (Mem address n) = 0
 most_of (Dis address n) = 0
+most_of Help = 0
 most_of Quit = 0

@@ -4,17 +4,18 @@ ghost use Rattle.cap_bounds.specs.CapValue.{value_flag};
 ghost use Rattle.special_regs.specs.Scrs.{scr_value};
 ghost use Rattle.machine.specs.Run.{run_after};
 ghost use Rattle.debugger.specs.Command.{reg, regs, scr, csr, caps, mem, dis};
-ghost use Rattle.debugger.specs.Reply.{told, events_of, events_line, is_outside, answer_to};
+ghost use Rattle.debugger.specs.Reply.{told, events_of, events_line, help_text, is_outside, answer_to};
 ghost use Rattle.debugger.specs.Seen.{seen_command, IsWithinLimits};
 ghost use Rattle.debugger.specs.Answers.{seen_reply};
 
 use crate::caps::put_caps;
-use crate::command::Command;
+use crate::command::{Command, HELP};
 use crate::fault::DebugFault;
 use crate::ram::{put_memory, put_words};
 use crate::reply::Reply;
 use crate::run::told_events;
 use crate::state::{put_csrs, put_register, put_registers, put_scrs};
+use crate::text::put;
 use cap_bounds::CapRep;
 use machine::Machine;
 use std::alloc::Global;
@@ -126,6 +127,15 @@ fn words<C: CapRep>(
     Ok(Reply::Text(text))
 }
 
+fn help(alloc: Global) -> Result<Reply, DebugFault>
+    ensures reply { IfOk result (λ reply. seen_reply reply ≡ told help_text) }
+    ensures err { IfErr result (λ fault. fault ≡ DebugFault.B4) }
+{
+    let mut text = String::new(alloc);
+    put(&mut text, HELP)?;
+    Ok(Reply::Text(text))
+}
+
 fn events<C: CapRep>(
     alloc: Global,
     machine: &mut Machine<C>,
@@ -165,6 +175,7 @@ pub(crate) fn answer<C: CapRep>(
         Command::Caps => capabilities(alloc, machine),
         Command::Mem { address, count } => memory(alloc, machine, address, count),
         Command::Dis { address, count } => words(alloc, machine, address, count),
+        Command::Help => help(alloc),
         Command::Step(_) => events(alloc, machine, command),
         Command::Tick(_) => events(alloc, machine, command),
         Command::Byte(_) => events(alloc, machine, command),

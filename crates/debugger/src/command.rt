@@ -2,7 +2,7 @@
 ghost use Rattle.std.specs.Prelude.{◌≡◌, ℕ, ◌≤◌, ◌<◌, ◌%◌, IfOk, IfSome, nat_eq, codes, option_map};
 ghost use Rattle.std.specs.Cmp.Lexicographic.{pointwise};
 ghost use Rattle.asm_names.specs.Registers.{register_named};
-ghost use Rattle.debugger.specs.Command.{Command as Written, step, tick, byte, until, reg, regs, mem, dis, words_of, number_between};
+ghost use Rattle.debugger.specs.Command.{Command as Written, step, tick, byte, until, reg, regs, mem, dis, help, words_of, number_between};
 ghost use Rattle.debugger.specs.Command.{operands_or_B2, one_number, address_and_number, one_register, nothing_more, at_a_word};
 ghost use Rattle.debugger.specs.Command.{command_named, command_of};
 ghost use Rattle.debugger.specs.Seen.{seen_command, seen_request, made_of, made_of_two, read_number, IsWithinLimits};
@@ -24,6 +24,33 @@ const MOST_SHOWN: u64 = 4096;
 /// The most words that a command disassembles.
 const MOST_WORDS: u64 = 1024;
 
+/// What `help` answers: the commands with their operands, one a line.
+pub(crate) const HELP: &str = "\
+step N
+tick N
+byte B
+until ADDR N
+trap N
+reg R
+regs
+scr
+csr
+caps
+mem ADDR LEN
+dis ADDR N
+help
+quit
+";
+
+/// Where a command that gives steps stops.
+#[derive(Clone, Copy)]
+pub(crate) enum Stop {
+    /// Where PCC's address is this one.
+    Address(u64),
+    /// Where the next step would trap.
+    Trap,
+}
+
 /// A command of a session.
 #[derive(Clone, Copy)]
 pub(crate) enum Command {
@@ -33,8 +60,8 @@ pub(crate) enum Command {
     Tick(u64),
     /// One byte on the console's line.
     Byte(u8),
-    /// Steps until PCC's address is this one, at most so many.
-    Until { address: u64, most: u64 },
+    /// Steps until the machine is where they stop, at most so many.
+    Until { stop: Stop, most: u64 },
     /// A register.
     Reg(u8),
     /// All registers.
@@ -49,6 +76,8 @@ pub(crate) enum Command {
     Mem { address: u64, count: u64 },
     /// So many words from an address, as instructions.
     Dis { address: u64, count: u64 },
+    /// The commands with their operands.
+    Help,
     /// The end.
     Quit,
 }
@@ -157,7 +186,15 @@ fn command_named(name: &[u8], operands: &[u8]) -> Result<Command, DebugFault>
         Ok(Command::Byte(one_number(operands, 0, 255)? as u8))
     } else if name == "until".as_bytes() {
         let (address, most) = address_and_number(operands, MOST_EVENTS)?;
-        Ok(Command::Until { address, most })
+        Ok(Command::Until {
+            stop: Stop::Address(address),
+            most,
+        })
+    } else if name == "trap".as_bytes() {
+        Ok(Command::Until {
+            stop: Stop::Trap,
+            most: one_number(operands, 1, MOST_EVENTS)?,
+        })
     } else if name == "reg".as_bytes() {
         one_register(operands)
     } else if name == "regs".as_bytes() {
@@ -173,6 +210,8 @@ fn command_named(name: &[u8], operands: &[u8]) -> Result<Command, DebugFault>
         Ok(Command::Mem { address, count })
     } else if name == "dis".as_bytes() {
         words_at(operands)
+    } else if name == "help".as_bytes() {
+        nothing_more(Command::Help, operands)
     } else if name == "quit".as_bytes() {
         nothing_more(Command::Quit, operands)
     } else {

@@ -5,17 +5,18 @@ ghost use Rattle.std.specs.List.{flat_map};
 ghost use Rattle.special_regs.specs.Scrs.{scr_value};
 ghost use Rattle.hart.specs.declared.event.Event.TheVariants.{Step};
 ghost use Rattle.hart.specs.State.{pc_of};
+ghost use Rattle.hart.specs.Step.{step_outcome};
 ghost use Rattle.machine.specs.Run.{run_after, run_sent};
 ghost use Rattle.disassembler.specs.Hex.{hex_of};
-ghost use Rattle.debugger.specs.Reply.{steps_until as until_steps, events_of, events_line, shown_sent, shown_end};
+ghost use Rattle.debugger.specs.Reply.{is_trap, is_stop, steps_until as until_steps, events_of, events_line, shown_sent, shown_end};
 ghost use Rattle.debugger.specs.Lines.{given_part, place_part, goes_on};
 ghost use Rattle.debugger.specs.Seen.{seen_command, most_of, IsWithinLimits};
 
-use crate::command::Command;
+use crate::command::{Command, Stop};
 use crate::fault::DebugFault;
 use crate::text::{put, put_decimal, put_hex};
 use cap_bounds::CapRep;
-use machine::{Event, Machine, emit};
+use machine::{Event, Machine, Why, emit};
 use std::alloc::{AllocError, Global};
 
 /// The number of PCC.
@@ -62,28 +63,45 @@ fn steps<C: CapRep>(machine: &mut Machine<C>, times: u64, sent: &mut Vec<u8>)
     }
 }
 
-/// Whether `until` gives one more step: fewer than the most were given, PCC's address is another, and the machine isn't halted.
-fn goes_on<C: CapRep>(machine: &Machine<C>, address: u64, left: u64) -> bool
-    ensures { result ≡ goes_on address left machine.now }
+/// Whether the next step would trap.
+fn traps_next<C: CapRep>(machine: &Machine<C>) -> bool
+    ensures { result ≡ is_trap (step_outcome machine.now) }
 {
-    left > 0 && !(pc(machine) == address || machine.halted().is_some())
+    matches!(machine.next_ends(Event::Step), Some(Why::Trap))
 }
 
-/// Gives steps until PCC's address is this one or the machine is halted, at most so many, and answers how many there were.
+/// Whether the machine is where steps stop.
+fn is_stop<C: CapRep>(machine: &Machine<C>, stop: Stop) -> bool
+    ensures { result ≡ is_stop stop machine.now }
+{
+    match stop {
+        Stop::Address(address) => pc(machine) == address,
+        Stop::Trap => traps_next(machine),
+    }
+}
+
+/// Whether one more step is given: fewer than the most were, the machine isn't where they stop, and it isn't halted.
+fn goes_on<C: CapRep>(machine: &Machine<C>, stop: Stop, left: u64) -> bool
+    ensures { result ≡ goes_on stop left machine.now }
+{
+    left > 0 && !(is_stop(machine, stop) || machine.halted().is_some())
+}
+
+/// Gives steps until the machine is where they stop or is halted, at most so many, and answers how many there were.
 fn steps_until<C: CapRep>(
     machine: &mut Machine<C>,
-    address: u64,
+    stop: Stop,
     most: u64,
     sent: &mut Vec<u8>,
 ) -> u64
     requires { vec_len sent.old + most ≤ vec_capacity sent.old }
-    ensures state { machine.new ≡ run_after (until_steps address most machine.old) machine.old }
-    ensures bytes { sent.new.items ≡ sent.old.items ++ run_sent (until_steps address most machine.old) machine.old }
-    ensures count { result ≡ length (until_steps address most machine.old) }
+    ensures state { machine.new ≡ run_after (until_steps stop most machine.old) machine.old }
+    ensures bytes { sent.new.items ≡ sent.old.items ++ run_sent (until_steps stop most machine.old) machine.old }
+    ensures count { result ≡ length (until_steps stop most machine.old) }
     ensures len { vec_len sent.new ≤ vec_len sent.old + most }
 {
     let mut left = most;
-    while goes_on(machine, address, left) {
+    while goes_on(machine, stop, left) {
         let out = machine.event(Event::Step);
         emit(sent, out.byte);
         left -= 1;
@@ -128,7 +146,7 @@ fn give<C: CapRep>(machine: &mut Machine<C>, command: Command, sent: &mut Vec<u8
             repeat(machine, Event::Byte(byte), 1, sent);
             1
         }
-        Command::Until { address, most } => steps_until(machine, address, most, sent),
+        Command::Until { stop, most } => steps_until(machine, stop, most, sent),
         _ => 0,
     }
 }

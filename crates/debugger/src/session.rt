@@ -55,8 +55,8 @@ impl<C: CapRep> Session<C> {
 
     /// Does what a line asks for, and answers its reply.
     ///
-    /// Commands are `step N`, `tick N`, `byte B`, `until ADDR N`, `reg R`, `regs`, `scr`, `csr`, `caps`, `mem ADDR LEN`,
-    /// `dis ADDR N` and `quit`; numbers are those of the assembly language. Only the first four change anything.
+    /// Commands are `step N`, `tick N`, `byte B`, `until ADDR N`, `trap N`, `reg R`, `regs`, `scr`, `csr`, `caps`, `mem ADDR LEN`,
+    /// `dis ADDR N`, `help` and `quit`; numbers are those of the assembly language. Only the first five change anything.
     ///
     /// Refused with B1 where the line has no word or its first is no command; with B2 where its operands are others, and where the
     /// line has more than 255 bytes or one of 128 or more, whatever its words; with B3 where some byte to be shown is outside RAM;

@@ -7,12 +7,12 @@ use Rattle.debugger.specs.Reply.{steps_until}
 use Rattle.debugger.proofs.RunSteps.{state_goes_on, bytes_go_on, one_step, no_step, some_step}
 use Rattle.debugger.proofs.run.steps_until.Goals as goal
 
-pub loop-machine-preserved : goal.loop-machine-preserved
-loop-machine-preserved g c =
-    let l = c.loop-machine in
-    let a = c.args.address in
+pub loop-stop-preserved : goal.loop-stop-preserved
+loop-stop-preserved g c =
+    let l = c.loop-stop in
+    let a = c.args.stop in
     let m = c.event-out.new.self in
-    let more : goes_on a l.left l.machine ≡ true = sym c.goes_on.ensures ∙ c.loop-machine-test.true in
+    let more : goes_on a l.left l.machine ≡ true = sym c.goes_on.ensures ∙ c.loop-stop-test.true in
     let some = some_step a l.left l.machine more in
     let first = one_step a l.left l.machine m c.event-out.ensures.state more in
     record {
@@ -29,18 +29,18 @@ loop-machine-preserved g c =
 
 pub returns-clause-state : goal.returns-clause-state
 returns-clause-state g c =
-    let l = c.loop-machine in
-    let e = no_step c.args.address l.left l.machine (sym c.goes_on.ensures ∙ c.loop-machine-test.false) in
+    let l = c.loop-stop in
+    let e = no_step c.args.stop l.left l.machine (sym c.goes_on.ensures ∙ c.loop-stop-test.false) in
     rw e at l.invariant.state
 
 pub returns-clause-bytes : goal.returns-clause-bytes
 returns-clause-bytes g c =
-    let l = c.loop-machine in
-    let e = no_step c.args.address l.left l.machine (sym c.goes_on.ensures ∙ c.loop-machine-test.false) in
+    let l = c.loop-stop in
+    let e = no_step c.args.stop l.left l.machine (sym c.goes_on.ensures ∙ c.loop-stop-test.false) in
     grind (arith, common_steps, rw e at l.invariant.bytes)
 
 pub returns-clause-count : goal.returns-clause-count
 returns-clause-count g c =
-    let l = c.loop-machine in
-    let e = no_step c.args.address l.left l.machine (sym c.goes_on.ensures ∙ c.loop-machine-test.false) in
+    let l = c.loop-stop in
+    let e = no_step c.args.stop l.left l.machine (sym c.goes_on.ensures ∙ c.loop-stop-test.false) in
     omega (arith, rw e at l.invariant.count)

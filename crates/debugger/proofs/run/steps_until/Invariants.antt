@@ -4,16 +4,16 @@ use Rattle.debugger.specs.Reply.{steps_until}
 use Rattle.debugger.proofs.run.steps_until.Given as goal
 
 -- what is still to come after the steps so far is what comes after all of them
-abbrev pub invariant-loop-machine : goal.invariant-loop-machine
-invariant-loop-machine g l = record {
-  state : run_after (steps_until l.address l.left l.machine) l.machine ≡ run_after (steps_until l.address l.most l.fn.machine) l.fn.machine;
-  bytes : l.sent.items ++ run_sent (steps_until l.address l.left l.machine) l.machine ≡ l.fn.sent.items
-      ++ run_sent (steps_until l.address l.most l.fn.machine) l.fn.machine;
-  count : length (steps_until l.address l.left l.machine) + (l.most - l.left) ≡ length (steps_until l.address l.most l.fn.machine);
+abbrev pub invariant-loop-stop : goal.invariant-loop-stop
+invariant-loop-stop g l = record {
+  state : run_after (steps_until l.stop l.left l.machine) l.machine ≡ run_after (steps_until l.stop l.most l.fn.machine) l.fn.machine;
+  bytes : l.sent.items ++ run_sent (steps_until l.stop l.left l.machine) l.machine ≡ l.fn.sent.items
+      ++ run_sent (steps_until l.stop l.most l.fn.machine) l.fn.machine;
+  count : length (steps_until l.stop l.left l.machine) + (l.most - l.left) ≡ length (steps_until l.stop l.most l.fn.machine);
   below : l.left ≤ l.most;
   len : vec_len l.sent + l.left ≤ vec_len l.fn.sent + l.most;
   room : vec_len l.sent + l.left ≤ vec_capacity l.sent;
 }
 
-abbrev pub decreases-loop-machine : goal.decreases-loop-machine
-decreases-loop-machine g l = l.left
+abbrev pub decreases-loop-stop : goal.decreases-loop-stop
+decreases-loop-stop g l = l.left
