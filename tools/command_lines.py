@@ -6,7 +6,7 @@ Values are from the rules of the command line, of listings and of the schedule.
 from programs.items import csr, halted, integer, line, sent
 from quoting import quoted
 
-# A command line, and its plan: of a run the image, the steps, the gap, the tick and the input.
+# A command line, and its plan: of a run the image, the steps, the gap, the tick and the input, and whether it is quiet.
 PLANS = [
     ("run hello.img 5", "run hello.img 5 1000 100 -"),
     ("run hello.img 1", "run hello.img 1 1000 100 -"),
@@ -14,10 +14,20 @@ PLANS = [
     ("run hello.img 22 --input keys --gap 1", "run hello.img 22 1 100 keys"),
     ("run --gap=1000000 --tick=1000000 hello.img 22", "run hello.img 22 1000000 1000000 -"),
     ("run hello.img 22 --tick 0", "run hello.img 22 1000 0 -"),
+    ("run hello.img 22 --quiet", "run hello.img 22 1000 100 - quiet"),
     ("", "first"),
-    ("asm hello.s hello.img", "asm hello.s hello.img"),
-    ("dis hello.img", "dis hello.img"),
-    ("debug hello.img", "debug hello.img"),
+    ("asm hello.s hello.img", "asm hello.s hello.img -"),
+    ("asm hello.s hello.img --symbols hello.sym", "asm hello.s hello.img hello.sym"),
+    ("image hello.bin hello.img", "image hello.bin hello.img - - - -"),
+    ("image hello.bin hello.img --at 0x80001000 --entry 2147487744 --pages 16 --mode 1",
+     "image hello.bin hello.img 2147487744 2147487744 16 1"),
+    ("image hello.bin hello.img --at 0xFFFFffffFFFFffff --pages 0", "image hello.bin hello.img 18446744073709551615 - 0 -"),
+    ("dis hello.img", "dis hello.img -"),
+    ("dis hello.img --symbols hello.sym", "dis hello.img hello.sym"),
+    ("debug hello.img", "debug hello.img -"),
+    ("debug --symbols=hello.sym hello.img", "debug hello.img hello.sym"),
+    ("bounds 0x80000000 0x1001", "bounds 2147483648 4097 -"),
+    ("bounds 0 18446744073709551615 --address 007", "bounds 0 18446744073709551615 7"),
 ]
 
 # A command line that is refused, and what the text of its refusal names.
@@ -40,12 +50,34 @@ REFUSED = [
     ("run hello.img 5 --tick 1000001", "--tick"),
     ("run hello.img 5 --input", "--input"),
     ("run hello.img 5 --speed 9", "--speed"),
-    *(("--help", named) for named in ("asm", "run", "dis", "debug", "Example")),
+    ("run hello.img 5 --quiet 1", "1"),
+    ("asm hello.s hello.s", "a file that is written"),
+    ("asm hello.s hello.img --symbols hello.s", "a file that is written"),
+    ("asm hello.s hello.img --symbols hello.img", "a file that is written"),
+    ("image hello.bin", "OUT"),
+    ("image hello.bin hello.bin", "a file that is written"),
+    ("image hello.bin hello.img --at 18446744073709551616", "--at takes a number of 0 to 18446744073709551615"),
+    ("image hello.bin hello.img --entry 0x", "--entry takes a number of 0 to 18446744073709551615"),
+    ("image hello.bin hello.img --pages many", "--pages takes a number of 1 to 65536"),
+    ("image hello.bin hello.img --mode=-1", "--mode takes 0 or 1"),
+    ("bounds 0", "LENGTH"),
+    ("bounds x 0", "BASE is a number of 0 to 18446744073709551615"),
+    ("bounds 0 +1", "LENGTH is a number of 0 to 18446744073709551615"),
+    ("bounds 0 1 --address 0X1", "--address takes a number of 0 to 18446744073709551615"),
+]
+
+# A command line that asks for help, and what its text names.
+HELPED = [
+    *(("--help", named) for named in ("asm", "image", "run", "dis", "debug", "bounds", "Example")),
     ("asm --help", "OUT"),
+    ("asm --help", "--symbols"),
+    ("image --help", "--pages"),
     ("dis --help", "IMAGE"),
     ("debug --help", "standard input"),
     ("run --help", "100000000"),
     ("run --help", "--tick"),
+    ("run --help", "--quiet"),
+    ("bounds --help", "--address"),
 ]
 
 # An instruction and three bytes that are no word, and another section of an instruction at a place that is no multiple of 4, and a word
@@ -88,6 +120,8 @@ def plans():
     yield from (f"{('cherisim ' + words).rstrip()} => {plan}" for words, plan in PLANS)
     yield "# a command line ? what its refusal names => refused"
     yield from (f"cherisim {words} ? {named} => refused" for words, named in REFUSED)
+    yield "# a command line ? what its help names => help"
+    yield from (f"cherisim {words} ? {named} => help" for words, named in HELPED)
 
 
 def listings():

@@ -6,36 +6,102 @@ use crate::quoted::{put_quoted, unquoted};
 use assembler::assemble;
 use failing::Narrow;
 use image::{Image, Sink};
-use sim_run::{Plan, PlanFault, list, plan};
+use sim_run::{Layout, Plan, PlanFault, Schedule, list, plan};
 use std::alloc::{AllocError, Global};
+
+/// Puts a number behind a text and a space, or `-` where there is none.
+fn put_number(text: &mut String, number: Option<u64>) -> Result<(), AllocError> {
+    match number {
+        Some(number) => write!(text, " {number}"),
+        None => text.push_str(" -"),
+    }
+}
+
+/// Puts a layout's numbers behind a text.
+fn put_layout(text: &mut String, layout: Layout) -> Result<(), AllocError> {
+    put_number(text, layout.at)?;
+    put_number(text, layout.entry)?;
+    put_number(text, layout.pages)?;
+    put_number(text, layout.mode)
+}
+
+/// Puts a schedule's numbers behind a text.
+fn put_schedule(text: &mut String, schedule: Schedule) -> Result<(), AllocError> {
+    let steps = schedule.steps;
+    let gap = schedule.gap;
+    let tick = schedule.tick;
+    write!(text, " {steps} {gap} {tick}")
+}
 
 /// Puts a plan behind a text: its command, its files and its numbers.
 fn put_plan(text: &mut String, plan: &Plan) -> Result<(), AllocError> {
     match plan {
-        Plan::Asm { input, output } => write!(text, "asm {input} {output}"),
+        Plan::Asm {
+            input,
+            output,
+            symbols,
+        } => {
+            let symbols = symbols.unwrap_or("-");
+            write!(text, "asm {input} {output} {symbols}")
+        }
+        Plan::Image {
+            flat,
+            output,
+            layout,
+        } => {
+            write!(text, "image {flat} {output}")?;
+            put_layout(text, *layout)
+        }
         Plan::Run {
             image,
             schedule,
             input,
+            quiet,
         } => {
-            let steps = schedule.steps;
-            let gap = schedule.gap;
-            let tick = schedule.tick;
+            write!(text, "run {image}")?;
+            put_schedule(text, *schedule)?;
             let input = input.unwrap_or("-");
-            write!(text, "run {image} {steps} {gap} {tick} {input}")
+            let end = if *quiet { " quiet" } else { "" };
+            write!(text, " {input}{end}")
         }
-        Plan::Dis { image } => write!(text, "dis {image}"),
-        Plan::Debug { image } => write!(text, "debug {image}"),
-        Plan::First => text.push_str("first"),
+        _ => put_reader(text, plan),
     }
 }
 
-/// Puts whether the text of a refusal names what it is to name behind another text.
-fn put_refusal(text: &mut String, refusal: &str, named: &str) -> Result<(), AllocError> {
+/// Puts a plan of a command that only reads behind a text.
+fn put_reader(text: &mut String, plan: &Plan) -> Result<(), AllocError> {
+    match plan {
+        Plan::Dis { image, symbols } => {
+            let symbols = symbols.unwrap_or("-");
+            write!(text, "dis {image} {symbols}")
+        }
+        Plan::Debug { image, symbols } => {
+            let symbols = symbols.unwrap_or("-");
+            write!(text, "debug {image} {symbols}")
+        }
+        Plan::Bounds {
+            base,
+            length,
+            address,
+        } => {
+            write!(text, "bounds {base} {length}")?;
+            put_number(text, *address)
+        }
+        _ => text.push_str("first"),
+    }
+}
+
+/// Puts what came of a command line, or that its text does not name what it is to name, behind another text.
+fn put_refusal(
+    text: &mut String,
+    came: &str,
+    refusal: &str,
+    named: &str,
+) -> Result<(), AllocError> {
     text.push_str(if named.is_empty() || !refusal.contains(named) {
-        "refused by another text"
+        "another text"
     } else {
-        "refused"
+        came
     })
 }
 
@@ -48,15 +114,16 @@ fn words_of<'a>(alloc: Global, line: &'a str) -> Result<Vec<&'a str>, CaseError>
     Ok(words)
 }
 
-/// The words of a command line and, behind ` ? `, what the text of its refusal names; answered by the plan, or by whether the refusal
-/// names that.
+/// The words of a command line and, behind ` ? `, what the text of its refusal names; answered by the plan, or by whether the
+/// refusal or the help names that.
 pub(crate) fn answer(alloc: Global, inputs: &str) -> Result<String, CaseError> {
     let (line, named) = inputs.split_once(" ? ").unwrap_or((inputs, ""));
     let words = words_of(alloc, line)?;
     let mut told = String::new(alloc);
     match plan(alloc, &words) {
         Ok(plan) => put_plan(&mut told, &plan)?,
-        Err(PlanFault::Refused(refusal)) => put_refusal(&mut told, &refusal, named)?,
+        Err(PlanFault::Help(help)) => put_refusal(&mut told, "help", &help, named)?,
+        Err(PlanFault::Refused(refusal)) => put_refusal(&mut told, "refused", &refusal, named)?,
         Err(PlanFault::Memory) => return Err(CaseError::Memory),
     }
     Ok(told)

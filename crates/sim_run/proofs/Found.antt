@@ -1,14 +1,18 @@
 -- What is read of clap's matches.
 use Rattle.std.proofs.Common.{◌≡◌, ◌∙◌, ℕ, ◌<◌, ◌^◌, List, refl, sym, ap, subst, codes, slice_index, arith}
-use Rattle.std.specs.Prelude.{Option, Some, None, IfSome, IfNone, Result, Ok, Err}
+use Rattle.std.specs.Prelude.{Option, Some, None, IfSome, IfNone, IfErr, Result, Ok, Err}
 use Rattle.std.specs.Str.Parse.{IsNumeral, digits_value, without_leading_plus}
 use Rattle.clap.specs.Words.{ReadsOne, Row, one_text, rows_of}
 use Rattle.clap.specs.declared.parser.matches.Found.{Found}
 use Rattle.clap.proofs.WalkLemmas.{one_text-rows}
-use Rattle.sim_run.specs.declared.plans.Plan.TheVariants.{Asm, Run, Dis, Debug, First}
+use Rattle.sim_run.specs.declared.plans.Plan.TheVariants.{Asm, Image, Run, Dis, Debug, Bounds, First}
 use Rattle.sim_run.specs.declared.schedule.Schedule.{Schedule}
 use Rattle.sim_run.specs.Schedule.{IsInRange}
 use Rattle.sim_run.specs.CommandLine.{IsNumber, IsScheduleOf, NoCommandFits}
+
+pub if_err : {T E : Type 0} (r : Result T E) (P : Type 0) → P → IfErr r (λ _. P)
+if_err (Ok x) P p = tt
+if_err (Err e) P p = p
 
 pub if_none : {T : Type 0} (r : Option T) (P : Type 0) → P → IfNone r P
 if_none (Some x) P p = tt
@@ -46,11 +50,15 @@ number_none f id G says None reads = λ n small number.
 -- a plan of `run` has a schedule
 pub no_run : (rows : List Row) → ((schedule : Schedule) → IsScheduleOf rows schedule → IsInRange schedule → ⊥)
     → NoCommandFits (codes "run") rows
-no_run rows none (Asm input output) fits ranges =
+no_run rows none (Asm input output symbols) fits sound =
     let bad : 114 ≡ 97 = ap (λ t. slice_index t 0) fits.0 in absurd (omega (arith, bad))
-no_run rows none (Run image schedule input) fits ranges = none schedule fits.2 ranges
-no_run rows none (Dis image) fits ranges =
+no_run rows none (Image flat output layout) fits sound =
+    let bad : 114 ≡ 105 = ap (λ t. slice_index t 0) fits.0 in absurd (omega (arith, bad))
+no_run rows none (Run image schedule input quiet) fits sound = none schedule fits.2 sound
+no_run rows none (Dis image symbols) fits sound =
     let bad : 114 ≡ 100 = ap (λ t. slice_index t 0) fits.0 in absurd (omega (arith, bad))
-no_run rows none (Debug image) fits ranges =
+no_run rows none (Debug image symbols) fits sound =
     let bad : 114 ≡ 100 = ap (λ t. slice_index t 0) fits.0 in absurd (omega (arith, bad))
-no_run rows none First fits ranges = fits
+no_run rows none (Bounds base length address) fits sound =
+    let bad : 114 ≡ 98 = ap (λ t. slice_index t 0) fits.0 in absurd (omega (arith, bad))
+no_run rows none First fits sound = fits

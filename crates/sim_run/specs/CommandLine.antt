@@ -1,27 +1,50 @@
 -- The command line: the command that clap reads the words by, and what a plan says of clap's matches.
-use Rattle.std.specs.Prelude.{◌≡◌, ℕ, List, [], ◌∷◌, Option, Some, None, true, codes, option_map, ⊤}
+use Rattle.std.specs.Prelude.{◌≡◌, ◌-◌, ◌^◌, ℕ, Bool, not, ◌&&◌, IsTrue, List, [], ◌∷◌, Option, Some, None, Ok, true, bytes_eq, codes}
+use Rattle.std.specs.Prelude.{false, option_map, ⊤}
+use Rattle.std.specs.Option.{option_map_or}
+use Rattle.std.specs.Borrow.{Bor}
 use Rattle.std.specs.Str.Parse.{IsNumeral, digits_value, without_leading_plus}
 use Rattle.clap.specs.Words.{App, Row, Rule, Text, fault_of, first_of, one_of, new_app, new_rule, with_rule, with_subcommand}
+use Rattle.clap.specs.declared.builder.action.ArgAction.TheVariants.{SetTrue}
 use Rattle.clap.specs.declared.builder.value_parser.ValueParser.TheVariants as parser
+use Rattle.asm_lines.specs.Number.{number_of}
+use Rattle.asm_lines.specs.Operand.{up_to}
+use Rattle.asm_lines.specs.Seen.{wrapped_or}
+use Rattle.sim_run.specs.declared.layout.Layout.{Layout}
 use Rattle.sim_run.specs.declared.plans.Plan.{Plan}
-use Rattle.sim_run.specs.declared.plans.Plan.TheVariants.{Asm, Run, Dis, Debug, First}
+use Rattle.sim_run.specs.declared.plans.Plan.TheVariants.{Asm, Image, Run, Dis, Debug, Bounds, First}
 use Rattle.sim_run.specs.declared.schedule.Schedule.{Schedule}
 use Rattle.sim_run.specs.Schedule.{IsInRange}
 
--- an argument that must be there, and an option --ID VALUE
+-- an argument that must be there, an option --ID VALUE, and a flag --ID
 abbrev pub operand : Text → Rule
 operand id = record (new_rule id) { required = true }
 
 abbrev pub named : Text → Rule
 named id = record (new_rule id) { long = Some id; value_names = 1 }
 
+abbrev pub flag : Text → Rule
+flag id = record (new_rule id) { long = Some id; action = Some SetTrue }
+
 -- its value is a decimal number from `least` to `most`
 abbrev pub in_range : ℕ → ℕ → Rule → Rule
 in_range least most rule = record rule { parser = Some (parser.Unsigned least most) }
 
--- asm IN OUT
+-- [--symbols FILE]
+abbrev pub with_symbols : App → App
+with_symbols app = with_rule app (named (codes "symbols"))
+
+-- asm IN OUT [--symbols FILE]
 abbrev pub asm_command : App
-asm_command = with_rule (with_rule (new_app (codes "asm")) (operand (codes "IN"))) (operand (codes "OUT"))
+asm_command = with_symbols (with_rule (with_rule (new_app (codes "asm")) (operand (codes "IN"))) (operand (codes "OUT")))
+
+-- image FLAT OUT [--at ADDRESS] [--entry ADDRESS] [--pages N] [--mode M]
+abbrev pub with_layout : App → App
+with_layout app =
+    with_rule (with_rule (with_rule (with_rule app (named (codes "at"))) (named (codes "entry"))) (named (codes "pages"))) (named (codes "mode"))
+
+abbrev pub image_command : App
+image_command = with_layout (with_rule (with_rule (new_app (codes "image")) (operand (codes "FLAT"))) (operand (codes "OUT")))
 
 -- STEPS of 1 to 100000000; a gap of 1 to 1000000, by default 1000; a tick of 0 to 1000000, by default 100
 abbrev pub steps_rule : Rule
@@ -33,27 +56,36 @@ gap_rule = record (in_range 1 1000000 (named (codes "gap"))) { defaults = codes 
 abbrev pub tick_rule : Rule
 tick_rule = record (in_range 0 1000000 (named (codes "tick"))) { defaults = codes "100" ∷ [] }
 
--- [--input FILE] [--gap N] [--tick N]
+-- [--input FILE] [--gap N] [--tick N] [--quiet]
 abbrev pub with_options : App → App
-with_options run = with_rule (with_rule (with_rule run (named (codes "input"))) gap_rule) tick_rule
+with_options run = with_rule (with_rule (with_rule (with_rule run (named (codes "input"))) gap_rule) tick_rule) (flag (codes "quiet"))
 
--- run IMAGE STEPS [--input FILE] [--gap N] [--tick N]
+-- run IMAGE STEPS [--input FILE] [--gap N] [--tick N] [--quiet]
 abbrev pub run_command : App
 run_command = with_options (with_rule (with_rule (new_app (codes "run")) (operand (codes "IMAGE"))) steps_rule)
 
--- dis IMAGE
+-- dis IMAGE [--symbols FILE]
 abbrev pub dis_command : App
-dis_command = with_rule (new_app (codes "dis")) (operand (codes "IMAGE"))
+dis_command = with_symbols (with_rule (new_app (codes "dis")) (operand (codes "IMAGE")))
 
--- debug IMAGE
+-- debug IMAGE [--symbols FILE]
 abbrev pub debug_command : App
-debug_command = with_rule (new_app (codes "debug")) (operand (codes "IMAGE"))
+debug_command = with_symbols (with_rule (new_app (codes "debug")) (operand (codes "IMAGE")))
 
-abbrev pub run_commands : App
-run_commands = with_subcommand (with_subcommand (new_app (codes "cherisim")) asm_command.top) run_command.top
+-- bounds BASE LENGTH [--address ADDRESS]
+abbrev pub bounds_command : App
+bounds_command =
+    with_rule (with_rule (with_rule (new_app (codes "bounds")) (operand (codes "BASE"))) (operand (codes "LENGTH"))) (named (codes "address"))
+
+-- the commands that make an image, and those that take one
+abbrev pub making : App
+making = with_subcommand (with_subcommand (new_app (codes "cherisim")) asm_command.top) image_command.top
+
+abbrev pub taking : App → App
+taking app = with_subcommand (with_subcommand (with_subcommand app run_command.top) dis_command.top) debug_command.top
 
 abbrev pub program : App
-program = with_subcommand (with_subcommand run_commands dis_command.top) debug_command.top
+program = with_subcommand (taking making) bounds_command.top
 
 -- clap finds nothing wrong with the words, the program's name first
 abbrev pub IsTaken : List Text → Type 0
@@ -72,17 +104,46 @@ pub record IsScheduleOf (rows : List Row) (schedule : Schedule) : Type 0 where
   pub gap : IsNumber (codes "gap") rows schedule.gap
   pub tick : IsNumber (codes "tick") rows schedule.tick
 
+-- the number of an argument, 0 to 2^64 - 1, as the assembly language writes numbers; none where the argument isn't used
+abbrev pub IsNatural : Text → List Row → Option ℕ → Type 0
+IsNatural id rows number = option_map (λ text. wrapped_or (up_to (2 ^ 64 - 1) (number_of text))) (first_of id rows) ≡ option_map Ok number
+
+-- where the bytes of a flat file go
+pub record IsLayoutOf (rows : List Row) (layout : Layout) : Type 0 where
+  pub at : IsNatural (codes "at") rows layout.at
+  pub entry : IsNatural (codes "entry") rows layout.entry
+  pub pages : IsNatural (codes "pages") rows layout.pages
+  pub mode : IsNatural (codes "mode") rows layout.mode
+
+-- the name of a file, where its argument is used, and whether a flag is
+abbrev pub IsFile : Text → List Row → Option (Bor Text) → Type 0
+IsFile id rows file = first_of id rows ≡ option_map (λ name. name.now) file
+
+abbrev pub is_used : Text → List Row → Bool
+is_used id rows = option_map_or (bytes_eq (codes "true")) (first_of id rows) false
+
 -- the plan is a command with the texts and the numbers that clap found
 abbrev pub IsPlanOfCommand : Text → List Row → Plan → Type 0
-IsPlanOfCommand name rows (Asm input output) =
+IsPlanOfCommand name rows (Asm input output symbols) =
     (name ≡ codes "asm")
     × (first_of (codes "IN") rows ≡ Some input.now) × (first_of (codes "OUT") rows ≡ Some output.now)
-IsPlanOfCommand name rows (Run image schedule input) =
+    × IsFile (codes "symbols") rows symbols
+IsPlanOfCommand name rows (Image flat output layout) =
+    (name ≡ codes "image")
+    × (first_of (codes "FLAT") rows ≡ Some flat.now) × (first_of (codes "OUT") rows ≡ Some output.now)
+    × IsLayoutOf rows layout
+IsPlanOfCommand name rows (Run image schedule input quiet) =
     (name ≡ codes "run")
     × (first_of (codes "IMAGE") rows ≡ Some image.now) × IsScheduleOf rows schedule
-    × (first_of (codes "input") rows ≡ option_map (λ file. file.now) input)
-IsPlanOfCommand name rows (Dis image) = (name ≡ codes "dis") × (first_of (codes "IMAGE") rows ≡ Some image.now)
-IsPlanOfCommand name rows (Debug image) = (name ≡ codes "debug") × (first_of (codes "IMAGE") rows ≡ Some image.now)
+    × IsFile (codes "input") rows input × (quiet ≡ is_used (codes "quiet") rows)
+IsPlanOfCommand name rows (Dis image symbols) =
+    (name ≡ codes "dis") × (first_of (codes "IMAGE") rows ≡ Some image.now) × IsFile (codes "symbols") rows symbols
+IsPlanOfCommand name rows (Debug image symbols) =
+    (name ≡ codes "debug") × (first_of (codes "IMAGE") rows ≡ Some image.now) × IsFile (codes "symbols") rows symbols
+IsPlanOfCommand name rows (Bounds base length address) =
+    (name ≡ codes "bounds")
+    × IsNatural (codes "BASE") rows (Some base) × IsNatural (codes "LENGTH") rows (Some length)
+    × IsNatural (codes "address") rows address
 IsPlanOfCommand name rows First = ⊥
 
 -- the plan is what clap found in the words
@@ -90,17 +151,24 @@ abbrev pub IsPlanOf : Option (Text × List Row) → Plan → Type 0
 IsPlanOf None plan = plan ≡ First
 IsPlanOf (Some found) plan = IsPlanOfCommand found.0 found.1 plan
 
--- the numbers of a run lie in their ranges
-abbrev pub HasRanges : Plan → Type 0
-HasRanges (Asm input output) = ⊤
-HasRanges (Run image schedule input) = IsInRange schedule
-HasRanges (Dis image) = ⊤
-HasRanges (Debug image) = ⊤
-HasRanges First = ⊤
+-- a file that is written is no other file of the command, by their names
+abbrev pub is_apart : Text → Option (Bor Text) → Bool
+is_apart name other = not (option_map_or (λ o. bytes_eq name o.now) other false)
 
--- nothing that clap found is a plan in its ranges
+-- the numbers of a run lie in their ranges, and no file is written over one that is read, nor written twice
+abbrev pub IsSound : Plan → Type 0
+IsSound (Asm input output symbols) =
+    IsTrue (not (bytes_eq input.now output.now) && (is_apart input.now symbols && is_apart output.now symbols))
+IsSound (Image flat output layout) = IsTrue (not (bytes_eq flat.now output.now))
+IsSound (Run image schedule input quiet) = IsInRange schedule
+IsSound (Dis image symbols) = ⊤
+IsSound (Debug image symbols) = ⊤
+IsSound (Bounds base length address) = ⊤
+IsSound First = ⊤
+
+-- nothing that clap found is a sound plan
 abbrev pub NoCommandFits : Text → List Row → Type 0
-NoCommandFits name rows = (plan : Plan) → IsPlanOfCommand name rows plan → HasRanges plan → ⊥
+NoCommandFits name rows = (plan : Plan) → IsPlanOfCommand name rows plan → IsSound plan → ⊥
 
 abbrev pub NoPlanFits : Option (Text × List Row) → Type 0
-NoPlanFits found = (plan : Plan) → IsPlanOf found plan → HasRanges plan → ⊥
+NoPlanFits found = (plan : Plan) → IsPlanOf found plan → IsSound plan → ⊥

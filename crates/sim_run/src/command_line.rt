@@ -1,11 +1,12 @@
 ghost use Rattle.std.specs.Prelude.{◌≡◌, ◌≤◌, ◌<◌, ◌^◌, IfOk, true, false, codes};
 ghost use Rattle.clap.specs.Words.{app_of, rule_of};
 ghost use Rattle.clap.specs.declared.builder.command.Command.TheViews.{out-Command};
-ghost use Rattle.sim_run.specs.CommandLine.{operand, named, in_range, asm_command, run_command, with_options, dis_command, debug_command};
-ghost use Rattle.sim_run.specs.CommandLine.{run_commands, program, steps_rule, gap_rule, tick_rule};
+ghost use Rattle.sim_run.specs.CommandLine.{operand, named, flag, in_range, steps_rule, gap_rule, tick_rule, with_options, with_symbols};
+ghost use Rattle.sim_run.specs.CommandLine.{with_layout, asm_command, image_command, run_command, dis_command, debug_command};
+ghost use Rattle.sim_run.specs.CommandLine.{bounds_command, making, taking, program};
 
 use clap::builder::ValueParser;
-use clap::{Arg, Command};
+use clap::{Arg, ArgAction, Command};
 use std::alloc::{AllocError, Global};
 
 /// What the help says below the commands.
@@ -14,10 +15,14 @@ const EXAMPLE: &str = "Examples:
       assembles the text hello.s, and writes the image to hello.img
   cherisim run hello.img 1000 --input keys.txt --gap 50
       runs hello.img for at most 1000 steps, and gives it a byte of keys.txt every 50 steps
+  cherisim image hello.bin hello.img --pages 16
+      makes an image of the bytes of hello.bin, from RAM's first address on
   cherisim dis hello.img
       lists hello.img: for each word its address, its number and its instruction
   cherisim debug hello.img
       loads hello.img and does one command a line, as `step 5`, `regs`, `mem 0x80000000 64` or `quit`
+  cherisim bounds 0x80000000 0x1001
+      says what setting these bounds gives
 
 Without a command the program runs a first image of five instructions, which prints A.
 
@@ -38,6 +43,17 @@ fn named<'a>(alloc: Global, id: &'a str, value: &'a str, help: &'a str) -> Arg<'
     ensures local { result.global ≡ false }
 {
     Arg::new(alloc, id).long(id).value_name(value).help(help)
+}
+
+/// A flag: `--id`.
+fn flag<'a>(alloc: Global, id: &'a str, help: &'a str) -> Arg<'a>
+    ensures rule { rule_of result ≡ flag id.entry.now }
+    ensures local { result.global ≡ false }
+{
+    Arg::new(alloc, id)
+        .long(id)
+        .action(ArgAction::SetTrue)
+        .help(help)
 }
 
 fn steps<'a>(alloc: Global) -> Arg<'a>
@@ -80,14 +96,56 @@ fn tick<'a>(alloc: Global) -> Arg<'a>
     .default_value("100")
 }
 
+/// Adds the option that names a file of labels.
+fn with_symbols<'a>(
+    alloc: Global,
+    command: Command<'a>,
+    help: &'a str,
+) -> Result<Command<'a>, AllocError>
+    requires { (out-Command command).has_globals ≡ false }
+    ensures app { IfOk result (λ c. app_of c ≡ with_symbols (app_of command.entry)) }
+    ensures local { IfOk result (λ c. (out-Command c).has_globals ≡ false) }
+{
+    command.arg(named(alloc, "symbols", "FILE", help))
+}
+
 fn asm_command<'a>(alloc: Global) -> Result<Command<'a>, AllocError>
     ensures app { IfOk result (λ c. app_of c ≡ asm_command) }
     ensures local { IfOk result (λ c. (out-Command c).has_globals ≡ false) }
 {
-    Command::new(alloc, "asm")
+    let asm = Command::new(alloc, "asm")
         .about("Assembles a text into an image")
         .arg(operand(alloc, "IN", "The file with the text"))?
-        .arg(operand(alloc, "OUT", "The file that the image is written to"))
+        .arg(operand(alloc, "OUT", "The file that the image is written to"))?;
+    with_symbols(alloc, asm, "The file that the labels are written to")
+}
+
+/// Adds the options of `image`.
+fn with_layout<'a>(alloc: Global, image: Command<'a>) -> Result<Command<'a>, AllocError>
+    requires { (out-Command image).has_globals ≡ false }
+    ensures app { IfOk result (λ c. app_of c ≡ with_layout (app_of image.entry)) }
+    ensures local { IfOk result (λ c. (out-Command c).has_globals ≡ false) }
+{
+    let at = "The address of the first byte, by default 0x80000000";
+    let entry = "The address of the first instruction, by default that of the first byte";
+    let pages = "Pages of 4096 bytes of RAM, 1 to 65536; by default the fewest that hold the bytes";
+    let mode = "0 for integer mode, the default, and 1 for capability mode";
+    image
+        .arg(named(alloc, "at", "ADDRESS", at))?
+        .arg(named(alloc, "entry", "ADDRESS", entry))?
+        .arg(named(alloc, "pages", "N", pages))?
+        .arg(named(alloc, "mode", "M", mode))
+}
+
+fn image_command<'a>(alloc: Global) -> Result<Command<'a>, AllocError>
+    ensures app { IfOk result (λ c. app_of c ≡ image_command) }
+    ensures local { IfOk result (λ c. (out-Command c).has_globals ≡ false) }
+{
+    let image = Command::new(alloc, "image")
+        .about("Makes an image of a file's bytes; numbers are decimal, or hexadecimal behind 0x")
+        .arg(operand(alloc, "FLAT", "The file with the bytes"))?
+        .arg(operand(alloc, "OUT", "The file that the image is written to"))?;
+    with_layout(alloc, image)
 }
 
 /// Adds the options of `run`.
@@ -102,7 +160,15 @@ fn with_options<'a>(alloc: Global, run: Command<'a>) -> Result<Command<'a>, Allo
         "FILE",
         "The file whose bytes come on the console",
     );
-    run.arg(input)?.arg(gap(alloc))?.arg(tick(alloc))
+    let quiet = flag(
+        alloc,
+        "quiet",
+        "Leaves out the line that says where a run ended",
+    );
+    run.arg(input)?
+        .arg(gap(alloc))?
+        .arg(tick(alloc))?
+        .arg(quiet)
 }
 
 fn run_command<'a>(alloc: Global) -> Result<Command<'a>, AllocError>
@@ -120,36 +186,66 @@ fn dis_command<'a>(alloc: Global) -> Result<Command<'a>, AllocError>
     ensures app { IfOk result (λ c. app_of c ≡ dis_command) }
     ensures local { IfOk result (λ c. (out-Command c).has_globals ≡ false) }
 {
-    Command::new(alloc, "dis")
+    let dis = Command::new(alloc, "dis")
         .about("Lists an image as instructions")
-        .arg(operand(alloc, "IMAGE", "The file with the image"))
+        .arg(operand(alloc, "IMAGE", "The file with the image"))?;
+    with_symbols(alloc, dis, "A file with labels, which the listing shows")
 }
 
 fn debug_command<'a>(alloc: Global) -> Result<Command<'a>, AllocError>
     ensures app { IfOk result (λ c. app_of c ≡ debug_command) }
     ensures local { IfOk result (λ c. (out-Command c).has_globals ≡ false) }
 {
-    Command::new(alloc, "debug")
+    let debug = Command::new(alloc, "debug")
         .about("Debugs an image: commands from standard input, replies to standard output")
-        .arg(operand(alloc, "IMAGE", "The file with the image"))
+        .arg(operand(alloc, "IMAGE", "The file with the image"))?;
+    with_symbols(
+        alloc,
+        debug,
+        "A file with labels, which stand for addresses",
+    )
 }
 
-/// The program with the commands that make an image and run it.
-fn run_commands<'a>(alloc: Global) -> Result<Command<'a>, AllocError>
-    ensures { IfOk result (λ c. app_of c ≡ run_commands) }
+fn bounds_command<'a>(alloc: Global) -> Result<Command<'a>, AllocError>
+    ensures app { IfOk result (λ c. app_of c ≡ bounds_command) }
+    ensures local { IfOk result (λ c. (out-Command c).has_globals ≡ false) }
+{
+    Command::new(alloc, "bounds")
+        .about("Says what setting bounds gives; numbers are decimal, or hexadecimal behind 0x")
+        .arg(operand(alloc, "BASE", "The first address that is asked for"))?
+        .arg(operand(alloc, "LENGTH", "How many bytes are asked for"))?
+        .arg(named(
+            alloc,
+            "address",
+            "ADDRESS",
+            "An address to be placed against the bounds",
+        ))
+}
+
+/// The program with the commands that make an image.
+fn making<'a>(alloc: Global) -> Result<Command<'a>, AllocError>
+    ensures { IfOk result (λ c. app_of c ≡ making) }
 {
     Command::new(alloc, "cherisim")
         .about("A CHERI-RISC-V machine")
         .after_help(EXAMPLE)
         .subcommand(asm_command(alloc)?)?
-        .subcommand(run_command(alloc)?)
+        .subcommand(image_command(alloc)?)
+}
+
+/// Adds the commands that take an image.
+fn taking<'a>(alloc: Global, program: Command<'a>) -> Result<Command<'a>, AllocError>
+    ensures { IfOk result (λ c. app_of c ≡ taking (app_of program.entry)) }
+{
+    program
+        .subcommand(run_command(alloc)?)?
+        .subcommand(dis_command(alloc)?)?
+        .subcommand(debug_command(alloc)?)
 }
 
 /// The command line of the program.
 pub(crate) fn program<'a>(alloc: Global) -> Result<Command<'a>, AllocError>
     ensures { IfOk result (λ c. app_of c ≡ program) }
 {
-    run_commands(alloc)?
-        .subcommand(dis_command(alloc)?)?
-        .subcommand(debug_command(alloc)?)
+    taking(alloc, making(alloc)?)?.subcommand(bounds_command(alloc)?)
 }

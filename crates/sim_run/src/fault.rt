@@ -6,7 +6,9 @@ use std::alloc::AllocError;
 /// Why a command line gives no plan.
 #[derive(Debug, Drop)]
 pub enum PlanFault {
-    /// It is no command of the program, or asks for help: the text to show.
+    /// It asks for help: the text to show.
+    Help(String),
+    /// It is no command of the program: the text to show.
     Refused(String),
     /// No memory to read it.
     Memory,

@@ -4,6 +4,7 @@
 mod command_line;
 mod ending;
 mod fault;
+mod layout;
 mod listing;
 mod plans;
 mod reading;
@@ -12,6 +13,7 @@ mod schedule;
 
 pub use ending::verdict;
 pub use fault::PlanFault;
+pub use layout::Layout;
 pub use listing::list;
 pub use plans::Plan;
 pub use reading::plan;

@@ -1,3 +1,4 @@
+use crate::layout::Layout;
 use crate::schedule::Schedule;
 
 /// What the command line asks for.
@@ -9,6 +10,17 @@ pub enum Plan<'a> {
         input: &'a str,
         /// The file that the image is written to.
         output: &'a str,
+        /// The file that the labels are written to, if one is named.
+        symbols: Option<&'a str>,
+    },
+    /// Make an image of a file's bytes.
+    Image {
+        /// The file with the bytes.
+        flat: &'a str,
+        /// The file that the image is written to.
+        output: &'a str,
+        /// Where the bytes go.
+        layout: Layout,
     },
     /// Run an image.
     Run {
@@ -18,16 +30,31 @@ pub enum Plan<'a> {
         schedule: Schedule,
         /// The file whose bytes come on the console, if one is named.
         input: Option<&'a str>,
+        /// Whether the line that says where a run ended is left out.
+        quiet: bool,
     },
     /// List an image.
     Dis {
         /// The file with the image.
         image: &'a str,
+        /// The file with its labels, if one is named.
+        symbols: Option<&'a str>,
     },
     /// Debug an image.
     Debug {
         /// The file with the image.
         image: &'a str,
+        /// The file with its labels, if one is named.
+        symbols: Option<&'a str>,
+    },
+    /// Say what setting bounds gives.
+    Bounds {
+        /// The address from which they are asked.
+        base: u64,
+        /// How many bytes they are asked to hold.
+        length: u64,
+        /// An address to be placed against them, if one is named.
+        address: Option<u64>,
     },
     /// Run the first image, which the program holds itself.
     First,

@@ -1,19 +1,31 @@
-ghost use Rattle.std.specs.Prelude.{◌≡◌, ◌<◌, ◌^◌, ℕ, IfOk, IfNone, IfErr, OnOk, Some, None, IfSome, map, option_map, codes};
+ghost use Rattle.std.specs.Prelude.{◌≡◌, ◌<◌, ◌^◌, ℕ, Option, IfOk, IfNone, IfErr, OnOk, Some, None, IfSome, IsTrue, map, option_map, codes};
 ghost use Rattle.clap.specs.Words.{found_of, rows_of, kind_of, first_of, subcommand_of, subcommand_rows_of};
 ghost use Rattle.clap.specs.declared.error.kind.ErrorKind.{ErrorKind};
-ghost use Rattle.sim_run.specs.CommandLine.{program, HasRanges, IsTaken, IsNumber, IsPlanOf, IsPlanOfCommand, IsScheduleOf, NoCommandFits};
-ghost use Rattle.sim_run.specs.CommandLine.{NoPlanFits};
+ghost use Rattle.sim_run.specs.CommandLine.{program, IsSound, IsTaken, IsNumber, IsNatural, IsFile, IsLayoutOf, IsPlanOf, IsPlanOfCommand};
+ghost use Rattle.sim_run.specs.CommandLine.{IsScheduleOf, NoCommandFits, NoPlanFits, is_apart, is_used};
 ghost use Rattle.sim_run.specs.Schedule.{IsInRange};
 ghost use Rattle.sim_run.specs.declared.fault.PlanFault.TheVariants.{Memory};
+ghost use Rattle.sim_run.specs.declared.layout.Layout.{Layout};
 ghost use Rattle.sim_run.specs.declared.schedule.Schedule.{Schedule};
 
 use crate::command_line::program;
 use crate::fault::PlanFault;
+use crate::layout::Layout;
 use crate::plans::Plan;
 use crate::schedule::Schedule;
+use asm_lines::natural;
 use clap::error::ErrorKind;
 use clap::{ArgMatches, Error};
 use std::alloc::Global;
+
+/// Why what clap found is no plan: a text for whoever typed it.
+type Misfit = &'static str;
+
+/// An argument that must be there isn't, or a number of a run lies outside its range.
+const MISSING: Misfit = "an argument is missing, or its value is out of range";
+
+/// A file would be written over another of the command.
+const SAME_FILE: Misfit = "a file that is written cannot be another file of the command";
 
 /// The number that was found for `id`.
 fn number(matches: &ArgMatches<'_>, id: &str) -> Option<u64>
@@ -49,74 +61,209 @@ fn text<'a>(matches: &ArgMatches<'a>, id: &str) -> Option<&'a str>
     matches.get_str(id)
 }
 
-fn asm_plan<'a>(found: &ArgMatches<'a>) -> Option<Plan<'a>>
-    ensures value { IfSome result (IsPlanOfCommand (codes "asm") (rows_of (found_of found.now))) }
-    ensures ranges { IfSome result HasRanges }
-    ensures none { IfNone result (NoCommandFits (codes "asm") (rows_of (found_of found.now))) }
+/// The text of an argument that must be there.
+fn operand<'a>(found: &ArgMatches<'a>, id: &str) -> Result<&'a str, Misfit>
+    ensures ok { IfOk result (λ s. first_of id.now (rows_of (found_of found.now)) ≡ Some s.now) }
+    ensures err { IfErr result (λ _. first_of id.now (rows_of (found_of found.now)) ≡ None) }
 {
-    Some(Plan::Asm {
-        input: text(found, "IN")?,
-        output: text(found, "OUT")?,
+    text(found, id).ok_or(MISSING)
+}
+
+/// Whether a flag was used.
+fn is_used(found: &ArgMatches<'_>, id: &str) -> bool
+    ensures { result ≡ is_used id.now (rows_of (found_of found.now)) }
+{
+    match text(found, id) {
+        Some(value) => value == "true",
+        None => false,
+    }
+}
+
+/// The number that was found for `id`, as the assembly language writes numbers; none where the argument isn't used.
+fn natural_of(found: &ArgMatches<'_>, id: &str, misfit: Misfit) -> Result<Option<u64>, Misfit>
+    ensures ok { IfOk result (IsNatural id.now (rows_of (found_of found.now))) }
+    ensures err { IfErr result (λ _. (number : Option ℕ) → IsNatural id.now (rows_of (found_of found.now)) number → ⊥) }
+{
+    match text(found, id) {
+        None => Ok(None),
+        Some(digits) => match natural(digits.as_bytes(), u64::MAX) {
+            Ok(number) => Ok(Some(number)),
+            Err(_) => Err(misfit),
+        },
+    }
+}
+
+/// The number of an argument that must be there.
+fn needed(found: &ArgMatches<'_>, id: &str, misfit: Misfit) -> Result<u64, Misfit>
+    ensures ok { IfOk result (λ n. IsNatural id.now (rows_of (found_of found.now)) (Some n)) }
+    ensures err { IfErr result (λ _. (n : ℕ) → IsNatural id.now (rows_of (found_of found.now)) (Some n) → ⊥) }
+{
+    natural_of(found, id, misfit)?.ok_or(MISSING)
+}
+
+/// Where the bytes of a flat file go.
+fn layout_of(found: &ArgMatches<'_>) -> Result<Layout, Misfit>
+    ensures ok { IfOk result (IsLayoutOf (rows_of (found_of found.now))) }
+    ensures err { IfErr result (λ _. (layout : Layout) → IsLayoutOf (rows_of (found_of found.now)) layout → ⊥) }
+{
+    Ok(Layout {
+        at: natural_of(
+            found,
+            "at",
+            "--at takes a number of 0 to 18446744073709551615",
+        )?,
+        entry: natural_of(
+            found,
+            "entry",
+            "--entry takes a number of 0 to 18446744073709551615",
+        )?,
+        pages: natural_of(found, "pages", "--pages takes a number of 1 to 65536")?,
+        mode: natural_of(found, "mode", "--mode takes 0 or 1")?,
     })
 }
 
-fn run_plan<'a>(found: &ArgMatches<'a>) -> Option<Plan<'a>>
-    ensures value { IfSome result (IsPlanOfCommand (codes "run") (rows_of (found_of found.now))) }
-    ensures ranges { IfSome result HasRanges }
-    ensures none { IfNone result (NoCommandFits (codes "run") (rows_of (found_of found.now))) }
+/// Whether a file's name is not that of another file of the command.
+fn is_apart(name: &str, other: Option<&str>) -> bool
+    ensures { result ≡ is_apart name.now other.entry }
 {
-    Some(Plan::Run {
-        image: text(found, "IMAGE")?,
-        schedule: schedule_of(found)?,
-        input: text(found, "input"),
+    match other {
+        Some(other) => name != other,
+        None => true,
+    }
+}
+
+fn asm_plan<'a>(found: &ArgMatches<'a>) -> Result<Plan<'a>, Misfit>
+    ensures value { IfOk result (IsPlanOfCommand (codes "asm") (rows_of (found_of found.now))) }
+    ensures sound { IfOk result IsSound }
+    ensures none { IfErr result (λ _. NoCommandFits (codes "asm") (rows_of (found_of found.now))) }
+{
+    let input = operand(found, "IN")?;
+    let output = operand(found, "OUT")?;
+    let symbols = text(found, "symbols");
+    if input != output && is_apart(input, symbols) && is_apart(output, symbols) {
+        Ok(Plan::Asm {
+            input,
+            output,
+            symbols,
+        })
+    } else {
+        Err(SAME_FILE)
+    }
+}
+
+fn image_plan<'a>(found: &ArgMatches<'a>) -> Result<Plan<'a>, Misfit>
+    ensures value { IfOk result (IsPlanOfCommand (codes "image") (rows_of (found_of found.now))) }
+    ensures sound { IfOk result IsSound }
+    ensures none { IfErr result (λ _. NoCommandFits (codes "image") (rows_of (found_of found.now))) }
+{
+    let flat = operand(found, "FLAT")?;
+    let output = operand(found, "OUT")?;
+    let layout = layout_of(found)?;
+    if flat == output {
+        return Err(SAME_FILE);
+    }
+    Ok(Plan::Image {
+        flat,
+        output,
+        layout,
     })
 }
 
-fn dis_plan<'a>(found: &ArgMatches<'a>) -> Option<Plan<'a>>
-    ensures value { IfSome result (IsPlanOfCommand (codes "dis") (rows_of (found_of found.now))) }
-    ensures ranges { IfSome result HasRanges }
-    ensures none { IfNone result (NoCommandFits (codes "dis") (rows_of (found_of found.now))) }
+fn run_plan<'a>(found: &ArgMatches<'a>) -> Result<Plan<'a>, Misfit>
+    ensures value { IfOk result (IsPlanOfCommand (codes "run") (rows_of (found_of found.now))) }
+    ensures sound { IfOk result IsSound }
+    ensures none { IfErr result (λ _. NoCommandFits (codes "run") (rows_of (found_of found.now))) }
 {
-    Some(Plan::Dis {
-        image: text(found, "IMAGE")?,
+    let image = operand(found, "IMAGE")?;
+    match schedule_of(found) {
+        Some(schedule) => Ok(Plan::Run {
+            image,
+            schedule,
+            input: text(found, "input"),
+            quiet: is_used(found, "quiet"),
+        }),
+        None => Err(MISSING),
+    }
+}
+
+fn dis_plan<'a>(found: &ArgMatches<'a>) -> Result<Plan<'a>, Misfit>
+    ensures value { IfOk result (IsPlanOfCommand (codes "dis") (rows_of (found_of found.now))) }
+    ensures sound { IfOk result IsSound }
+    ensures none { IfErr result (λ _. NoCommandFits (codes "dis") (rows_of (found_of found.now))) }
+{
+    Ok(Plan::Dis {
+        image: operand(found, "IMAGE")?,
+        symbols: text(found, "symbols"),
     })
 }
 
-fn debug_plan<'a>(found: &ArgMatches<'a>) -> Option<Plan<'a>>
-    ensures value { IfSome result (IsPlanOfCommand (codes "debug") (rows_of (found_of found.now))) }
-    ensures ranges { IfSome result HasRanges }
-    ensures none { IfNone result (NoCommandFits (codes "debug") (rows_of (found_of found.now))) }
+fn debug_plan<'a>(found: &ArgMatches<'a>) -> Result<Plan<'a>, Misfit>
+    ensures value { IfOk result (IsPlanOfCommand (codes "debug") (rows_of (found_of found.now))) }
+    ensures sound { IfOk result IsSound }
+    ensures none { IfErr result (λ _. NoCommandFits (codes "debug") (rows_of (found_of found.now))) }
 {
-    Some(Plan::Debug {
-        image: text(found, "IMAGE")?,
+    Ok(Plan::Debug {
+        image: operand(found, "IMAGE")?,
+        symbols: text(found, "symbols"),
     })
 }
 
-fn plan_of_command<'a>(name: &str, found: &ArgMatches<'a>) -> Option<Plan<'a>>
-    ensures value { IfSome result (IsPlanOfCommand name.now (rows_of (found_of found.now))) }
-    ensures ranges { IfSome result HasRanges }
-    ensures none { IfNone result (NoCommandFits name.now (rows_of (found_of found.now))) }
+fn bounds_plan<'a>(found: &ArgMatches<'a>) -> Result<Plan<'a>, Misfit>
+    ensures value { IfOk result (IsPlanOfCommand (codes "bounds") (rows_of (found_of found.now))) }
+    ensures sound { IfOk result IsSound }
+    ensures none { IfErr result (λ _. NoCommandFits (codes "bounds") (rows_of (found_of found.now))) }
+{
+    let base = needed(
+        found,
+        "BASE",
+        "BASE is a number of 0 to 18446744073709551615",
+    )?;
+    let length = needed(
+        found,
+        "LENGTH",
+        "LENGTH is a number of 0 to 18446744073709551615",
+    )?;
+    let address = natural_of(
+        found,
+        "address",
+        "--address takes a number of 0 to 18446744073709551615",
+    )?;
+    Ok(Plan::Bounds {
+        base,
+        length,
+        address,
+    })
+}
+
+fn plan_of_command<'a>(name: &str, found: &ArgMatches<'a>) -> Result<Plan<'a>, Misfit>
+    ensures value { IfOk result (IsPlanOfCommand name.now (rows_of (found_of found.now))) }
+    ensures sound { IfOk result IsSound }
+    ensures none { IfErr result (λ _. NoCommandFits name.now (rows_of (found_of found.now))) }
 {
     if name == "asm" {
         asm_plan(found)
+    } else if name == "image" {
+        image_plan(found)
     } else if name == "run" {
         run_plan(found)
     } else if name == "dis" {
         dis_plan(found)
     } else if name == "debug" {
         debug_plan(found)
+    } else if name == "bounds" {
+        bounds_plan(found)
     } else {
-        None
+        Err(MISSING)
     }
 }
 
-fn plan_of<'a>(matches: &ArgMatches<'a>) -> Option<Plan<'a>>
-    ensures value { IfSome result (IsPlanOf (subcommand_rows_of matches.now)) }
-    ensures ranges { IfSome result HasRanges }
-    ensures none { IfNone result (NoPlanFits (subcommand_rows_of matches.now)) }
+fn plan_of<'a>(matches: &ArgMatches<'a>) -> Result<Plan<'a>, Misfit>
+    ensures value { IfOk result (IsPlanOf (subcommand_rows_of matches.now)) }
+    ensures sound { IfOk result IsSound }
+    ensures none { IfErr result (λ _. NoPlanFits (subcommand_rows_of matches.now)) }
 {
     match matches.subcommand() {
-        None => Some(Plan::First),
+        None => Ok(Plan::First),
         Some((name, found)) => plan_of_command(name, found),
     }
 }
@@ -125,21 +272,26 @@ fn plan_of<'a>(matches: &ArgMatches<'a>) -> Option<Plan<'a>>
 fn fault_of(alloc: Global, error: Error) -> PlanFault
     ensures { kind_of error ≡ ErrorKind.OutOfMemory → result ≡ Memory }
 {
-    if error.kind() == ErrorKind::OutOfMemory {
+    let kind = error.kind();
+    if kind == ErrorKind::OutOfMemory {
         return PlanFault::Memory;
     }
     match format!(in alloc; "{error}") {
+        Ok(text) if kind == ErrorKind::DisplayHelp => PlanFault::Help(text),
         Ok(text) => PlanFault::Refused(text),
         Err(_) => PlanFault::Memory,
     }
 }
 
 /// Reads the words of a command line, the program's name first.
+///
+/// A file that is written may not bear the name of another file of the command; numbers of 64 bits are written as in the
+/// assembly language. `Help` and `Refused` hold the text for whoever typed the words; `Memory` says that there was none.
 pub fn plan<'a>(alloc: Global, words: &'a [&'a str]) -> Result<Plan<'a>, PlanFault>
     ensures taken { OnOk result (IsTaken (map (λ word. word.now) words.entry.now)) }
     ensures ok { IfOk result (IsPlanOf (subcommand_of program (map (λ word. word.now) words.entry.now))) }
-    ensures ranges { IfOk result HasRanges }
-    // Where clap takes the words and finds a plan in its ranges, only memory can be wanting.
+    ensures sound { IfOk result IsSound }
+    // Where clap takes the words and finds a sound plan, only memory can be wanting.
     ensures err { IfErr result (λ fault. IsTaken (map (λ word. word.now) words.entry.now)
         → (NoPlanFits (subcommand_of program (map (λ word. word.now) words.entry.now)) → ⊥)
         → fault ≡ Memory) }
@@ -150,10 +302,7 @@ pub fn plan<'a>(alloc: Global, words: &'a [&'a str]) -> Result<Plan<'a>, PlanFau
         Err(error) => return Err(fault_of(alloc, error)),
     };
     match plan_of(&matches) {
-        Some(plan) => Ok(plan),
-        None => Err(fault_of(
-            alloc,
-            command.error(ErrorKind::InvalidValue, "a value is out of range")?,
-        )),
+        Ok(plan) => Ok(plan),
+        Err(misfit) => Err(fault_of(alloc, command.error(ErrorKind::InvalidValue, misfit)?)),
     }
 }

@@ -1,9 +1,10 @@
 use Rattle.std.proofs.Common.{◌≡◌, List, [], true, refl, ap, ◌∙◌, subst, sym}
 use Rattle.std.proofs.Common.{inl, inr}
-use Rattle.clap.specs.Words.{App, HasKind, Text, fault_of, is_simple_and_free, kind_of}
+use Rattle.clap.specs.Words.{App, HasKind, HasMatchesOf, Text, fault_of, is_simple_and_free, kind_of, subcommand_of, subcommand_rows_of}
+use Rattle.clap.specs.declared.parser.matches.ArgMatches.{ArgMatches}
 use Rattle.clap.specs.declared.error.Error.{Error}
 use Rattle.clap.specs.declared.error.kind.ErrorKind.{ErrorKind}
-use Rattle.sim_run.specs.CommandLine.{program}
+use Rattle.sim_run.specs.CommandLine.{program, IsPlanOf, NoPlanFits}
 use Rattle.sim_run.proofs.reading.plan.Goals as goal
 
 -- what clap says of errors holds of a command without rules between its arguments, as the program's
@@ -22,8 +23,22 @@ only_memory app words e is none h = go (subst (λ k. HasKind k e) (ap (λ a. fau
     go (inl memory) = memory
     go (inr among) = absurd among
 
-pub returns-in-Some-clause-taken : goal.returns-in-Some-clause-taken
-returns-in-Some-clause-taken c = no_fault _ _ c.in_ok-command.ensures (c.in-Ok.ensures.kinds (is_free _ c.in_ok-command.ensures))
+-- what clap found in the words
+found_in : (app : App) (words : List Text) (m : ArgMatches) → app ≡ program → HasMatchesOf app words m
+    → subcommand_rows_of m ≡ subcommand_of program words
+found_in app words m is has = (subst (λ a. HasMatchesOf a words m) is has refl).1
+
+pub returns-in-Ok-plan_of-clause-ok : goal.returns-in-Ok-plan_of-clause-ok
+returns-in-Ok-plan_of-clause-ok c =
+    subst (λ found. IsPlanOf found c.in-Ok-plan_of.plan) (found_in _ _ _ c.in_ok-command.ensures c.in-Ok.ensures.ok.2)
+    c.in-Ok-plan_of.ensures.value
+
+pub returns-clause-err : goal.returns-clause-err
+returns-clause-err c = λ taken fits.
+    absurd (fits (subst (λ found. NoPlanFits found) (found_in _ _ _ c.in_ok-command.ensures c.in-Ok.ensures.ok.2) c.in-Err-plan_of.ensures.none))
+
+pub returns-in-Ok-plan_of-clause-taken : goal.returns-in-Ok-plan_of-clause-taken
+returns-in-Ok-plan_of-clause-taken c = no_fault _ _ c.in_ok-command.ensures (c.in-Ok.ensures.kinds (is_free _ c.in_ok-command.ensures))
 
 pub returns-in-Err-clause-err : goal.returns-in-Err-clause-err
 returns-in-Err-clause-err c = λ taken fits.
