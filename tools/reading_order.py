@@ -38,6 +38,7 @@ REST = [
     ("shown texts", "disassembler/specs/Hex, Shown"),
     ("sessions", "debugger/specs/Capability, Command, Reply, Answers, Conversation, Talk"),
     ("the command line and runs on a schedule", "sim_run/specs/CommandLine, Schedule, Verdict, Listing"),
+    ("names in listings", "symbols/specs/Symbols; image_listing/specs/Named"),
 ]
 
 

@@ -1,0 +1,136 @@
+//! The lines of a word and of a byte, with names.
+ghost use Rattle.std.specs.Prelude.{◌≡◌, ◌+◌, ◌≤◌, ◌++◌, length, IfSome};
+ghost use Rattle.std.specs.Option.{option_copied};
+ghost use Rattle.arrayvec.specs.ArrayVec.{array_vec_len};
+ghost use Rattle.image_listing.specs.Named.{byte_line as byte_line_of, distance_text, label_text, named_byte};
+ghost use Rattle.image_listing.specs.Named.{named_word, place_text, target_text};
+ghost use Rattle.image_listing.specs.Named.{word_text as word_text_of};
+
+use crate::target::target_of;
+use arrayvec::{ArrayString, ArrayVec};
+use disassembler::{disassemble, hex_digits};
+use itoa::Buffer;
+use symbols::{Symbol, Symbols};
+
+/// Lines of at most 640 bytes: a label has 256 with its colon and line feed, a word 90, its target 278.
+pub(crate) type Lines = ArrayVec<u8, 640>;
+
+fn push(lines: &mut Lines, bytes: &[u8])
+    requires { array_vec_len lines.old + length bytes.now ≤ 640 }
+    ensures text { lines.new.items ≡ lines.old.items ++ bytes.now }
+    ensures len { array_vec_len lines.new ≡ array_vec_len lines.old + length bytes.now }
+{
+    match lines.try_extend_from_slice(bytes) {
+        Ok(()) => (),
+        Err(_) => unreachable!(),
+    }
+}
+
+/// The line of a label, where there is one.
+#[tactic(auto, unfolding(crate::specs::Named::label_text))]
+fn push_label(lines: &mut Lines, label: Option<&[u8]>)
+    requires name { IfSome label (λ name. length name.now ≤ 254) }
+    requires room { array_vec_len lines.old + 256 ≤ 640 }
+    ensures text { lines.new.items ≡ lines.old.items ++ label_text (option_copied label.entry) }
+    ensures within { array_vec_len lines.new ≤ array_vec_len lines.old + 256 }
+{
+    if let Some(name) = label {
+        push(lines, name);
+        push(lines, b":\n");
+    }
+}
+
+/// A word as `word_line` shows it, without the line feed.
+fn word_text(address: u64, word: u32, mode: bool) -> ArrayString<90>
+    ensures { result.bytes ≡ word_text_of mode address word }
+{
+    let mut text = ArrayString::new();
+    text.push_str(hex_digits(u128::from(address), 16).as_str());
+    text.push_str(" ");
+    text.push_str(hex_digits(u128::from(word), 8).as_str());
+    text.push_str(" ");
+    text.push_str(disassemble(word, mode).as_str());
+    text
+}
+
+/// A name, with a distance from it unless that is 0; nothing where the distance is 4096 or more.
+#[tactic(auto, unfolding(crate::specs::Named::distance_text))]
+fn push_distance(lines: &mut Lines, name: &[u8], distance: u64)
+    requires name { length name.now ≤ 254 }
+    requires room { array_vec_len lines.old + 278 ≤ 640 }
+    ensures text { lines.new.items ≡ lines.old.items ++ distance_text name.now distance }
+    ensures within { array_vec_len lines.new ≤ array_vec_len lines.old + 278 }
+{
+    if distance >= 4096 {
+        return;
+    }
+    push(lines, b" <");
+    push(lines, name);
+    if distance > 0 {
+        let mut buffer = Buffer::new();
+        push(lines, b"+");
+        push(lines, buffer.format(distance).as_bytes());
+    }
+    push(lines, b">");
+}
+
+/// An address by a symbol at it or below it.
+fn push_place(lines: &mut Lines, symbol: Option<&Symbol>, address: u64)
+    requires { array_vec_len lines.old + 278 ≤ 640 }
+    ensures text { lines.new.items ≡ lines.old.items ++ place_text (option_copied symbol.entry) address }
+    ensures within { array_vec_len lines.new ≤ array_vec_len lines.old + 278 }
+{
+    if let Some(symbol) = symbol {
+        push_distance(
+            lines,
+            symbol.name(),
+            address.saturating_sub(symbol.address()),
+        );
+    }
+}
+
+/// The place in names where a word leads.
+#[tactic(auto, unfolding(crate::specs::Named::target_text))]
+fn push_target(lines: &mut Lines, symbols: &Symbols, target: Option<u64>)
+    requires { array_vec_len lines.old + 278 ≤ 640 }
+    ensures text { lines.new.items ≡ lines.old.items ++ target_text symbols.now target }
+    ensures within { array_vec_len lines.new ≤ array_vec_len lines.old + 278 }
+{
+    if let Some(target) = target {
+        push_place(lines, symbols.nearest(target), target);
+    }
+}
+
+/// The lines of a word at an address: its label, if it has one, and the word in a mode, with the place where it leads.
+pub(crate) fn word_lines(symbols: &Symbols, address: u64, word: u32, mode: bool) -> Lines
+    ensures { result.items ≡ named_word symbols.now mode address word }
+{
+    let mut lines = ArrayVec::new();
+    push_label(&mut lines, symbols.name_at(address));
+    push(&mut lines, word_text(address, word, mode).as_bytes());
+    push_target(&mut lines, symbols, target_of(address, word));
+    push(&mut lines, b"\n");
+    lines
+}
+
+/// The line of a byte that is no part of a word: 16 digits of its address, and its value in two.
+fn byte_line(address: u64, byte: u8) -> ArrayString<32>
+    ensures { result.bytes ≡ byte_line_of address byte }
+{
+    let mut line = ArrayString::new();
+    line.push_str(hex_digits(u128::from(address), 16).as_str());
+    line.push_str(" .byte 0x");
+    line.push_str(hex_digits(u128::from(byte), 2).as_str());
+    line.push_str("\n");
+    line
+}
+
+/// The lines of a byte that is no part of a word: its label, if it has one, and the byte.
+pub(crate) fn byte_lines(symbols: &Symbols, address: u64, byte: u8) -> Lines
+    ensures { result.items ≡ named_byte symbols.now address byte }
+{
+    let mut lines = ArrayVec::new();
+    push_label(&mut lines, symbols.name_at(address));
+    push(&mut lines, byte_line(address, byte).as_bytes());
+    lines
+}

@@ -1,0 +1,86 @@
+-- Lines that are cut off a text, and the digits of an address.
+use Rattle.std.proofs.Common.{◌≡◌, ℕ, zero, suc, ◌+◌, ◌<◌, ◌≤◌, Bool, true, false, ◌&&◌, List, [], ◌∷◌, refl, ap, arith, length, take, drop}
+use Rattle.std.specs.Prelude.{◌==◌, not, IsTrue}
+use Rattle.std.specs.List.{prefix_len}
+use Rattle.std.specs.Char.{digit_value}
+use Rattle.std.specs.Str.Parse.{AllDigits, digits_value}
+use Rattle.std.proofs.lemmas.Bool.Decides.{nat_tests}
+use Rattle.std.proofs.lemmas.Int.Digits.{digits_value-lt}
+use Rattle.symbols.specs.Symbols.{lines_of, onto_first, is_symbol, is_label, is_hexadecimal_digit}
+
+-- the length of the first line
+abbrev pub line_length : List ℕ → ℕ
+line_length text = prefix_len (λ b. not (b == 10)) text
+
+pub line_cut : (text : List ℕ) → line_length text < length text
+    → lines_of text ≡ take (line_length text) text ∷ lines_of (drop (line_length text + 1) text)
+line_cut [] h = absurd (omega (arith, h))
+line_cut (b ∷ bs) h = elim (b == 10) as (λ t. (b == 10) ≡ t → lines_of (b ∷ bs)
+    ≡ take (line_length (b ∷ bs)) (b ∷ bs) ∷ lines_of (drop (line_length (b ∷ bs) + 1) (b ∷ bs))) [
+      | true ↦ λ e. rw e refl
+      | false ↦ λ e.
+          let k : 1 + line_length bs < length (b ∷ bs) = rw e at h in
+          let r = line_cut bs (omega (arith, k)) in
+          let n : 1 + line_length bs ≡ suc (line_length bs) = omega arith in
+          let m : suc (line_length bs) + 1 ≡ suc (line_length bs + 1) = omega arith in
+          rw e (rw n (rw m (rw r refl)))
+    ] refl
+
+line_whole : (b : ℕ) (bs : List ℕ) → length (b ∷ bs) ≤ line_length (b ∷ bs) → lines_of (b ∷ bs) ≡ (b ∷ bs) ∷ []
+line_whole b [] h = elim (b == 10) as (λ t. (b == 10) ≡ t → lines_of (b ∷ []) ≡ (b ∷ []) ∷ []) [
+  | true ↦ λ e. let k : 1 ≤ 0 = rw e at h in absurd (omega (arith, k))
+  | false ↦ λ e. rw e refl
+] refl
+line_whole b (c ∷ cs) h = elim (b == 10) as (λ t. (b == 10) ≡ t → lines_of (b ∷ c ∷ cs) ≡ (b ∷ c ∷ cs) ∷ []) [
+  | true ↦ λ e. let k : length (b ∷ c ∷ cs) ≤ 0 = rw e at h in absurd (omega (arith, k))
+  | false ↦ λ e.
+      let k : length (b ∷ c ∷ cs) ≤ 1 + line_length (c ∷ cs) = rw e at h in
+      let r = line_whole c cs (omega (arith, k)) in
+      rw e (ap (onto_first b) r)
+] refl
+
+pub line_whole_of : (text : List ℕ) → 0 < length text → length text ≤ line_length text → lines_of text ≡ text ∷ []
+line_whole_of [] some h = absurd (omega (arith, some))
+line_whole_of (b ∷ bs) some h = line_whole b bs h
+
+-- hexadecimal digits at the beginning of a text
+digits_in_front : (k : ℕ) (text : List ℕ) → k ≤ prefix_len is_hexadecimal_digit text → AllDigits 16 (take k text)
+digits_in_front zero text h = tt
+digits_in_front (suc k) [] h = absurd (omega (arith, h))
+digits_in_front (suc k) (b ∷ bs) h = elim (is_hexadecimal_digit b) as (λ t. is_hexadecimal_digit b ≡ t
+    → AllDigits 16 (take (suc k) (b ∷ bs))) [
+      | true ↦ λ e.
+          let here : digit_value b < 16 = grind (arith, nat_tests) in
+          let j : suc k ≤ 1 + prefix_len is_hexadecimal_digit bs = rw e at h in
+          (here, digits_in_front k bs (omega (arith, j)))
+      | false ↦ λ e. let j : suc k ≤ 0 = rw e at h in absurd (omega (arith, j))
+    ] refl
+
+front_length : (k : ℕ) (text : List ℕ) → k ≤ prefix_len is_hexadecimal_digit text → length (take k text) ≡ k
+front_length zero text h = refl
+front_length (suc k) [] h = absurd (omega (arith, h))
+front_length (suc k) (b ∷ bs) h =
+    elim (is_hexadecimal_digit b) as (λ t. is_hexadecimal_digit b ≡ t → length (take (suc k) (b ∷ bs)) ≡ suc k) [
+      | true ↦ λ e.
+          let j : suc k ≤ 1 + prefix_len is_hexadecimal_digit bs = rw e at h in
+          ap suc (front_length k bs (omega (arith, j)))
+      | false ↦ λ e. let j : suc k ≤ 0 = rw e at h in absurd (omega (arith, j))
+    ] refl
+
+-- 16 digits are a number of 64 bits
+pub address_fits : (line : List ℕ) → IsTrue (is_symbol line) → digits_value 16 (take 16 line) < 18446744073709551616
+unfolding is_symbol
+address_fits line h =
+    let count : prefix_len is_hexadecimal_digit line ≡ 16 = grind (arith, nat_tests) in
+    let below = digits_value-lt 16 (take 16 line) (digits_in_front 16 line (omega (arith, count))) in
+    rw (front_length 16 line (omega (arith, count))) at below
+
+and_right : (a b : Bool) → (a && b) ≡ true → b ≡ true
+and_right true b h = h
+and_right false true h = refl
+and_right false false h = h
+
+-- behind the blank there is a label
+pub name_is_label : (line : List ℕ) → IsTrue (is_symbol line) → is_label (drop 17 line) ≡ true
+unfolding is_symbol
+name_is_label line symbol = and_right _ _ (and_right _ _ symbol)

@@ -1,0 +1,4 @@
+-- What to read
+pub mod Symbols
+-- Inner words
+pub mod Reads

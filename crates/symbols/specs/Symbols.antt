@@ -1,0 +1,82 @@
+-- Tables of symbols: names and the addresses that they stand for, one a line, and what is looked up in them.
+use Rattle.std.specs.Prelude.{◌≡◌, ℕ, ◌<◌, ◌^◌, Bool, not, ◌&&◌, ◌==◌, nat_le, nat_eq, if◌then◌else◌, List, [], ◌∷◌, ◌++◌, map, length, take}
+use Rattle.std.specs.Prelude.{drop, ◌+◌, true, nat_lt, slice_index, Option, Some, None, codes}
+use Rattle.std.specs.List.{prefix_len, flat_map}
+use Rattle.std.specs.Char.{digit_value}
+use Rattle.std.specs.Cmp.Lexicographic.{pointwise}
+use Rattle.std.specs.Str.Parse.{digits_value}
+use Rattle.asm_lines.specs.Text.{is_name, is_dot}
+use Rattle.disassembler.specs.Hex.{hex_of}
+
+-- A name and its address.
+pub record Symbol : Type 0 where
+  pub address : ℕ
+  pub name : List ℕ
+
+abbrev pub symbol : ℕ → List ℕ → Symbol
+symbol address name = record { address = address; name = name }
+
+-- a name that a line of assembly can define: with its colon it has at most the 255 bytes of a line
+unfoldable pub is_label : List ℕ → Bool
+is_label name = is_name name && (not (is_dot name) && nat_le (length name) 254)
+
+-- what stands between line feeds; behind the last one nothing, or a line that lacks its own
+abbrev pub onto_first : ℕ → List (List ℕ) → List (List ℕ)
+onto_first b [] = (b ∷ []) ∷ []
+onto_first b (line ∷ lines) = (b ∷ line) ∷ lines
+
+abbrev pub lines_of : List ℕ → List (List ℕ)
+lines_of [] = []
+lines_of (b ∷ bs) = if b == 10 then [] ∷ lines_of bs else onto_first b (lines_of bs)
+
+-- a line of a table: 16 hexadecimal digits of the address, a blank, the name
+abbrev pub is_hexadecimal_digit : ℕ → Bool
+is_hexadecimal_digit b = nat_lt (digit_value b) 16
+
+unfoldable pub is_symbol : List ℕ → Bool
+is_symbol line = (prefix_len is_hexadecimal_digit line == 16) && ((slice_index line 16 == 32) && is_label (drop 17 line))
+
+unfoldable pub symbol_of : List ℕ → Symbol
+symbol_of line = symbol (digits_value 16 (take 16 line)) (drop 17 line)
+
+-- the first line, counted from a number on, that is no line of a table
+abbrev pub faulty_from : ℕ → List (List ℕ) → Option ℕ
+faulty_from number [] = None
+faulty_from number (line ∷ lines) = if is_symbol line then faulty_from (number + 1) lines else Some number
+
+abbrev pub faulty_line : List ℕ → Option ℕ
+faulty_line text = faulty_from 1 (lines_of text)
+
+-- what a text without such a line says
+abbrev pub symbols_of : List ℕ → List Symbol
+symbols_of text = map symbol_of (lines_of text)
+
+-- what a line can say: an address of 64 bits and a label
+pub record HasLine (s : Symbol) : Type 0 where
+  pub address : s.address < 2 ^ 64
+  pub name : is_label s.name ≡ true
+
+-- symbols as lines
+abbrev pub symbol_line : Symbol → List ℕ
+symbol_line s = hex_of 16 s.address ++ codes " " ++ s.name ++ codes "\n"
+
+abbrev pub table_text : List Symbol → List ℕ
+table_text symbols = flat_map symbol_line symbols
+
+-- the first name of an address, and the first address of a name
+abbrev pub name_at : List Symbol → ℕ → Option (List ℕ)
+name_at [] address = None
+name_at (s ∷ ss) address = if s.address == address then Some s.name else name_at ss address
+
+abbrev pub address_of : List Symbol → List ℕ → Option ℕ
+address_of [] name = None
+address_of (s ∷ ss) name = if pointwise nat_eq s.name name then Some s.address else address_of ss name
+
+-- the symbol at an address or nearest below it; of several at one address the first
+abbrev pub is_not_below : Symbol → Option Symbol → Bool
+is_not_below s None = true
+is_not_below s (Some other) = nat_le other.address s.address
+
+abbrev pub nearest : List Symbol → ℕ → Option Symbol
+nearest [] address = None
+nearest (s ∷ ss) address = if nat_le s.address address && is_not_below s (nearest ss address) then Some s else nearest ss address

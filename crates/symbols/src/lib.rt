@@ -1,0 +1,14 @@
+//! Tables of symbols: the names of addresses, as lines of a text, and what is looked up in them.
+#![tactic(auto)]
+
+mod fault;
+pub mod laws;
+mod lines;
+mod symbol;
+mod table;
+mod writing;
+
+pub use fault::SymbolsFault;
+pub use symbol::{Symbol, is_label};
+pub use table::{Symbols, read_symbols};
+pub use writing::table_text;

@@ -1,0 +1,80 @@
+//! A name and its address.
+ghost use Rattle.std.specs.Prelude.{◌≡◌, ◌<◌, ◌≤◌, length, IsTrue};
+ghost use Rattle.asm_lines.specs.Text.{begins_name, is_dot, is_name};
+ghost use Rattle.symbols.specs.Symbols.{is_label, symbol};
+
+use asm_lines::{Class, run_length};
+use std::marker::Model;
+
+/// A name and the address that it stands for.
+#[derive(Drop, Debug)]
+pub struct Symbol {
+    address: u64,
+    name: Vec<u8>,
+    ghost label: { IsTrue (is_label name.items) },
+}
+
+impl Model for Symbol {
+    ghost use Rattle.symbols.specs.Symbols as spec;
+
+    ghost Value = { spec.Symbol };
+
+    ghost view = { λ s. record { address = s.address; name = s.name.items } };
+}
+
+impl Symbol {
+    /// A symbol of this name and address.
+    pub(crate) fn new(address: u64, name: Vec<u8>) -> Self
+        requires { IsTrue (is_label name.items) }
+        ensures { result ≡ symbol address name.items }
+    {
+        Symbol { address, name }
+    }
+
+    /// The address.
+    pub fn address(&self) -> u64
+        ensures { result ≡ self.now.address }
+    {
+        self.address
+    }
+
+    /// The name, a label of at most 254 bytes.
+    #[tactic(auto, unfolding(crate::specs::Symbols::is_label))]
+    pub fn name(&self) -> &[u8]
+        ensures value { result.now ≡ self.now.name }
+        ensures label { IsTrue (is_label result.now) }
+        ensures bound { length result.now ≤ 254 }
+    {
+        &self.name
+    }
+}
+
+fn begins_name(byte: u8) -> bool
+    ensures { result ≡ begins_name byte }
+{
+    byte.is_ascii_alphabetic() || byte == b'_' || byte == b'.'
+}
+
+fn is_name(text: &[u8]) -> bool
+    ensures { result ≡ is_name text.now }
+{
+    match text {
+        [first, rest @ ..] => begins_name(*first) && run_length(rest, Class::Name) == rest.len(),
+        [] => false,
+    }
+}
+
+fn is_dot(text: &[u8]) -> bool
+    ensures { result ≡ is_dot text.now }
+{
+    text.len() == 1 && text[0] == b'.'
+}
+
+/// Whether a line of assembly can define a name: a letter, `_` or `.`, and then letters, digits, `_` and `.`, but not `.` alone, and
+/// at most 254 bytes, so that the line has room for the colon.
+#[tactic(auto, unfolding(crate::specs::Symbols::is_label))]
+pub fn is_label(name: &[u8]) -> bool
+    ensures { result ≡ is_label name.now }
+{
+    is_name(name) && !is_dot(name) && name.len() <= 254
+}
