@@ -1,0 +1,7 @@
+//! What was read of the line that has an assembler's fault.
+#![tactic(auto)]
+
+mod reading;
+mod text;
+
+pub use reading::detail;

@@ -1,0 +1,59 @@
+//! Lines of a text, and pieces of a line.
+ghost use Rattle.std.specs.Prelude.{◌≡◌};
+ghost use Rattle.asm_lines.specs.Text.{trimmed_start};
+ghost use Rattle.fault_details.specs.Detail.{behind, behind_lines, first_word, line_at, up_to};
+
+use asm_lines::{Class, run_length};
+
+/// What stands before the first such byte, or the whole text where there is none.
+pub(crate) fn up_to(byte: u8, text: &[u8]) -> &[u8]
+    ensures { result.now ≡ up_to byte text.now }
+{
+    &text[..run_length(text, Class::Not(byte))]
+}
+
+/// What stands behind the first such byte; nothing where there is none.
+fn behind(byte: u8, text: &[u8]) -> &[u8]
+    ensures { result.now ≡ behind byte text.now }
+{
+    let count = run_length(text, Class::Not(byte));
+    if count < text.len() {
+        &text[count + 1..]
+    } else {
+        &[]
+    }
+}
+
+/// What stands behind so many lines.
+fn behind_lines(count: u64, text: &[u8]) -> &[u8]
+    ensures { result.now ≡ behind_lines count text.now }
+{
+    let mut left = count;
+    let mut rest = text;
+    while left > 0 {
+        left -= 1;
+        rest = behind(b'\n', rest);
+    }
+    rest
+}
+
+/// A line of a text, counted from 1.
+pub(crate) fn line_at(number: u64, text: &[u8]) -> &[u8]
+    ensures { result.now ≡ line_at number text.now }
+{
+    up_to(b'\n', behind_lines(number.saturating_sub(1), text))
+}
+
+/// A text without the white space at its beginning.
+pub(crate) fn trimmed_start(text: &[u8]) -> &[u8]
+    ensures { result.now ≡ trimmed_start text.now }
+{
+    &text[run_length(text, Class::Blank)..]
+}
+
+/// A text up to its first white space.
+pub(crate) fn first_word(text: &[u8]) -> &[u8]
+    ensures { result.now ≡ first_word text.now }
+{
+    &text[..run_length(text, Class::Solid)]
+}
