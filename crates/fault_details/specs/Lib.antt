@@ -1,2 +1,4 @@
 -- What to read
+pub mod Pieces
+pub mod Limits
 pub mod Detail

@@ -1,6 +1,7 @@
 //! What was read of the line that has an assembler's fault.
 #![tactic(auto)]
 
+mod limits;
 mod reading;
 mod text;
 

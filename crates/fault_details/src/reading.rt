@@ -2,8 +2,11 @@
 ghost use Rattle.std.specs.Prelude.{◌≡◌, ◌++◌, IfOk, codes, decimal, length};
 ghost use Rattle.std.specs.Option.{option_copied};
 ghost use Rattle.asm_lines.specs.Line.{line_meaning, seen_expression};
-ghost use Rattle.fault_details.specs.Detail.{behind_label, detail_of, foreign_read, line_at, mnemonic_read, name_of_statement, named};
+ghost use Rattle.fault_details.specs.Detail.{behind_label, beyond_read, detail_of, foreign_read, line_at, name_of_statement, named};
+ghost use Rattle.fault_details.specs.Detail.{operands_read, statement_read};
+ghost use Rattle.asm_lines.specs.Text.{pieces_left};
 
+use crate::limits::{push_beyond, slots_read};
 use crate::text::{first_word, line_at, trimmed_start, up_to};
 use asm_lines::{Class, Expression, Instruction, Setting, Statement, parse_line, run_length};
 use assembler::{AsmCode, AsmFault};
@@ -21,13 +24,38 @@ fn behind_label<'a>(label: Option<&[u8]>, text: &'a [u8]) -> &'a [u8]
     }
 }
 
-/// The mnemonic of a line.
-#[tactic(auto, unfolding(crate::specs::Detail::mnemonic_read))]
-fn mnemonic_read(line: &[u8]) -> &[u8]
-    ensures { result.now ≡ mnemonic_read line.now }
+/// What a line says behind its label, up to a comment.
+#[tactic(auto, unfolding(crate::specs::Detail::statement_read))]
+fn statement_read(line: &[u8]) -> &[u8]
+    ensures { result.now ≡ statement_read line.now }
 {
     let label = parse_line(line).label;
-    first_word(up_to(b'#', behind_label(label, trimmed_start(line))))
+    up_to(b'#', behind_label(label, trimmed_start(line)))
+}
+
+/// The operands of a statement, if it has some.
+fn operands_read(statement: &[u8]) -> Option<&[u8]>
+    ensures { pieces_left (option_copied result) ≡ operands_read statement.now }
+{
+    let operands = trimmed_start(&statement[first_word(statement).len()..]);
+    if operands.is_empty() {
+        None
+    } else {
+        Some(operands)
+    }
+}
+
+/// The first operand of a row whose number is out of range, and that range.
+fn beyond_read(alloc: Global, statement: &[u8]) -> Result<Vec<u8>, AllocError>
+    ensures { IfOk result (λ text. text.items ≡ beyond_read statement.now) }
+{
+    let mut text = Vec::new(alloc);
+    push_beyond(
+        &mut text,
+        slots_read(first_word(statement)),
+        operands_read(statement),
+    )?;
+    Ok(text)
 }
 
 fn label_read(line: &[u8]) -> &[u8]
@@ -89,7 +117,8 @@ fn length_read(alloc: Global, line: &[u8]) -> Result<Vec<u8>, AllocError>
     Ok(text)
 }
 
-/// What was read of the line at fault, for a fault that `assemble` gave for the text: the mnemonic of A1, the label of A4, the
+/// What was read of the line at fault, for a fault that `assemble` gave for the text: the mnemonic of A1, the number of A3
+/// and its range where it is a row's operand, the label of A4, the
 /// unknown name of A5 where the statement has one expression, byte and column (counted from 1) of A8, the length of A9.
 /// Nothing for other faults.
 #[tactic(auto, unfolding(crate::specs::Detail::detail_of))]
@@ -98,12 +127,13 @@ pub fn detail(alloc: Global, text: &[u8], fault: AsmFault) -> Result<Vec<u8>, Al
 {
     let line = line_at(fault.line, text);
     match fault.code {
-        AsmCode::A1 => Vec::from_slice(alloc, mnemonic_read(line)),
+        AsmCode::A1 => Vec::from_slice(alloc, first_word(statement_read(line))),
+        AsmCode::A3 => beyond_read(alloc, statement_read(line)),
         AsmCode::A4 => Vec::from_slice(alloc, label_read(line)),
         AsmCode::A5 => Vec::from_slice(alloc, name_read(line)),
         AsmCode::A8 => foreign_read(alloc, line),
         AsmCode::A9 => length_read(alloc, line),
-        AsmCode::A2 | AsmCode::A3 | AsmCode::A6 | AsmCode::A7 | AsmCode::A10 | AsmCode::A11 => {
+        AsmCode::A2 | AsmCode::A6 | AsmCode::A7 | AsmCode::A10 | AsmCode::A11 => {
             Ok(Vec::new(alloc))
         }
     }

@@ -1,7 +1,8 @@
 //! Lines of a text, and pieces of a line.
 ghost use Rattle.std.specs.Prelude.{◌≡◌};
 ghost use Rattle.asm_lines.specs.Text.{trimmed_start};
-ghost use Rattle.fault_details.specs.Detail.{behind, behind_lines, first_word, line_at, up_to};
+ghost use Rattle.fault_details.specs.Detail.{behind_lines, first_word, line_at};
+ghost use Rattle.fault_details.specs.Pieces.{behind, up_to};
 
 use asm_lines::{Class, run_length};
 
