@@ -37,7 +37,8 @@ REST = [
     ("a text: what it means", "assembler/specs/Places, Values, Bytes, Faults, Text"),
     ("shown texts", "disassembler/specs/Hex, Shown"),
     ("sessions", "debugger/specs/Capability, Command, Reply, Answers, Conversation, Talk"),
-    ("the command line and runs on a schedule", "sim_run/specs/CommandLine, Schedule, Verdict, Listing"),
+    ("the command line and runs on a schedule",
+     "trap_texts/specs/Names, Text; sim_run/specs/CommandLine, Schedule, Verdict, Ending, Listing"),
 ]
 
 
