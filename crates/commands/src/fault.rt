@@ -30,7 +30,7 @@ pub enum ProgramFault<'a> {
     #[error("no memory")]
     Memory,
     /// A file is no image, or its bytes make none, or it could not be read.
-    #[error("{0}: {}", image_text(.1))]
+    #[error("{}: {}", .0, image_text(.1))]
     File(&'a str, ImageFault),
     /// A file could not be written to its end.
     #[error("{0}: L10 device failed: the file is cut short")]
@@ -39,7 +39,7 @@ pub enum ProgramFault<'a> {
     #[error("{}", image_text(.0))]
     Image(#[from] ImageFault),
     /// A text is not assembled: its file, the first faulty line, and its first fault.
-    #[error("{0}: line {}: {}", .1.line, asm_text(.1.code))]
+    #[error("{}: line {}: {}", .0, .1.line, asm_text(.1.code))]
     Asm(&'a str, AsmFault),
     /// No machine could be made.
     #[error("{}", machine_text(.0))]

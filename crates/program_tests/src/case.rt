@@ -102,13 +102,16 @@ fn content_of<'a>(alloc: Global, name: &'a str, rest: &str) -> Result<Content<'a
 }
 
 impl<'a> Cuts<'a> {
-    const NONE: Cuts<'a> = Cuts {
-        output: u64::MAX,
-        errors: u64::MAX,
-        made: u64::MAX,
-        is_full: false,
-        directory: "",
-    };
+    /// No call fails, and there is no directory.
+    fn none() -> Self {
+        Cuts {
+            output: u64::MAX,
+            errors: u64::MAX,
+            made: u64::MAX,
+            is_full: false,
+            directory: "",
+        }
+    }
 
     /// Takes a part that names a call of what is written, and says whether it is one.
     fn takes(&mut self, part: &'a str) -> Result<bool, CaseError> {
@@ -146,7 +149,7 @@ impl<'a> Case<'a> {
             words.push(word)?;
         }
         let mut files = Vec::new(alloc);
-        let mut cuts = Cuts::NONE;
+        let mut cuts = Cuts::none();
         for part in parts.split(" & ") {
             if !cuts.takes(part)? {
                 let (name, rest) = part.split_once(' ').ok_or(CaseError::Unreadable)?;
