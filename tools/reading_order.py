@@ -38,7 +38,8 @@ REST = [
     ("shown texts", "disassembler/specs/Hex, Shown"),
     ("what setting bounds gives, as a text", "bounds_text/specs/WindowEnds, Picture, BoundsText"),
     ("sessions", "debugger/specs/Capability, Command, Reply, Answers, Conversation, Talk"),
-    ("the command line and runs on a schedule", "sim_run/specs/CommandLine, Schedule, Verdict, Listing"),
+    ("the command line and runs on a schedule",
+     "trap_texts/specs/Names, Text; sim_run/specs/CommandLine, Schedule, Verdict, Ending, Listing"),
     ("names in listings", "symbols/specs/Symbols; image_listing/specs/Named"),
 ]
 

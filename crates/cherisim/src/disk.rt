@@ -23,6 +23,10 @@ impl Folder for Disk<'_> {
     type Made = File;
 
     fn open(&mut self, name: &str) -> io::Result<File> {
+        // The system opens a directory, and refuses to read it.
+        if fs::metadata(self.rt, name)?.is_dir() {
+            return Err(io::Error::from(io::ErrorKind::IsADirectory));
+        }
         fs::open(self.rt, name)
     }
 

@@ -3,18 +3,27 @@
 
 mod disk;
 
-use commands::{ProgramFault, reading_fault, status_of, tell_fault};
+use commands::{ProgramFault, refuse, status_of, tell_fault};
 use disk::Disk;
 use std::process::ExitCode;
 use std::{env, io};
 
+/// What is told of a word that is no text.
+const NOT_UTF8: &str = "error: a word of the command line is not UTF-8\n";
+
 /// The words of the command line, the program's name first.
-fn words_of(rt: &HostRuntime) -> Result<Vec<String>, ProgramFault<'static>> {
-    let words = match env::args(rt) {
-        Ok(words) => words,
-        Err(error) => return Err(reading_fault(&error)),
-    };
-    words.collect(rt.alloc()).map_err(|_| ProgramFault::Memory)
+fn words_of(rt: &HostRuntime) -> io::Result<Vec<String>> {
+    let words = env::args(rt)?;
+    Ok(words.collect(rt.alloc())?)
+}
+
+/// Tells why the words could not be read, and answers the status.
+fn tell_error<E: io::Write>(errors: &mut E, error: &io::Error) -> u8 {
+    match error.kind() {
+        io::ErrorKind::InvalidData => refuse(errors, NOT_UTF8),
+        io::ErrorKind::OutOfMemory => tell_fault(errors, &ProgramFault::Memory),
+        _ => tell_fault(errors, &ProgramFault::Words),
+    }
 }
 
 /// Does what the words of the command line ask, and answers the status.
@@ -36,7 +45,7 @@ fn status(rt: &HostRuntime, words: &[String]) -> u8 {
 fn main(rt: HostRuntime) -> io::Result<ExitCode> {
     let status = match words_of(&rt) {
         Ok(words) => status(&rt, &words),
-        Err(fault) => tell_fault(&mut io::writer(&rt.stderr()), &fault),
+        Err(error) => tell_error(&mut io::writer(&rt.stderr()), &error),
     };
     Ok(ExitCode::from(status))
 }

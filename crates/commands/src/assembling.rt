@@ -1,9 +1,8 @@
 //! The command `asm`.
 
 use crate::fault::ProgramFault;
-use crate::files::{Folder, make_file, read_file};
+use crate::files::{Folder, read_file, write_image};
 use assembler::assemble;
-use image::ToWrite;
 use std::alloc::Global;
 
 /// Assembles the text of the file `input`, and where that succeeds makes the file `output` and writes the image to it.
@@ -14,7 +13,8 @@ pub fn assemble_file<'a, F: Folder>(
     output: &'a str,
 ) -> Result<(), ProgramFault<'a>> {
     let text = read_file(alloc, folder, input)?;
-    let assembly = assemble(alloc, text.as_slice())?;
-    let file = make_file(folder, output)?;
-    Ok(image::write(assembly.image(), &mut ToWrite::new(file))?)
+    let assembly = assemble(alloc, text.as_slice()).map_err(|fault| ProgramFault::Asm(
+        input, fault,
+    ))?;
+    write_image(folder, output, assembly.image())
 }

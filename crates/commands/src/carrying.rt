@@ -1,15 +1,15 @@
 //! A command line carried out, and the status that it ends with.
 
-ghost use Rattle.sim_run.specs.CommandLine.{HasRanges};
+ghost use Rattle.sim_run.specs.CommandLine.{IsSound};
 
 use crate::assembling::assemble_file;
 use crate::debugging::debug_file;
 use crate::fault::ProgramFault;
 use crate::files::Folder;
+use crate::imaging::image_file;
 use crate::listing::list_file;
-use crate::running::{run_file, run_first};
+use crate::running::{Ended, run_file, run_first};
 use image::DeviceFailed;
-use machine::End;
 use sim_run::{Plan, PlanFault, plan, verdict};
 use std::alloc::Global;
 use std::io::{Read, Write};
@@ -28,14 +28,26 @@ const VERSION: &str = "cherisim 0.1.0\n";
 enum Done {
     /// All of it.
     All,
-    /// A run that ended so.
-    Run(End),
+    /// A run that ended so; where it did is not to be told.
+    Run(Ended),
+    /// A run that ended so; where it did is to be told too.
+    Place(Ended),
 }
 
 /// Tells how a run ended, and answers the status.
-fn tell_end<E: Write>(errors: &mut E, end: End) -> u8 {
-    let (status, line) = verdict(end);
+fn tell_end<E: Write>(errors: &mut E, ended: &Ended) -> u8 {
+    let (status, line) = verdict(ended.end);
     if status != 0 {
+        let _ = writeln!(errors, "{line}");
+    }
+    status
+}
+
+/// Tells how and where a run ended, and answers the status.
+fn tell_place<E: Write>(errors: &mut E, ended: &Ended) -> u8 {
+    let status = tell_end(errors, ended);
+    if status != 0 {
+        let line = ended.place;
         let _ = writeln!(errors, "{line}");
     }
     status
@@ -55,7 +67,7 @@ fn carry_out<'a, F: Folder, I: Read + Drop, O: Write + Drop>(
     output: O,
     plan: Plan<'a>,
 ) -> Result<Done, ProgramFault<'a>>
-    requires { HasRanges plan }
+    requires { IsSound plan }
 {
     match plan {
         Plan::First => Ok(Done::Run(run_first(alloc, output)?)),
@@ -63,16 +75,32 @@ fn carry_out<'a, F: Folder, I: Read + Drop, O: Write + Drop>(
             image,
             schedule,
             input,
-        } => Ok(Done::Run(run_file(alloc, folder, image, schedule, input, output)?)),
-        Plan::Asm { input, output } => {
+            quiet,
+        } => {
+            let ended = run_file(alloc, folder, image, schedule, input, output)?;
+            Ok(if quiet {
+                Done::Run(ended)
+            } else {
+                Done::Place(ended)
+            })
+        }
+        Plan::Asm { input, output, .. } => {
             assemble_file(alloc, folder, input, output)?;
             Ok(Done::All)
         }
-        Plan::Dis { image } => {
+        Plan::Image {
+            flat,
+            output,
+            layout,
+        } => {
+            image_file(alloc, folder, flat, output, layout)?;
+            Ok(Done::All)
+        }
+        Plan::Dis { image, .. } => {
             list_file(alloc, folder, image, output)?;
             Ok(Done::All)
         }
-        Plan::Debug { image } => {
+        Plan::Debug { image, .. } => {
             debug_file(alloc, folder, image, input, output)?;
             Ok(Done::All)
         }
@@ -84,16 +112,22 @@ fn asks_version(words: &[&str]) -> bool {
     words.len() == 2 && words[1] == "--version"
 }
 
-/// Writes the version, and answers the status.
-fn show_version<O: Write + Drop, E: Write>(mut output: O, errors: &mut E) -> u8 {
-    match output.write_all(VERSION.as_bytes()) {
-        Ok(()) => 0,
+/// Writes a text that was asked for, and answers this status where it could be written.
+fn show<O: Write + Drop, E: Write>(mut output: O, errors: &mut E, text: &str, status: u8) -> u8 {
+    match output.write_all(text.as_bytes()) {
+        Ok(()) => status,
         Err(_) => tell_fault(errors, &ProgramFault::Write(DeviceFailed)),
     }
 }
 
+/// Tells why a command line is refused, and answers the status.
+pub fn refuse<E: Write>(errors: &mut E, text: &str) -> u8 {
+    let _ = errors.write_all(text.as_bytes());
+    REFUSED
+}
+
 /// Reads the words of a command line, the program's name first, and does what they ask: with files in `folder`, what is typed
-/// from `input`, what is sent, listed or answered to `output`, and what is told of refusals, faults and ends to `errors`.
+/// from `input`, what is sent, listed, answered or helped with to `output`, and what is told of refusals, faults and ends to `errors`.
 ///
 /// Answers the status: 0 for what was done, the version shown among it, and of a run where the machine halted with 0; 1 for a run
 /// that ended otherwise; 2 for a command line that was refused or asks for help; 3 for another fault.
@@ -106,19 +140,18 @@ pub fn status_of<F: Folder, I: Read + Drop, O: Write + Drop, E: Write>(
     words: &[&str],
 ) -> u8 {
     if asks_version(words) {
-        return show_version(output, errors);
+        return show(output, errors, VERSION, 0);
     }
     let plan = match plan(alloc, words) {
         Ok(plan) => plan,
         Err(PlanFault::Memory) => return tell_fault(errors, &ProgramFault::Memory),
-        Err(PlanFault::Refused(text)) => {
-            let _ = write!(errors, "{text}");
-            return REFUSED;
-        }
+        Err(PlanFault::Help(text)) => return show(output, errors, &text, REFUSED),
+        Err(PlanFault::Refused(text)) => return refuse(errors, &text),
     };
     match carry_out(alloc, folder, input, output, plan) {
         Ok(Done::All) => 0,
-        Ok(Done::Run(end)) => tell_end(errors, end),
+        Ok(Done::Run(ended)) => tell_end(errors, &ended),
+        Ok(Done::Place(ended)) => tell_place(errors, &ended),
         Err(fault) => tell_fault(errors, &fault),
     }
 }

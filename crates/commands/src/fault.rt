@@ -5,29 +5,42 @@ use debugger::TalkFault;
 use image::{DeviceFailed, ImageFault};
 use machine::MachineFault;
 use std::io;
+use std::io::ErrorKind;
 use thiserror::Error;
 
 /// Why the program could not do its work. The text follows `cherisim: ` on standard error.
 #[derive(Debug, Drop, Error)]
 pub enum ProgramFault<'a> {
-    /// A file that cannot be opened or made: its name.
-    #[error("file {0}")]
-    File(&'a str),
-    /// A file of text or input could not be read to its end.
+    /// A file that cannot be opened or made: its name, and the system's reason.
+    #[error("file {0}: {1}")]
+    NoFile(&'a str, ErrorKind),
+    /// A directory stands where a file was named.
+    #[error("{0}: is a directory")]
+    Directory(&'a str),
+    /// A file could not be read to its end: its name, and the system's reason.
+    #[error("{0}: read failed: {1}")]
+    Read(&'a str, ErrorKind),
+    /// The words of the command line could not be read.
     #[error("read failed")]
-    Read,
+    Words,
     /// A byte could not be written.
     #[error("write failed")]
     Write(#[from] DeviceFailed),
     /// No memory for a file's bytes or for the words of the command line.
     #[error("no memory")]
     Memory,
-    /// An image file is none, or could not be read or written.
+    /// A file is no image, or its bytes make none, or it could not be read.
+    #[error("{}: {}", .0, image_text(.1))]
+    File(&'a str, ImageFault),
+    /// A file could not be written to its end.
+    #[error("{0}: L10 device failed: the file is cut short")]
+    CutShort(&'a str),
+    /// There is no image.
     #[error("{}", image_text(.0))]
     Image(#[from] ImageFault),
-    /// A text is not assembled: the first faulty line, and its first fault.
-    #[error("line {}: {}", .0.line, asm_text(.0.code))]
-    Asm(#[from] AsmFault),
+    /// A text is not assembled: its file, the first faulty line, and its first fault.
+    #[error("{}: line {}: {}", .0, .1.line, asm_text(.1.code))]
+    Asm(&'a str, AsmFault),
     /// No machine could be made.
     #[error("{}", machine_text(.0))]
     Machine(#[from] MachineFault),
@@ -91,11 +104,19 @@ fn talk_text(fault: &TalkFault) -> &'static str {
     }
 }
 
+/// The fault of a file that could not be opened or made.
+pub fn opening_fault<'a>(name: &'a str, error: &io::Error) -> ProgramFault<'a> {
+    match error.kind() {
+        ErrorKind::OutOfMemory => ProgramFault::Memory,
+        ErrorKind::IsADirectory => ProgramFault::Directory(name),
+        reason => ProgramFault::NoFile(name, reason),
+    }
+}
+
 /// The fault of a file that was opened and could not be read.
-pub fn reading_fault<'a>(error: &io::Error) -> ProgramFault<'a> {
-    if error.kind() == io::ErrorKind::OutOfMemory {
-        ProgramFault::Memory
-    } else {
-        ProgramFault::Read
+pub fn reading_fault<'a>(name: &'a str, error: &io::Error) -> ProgramFault<'a> {
+    match error.kind() {
+        ErrorKind::OutOfMemory => ProgramFault::Memory,
+        reason => ProgramFault::Read(name, reason),
     }
 }

@@ -1,7 +1,7 @@
-//! What the program reads from files.
+//! What the program reads from files and writes to them.
 
-use crate::fault::{ProgramFault, reading_fault};
-use image::{FromRead, Image};
+use crate::fault::{ProgramFault, opening_fault, reading_fault};
+use image::{FromRead, Image, ToWrite};
 use std::alloc::Global;
 use std::io;
 use std::io::{Read, Write};
@@ -14,11 +14,28 @@ pub trait Folder {
     /// A file that is written.
     type Made: Write + Drop;
 
-    /// Opens the file of this name for reading.
+    /// Opens the file of this name for reading; of a directory it answers `IsADirectory`.
     fn open(&mut self, name: &str) -> io::Result<Self::Opened>;
 
     /// Makes a file of this name, or empties the one that there is.
     fn make(&mut self, name: &str) -> io::Result<Self::Made>;
+}
+
+/// The first `most` bytes of a file, or all that it has: no more are asked for.
+pub fn read_beginning<'a, F: Folder>(
+    alloc: Global,
+    folder: &mut F,
+    name: &'a str,
+    most: u64,
+) -> Result<Vec<u8>, ProgramFault<'a>> {
+    let file = folder
+        .open(name)
+        .map_err(|error| opening_fault(name, &error))?;
+    let mut bytes = Vec::new(alloc);
+    match file.take(most).read_to_end(&mut bytes) {
+        Ok(_) => Ok(bytes),
+        Err(error) => Err(reading_fault(name, &error)),
+    }
 }
 
 /// All bytes of a file.
@@ -27,14 +44,7 @@ pub fn read_file<'a, F: Folder>(
     folder: &mut F,
     name: &'a str,
 ) -> Result<Vec<u8>, ProgramFault<'a>> {
-    let Ok(mut file) = folder.open(name) else {
-        return Err(ProgramFault::File(name));
-    };
-    let mut bytes = Vec::new(alloc);
-    match file.read_to_end(&mut bytes) {
-        Ok(_) => Ok(bytes),
-        Err(error) => Err(reading_fault(&error)),
-    }
+    read_beginning(alloc, folder, name, u64::MAX)
 }
 
 /// The image of a file.
@@ -43,16 +53,20 @@ pub fn read_image<'a, F: Folder>(
     folder: &mut F,
     name: &'a str,
 ) -> Result<Image, ProgramFault<'a>> {
-    let Ok(file) = folder.open(name) else {
-        return Err(ProgramFault::File(name));
-    };
-    Ok(image::read(alloc, &mut FromRead::new(file))?)
+    let file = folder
+        .open(name)
+        .map_err(|error| opening_fault(name, &error))?;
+    image::read(alloc, &mut FromRead::new(file)).map_err(|fault| ProgramFault::File(name, fault))
 }
 
-/// A new file of this name, or the one that there is, emptied.
-pub fn make_file<'a, F: Folder>(
+/// Writes an image to a new file of this name, or to the one that there is, emptied.
+pub fn write_image<'a, F: Folder>(
     folder: &mut F,
     name: &'a str,
-) -> Result<F::Made, ProgramFault<'a>> {
-    folder.make(name).map_err(|_| ProgramFault::File(name))
+    image: &Image,
+) -> Result<(), ProgramFault<'a>> {
+    let file = folder
+        .make(name)
+        .map_err(|error| opening_fault(name, &error))?;
+    image::write(image, &mut ToWrite::new(file)).map_err(|_| ProgramFault::CutShort(name))
 }

@@ -7,11 +7,12 @@ mod carrying;
 mod debugging;
 mod fault;
 mod files;
+mod imaging;
 mod listing;
 mod running;
 #[cfg(test)]
 mod tests;
 
-pub use carrying::{FAULT, status_of, tell_fault};
-pub use fault::{ProgramFault, reading_fault};
+pub use carrying::{FAULT, refuse, status_of, tell_fault};
+pub use fault::ProgramFault;
 pub use files::Folder;

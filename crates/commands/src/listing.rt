@@ -2,12 +2,12 @@
 
 use crate::fault::ProgramFault;
 use crate::files::{Folder, read_image};
-use image::ToWrite;
+use image::{DeviceFailed, ToWrite};
 use sim_run::list;
 use std::alloc::Global;
-use std::io::Write;
+use std::io::{BufWriter, Write};
 
-/// Lists the image of a file on `output`.
+/// Lists the image of a file on `output`, a block of lines at a time.
 pub fn list_file<'a, F: Folder, O: Write + Drop>(
     alloc: Global,
     folder: &mut F,
@@ -15,5 +15,7 @@ pub fn list_file<'a, F: Folder, O: Write + Drop>(
     output: O,
 ) -> Result<(), ProgramFault<'a>> {
     let image = read_image(alloc, folder, name)?;
-    Ok(list(&image, &mut ToWrite::new(output))?)
+    let mut lines = BufWriter::new(alloc, output).map_err(|_| ProgramFault::Memory)?;
+    list(&image, &mut ToWrite::new(&mut lines))?;
+    lines.flush().map_err(|_| ProgramFault::Write(DeviceFailed))
 }

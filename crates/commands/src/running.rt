@@ -5,10 +5,11 @@ ghost use Rattle.hart.specs.Opening.{opening};
 ghost use Rattle.sim_run.specs.Schedule.{IsInRange};
 
 use crate::fault::ProgramFault;
-use crate::files::{Folder, read_file, read_image};
+use crate::files::{Folder, read_beginning, read_image};
+use arrayvec::ArrayString;
 use image::{Image, ToWrite};
 use machine::{End, Machine};
-use sim_run::{Schedule, run_scheduled};
+use sim_run::{Schedule, ending_line, run_counted};
 use std::alloc::Global;
 use std::io::Write;
 use word_cap::WordCap;
@@ -29,6 +30,13 @@ pub fn machine_of<'a>(alloc: Global, image: &Image) -> Result<Machine<WordCap>, 
     Ok(Machine::new(alloc, image)?)
 }
 
+/// How a run ended, and the line that says where.
+#[derive(Clone, Copy, Debug)]
+pub struct Ended {
+    pub end: End,
+    pub place: ArrayString<256>,
+}
+
 /// Runs a machine from its image, and writes to `output` what it sends.
 fn run_machine<'a, O: Write + Drop>(
     alloc: Global,
@@ -36,15 +44,19 @@ fn run_machine<'a, O: Write + Drop>(
     schedule: Schedule,
     input: &[u8],
     output: O,
-) -> Result<End, ProgramFault<'a>>
+) -> Result<Ended, ProgramFault<'a>>
     requires { IsInRange schedule }
 {
     let mut machine = machine_of(alloc, image)?;
     let mut sink = ToWrite::new(output);
-    Ok(run_scheduled(&mut machine, schedule, input, &mut sink)?)
+    let ran = run_counted(&mut machine, schedule, input, &mut sink)?;
+    Ok(Ended {
+        end: ran.end,
+        place: ending_line(&machine, ran.steps),
+    })
 }
 
-/// Runs the image of a file, with the bytes of the file `input` on its console.
+/// Runs the image of a file, with the bytes of the file `input` on its console: no more of them are read than the schedule has room for.
 pub fn run_file<'a, F: Folder, O: Write + Drop>(
     alloc: Global,
     folder: &mut F,
@@ -52,19 +64,19 @@ pub fn run_file<'a, F: Folder, O: Write + Drop>(
     schedule: Schedule,
     input: Option<&'a str>,
     output: O,
-) -> Result<End, ProgramFault<'a>>
+) -> Result<Ended, ProgramFault<'a>>
     requires { IsInRange schedule }
 {
     let image = read_image(alloc, folder, name)?;
     let bytes = match input {
-        Some(file) => read_file(alloc, folder, file)?,
+        Some(file) => read_beginning(alloc, folder, file, schedule.most_bytes())?,
         None => Vec::new(alloc),
     };
     run_machine(alloc, &image, schedule, bytes.as_slice(), output)
 }
 
 /// Runs the first image for its five steps: it sends `A` and halts with 0.
-pub fn run_first<'a, O: Write + Drop>(alloc: Global, output: O) -> Result<End, ProgramFault<'a>> {
+pub fn run_first<'a, O: Write + Drop>(alloc: Global, output: O) -> Result<Ended, ProgramFault<'a>> {
     let image = Image::build(alloc, 1, ENTRY, 0, &[(ENTRY, &FIRST)])?;
     let schedule = Schedule {
         steps: 5,

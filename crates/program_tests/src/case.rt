@@ -3,9 +3,9 @@
 //! A line is `WORDS | PARTS => STATUS | OPENED | SENT | TOLD | MADE`; `#` begins a line that is none. PARTS are parted by ` & `:
 //! `NAME "text"`, a file of this name; `NAME CALL "text"`, one whose call of this number, from 0, fails; `input "text"` and
 //! `input CALL "text"`, what is typed; `output CALL`, at which call the output fails; `errors CALL` of what is told; `made CALL`
-//! of a file that is written; and `full`, where no file can be made. Texts have the escapes `\n`, `\0`, `\xHH` and so on. The answer is
+//! of a file that is written; `full`, where no file can be made; and `directory NAME`, a directory of this name. Texts have the escapes `\n`, `\0`, `\xHH` and so on. The answer is
 //! the status, what was opened and made in order, what was sent, what was told, and what stands in the file that was made, if one was.
-//! Of a text by clap, status 2, only whether there is one is told, and where.
+//! Of a text by clap, status 2, only whether there is one is told, and where: among what was sent, or among what was told.
 
 use crate::desk::Desk;
 use crate::quoting::{put_quoted, unquoted};
@@ -55,13 +55,14 @@ pub struct Content<'a> {
     pub fails_at: u64,
 }
 
-/// Which calls fail of what is written: their numbers, from 0, and 2^64 - 1 for none.
+/// Which calls fail of what is written: their numbers, from 0, and 2^64 - 1 for none; and the name of a directory.
 #[derive(Clone, Copy, Debug)]
-struct Cuts {
+struct Cuts<'a> {
     output: u64,
     errors: u64,
     made: u64,
     is_full: bool,
+    directory: &'a str,
 }
 
 /// A line of the file of cases.
@@ -100,22 +101,27 @@ fn content_of<'a>(alloc: Global, name: &'a str, rest: &str) -> Result<Content<'a
     })
 }
 
-impl Cuts {
-    const NONE: Cuts = Cuts {
-        output: u64::MAX,
-        errors: u64::MAX,
-        made: u64::MAX,
-        is_full: false,
-    };
+impl<'a> Cuts<'a> {
+    /// No call fails, and there is no directory.
+    fn none() -> Self {
+        Cuts {
+            output: u64::MAX,
+            errors: u64::MAX,
+            made: u64::MAX,
+            is_full: false,
+            directory: "",
+        }
+    }
 
     /// Takes a part that names a call of what is written, and says whether it is one.
-    fn takes(&mut self, part: &str) -> Result<bool, CaseError> {
+    fn takes(&mut self, part: &'a str) -> Result<bool, CaseError> {
         let (name, call) = part.split_once(' ').unwrap_or((part, "0"));
         match name {
             "output" => self.output = call_of(call)?,
             "errors" => self.errors = call_of(call)?,
             "made" => self.made = call_of(call)?,
             "full" => self.is_full = true,
+            "directory" => self.directory = call,
             _ => return Ok(false),
         }
         Ok(true)
@@ -143,7 +149,7 @@ impl<'a> Case<'a> {
             words.push(word)?;
         }
         let mut files = Vec::new(alloc);
-        let mut cuts = Cuts::NONE;
+        let mut cuts = Cuts::none();
         for part in parts.split(" & ") {
             if !cuts.takes(part)? {
                 let (name, rest) = part.split_once(' ').ok_or(CaseError::Unreadable)?;
@@ -159,7 +165,7 @@ fn carried(
     alloc: Global,
     words: &[&str],
     files: &[Content],
-    cuts: Cuts,
+    cuts: Cuts<'_>,
 ) -> Result<Came, CaseError> {
     let mut opened = String::new(alloc);
     let mut sent = Vec::new(alloc);
@@ -170,6 +176,7 @@ fn carried(
         None => Reader::new(&[], u64::MAX, BROKEN),
     };
     let mut desk = Desk::new(files, &mut opened, &mut made, cuts.made, cuts.is_full);
+    desk.add_directory(cuts.directory);
     let output = Writer::new(&mut sent, cuts.output, Failure::Error(BROKEN));
     let mut errors = Writer::new(&mut told, cuts.errors, Failure::Error(BROKEN));
     let status = status_of(alloc, &mut desk, input, output, &mut errors, words);
@@ -182,6 +189,15 @@ fn carried(
     })
 }
 
+/// Puts what was written behind a text: at status 2 only whether there is something.
+fn put_written(text: &mut String, status: u8, written: &[u8]) -> Result<(), AllocError> {
+    if status == 2 && !written.is_empty() {
+        text.push_str("a text")
+    } else {
+        put_quoted(text, written)
+    }
+}
+
 impl Came {
     /// What came, as the answer of a case has it.
     pub fn text(&self, alloc: Global) -> Result<String, CaseError> {
@@ -189,13 +205,9 @@ impl Came {
         let status = self.status;
         let opened = self.opened.as_str();
         write!(text, "{status} |{opened} | ")?;
-        put_quoted(&mut text, &self.sent)?;
+        put_written(&mut text, status, &self.sent)?;
         text.push_str(" | ")?;
-        if status == 2 && !self.told.is_empty() {
-            text.push_str("a text")?;
-        } else {
-            put_quoted(&mut text, &self.told)?;
-        }
+        put_written(&mut text, status, &self.told)?;
         text.push_str(" | ")?;
         put_quoted(&mut text, &self.made)?;
         Ok(text)

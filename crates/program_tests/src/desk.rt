@@ -12,6 +12,7 @@ pub struct Desk<'a> {
     opened: &'a mut String,
     made: Option<&'a mut Vec<u8>>,
     fails_at: u64,
+    directory: &'a str,
 }
 
 impl<'a> Desk<'a> {
@@ -28,7 +29,13 @@ impl<'a> Desk<'a> {
             opened,
             made: if is_full { None } else { Some(made) },
             fails_at,
+            directory: "",
         }
+    }
+
+    /// Adds a directory of this name.
+    pub fn add_directory(&mut self, name: &'a str) {
+        self.directory = name;
     }
 
     /// Puts a deed and a file's name behind what was opened before.
@@ -51,6 +58,9 @@ impl<'a> Folder for Desk<'a> {
 
     fn open(&mut self, name: &str) -> io::Result<Reader<'a>> {
         self.note(" open ", name)?;
+        if name == self.directory {
+            return Err(io::Error::from(io::ErrorKind::IsADirectory));
+        }
         match self.files.iter().find(|file| file.name == name) {
             Some(file) => Ok(Reader::new(&file.bytes, file.fails_at, BROKEN)),
             None => Err(missing()),
@@ -59,6 +69,9 @@ impl<'a> Folder for Desk<'a> {
 
     fn make(&mut self, name: &str) -> io::Result<Writer<'a>> {
         self.note(" make ", name)?;
+        if name == self.directory {
+            return Err(io::Error::from(io::ErrorKind::IsADirectory));
+        }
         match self.made.take() {
             Some(made) => Ok(Writer::new(made, self.fails_at, Failure::NoByte)),
             None => Err(missing()),

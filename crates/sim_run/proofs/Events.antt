@@ -10,7 +10,7 @@ use Rattle.hart.specs.declared.event.Event.TheVariants.{Step, Tick, Byte}
 use Rattle.hart.specs.State.{State}
 use Rattle.hart.specs.Event.{after, sent}
 use Rattle.machine.specs.Run.{run_after, run_sent}
-use Rattle.sim_run.specs.Schedule.{block, is_halted, up_to_halt, IsCutShort}
+use Rattle.sim_run.specs.Schedule.{block, is_halted, steps_in, up_to_halt, IsCutShort}
 
 -- ---- lists of events, one after the other
 
@@ -23,6 +23,20 @@ run_sent-append [] ys s = refl
 run_sent-append (x ∷ xs) ys s =
     ap (λ bytes. option_to_list (sent x s) ++ bytes) (run_sent-append xs ys (after x s))
     ∙ sym (append_assoc (option_to_list (sent x s)) (run_sent xs (after x s)) (run_sent ys (run_after xs (after x s))))
+
+pub steps_in-append : (xs ys : List Event) → steps_in (xs ++ ys) ≡ steps_in xs + steps_in ys
+steps_in-append [] ys =
+    let none : steps_in ys ≡ 0 + steps_in ys = omega arith in
+    none
+steps_in-append (Step ∷ xs) ys =
+    let one : suc (steps_in xs + steps_in ys) ≡ suc (steps_in xs) + steps_in ys = omega arith in
+    ap suc (steps_in-append xs ys) ∙ one
+steps_in-append (Tick ∷ xs) ys = steps_in-append xs ys
+steps_in-append (Byte b ∷ xs) ys = steps_in-append xs ys
+
+pub steps_in-steps : (n : ℕ) → steps_in (replicate n Step) ≡ n
+steps_in-steps zero = refl
+steps_in-steps (suc n) = ap suc (steps_in-steps n)
 
 -- what of `ys` is still met by a machine that has met `xs` up to the halt
 abbrev then_up_to_halt : List Event → State → List Event
@@ -80,6 +94,9 @@ module _ (xs ys : List Event) (s t : State) (running : is_halted s ≡ false) (s
       ap (λ v. run_sent (up_to_halt xs s) s ++ run_sent (up_to_halt ys t) v) so_far
       ∙ sym (run_sent-append (up_to_halt xs s) (up_to_halt ys t) s) ∙ ap (λ es. run_sent es s) (sym goes_on) in
       subst (λ bs. Appends a c bs) bytes (Appends-trans a b c _ _ before more)
+
+  pub count_after : steps_in (up_to_halt (xs ++ ys) s) ≡ steps_in (up_to_halt xs s) + steps_in (up_to_halt ys t)
+  count_after = ap steps_in goes_on ∙ steps_in-append (up_to_halt xs s) (up_to_halt ys t)
 
   pub cut_after : (more : List Event) (new : State) (a b c : Option (List ℕ)) → Appends a b (run_sent (up_to_halt xs s) s)
       → IsCutShort (up_to_halt ys t) t new b c → IsCutShort (up_to_halt ((xs ++ ys) ++ more) s) s new a c
@@ -205,6 +222,14 @@ run_sent-ticked : (b : Bool) (s : State) → run_sent (if b then Tick ∷ [] els
 run_sent-ticked true s = refl
 run_sent-ticked false s = refl
 
+steps_in-brought : (byte : Option ℕ) → steps_in (brought byte) ≡ 0
+steps_in-brought None = refl
+steps_in-brought (Some b) = refl
+
+steps_in-ticked : (b : Bool) → steps_in (if b then Tick ∷ [] else []) ≡ 0
+steps_in-ticked true = refl
+steps_in-ticked false = refl
+
 -- t is the machine after the byte, and u after the steps
 module _ (byte : Option ℕ) (n : ℕ) (ticks : Bool) (s t : State) (running : is_halted s ≡ false) (at_byte : t ≡ run_after (brought byte) s)
   where
@@ -245,6 +270,16 @@ module _ (byte : Option ℕ) (n : ℕ) (ticks : Bool) (s t : State) (running : i
         ∙ ap (λ bs. run_sent steps t ++ bs) (run_sent-ticked (ticks && not (is_halted u)) (run_after steps t))
         ∙ append-nil (run_sent steps t) in
         subst (λ bs. Appends a b bs) (sym bytes) written
+
+    pub count_in_block : (u : State) → u ≡ run_after (up_to_halt (replicate n Step) t) t
+        → steps_in (up_to_halt (block byte n ticks) s) ≡ steps_in (up_to_halt (replicate n Step) t)
+    count_in_block u at_steps =
+        let steps = up_to_halt (replicate n Step) t in
+        let before = steps_in-append (brought byte) (steps ++ ticked_after ticks u) in
+        let behind = steps_in-append steps (ticked_after ticks u) in
+        let none = steps_in-brought byte in
+        let no_more = steps_in-ticked (ticks && not (is_halted u)) in
+        ap steps_in (up_to_halt-block u at_steps) ∙ omega (arith, before, behind, none, no_more)
 
     pub cut_in_block : (u : State) (a b : Option (List ℕ)) → IsCutShort (up_to_halt (replicate n Step) t) t u a b
         → IsCutShort (up_to_halt (block byte n ticks) s) s u a b

@@ -9,8 +9,8 @@ use Rattle.hart.specs.State.{State}
 use Rattle.machine.specs.Run.{run_after, run_sent}
 use Rattle.sim_run.specs.declared.schedule.Schedule.{Schedule}
 use Rattle.sim_run.specs.Schedule.{around, block, byte_before, is_tick_after, first_steps, AreAlone}
-use Rattle.sim_run.specs.Schedule.{is_halted, up_to_halt, scheduled, IsCutShort}
-use Rattle.sim_run.proofs.Events.{brought, ticking, state_after, sent_after, cut_after, ends_at_halt}
+use Rattle.sim_run.specs.Schedule.{is_halted, steps_in, up_to_halt, scheduled, IsCutShort}
+use Rattle.sim_run.proofs.Events.{brought, ticking, state_after, sent_after, count_after, cut_after, ends_at_halt}
 
 one_step_more : (n : ℕ) (es : List Event) → replicate n Step ++ (Step ∷ es) ≡ replicate (suc n) Step ++ es
 one_step_more zero es = refl
@@ -86,6 +86,12 @@ module _ (schedule : Schedule) (input : List ℕ) where
     block_sent a b c before more =
         subst (λ es. Appends a c (run_sent (up_to_halt es s) s)) (sym (block_follows m n some alone))
         (sent_after (first_steps schedule input m) (nth_block m n) s t running so_far still a b c before more)
+
+    pub block_count : steps_in (up_to_halt (first_steps schedule input (m + n)) s)
+        ≡ steps_in (up_to_halt (first_steps schedule input m) s) + steps_in (up_to_halt (nth_block m n) t)
+    block_count =
+        ap (λ es. steps_in (up_to_halt es s)) (block_follows m n some alone)
+        ∙ count_after (first_steps schedule input m) (nth_block m n) s t running so_far still
 
     -- nothing comes after the step that halts
     pub block_ends : u ≡ run_after (up_to_halt (nth_block m n) t) t → is_halted u ≡ true

@@ -1,13 +1,14 @@
 -- So many steps of a machine, of which some were done at once after those so far.
-use Rattle.std.proofs.Common.{◌≡◌, ℕ, ◌+◌, ◌-◌, ◌<◌, ◌≤◌, zero, suc, true, false, ◌∷◌, ◌++◌, replicate, refl, sym, ap, ◌∙◌, subst, arith}
+use Rattle.std.proofs.Common.{◌≡◌, ℕ, ◌+◌, ◌-◌, ◌<◌, ◌≤◌, zero, suc, true, false, ◌∷◌, ◌++◌, replicate, sym, ap, ◌∙◌, subst, arith}
 use Rattle.std.specs.Prelude.{Option, List, [], is_some, option_to_list}
 use Rattle.std.specs.Io.KnownBytes.{Appends, Keeps}
 use Rattle.devices.specs.Devices.{Devices}
 use Rattle.hart.specs.declared.event.Event.TheVariants.{Step}
 use Rattle.hart.specs.State.{State}
 use Rattle.machine.specs.Run.{run_after, run_sent}
-use Rattle.sim_run.specs.Schedule.{is_halted, up_to_halt, IsCutShort}
-use Rattle.sim_run.proofs.Events.{AreRunning, all_are_met, state_after, sent_after, cut_after, cut_at_step, ends_at_halt}
+use Rattle.sim_run.specs.Schedule.{is_halted, steps_in, up_to_halt, IsCutShort}
+use Rattle.sim_run.proofs.Events.{AreRunning, all_are_met, state_after, sent_after, count_after, steps_in-steps, cut_after, cut_at_step}
+use Rattle.sim_run.proofs.Events.{ends_at_halt}
 
 steps_more : (n k : ℕ) → replicate n Step ++ replicate k Step ≡ replicate (n + k) Step
 steps_more zero k =
@@ -32,6 +33,12 @@ module _ (count n k : ℕ) (s t u : State) (running : is_halted s ≡ false)
   met_state =
       state_after (replicate n Step) (replicate k Step) s t running so_far still u at_steps
       ∙ ap (λ es. run_after (up_to_halt es s) s) (steps_more n k)
+
+  pub met_count : steps_in (up_to_halt (replicate n Step) s) ≡ n → steps_in (up_to_halt (replicate (n + k) Step) s) ≡ n + k
+  met_count before =
+      let more : steps_in (up_to_halt (replicate k Step) t) ≡ k = ap steps_in (all_are_met k t goes_on) ∙ steps_in-steps k in
+      let both = count_after (replicate n Step) (replicate k Step) s t running so_far still in
+      ap (λ es. steps_in (up_to_halt es s)) (sym (steps_more n k)) ∙ omega (arith, before, more, both)
 
   pub met_sent : (told : Option ℕ) (a b c : Option (List ℕ)) → run_sent (replicate k Step) t ≡ option_to_list told
       → Appends a b (run_sent (up_to_halt (replicate n Step) s) s) → Appends b c (option_to_list told)

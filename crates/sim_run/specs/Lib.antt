@@ -2,4 +2,5 @@
 pub mod CommandLine
 pub mod Schedule
 pub mod Verdict
+pub mod Ending
 pub mod Listing

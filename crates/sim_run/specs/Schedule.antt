@@ -40,6 +40,13 @@ first_steps schedule input zero = []
 first_steps schedule input (suc n) =
     first_steps schedule input n ++ around (byte_before schedule input (n + 1)) (is_tick_after schedule (n + 1))
 
+-- how many of the events are steps
+abbrev pub steps_in : List Event → ℕ
+steps_in [] = 0
+steps_in (Step ∷ es) = suc (steps_in es)
+steps_in (Tick ∷ es) = steps_in es
+steps_in (Byte b ∷ es) = steps_in es
+
 -- Between the n steps after the first m comes no byte, and no tick.
 pub record AreAlone (schedule : Schedule) (input : List ℕ) (m n : ℕ) : Type 0 where
   pub bytes : (j : ℕ) → 1 ≤ j → j < n → byte_before schedule input (m + j + 1) ≡ None

@@ -11,11 +11,11 @@ mod reading;
 mod run;
 mod schedule;
 
-pub use ending::verdict;
+pub use ending::{ending_line, verdict};
 pub use fault::PlanFault;
 pub use layout::Layout;
 pub use listing::list;
 pub use plans::Plan;
 pub use reading::plan;
-pub use run::run_scheduled;
+pub use run::{Ran, run_counted, run_scheduled};
 pub use schedule::Schedule;

@@ -4,7 +4,8 @@ ghost use Rattle.std.specs.Io.KnownBytes.{Appends, Keeps};
 ghost use Rattle.image.specs.Devices.{Counts};
 ghost use Rattle.hart.specs.declared.event.Event.TheVariants.{Step, Tick, Byte};
 ghost use Rattle.machine.specs.Run.{run_after, run_sent, end_of};
-ghost use Rattle.sim_run.specs.Schedule.{byte_before, is_tick_after, block, AreAlone, is_halted, up_to_halt, scheduled, IsCutShort, IsInRange};
+ghost use Rattle.sim_run.specs.Schedule.{byte_before, is_tick_after, block, AreAlone, is_halted, steps_in};
+ghost use Rattle.sim_run.specs.Schedule.{up_to_halt, scheduled, IsCutShort, IsInRange};
 
 use crate::schedule::Schedule;
 use cap_bounds::CapRep;
@@ -110,17 +111,20 @@ fn pass<C: CapRep>(machine: &mut Machine<C>, ticks: bool)
     }
 }
 
-/// Does so many steps, or those up to the one that halts the machine, and writes each byte that they send at once.
+/// Does so many steps, or those up to the one that halts the machine, and writes each byte that they send at once. Answers how many
+/// steps were done.
 fn meet_steps<C: CapRep, W: Sink>(
     machine: &mut Machine<C>,
     count: u64,
     sink: &mut W,
-) -> Result<(), DeviceFailed>
+) -> Result<u64, DeviceFailed>
     requires failed { W.failed sink.old < 2 ^ 64 - 1 }
     requires running { is_halted machine.old ≡ false }
     ensures state { OnOk result (machine.new ≡ run_after (up_to_halt (replicate count Step) machine.old) machine.old) }
     ensures ok { OnOk result (Appends (W.held sink.old) (W.held sink.new)
         (run_sent (up_to_halt (replicate count Step) machine.old) machine.old)) }
+    ensures steps { IfOk result (λ n. n ≡ steps_in (up_to_halt (replicate count Step) machine.old)) }
+    ensures few { IfOk result (λ n. n ≤ count) }
     ensures err { OnErr result (IsCutShort (up_to_halt (replicate count Step) machine.old) machine.old machine.new
         (W.held sink.old) (W.held sink.new)) }
     ensures count { Counts (W.failed sink.old) (W.failed sink.new) result }
@@ -130,35 +134,82 @@ fn meet_steps<C: CapRep, W: Sink>(
         let met = machine.advance(count - done);
         write_sent(met.byte, sink)?;
         if machine.halted().is_some() {
-            return Ok(());
+            return Ok(done + met.steps);
         }
         done += met.steps;
     }
-    Ok(())
+    Ok(done)
 }
 
-/// Does so many steps, with the byte before the first of them and the tick after the last.
+/// Does so many steps, with the byte before the first of them and the tick after the last. Answers how many steps were done.
 fn meet_block<C: CapRep, W: Sink>(
     machine: &mut Machine<C>,
     byte: Option<u8>,
     count: u64,
     ticks: bool,
     sink: &mut W,
-) -> Result<(), DeviceFailed>
+) -> Result<u64, DeviceFailed>
     requires failed { W.failed sink.old < 2 ^ 64 - 1 }
     requires running { is_halted machine.old ≡ false }
     ensures state { OnOk result (machine.new ≡ run_after (up_to_halt (block byte count ticks) machine.old) machine.old) }
     ensures ok { OnOk result (Appends (W.held sink.old) (W.held sink.new)
         (run_sent (up_to_halt (block byte count ticks) machine.old) machine.old)) }
+    ensures steps { IfOk result (λ n. n ≡ steps_in (up_to_halt (block byte count ticks) machine.old)) }
+    ensures few { IfOk result (λ n. n ≤ count) }
     ensures err { OnErr result (IsCutShort (up_to_halt (block byte count ticks) machine.old) machine.old machine.new
         (W.held sink.old) (W.held sink.new)) }
     ensures count { Counts (W.failed sink.old) (W.failed sink.new) result }
 {
     bring(machine, byte);
-    meet_steps(machine, count, sink)?;
+    let steps = meet_steps(machine, count, sink)?;
     let running = machine.halted().is_none();
     pass(machine, ticks && running);
-    Ok(())
+    Ok(steps)
+}
+
+/// What a run came to.
+#[derive(Clone, Copy, Debug, PartialEq, Eq)]
+pub struct Ran {
+    /// How it ended.
+    pub end: End,
+    /// How many steps were done, at most those of its schedule.
+    pub steps: u64,
+}
+
+/// Runs a machine as `run_scheduled` does, and answers with the run's end how many steps were done.
+pub fn run_counted<C: CapRep, W: Sink>(
+    machine: &mut Machine<C>,
+    schedule: Schedule,
+    input: &[u8],
+    sink: &mut W,
+) -> Result<Ran, DeviceFailed>
+    requires range { IsInRange schedule }
+    requires running { is_halted machine.old ≡ false }
+    requires failed { W.failed sink.old < 2 ^ 64 - 1 }
+    ensures state { OnOk result (machine.new ≡ run_after (scheduled schedule input.now machine.old) machine.old) }
+    ensures bytes { OnOk result (Appends (W.held sink.old) (W.held sink.new)
+        (run_sent (scheduled schedule input.now machine.old) machine.old)) }
+    ensures end { IfOk result (λ ran. ran.end ≡ end_of machine.new) }
+    ensures steps { IfOk result (λ ran. ran.steps ≡ steps_in (scheduled schedule input.now machine.old)) }
+    ensures cut { OnErr result (IsCutShort (scheduled schedule input.now machine.old) machine.old machine.new
+        (W.held sink.old) (W.held sink.new)) }
+    ensures count { Counts (W.failed sink.old) (W.failed sink.new) result }
+{
+    let mut done = 0;
+    let mut steps = 0;
+    while done < schedule.steps {
+        let byte = schedule.byte_before(input, done + 1);
+        let count = schedule.steps_alone(input, done);
+        let ticks = schedule.is_tick_after(done + count);
+        steps += meet_block(machine, byte, count, ticks, sink)?;
+        if let Some(number) = machine.halted() {
+            let end = End::Halted(number);
+            return Ok(Ran { end, steps });
+        }
+        done += count;
+    }
+    let end = End::Running;
+    Ok(Ran { end, steps })
 }
 
 /// Runs a machine that is not halted by a schedule, gives it the bytes of `input`, and writes each byte that it sends at once.
@@ -182,16 +233,5 @@ pub fn run_scheduled<C: CapRep, W: Sink>(
         (W.held sink.old) (W.held sink.new)) }
     ensures count { Counts (W.failed sink.old) (W.failed sink.new) result }
 {
-    let mut done = 0;
-    while done < schedule.steps {
-        let byte = schedule.byte_before(input, done + 1);
-        let count = schedule.steps_alone(input, done);
-        let ticks = schedule.is_tick_after(done + count);
-        meet_block(machine, byte, count, ticks, sink)?;
-        if let Some(number) = machine.halted() {
-            return Ok(End::Halted(number));
-        }
-        done += count;
-    }
-    Ok(End::Running)
+    Ok(run_counted(machine, schedule, input, sink)?.end)
 }

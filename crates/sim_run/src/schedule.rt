@@ -1,4 +1,4 @@
-ghost use Rattle.std.specs.Prelude.{◌≡◌, ◌↔◌, IsTrue};
+ghost use Rattle.std.specs.Prelude.{ℕ, ◌+◌, ◌*◌, ◌<◌, ◌≤◌, ◌↔◌, IsTrue};
 ghost use Rattle.sim_run.specs.Schedule.{IsInRange};
 
 /// When a run ends, and when bytes and ticks come.
@@ -22,5 +22,14 @@ impl Schedule {
             && 1 <= self.gap
             && self.gap <= 1_000_000
             && self.tick <= 1_000_000
+    }
+
+    /// How many bytes of its input a run by this schedule can use: each byte comes before a step, and those behind them never come.
+    pub fn most_bytes(self) -> u64
+        requires { IsInRange self }
+        ensures used { (i : ℕ) → i < result → 1 + i * self.gap ≤ self.steps }
+        ensures unused { (i : ℕ) → result ≤ i → self.steps < 1 + i * self.gap }
+    {
+        (self.steps - 1) / self.gap + 1
     }
 }

@@ -1,8 +1,8 @@
 use Rattle.std.proofs.Common.{◌≡◌, ◌-◌, ◌≤◌, false}
 use Rattle.std.specs.Io.KnownBytes.{Appends}
 use Rattle.machine.specs.Run.{run_after, run_sent}
-use Rattle.sim_run.specs.Schedule.{first_steps, is_halted, up_to_halt}
-use Rattle.sim_run.proofs.run.run_scheduled.Given as goal
+use Rattle.sim_run.specs.Schedule.{first_steps, is_halted, steps_in, up_to_halt}
+use Rattle.sim_run.proofs.run.run_counted.Given as goal
 
 -- the machine met the events of the steps so far, and what it sent is written
 abbrev pub invariant-loop-done : goal.invariant-loop-done
@@ -11,6 +11,8 @@ invariant-loop-done g l = record {
   state : l.machine ≡ run_after (up_to_halt (first_steps l.schedule l.input l.done) l.fn.machine) l.fn.machine;
   bytes : Appends (g.W.Sink.held l.fn.sink) (g.W.Sink.held l.sink)
       (run_sent (up_to_halt (first_steps l.schedule l.input l.done) l.fn.machine) l.fn.machine);
+  steps : l.steps ≡ steps_in (up_to_halt (first_steps l.schedule l.input l.done) l.fn.machine);
+  at_most : l.steps ≤ l.done;
   running : is_halted l.machine ≡ false;
   count : g.W.Sink.failed l.sink ≡ g.W.Sink.failed l.fn.sink;
 }

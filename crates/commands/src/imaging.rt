@@ -1,0 +1,65 @@
+//! The command `image`.
+
+use crate::fault::ProgramFault;
+use crate::files::{Folder, read_beginning, write_image};
+use base::ram;
+use image::{Image, ImageFault};
+use sim_run::Layout;
+use std::alloc::Global;
+
+/// How many bytes of a flat file are read: one more than RAM has room for, so that a file that is too large is known by it.
+fn most_bytes(pages: Option<u64>) -> u64 {
+    let most = u64::from(ram::MOST_PAGES);
+    pages.unwrap_or(most).min(most) * ram::PAGE_BYTES + 1
+}
+
+/// The fewest pages of RAM that hold so many bytes from an address on: at least one, and no more than there can be.
+fn fewest_pages(at: u64, count: u64) -> u64 {
+    let end = at.saturating_sub(ram::BASE).saturating_add(count);
+    end.div_ceil(ram::PAGE_BYTES)
+        .clamp(1, u64::from(ram::MOST_PAGES))
+}
+
+/// A number of an image's header, which has 32 bits; the greatest stands for those beyond it, which are refused as it is.
+fn header_number(number: u64) -> u32 {
+    u32::try_from(number).unwrap_or(u32::MAX)
+}
+
+/// An image of a section of bytes: of version 2 where version 1 cannot have so many pages.
+fn image_of(
+    alloc: Global,
+    pages: u64,
+    entry: u64,
+    mode: u64,
+    section: (u64, &[u8]),
+) -> Result<Image, ImageFault> {
+    let pages = header_number(pages);
+    let mode = header_number(mode);
+    if pages > ram::MOST_PAGES_VERSION_1 {
+        Image::build_v2(alloc, pages, entry, mode, &[section], &[])
+    } else {
+        Image::build(alloc, pages, entry, mode, &[section])
+    }
+}
+
+/// Makes an image of the bytes of the file `flat`, and writes it to the file `output`.
+pub fn image_file<'a, F: Folder>(
+    alloc: Global,
+    folder: &mut F,
+    flat: &'a str,
+    output: &'a str,
+    layout: Layout,
+) -> Result<(), ProgramFault<'a>> {
+    let bytes = read_beginning(alloc, folder, flat, most_bytes(layout.pages))?;
+    let at = layout.at.unwrap_or(ram::BASE);
+    let pages = match layout.pages {
+        Some(pages) => pages,
+        None => fewest_pages(at, bytes.len() as u64),
+    };
+    let entry = layout.entry.unwrap_or(at);
+    let mode = layout.mode.unwrap_or(0);
+    let image = image_of(alloc, pages, entry, mode, (at, bytes.as_slice())).map_err(
+        |fault| ProgramFault::File(flat, fault),
+    )?;
+    write_image(folder, output, &image)
+}

@@ -1,0 +1,23 @@
+-- The names of causes by their numbers, and of the register at fault.
+use Rattle.std.specs.Prelude.{ℕ, ◌-◌, true, nat_lt, if◌then◌else◌, List, Option, None, map}
+use Rattle.asm_names.specs.Registers.{register_name}
+use Rattle.asm_names.specs.SpecialNames.{name_in, scr_name}
+use Rattle.trap_texts.specs.declared.names.TheConstants.{CAUSES, CHERI_CAUSES}
+
+-- each cause as mcause holds it, with the bytes of its name; and what a capability forbids
+abbrev pub causes : List (ℕ × List ℕ)
+causes = map (λ c. (c.0, c.1.now)) CAUSES
+
+abbrev pub cheri_causes : List (ℕ × List ℕ)
+cheri_causes = map (λ c. (c.0, c.1.now)) CHERI_CAUSES
+
+unfoldable pub cause_name : ℕ → Option (List ℕ)
+cause_name mcause = name_in causes mcause
+
+unfoldable pub cheri_cause_name : ℕ → Option (List ℕ)
+cheri_cause_name number = name_in cheri_causes number
+
+-- the register at fault: below 32 a capability register, from 32 on a special one
+unfoldable pub register_at_fault : ℕ → Option (List ℕ)
+register_at_fault number =
+    if nat_lt number 32 then register_name true number else (if nat_lt number 64 then scr_name (number - 32) else None)

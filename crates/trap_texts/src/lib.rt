@@ -1,0 +1,8 @@
+//! The texts of traps: what mcause and mtval say, in words.
+#![tactic(auto)]
+
+mod names;
+mod text;
+
+pub use names::{CAUSES, CHERI_CAUSES, cause_name, cheri_cause_name, register_at_fault};
+pub use text::trap_text;
