@@ -24,8 +24,7 @@ PLANS = [
     ("image hello.bin hello.img --at 0xFFFFffffFFFFffff --pages 0", "image hello.bin hello.img 18446744073709551615 - 0 -"),
     ("dis hello.img", "dis hello.img -"),
     ("dis hello.img --symbols hello.sym", "dis hello.img hello.sym"),
-    ("debug hello.img", "debug hello.img -"),
-    ("debug --symbols=hello.sym hello.img", "debug hello.img hello.sym"),
+    ("debug hello.img", "debug hello.img"),
     ("bounds 0x80000000 0x1001", "bounds 2147483648 4097 -"),
     ("bounds 0 18446744073709551615 --address 007", "bounds 0 18446744073709551615 7"),
 ]
@@ -37,6 +36,7 @@ REFUSED = [
     ("dis hello.img more", "more"),
     ("debug", "IMAGE"),
     ("debug hello.img more", "more"),
+    ("debug --symbols=hello.sym hello.img", "symbols"),
     ("asm hello.s", "OUT"),
     ("asm hello.s hello.img more", "more"),
     ("run", "IMAGE"),

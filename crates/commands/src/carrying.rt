@@ -3,6 +3,7 @@
 ghost use Rattle.sim_run.specs.CommandLine.{IsSound};
 
 use crate::assembling::assemble_file;
+use crate::bounding::show_bounds;
 use crate::debugging::debug_file;
 use crate::fault::ProgramFault;
 use crate::files::Folder;
@@ -84,8 +85,12 @@ fn carry_out<'a, F: Folder, I: Read + Drop, O: Write + Drop>(
                 Done::Place(ended)
             })
         }
-        Plan::Asm { input, output, .. } => {
-            assemble_file(alloc, folder, input, output)?;
+        Plan::Asm {
+            input,
+            output,
+            symbols,
+        } => {
+            assemble_file(alloc, folder, input, output, symbols)?;
             Ok(Done::All)
         }
         Plan::Image {
@@ -96,12 +101,20 @@ fn carry_out<'a, F: Folder, I: Read + Drop, O: Write + Drop>(
             image_file(alloc, folder, flat, output, layout)?;
             Ok(Done::All)
         }
-        Plan::Dis { image, .. } => {
-            list_file(alloc, folder, image, output)?;
+        Plan::Dis { image, symbols } => {
+            list_file(alloc, folder, image, symbols, output)?;
             Ok(Done::All)
         }
-        Plan::Debug { image, .. } => {
+        Plan::Debug { image } => {
             debug_file(alloc, folder, image, input, output)?;
+            Ok(Done::All)
+        }
+        Plan::Bounds {
+            base,
+            length,
+            address,
+        } => {
+            show_bounds(base, length, address, output)?;
             Ok(Done::All)
         }
     }

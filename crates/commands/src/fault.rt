@@ -32,15 +32,18 @@ pub enum ProgramFault<'a> {
     /// A file is no image, or its bytes make none, or it could not be read.
     #[error("{}: {}", .0, image_text(.1))]
     File(&'a str, ImageFault),
+    /// A line of a table of symbols is none: its file, and the line's number.
+    #[error("{0}: line {1}: no address and label")]
+    Symbols(&'a str, u64),
     /// A file could not be written to its end.
     #[error("{0}: L10 device failed: the file is cut short")]
     CutShort(&'a str),
     /// There is no image.
     #[error("{}", image_text(.0))]
     Image(#[from] ImageFault),
-    /// A text is not assembled: its file, the first faulty line, and its first fault.
-    #[error("{}: line {}: {}", .0, .1.line, asm_text(.1.code))]
-    Asm(&'a str, AsmFault),
+    /// A text is not assembled: its file, the first faulty line and its first fault, and what was read there, if that says more.
+    #[error("{}: line {}: {}{}{}", .0, .1.line, asm_text(.1.code), colon_before(.2), text_of(.2))]
+    Asm(&'a str, AsmFault, Vec<u8>),
     /// No machine could be made.
     #[error("{}", machine_text(.0))]
     Machine(#[from] MachineFault),
@@ -85,6 +88,16 @@ fn asm_text(code: AsmCode) -> &'static str {
         AsmCode::A10 => "A10 no memory",
         AsmCode::A11 => "A11 capability not exact",
     }
+}
+
+/// What stands between the words of a fault and what was read: nothing where nothing was.
+fn colon_before(read: &[u8]) -> &'static str {
+    if read.is_empty() { "" } else { ": " }
+}
+
+/// What was read, which is ASCII.
+fn text_of(read: &[u8]) -> &str {
+    str::from_utf8(read).unwrap_or("")
 }
 
 /// The code and the words of a fault of a machine.

@@ -1,10 +1,11 @@
 //! What the program reads from files and writes to them.
 
 use crate::fault::{ProgramFault, opening_fault, reading_fault};
-use image::{FromRead, Image, ToWrite};
+use image::{FromRead, Image, ToWrite, write_all};
 use std::alloc::Global;
 use std::io;
 use std::io::{Read, Write};
+use symbols::{Symbols, SymbolsFault, read_symbols};
 
 /// The files that a program reaches by their names.
 pub trait Folder {
@@ -69,4 +70,29 @@ pub fn write_image<'a, F: Folder>(
         .make(name)
         .map_err(|error| opening_fault(name, &error))?;
     image::write(image, &mut ToWrite::new(file)).map_err(|_| ProgramFault::CutShort(name))
+}
+
+/// Writes bytes to a new file of this name, or to the one that there is, emptied.
+pub fn write_bytes<'a, F: Folder>(
+    folder: &mut F,
+    name: &'a str,
+    bytes: &[u8],
+) -> Result<(), ProgramFault<'a>> {
+    let file = folder
+        .make(name)
+        .map_err(|error| opening_fault(name, &error))?;
+    write_all(&mut ToWrite::new(file), bytes).map_err(|_| ProgramFault::CutShort(name))
+}
+
+/// The table of symbols of a file.
+pub fn read_table<'a, F: Folder>(
+    alloc: Global,
+    folder: &mut F,
+    name: &'a str,
+) -> Result<Symbols, ProgramFault<'a>> {
+    let text = read_file(alloc, folder, name)?;
+    read_symbols(alloc, &text).map_err(|fault| match fault {
+        SymbolsFault::Line(number) => ProgramFault::Symbols(name, number),
+        SymbolsFault::Memory => ProgramFault::Memory,
+    })
 }

@@ -1,21 +1,29 @@
 //! The command `dis`.
 
 use crate::fault::ProgramFault;
-use crate::files::{Folder, read_image};
+use crate::files::{Folder, read_image, read_table};
 use image::{DeviceFailed, ToWrite};
+use image_listing::list_named;
 use sim_run::list;
 use std::alloc::Global;
 use std::io::{BufWriter, Write};
 
-/// Lists the image of a file on `output`, a block of lines at a time.
+/// Lists the image of a file on `output`, a block of lines at a time, with the labels of the file `symbols` if one is named.
 pub fn list_file<'a, F: Folder, O: Write + Drop>(
     alloc: Global,
     folder: &mut F,
     name: &'a str,
+    symbols: Option<&'a str>,
     output: O,
 ) -> Result<(), ProgramFault<'a>> {
     let image = read_image(alloc, folder, name)?;
     let mut lines = BufWriter::new(alloc, output).map_err(|_| ProgramFault::Memory)?;
-    list(&image, &mut ToWrite::new(&mut lines))?;
+    match symbols {
+        Some(table) => {
+            let table = read_table(alloc, folder, table)?;
+            list_named(&image, &table, &mut ToWrite::new(&mut lines))?;
+        }
+        None => list(&image, &mut ToWrite::new(&mut lines))?,
+    }
     lines.flush().map_err(|_| ProgramFault::Write(DeviceFailed))
 }

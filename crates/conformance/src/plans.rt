@@ -75,10 +75,7 @@ fn put_reader(text: &mut String, plan: &Plan) -> Result<(), AllocError> {
             let symbols = symbols.unwrap_or("-");
             write!(text, "dis {image} {symbols}")
         }
-        Plan::Debug { image, symbols } => {
-            let symbols = symbols.unwrap_or("-");
-            write!(text, "debug {image} {symbols}")
-        }
+        Plan::Debug { image } => write!(text, "debug {image}"),
         Plan::Bounds {
             base,
             length,

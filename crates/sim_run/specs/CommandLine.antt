@@ -68,9 +68,9 @@ run_command = with_options (with_rule (with_rule (new_app (codes "run")) (operan
 abbrev pub dis_command : App
 dis_command = with_symbols (with_rule (new_app (codes "dis")) (operand (codes "IMAGE")))
 
--- debug IMAGE [--symbols FILE]
+-- debug IMAGE
 abbrev pub debug_command : App
-debug_command = with_symbols (with_rule (new_app (codes "debug")) (operand (codes "IMAGE")))
+debug_command = with_rule (new_app (codes "debug")) (operand (codes "IMAGE"))
 
 -- bounds BASE LENGTH [--address ADDRESS]
 abbrev pub bounds_command : App
@@ -138,8 +138,7 @@ IsPlanOfCommand name rows (Run image schedule input quiet) =
     × IsFile (codes "input") rows input × (quiet ≡ is_used (codes "quiet") rows)
 IsPlanOfCommand name rows (Dis image symbols) =
     (name ≡ codes "dis") × (first_of (codes "IMAGE") rows ≡ Some image.now) × IsFile (codes "symbols") rows symbols
-IsPlanOfCommand name rows (Debug image symbols) =
-    (name ≡ codes "debug") × (first_of (codes "IMAGE") rows ≡ Some image.now) × IsFile (codes "symbols") rows symbols
+IsPlanOfCommand name rows (Debug image) = (name ≡ codes "debug") × (first_of (codes "IMAGE") rows ≡ Some image.now)
 IsPlanOfCommand name rows (Bounds base length address) =
     (name ≡ codes "bounds")
     × IsNatural (codes "BASE") rows (Some base) × IsNatural (codes "LENGTH") rows (Some length)
@@ -162,7 +161,7 @@ IsSound (Asm input output symbols) =
 IsSound (Image flat output layout) = IsTrue (not (bytes_eq flat.now output.now))
 IsSound (Run image schedule input quiet) = IsInRange schedule
 IsSound (Dis image symbols) = ⊤
-IsSound (Debug image symbols) = ⊤
+IsSound (Debug image) = ⊤
 IsSound (Bounds base length address) = ⊤
 IsSound First = ⊤
 

@@ -196,14 +196,9 @@ fn debug_command<'a>(alloc: Global) -> Result<Command<'a>, AllocError>
     ensures app { IfOk result (λ c. app_of c ≡ debug_command) }
     ensures local { IfOk result (λ c. (out-Command c).has_globals ≡ false) }
 {
-    let debug = Command::new(alloc, "debug")
+    Command::new(alloc, "debug")
         .about("Debugs an image: commands from standard input, replies to standard output")
-        .arg(operand(alloc, "IMAGE", "The file with the image"))?;
-    with_symbols(
-        alloc,
-        debug,
-        "A file with labels, which stand for addresses",
-    )
+        .arg(operand(alloc, "IMAGE", "The file with the image"))
 }
 
 fn bounds_command<'a>(alloc: Global) -> Result<Command<'a>, AllocError>

@@ -44,8 +44,6 @@ pub enum Plan<'a> {
     Debug {
         /// The file with the image.
         image: &'a str,
-        /// The file with its labels, if one is named.
-        symbols: Option<&'a str>,
     },
     /// Say what setting bounds gives.
     Bounds {

@@ -204,7 +204,6 @@ fn debug_plan<'a>(found: &ArgMatches<'a>) -> Result<Plan<'a>, Misfit>
 {
     Ok(Plan::Debug {
         image: operand(found, "IMAGE")?,
-        symbols: text(found, "symbols"),
     })
 }
 
