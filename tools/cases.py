@@ -33,6 +33,7 @@ SOURCES = [
     "asm_lines",
     "asm_names",
     "shown_vectors",
+    "bounds_texts",
     "sessions",
     "command_lines",
     "compartments",

@@ -36,6 +36,7 @@ REST = [
      "asm_names/specs/Mnemonic, Registers, SpecialNames, Slots; asm_lines/specs/Text, Number, Operand, Statement, Line"),
     ("a text: what it means", "assembler/specs/Places, Values, Bytes, Faults, Text"),
     ("shown texts", "disassembler/specs/Hex, Shown"),
+    ("what setting bounds gives, as a text", "bounds_text/specs/WindowEnds, Picture, BoundsText"),
     ("sessions", "debugger/specs/Capability, Command, Reply, Answers, Conversation, Talk"),
     ("the command line and runs on a schedule",
      "trap_texts/specs/Names, Text; sim_run/specs/CommandLine, Schedule, Verdict, Ending, Listing"),

@@ -2,6 +2,7 @@
 #![tactic(auto)]
 
 mod assembling;
+mod bounding;
 mod carrying;
 mod debugging;
 mod fault;

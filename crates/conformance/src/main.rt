@@ -7,6 +7,7 @@
 
 mod agreements;
 mod assemblies;
+mod bounds;
 mod bytes;
 mod capability_rows;
 mod case;
@@ -84,6 +85,7 @@ enum Table {
     Names,
     Shown,
     Digits,
+    Bounds,
     Sessions,
     Talks,
     Plans,
@@ -93,7 +95,7 @@ enum Table {
 }
 
 /// The files by name, without their endings, in the order in which they are tried.
-const FILES: [(&str, Table); 37] = [
+const FILES: [(&str, Table); 38] = [
     ("words", Table::Words),
     ("parts", Table::Parts),
     ("windows", Table::Windows),
@@ -124,6 +126,7 @@ const FILES: [(&str, Table); 37] = [
     ("names", Table::Names),
     ("shown", Table::Shown),
     ("digits", Table::Digits),
+    ("bounds", Table::Bounds),
     ("sessions", Table::Sessions),
     ("talks", Table::Talks),
     ("runs", Table::Programs),
@@ -195,6 +198,7 @@ impl Table {
             Table::Names => names::answer(alloc, inputs),
             Table::Shown => shown::word(alloc, inputs),
             Table::Digits => shown::digits(alloc, inputs),
+            Table::Bounds => bounds::answer::<C>(alloc, read),
             Table::Sessions => sessions::answer(alloc, form, inputs),
             Table::Talks => talks::answer(alloc, form, inputs),
             Table::Plans => plans::answer(alloc, inputs),
