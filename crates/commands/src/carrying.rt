@@ -29,27 +29,16 @@ const VERSION: &str = "cherisim 0.1.0\n";
 enum Done {
     /// All of it.
     All,
-    /// A run that ended so; where it did is not to be told.
-    Run(Ended),
-    /// A run that ended so; where it did is to be told too.
-    Place(Ended),
+    /// A run that ended so, and whether where it did is left out.
+    Run(Ended, bool),
 }
 
-/// Tells how a run ended, and answers the status.
-fn tell_end<E: Write>(errors: &mut E, ended: &Ended) -> u8 {
+/// Tells how a run ended, and where unless it is to be quiet; and answers the status.
+fn tell_end<E: Write>(errors: &mut E, ended: &Ended, quiet: bool) -> u8 {
     let (status, line) = verdict(ended.end);
-    if status != 0 {
-        let _ = writeln!(errors, "{line}");
-    }
-    status
-}
-
-/// Tells how and where a run ended, and answers the status.
-fn tell_place<E: Write>(errors: &mut E, ended: &Ended) -> u8 {
-    let status = tell_end(errors, ended);
-    if status != 0 {
-        let line = ended.place;
-        let _ = writeln!(errors, "{line}");
+    if status != 0 && writeln!(errors, "{line}").is_ok() && !quiet {
+        let place = ended.place;
+        let _ = writeln!(errors, "{place}");
     }
     status
 }
@@ -71,7 +60,7 @@ fn carry_out<'a, F: Folder, I: Read + Drop, O: Write + Drop>(
     requires { IsSound plan }
 {
     match plan {
-        Plan::First => Ok(Done::Run(run_first(alloc, output)?)),
+        Plan::First => Ok(Done::Run(run_first(alloc, output)?, false)),
         Plan::Run {
             image,
             schedule,
@@ -79,11 +68,7 @@ fn carry_out<'a, F: Folder, I: Read + Drop, O: Write + Drop>(
             quiet,
         } => {
             let ended = run_file(alloc, folder, image, schedule, input, output)?;
-            Ok(if quiet {
-                Done::Run(ended)
-            } else {
-                Done::Place(ended)
-            })
+            Ok(Done::Run(ended, quiet))
         }
         Plan::Asm {
             input,
@@ -163,8 +148,7 @@ pub fn status_of<F: Folder, I: Read + Drop, O: Write + Drop, E: Write>(
     };
     match carry_out(alloc, folder, input, output, plan) {
         Ok(Done::All) => 0,
-        Ok(Done::Run(ended)) => tell_end(errors, &ended),
-        Ok(Done::Place(ended)) => tell_place(errors, &ended),
+        Ok(Done::Run(ended, quiet)) => tell_end(errors, &ended, quiet),
         Err(fault) => tell_fault(errors, &fault),
     }
 }

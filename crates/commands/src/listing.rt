@@ -18,12 +18,25 @@ pub fn list_file<'a, F: Folder, O: Write + Drop>(
 ) -> Result<(), ProgramFault<'a>> {
     let image = read_image(alloc, folder, name)?;
     let mut lines = BufWriter::new(alloc, output).map_err(|_| ProgramFault::Memory)?;
-    match symbols {
+    let listed = match symbols {
         Some(table) => {
             let table = read_table(alloc, folder, table)?;
-            list_named(&image, &table, &mut ToWrite::new(&mut lines))?;
+            list_named(&image, &table, &mut ToWrite::new(&mut lines))
         }
-        None => list(&image, &mut ToWrite::new(&mut lines))?,
+        None => list(&image, &mut ToWrite::new(&mut lines)),
+    };
+    if listed.is_err() {
+        return Err(cut_short(lines));
     }
-    lines.flush().map_err(|_| ProgramFault::Write(DeviceFailed))
+    match lines.into_inner() {
+        Ok(_) => Ok(()),
+        Err(error) => Err(cut_short(error.into_inner())),
+    }
+}
+
+/// The fault of a listing that was cut short. What is left of its block is let go: written when the writer is dropped it would stand
+/// behind a gap.
+fn cut_short<'a, O: Write + Drop>(lines: BufWriter<O>) -> ProgramFault<'a> {
+    let _ = lines.into_parts();
+    ProgramFault::Write(DeviceFailed)
 }
