@@ -17,12 +17,13 @@ pub fn list_file<'a, F: Folder, O: Write + Drop>(
     output: O,
 ) -> Result<(), ProgramFault<'a>> {
     let image = read_image(alloc, folder, name)?;
+    let table = match symbols {
+        Some(table) => Some(read_table(alloc, folder, table)?),
+        None => None,
+    };
     let mut lines = BufWriter::new(alloc, output).map_err(|_| ProgramFault::Memory)?;
-    let listed = match symbols {
-        Some(table) => {
-            let table = read_table(alloc, folder, table)?;
-            list_named(&image, &table, &mut ToWrite::new(&mut lines))
-        }
+    let listed = match &table {
+        Some(table) => list_named(&image, table, &mut ToWrite::new(&mut lines)),
         None => list(&image, &mut ToWrite::new(&mut lines)),
     };
     if listed.is_err() {
