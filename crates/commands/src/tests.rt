@@ -8,22 +8,23 @@ use cap_bounds::CapRep;
 use debugger::TalkFault;
 use image::{DeviceFailed, Image, ImageFault};
 use machine::{Machine, MachineFault};
+use std::io::ErrorKind;
 use std::mem::size_of;
 use std::test::Fail;
 use word_cap::WordCap;
 
 static ASM_TEXTS: &[(AsmCode, &str)] = &[
-    (AsmCode::A1, "line 7: A1 unknown mnemonic"),
-    (AsmCode::A2, "line 7: A2 operands"),
-    (AsmCode::A3, "line 7: A3 immediate out of range"),
-    (AsmCode::A4, "line 7: A4 label twice"),
-    (AsmCode::A5, "line 7: A5 label unknown"),
-    (AsmCode::A6, "line 7: A6 target out of range"),
-    (AsmCode::A7, "line 7: A7 place"),
-    (AsmCode::A8, "line 7: A8 byte not ASCII"),
-    (AsmCode::A9, "line 7: A9 line too long"),
-    (AsmCode::A10, "line 7: A10 no memory"),
-    (AsmCode::A11, "line 7: A11 capability not exact"),
+    (AsmCode::A1, "a.s: line 7: A1 unknown mnemonic"),
+    (AsmCode::A2, "a.s: line 7: A2 operands"),
+    (AsmCode::A3, "a.s: line 7: A3 immediate out of range"),
+    (AsmCode::A4, "a.s: line 7: A4 label twice"),
+    (AsmCode::A5, "a.s: line 7: A5 label unknown"),
+    (AsmCode::A6, "a.s: line 7: A6 target out of range"),
+    (AsmCode::A7, "a.s: line 7: A7 place"),
+    (AsmCode::A8, "a.s: line 7: A8 byte not ASCII"),
+    (AsmCode::A9, "a.s: line 7: A9 line too long"),
+    (AsmCode::A10, "a.s: line 7: A10 no memory"),
+    (AsmCode::A11, "a.s: line 7: A11 capability not exact"),
 ];
 
 static IMAGE_TEXTS: &[(ImageFault, &str)] = &[
@@ -67,7 +68,10 @@ fn each_fault_has_its_text(rt: HostRuntime) -> Result<(), Fail> {
             line: 7,
             code: *code,
         };
-        assert!(rt; has_text(&rt, ProgramFault::Asm(fault), text)?, "{text}");
+        assert!(rt;
+            has_text(&rt, ProgramFault::Asm("a.s", fault), text)?,
+            "{text}"
+        );
     }
     for (fault, text) in IMAGE_TEXTS {
         assert!(rt; has_text(&rt, ProgramFault::Image(*fault), text)?, "{text}");
@@ -81,10 +85,24 @@ fn each_fault_has_its_text(rt: HostRuntime) -> Result<(), Fail> {
     for (fault, text) in TALK_TEXTS {
         assert!(rt; has_text(&rt, ProgramFault::Talk(*fault), text)?, "{text}");
     }
-    assert!(rt; has_text(&rt, ProgramFault::File("a.s"), "file a.s")?);
-    assert!(rt; has_text(&rt, ProgramFault::Read, "read failed")?);
     assert!(rt; has_text(&rt, ProgramFault::Write(DeviceFailed), "write failed")?);
     assert!(rt; has_text(&rt, ProgramFault::Memory, "no memory")?);
+    Ok(())
+}
+
+/// A fault of a file names it, with the system's reason where there is one.
+#[test]
+fn faults_of_files_name_them(rt: HostRuntime) -> Result<(), Fail> {
+    let none = ProgramFault::NoFile("a.s", ErrorKind::NotFound);
+    assert!(rt; has_text(&rt, none, "file a.s: entity not found")?);
+    let broken = ProgramFault::Read("a.s", ErrorKind::BrokenPipe);
+    assert!(rt; has_text(&rt, broken, "a.s: read failed: broken pipe")?);
+    assert!(rt; has_text(&rt, ProgramFault::Directory("d"), "d: is a directory")?);
+    let image = ProgramFault::File("a.img", ImageFault::L2);
+    assert!(rt; has_text(&rt, image, "a.img: L2 magic")?);
+    let cut = "a.img: L10 device failed: the file is cut short";
+    assert!(rt; has_text(&rt, ProgramFault::CutShort("a.img"), cut)?);
+    assert!(rt; has_text(&rt, ProgramFault::Words, "read failed")?);
     Ok(())
 }
 
