@@ -2,18 +2,13 @@
 
 use crate::fault::ProgramFault;
 use crate::files::{Folder, read_file, write_bytes, write_image};
-use assembler::{Assembly, AsmFault, assemble};
+use assembler::{AsmFault, Assembly, assemble};
 use fault_details::detail;
 use std::alloc::Global;
 use symbols::table_text;
 
 /// The fault of a text, with what was read of its line; where there is no memory for that, without it.
-fn faulty_text<'a>(
-    alloc: Global,
-    name: &'a str,
-    text: &[u8],
-    fault: AsmFault,
-) -> ProgramFault<'a> {
+fn faulty_text<'a>(alloc: Global, name: &'a str, text: &[u8], fault: AsmFault) -> ProgramFault<'a> {
     let read = detail(alloc, text, fault).unwrap_or_else(|_| Vec::new(alloc));
     ProgramFault::Asm(name, fault, read)
 }

@@ -69,7 +69,11 @@ fn each_fault_has_its_text(rt: HostRuntime) -> Result<(), Fail> {
             code: *code,
         };
         assert!(rt;
-            has_text(&rt, ProgramFault::Asm("a.s", fault), text)?,
+            has_text(
+                &rt,
+                ProgramFault::Asm("a.s", fault, Vec::new(rt.alloc())),
+                text
+            )?,
             "{text}"
         );
     }
