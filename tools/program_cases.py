@@ -3,6 +3,7 @@
 The statuses, the order of faults and the texts are those of the program's description; images and words are made here, field by field.
 """
 
+from bounds_texts import text as bounds_text
 from images import FIRST, header, section
 from quoting import quoted
 
@@ -82,6 +83,11 @@ def case(words, parts, status, opened="", sent=b"", told="", made=b""):
 def refused(words, parts):
     """A command line that is refused: its text is told, and no file is opened."""
     return case(words, parts, 2, told=TEXT_OF_CLAP)
+
+
+def shown(base, length, address):
+    """What the command `bounds` sends."""
+    return "".join(f"{line}\n" for line in bounds_text(base, length, address))
 
 
 def flat_image(data, pages=1, at=RAM, entry=RAM, mode=0, version=1):
@@ -174,13 +180,36 @@ def images():
                told="cherisim: out.img: L10 device failed: the file is cut short\n", made=flat_image(flat)[:3])
 
 
+def named():
+    yield "# labels: those of a text are written behind its image, and a listing shows those of a table"
+    yield case("asm a.s out.img --symbols a.sym", [TEXT], 3, "open a.s, make out.img, make a.sym",
+               told="cherisim: file a.sym: entity not found\n", made=FIRST)
+    table = 't "0000000080000000 start\\n000000008000000C halt\\n"'
+    lines = LISTED.splitlines(True)
+    yield case("dis first.img --symbols t", [FILE, table], 0, "open first.img, open t",
+               "".join(["start:\n", *lines[:3], "halt:\n", *lines[3:]]))
+    yield case("dis first.img --symbols t", [FILE, 't ""'], 0, "open first.img, open t", LISTED)
+    yield case("dis first.img --symbols t", [FILE, table.replace(" halt", "  halt")], 3, "open first.img, open t",
+               told="cherisim: t: line 2: no address and label\n")
+    yield case("dis first.img --symbols none", [FILE], 3, "open first.img, open none", told="cherisim: file none: entity not found\n")
+    yield case("dis bad.img --symbols none", [BAD], 3, "open bad.img", told="cherisim: bad.img: L1 short header\n")
+    yield "# what setting bounds gives"
+    yield case("bounds 0x80000000 4097 --address 2147487744", [], 0, sent=shown(0x80000000, 4097, 0x80001000))
+    yield case("bounds 18446744073709551615 2", [], 0, sent=shown(2**64 - 1, 2, None))
+    yield case("bounds 0 1", ["output 0"], 3, told="cherisim: write failed\n")
+    yield "# what was read of a faulty line stands behind the fault's words"
+    for line, told in (("addi a0, a0, 4096", "A3 immediate out of range: 4096 (-2048 to 2047)"), ("j lop", "A5 label unknown: lop"),
+                       ("x: nop\\nx: nop", "A4 label twice: x"), ("addi a0", "A2 operands"), ("nop\\x01", "A8 byte not ASCII: 0x01 at column 4")):
+        yield case("asm a.s out.img", [f'a.s "{line}\\n"'], 3, "open a.s", told=f"cherisim: a.s: line {line.count('nop') if 'x:' in line else 1}: {told}\n")
+
+
 def faults():
     yield "# another fault: status 3, with its text"
     for command in ("asm none out.img", "run none 5", "dis none", "debug none"):
         yield case(command, [FILE], 3, "open none", told="cherisim: file none: entity not found\n")
     for command in ("run bad.img 5", "dis bad.img", "debug bad.img"):
         yield case(command, [BAD], 3, "open bad.img", told="cherisim: bad.img: L1 short header\n")
-    yield case("asm a.s out.img", ['a.s "nop\\nfrob a0\\n"'], 3, "open a.s", told="cherisim: a.s: line 2: A1 unknown mnemonic\n")
+    yield case("asm a.s out.img", ['a.s "nop\\nfrob a0\\n"'], 3, "open a.s", told="cherisim: a.s: line 2: A1 unknown mnemonic: frob\n")
     yield case("asm a.s out.img", [TEXT, "full"], 3, "open a.s, make out.img", told="cherisim: file out.img: entity not found\n")
     yield case("run first.img 5 --input none", [FILE], 3, "open first.img, open none", told="cherisim: file none: entity not found\n")
     yield "# the faults in order: the command line, the file that is read first, what it says, the other file, the work"
@@ -189,7 +218,7 @@ def faults():
     yield case("run none 5 --input nowhere", [], 3, "open none", told="cherisim: file none: entity not found\n")
     yield case("run bad.img 5 --input none", [BAD], 3, "open bad.img", told="cherisim: bad.img: L1 short header\n")
     yield case("asm none out.img", ["full"], 3, "open none", told="cherisim: file none: entity not found\n")
-    yield case("asm a.s out.img", ['a.s "frob\\nnop\\n"', "full"], 3, "open a.s", told="cherisim: a.s: line 1: A1 unknown mnemonic\n")
+    yield case("asm a.s out.img", ['a.s "frob\\nnop\\n"', "full"], 3, "open a.s", told="cherisim: a.s: line 1: A1 unknown mnemonic: frob\n")
     yield case("run first.img 5 --input none", [FILE, "output 0"], 3, "open first.img, open none", told="cherisim: file none: entity not found\n")
 
 
@@ -214,7 +243,7 @@ def failing():
     for words, opened in (("asm d out.img", "open d"), ("run d 5", "open d"), ("dis d", "open d"), ("debug d", "open d"),
                           ("image d out.img", "open d"), ("asm a.s d", "open a.s, make d"), ("run first.img 5 --input d", "open first.img, open d")):
         yield case(words, [FILE, TEXT, "directory d"], 3, opened, told="cherisim: d: is a directory\n")
-    yield from (case("asm a.s out.img", [TEXT, f"made {call}"], 3, "open a.s, make out.img", 
+    yield from (case("asm a.s out.img", [TEXT, f"made {call}"], 3, "open a.s, make out.img",
                      told="cherisim: out.img: L10 device failed: the file is cut short\n", made=FIRST[:call]) for call in (0, 1, 48, 67))
     yield case("asm a.s out.img", [TEXT, "made 68"], 0, "open a.s, make out.img", made=FIRST)
     yield case("run first.img 5", [FILE, "output 0"], 3, "open first.img", told="cherisim: write failed\n")
@@ -233,5 +262,5 @@ def failing():
 
 def files():
     lines = ["# a command line, files and streams => the status, what is opened and made, sent, told, and what stands in the file made"]
-    lines += [*ends(), *images(), *faults(), *failing()]
+    lines += [*ends(), *images(), *named(), *faults(), *failing()]
     yield "../../program_tests/data/commands.txt", lines
