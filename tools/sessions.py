@@ -7,6 +7,24 @@ In the texts here a line that begins with `! ` stands for lines of the state.
 
 from quoting import escaped, quoted
 
+# What `help` answers.
+COMMANDS = """\
+step N
+tick N
+byte B
+until ADDR N
+trap N
+reg R
+regs
+scr
+csr
+caps
+mem ADDR LEN
+dis ADDR N
+help
+quit
+"""
+
 # Sends `A` and halts with 0.
 FIRST_IMAGE = "lui a1, 0x10000; addi a0, zero, 65; sb a0, 0(a1); lui a1, 0x100; sd zero, 0(a1)"
 
@@ -276,40 +294,7 @@ events 1 out - pc 0000000000000000 running
 > csr
 ! csr mstatus=1880 mie=80 mepc=80000014 mcause=8000000000000007 mip=80 mcycle=6 minstret=5
 """),
-    ("The commands are listed, and nothing is changed", FIRST_IMAGE, """
-> help
-step N
-tick N
-byte B
-until ADDR N
-trap N
-reg R
-regs
-scr
-csr
-caps
-mem ADDR LEN
-dis ADDR N
-help
-quit
-> \\t\\thelp
-step N
-tick N
-byte B
-until ADDR N
-trap N
-reg R
-regs
-scr
-csr
-caps
-mem ADDR LEN
-dis ADDR N
-help
-quit
-> csr
-! csr
-"""),
+    ("The commands are listed, and nothing is changed", FIRST_IMAGE, "\n> help\n" + COMMANDS + "> \\t\\thelp\n" + COMMANDS + "> csr\n! csr\n"),
     ("A halt with the greatest number", "lui a1, 0x100; addi a0, zero, -1; sd a0, 0(a1)", """
 > step 3
 events 3 out - pc 000000008000000c halted 18446744073709551615
