@@ -6,7 +6,7 @@ Values are from the rules of the command line, of listings and of the schedule.
 from programs.items import csr, halted, integer, line, sent
 from quoting import quoted
 
-# A command line, and its plan: of a run the image, the steps, the gap, the tick and the input, and whether it is quiet.
+# A command line, and its plan: of a run the image, the steps, the gap, the tick and the input, whether it is quiet, and its trace.
 PLANS = [
     ("run hello.img 5", "run hello.img 5 1000 100 -"),
     ("run hello.img 1", "run hello.img 1 1000 100 -"),
@@ -15,6 +15,8 @@ PLANS = [
     ("run --gap=1000000 --tick=1000000 hello.img 22", "run hello.img 22 1000000 1000000 -"),
     ("run hello.img 22 --tick 0", "run hello.img 22 1000 0 -"),
     ("run hello.img 22 --quiet", "run hello.img 22 1000 100 - quiet"),
+    ("run hello.img 22 --trace hello.trace", "run hello.img 22 1000 100 - trace hello.trace"),
+    ("run hello.img 22 --trace=t --input keys --quiet", "run hello.img 22 1000 100 keys quiet trace t"),
     ("", "first"),
     ("asm hello.s hello.img", "asm hello.s hello.img -"),
     ("asm hello.s hello.img --symbols hello.sym", "asm hello.s hello.img hello.sym"),
@@ -24,7 +26,9 @@ PLANS = [
     ("image hello.bin hello.img --at 0xFFFFffffFFFFffff --pages 0", "image hello.bin hello.img 18446744073709551615 - 0 -"),
     ("dis hello.img", "dis hello.img -"),
     ("dis hello.img --symbols hello.sym", "dis hello.img hello.sym"),
-    ("debug hello.img", "debug hello.img"),
+    ("debug hello.img", "debug hello.img -"),
+    ("debug hello.img --symbols hello.sym", "debug hello.img hello.sym"),
+    ("debug --symbols=hello.sym hello.img", "debug hello.img hello.sym"),
     ("bounds 0x80000000 0x1001", "bounds 2147483648 4097 -"),
     ("bounds 0 18446744073709551615 --address 007", "bounds 0 18446744073709551615 7"),
 ]
@@ -36,7 +40,8 @@ REFUSED = [
     ("dis hello.img more", "more"),
     ("debug", "IMAGE"),
     ("debug hello.img more", "more"),
-    ("debug --symbols=hello.sym hello.img", "symbols"),
+    ("debug --symbols hello.sym", "IMAGE"),
+    ("debug hello.img --symbols", "--symbols"),
     ("asm hello.s", "OUT"),
     ("asm hello.s hello.img more", "more"),
     ("run", "IMAGE"),
@@ -51,6 +56,10 @@ REFUSED = [
     ("run hello.img 5 --input", "--input"),
     ("run hello.img 5 --speed 9", "--speed"),
     ("run hello.img 5 --quiet 1", "1"),
+    ("run hello.img 5 --trace", "--trace"),
+    ("run hello.img 5 --trace hello.img", "a file that is written"),
+    ("run hello.img 5 --trace keys --input keys", "a file that is written"),
+    ("run hello.img 0 --trace hello.img", "STEPS"),
     ("asm hello.s hello.s", "a file that is written"),
     ("asm hello.s hello.img --symbols hello.s", "a file that is written"),
     ("asm hello.s hello.img --symbols hello.img", "a file that is written"),
@@ -74,9 +83,11 @@ HELPED = [
     ("image --help", "--pages"),
     ("dis --help", "IMAGE"),
     ("debug --help", "standard input"),
+    ("debug --help", "--symbols"),
     ("run --help", "100000000"),
     ("run --help", "--tick"),
     ("run --help", "--quiet"),
+    ("run --help", "--trace"),
     ("bounds --help", "--address"),
 ]
 

@@ -65,6 +65,36 @@ BAD = 'bad.img "CHERIIMH"'
 TEXT_OF_CLAP = "a text"
 # a load at address 0, which nothing answers, and one by a capability register that is null
 LOADS_NOTHING = [immediate(0, 0, 0, A0, 0x03)]
+# Texts with a fault: its line, and what it says.
+PAST = "(1 page; see .pages)"
+NUMBERS = "-9223372036854775808 to 18446744073709551615"
+DETAILED = [
+    (1, ["ecall a0"], "A2 operands: ecall takes no operands"),
+    (1, ["sc.cap a0"], "A2 operands: sc.cap takes cs2, (cs1)"),
+    (1, ["la a0"], "A2 operands: la takes rd, expression"),
+    (1, [".cap 0, 1, 0"], "A2 operands: .cap takes base, length, permissions, flag"),
+    (2, [".pages 2", ".pages 3"], "A2 operands: .pages stands once, before other statements"),
+    (2, [".entry 0x80000000", ".entry 0x80000000"], "A2 operands: .entry stands once"),
+    (1, [".byte 1, 256"], "A3 immediate out of range: 256 (-128 to 255)"),
+    (1, ["x: .byte 1, x"], f"A3 immediate out of range: x is {0x80000000} (-128 to 255)"),
+    (1, [".pages 65537"], "A3 immediate out of range: 65537 (1 to 65536)"),
+    (1, [".cap 0, 1, 70000, 0"], "A3 immediate out of range: 70000 (0 to 65535)"),
+    (1, ["lw a0, 4096 (a1)"], "A3 immediate out of range: 4096 (-2048 to 2047)"),
+    (1, [f"j {10 ** 20}"], f"A3 immediate out of range: {10 ** 20} ({NUMBERS})"),
+    (1, ["x: .dword 1, x, lop, lup"], "A5 label unknown: lop"),
+    (1, ["j .+3"], f"A6 target out of range: 3 bytes away (even, {-2 ** 20} to {2 ** 20 - 2})"),
+    (1, ["beq a0, a1, .+5000"], "A6 target out of range: 5000 bytes away (even, -4096 to 4094)"),
+    (1, [f"la a0, .+{2 ** 32}"], f"A6 target out of range: {2 ** 32} bytes away ({-2 ** 31} to {2 ** 31 - 2049})"),
+    (1, [".entry 0x80000002"], f"A6 target out of range: 0x0000000080000002 is no multiple of 4 in RAM {PAST}"),
+    (1, [".zero 5000"], f"A7 place: from 0x0000000080000000 on: past the end of RAM {PAST}"),
+    (2, [".org 0x1000", "nop"], "A7 place: from 0x0000000000001000 on: below RAM"),
+    (3, ["nop", ".org 0x80000000", "nop"], "A7 place: from 0x0000000080000000 on: where an earlier line places bytes"),
+    (2, [".byte 1", "nop"], "A7 place: from 0x0000000080000001 on: an instruction at no multiple of 4"),
+    (2, ["nop", ".cap 0, 1, 0, 0"], "A7 place: from 0x0000000080000004 on: a capability at no multiple of 16"),
+    (1, [".cap 0x80000001, 65537, 0, 0"], "A11 capability not exact: from 0x0000000080000001 on, 65537 bytes would be rounded"),
+    (1, [f".cap {2 ** 64 - 1}, 2, 0, 0"], "A11 capability not exact: from 0xffffffffffffffff on, 2 bytes end above 2^64"),
+]
+
 LOADS_BY_NULL = [0xFA85855B]
 REPLY = "events 5 out 41 pc 0000000080000014 halted 0\n"
 LISTED = ("0000000080000000 100005b7 lui a1, 0x10000\n0000000080000004 04100513 addi a0, zero, 65\n"
@@ -151,6 +181,64 @@ def ends():
     yield case("--help", ["output 0"], 3, told="cherisim: write failed\n")
 
 
+def integer(number):
+    """The text of a register that holds a number, and no capability."""
+    return f"v:0 a:{number:016x} b:{0:016x} t:{1 << 64:017x} p:00000 f:0 o:3ffff"
+
+
+def traced(*steps):
+    """The lines of a trace: of each step PCC's address, the word and its text, and what it comes to."""
+    return "".join(f"{number} {at}: {effect}\n" for number, (at, effect) in enumerate(steps, 1))
+
+
+TRACE = traced(*zip(LISTED.splitlines(), (
+    f"ca1 = {integer(0x10000000)}", f"ca0 = {integer(65)}", "device store 1 byte at 0000000010000000: 41",
+    f"ca1 = {integer(0x100000)}", "device store 8 bytes at 0000000000100000: 0000000000000000")))
+# asks for the timer's interrupt, which is taken in place of the sixth step
+IS_INTERRUPTED = [lui(A1, 0x2004), sd(0, A1), addi(A0, 0, 0x80), 0x304 << 20 | A0 << 15 | 2 << 12 | 0x73,
+                  0x300 << 20 | 8 << 15 | 6 << 12 | 0x73]
+INTERRUPTED = traced(
+    (f"0000000080000000 {IS_INTERRUPTED[0]:08x} lui a1, 0x2004", f"ca1 = {integer(0x2004000)}"),
+    (f"0000000080000004 {IS_INTERRUPTED[1]:08x} sd zero, 0(a1)", "device store 8 bytes at 0000000002004000: 0000000000000000"),
+    (f"0000000080000008 {IS_INTERRUPTED[2]:08x} addi a0, zero, 128", f"ca0 = {integer(0x80)}"),
+    (f"000000008000000c {IS_INTERRUPTED[3]:08x} csrrs zero, mie, a0", "mie = 0000000000000080"),
+    (f"0000000080000010 {IS_INTERRUPTED[4]:08x} csrrsi zero, mstatus, 8", "mstatus = 0000000000001808"),
+    ("0000000080000014 -", "take timer interrupt, mcause 8000000000000007, mtval 0000000000000000"))
+
+
+def traces():
+    yield "# a trace: a line for each step that is done, in a file that is made behind what is read"
+    opened = "open first.img, make t"
+    for steps in (5, 9):
+        yield case(f"run first.img {steps} --trace t", [FILE], 0, opened, b"A", made=TRACE.encode())
+    three = "".join(TRACE.splitlines(True)[:3])
+    yield case("run first.img 3 --trace t --input keys --quiet", [FILE, 'keys ""'], 1, "open first.img, open keys, make t", b"A",
+               "cherisim: not halted\n", three.encode())
+    yield "# a trap, a jump to where nothing can be fetched, and an interrupt"
+    trap = traced((f"0000000080000000 {LOADS_BY_NULL[0]:08x} lb.cap a0, (ca1)",
+                   "trap CHERI exception, tag violation at ca1, mcause 000000000000001c, mtval 0000000000000162"),
+                  ("0000000000000000 -", "trap instruction access fault, mcause 0000000000000001, mtval 0000000000000000"))
+    yield case("run trap.img 2 --quiet --trace t", [f"trap.img {quoted(image(*LOADS_BY_NULL))}"], 1, "open trap.img, make t", b"",
+               "cherisim: not halted\n", trap.encode())
+    yield case("run time.img 6 --quiet --trace t", [f"time.img {quoted(image(*IS_INTERRUPTED))}"], 1, "open time.img, make t", b"",
+               "cherisim: not halted\n", INTERRUPTED.encode())
+    yield "# a trace that can't be made, or written to its end: a step whose line is not written is not done"
+    yield case("run first.img 5 --trace t", [FILE, "full"], 3, opened, told="cherisim: file t: entity not found\n")
+    yield case("run first.img 5 --trace d", [FILE, "directory d"], 3, "open first.img, make d", told="cherisim: d: is a directory\n")
+    for call in (0, 1, len(three) - 1, len(three), len(TRACE) - 1):
+        yield case("run first.img 5 --trace t", [FILE, f"made {call}"], 3, opened, b"A" if call >= len(three) else b"",
+                   "cherisim: t: L10 device failed: the file is cut short\n", TRACE[:call].encode())
+    yield case("run first.img 5 --trace t", [FILE, f"made {len(TRACE)}"], 0, opened, b"A", made=TRACE.encode())
+    yield "# where a byte can't be written, the line of the step that sent it is"
+    yield case("run first.img 5 --trace t", [FILE, "output 0"], 3, opened, told="cherisim: write failed\n", made=three.encode())
+    yield "# nothing is made where the image or the input can't be read"
+    yield case("run none 5 --trace t", [], 3, "open none", told="cherisim: file none: entity not found\n")
+    yield case("run first.img 5 --trace t --input none", [FILE], 3, "open first.img, open none",
+               told="cherisim: file none: entity not found\n")
+    for words in ("run first.img 5 --trace first.img", "run first.img 5 --input keys --trace keys", "run first.img 5 --trace"):
+        yield refused(words, [FILE, 'keys "A"'])
+
+
 def images():
     yield "# an image of the bytes of a file: of one page at RAM's beginning, or where the options say"
     flat = b"\x13\0\0\0\x93"
@@ -180,6 +268,46 @@ def images():
                told="cherisim: out.img: L10 device failed: the file is cut short\n", made=flat_image(flat)[:3])
 
 
+def debugged(table):
+    """Sessions over the first image whose commands name the labels of a table, `start` and `halt` among them."""
+    def session(typed, answered, table=table):
+        return case("debug first.img --symbols t", [FILE, table, f"input {quoted(typed.encode())}"], 0, "open first.img, open t", answered)
+
+    yield "# a session takes a label where it takes an address; a label that the table lacks is an operand of another form"
+    yield session("until halt 9", "events 3 out 41 pc 000000008000000c running\n")
+    yield session("mem start 5\nmem 2147483660 1", "0000000080000000: b7 05 00 10 13\n000000008000000c: b7\n")
+    yield session("dis halt 1\nmem halt 1", "000000008000000c 001005b7 lui a1, 0x100\n000000008000000c: b7\n")
+    for typed in ("until stop 9", "mem stop 1", "dis stop 1", "mem Start 1", "mem star 1", "mem starts 1", "mem start: 1", "mem start+0 1",
+                  "mem start start", "until halt halt", "step start", "tick halt", "trap start", "byte start", "reg start", "mem start", "dis halt"):
+        yield session(typed + "\nmem start 1", "fault B2\n0000000080000000: b7\n")
+    yield session("start 1\nhalt", "fault B1\nfault B1\n")
+    yield "# of a name that stands twice the first address counts; a number is a number beside any labels"
+    twice = 't "0000000080000010 x\\n0000000080000004 x\\n0000000080000008 _0x80000000\\n000000008000000C a\\n"'
+    yield session("mem x 1\nmem a 1\nmem 0x8000000a 1\nmem _0x80000000 1",
+                  "0000000080000010: 23\n000000008000000c: b7\n000000008000000a: a5\n0000000080000008: 23\n", twice)
+    yield "# words are disassembled from a multiple of 4 on, and bytes are shown in RAM"
+    places = 't "0000000080000002 odd\\n0000000080000FFF last\\nFFFFFFFFFFFFFFFF far\\n0000000000000000 zero\\n"'
+    yield session("dis odd 1\nmem odd 1\nmem last 1\nmem last 2\nmem far 1\nmem zero 1\nuntil far 1",
+                  "fault B2\n0000000080000002: 00\n0000000080000fff: 00\nfault B3\nfault B3\nfault B3\n"
+                  "events 1 out - pc 0000000080000004 running\n", places)
+    yield "# without a table, and with an empty one, there are no labels"
+    yield session("mem start 1\nmem 0x80000000 1", "fault B2\n0000000080000000: b7\n", 't ""')
+    yield case("debug first.img", [FILE, table, 'input "mem start 1\\nmem 0x80000000 1"'], 0, "open first.img",
+               "fault B2\n0000000080000000: b7\n")
+    yield "# the table is read behind the image, and refused as that of a listing"
+    for wrong, line in ((table.replace(" halt", "  halt"), 2), (table.replace(" start", " 80000000"), 1), (table.replace("C halt", "C h:"), 2),
+                        ('t "start 0000000080000000"', 1), ('t "\\n"', 1)):
+        yield case("debug first.img --symbols t", [FILE, wrong], 3, "open first.img, open t",
+                   told=f"cherisim: t: line {line}: no address and label\n")
+    yield case("debug first.img --symbols none", [FILE], 3, "open first.img, open none", told="cherisim: file none: entity not found\n")
+    yield case("debug first.img --symbols d", [FILE, "directory d"], 3, "open first.img, open d", told="cherisim: d: is a directory\n")
+    yield case("debug first.img --symbols t", [FILE, table.replace("t ", "t 0 ", 1)], 3, "open first.img, open t",
+               told="cherisim: t: read failed: broken pipe\n")
+    yield case("debug bad.img --symbols none", [BAD], 3, "open bad.img", told="cherisim: bad.img: L1 short header\n")
+    yield refused("debug first.img --symbols", [FILE])
+    yield refused("debug --symbols t", [FILE, table])
+
+
 def named():
     yield "# labels: those of a text are written behind its image, and a listing shows those of a table"
     yield case("asm a.s out.img --symbols a.sym", [TEXT], 3, "open a.s, make out.img, make a.sym",
@@ -193,14 +321,18 @@ def named():
                told="cherisim: t: line 2: no address and label\n")
     yield case("dis first.img --symbols none", [FILE], 3, "open first.img, open none", told="cherisim: file none: entity not found\n")
     yield case("dis bad.img --symbols none", [BAD], 3, "open bad.img", told="cherisim: bad.img: L1 short header\n")
+    yield from debugged(table)
     yield "# what setting bounds gives"
     yield case("bounds 0x80000000 4097 --address 2147487744", [], 0, sent=shown(0x80000000, 4097, 0x80001000))
     yield case("bounds 18446744073709551615 2", [], 0, sent=shown(2**64 - 1, 2, None))
     yield case("bounds 0 1", ["output 0"], 3, told="cherisim: write failed\n")
     yield "# what was read of a faulty line stands behind the fault's words"
     for line, told in (("addi a0, a0, 4096", "A3 immediate out of range: 4096 (-2048 to 2047)"), ("j lop", "A5 label unknown: lop"),
-                       ("x: nop\\nx: nop", "A4 label twice: x"), ("addi a0", "A2 operands"), ("nop\\x01", "A8 byte not ASCII: 0x01 at column 4")):
+                       ("x: nop\\nx: nop", "A4 label twice: x"), ("addi a0", "A2 operands: addi takes rd, rs1, imm"), ("nop\\x01", "A8 byte not ASCII: 0x01 at column 4")):
         yield case("asm a.s out.img", [f'a.s "{line}\\n"'], 3, "open a.s", told=f"cherisim: a.s: line {line.count('nop') if 'x:' in line else 1}: {told}\n")
+    for number, lines, told in DETAILED:
+        text = "".join(f"{line}\\n" for line in lines)
+        yield case("asm a.s out.img", [f'a.s "{text}"'], 3, "open a.s", told=f"cherisim: a.s: line {number}: {told}\n")
 
 
 def faults():
@@ -260,7 +392,34 @@ def failing():
     yield case("dis none", ["errors 9"], 3, "open none", told="cherisim:")
 
 
+# The words of each code, and of the faults without one; files are `a.s`, and a text's fault is that of its line 7.
+TEXTS_OF_CODES = {
+    "a.s: line 7: ": ("A1 unknown mnemonic", "A2 operands", "A3 immediate out of range", "A4 label twice", "A5 label unknown",
+                      "A6 target out of range", "A7 place", "A8 byte not ASCII", "A9 line too long", "A10 no memory",
+                      "A11 capability not exact"),
+    "": ("L1 short header", "L2 magic", "L3 version", "L4 pages, entry or mode", "L5 too many sections", "L6 section outside RAM",
+         "L7 sections not ascending", "L8 truncated", "L9 bytes after the end", "L10 device failed", "L11 no memory",
+         "L12 capability place", "L13 capability not exact", "L14 permissions or flag", "L15 too many capabilities",
+         "M2 no memory", "M5 no memory"),
+}
+OTHER_TEXTS = [
+    ("talk read", "read failed"), ("talk write", "write failed"), ("talk memory", "no memory"), ("write", "write failed"),
+    ("memory", "no memory"), ("words", "read failed"), ("no file", "file a.s: entity not found"),
+    ("broken file", "a.s: read failed: broken pipe"), ("directory", "a.s: is a directory"),
+    ("cut short", "a.s: L10 device failed: the file is cut short"), ("symbols", "a.s: line 7: no address and label"),
+    ("file L2", "a.s: L2 magic"),
+]
+
+
+def fault_texts():
+    yield "# a fault by its code => its text"
+    yield from (f"{text.split()[0]} => {begin}{text}" for begin, texts in TEXTS_OF_CODES.items() for text in texts)
+    yield "# a fault without a code, or of a file => its text"
+    yield from (f"{name} => {text}" for name, text in OTHER_TEXTS)
+
+
 def files():
     lines = ["# a command line, files and streams => the status, what is opened and made, sent, told, and what stands in the file made"]
-    lines += [*ends(), *images(), *named(), *faults(), *failing()]
+    lines += [*ends(), *traces(), *images(), *named(), *faults(), *failing()]
     yield "../../program_tests/data/commands.txt", lines
+    yield "../../program_tests/data/faults.txt", fault_texts()

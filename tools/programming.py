@@ -154,10 +154,8 @@ def checks(text, register=None, behind=()):
 
 def refusals(name, register):
     """The table of the list that a refusal is the first fault of."""
-    body = REFUSALS.body(name)
-    if not body.startswith("first_fault "):
-        raise NotUnderstood(f"{REFUSALS.file}: {name}")
-    return checks(body[len("first_fault "):], register)
+    found = matched(r"first_fault \((\w+) .*\)", REFUSALS.body(name))
+    return checks(REFUSALS.body(found.group(1)), register)
 
 
 def access_table():
@@ -316,7 +314,7 @@ def special_table():
         if value != "v":
             raise NotUnderstood(f"{WRITES.file}: {field} = {text}")
         written[at.removeprefix("n == ")] = "cs1, whatever it is"
-    first = matched(r".*not \(nat_le (\w+) n\) \|\| has_system_access s.*", REFUSALS.body("scr_fault")).group(1)
+    first = matched(r".*not \(nat_le (\w+) n\) \|\| has_system_access s.*", REFUSALS.body("scr_checks")).group(1)
     rows = []
     for constant, name in listed("SPECIAL_REGISTERS"):
         number, comment = REGISTERS[constant]

@@ -37,10 +37,12 @@ REST = [
     ("a text: what it means", "assembler/specs/Places, Values, Bytes, Faults, Text"),
     ("shown texts", "disassembler/specs/Hex, Shown"),
     ("what setting bounds gives, as a text", "bounds_text/specs/WindowEnds, Picture, BoundsText"),
-    ("sessions", "debugger/specs/Capability, Command, Reply, Answers, Conversation, Talk"),
+    ("what a step comes to, as text", "trap_texts/specs/Names, Text; effect_texts/specs/ValueText, EffectText, TraceLine"),
+    ("what the next step asks for, and why", "explain/specs/Stages, Text"),
+    ("names: tables of symbols, listings with names", "symbols/specs/Symbols; image_listing/specs/Named"),
+    ("sessions", "debugger/specs/Command, SessionState, Reply, Answers, Conversation, Talk"),
     ("the command line and runs on a schedule",
-     "trap_texts/specs/Names, Text; sim_run/specs/CommandLine, Schedule, Verdict, Ending, Listing"),
-    ("names in listings", "symbols/specs/Symbols; image_listing/specs/Named"),
+     "sim_run/specs/CommandLine, Schedule, Trace, Verdict, Ending, Listing"),
 ]
 
 

@@ -5,6 +5,7 @@ one that begins with `< ` is typed and left unread, and every other line is answ
 In the texts here a line that begins with `! ` stands for lines of the state.
 """
 
+import explanations
 from quoting import escaped, quoted
 
 # What `help` answers.
@@ -21,6 +22,7 @@ csr
 caps
 mem ADDR LEN
 dis ADDR N
+why
 help
 quit
 """
@@ -44,7 +46,7 @@ REFUSED = [
         "until x 1", "until . 1", "trap", "trap 0", "trap -1", "trap 1 1", "trap x", "trap 0xf4241", "trap 0x80000004 1", "reg",
         "reg a0 a1", "reg a0,", "reg 10", "reg X1", "reg A0", "reg x01", "reg c32", "reg x-1", "reg s12", "reg t7",
         "reg a8", "reg czero", "reg cx5", "reg cc5", "reg null", "reg pcc", "reg ddc", "reg mstatus", "reg c", "reg x", "regs a0",
-        "scr pcc", "csr mstatus", "caps 1", "help 1", "help step", "quit 0", "mem", "mem 0x80000000", "mem 0x80000000 0",
+        "scr pcc", "csr mstatus", "caps 1", "why 1", "help 1", "help step", "quit 0", "mem", "mem 0x80000000", "mem 0x80000000 0",
         "mem 0x80000000 0x1001", "mem 0x80000000 1 1", "mem 0x80000000 -1", "mem -1 1",
         "mem 0x10000000000000000 1", "mem 18446744073709551616 1", "mem 0 0", "mem 0 4097", "mem .text 1", "dis", "dis 0x80000000",
         "dis 0x80000000 0", "dis 0x80000000 0x401", "dis 0x80000000 1 1", "dis 0x80000001 1", "dis 0x80000003 1", "dis 2 1", "dis 1 1025",
@@ -571,7 +573,7 @@ def cases():
     yield from conversation("lines that are refused; then the whole state, in which nothing has changed", FIRST_IMAGE,
                             replies(first) + "\n" + rest)
     yield from conversation("lines of 255 bytes and of 256", FIRST_IMAGE, replies(LONG))
-    for about, program, text in CONVERSATIONS:
+    for about, program, text in CONVERSATIONS + explanations.CONVERSATIONS:
         yield from conversation(about, program, text)
     yield from conversation("the first image is stepped and shown", FIRST_IMAGE, replies(STEPPED))
     yield from conversation("a byte waits while everything is shown", RECEIVES, WAITING)

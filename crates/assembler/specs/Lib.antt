@@ -4,6 +4,7 @@ pub mod Values
 pub mod Bytes
 pub mod Faults
 pub mod Text
+pub mod Standing
 -- Laws
 pub mod FaultLaws
 -- Inner words

@@ -48,7 +48,7 @@ impl Assembly {
 }
 
 /// The labels of a text, whatever its faults.
-fn labels_of(alloc: Global, text: &[u8]) -> Result<Labels, AllocError>
+pub(crate) fn labels_of(alloc: Global, text: &[u8]) -> Result<Labels, AllocError>
     ensures { IfOk result (λ labels. labels ≡ symbols_of text.now) }
 {
     let mut places = Places::new(alloc);

@@ -13,6 +13,7 @@ ghost use Rattle.assembler.specs.Text.{image_of};
 ghost use Rattle.assembler.specs.Faults.{page_count, is_misplaced, is_instruction, lacks_place, line_fault, assembled_after};
 ghost use Rattle.assembler.specs.Faults.{lacks_granule, lacks_place_for};
 ghost use Rattle.assembler.specs.Faults.{with_setting, with_statement, opening, is_repeated, is_statement_misplaced, with_bytes};
+ghost use Rattle.assembler.specs.Standing.{misplaced, misplaced_bytes, misplaced_capability, misplaced_if_any};
 ghost use Rattle.assembler.specs.FaultLaws.{statement_fault, fault_by, fault_in_text};
 
 use crate::blocks::{Block, built, close, is_taken};
@@ -21,6 +22,7 @@ use crate::capabilities::{capability_in, enter, exact_fault};
 use crate::checks::named_fault;
 use crate::fault::AsmCode;
 use crate::labels::Labels;
+use crate::misplaced::Misplaced;
 use crate::places::{Places, size_at};
 use crate::values::wrapped;
 use asm_lines::{LineFault, Parsed, Setting, Statement};
@@ -92,7 +94,7 @@ impl Builder {
     }
 
     /// The place of the next statement.
-    fn place(&self) -> u128
+    pub(crate) fn place(&self) -> u128
         ensures value { result ≡ self.now.places.place }
         ensures bound { result < 2 ^ 100 }
     {
@@ -144,6 +146,71 @@ impl Builder {
         let size = size_at(statement, place);
         self.lacks_place(place, size, is_instruction(statement))
             || operands.is_some() && self.lacks_granule(place)
+    }
+
+    /// Why bytes have no place.
+    fn misplaced_bytes(&self, place: u128, size: u128, is_code: bool) -> Option<Misplaced>
+        requires place { place < 2 ^ 100 }
+        requires size { size < 2 ^ 101 }
+        ensures { result ≡ misplaced_bytes self.now place size is_code }
+    {
+        let ram_end = u128::from(ram::BASE)
+            + u128::from(ram::PAGE_BYTES) * u128::from(self.page_count());
+        if size == 0 {
+            None
+        } else if place < u128::from(ram::BASE) {
+            Some(Misplaced::BelowRam)
+        } else if ram_end < place + size {
+            Some(Misplaced::PastRam)
+        } else if is_taken(place, place + size, &self.done) {
+            Some(Misplaced::Taken)
+        } else if self.current.len() == 0 && self.done.len() >= 64 {
+            Some(Misplaced::TooManySections)
+        } else if is_code && place % 4 != 0 {
+            Some(Misplaced::CodeAskew)
+        } else {
+            None
+        }
+    }
+
+    /// Why a capability has no place where its bytes have one.
+    fn misplaced_capability(&self, operands: Option<&[u8]>, place: u128) -> Option<Misplaced>
+        ensures { result ≡ misplaced_capability self.now (option_map (λ t. t.now) operands.entry) place }
+    {
+        if operands.is_none() {
+            None
+        } else if place % 16 != 0 {
+            Some(Misplaced::CapabilityAskew)
+        } else if self.lacks_granule(place) {
+            Some(Misplaced::TooManyCapabilities)
+        } else {
+            None
+        }
+    }
+
+    /// Why a statement has no place.
+    fn misplaced(&self, statement: &Statement<'_>) -> Option<Misplaced>
+        requires { IsTrue (is_modest (seen_statement statement.now)) }
+        ensures { result ≡ misplaced self.now (seen_statement statement.now) }
+    {
+        let place = self.place();
+        let size = size_at(statement, place);
+        let misplaced = self.misplaced_bytes(place, size, is_instruction(statement));
+        if misplaced.is_some() {
+            return misplaced;
+        }
+        self.misplaced_capability(capability_in(statement), place)
+    }
+
+    /// Why the statement that a line leaves has no place.
+    pub(crate) fn misplaced_if_any(&self, statement: &Option<Statement<'_>>) -> Option<Misplaced>
+        requires { IsTrue (is_modest_or_none (option_map seen_statement statement.now)) }
+        ensures { result ≡ misplaced_if_any self.now (option_map seen_statement statement.now) }
+    {
+        match statement {
+            Some(statement) => self.misplaced(statement),
+            None => None,
+        }
     }
 
     /// The first fault of a statement whose line alone has none.

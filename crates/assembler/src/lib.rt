@@ -11,8 +11,13 @@ mod fault;
 mod labels;
 pub mod laws;
 mod lines;
+mod misplaced;
 mod places;
+mod standing;
 mod values;
 
 pub use assembly::{Assembly, assemble};
 pub use fault::{AsmCode, AsmFault};
+pub use misplaced::Misplaced;
+pub use standing::{Standing, standing_before_fault};
+pub use values::Worth;

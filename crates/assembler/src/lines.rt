@@ -25,7 +25,7 @@ fn split_line(text: &[u8]) -> (&[u8], Option<&[u8]>)
 }
 
 /// What a line says.
-fn read(line: &[u8]) -> Parsed<'_>
+pub(crate) fn read(line: &[u8]) -> Parsed<'_>
     ensures value { seen_line result ≡ line_meaning line.now }
     ensures modest { IsTrue (is_modest_line (seen_line result)) }
     ensures fits { RowFits (seen_line result) }

@@ -12,7 +12,7 @@ use asm_lines::Expression;
 
 /// What an expression is worth.
 #[derive(Clone, Copy)]
-pub(crate) enum Worth {
+pub enum Worth {
     /// No line defines its name.
     Unknown,
     /// It is below -2^63, or 2^64 or more.

@@ -54,7 +54,7 @@ impl Access {
 
     /// Gives the number of bytes that it moves: 1, 2, 4, 8 or 16.
     #[inline]
-    pub(crate) fn width(self) -> u64
+    pub fn width(self) -> u64
         ensures value { result ≡ width_of self }
         ensures positive { 0 < result }
     {

@@ -16,7 +16,7 @@ use cap_rights::{OType, Permission, permits};
 
 /// Makes the fault of a jump to an address that is no multiple of 4.
 #[inline]
-fn misaligned(target: u64) -> Fault
+pub(crate) fn misaligned(target: u64) -> Fault
     ensures { result ≡ fault cause.MisalignedJump target }
 {
     Fault::of(Cause::MisalignedJump, target)
@@ -51,7 +51,7 @@ pub fn jump_target(address: u64, offset: u64) -> u64
 
 /// Tells whether the value is a sentry that is jumped to at no offset.
 #[inline]
-fn is_entered_sealed<C: CapRep>(c: C, offset: u64) -> bool
+pub(crate) fn is_entered_sealed<C: CapRep>(c: C, offset: u64) -> bool
     ensures { result ≡ spec.is_entered_sealed (C.value c) offset }
 {
     c.otype() == otype::SENTRY && offset == 0

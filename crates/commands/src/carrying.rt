@@ -66,8 +66,9 @@ fn carry_out<'a, F: Folder, I: Read + Drop, O: Write + Drop>(
             schedule,
             input,
             quiet,
+            trace,
         } => {
-            let ended = run_file(alloc, folder, image, schedule, input, output)?;
+            let ended = run_file(alloc, folder, image, schedule, input, trace, output)?;
             Ok(Done::Run(ended, quiet))
         }
         Plan::Asm {
@@ -90,8 +91,8 @@ fn carry_out<'a, F: Folder, I: Read + Drop, O: Write + Drop>(
             list_file(alloc, folder, image, symbols, output)?;
             Ok(Done::All)
         }
-        Plan::Debug { image } => {
-            debug_file(alloc, folder, image, input, output)?;
+        Plan::Debug { image, symbols } => {
+            debug_file(alloc, folder, image, symbols, input, output)?;
             Ok(Done::All)
         }
         Plan::Bounds {

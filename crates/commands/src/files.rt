@@ -60,15 +60,23 @@ pub fn read_image<'a, F: Folder>(
     image::read(alloc, &mut FromRead::new(file)).map_err(|fault| ProgramFault::File(name, fault))
 }
 
+/// A new file of this name, or the one that there is, emptied.
+pub fn make_file<'a, F: Folder>(
+    folder: &mut F,
+    name: &'a str,
+) -> Result<F::Made, ProgramFault<'a>> {
+    folder
+        .make(name)
+        .map_err(|error| opening_fault(name, &error))
+}
+
 /// Writes an image to a new file of this name, or to the one that there is, emptied.
 pub fn write_image<'a, F: Folder>(
     folder: &mut F,
     name: &'a str,
     image: &Image,
 ) -> Result<(), ProgramFault<'a>> {
-    let file = folder
-        .make(name)
-        .map_err(|error| opening_fault(name, &error))?;
+    let file = make_file(folder, name)?;
     image::write(image, &mut ToWrite::new(file)).map_err(|_| ProgramFault::CutShort(name))
 }
 
@@ -78,9 +86,7 @@ pub fn write_bytes<'a, F: Folder>(
     name: &'a str,
     bytes: &[u8],
 ) -> Result<(), ProgramFault<'a>> {
-    let file = folder
-        .make(name)
-        .map_err(|error| opening_fault(name, &error))?;
+    let file = make_file(folder, name)?;
     write_all(&mut ToWrite::new(file), bytes).map_err(|_| ProgramFault::CutShort(name))
 }
 

@@ -10,8 +10,6 @@ mod files;
 mod imaging;
 mod listing;
 mod running;
-#[cfg(test)]
-mod tests;
 
 pub use carrying::{FAULT, refuse, status_of, tell_fault};
 pub use fault::ProgramFault;

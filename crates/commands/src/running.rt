@@ -5,11 +5,11 @@ ghost use Rattle.hart.specs.Opening.{opening};
 ghost use Rattle.sim_run.specs.Schedule.{IsInRange};
 
 use crate::fault::ProgramFault;
-use crate::files::{Folder, read_beginning, read_image};
+use crate::files::{Folder, make_file, read_beginning, read_image};
 use arrayvec::ArrayString;
-use image::{Image, ToWrite};
+use image::{DeviceFailed, Image, ToWrite};
 use machine::{End, Machine};
-use sim_run::{Schedule, ending_line, run_counted};
+use sim_run::{Ran, Schedule, TraceFault, ending_line, run_counted, run_traced};
 use std::alloc::Global;
 use std::io::Write;
 use word_cap::WordCap;
@@ -37,6 +37,14 @@ pub struct Ended {
     pub place: ArrayString<256>,
 }
 
+/// How a machine's run ended, and where.
+fn ending(machine: &Machine<WordCap>, ran: Ran) -> Ended {
+    Ended {
+        end: ran.end,
+        place: ending_line(machine, ran.steps),
+    }
+}
+
 /// Runs a machine from its image, and writes to `output` what it sends.
 fn run_machine<'a, O: Write + Drop>(
     alloc: Global,
@@ -50,19 +58,40 @@ fn run_machine<'a, O: Write + Drop>(
     let mut machine = machine_of(alloc, image)?;
     let mut sink = ToWrite::new(output);
     let ran = run_counted(&mut machine, schedule, input, &mut sink)?;
-    Ok(Ended {
-        end: ran.end,
-        place: ending_line(&machine, ran.steps),
-    })
+    Ok(ending(&machine, ran))
+}
+
+/// Runs a machine from its image, writes to `output` what it sends, and to the file `trace`, which is made first, a line for each step.
+fn trace_machine<'a, F: Folder, O: Write + Drop>(
+    alloc: Global,
+    folder: &mut F,
+    image: &Image,
+    schedule: Schedule,
+    input: &[u8],
+    trace: &'a str,
+    output: O,
+) -> Result<Ended, ProgramFault<'a>>
+    requires { IsInRange schedule }
+{
+    let mut machine = machine_of(alloc, image)?;
+    let mut lines = ToWrite::new(make_file(folder, trace)?);
+    let mut sink = ToWrite::new(output);
+    match run_traced(&mut machine, schedule, input, &mut sink, &mut lines) {
+        Ok(ran) => Ok(ending(&machine, ran)),
+        Err(TraceFault::Output) => Err(ProgramFault::Write(DeviceFailed)),
+        Err(TraceFault::Trace) => Err(ProgramFault::CutShort(trace)),
+    }
 }
 
 /// Runs the image of a file, with the bytes of the file `input` on its console: no more of them are read than the schedule has room for.
+/// Where a file `trace` is named, a line for each step is written to it.
 pub fn run_file<'a, F: Folder, O: Write + Drop>(
     alloc: Global,
     folder: &mut F,
     name: &'a str,
     schedule: Schedule,
     input: Option<&'a str>,
+    trace: Option<&'a str>,
     output: O,
 ) -> Result<Ended, ProgramFault<'a>>
     requires { IsInRange schedule }
@@ -72,7 +101,10 @@ pub fn run_file<'a, F: Folder, O: Write + Drop>(
         Some(file) => read_beginning(alloc, folder, file, schedule.most_bytes())?,
         None => Vec::new(alloc),
     };
-    run_machine(alloc, &image, schedule, bytes.as_slice(), output)
+    match trace {
+        Some(name) => trace_machine(alloc, folder, &image, schedule, &bytes, name, output),
+        None => run_machine(alloc, &image, schedule, &bytes, output),
+    }
 }
 
 /// Runs the first image for its five steps: it sends `A` and halts with 0.

@@ -33,6 +33,14 @@ fn put_schedule(text: &mut String, schedule: Schedule) -> Result<(), AllocError>
     write!(text, " {steps} {gap} {tick}")
 }
 
+/// Puts the file of a trace behind a text, where one is named.
+fn put_trace(text: &mut String, trace: Option<&str>) -> Result<(), AllocError> {
+    match trace {
+        Some(name) => write!(text, " trace {name}"),
+        None => Ok(()),
+    }
+}
+
 /// Puts a plan behind a text: its command, its files and its numbers.
 fn put_plan(text: &mut String, plan: &Plan) -> Result<(), AllocError> {
     match plan {
@@ -57,12 +65,14 @@ fn put_plan(text: &mut String, plan: &Plan) -> Result<(), AllocError> {
             schedule,
             input,
             quiet,
+            trace,
         } => {
             write!(text, "run {image}")?;
             put_schedule(text, *schedule)?;
             let input = input.unwrap_or("-");
             let end = if *quiet { " quiet" } else { "" };
-            write!(text, " {input}{end}")
+            write!(text, " {input}{end}")?;
+            put_trace(text, *trace)
         }
         _ => put_reader(text, plan),
     }
@@ -75,7 +85,10 @@ fn put_reader(text: &mut String, plan: &Plan) -> Result<(), AllocError> {
             let symbols = symbols.unwrap_or("-");
             write!(text, "dis {image} {symbols}")
         }
-        Plan::Debug { image } => write!(text, "debug {image}"),
+        Plan::Debug { image, symbols } => {
+            let symbols = symbols.unwrap_or("-");
+            write!(text, "debug {image} {symbols}")
+        }
         Plan::Bounds {
             base,
             length,

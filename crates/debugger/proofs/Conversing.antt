@@ -8,10 +8,12 @@ use Rattle.std.proofs.lemmas.List.{length-take-le}
 use Rattle.std.proofs.lemmas.List.Splits.{length-slice_split}
 use Rattle.std.specs.List.{slice_split, join_by}
 use Rattle.hart.specs.State.{State}
+use Rattle.symbols.specs.Symbols.{Symbol}
 use Rattle.machine.specs.Run.{run_after}
 use Rattle.debugger.specs.declared.fault.DebugFault.{DebugFault}
 use Rattle.debugger.specs.declared.fault.DebugFault.TheVariants.{B2}
-use Rattle.debugger.specs.Command.{Command, step, tick, byte, until, reg, regs, scr, csr, caps, mem, dis, help, quit, command_of}
+use Rattle.debugger.specs.Command.{Command, step, tick, byte, until, reg, regs, scr, csr, caps, mem, dis, why, help, quit, command_of}
+use Rattle.debugger.specs.SessionState.{SessionState, session_state}
 use Rattle.debugger.specs.Reply.{answer_to, events_of, command_in, state_by, state_after}
 use Rattle.debugger.specs.Conversation.{reply_to, is_end, ends_by, is_last, replies_to, state_after_lines, unread_lines, conversation}
 use Rattle.debugger.specs.Conversation.{state_after_conversation, unread}
@@ -21,18 +23,19 @@ use Rattle.debugger.proofs.Pieces.{pieces_at_end, pieces_at_feed, joined}
 
 -- ---- a line of which a beginning is kept
 
-long : (line : List ℕ) → nat_lt 255 (length line) ≡ true → command_of line ≡ Err B2
+long : (symbols : List Symbol) (line : List ℕ) → nat_lt 255 (length line) ≡ true → command_of symbols line ≡ Err B2
 unfolding command_of
-long line h = rw h refl
+long symbols line h = rw h refl
 
-kept_at : (line : List ℕ) (b : Bool) → nat_lt 255 (length line) ≡ b → command_of (take 256 line) ≡ command_of line
-kept_at line true h =
+kept_at : (symbols : List Symbol) (line : List ℕ) (b : Bool) → nat_lt 255 (length line) ≡ b
+    → command_of symbols (take 256 line) ≡ command_of symbols line
+kept_at symbols line true h =
     let len : length (take 256 line) ≡ 256 = length-take-le 256 line (grind (arith, nat_tests)) in
-    long (take 256 line) (ap (λ n. nat_lt 255 n) len) ∙ sym (long line h)
-kept_at line false h = ap command_of (take_all 256 line (grind (arith, nat_tests)))
+    long symbols (take 256 line) (ap (λ n. nat_lt 255 n) len) ∙ sym (long symbols line h)
+kept_at symbols line false h = ap (command_of symbols) (take_all 256 line (grind (arith, nat_tests)))
 
-pub kept_command : (line : List ℕ) → command_of (take 256 line) ≡ command_of line
-kept_command line = kept_at line (nat_lt 255 (length line)) refl
+pub kept_command : (symbols : List Symbol) (line : List ℕ) → command_of symbols (take 256 line) ≡ command_of symbols line
+kept_command symbols line = kept_at symbols line (nat_lt 255 (length line)) refl
 
 -- ---- the line that ends a conversation
 
@@ -49,6 +52,7 @@ last_command csr s h = absurd (false≢true h)
 last_command caps s h = absurd (false≢true h)
 last_command (mem a n) s h = absurd (false≢true h)
 last_command (dis a n) s h = absurd (false≢true h)
+last_command why s h = absurd (false≢true h)
 last_command help s h = absurd (false≢true h)
 last_command quit s h = refl
 
@@ -56,8 +60,8 @@ last_by : (r : Result Command DebugFault) (s : State) → ends_by r s ≡ true �
 last_by (Ok c) s h = last_command c s h
 last_by (Err fault) s h = absurd (false≢true h)
 
-pub same_after_last : (line : List ℕ) (s : State) → is_last line s ≡ true → state_after line s ≡ s
-same_after_last line s h = last_by (command_in line s) s h
+pub same_after_last : (line : List ℕ) (s : SessionState) → is_last line s ≡ true → state_after line s ≡ s
+same_after_last line s h = ap (λ machine. session_state machine s.symbols) (last_by (command_in line s) s.machine h)
 
 -- ---- lines that go on
 
@@ -72,21 +76,21 @@ goes_later false q h = h
 goes_both : (p q : Bool) → p ≡ false → q ≡ true → not p && q ≡ true
 goes_both p q h k = ap (λ b. not b && q) h ∙ k
 
-pub goes_on_more : (lines : List (List ℕ)) (line : List ℕ) (s : State) → goes_on lines s ≡ true
+pub goes_on_more : (lines : List (List ℕ)) (line : List ℕ) (s : SessionState) → goes_on lines s ≡ true
     → is_last line (state_after_all lines s) ≡ false
     → goes_on (lines ++ line ∷ []) s ≡ true
 goes_on_more [] line s h e = goes_both (is_last line s) true e refl
 goes_on_more (l ∷ lines) line s h e =
     goes_both (is_last l s) _ (goes_first (is_last l s) _ h) (goes_on_more lines line (state_after l s) (goes_later (is_last l s) _ h) e)
 
-pub replies_more : (lines : List (List ℕ)) (line : List ℕ) (s : State)
+pub replies_more : (lines : List (List ℕ)) (line : List ℕ) (s : SessionState)
     → replies (lines ++ line ∷ []) s ≡ replies lines s ++ reply_to line (state_after_all lines s)
 replies_more [] line s = append-nil (reply_to line s)
 replies_more (l ∷ lines) line s =
     ap (λ text. reply_to l s ++ text) (replies_more lines line (state_after l s))
     ∙ sym (append_assoc (reply_to l s) (replies lines (state_after l s)) (reply_to line (state_after_all lines (state_after l s))))
 
-pub state_after_more : (lines : List (List ℕ)) (line : List ℕ) (s : State)
+pub state_after_more : (lines : List (List ℕ)) (line : List ℕ) (s : SessionState)
     → state_after_all (lines ++ line ∷ []) s ≡ state_after line (state_after_all lines s)
 state_after_more [] line s = refl
 state_after_more (l ∷ lines) line s = state_after_more lines line (state_after l s)
@@ -94,26 +98,26 @@ state_after_more (l ∷ lines) line s = state_after_more lines line (state_after
 -- ---- pieces behind lines that go on
 
 module _ (next : List ℕ) (rest : List (List ℕ)) where
-  one_reply : (line : List ℕ) (lines : List (List ℕ)) (s : State)
+  one_reply : (line : List ℕ) (lines : List (List ℕ)) (s : SessionState)
       → replies_to (line ∷ (lines ++ next ∷ rest)) s ≡ reply_to line s
       ++ (if is_last line s then [] else replies_to (lines ++ next ∷ rest) (state_after line s))
   one_reply line [] s = refl
   one_reply line (l ∷ lines) s = refl
 
-  one_state : (line : List ℕ) (lines : List (List ℕ)) (s : State)
+  one_state : (line : List ℕ) (lines : List (List ℕ)) (s : SessionState)
       → state_after_lines (line ∷ (lines ++ next ∷ rest)) s
       ≡ (if is_last line s then s else state_after_lines (lines ++ next ∷ rest) (state_after line s))
   one_state line [] s = refl
   one_state line (l ∷ lines) s = refl
 
-  one_unread : (line : List ℕ) (lines : List (List ℕ)) (s : State)
+  one_unread : (line : List ℕ) (lines : List (List ℕ)) (s : SessionState)
       → unread_lines (line ∷ (lines ++ next ∷ rest)) s
       ≡ (if is_last line s then join_by (λ l. l) (10 ∷ []) (lines ++ next ∷ rest) else unread_lines (lines ++ next ∷ rest)
       (state_after line s))
   one_unread line [] s = refl
   one_unread line (l ∷ lines) s = refl
 
-  pub replies_through : (lines : List (List ℕ)) (s : State) → goes_on lines s ≡ true
+  pub replies_through : (lines : List (List ℕ)) (s : SessionState) → goes_on lines s ≡ true
       → replies_to (lines ++ next ∷ rest) s ≡ replies lines s ++ replies_to (next ∷ rest) (state_after_all lines s)
   replies_through [] s h = refl
   replies_through (line ∷ lines) s h =
@@ -123,7 +127,7 @@ module _ (next : List ℕ) (rest : List (List ℕ)) where
       ∙ ap (λ text. reply_to line s ++ text) (replies_through lines t (goes_later (is_last line s) _ h))
       ∙ sym (append_assoc (reply_to line s) (replies lines t) (replies_to (next ∷ rest) (state_after_all lines t)))
 
-  pub state_through : (lines : List (List ℕ)) (s : State) → goes_on lines s ≡ true
+  pub state_through : (lines : List (List ℕ)) (s : SessionState) → goes_on lines s ≡ true
       → state_after_lines (lines ++ next ∷ rest) s ≡ state_after_lines (next ∷ rest) (state_after_all lines s)
   state_through [] s h = refl
   state_through (line ∷ lines) s h =
@@ -132,7 +136,7 @@ module _ (next : List ℕ) (rest : List (List ℕ)) where
       ∙ ap (λ b. if b then s else state_after_lines (lines ++ next ∷ rest) t) (goes_first (is_last line s) _ h)
       ∙ state_through lines t (goes_later (is_last line s) _ h)
 
-  pub unread_through : (lines : List (List ℕ)) (s : State) → goes_on lines s ≡ true
+  pub unread_through : (lines : List (List ℕ)) (s : SessionState) → goes_on lines s ≡ true
       → unread_lines (lines ++ next ∷ rest) s ≡ unread_lines (next ∷ rest) (state_after_all lines s)
   unread_through [] s h = refl
   unread_through (line ∷ lines) s h =
@@ -144,18 +148,18 @@ module _ (next : List ℕ) (rest : List (List ℕ)) where
 
 -- ---- the piece that ends a conversation, with others behind it
 
-ends_reply : (line : List ℕ) (pieces : List (List ℕ)) (s : State) → 0 < length pieces → is_last line s ≡ true
+ends_reply : (line : List ℕ) (pieces : List (List ℕ)) (s : SessionState) → 0 < length pieces → is_last line s ≡ true
     → replies_to (line ∷ pieces) s ≡ reply_to line s
 ends_reply line [] s some h = absurd (omega arith)
 ends_reply line (next ∷ rest) s some h =
     ap (λ b. reply_to line s ++ (if b then [] else replies_to (next ∷ rest) (state_after line s))) h ∙ append-nil (reply_to line s)
 
-ends_state : (line : List ℕ) (pieces : List (List ℕ)) (s : State) → 0 < length pieces → is_last line s ≡ true
+ends_state : (line : List ℕ) (pieces : List (List ℕ)) (s : SessionState) → 0 < length pieces → is_last line s ≡ true
     → state_after_lines (line ∷ pieces) s ≡ s
 ends_state line [] s some h = absurd (omega arith)
 ends_state line (next ∷ rest) s some h = ap (λ b. if b then s else state_after_lines (next ∷ rest) (state_after line s)) h
 
-ends_unread : (line : List ℕ) (pieces : List (List ℕ)) (s : State) → 0 < length pieces → is_last line s ≡ true
+ends_unread : (line : List ℕ) (pieces : List (List ℕ)) (s : SessionState) → 0 < length pieces → is_last line s ≡ true
     → unread_lines (line ∷ pieces) s ≡ join_by (λ l. l) (10 ∷ []) pieces
 ends_unread line [] s some h = absurd (omega arith)
 ends_unread line (next ∷ rest) s some h =
@@ -163,9 +167,9 @@ ends_unread line (next ∷ rest) s some h =
 
 -- ---- whole conversations: lines that go on, and then a part of a line, the line's feed and a rest or nothing
 
-module _ (lines : List (List ℕ)) (part : List ℕ) (s : State) (whole : All IsInLine lines) (one : IsInLine part)
+module _ (lines : List (List ℕ)) (part : List ℕ) (s : SessionState) (whole : All IsInLine lines) (one : IsInLine part)
     (go : goes_on lines s ≡ true) where
-  abbrev t : State
+  abbrev t : SessionState
   t = state_after_all lines s
 
   module _ (rest : List ℕ) (last : is_last part t ≡ true) where

@@ -10,11 +10,11 @@ use Rattle.std.proofs.lemmas.List.Elements.{All-nil, All-push}
 use Rattle.std.specs.Io.KnownBytes.{Appends, Consumes, Keeps, IsAtEnd}
 use Rattle.image.specs.Devices.{AppendsBeginning}
 use Rattle.image.specs.BeginningLaws.{beginning_after}
-use Rattle.hart.specs.State.{State}
 use Rattle.debugger.specs.declared.fault.TalkFault.{TalkFault}
 use Rattle.debugger.specs.declared.fault.TalkFault.TheVariants.{Read, Write, Memory}
 use Rattle.debugger.specs.Command.{command_of}
 use Rattle.debugger.specs.Reply.{state_after, allowed, state_by}
+use Rattle.debugger.specs.SessionState.{SessionState, session_state}
 use Rattle.debugger.specs.Standing.{Standing, standing_with}
 use Rattle.debugger.specs.Conversation.{reply_by, ends_by, reply_to, is_last, conversation, state_after_conversation, unread}
 use Rattle.debugger.specs.Talk.{most_heard, heard, is_feed, fed, replies, state_after_all, Ends, IsTold, IsRead, IsCutInLine, LeavesOff}
@@ -25,18 +25,18 @@ use Rattle.debugger.proofs.Conversing.{unread_last, told_end, state_end, unread_
 
 -- ---- a line of which a beginning is kept does the same
 
-module _ (line part : List ℕ) (kept : line ≡ take 256 part) (s : State) where
-  command : command_of line ≡ command_of part
-  command = ap command_of kept ∙ kept_command part
+module _ (line part : List ℕ) (kept : line ≡ take 256 part) (s : SessionState) where
+  command : command_of s.symbols line ≡ command_of s.symbols part
+  command = ap (command_of s.symbols) kept ∙ kept_command s.symbols part
 
   pub same_reply : reply_to line s ≡ reply_to part s
-  same_reply = ap (λ r. reply_by (allowed r s) s) command
+  same_reply = ap (λ r. reply_by (allowed r s.machine) s.machine) command
 
   pub same_last : is_last line s ≡ is_last part s
-  same_last = ap (λ r. ends_by (allowed r s) s) command
+  same_last = ap (λ r. ends_by (allowed r s.machine) s.machine) command
 
   pub same_state : state_after line s ≡ state_after part s
-  same_state = ap (λ r. state_by (allowed r s) s) command
+  same_state = ap (λ r. session_state (state_by (allowed r s.machine) s.machine) s.symbols) command
 
 -- ---- the beginning
 
@@ -90,7 +90,7 @@ module _ (n : ℕ) (line : List ℕ) (old new : Standing) (h : IsHeard n line ol
   abbrev bytes : List ℕ
   bytes = fed h.lines ++ h.part
 
-  abbrev t : State
+  abbrev t : SessionState
   t = state_after_all h.lines old.state
 
   reply_here : reply_to line new.state ≡ reply_to h.part t
@@ -133,7 +133,7 @@ module _ (n : ℕ) (line : List ℕ) (old new : Standing) (h : IsHeard n line ol
     abbrev lines' : List (List ℕ)
     lines' = h.lines ++ h.part ∷ []
 
-    module _ (s : State) (held' : Option (List ℕ)) (state : s ≡ state_after line new.state)
+    module _ (s : SessionState) (held' : Option (List ℕ)) (state : s ≡ state_after line new.state)
         (text : Appends new.held held' (reply_to line new.state)) where
       written : Appends old.held held' (replies h.lines old.state ++ reply_to h.part t)
       written = Appends-trans old.held new.held held' (replies h.lines old.state) _ h.text (subst (Appends new.held held') reply_here text)
@@ -188,10 +188,10 @@ module _ (n : ℕ) (line : List ℕ) (old new : Standing) (h : IsHeard n line ol
           (λ input rest _ e. told_of input rest e small last)
 
     -- the line could not be answered
-    read_feed : (s : State) (held' : Option (List ℕ)) → IsRead h.lines (h.part ++ 10 ∷ []) old (standing_with s left' held')
+    read_feed : (s : SessionState) (held' : Option (List ℕ)) → IsRead h.lines (h.part ++ 10 ∷ []) old (standing_with s left' held')
     read_feed s held' = record { read = consumed_part left' 10 next; are_lines = whole_lines h.lines h.in_lines; goes_on = h.goes_on }
 
-    pub cut_at_feed : (fault : TalkFault) (s : State) (held' : Option (List ℕ))
+    pub cut_at_feed : (fault : TalkFault) (s : SessionState) (held' : Option (List ℕ))
         → FailsToReply fault line (standing_with new.state None new.held) (standing_with s None held')
         → LeavesOff fault old (standing_with s left' held')
     cut_at_feed Read s held' f = absurd f
@@ -257,7 +257,7 @@ module _ (n : ℕ) (line : List ℕ) (old new : Standing) (h : IsHeard n line ol
 
   -- the last line, which has no line feed
   module _ (end : (n ≡ most_heard) ⊎ ((n < most_heard) × IsAtEnd new.left)) (some : (length line == 0) ≡ false) where
-    read_rest : (s : State) (held' : Option (List ℕ)) → IsRead h.lines (h.part ++ []) old (standing_with s new.left held')
+    read_rest : (s : SessionState) (held' : Option (List ℕ)) → IsRead h.lines (h.part ++ []) old (standing_with s new.left held')
     read_rest s held' = record {
       read = subst (λ l. Consumes old.left new.left (fed h.lines ++ l)) (sym (append-nil h.part)) h.read;
       are_lines = whole_lines h.lines h.in_lines;
@@ -267,7 +267,7 @@ module _ (n : ℕ) (line : List ℕ) (old new : Standing) (h : IsHeard n line ol
     ends_rest : Ends h.lines h.part [] new.left
     ends_rest = inr (refl, is_some (length h.part) (sym same_test ∙ some), reached n (length bytes) h.count new.left end)
 
-    pub cut_at_rest : (fault : TalkFault) (s : State) (held' : Option (List ℕ))
+    pub cut_at_rest : (fault : TalkFault) (s : SessionState) (held' : Option (List ℕ))
         → FailsToReply fault line (standing_with new.state None new.held) (standing_with s None held')
         → LeavesOff fault old (standing_with s new.left held')
     cut_at_rest Read s held' f = absurd f
@@ -298,7 +298,7 @@ module _ (n : ℕ) (line : List ℕ) (old new : Standing) (h : IsHeard n line ol
   no_more rest (inl most) = let none : most_heard - length bytes ≡ 0 = omega (arith, h.count) in ap (λ k. take k rest) none
   no_more rest (inr at) = ap (take (most_heard - length bytes)) at.1 ∙ take_nil (most_heard - length bytes)
 
-  module _ (end : (n ≡ most_heard) ⊎ ((n < most_heard) × IsAtEnd new.left)) (s : State) (held' : Option (List ℕ))
+  module _ (end : (n ≡ most_heard) ⊎ ((n < most_heard) × IsAtEnd new.left)) (s : SessionState) (held' : Option (List ℕ))
       (state : s ≡ (if length h.part == 0 then t else state_after h.part t))
       (text : Appends old.held held' (replies h.lines old.state ++ (if length h.part == 0 then [] else reply_to h.part t))) where
     told_of_all : (input rest : List ℕ) → new.left ≡ Some rest → input ≡ bytes ++ rest
@@ -339,7 +339,7 @@ module _ (n : ℕ) (line : List ℕ) (old new : Standing) (h : IsHeard n line ol
 
   -- it was answered
   pub told_with_rest : (n ≡ most_heard) ⊎ ((n < most_heard) × IsAtEnd new.left) → (length line == 0) ≡ false
-      → (s : State) (held' : Option (List ℕ))
+      → (s : SessionState) (held' : Option (List ℕ))
       → s ≡ state_after line new.state → Appends new.held held' (reply_to line new.state)
       → IfSome old.left (λ input. IsTold input old (standing_with s new.left held'))
   told_with_rest end some s held' state text =

@@ -6,7 +6,7 @@ use Rattle.hart.specs.State.{State}
 use Rattle.hart.specs.Registers.{register}
 use Rattle.asm_names.specs.Registers.{capability_names, register_name}
 use Rattle.disassembler.specs.Shown.{name_or}
-use Rattle.debugger.specs.Capability.{value_line}
+use Rattle.effect_texts.specs.ValueText.{value_line}
 use Rattle.debugger.specs.Lines.{register_line}
 use Rattle.debugger.specs.Reply.{register_lines}
 

@@ -1,6 +1,6 @@
 -- What to read
-pub mod Capability
 pub mod Command
+pub mod SessionState
 pub mod Reply
 pub mod Conversation
 pub mod Answers

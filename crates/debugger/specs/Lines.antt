@@ -11,7 +11,7 @@ use Rattle.asm_names.specs.Registers.{register_name}
 use Rattle.asm_names.specs.SpecialNames.{csr_name, scr_name}
 use Rattle.disassembler.specs.Hex.{hex_of}
 use Rattle.disassembler.specs.Shown.{name_or}
-use Rattle.debugger.specs.Capability.{value_line}
+use Rattle.effect_texts.specs.ValueText.{value_line}
 use Rattle.debugger.specs.Reply.{shown_sent, shown_end, is_stop}
 
 abbrev pub register_line : State → ℕ → List ℕ

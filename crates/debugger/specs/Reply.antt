@@ -17,17 +17,19 @@ use Rattle.hart.specs.Step.{step_outcome}
 use Rattle.hart.specs.Outcome.{Outcome}
 use Rattle.hart.specs.Outcome as outcome
 use Rattle.machine.specs.Run.{run_after, run_sent}
+use Rattle.explain.specs.Text.{why_text}
 use Rattle.asm_names.specs.Registers.{capability_names, register_name}
 use Rattle.asm_names.specs.SpecialNames.{csr_name, scr_name}
 use Rattle.debugger.specs.declared.fault.DebugFault.{DebugFault}
 use Rattle.debugger.specs.declared.fault.DebugFault.TheVariants.{B3}
 use Rattle.disassembler.specs.Hex.{hex_of}
 use Rattle.disassembler.specs.Shown.{name_or, word_line}
-use Rattle.debugger.specs.Capability.{value_line}
+use Rattle.effect_texts.specs.ValueText.{value_line}
 use Rattle.debugger.specs.declared.command.Stop.{Stop}
 use Rattle.debugger.specs.declared.command.Stop.TheVariants.{Address, Trap}
-use Rattle.debugger.specs.Command.{Command, step, tick, byte, until, reg, regs, scr, csr, caps, mem, dis, help, quit}
+use Rattle.debugger.specs.Command.{Command, step, tick, byte, until, reg, regs, scr, csr, caps, mem, dis, why, help, quit}
 use Rattle.debugger.specs.Command.{help_lines, command_of}
+use Rattle.debugger.specs.SessionState.{SessionState}
 
 -- ---- commands that give events
 
@@ -60,6 +62,7 @@ events_of csr s = []
 events_of caps s = []
 events_of (mem address n) s = []
 events_of (dis address n) s = []
+events_of why s = []
 events_of help s = []
 events_of quit s = []
 
@@ -133,6 +136,7 @@ is_outside csr s = false
 is_outside caps s = false
 is_outside (mem address n) s = not (is_in_ram s.memory address n)
 is_outside (dis address n) s = not (is_in_ram s.memory address (4 * n))
+is_outside why s = false
 is_outside help s = false
 is_outside quit s = false
 
@@ -153,6 +157,7 @@ answer_to csr s = told (csr_lines (csr_values s.csrs s.scrs (interrupts_of s.dev
 answer_to caps s = told (cap_lines s.memory)
 answer_to (mem address n) s = told (byte_lines n address (bytes_at s.memory address n))
 answer_to (dis address n) s = told (word_lines (value_flag s.scrs.pcc) s.memory n address)
+answer_to why s = told (why_text s)
 answer_to help s = told help_text
 answer_to quit s = ended
 
@@ -164,13 +169,13 @@ abbrev pub allowed : Result Command DebugFault → State → Result Command Debu
 allowed (Ok command) s = refused_outside command s
 allowed (Err fault) s = Err fault
 
-abbrev pub command_in : List ℕ → State → Result Command DebugFault
-command_in line s = allowed (command_of line) s
+abbrev pub command_in : List ℕ → SessionState → Result Command DebugFault
+command_in line s = allowed (command_of s.symbols line) s.machine
 
--- the state after a line; a refused line changes nothing
+-- the session after a line: a refused line changes nothing, and none changes the labels
 abbrev pub state_by : Result Command DebugFault → State → State
 state_by (Ok command) s = run_after (events_of command s) s
 state_by (Err fault) s = s
 
-abbrev pub state_after : List ℕ → State → State
-state_after line s = state_by (command_in line s) s
+abbrev pub state_after : List ℕ → SessionState → SessionState
+state_after line s = record s { machine = state_by (command_in line s) s.machine }

@@ -1,11 +1,10 @@
 -- What the code's own commands say.
-use Rattle.std.specs.Prelude.{◌≡◌, ℕ, ◌%◌, ◌<◌, ◌≤◌, ⊤, ℤ, Option, Some, None, Result, Ok, Err}
-use Rattle.asm_lines.specs.declared.fault.LineFault.{LineFault}
-use Rattle.asm_lines.specs.Operand.{wrapped}
+use Rattle.std.specs.Prelude.{◌≡◌, ℕ, ◌%◌, ◌<◌, ◌≤◌, ⊤, Result, Ok, Err}
 use Rattle.debugger.specs.declared.fault.DebugFault.{DebugFault}
 use Rattle.debugger.specs.declared.command.Command.{Command as Request}
-use Rattle.debugger.specs.declared.command.Command.TheVariants.{Step, Tick, Byte, Until, Reg, Regs, Scr, Csr, Caps, Mem, Dis, Help, Quit}
-use Rattle.debugger.specs.Command.{Command, step, tick, byte, until, reg, regs, scr, csr, caps, mem, dis, help, quit}
+use Rattle.debugger.specs.declared.command.Command.TheVariants.{Step, Tick, Byte, Until, Reg, Regs, Scr, Csr, Caps, Mem, Dis, Why}
+use Rattle.debugger.specs.declared.command.Command.TheVariants.{Help, Quit}
+use Rattle.debugger.specs.Command.{Command, step, tick, byte, until, reg, regs, scr, csr, caps, mem, dis, why, help, quit}
 
 abbrev pub seen_command : Request → Command
 seen_command (Step n) = step n
@@ -19,6 +18,7 @@ seen_command Csr = csr
 seen_command Caps = caps
 seen_command (Mem address n) = mem address n
 seen_command (Dis address n) = dis address n
+seen_command Why = why
 seen_command Help = help
 seen_command Quit = quit
 
@@ -36,11 +36,6 @@ abbrev pub made_of_two : (ℕ → ℕ → Command) → Result (ℕ × ℕ) Debug
 made_of_two make (Ok p) = Ok (make p.0 p.1)
 made_of_two make (Err fault) = Err fault
 
--- a number that was read
-abbrev pub read_number : Result ℤ LineFault → Option ℕ
-read_number (Ok n) = Some (wrapped n)
-read_number (Err fault) = None
-
 -- what is known of a command's operands
 abbrev pub IsWithinLimits : Request → Type 0
 IsWithinLimits (Step n) = n ≤ 1000000
@@ -54,6 +49,7 @@ IsWithinLimits Csr = ⊤
 IsWithinLimits Caps = ⊤
 IsWithinLimits (Mem address n) = n ≤ 4096
 IsWithinLimits (Dis address n) = (n ≤ 1024) × (address % 4 ≡ 0)
+IsWithinLimits Why = ⊤
 IsWithinLimits Help = ⊤
 IsWithinLimits Quit = ⊤
 
@@ -70,5 +66,6 @@ most_of Csr = 0
 most_of Caps = 0
 most_of (Mem address n) = 0
 most_of (Dis address n) = 0
+most_of Why = 0
 most_of Help = 0
 most_of Quit = 0

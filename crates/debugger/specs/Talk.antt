@@ -4,10 +4,10 @@ use Rattle.std.specs.Prelude.{Option, Some, Result, Err}
 use Rattle.std.specs.List.{before_first, flat_map}
 use Rattle.std.specs.Io.KnownBytes.{Appends, Consumes, IsAtEnd}
 use Rattle.image.specs.Devices.{AppendsBeginning}
-use Rattle.hart.specs.State.{State}
 use Rattle.debugger.specs.declared.fault.TalkFault.{TalkFault}
 use Rattle.debugger.specs.declared.fault.TalkFault.TheVariants.{Read, Write, Memory}
 use Rattle.debugger.specs.Reply.{state_after}
+use Rattle.debugger.specs.SessionState.{SessionState}
 use Rattle.debugger.specs.Standing.{Standing}
 use Rattle.debugger.specs.Conversation.{reply_to, is_last, conversation, state_after_conversation, unread}
 
@@ -34,15 +34,15 @@ abbrev pub fed : List (List ℕ) → List ℕ
 fed lines = flat_map (λ line. line ++ 10 ∷ []) lines
 
 -- what lines are answered, where the machine stands after them, and whether none of them ends the conversation
-abbrev pub replies : List (List ℕ) → State → List ℕ
+abbrev pub replies : List (List ℕ) → SessionState → List ℕ
 replies [] s = []
 replies (line ∷ lines) s = reply_to line s ++ replies lines (state_after line s)
 
-abbrev pub state_after_all : List (List ℕ) → State → State
+abbrev pub state_after_all : List (List ℕ) → SessionState → SessionState
 state_after_all [] s = s
 state_after_all (line ∷ lines) s = state_after_all lines (state_after line s)
 
-abbrev pub goes_on : List (List ℕ) → State → Bool
+abbrev pub goes_on : List (List ℕ) → SessionState → Bool
 goes_on [] s = true
 goes_on (line ∷ lines) s = not (is_last line s) && goes_on lines (state_after line s)
 

@@ -3,7 +3,7 @@ ghost use Rattle.std.specs.Prelude.{◌≡◌, ◌<◌, ◌≤◌, ◌*◌, ◌%
 ghost use Rattle.cap_bounds.specs.CapValue.{value_flag};
 ghost use Rattle.special_regs.specs.Scrs.{scr_value};
 ghost use Rattle.machine.specs.Run.{run_after};
-ghost use Rattle.debugger.specs.Command.{reg, regs, scr, csr, caps, mem, dis};
+ghost use Rattle.debugger.specs.Command.{reg, regs, scr, csr, caps, mem, dis, why};
 ghost use Rattle.debugger.specs.Reply.{told, events_of, events_line, help_text, is_outside, answer_to};
 ghost use Rattle.debugger.specs.Seen.{seen_command, IsWithinLimits};
 ghost use Rattle.debugger.specs.Answers.{seen_reply};
@@ -17,6 +17,7 @@ use crate::run::told_events;
 use crate::state::{put_csrs, put_register, put_registers, put_scrs};
 use crate::text::put;
 use cap_bounds::CapRep;
+use explain::put_why;
 use machine::Machine;
 use std::alloc::Global;
 
@@ -127,6 +128,17 @@ fn words<C: CapRep>(
     Ok(Reply::Text(text))
 }
 
+/// What the next step will do, and why.
+#[tactic(auto, unfolding(crate::specs::Reply::answer_to))]
+fn reasons<C: CapRep>(alloc: Global, machine: &Machine<C>) -> Result<Reply, DebugFault>
+    ensures reply { IfOk result (λ reply. seen_reply reply ≡ answer_to why machine.now) }
+    ensures err { IfErr result (λ fault. fault ≡ DebugFault.B4) }
+{
+    let mut text = String::new(alloc);
+    put_why(&mut text, machine.hart())?;
+    Ok(Reply::Text(text))
+}
+
 fn help(alloc: Global) -> Result<Reply, DebugFault>
     ensures reply { IfOk result (λ reply. seen_reply reply ≡ told help_text) }
     ensures err { IfErr result (λ fault. fault ≡ DebugFault.B4) }
@@ -175,6 +187,7 @@ pub(crate) fn answer<C: CapRep>(
         Command::Caps => capabilities(alloc, machine),
         Command::Mem { address, count } => memory(alloc, machine, address, count),
         Command::Dis { address, count } => words(alloc, machine, address, count),
+        Command::Why => reasons(alloc, machine),
         Command::Help => help(alloc),
         Command::Step(_) => events(alloc, machine, command),
         Command::Tick(_) => events(alloc, machine, command),

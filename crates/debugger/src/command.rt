@@ -3,14 +3,16 @@ ghost use Rattle.std.specs.Prelude.{◌≡◌, ℕ, ◌≤◌, ◌<◌, ◌%◌,
 ghost use Rattle.std.specs.Cmp.Lexicographic.{pointwise};
 ghost use Rattle.asm_names.specs.Registers.{register_named};
 ghost use Rattle.debugger.specs.Command.{Command as Written, step, tick, byte, until, reg, regs, mem, dis, help, words_of, number_between};
+ghost use Rattle.debugger.specs.Command.{read_number, address_in};
 ghost use Rattle.debugger.specs.Command.{operands_or_B2, one_number, address_and_number, one_register, nothing_more, at_a_word};
 ghost use Rattle.debugger.specs.Command.{command_named, command_of};
-ghost use Rattle.debugger.specs.Seen.{seen_command, seen_request, made_of, made_of_two, read_number, IsWithinLimits};
+ghost use Rattle.debugger.specs.Seen.{seen_command, seen_request, made_of, made_of_two, IsWithinLimits};
 
 use crate::fault::DebugFault;
 use crate::words::split_word;
 use asm_lines::{Class, natural, run_length};
 use asm_names::register_named;
+use symbols::Symbols;
 
 /// The most bytes that a line has.
 const MOST_BYTES: usize = 255;
@@ -38,6 +40,7 @@ csr
 caps
 mem ADDR LEN
 dis ADDR N
+why
 help
 quit
 ";
@@ -76,6 +79,8 @@ pub(crate) enum Command {
     Mem { address: u64, count: u64 },
     /// So many words from an address, as instructions.
     Dis { address: u64, count: u64 },
+    /// What the next step will do, and why.
+    Why,
     /// The commands with their operands.
     Help,
     /// The end.
@@ -90,6 +95,16 @@ fn number(text: &[u8], low: u64, high: u64) -> Option<u64>
     match natural(text, high) {
         Ok(number) if number >= low => Some(number),
         _ => None,
+    }
+}
+
+/// An address: a number of 64 bits, or else the address of a label.
+fn address_in(symbols: &Symbols, text: &[u8]) -> Option<u64>
+    ensures { result ≡ address_in symbols.now text.now }
+{
+    match number(text, 0, u64::MAX) {
+        Some(number) => Some(number),
+        None => symbols.address_of(text),
     }
 }
 
@@ -109,12 +124,16 @@ fn one_number(operands: &[u8], low: u64, high: u64) -> Result<u64, DebugFault>
 }
 
 /// The only two operands, an address and a number of 1 to `high`, or B2.
-fn address_and_number(operands: &[u8], high: u64) -> Result<(u64, u64), DebugFault>
+fn address_and_number(
+    symbols: &Symbols,
+    operands: &[u8],
+    high: u64,
+) -> Result<(u64, u64), DebugFault>
     ensures value { (make : ℕ → ℕ → Written) →
-        operands_or_B2 (address_and_number make high (words_of operands.now)) ≡ made_of_two make result }
+        operands_or_B2 (address_and_number symbols.now make high (words_of operands.now)) ≡ made_of_two make result }
     ensures bound { IfOk result (λ p. p.1 ≤ high) }
 {
-    let Some((address, rest)) = split_word(operands) else {
+    let Some((place, rest)) = split_word(operands) else {
         return Err(DebugFault::B2);
     };
     let Some((count, rest)) = split_word(rest) else {
@@ -123,7 +142,7 @@ fn address_and_number(operands: &[u8], high: u64) -> Result<(u64, u64), DebugFau
     if split_word(rest).is_some() {
         return Err(DebugFault::B2);
     }
-    let Some(address) = number(address, 0, u64::MAX) else {
+    let Some(address) = address_in(symbols, place) else {
         return Err(DebugFault::B2);
     };
     match number(count, 1, high) {
@@ -161,21 +180,22 @@ fn nothing_more(command: Command, operands: &[u8]) -> Result<Command, DebugFault
 }
 
 /// Words from a multiple of 4 on, or B2.
-fn words_at(operands: &[u8]) -> Result<Command, DebugFault>
-    ensures value { seen_request result ≡ operands_or_B2 (at_a_word (address_and_number dis 1024 (words_of operands.now))) }
+fn words_at(symbols: &Symbols, operands: &[u8]) -> Result<Command, DebugFault>
+    ensures value { seen_request result ≡ operands_or_B2 (at_a_word (address_and_number symbols.now dis 1024 (words_of operands.now))) }
     ensures limits { IfOk result IsWithinLimits }
 {
-    let (address, count) = address_and_number(operands, MOST_WORDS)?;
+    let (address, count) = address_and_number(symbols, operands, MOST_WORDS)?;
     if address % 4 != 0 {
         return Err(DebugFault::B2);
     }
     Ok(Command::Dis { address, count })
 }
 
-/// The command of a name and operands: B1 where no command has that name, and else B2 where the operands are not its own.
+/// The command of a name and operands, over a table of labels: B1 where no command has that name, and else B2 where the operands are
+/// not its own.
 #[tactic(auto, unfolding(crate::specs::Command::command_named))]
-fn command_named(name: &[u8], operands: &[u8]) -> Result<Command, DebugFault>
-    ensures value { seen_request result ≡ command_named name.now (words_of operands.now) }
+fn command_named(symbols: &Symbols, name: &[u8], operands: &[u8]) -> Result<Command, DebugFault>
+    ensures value { seen_request result ≡ command_named symbols.now name.now (words_of operands.now) }
     ensures limits { IfOk result IsWithinLimits }
 {
     if name == "step".as_bytes() {
@@ -185,7 +205,7 @@ fn command_named(name: &[u8], operands: &[u8]) -> Result<Command, DebugFault>
     } else if name == "byte".as_bytes() {
         Ok(Command::Byte(one_number(operands, 0, 255)? as u8))
     } else if name == "until".as_bytes() {
-        let (address, most) = address_and_number(operands, MOST_EVENTS)?;
+        let (address, most) = address_and_number(symbols, operands, MOST_EVENTS)?;
         Ok(Command::Until {
             stop: Stop::Address(address),
             most,
@@ -206,10 +226,12 @@ fn command_named(name: &[u8], operands: &[u8]) -> Result<Command, DebugFault>
     } else if name == "caps".as_bytes() {
         nothing_more(Command::Caps, operands)
     } else if name == "mem".as_bytes() {
-        let (address, count) = address_and_number(operands, MOST_SHOWN)?;
+        let (address, count) = address_and_number(symbols, operands, MOST_SHOWN)?;
         Ok(Command::Mem { address, count })
     } else if name == "dis".as_bytes() {
-        words_at(operands)
+        words_at(symbols, operands)
+    } else if name == "why".as_bytes() {
+        nothing_more(Command::Why, operands)
     } else if name == "help".as_bytes() {
         nothing_more(Command::Help, operands)
     } else if name == "quit".as_bytes() {
@@ -219,18 +241,18 @@ fn command_named(name: &[u8], operands: &[u8]) -> Result<Command, DebugFault>
     }
 }
 
-/// The command that a line writes: B2 where the line has more than 255 bytes or one of 128 or more; else B1 where its first word
-/// is no command's name or there is none, and else B2 where the operands are not that command's.
+/// The command that a line writes, over a table of labels: B2 where the line has more than 255 bytes or one of 128 or more; else B1
+/// where its first word is no command's name or there is none, and else B2 where the operands are not that command's.
 #[tactic(auto, unfolding(crate::specs::Command::command_of))]
-pub(crate) fn command_of(line: &[u8]) -> Result<Command, DebugFault>
-    ensures value { seen_request result ≡ command_of line.now }
+pub(crate) fn command_of(symbols: &Symbols, line: &[u8]) -> Result<Command, DebugFault>
+    ensures value { seen_request result ≡ command_of symbols.now line.now }
     ensures limits { IfOk result IsWithinLimits }
 {
     if line.len() > MOST_BYTES || run_length(line, Class::Ascii) < line.len() {
         return Err(DebugFault::B2);
     }
     match split_word(line) {
-        Some((name, operands)) => command_named(name, operands),
+        Some((name, operands)) => command_named(symbols, name, operands),
         None => Err(DebugFault::B1),
     }
 }

@@ -5,6 +5,7 @@ mod answer;
 mod caps;
 mod command;
 mod fault;
+pub mod laws;
 mod ram;
 mod reply;
 mod run;

@@ -1,6 +1,7 @@
 //! Sessions.
-ghost use Rattle.std.specs.Prelude.{◌≡◌, ◌⊎◌, false, Err, IfOk, IfErr, OnOk, OnErr};
+ghost use Rattle.std.specs.Prelude.{◌≡◌, ◌⊎◌, [], false, Err, IfOk, IfErr, OnOk, OnErr};
 ghost use Rattle.debugger.specs.Reply.{command_in, state_after, is_outside};
+ghost use Rattle.debugger.specs.SessionState.{session_state};
 ghost use Rattle.debugger.specs.Seen.{seen_command, seen_request, IsWithinLimits};
 ghost use Rattle.debugger.specs.Answers.{seen_reply, IsAnswer};
 
@@ -12,33 +13,39 @@ use cap_bounds::CapRep;
 use machine::Machine;
 use std::alloc::Global;
 use std::marker::Model;
+use symbols::Symbols;
 
-/// A machine that is driven by commands.
+/// A machine that is driven by commands, with labels that these may name.
 #[derive(Drop)]
 pub struct Session<C: CapRep> {
     alloc: Global,
     machine: Machine<C>,
+    symbols: Symbols,
 }
 
 impl<C: CapRep> Model for Session<C> {
     ghost use Rattle.std.specs.Coded.{codes};
     ghost use Rattle.tagged_memory.specs.Layout.{memory_code};
-    ghost use Rattle.hart.specs.State.{State};
+    ghost use Rattle.debugger.specs.SessionState.{SessionState};
 
-    ghost Value = { State };
+    ghost Value = { SessionState };
 
     ghost coded = { Prim.hlevel (codes, memory_code) };
 
-    ghost view = { λ s. s.machine };
+    ghost view = { λ s. record { machine = s.machine; symbols = s.symbols } };
 }
 
 /// The command that a line writes, if it may be done: of a command's faults B1 comes before B2 and B2 before B3.
-fn accepted<C: CapRep>(machine: &Machine<C>, line: &[u8]) -> Result<Command, DebugFault>
-    ensures value { seen_request result ≡ command_in line.now machine.now }
+fn accepted<C: CapRep>(
+    machine: &Machine<C>,
+    symbols: &Symbols,
+    line: &[u8],
+) -> Result<Command, DebugFault>
+    ensures value { seen_request result ≡ command_in line.now (session_state machine.now symbols.now) }
     ensures limits { IfOk result IsWithinLimits }
     ensures inside { IfOk result (λ command. is_outside (seen_command command) machine.now ≡ false) }
 {
-    let command = command_of(line)?;
+    let command = command_of(symbols, line)?;
     if is_outside(machine, command) {
         return Err(DebugFault::B3);
     }
@@ -46,17 +53,30 @@ fn accepted<C: CapRep>(machine: &Machine<C>, line: &[u8]) -> Result<Command, Deb
 }
 
 impl<C: CapRep> Session<C> {
-    /// A session with a machine. It takes no memory; `alloc` is kept for its replies.
+    /// A session with a machine, and without labels. It takes no memory; `alloc` is kept for its replies.
     pub fn new(alloc: Global, machine: Machine<C>) -> Self
-        ensures { result ≡ machine }
+        ensures { result ≡ session_state machine [] }
     {
-        Session { alloc, machine }
+        Session::with_symbols(alloc, machine, Symbols::new(alloc))
+    }
+
+    /// A session with a machine, whose commands take the labels of a table where they take an address. It takes no memory; `alloc` is
+    /// kept for its replies.
+    pub fn with_symbols(alloc: Global, machine: Machine<C>, symbols: Symbols) -> Self
+        ensures { result ≡ session_state machine symbols }
+    {
+        Session {
+            alloc,
+            machine,
+            symbols,
+        }
     }
 
     /// Does what a line asks for, and answers its reply.
     ///
     /// Commands are `step N`, `tick N`, `byte B`, `until ADDR N`, `trap N`, `reg R`, `regs`, `scr`, `csr`, `caps`, `mem ADDR LEN`,
-    /// `dis ADDR N`, `help` and `quit`; numbers are those of the assembly language. Only the first five change anything.
+    /// `dis ADDR N`, `why`, `help` and `quit`; numbers are those of the assembly language, and ADDR is a number or, where it is none, a
+    /// label of the session. Only the first five change anything, and none changes the labels.
     ///
     /// Refused with B1 where the line has no word or its first is no command; with B2 where its operands are others, and where the
     /// line has more than 255 bytes or one of 128 or more, whatever its words; with B3 where some byte to be shown is outside RAM;
@@ -78,13 +98,13 @@ impl<C: CapRep> Session<C> {
         ensures err { IfErr result (λ fault. (fault ≡ DebugFault.B4) ⊎ (command_in line.now self.old ≡ Err fault)) }
         ensures same { OnErr result (self.new ≡ self.old) }
     {
-        let command = accepted(&self.machine, line)?;
+        let command = accepted(&self.machine, &self.symbols, line)?;
         answer(self.alloc, &mut self.machine, command)
     }
 
     /// The machine.
     pub fn machine(&self) -> &Machine<C>
-        ensures { result.now ≡ self.now }
+        ensures { result.now ≡ self.now.machine }
     {
         &self.machine
     }

@@ -1,15 +1,21 @@
 -- What stands behind the code and the text of an assembler's fault: what was read of the line at fault.
-use Rattle.std.specs.Prelude.{ℕ, zero, suc, ◌+◌, ◌-◌, not, List, [], ◌++◌, length, take, drop, slice_index, Option, Some, None, codes}
-use Rattle.std.specs.Prelude.{decimal}
+use Rattle.std.specs.Prelude.{ℕ, zero, suc, ◌+◌, ◌-◌, Bool, true, false, not, if◌then◌else◌, List, [], ◌++◌, length, take, drop}
+use Rattle.std.specs.Prelude.{slice_index}
+use Rattle.std.specs.Prelude.{Option, Some, None, codes, decimal}
 use Rattle.std.specs.List.{prefix_len}
 use Rattle.asm_lines.specs.Text.{is_blank, is_foreign, pieces_of, trimmed_start}
-use Rattle.asm_lines.specs.Number.{Expression}
-use Rattle.asm_lines.specs.Statement.{Statement, instruction, setting, Instruction, row, load, Setting, entry}
+use Rattle.asm_lines.specs.declared.fault.LineFault.{LineFault}
+use Rattle.asm_lines.specs.declared.fault.LineFault.TheVariants as parsed
+use Rattle.asm_lines.specs.Operand.{is_A2}
 use Rattle.asm_lines.specs.Line.{line_meaning}
 use Rattle.assembler.specs.declared.fault.AsmCode.{AsmCode}
-use Rattle.assembler.specs.declared.fault.AsmCode.TheVariants.{A1, A3, A4, A5, A8, A9}
+use Rattle.assembler.specs.declared.fault.AsmCode.TheVariants.{A1, A2, A3, A4, A5, A6, A7, A8, A9, A10, A11}
+use Rattle.assembler.specs.Faults.{page_count}
+use Rattle.assembler.specs.Standing.{Standing, misplaced_if_any}
 use Rattle.disassembler.specs.Hex.{hex_of}
-use Rattle.fault_details.specs.Limits.{beyond_text, slots_read}
+use Rattle.fault_details.specs.Limits.{beyond_text}
+use Rattle.fault_details.specs.Forms.{ranges_read, written_text}
+use Rattle.fault_details.specs.Reasons.{named, value_beyond_text, name_of_statement, far_text, misplaced_text, inexact_text}
 use Rattle.fault_details.specs.Pieces.{behind, up_to}
 
 -- a line of a text, counted from 1
@@ -35,32 +41,29 @@ statement_read line = up_to 35 (behind_label (line_meaning line).label (trimmed_
 abbrev pub operands_read : List ℕ → List (List ℕ)
 operands_read statement = pieces_of (trimmed_start (drop (length (first_word statement)) statement))
 
--- the first operand of a row whose number is out of range, and that range (A3)
+-- the mnemonic and how it is written (A2)
+abbrev pub written_read : List ℕ → List ℕ
+written_read line = written_text (is_A2 (line_meaning line).fault) (first_word (statement_read line))
+
+-- the first operand whose number is out of its range, and that range (A3); where the line's numbers are in range, whose value
 abbrev pub beyond_read : List ℕ → List ℕ
-beyond_read statement = beyond_text (slots_read (first_word statement)) (operands_read statement)
+beyond_read statement = beyond_text (ranges_read (first_word statement)) (operands_read statement)
 
--- a name, or nothing
-abbrev pub named : Option (List ℕ) → List ℕ
-named None = []
-named (Some name) = name
+abbrev pub value_beyond_read : Standing → List ℕ → List ℕ
+value_beyond_read s statement = value_beyond_text s (ranges_read (first_word statement)) (operands_read statement)
 
--- the name of a statement's only expression (A5)
-abbrev pub name_of_expression : Option Expression → List ℕ
-name_of_expression None = []
-name_of_expression (Some e) = named e.name
+abbrev pub is_A3 : Option LineFault → Bool
+is_A3 (Some parsed.A3) = true
+is_A3 other = false
 
-abbrev pub name_of_instruction : Instruction → List ℕ
-name_of_instruction (row i target) = name_of_expression target
-name_of_instruction (load capability rd value) = named value.name
+abbrev pub out_of_range_read : Standing → List ℕ → List ℕ
+out_of_range_read s line =
+    if is_A3 (line_meaning line).fault then beyond_read (statement_read line) else value_beyond_read s (statement_read line)
 
-abbrev pub name_of_setting : Setting → List ℕ
-name_of_setting (entry e) = named e.name
-name_of_setting other = []
-
-abbrev pub name_of_statement : Option Statement → List ℕ
-name_of_statement (Some (instruction i)) = name_of_instruction i
-name_of_statement (Some (setting s)) = name_of_setting s
-name_of_statement other = []
+-- why the place of the statement is none (A7)
+abbrev pub misplaced_read : Standing → List ℕ → List ℕ
+misplaced_read s line =
+    misplaced_text s.assembled.places.place (page_count s.assembled) (misplaced_if_any s.assembled (line_meaning line).statement)
 
 -- the first byte that is no part of a text, and its column, counted from 1 (A8)
 abbrev pub foreign_at : List ℕ → ℕ
@@ -71,11 +74,15 @@ foreign_read line =
     (codes "0x" ++ hex_of 2 (slice_index line (foreign_at line))) ++ (codes " at column " ++ decimal (foreign_at line + 1))
 
 -- what was read, by the fault's code
-unfoldable pub detail_of : AsmCode → List ℕ → List ℕ
-detail_of A1 line = first_word (statement_read line)
-detail_of A3 line = beyond_read (statement_read line)
-detail_of A4 line = named (line_meaning line).label
-detail_of A5 line = name_of_statement (line_meaning line).statement
-detail_of A8 line = foreign_read line
-detail_of A9 line = decimal (length line) ++ codes " bytes"
-detail_of other line = []
+unfoldable pub detail_of : AsmCode → Standing → List ℕ → List ℕ
+detail_of A1 s line = first_word (statement_read line)
+detail_of A2 s line = written_read line
+detail_of A3 s line = out_of_range_read s line
+detail_of A4 s line = named (line_meaning line).label
+detail_of A5 s line = name_of_statement s (line_meaning line).statement
+detail_of A6 s line = far_text s (line_meaning line).statement
+detail_of A7 s line = misplaced_read s line
+detail_of A8 s line = foreign_read line
+detail_of A9 s line = decimal (length line) ++ codes " bytes"
+detail_of A10 s line = []
+detail_of A11 s line = inexact_text s (line_meaning line).statement

@@ -1,145 +1,152 @@
-//! The first operand of a row whose number is out of range, and that range.
+//! The ranges of an operand's number, and the first operand whose number is out of its range.
 ghost use Rattle.std.specs.Prelude.{◌≡◌, ◌++◌, OnOk};
 ghost use Rattle.std.specs.Option.{option_copied};
 ghost use Rattle.asm_lines.specs.Line.{seen_result};
 ghost use Rattle.asm_lines.specs.Text.{pieces_left};
-ghost use Rattle.fault_details.specs.Limits.{beyond_in, beyond_text, is_beyond, is_outside, is_signed, least_of, most_of, number_in};
-ghost use Rattle.fault_details.specs.Limits.{range_text, slots_read};
+ghost use Rattle.fault_details.specs.Limits.{beyond_in, beyond_text, bracketed, is_beyond, is_outside, natural, number_in, range_of};
+ghost use Rattle.fault_details.specs.Limits.{range_text, shown, to_most};
 
-use crate::text::up_to;
+use crate::text::{trimmed_end, up_to};
 use asm_lines::{Expression, LineFault, expression, split_piece};
-use asm_names::{row_named, slots_of};
-use isa_rows::{Naming, Slot};
+use isa_rows::Slot;
 use itoa::Buffer;
 use std::alloc::AllocError;
 
-fn is_signed(slot: Slot) -> bool
-    ensures { result ≡ is_signed slot }
-{
-    matches!(slot, Slot::Signed | Slot::Address(_))
+/// The least and the greatest number that an operand can be.
+#[derive(Clone, Copy)]
+pub(crate) struct Range {
+    pub(crate) least: i128,
+    pub(crate) most: i128,
 }
 
-/// The greatest number of an operand, where it is a number.
-fn most_of(slot: Slot) -> Option<u64>
-    ensures { result ≡ most_of slot }
+/// What all numbers lie between.
+pub(crate) const EVERY_NUMBER: Range = Range {
+    least: -0x8000_0000_0000_0000,
+    most: 0xffff_ffff_ffff_ffff,
+};
+
+const SIGNED: Range = Range {
+    least: -2048,
+    most: 2047,
+};
+
+fn natural(most: u64) -> Range
+    ensures { result ≡ natural most }
 {
-    match slot {
-        Slot::Signed | Slot::Address(_) => Some(2047),
-        Slot::Unsigned(bits) if bits < 64 => Some((1u64 << bits) - 1),
-        Slot::Upper => Some(0xf_ffff),
-        Slot::Small | Slot::Special => Some(31),
-        Slot::Csr => Some(4095),
-        _ => None,
+    Range {
+        least: 0,
+        most: i128::from(most),
     }
 }
 
-fn least_of(is_signed: bool) -> i128
-    ensures { result ≡ least_of is_signed }
+/// The range of a row's operand; of one that is no number, that of all numbers.
+pub(crate) fn range_of(slot: Slot) -> Range
+    ensures { result ≡ range_of slot }
 {
-    if is_signed { -2048 } else { 0 }
+    match slot {
+        Slot::Signed | Slot::Address(_) => SIGNED,
+        Slot::Unsigned(bits) if bits < 64 => natural((1u64 << bits) - 1),
+        Slot::Upper => natural(0xf_ffff),
+        Slot::Small | Slot::Special => natural(31),
+        Slot::Csr => natural(4095),
+        _ => EVERY_NUMBER,
+    }
 }
 
 /// The number of an operand: what stands before the bracket, where there is one.
-fn number_in(slot: Slot, piece: &[u8]) -> &[u8]
-    ensures { result.now ≡ number_in slot piece.now }
+fn number_in(piece: &[u8]) -> &[u8]
+    ensures { result.now ≡ number_in piece.now }
 {
-    match slot {
-        Slot::Address(_) => up_to(b'(', piece),
-        _ => piece,
-    }
+    trimmed_end(up_to(b'(', piece))
 }
 
 /// Whether what was read is a number out of range.
-fn is_outside(least: i128, most: u64, read: Result<Expression<'_>, LineFault>) -> bool
-    ensures { result ≡ is_outside least most (seen_result read.entry) }
+fn is_outside(range: Range, read: Result<Expression<'_>, LineFault>) -> bool
+    ensures { result ≡ is_outside range (seen_result read.entry) }
 {
     match read {
-        Ok(read) => read.name.is_none() && (read.offset < least || i128::from(most) < read.offset),
+        Ok(read) => read.name.is_none() && (read.offset < range.least || range.most < read.offset),
         Err(LineFault::A3) => true,
         Err(_) => false,
     }
 }
 
 #[tactic(auto, unfolding(crate::specs::Limits::is_beyond))]
-fn is_beyond(slot: Slot, most: Option<u64>, piece: &[u8]) -> bool
-    ensures { result ≡ is_beyond slot most piece.now }
+fn is_beyond(range: Range, piece: &[u8]) -> bool
+    ensures { result ≡ is_beyond range piece.now }
 {
-    match most {
-        Some(most) => is_outside(
-            least_of(is_signed(slot)),
-            most,
-            expression(number_in(slot, piece)),
-        ),
-        None => false,
-    }
+    is_outside(range, expression(number_in(piece)))
 }
 
-/// Writes a range behind a text.
-fn push_range(text: &mut Vec<u8>, is_signed: bool, most: u64) -> Result<(), AllocError>
-    ensures { OnOk result (text.new.items ≡ text.old.items ++ range_text is_signed most) }
+/// Writes a number behind a text.
+#[tactic(auto, unfolding(crate::specs::Limits::shown))]
+pub(crate) fn push_shown(text: &mut Vec<u8>, number: i128) -> Result<(), AllocError>
+    ensures { OnOk result (text.new.items ≡ text.old.items ++ shown number) }
 {
     let mut buffer = Buffer::new();
-    if is_signed {
-        text.extend_from_slice(b" (-2048 to ")?;
-    } else {
-        text.extend_from_slice(b" (0 to ")?;
-    }
-    text.extend_from_slice(buffer.format(most).as_bytes())?;
+    text.extend_from_slice(buffer.format(number).as_bytes())
+}
+
+/// Writes the greatest number of a range behind a text.
+#[tactic(auto, unfolding(crate::specs::Limits::to_most))]
+fn push_to_most(text: &mut Vec<u8>, most: i128) -> Result<(), AllocError>
+    ensures { OnOk result (text.new.items ≡ text.old.items ++ to_most most) }
+{
+    text.extend_from_slice(b" to ")?;
+    push_shown(text, most)?;
     text.extend_from_slice(b")")
 }
 
-fn push_number(
+/// Writes a range behind a text, with what opens its bracket.
+#[tactic(auto, unfolding(crate::specs::Limits::bracketed))]
+pub(crate) fn push_bracketed(
     text: &mut Vec<u8>,
-    number: &[u8],
-    is_signed: bool,
-    most: u64,
+    opening: &str,
+    range: Range,
 ) -> Result<(), AllocError>
-    ensures { OnOk result (text.new.items ≡ text.old.items ++ beyond_in number.now is_signed most) }
+    ensures { OnOk result (text.new.items ≡ text.old.items ++ bracketed opening.now range) }
 {
-    text.extend_from_slice(number)?;
-    push_range(text, is_signed, most)
+    text.extend_from_slice(opening.as_bytes())?;
+    push_shown(text, range.least)?;
+    push_to_most(text, range.most)
 }
 
-/// Writes the first operand whose number is out of range behind a text, and that range.
+/// Writes a range behind a text.
+pub(crate) fn push_range(text: &mut Vec<u8>, range: Range) -> Result<(), AllocError>
+    ensures { OnOk result (text.new.items ≡ text.old.items ++ range_text range) }
+{
+    push_bracketed(text, " (", range)
+}
+
+fn push_number(text: &mut Vec<u8>, range: Range, piece: &[u8]) -> Result<(), AllocError>
+    ensures { OnOk result (text.new.items ≡ text.old.items ++ beyond_in range piece.now) }
+{
+    text.extend_from_slice(number_in(piece))?;
+    push_range(text, range)
+}
+
+/// Writes the first operand whose number is out of its range behind a text, and that range. The last range is also that of all
+/// operands behind it.
 pub(crate) fn push_beyond(
     text: &mut Vec<u8>,
-    slots: &[Slot],
+    ranges: &[Range],
     operands: Option<&[u8]>,
 ) -> Result<(), AllocError>
-    ensures { OnOk result (text.new.items ≡ text.old.items ++ beyond_text slots.now (pieces_left (option_copied operands.entry))) }
+    ensures { OnOk result (text.new.items ≡ text.old.items ++ beyond_text ranges.now (pieces_left (option_copied operands.entry))) }
 {
-    match (slots.split_first(), operands) {
-        (Some((slot, later)), Some(left)) => {
-            let (piece, rest) = split_piece(left);
-            let most = most_of(*slot);
-            if is_beyond(*slot, most, piece) {
-                match most {
-                    Some(most) => push_number(
-                        text,
-                        number_in(*slot, piece),
-                        is_signed(*slot),
-                        most,
-                    ),
-                    None => Ok(()),
-                }
-            } else {
-                push_beyond(text, later, rest)
-            }
-        }
-        _ => Ok(()),
+    let Some((range, later)) = ranges.split_first() else {
+        return Ok(());
+    };
+    let Some(left) = operands else {
+        return Ok(());
+    };
+    let (piece, rest) = split_piece(left);
+    if is_beyond(*range, piece) {
+        return push_number(text, *range, piece);
     }
-}
-
-/// The operands that a mnemonic is written with.
-#[tactic(auto, unfolding(crate::specs::Limits::slots_read))]
-pub(crate) fn slots_read(word: &[u8]) -> &'static [Slot]
-    ensures { result.now ≡ slots_read word.now }
-{
-    if word == b"li".as_slice() {
-        return &[Slot::Rd(Naming::Integer), Slot::Signed];
-    }
-    match row_named(word) {
-        Some(row) => slots_of(row),
-        None => &[],
+    if later.is_empty() {
+        push_beyond(text, ranges, rest)
+    } else {
+        push_beyond(text, later, rest)
     }
 }

@@ -15,7 +15,7 @@ ghost use Rattle.hart.specs.IsState.{IsState};
 use crate::hart::Hart;
 use cap_bounds::CapRep;
 use devices::Devices;
-use special_regs::held_csr;
+use special_regs::{Scrs, held_csr};
 use tagged_memory::Memory;
 
 impl<C: CapRep> Hart<C> {
@@ -52,6 +52,15 @@ impl<C: CapRep> Hart<C> {
     {
         self.is_state();
         self.scrs.get(n).unwrap()
+    }
+
+    /// The special capability registers.
+    pub fn scrs(&self) -> &Scrs<C>
+        ensures value { result.now ≡ self.now.scrs }
+        ensures state { IsState self.now }
+    {
+        self.is_state();
+        &self.scrs
     }
 
     /// What a read of control and status register `n` gives; the register must exist.

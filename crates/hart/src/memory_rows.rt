@@ -26,9 +26,11 @@ use isa_rows::Insn;
 
 /// The authority of an access, and the number of its register.
 #[derive(Clone, Copy)]
-pub(crate) struct Authority<C> {
-    pub(crate) capability: C,
-    pub(crate) register: u64,
+pub struct Authority<C> {
+    /// The capability.
+    pub capability: C,
+    /// Its register as mtval counts them: a general one by its number, a special one by 32 and its number.
+    pub register: u64,
 }
 
 /// What a word and its tag mean where the tag may be kept, and what the word alone means where it may not.
@@ -47,7 +49,7 @@ fn kept_if<C: CapRep>(keeps: bool, word: CapWord, tag: bool) -> C
 impl<C: CapRep> Hart<C> {
     /// Where an access is made: rs1's number and the immediate.
     #[inline(always)]
-    pub(crate) fn place(&self, insn: Insn) -> u64
+    pub fn place(&self, insn: Insn) -> u64
         requires registers { HasRegisters insn }
         ensures { result ≡ place_of insn self.now }
     {
@@ -56,7 +58,7 @@ impl<C: CapRep> Hart<C> {
 
     /// The authority: the capability in rs1, or the default data capability.
     #[inline(always)]
-    fn authority(&self, insn: Insn) -> Authority<C>
+    pub fn authority(&self, insn: Insn) -> Authority<C>
         requires registers { HasRegisters insn }
         ensures capability { C.value result.capability ≡ authority_of insn self.now }
         ensures register { result.register ≡ authority_number_of insn self.now }

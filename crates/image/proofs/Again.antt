@@ -24,7 +24,8 @@ use Rattle.image.specs.ImageLaws.{good_capability, no_capability_fault, version-
 -- ---- the header
 
 fine : (bytes : List ℕ) → starts_with nat_eq bytes magic ≡ true → is_version (number_at 8 4 bytes) ≡ true
-    → is_good_header (number_at 8 4 bytes) (number_at 12 4 bytes) (number_at 16 8 bytes) (number_at 28 4 bytes) ≡ true → number_at 24 4 bytes ≤ 64
+    → is_good_header (number_at 8 4 bytes) (number_at 12 4 bytes) (number_at 16 8 bytes) (number_at 28 4 bytes) ≡ true
+    → number_at 24 4 bytes ≤ 64
     → header_fault bytes ≡ None
 unfolding header_fault
 fine bytes begins version good few = rw (begins, version, good, le-leb _ _ few) refl

@@ -58,7 +58,8 @@ pub Goes-stops : (pages count m n before : ℕ) (front : List CapEntry) (fault :
 Goes-stops pages count m n before front fault a b c one so_far stop = (
   (so_far.0 ++ stop.0.0, Consumes-trans a b c so_far.0 stop.0.0 so_far.1 stop.0.1),
   λ of_bytes.
-      after_known a b so_far.0 (λ rest. capability_at pages before rest ≡ Err fault) (λ all. entries_at pages count 0 all ≡ Err fault) so_far.1
+      after_known a b so_far.0 (λ rest. capability_at pages before rest ≡ Err fault)
+      (λ all. entries_at pages count 0 all ≡ Err fault) so_far.1
       (λ rest e. so_far.2 rest ∙ (rw one (one_stop pages before n front rest fault e))) (stop.1 of_bytes),
 )
 

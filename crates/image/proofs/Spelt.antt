@@ -244,7 +244,8 @@ image_spelt bytes i rest fits e =
     (λ sections. capabilities_at h.version h.pages sections.1 >>= λ capabilities. Ok (headed h sections.0 capabilities.0, capabilities.1))
     (i, rest) a.2 in
     let ss = b.0.0 in
-    let d = bind_ok (capabilities_at h.version h.pages b.0.1) (λ capabilities. Ok (headed h ss capabilities.0, capabilities.1)) (i, rest) b.2 in
+    let d = bind_ok (capabilities_at h.version h.pages b.0.1) (λ capabilities. Ok (headed h ss capabilities.0, capabilities.1))
+    (i, rest) b.2 in
     let cs = d.0.0 in
     let none = no_fault_front bytes a.0.1 a.0.1 b.0.1 b.0.1 d.0.1 h ss cs a.1 b.1 d.1 in
     let count = (sections_ok h.pages h.count 0 a.0.1 ss b.0.1 b.1).count in

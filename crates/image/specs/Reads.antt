@@ -1,5 +1,5 @@
 -- What calls that read from a source, or write to a sink, answer and leave.
-use Rattle.std.specs.Prelude.{◌≡◌, ◌≢◌, ℕ, ◌+◌, List, [], ◌++◌, Option, IfSome, Result, Ok, Err}
+use Rattle.std.specs.Prelude.{◌≡◌, ◌≢◌, ℕ, ◌+◌, ◌<◌, List, [], ◌++◌, length, Option, IfSome, Result, Ok, Err}
 use Rattle.std.specs.Io.KnownBytes.{Consumes}
 use Rattle.image.specs.declared.fault.ImageFault.{ImageFault}
 use Rattle.image.specs.declared.fault.ImageFault.TheVariants.{L10, L11}
@@ -20,9 +20,17 @@ Answers read (Err fault) = IsOfBytes fault → read ≡ Err fault
 abbrev pub IsNotAtEnd : Option (List ℕ) → Type 0
 IsNotAtEnd left = IfSome left (λ bytes. bytes ≢ [])
 
+-- fewer known bytes than so many are left
+abbrev pub HasFewer : ℕ → Option (List ℕ) → Type 0
+HasFewer count left = IfSome left (λ bytes. length bytes < count)
+
 -- Known bytes lose some beginning.
 abbrev pub ConsumesBeginning : Option (List ℕ) → Option (List ℕ) → Type 0
 ConsumesBeginning old new = (bytes : List ℕ) × Consumes old new bytes
+
+-- What was read stands behind what there was.
+abbrev pub ReadsBehind : Option (List ℕ) → Option (List ℕ) → List ℕ → List ℕ → Type 0
+ReadsBehind left_old left_new old new = (bytes : List ℕ) × Consumes left_old left_new bytes × (new ≡ old ++ bytes)
 
 -- The count of failures rises by one where the answer is L10, and else stays.
 abbrev pub CountsL10 : {X : Type 0} → ℕ → ℕ → Result X ImageFault → Type 0

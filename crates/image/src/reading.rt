@@ -1,13 +1,13 @@
 //! Images from a source.
 
-ghost use Rattle.std.specs.Prelude.{◌≡◌, ◌+◌, ◌-◌, ◌^◌, ◌<◌, ◌≤◌, length, take, IfOk, IfErr, OnOk, OnErr, IfSome, vec_len};
+ghost use Rattle.std.specs.Prelude.{◌≡◌, ◌+◌, ◌-◌, ◌^◌, ◌<◌, ◌≤◌, length, take, IfOk, IfErr, OnOk, OnErr, IfSome, vec_len, min, max};
 ghost use Rattle.std.specs.Io.KnownBytes.{Consumes, IsAtEnd};
 ghost use Rattle.image.specs.declared.fault.ImageFault.TheVariants.{L8, L9};
 ghost use Rattle.image.specs.Devices.{Counts};
 ghost use Rattle.base.specs.Ram.{ram_end};
 ghost use Rattle.image.specs.Grammar.{taken, header_at, span_at, section_at, sections_at, capability_at, entries_at, count_at};
 ghost use Rattle.image.specs.Grammar.{capabilities_at, image_at, reading};
-ghost use Rattle.image.specs.Reads.{IsOfBytes, IsNotAtEnd, Answers, ConsumesBeginning, CountsL10, Takes};
+ghost use Rattle.image.specs.Reads.{IsOfBytes, IsNotAtEnd, Answers, ConsumesBeginning, CountsL10, HasFewer, ReadsBehind, Takes};
 
 use crate::cap_entry::CapEntry;
 use crate::devices::{DeviceFailed, Source};
@@ -55,17 +55,53 @@ fn next<R: Source, const N: usize>(
     Ok(buffer)
 }
 
-/// The next `size` bytes of the source.
+/// How many bytes of a section are asked for before the first of them is read.
+const FIRST_BLOCK: usize = 65536;
+
+/// How many bytes are read next where `held` of `size` are there: a first block, then as many again, and at most what is left.
+fn next_block(held: usize, size: usize) -> usize
+    requires { held < size }
+    ensures { result ≡ min (max held FIRST_BLOCK) (size - held) }
+{
+    held.max(FIRST_BLOCK).min(size - held)
+}
+
+/// Reads `count` bytes more, behind those that are there.
+fn read_behind<R: Source>(
+    source: &mut R,
+    bytes: &mut Vec<u8>,
+    count: usize,
+) -> Result<(), ImageFault>
+    requires count { R.failed source.old < 2 ^ 64 - 1 }
+    requires room { vec_len bytes.old + count < 2 ^ 64 }
+    ensures size { OnOk result (vec_len bytes.new ≡ vec_len bytes.old + count) }
+    ensures ok { OnOk result (ReadsBehind (R.left source.old) (R.left source.new) bytes.old.items bytes.new.items) }
+    ensures err { OnErr result (ConsumesBeginning (R.left source.old) (R.left source.new)) }
+    ensures fault { IfErr result (λ fault. IsOfBytes fault → (fault ≡ L8) × HasFewer count (R.left source.old)) }
+    ensures count { CountsL10 (R.failed source.old) (R.failed source.new) result }
+{
+    let held = bytes.len();
+    bytes.reserve_exact(count)?;
+    bytes.resize(held + count, 0)?;
+    if fill(source, &mut bytes[held..])? < count {
+        return Err(ImageFault::L8);
+    }
+    Ok(())
+}
+
+/// The next `size` bytes of the source. Memory is asked for in steps, so that it grows with what is read and not with what the
+/// source promises.
 fn body<R: Source>(alloc: Global, source: &mut R, size: u64) -> Result<Vec<u8>, ImageFault>
     requires { R.failed source.old < 2 ^ 64 - 1 }
     ensures size { IfOk result (λ v. vec_len v ≡ size) }
     ensures part { Takes (λ v. v.items) (taken size L8) (R.left source.old) (R.left source.new) result }
     ensures count { CountsL10 (R.failed source.old) (R.failed source.new) result }
 {
-    let mut bytes = vec![in alloc; 0; size as usize]?;
-    let count = fill(source, &mut bytes)?;
-    if count < bytes.len() {
-        return Err(ImageFault::L8);
+    let size = size as usize;
+    let mut bytes = Vec::new(alloc);
+    while bytes.len() < size {
+        let count = next_block(bytes.len(), size);
+        read_behind(source, &mut bytes, count)?;
     }
     Ok(bytes)
 }

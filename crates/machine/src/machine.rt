@@ -112,6 +112,15 @@ impl<C: CapRep> Machine<C> {
         })
     }
 
+    /// The hart, as a reader of its next effect sees it.
+    pub fn hart(&self) -> &Hart<C>
+        ensures value { result.now ≡ self.now }
+        ensures state { IsState self.now }
+    {
+        self.hart.is_state();
+        &self.hart
+    }
+
     /// General register `n`, below 32.
     pub fn reg(&self, n: u8) -> C
         requires { n < 32 }

@@ -3,8 +3,9 @@
 //! A line is `WORDS | PARTS => STATUS | OPENED | SENT | TOLD | MADE`; `#` begins a line that is none. PARTS are parted by ` & `:
 //! `NAME "text"`, a file of this name; `NAME CALL "text"`, one whose call of this number, from 0, fails; `input "text"` and
 //! `input CALL "text"`, what is typed; `output CALL`, at which call the output fails; `errors CALL` of what is told; `made CALL`
-//! of a file that is written; `full`, where no file can be made; and `directory NAME`, a directory of this name. Texts have the escapes `\n`, `\0`, `\xHH` and so on. The answer is
-//! the status, what was opened and made in order, what was sent, what was told, and what stands in the file that was made, if one was.
+//! of a file that is written; `full`, where no file can be made; and `directory NAME`, a directory of this name. Texts have the escapes
+//! `\n`, `\0`, `\xHH` and so on. The answer is the status, what was opened and made in order, what was sent, what was told, and what
+//! stands in the file that was made, if one was.
 //! Of a text by clap, status 2, only whether there is one is told, and where: among what was sent, or among what was told.
 
 use crate::desk::Desk;

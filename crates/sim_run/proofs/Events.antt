@@ -39,7 +39,7 @@ steps_in-steps zero = refl
 steps_in-steps (suc n) = ap suc (steps_in-steps n)
 
 -- what of `ys` is still met by a machine that has met `xs` up to the halt
-abbrev then_up_to_halt : List Event → State → List Event
+abbrev pub then_up_to_halt : List Event → State → List Event
 then_up_to_halt ys s = if is_halted s then [] else up_to_halt ys s
 
 pub up_to_halt-append : (xs ys : List Event) (s : State) → is_halted s ≡ false
@@ -77,7 +77,7 @@ cut_within before events more old new a b c written cut = record {
 
 module _ (xs ys : List Event) (s t : State) (running : is_halted s ≡ false) (so_far : t ≡ run_after (up_to_halt xs s) s)
     (still : is_halted t ≡ false) where
-  goes_on : up_to_halt (xs ++ ys) s ≡ up_to_halt xs s ++ up_to_halt ys t
+  pub goes_on : up_to_halt (xs ++ ys) s ≡ up_to_halt xs s ++ up_to_halt ys t
   goes_on =
       up_to_halt-append xs ys s running ∙ ap (λ u. up_to_halt xs s ++ then_up_to_halt ys u) (sym so_far)
       ∙ rw still refl
@@ -124,7 +124,7 @@ AreRunning n s = (k : ℕ) → k < n → is_halted (run_after (replicate k Step)
 abbrev up_to_none : Bool → List Event
 up_to_none b = if b then [] else []
 
-no_more : (b : Bool) → up_to_none b ≡ []
+pub no_more : (b : Bool) → up_to_none b ≡ []
 no_more true = refl
 no_more false = refl
 
@@ -214,7 +214,7 @@ then_ticked true s = go (is_halted s)
     go false = ap (λ es. Tick ∷ es) (no_more (is_halted (after Tick s)))
 then_ticked false s = no_more (is_halted s)
 
-run_sent-brought : (byte : Option ℕ) (s : State) → run_sent (brought byte) s ≡ []
+pub run_sent-brought : (byte : Option ℕ) (s : State) → run_sent (brought byte) s ≡ []
 run_sent-brought None s = refl
 run_sent-brought (Some b) s = refl
 
@@ -236,7 +236,7 @@ module _ (byte : Option ℕ) (n : ℕ) (ticks : Bool) (s t : State) (running : i
     pub still : is_halted t ≡ false
     still = ap is_halted at_byte ∙ is_halted-brought byte s ∙ running
 
-    up_to_halt-block : (u : State) → u ≡ run_after (up_to_halt (replicate n Step) t) t
+    pub up_to_halt-block : (u : State) → u ≡ run_after (up_to_halt (replicate n Step) t) t
         → up_to_halt (block byte n ticks) s ≡ brought byte ++ (up_to_halt (replicate n Step) t ++ ticked_after ticks u)
     up_to_halt-block u at_steps =
         up_to_halt-brought byte (replicate n Step ++ ticking ticks) s running

@@ -4,3 +4,4 @@ pub mod Alone
 pub mod StepsMet
 pub mod Found
 pub mod Listed
+pub mod TracedSteps

@@ -21,7 +21,7 @@ module _ (schedule : Schedule) (input : List ℕ) where
   nth_step m = around (byte_before schedule input (m + 1)) (is_tick_after schedule (m + 1))
 
   -- the events of the n steps after the first m
-  abbrev steps_from : ℕ → ℕ → List Event
+  abbrev pub steps_from : ℕ → ℕ → List Event
   steps_from m zero = []
   steps_from m (suc n) = steps_from m n ++ nth_step (m + n)
 
@@ -59,12 +59,12 @@ module _ (schedule : Schedule) (input : List ℕ) where
   no_steps : 1 ≤ 0 → ⊥
   no_steps some = omega arith
 
-  block_follows : (m n : ℕ) → 1 ≤ n → AreAlone schedule input m n
+  pub block_follows : (m n : ℕ) → 1 ≤ n → AreAlone schedule input m n
       → first_steps schedule input (m + n) ≡ first_steps schedule input m ++ nth_block m n
   block_follows m zero some alone = absurd (no_steps some)
   block_follows m (suc n) some alone = steps_follow m (suc n) ∙ ap (λ es. first_steps schedule input m ++ es) (are_block m n alone)
 
-  more_follow : (m : ℕ) → m ≤ schedule.steps
+  pub more_follow : (m : ℕ) → m ≤ schedule.steps
       → first_steps schedule input schedule.steps ≡ first_steps schedule input m ++ steps_from m (schedule.steps - m)
   more_follow m few =
       let all : m + (schedule.steps - m) ≡ schedule.steps = omega arith in
@@ -105,6 +105,7 @@ module _ (schedule : Schedule) (input : List ℕ) where
         → IsCutShort (up_to_halt (nth_block m n) t) t u b c → IsCutShort (scheduled schedule input s) s u a c
     block_cut a b c before cut =
         subst (λ es. IsCutShort (up_to_halt es s) s u a c)
-        (ap (λ es. es ++ steps_from (m + n) (schedule.steps - (m + n))) (sym (block_follows m n some alone)) ∙ sym (more_follow (m + n) few))
+        (ap (λ es. es ++ steps_from (m + n) (schedule.steps - (m + n))) (sym (block_follows m n some alone))
+        ∙ sym (more_follow (m + n) few))
         (cut_after (first_steps schedule input m) (nth_block m n) s t running so_far still
         (steps_from (m + n) (schedule.steps - (m + n))) u a b c before cut)

@@ -41,7 +41,8 @@ asm_command = with_symbols (with_rule (with_rule (new_app (codes "asm")) (operan
 -- image FLAT OUT [--at ADDRESS] [--entry ADDRESS] [--pages N] [--mode M]
 abbrev pub with_layout : App → App
 with_layout app =
-    with_rule (with_rule (with_rule (with_rule app (named (codes "at"))) (named (codes "entry"))) (named (codes "pages"))) (named (codes "mode"))
+    with_rule (with_rule (with_rule (with_rule app (named (codes "at"))) (named (codes "entry"))) (named (codes "pages")))
+    (named (codes "mode"))
 
 abbrev pub image_command : App
 image_command = with_layout (with_rule (with_rule (new_app (codes "image")) (operand (codes "FLAT"))) (operand (codes "OUT")))
@@ -56,11 +57,14 @@ gap_rule = record (in_range 1 1000000 (named (codes "gap"))) { defaults = codes 
 abbrev pub tick_rule : Rule
 tick_rule = record (in_range 0 1000000 (named (codes "tick"))) { defaults = codes "100" ∷ [] }
 
--- [--input FILE] [--gap N] [--tick N] [--quiet]
-abbrev pub with_options : App → App
-with_options run = with_rule (with_rule (with_rule (with_rule run (named (codes "input"))) gap_rule) tick_rule) (flag (codes "quiet"))
+-- [--input FILE] [--gap N] [--tick N] [--quiet] [--trace FILE]
+abbrev pub with_schedule : App → App
+with_schedule run = with_rule (with_rule (with_rule run (named (codes "input"))) gap_rule) tick_rule
 
--- run IMAGE STEPS [--input FILE] [--gap N] [--tick N] [--quiet]
+abbrev pub with_options : App → App
+with_options run = with_rule (with_rule (with_schedule run) (flag (codes "quiet"))) (named (codes "trace"))
+
+-- run IMAGE STEPS [--input FILE] [--gap N] [--tick N] [--quiet] [--trace FILE]
 abbrev pub run_command : App
 run_command = with_options (with_rule (with_rule (new_app (codes "run")) (operand (codes "IMAGE"))) steps_rule)
 
@@ -68,14 +72,15 @@ run_command = with_options (with_rule (with_rule (new_app (codes "run")) (operan
 abbrev pub dis_command : App
 dis_command = with_symbols (with_rule (new_app (codes "dis")) (operand (codes "IMAGE")))
 
--- debug IMAGE
+-- debug IMAGE [--symbols FILE]
 abbrev pub debug_command : App
-debug_command = with_rule (new_app (codes "debug")) (operand (codes "IMAGE"))
+debug_command = with_symbols (with_rule (new_app (codes "debug")) (operand (codes "IMAGE")))
 
 -- bounds BASE LENGTH [--address ADDRESS]
 abbrev pub bounds_command : App
 bounds_command =
-    with_rule (with_rule (with_rule (new_app (codes "bounds")) (operand (codes "BASE"))) (operand (codes "LENGTH"))) (named (codes "address"))
+    with_rule (with_rule (with_rule (new_app (codes "bounds")) (operand (codes "BASE"))) (operand (codes "LENGTH")))
+    (named (codes "address"))
 
 -- the commands that make an image, and those that take one
 abbrev pub making : App
@@ -132,13 +137,14 @@ IsPlanOfCommand name rows (Image flat output layout) =
     (name ≡ codes "image")
     × (first_of (codes "FLAT") rows ≡ Some flat.now) × (first_of (codes "OUT") rows ≡ Some output.now)
     × IsLayoutOf rows layout
-IsPlanOfCommand name rows (Run image schedule input quiet) =
+IsPlanOfCommand name rows (Run image schedule input quiet trace) =
     (name ≡ codes "run")
     × (first_of (codes "IMAGE") rows ≡ Some image.now) × IsScheduleOf rows schedule
-    × IsFile (codes "input") rows input × (quiet ≡ is_used (codes "quiet") rows)
+    × IsFile (codes "input") rows input × (quiet ≡ is_used (codes "quiet") rows) × IsFile (codes "trace") rows trace
 IsPlanOfCommand name rows (Dis image symbols) =
     (name ≡ codes "dis") × (first_of (codes "IMAGE") rows ≡ Some image.now) × IsFile (codes "symbols") rows symbols
-IsPlanOfCommand name rows (Debug image) = (name ≡ codes "debug") × (first_of (codes "IMAGE") rows ≡ Some image.now)
+IsPlanOfCommand name rows (Debug image symbols) =
+    (name ≡ codes "debug") × (first_of (codes "IMAGE") rows ≡ Some image.now) × IsFile (codes "symbols") rows symbols
 IsPlanOfCommand name rows (Bounds base length address) =
     (name ≡ codes "bounds")
     × IsNatural (codes "BASE") rows (Some base) × IsNatural (codes "LENGTH") rows (Some length)
@@ -154,14 +160,18 @@ IsPlanOf (Some found) plan = IsPlanOfCommand found.0 found.1 plan
 abbrev pub is_apart : Text → Option (Bor Text) → Bool
 is_apart name other = not (option_map_or (λ o. bytes_eq name o.now) other false)
 
+abbrev pub are_apart : Option (Bor Text) → Option (Bor Text) → Bool
+are_apart None other = true
+are_apart (Some name) other = is_apart name.now other
+
 -- the numbers of a run lie in their ranges, and no file is written over one that is read, nor written twice
 abbrev pub IsSound : Plan → Type 0
 IsSound (Asm input output symbols) =
     IsTrue (not (bytes_eq input.now output.now) && (is_apart input.now symbols && is_apart output.now symbols))
 IsSound (Image flat output layout) = IsTrue (not (bytes_eq flat.now output.now))
-IsSound (Run image schedule input quiet) = IsInRange schedule
+IsSound (Run image schedule input quiet trace) = IsInRange schedule × IsTrue (is_apart image.now trace && are_apart input trace)
 IsSound (Dis image symbols) = ⊤
-IsSound (Debug image) = ⊤
+IsSound (Debug image symbols) = ⊤
 IsSound (Bounds base length address) = ⊤
 IsSound First = ⊤
 

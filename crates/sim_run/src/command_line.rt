@@ -1,8 +1,9 @@
 ghost use Rattle.std.specs.Prelude.{◌≡◌, ◌≤◌, ◌<◌, ◌^◌, IfOk, true, false, codes};
 ghost use Rattle.clap.specs.Words.{app_of, rule_of};
 ghost use Rattle.clap.specs.declared.builder.command.Command.TheViews.{out-Command};
-ghost use Rattle.sim_run.specs.CommandLine.{operand, named, flag, in_range, steps_rule, gap_rule, tick_rule, with_options, with_symbols};
-ghost use Rattle.sim_run.specs.CommandLine.{with_layout, asm_command, image_command, run_command, dis_command, debug_command};
+ghost use Rattle.sim_run.specs.CommandLine.{operand, named, flag, in_range, steps_rule, gap_rule, tick_rule, with_options};
+ghost use Rattle.sim_run.specs.CommandLine.{with_schedule, with_symbols, with_layout};
+ghost use Rattle.sim_run.specs.CommandLine.{asm_command, image_command, run_command, dis_command, debug_command};
 ghost use Rattle.sim_run.specs.CommandLine.{bounds_command, making, taking, program};
 
 use clap::builder::ValueParser;
@@ -148,10 +149,10 @@ fn image_command<'a>(alloc: Global) -> Result<Command<'a>, AllocError>
     with_layout(alloc, image)
 }
 
-/// Adds the options of `run`.
-fn with_options<'a>(alloc: Global, run: Command<'a>) -> Result<Command<'a>, AllocError>
+/// Adds the options of `run` that say what comes when.
+fn with_schedule<'a>(alloc: Global, run: Command<'a>) -> Result<Command<'a>, AllocError>
     requires { (out-Command run).has_globals ≡ false }
-    ensures app { IfOk result (λ c. app_of c ≡ with_options (app_of run.entry)) }
+    ensures app { IfOk result (λ c. app_of c ≡ with_schedule (app_of run.entry)) }
     ensures local { IfOk result (λ c. (out-Command c).has_globals ≡ false) }
 {
     let input = named(
@@ -160,15 +161,27 @@ fn with_options<'a>(alloc: Global, run: Command<'a>) -> Result<Command<'a>, Allo
         "FILE",
         "The file whose bytes come on the console",
     );
+    run.arg(input)?.arg(gap(alloc))?.arg(tick(alloc))
+}
+
+/// Adds the options of `run`.
+fn with_options<'a>(alloc: Global, run: Command<'a>) -> Result<Command<'a>, AllocError>
+    requires { (out-Command run).has_globals ≡ false }
+    ensures app { IfOk result (λ c. app_of c ≡ with_options (app_of run.entry)) }
+    ensures local { IfOk result (λ c. (out-Command c).has_globals ≡ false) }
+{
     let quiet = flag(
         alloc,
         "quiet",
         "Leaves out the line that says where a run ended",
     );
-    run.arg(input)?
-        .arg(gap(alloc))?
-        .arg(tick(alloc))?
-        .arg(quiet)
+    let trace = named(
+        alloc,
+        "trace",
+        "FILE",
+        "The file that a line for each step is written to",
+    );
+    with_schedule(alloc, run)?.arg(quiet)?.arg(trace)
 }
 
 fn run_command<'a>(alloc: Global) -> Result<Command<'a>, AllocError>
@@ -196,9 +209,14 @@ fn debug_command<'a>(alloc: Global) -> Result<Command<'a>, AllocError>
     ensures app { IfOk result (λ c. app_of c ≡ debug_command) }
     ensures local { IfOk result (λ c. (out-Command c).has_globals ≡ false) }
 {
-    Command::new(alloc, "debug")
+    let debug = Command::new(alloc, "debug")
         .about("Debugs an image: commands from standard input, replies to standard output")
-        .arg(operand(alloc, "IMAGE", "The file with the image"))
+        .arg(operand(alloc, "IMAGE", "The file with the image"))?;
+    with_symbols(
+        alloc,
+        debug,
+        "A file with labels, which stand for their addresses in commands",
+    )
 }
 
 fn bounds_command<'a>(alloc: Global) -> Result<Command<'a>, AllocError>

@@ -10,6 +10,7 @@ mod plans;
 mod reading;
 mod run;
 mod schedule;
+mod traced;
 
 pub use ending::{ending_line, verdict};
 pub use fault::PlanFault;
@@ -19,3 +20,4 @@ pub use plans::Plan;
 pub use reading::plan;
 pub use run::{Ran, run_counted, run_scheduled};
 pub use schedule::Schedule;
+pub use traced::{TraceFault, run_traced};

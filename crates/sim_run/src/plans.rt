@@ -32,6 +32,8 @@ pub enum Plan<'a> {
         input: Option<&'a str>,
         /// Whether the line that says where a run ended is left out.
         quiet: bool,
+        /// The file that a line for each step is written to, if one is named.
+        trace: Option<&'a str>,
     },
     /// List an image.
     Dis {
@@ -44,6 +46,8 @@ pub enum Plan<'a> {
     Debug {
         /// The file with the image.
         image: &'a str,
+        /// The file with its labels, if one is named.
+        symbols: Option<&'a str>,
     },
     /// Say what setting bounds gives.
     Bounds {

@@ -1,8 +1,9 @@
-ghost use Rattle.std.specs.Prelude.{◌≡◌, ◌<◌, ◌^◌, ℕ, Option, IfOk, IfNone, IfErr, OnOk, Some, None, IfSome, IsTrue, map, option_map, codes};
+ghost use Rattle.std.specs.Prelude.{◌≡◌, ◌<◌, ◌^◌, ℕ, Option, IfOk, IfNone, IfErr, OnOk, Some, None, IfSome, IsTrue, map, option_map};
+ghost use Rattle.std.specs.Prelude.{codes};
 ghost use Rattle.clap.specs.Words.{found_of, rows_of, kind_of, first_of, subcommand_of, subcommand_rows_of};
 ghost use Rattle.clap.specs.declared.error.kind.ErrorKind.{ErrorKind};
 ghost use Rattle.sim_run.specs.CommandLine.{program, IsSound, IsTaken, IsNumber, IsNatural, IsFile, IsLayoutOf, IsPlanOf, IsPlanOfCommand};
-ghost use Rattle.sim_run.specs.CommandLine.{IsScheduleOf, NoCommandFits, NoPlanFits, is_apart, is_used};
+ghost use Rattle.sim_run.specs.CommandLine.{IsScheduleOf, NoCommandFits, NoPlanFits, are_apart, is_apart, is_used};
 ghost use Rattle.sim_run.specs.Schedule.{IsInRange};
 ghost use Rattle.sim_run.specs.declared.fault.PlanFault.TheVariants.{Memory};
 ghost use Rattle.sim_run.specs.declared.layout.Layout.{Layout};
@@ -132,6 +133,16 @@ fn is_apart(name: &str, other: Option<&str>) -> bool
     }
 }
 
+/// The same of a file that need not be named.
+fn are_apart(name: Option<&str>, other: Option<&str>) -> bool
+    ensures { result ≡ are_apart name.entry other.entry }
+{
+    match name {
+        Some(name) => is_apart(name, other),
+        None => true,
+    }
+}
+
 fn asm_plan<'a>(found: &ArgMatches<'a>) -> Result<Plan<'a>, Misfit>
     ensures value { IfOk result (IsPlanOfCommand (codes "asm") (rows_of (found_of found.now))) }
     ensures sound { IfOk result IsSound }
@@ -175,12 +186,16 @@ fn run_plan<'a>(found: &ArgMatches<'a>) -> Result<Plan<'a>, Misfit>
     ensures none { IfErr result (λ _. NoCommandFits (codes "run") (rows_of (found_of found.now))) }
 {
     let image = operand(found, "IMAGE")?;
+    let input = text(found, "input");
+    let trace = text(found, "trace");
     match schedule_of(found) {
+        Some(_) if !(is_apart(image, trace) && are_apart(input, trace)) => Err(SAME_FILE),
         Some(schedule) => Ok(Plan::Run {
             image,
             schedule,
-            input: text(found, "input"),
+            input,
             quiet: is_used(found, "quiet"),
+            trace,
         }),
         None => Err(MISSING),
     }
@@ -204,6 +219,7 @@ fn debug_plan<'a>(found: &ArgMatches<'a>) -> Result<Plan<'a>, Misfit>
 {
     Ok(Plan::Debug {
         image: operand(found, "IMAGE")?,
+        symbols: text(found, "symbols"),
     })
 }
 

@@ -1,4 +1,5 @@
-ghost use Rattle.std.specs.Prelude.{ℕ, ◌≡◌, ◌≤◌, ◌<◌, ◌+◌, ◌-◌, ◌^◌, None, IfOk, OnOk, OnErr, true, false, is_some, [], ◌∷◌, map, replicate, option_to_list};
+ghost use Rattle.std.specs.Prelude.{ℕ, ◌≡◌, ◌≤◌, ◌<◌, ◌+◌, ◌-◌, ◌^◌, None, IfOk, OnOk, OnErr, true, false, is_some, [], ◌∷◌, map};
+ghost use Rattle.std.specs.Prelude.{replicate, option_to_list};
 ghost use Rattle.std.specs.Prelude.{if◌then◌else◌};
 ghost use Rattle.std.specs.Io.KnownBytes.{Appends, Keeps};
 ghost use Rattle.image.specs.Devices.{Counts};
@@ -15,7 +16,7 @@ use machine::{End, Event, Machine};
 impl Schedule {
     /// The byte that comes just before this step, counted from 1.
     #[tactic(auto, unfolding(crate::specs::Schedule::byte_before))]
-    fn byte_before(self, input: &[u8], step: u64) -> Option<u8>
+    pub(crate) fn byte_before(self, input: &[u8], step: u64) -> Option<u8>
         requires gap { 1 ≤ self.gap }
         requires step { 1 ≤ step }
         ensures { result ≡ byte_before self input.now step }
@@ -29,7 +30,7 @@ impl Schedule {
 
     /// Whether a tick comes after this step, counted from 1.
     #[tactic(auto, unfolding(crate::specs::Schedule::is_tick_after))]
-    fn is_tick_after(self, step: u64) -> bool
+    pub(crate) fn is_tick_after(self, step: u64) -> bool
         ensures { result ≡ is_tick_after self step }
     {
         self.tick != 0 && step % self.tick == 0
@@ -77,7 +78,7 @@ impl Schedule {
 }
 
 /// Writes the byte that a step sent, if it sent one.
-fn write_sent<W: Sink>(byte: Option<u8>, sink: &mut W) -> Result<(), DeviceFailed>
+pub(crate) fn write_sent<W: Sink>(byte: Option<u8>, sink: &mut W) -> Result<(), DeviceFailed>
     requires { W.failed sink.old < 2 ^ 64 - 1 }
     ensures ok { OnOk result (Appends (W.held sink.old) (W.held sink.new) (option_to_list byte)) }
     ensures err { OnErr result (Keeps (W.held sink.old) (W.held sink.new)) }
@@ -94,7 +95,7 @@ fn write_sent<W: Sink>(byte: Option<u8>, sink: &mut W) -> Result<(), DeviceFaile
 }
 
 /// Gives the machine the byte that comes, if one does.
-fn bring<C: CapRep>(machine: &mut Machine<C>, byte: Option<u8>)
+pub(crate) fn bring<C: CapRep>(machine: &mut Machine<C>, byte: Option<u8>)
     ensures { machine.new ≡ run_after (map Byte (option_to_list byte)) machine.old }
 {
     if let Some(byte) = byte {
@@ -103,7 +104,7 @@ fn bring<C: CapRep>(machine: &mut Machine<C>, byte: Option<u8>)
 }
 
 /// Gives the machine the tick that comes, if one does.
-fn pass<C: CapRep>(machine: &mut Machine<C>, ticks: bool)
+pub(crate) fn pass<C: CapRep>(machine: &mut Machine<C>, ticks: bool)
     ensures { machine.new ≡ run_after (if ticks then Tick ∷ [] else []) machine.old }
 {
     if ticks {

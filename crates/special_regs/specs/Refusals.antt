@@ -1,5 +1,5 @@
 -- Who may use the system registers (UCAM-CL-TR-987, Access_System_Registers; that every listed register asks for it is profile).
-use Rattle.std.specs.Prelude.{ℕ, Bool, not, ◌&&◌, ◌||◌, ◌==◌, nat_le, [], ◌∷◌, Option}
+use Rattle.std.specs.Prelude.{ℕ, Bool, not, ◌&&◌, ◌||◌, ◌==◌, nat_le, List, [], ◌∷◌, Option}
 use Rattle.std.specs.List.{list_any}
 use Rattle.cap_rights.specs.Permission.{permits}
 use Rattle.cap_rights.specs.declared.permission.Permission.TheVariants as permission
@@ -19,24 +19,25 @@ has_system_access s = permits s.pcc permission.AccessSystemRegisters
 abbrev pub is_read_only : ℕ → Bool
 is_read_only n = list_any (λ k. n == k) (MVENDORID ∷ MARCHID ∷ MIMPID ∷ MHARTID ∷ [])
 
--- Why control and status register n may not be read or, where `writes` is true, written: no such register or a write to one that is
--- only read, then no access.
+-- What a read or, where `writes` is true, a write of control and status register n asks for, in order: there is such a register, and it
+-- isn't one that is only read; then access.
+abbrev pub csr_checks : Scrs → ℕ → Bool → List (Bool × SpecialFault)
+csr_checks s n writes = (is_csr n && not (writes && is_read_only n), S1) ∷ (has_system_access s, S2) ∷ []
+
 unfoldable pub csr_fault : Scrs → ℕ → Bool → Option SpecialFault
-csr_fault s n writes =
-    first_fault (
-    (is_csr n && not (writes && is_read_only n), S1)
-    ∷ (has_system_access s, S2)
-    ∷ [])
+csr_fault s n writes = first_fault (csr_checks s n writes)
 
--- Why special capability register n may not be read or, where `writes` is true, replaced: no such register or a write to PCC, then no
--- access to MTCC, MTDC, MScratchC or MEPCC.
+-- What a read or, where `writes` is true, a replacement of special capability register n asks for, in order: there is such a register,
+-- and PCC isn't replaced; then access to MTCC, MTDC, MScratchC or MEPCC.
+abbrev pub scr_checks : Scrs → ℕ → Bool → List (Bool × SpecialFault)
+scr_checks s n writes = (is_scr n && not (writes && (n == PCC)), S1) ∷ (not (nat_le MTCC n) || has_system_access s, S2) ∷ []
+
 unfoldable pub scr_fault : Scrs → ℕ → Bool → Option SpecialFault
-scr_fault s n writes =
-    first_fault (
-    (is_scr n && not (writes && (n == PCC)), S1)
-    ∷ (not (nat_le MTCC n) || has_system_access s, S2)
-    ∷ [])
+scr_fault s n writes = first_fault (scr_checks s n writes)
 
--- Why a trap may not be left: no access.
+-- What the return from a trap asks for: access.
+abbrev pub return_checks : Scrs → List (Bool × SpecialFault)
+return_checks s = (has_system_access s, S2) ∷ []
+
 unfoldable pub return_fault : Scrs → Option SpecialFault
-return_fault s = first_fault ((has_system_access s, S2) ∷ [])
+return_fault s = first_fault (return_checks s)

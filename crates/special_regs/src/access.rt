@@ -2,13 +2,13 @@
 
 ghost use Rattle.std.specs.Prelude.{◌≡◌, IsTrue, IfErr, IfOk, OnOk, Some, None};
 ghost use Rattle.base.specs.Registers.{is_csr};
-ghost use Rattle.special_regs.specs.Refusals.{csr_fault, scr_fault};
+ghost use Rattle.special_regs.specs.Refusals.{csr_fault, scr_fault, csr_checks, scr_checks, return_checks};
 ghost use Rattle.special_regs.specs.Refusals as spec;
 ghost use Rattle.special_regs.specs.Scrs.{scr_value};
 
 use crate::refusal::SpecialFault;
 use crate::scrs::Scrs;
-use base::{csr, is_csr, scr};
+use base::{csr, is_csr, is_scr, scr};
 use cap_bounds::CapRep;
 use cap_rights::{Permission, permits};
 
@@ -62,4 +62,44 @@ pub fn check_scr<C: CapRep>(scrs: &Scrs<C>, number: u8, writes: bool) -> Result<
         ),
         _ => scrs.get(number).ok_or(SpecialFault::S1),
     }
+}
+
+/// A condition, and the refusal where it is false.
+pub type Condition = (bool, SpecialFault);
+
+/// Lists what `check_csr` asks for: there is such a register, which isn't only read where `writes` is true; then access.
+pub fn csr_conditions<C: CapRep>(scrs: &Scrs<C>, number: u16, writes: bool) -> [Condition; 2]
+    ensures { result ≡ csr_checks scrs.now number writes }
+{
+    [
+        (
+            is_csr(number) && !(writes && is_read_only(number)),
+            SpecialFault::S1,
+        ),
+        (has_system_access(scrs), SpecialFault::S2),
+    ]
+}
+
+/// Lists what `check_scr` asks for: there is such a register, which isn't PCC where `writes` is true; then access, which PCC and DDC
+/// do not need.
+pub fn scr_conditions<C: CapRep>(scrs: &Scrs<C>, number: u8, writes: bool) -> [Condition; 2]
+    ensures { result ≡ scr_checks scrs.now number writes }
+{
+    [
+        (
+            is_scr(number) && !(writes && number == scr::PCC),
+            SpecialFault::S1,
+        ),
+        (
+            number < scr::MTCC || has_system_access(scrs),
+            SpecialFault::S2,
+        ),
+    ]
+}
+
+/// Lists what the return from a trap asks for: access.
+pub fn return_conditions<C: CapRep>(scrs: &Scrs<C>) -> [Condition; 1]
+    ensures { result ≡ return_checks scrs.now }
+{
+    [(has_system_access(scrs), SpecialFault::S2)]
 }

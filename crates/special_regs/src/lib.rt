@@ -12,7 +12,9 @@ mod scrs;
 mod traps;
 mod writes;
 
-pub use access::{check_csr, check_scr};
+pub use access::{
+    Condition, check_csr, check_scr, csr_conditions, return_conditions, scr_conditions,
+};
 pub use csrs::Csrs;
 pub use interrupts::{Interrupt, pending};
 pub use reads::{csr_value, held_csr, read_csr};

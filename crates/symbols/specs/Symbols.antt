@@ -1,5 +1,6 @@
 -- Tables of symbols: names and the addresses that they stand for, one a line, and what is looked up in them.
-use Rattle.std.specs.Prelude.{◌≡◌, ℕ, ◌<◌, ◌^◌, Bool, not, ◌&&◌, ◌==◌, nat_le, nat_eq, if◌then◌else◌, List, [], ◌∷◌, ◌++◌, map, length, take}
+use Rattle.std.specs.Prelude.{◌≡◌, ℕ, ◌<◌, ◌^◌, Bool, not, ◌&&◌, ◌==◌, nat_le, nat_eq, if◌then◌else◌, List, [], ◌∷◌, ◌++◌, map, length}
+use Rattle.std.specs.Prelude.{take}
 use Rattle.std.specs.Prelude.{drop, ◌+◌, true, nat_lt, slice_index, Option, Some, None, codes}
 use Rattle.std.specs.List.{prefix_len, flat_map}
 use Rattle.std.specs.Char.{digit_value}

@@ -86,6 +86,15 @@ fn nearest_in(entries: &[Symbol], address: u64) -> Option<&Symbol>
 }
 
 impl Symbols {
+    /// No symbols. It takes no memory; `alloc` is kept.
+    pub fn new(alloc: Global) -> Self
+        ensures { result ≡ [] }
+    {
+        Symbols {
+            entries: Vec::new(alloc),
+        }
+    }
+
     /// The symbols.
     pub fn entries(&self) -> &[Symbol]
         ensures { result.now ≡ self.now }

@@ -81,14 +81,16 @@ and_true_true false b c p q = refl
 
 -- the tagged granules of a stretch, which are those from an address on and below another
 pub addresses_of-is : {m : Memory} (bytes planes : List ℕ) (from to first n : ℕ) → memory_of bytes planes ≡ m → IsLaidOut bytes planes
-    → first ≡ min (length (tags_of planes)) ((from - ram_base + 15) / 16) → first + n ≡ max (min (length (tags_of planes)) ((to - ram_base + 15) / 16)) first
+    → first ≡ min (length (tags_of planes)) ((from - ram_base + 15) / 16)
+    → first + n ≡ max (min (length (tags_of planes)) ((to - ram_base + 15) / 16)) first
     → addresses_of (ram_base + 16 * first) (take n (drop first (tags_of planes))) ≡ tagged_between m from to
 unfolding tagged_between
 addresses_of-is bytes planes from to first n view laid begin end =
     let p : ℕ → Bool = λ a. has_tag (memory_of bytes planes) a && (leb from a && ltb a to) in
     let count : length (tags_of planes) ≡ length bytes / 16 = omega (arith, laid.whole_pages, laid.four_a_page, length-tags_of planes) in
     let zero_first : 0 + first ≡ first = omega arith in
-    let inside : (k : ℕ) → first ≤ k → k < first + n → k < length (tags_of planes) → p (ram_base + 16 * (0 + k)) ≡ get_or (tags_of planes) k false =
+    let inside : (k : ℕ) → first ≤ k → k < first + n → k < length (tags_of planes)
+    → p (ram_base + 16 * (0 + k)) ≡ get_or (tags_of planes) k false =
     λ k low high h.
     let a : ram_base + 16 * (0 + k) ≡ ram_base + 16 * k = omega arith in
     let above : from ≤ ram_base + 16 * (0 + k) = omega arith in

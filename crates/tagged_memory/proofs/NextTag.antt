@@ -33,7 +33,8 @@ here_next planes from mask inside mask_from some fits =
     let t = trailing_zeros w64 here in
     let lowest = bit_at-trailing_zeros w64 here some fits in
     let few : t < 64 = lowest.0 in
-    let both = and_parts (eqb (bit_at word t) 1) (eqb (bit_at mask t) 1) (sym (bit_of_both word mask t) ∙ eq-eqb (bit_at here t) 1 lowest.1) in
+    let both = and_parts (eqb (bit_at word t) 1) (eqb (bit_at mask t) 1)
+    (sym (bit_of_both word mask t) ∙ eq-eqb (bit_at here t) 1 lowest.1) in
     let after : from % 64 ≤ t = leb-true (from % 64) t (sym (mask_from t few) ∙ both.1) in
     let index : (64 * (from / 64) + t) / 64 ≡ from / 64 = omega arith in
     let place : (64 * (from / 64) + t) % 64 ≡ t = omega arith in

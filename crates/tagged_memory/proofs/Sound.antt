@@ -1,5 +1,6 @@
 -- What is true of every memory follows from how its fields lie.
-use Rattle.std.proofs.Common.{◌≡◌, ℕ, zero, suc, ◌+◌, ◌*◌, ◌/◌, ◌%◌, ◌<◌, ◌≤◌, true, eqb, List, length, replicate, slice_index, sym, ap, ◌∙◌}
+use Rattle.std.proofs.Common.{◌≡◌, ℕ, zero, suc, ◌+◌, ◌*◌, ◌/◌, ◌%◌, ◌<◌, ◌≤◌, true, eqb, List, length, replicate, slice_index, sym, ap}
+use Rattle.std.proofs.Common.{◌∙◌}
 use Rattle.std.proofs.Common.{subst, refl, arith}
 use Rattle.std.proofs.lemmas.List.{length-replicate}
 use Rattle.std.proofs.lemmas.Bool.{and_from, le-leb, eq-eqb, eqb-true}
@@ -17,7 +18,8 @@ unfolding is_in_ram
 tagged_in_ram bytes planes laid a e =
     let place = place_of_contained ram_base (tags_of planes) a e in
     let low : ram_base ≤ a = omega (arith, place.1) in
-    let high : a + 16 ≤ ram_base + length bytes = omega (arith, place.1, place.2, laid.whole_pages, laid.four_a_page, length-tags_of planes) in
+    let high : a + 16 ≤ ram_base + length bytes =
+    omega (arith, place.1, place.2, laid.whole_pages, laid.four_a_page, length-tags_of planes) in
     and_from _ _ (le-leb _ _ low) (le-leb _ _ high)
 
 pub sound : (bytes planes : List ℕ) → IsLaidOut bytes planes → IsMemory (memory_of bytes planes)

@@ -1,5 +1,6 @@
 -- What the code reads and writes, as the definitions of memory have it.
-use Rattle.std.proofs.Common.{◌≡◌, ℕ, ◌+◌, ◌-◌, ◌*◌, ◌/◌, ◌%◌, ◌<◌, ◌≤◌, Bool, true, false, cond, eqb, not, ◌&&◌, List, [], ◌++◌, length, take}
+use Rattle.std.proofs.Common.{◌≡◌, ℕ, ◌+◌, ◌-◌, ◌*◌, ◌/◌, ◌%◌, ◌<◌, ◌≤◌, Bool, true, false, cond, eqb, not, ◌&&◌, List, [], ◌++◌, length}
+use Rattle.std.proofs.Common.{take}
 use Rattle.std.proofs.Common.{drop, set, Vec, refl, sym, ap, ◌∙◌, arith, ⊎_elim}
 use Rattle.std.proofs.lemmas.Bool.{cases_eq, eq-eqb, ne_eqb, lt-ltb, le-ltb, and_from, and_left, and_right, cases_lt}
 use Rattle.std.proofs.lemmas.List.{take_rest, drop-drop, drop_all, append-nil, append_assoc, length-drop}

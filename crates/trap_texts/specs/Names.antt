@@ -4,18 +4,24 @@ use Rattle.asm_names.specs.Registers.{register_name}
 use Rattle.asm_names.specs.SpecialNames.{name_in, scr_name}
 use Rattle.trap_texts.specs.declared.names.TheConstants.{CAUSES, CHERI_CAUSES}
 
--- each cause as mcause holds it, with the bytes of its name; and what a capability forbids
+-- each cause as mcause holds it, with the bytes of its name; what a capability forbids; and what it is asked for there
 abbrev pub causes : List (ℕ × List ℕ)
 causes = map (λ c. (c.0, c.1.now)) CAUSES
 
 abbrev pub cheri_causes : List (ℕ × List ℕ)
-cheri_causes = map (λ c. (c.0, c.1.now)) CHERI_CAUSES
+cheri_causes = map (λ c. (c.0, c.2.now)) CHERI_CAUSES
+
+abbrev pub cheri_asked : List (ℕ × List ℕ)
+cheri_asked = map (λ c. (c.0, c.1.now)) CHERI_CAUSES
 
 unfoldable pub cause_name : ℕ → Option (List ℕ)
 cause_name mcause = name_in causes mcause
 
 unfoldable pub cheri_cause_name : ℕ → Option (List ℕ)
 cheri_cause_name number = name_in cheri_causes number
+
+unfoldable pub cheri_asked_name : ℕ → Option (List ℕ)
+cheri_asked_name number = name_in cheri_asked number
 
 -- the register at fault: below 32 a capability register, from 32 on a special one
 unfoldable pub register_at_fault : ℕ → Option (List ℕ)

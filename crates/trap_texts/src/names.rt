@@ -22,19 +22,27 @@ pub const CAUSES: [(u64, &str); 12] = [
     (0x8000_0000_0000_000b, "external interrupt"),
 ];
 
-/// The names of what a capability forbids, by the number in the low five bits of mtval (UCAM-CL-TR-987, capability exception codes).
-pub const CHERI_CAUSES: [(u64, &str); 11] = [
-    (0x01, "length violation"),
-    (0x02, "tag violation"),
-    (0x03, "seal violation"),
-    (0x04, "type violation"),
-    (0x11, "permit execute violation"),
-    (0x12, "permit load violation"),
-    (0x13, "permit store violation"),
-    (0x15, "permit store capability violation"),
-    (0x16, "permit store local capability violation"),
-    (0x18, "access system registers violation"),
-    (0x19, "permit CInvoke violation"),
+/// What a capability is asked for, and what is said where it isn't so: one text.
+macro_rules! asked {
+    ($number:literal, $asked:literal) => {
+        ($number, $asked, concat!($asked, " violation"))
+    };
+}
+
+/// The names of what a capability is asked for and of what it forbids, by the number in the low five bits of mtval (UCAM-CL-TR-987,
+/// capability exception codes).
+pub const CHERI_CAUSES: [(u64, &str, &str); 11] = [
+    asked!(0x01, "length"),
+    asked!(0x02, "tag"),
+    asked!(0x03, "seal"),
+    asked!(0x04, "type"),
+    asked!(0x11, "permit execute"),
+    asked!(0x12, "permit load"),
+    asked!(0x13, "permit store"),
+    asked!(0x15, "permit store capability"),
+    asked!(0x16, "permit store local capability"),
+    asked!(0x18, "access system registers"),
+    asked!(0x19, "permit CInvoke"),
 ];
 
 /// The name of a cause, as mcause holds it, or none.
@@ -45,12 +53,20 @@ pub fn cause_name(mcause: u64) -> Option<&'static str>
     name_in(&CAUSES, mcause)
 }
 
-/// The name of what a capability forbids, by its number, or none.
+/// The name of what a capability forbids, as `length violation`, by its number, or none.
 #[tactic(auto, unfolding(crate::specs::Names::cheri_cause_name))]
 pub fn cheri_cause_name(number: u64) -> Option<&'static str>
     ensures { option_map (λ name. name.now) result ≡ spec.cheri_cause_name number }
 {
-    name_in(&CHERI_CAUSES, number)
+    violation_in(&CHERI_CAUSES, number)
+}
+
+/// The name of what a capability is asked for, as `length`, by the number of what it forbids, or none.
+#[tactic(auto, unfolding(crate::specs::Names::cheri_asked_name))]
+pub fn cheri_asked_name(number: u64) -> Option<&'static str>
+    ensures { option_map (λ name. name.now) result ≡ spec.cheri_asked_name number }
+{
+    asked_in(&CHERI_CAUSES, number)
 }
 
 /// The name of the register at fault: below 32 a capability register, from 32 on a special one; or none.
@@ -71,4 +87,16 @@ fn name_in(names: &[(u64, &'static str)], number: u64) -> Option<&'static str>
     ensures { option_map (λ name. name.now) result ≡ option_map (λ p. p.1.now) (find (λ p. p.0 == number) names.now) }
 {
     names.iter().find(|p| p.0 == number).map(|p| p.1)
+}
+
+fn asked_in(names: &[(u64, &'static str, &'static str)], number: u64) -> Option<&'static str>
+    ensures { option_map (λ name. name.now) result ≡ option_map (λ p. p.1.now) (find (λ p. p.0 == number) names.now) }
+{
+    names.iter().find(|p| p.0 == number).map(|p| p.1)
+}
+
+fn violation_in(names: &[(u64, &'static str, &'static str)], number: u64) -> Option<&'static str>
+    ensures { option_map (λ name. name.now) result ≡ option_map (λ p. p.2.now) (find (λ p. p.0 == number) names.now) }
+{
+    names.iter().find(|p| p.0 == number).map(|p| p.2)
 }

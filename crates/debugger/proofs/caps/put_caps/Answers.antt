@@ -17,7 +17,8 @@ loop-address-init g c =
     let m = c.args.memory.now in
     let end : ram_base + 4096 * c.from.result ≡ ram_base + length m.bytes = omega (arith, c.pages.ensures.value, c.from.ensures) in
     let all : tagged_rest c.into_iter-address-iterator.result ≡ tagged_between m ram_base (ram_base + length m.bytes) =
-    ap tagged_rest c.into_iter-address-iterator.ensures.into_iter_gives ∙ c.tagged-address-items.ensures ∙ ap (tagged_between m ram_base) end in
+    ap tagged_rest c.into_iter-address-iterator.ensures.into_iter_gives ∙ c.tagged-address-items.ensures
+    ∙ ap (tagged_between m ram_base) end in
     record {
       lines = no_line_yet (cap_line m) _ _ _ _ c.in_ok-reserve.ensures.bytes all;
       tagged = subst (All (λ granule. has_tag m granule ≡ true)) (sym all) (all_tagged m ram_base (ram_base + length m.bytes));

@@ -8,6 +8,7 @@ loop-event-preserved c =
     let l = c.loop-event in
     record {
       count = ap (λ n. n + 1) l.invariant.count;
-      steps = BeginWithSteps-more l.count c.args.events.now Step (omega (arith, l.invariant.count, c.loop-event-test.true)) l.invariant.steps
+      steps = BeginWithSteps-more l.count c.args.events.now Step
+          (omega (arith, l.invariant.count, c.loop-event-test.true)) l.invariant.steps
           (ap (λ n. get_or c.args.events.now n Step) l.invariant.count ∙ c.in-Step.is);
     }

@@ -35,7 +35,8 @@ returns-in-Ok-plan_of-clause-ok c =
 
 pub returns-clause-err : goal.returns-clause-err
 returns-clause-err c = λ taken fits.
-    absurd (fits (subst (λ found. NoPlanFits found) (found_in _ _ _ c.in_ok-command.ensures c.in-Ok.ensures.ok.2) c.in-Err-plan_of.ensures.none))
+    absurd (fits (subst (λ found. NoPlanFits found)
+    (found_in _ _ _ c.in_ok-command.ensures c.in-Ok.ensures.ok.2) c.in-Err-plan_of.ensures.none))
 
 pub returns-in-Ok-plan_of-clause-taken : goal.returns-in-Ok-plan_of-clause-taken
 returns-in-Ok-plan_of-clause-taken c = no_fault _ _ c.in_ok-command.ensures (c.in-Ok.ensures.kinds (is_free _ c.in_ok-command.ensures))

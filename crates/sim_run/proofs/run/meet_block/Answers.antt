@@ -6,8 +6,14 @@ use Rattle.sim_run.proofs.run.meet_block.Goals as goal
 use Rattle.sim_run.proofs.run.meet_block.Goals.{then-ticks, else-ticks}
 
 pub meet_steps-requires : goal.meet_steps-requires
-meet_steps-requires g c =
-    (search rules, (search rules, still c.args.byte c.args.count c.args.ticks c.args.machine.now c.bring.new.machine c.requires.running c.bring.ensures))
+meet_steps-requires g c = (
+  search rules,
+  (
+    search rules,
+    still c.args.byte c.args.count c.args.ticks c.args.machine.now c.bring.new.machine
+        c.requires.running c.bring.ensures,
+  ),
+)
 
 pub returns-in_err-steps-clause-err : goal.returns-in_err-steps-clause-err
 returns-in_err-steps-clause-err g c =

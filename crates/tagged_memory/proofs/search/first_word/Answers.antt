@@ -14,4 +14,12 @@ loop-start-preserved c =
 pub overflow_add-result : goal.overflow_add-result
 overflow_add-result c =
     let whole = prefix_len-le-length (λ word. not (not (eqb word 0))) c.args.words.now in
-    record { fits = omega (arith, c.loop-start.invariant.0, c.first_of_few.ensures ∙ ap first_set (take_rest c.args.words.now c.loop-start.start), whole) }
+    record {
+      fits = omega (
+        arith,
+        c.loop-start.invariant.0,
+        c.first_of_few.ensures ∙
+            ap first_set (take_rest c.args.words.now c.loop-start.start),
+        whole,
+      );
+    }

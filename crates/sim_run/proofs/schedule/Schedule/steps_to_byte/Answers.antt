@@ -6,4 +6,5 @@ pub returns-then-done-self-clause-alone : goal.returns-then-done-self-clause-alo
 returns-then-done-self-clause-alone c = λ j some few. no_byte_yet c.args.self c.args.done j some c.args.input.now few
 
 pub returns-else-done-self-clause-alone : goal.returns-else-done-self-clause-alone
-returns-else-done-self-clause-alone c = λ j some few. no_byte_left c.args.self c.args.done j some c.args.input.now c.requires.gap (omega arith)
+returns-else-done-self-clause-alone c = λ j some few.
+    no_byte_left c.args.self c.args.done j some c.args.input.now c.requires.gap (omega arith)

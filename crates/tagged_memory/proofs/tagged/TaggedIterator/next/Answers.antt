@@ -5,7 +5,8 @@ use Rattle.tagged_memory.proofs.tagged.TaggedIterator.next.Goals as goal
 pub returns-then-granule-self-clause-steps : goal.returns-then-granule-self-clause-steps
 returns-then-granule-self-clause-steps c =
     let it = c.args.self.now in
-    let none = range-none it.planes.now it.next it.end c.next_tag-granule.result c.next_tag-granule.ensures c.if-granule-self.true it.within in
+    let none = range-none it.planes.now it.next it.end c.next_tag-granule.result c.next_tag-granule.ensures
+    c.if-granule-self.true it.within in
     (none, none)
 
 pub returns-clause-steps : goal.returns-clause-steps

@@ -1,0 +1,4 @@
+-- What to read
+pub mod ValueText
+pub mod EffectText
+pub mod TraceLine

@@ -1,0 +1,70 @@
+//! A line of a trace.
+ghost use Rattle.std.specs.Prelude.{◌≡◌, ◌+◌, ◌<◌, ◌≤◌, ◌++◌, length, decimal};
+ghost use Rattle.arrayvec.specs.ArrayString.{array_string_len};
+ghost use Rattle.cap_bounds.specs.CapValue.{value_flag};
+ghost use Rattle.disassembler.specs.Hex.{hex_of};
+ghost use Rattle.hart.specs.Applying.{meant};
+ghost use Rattle.hart.specs.State.{pc_of};
+ghost use Rattle.hart.specs.Step.{step_effect};
+ghost use Rattle.effect_texts.specs.TraceLine as spec;
+
+use crate::effect::effect_text;
+use arrayvec::ArrayString;
+use cap_bounds::CapRep;
+use disassembler::{disassemble, hex_digits};
+use hart::{Effect, Hart};
+use itoa::Buffer;
+
+/// The text of a line.
+pub type Line = ArrayString<384>;
+
+/// Whether an effect is an interrupt that is taken.
+fn is_interrupt<C: CapRep>(effect: &Effect<C>) -> bool
+    ensures { result ≡ spec.is_interrupt (meant C.value effect.now) }
+{
+    match effect {
+        Effect::Trap(fault) => fault.mcause >= 1 << 63,
+        _ => false,
+    }
+}
+
+/// Puts the word that the next step does and its text behind a line.
+#[tactic(auto, unfolding(crate::specs::TraceLine::step_word))]
+fn put_word<C: CapRep>(line: &mut Line, hart: &Hart<C>, effect: &Effect<C>)
+    requires effect { meant C.value effect.now ≡ step_effect hart.now }
+    requires room { array_string_len line.old + 80 ≤ 384 }
+    ensures text { line.new.bytes ≡ line.old.bytes ++ spec.step_word hart.now }
+    ensures within { array_string_len line.new ≤ array_string_len line.old + 80 }
+{
+    if is_interrupt(effect) {
+        line.push_str("-");
+        return;
+    }
+    match hart.fetch() {
+        Ok(word) => {
+            line.push_str(hex_digits(u128::from(word), 8).as_str());
+            line.push_str(" ");
+            line.push_str(disassemble(word, hart.scrs().pcc().flag()).as_str());
+        }
+        Err(_) => line.push_str("-"),
+    }
+}
+
+/// The line of a trace for the next step of a machine that is not halted, with the step's number: PCC's address, the word of the
+/// instruction there and its text in PCC's mode, and what the step comes to. Where nothing is fetched, as where an interrupt is taken,
+/// `-` stands for the word. It takes no memory, and changes nothing.
+pub fn trace_line<C: CapRep>(number: u64, hart: &Hart<C>) -> Line
+    ensures { result.bytes ≡ spec.trace_line number hart.now }
+{
+    let effect = hart.next_effect();
+    let mut line = Line::new();
+    line.push_str(Buffer::new().format(number));
+    line.push_str(" ");
+    line.push_str(hex_digits(u128::from(hart.scrs().pcc().address()), 16).as_str());
+    line.push_str(" ");
+    put_word(&mut line, hart, &effect);
+    line.push_str(": ");
+    line.push_str(effect_text(&effect).as_str());
+    line.push_str("\n");
+    line
+}

@@ -1,0 +1,81 @@
+//! A text of one line that takes no memory, and what is put behind it.
+ghost use Rattle.std.specs.Prelude.{◌≡◌, ◌+◌, ◌<◌, ◌≤◌, [], ◌++◌, length, codes};
+ghost use Rattle.arrayvec.specs.ArrayString.{array_string_len};
+ghost use Rattle.disassembler.specs.Hex.{hex_of};
+ghost use Rattle.effect_texts.specs.ValueText.{shown_value};
+ghost use Rattle.effect_texts.specs.EffectText.{register_text, value_part, written_first, written_or};
+
+use crate::value::value_text;
+use arrayvec::ArrayString;
+use asm_names::register_name;
+use cap_bounds::CapRep;
+use disassembler::hex_digits;
+
+/// The text of an effect.
+pub type Text = ArrayString<256>;
+
+/// Puts the lowest `width` hexadecimal digits of a number, at most 17, behind a text.
+pub(crate) fn put_hex(text: &mut Text, width: usize, n: u64)
+    requires width { width ≤ 17 }
+    requires room { array_string_len text.old + width ≤ 256 }
+    ensures bytes { text.new.bytes ≡ text.old.bytes ++ hex_of width n }
+    ensures length { array_string_len text.new ≡ array_string_len text.old + width }
+{
+    text.push_str(hex_digits(u128::from(n), width).as_str());
+}
+
+/// Puts a value behind a text.
+pub(crate) fn put_value<C: CapRep>(text: &mut Text, value: C)
+    requires { array_string_len text.old + 81 ≤ 256 }
+    ensures bytes { text.new.bytes ≡ text.old.bytes ++ shown_value (C.value value) }
+    ensures length { array_string_len text.new ≡ array_string_len text.old + 81 }
+{
+    text.push_str(value_text(value).as_str());
+}
+
+/// The capability name of a general register.
+fn register(n: u8) -> &'static str
+    ensures name { result.now ≡ register_text n }
+    ensures short { length result.now ≤ 5 }
+{
+    if n < 32 { register_name(n, true) } else { "" }
+}
+
+/// Puts a register's new value behind a text.
+fn put_register<C: CapRep>(text: &mut Text, rd: u8, value: C)
+    requires { array_string_len text.old + 89 ≤ 256 }
+    ensures bytes { text.new.bytes ≡ text.old.bytes ++ value_part (register_text rd) (C.value value) }
+    ensures within { array_string_len text.new ≤ array_string_len text.old + 89 }
+{
+    text.push_str(register(rd));
+    text.push_str(" = ");
+    put_value(text, value);
+}
+
+/// Puts a register's new value behind a text; for register 0, where it is lost, another text.
+#[tactic(auto, unfolding(crate::specs::EffectText::written_or))]
+pub(crate) fn put_written_or<C: CapRep>(text: &mut Text, other: &str, rd: u8, value: C)
+    requires other { length other.now ≤ 89 }
+    requires room { array_string_len text.old + 89 ≤ 256 }
+    ensures bytes { text.new.bytes ≡ text.old.bytes ++ written_or other.now rd (C.value value) }
+    ensures within { array_string_len text.new ≤ array_string_len text.old + 89 }
+{
+    if rd == 0 {
+        text.push_str(other);
+    } else {
+        put_register(text, rd, value);
+    }
+}
+
+/// Puts a register's new value and a comma behind a text; for register 0, where it is lost, nothing.
+#[tactic(auto, unfolding(crate::specs::EffectText::written_first))]
+pub(crate) fn put_written_first<C: CapRep>(text: &mut Text, rd: u8, value: C)
+    requires { array_string_len text.old + 91 ≤ 256 }
+    ensures bytes { text.new.bytes ≡ text.old.bytes ++ written_first rd (C.value value) }
+    ensures within { array_string_len text.new ≤ array_string_len text.old + 91 }
+{
+    if rd != 0 {
+        put_register(text, rd, value);
+        text.push_str(", ");
+    }
+}

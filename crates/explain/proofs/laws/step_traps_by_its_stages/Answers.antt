@@ -1,0 +1,5 @@
+use Rattle.explain.specs.StageLaws.{traps-by_its_stages}
+use Rattle.explain.proofs.laws.step_traps_by_its_stages.Goals as goal
+
+pub returns : goal.returns
+returns c = traps-by_its_stages

@@ -1,0 +1,76 @@
+//! The whole text.
+ghost use Rattle.std.specs.Prelude.{◌≡◌, ◌%◌, ◌++◌, OnOk, string_bytes, true};
+ghost use Rattle.tagged_memory.specs.Memory.{is_in_ram, number_at};
+ghost use Rattle.explain.specs.Text.{instruction_text, running_text, why_text};
+
+use crate::stages::put_stages;
+use crate::text::{put, put_decimal};
+use base::Size;
+use cap_bounds::CapRep;
+use disassembler::word_line;
+use effect_texts::effect_text;
+use hart::Hart;
+use std::alloc::AllocError;
+use tagged_memory::Memory;
+
+/// How many bytes an instruction has.
+const INSTRUCTION_BYTES: u64 = 4;
+
+/// The word at an address in RAM.
+#[tactic(auto, unfolding(tagged_memory::specs::Memory::place_fault))]
+fn word_at(memory: &Memory, address: u64) -> u32
+    requires aligned { address % 4 ≡ 0 }
+    requires inside { is_in_ram memory.now address 4 ≡ true }
+    ensures { result ≡ number_at memory.now address 4 }
+{
+    match memory.read(address, Size::Word) {
+        Ok(word) => word as u32,
+        Err(_) => unreachable!(),
+    }
+}
+
+/// Puts the line of the instruction at PCC behind a text, where there is RAM.
+#[tactic(auto, unfolding(crate::specs::Text::instruction_text))]
+fn put_instruction<C: CapRep>(text: &mut String, hart: &Hart<C>) -> Result<(), AllocError>
+    ensures { OnOk result (string_bytes text.new ≡ string_bytes text.old ++ instruction_text hart.now) }
+{
+    let pcc = hart.scrs().pcc();
+    let address = pcc.address();
+    if hart.memory().is_in_ram(address, INSTRUCTION_BYTES) {
+        let word = word_at(hart.memory(), address);
+        put(text, word_line(address, word, pcc.flag()).as_str())
+    } else {
+        put(text, "")
+    }
+}
+
+/// Puts what the next step will do, and why, behind a text.
+fn put_running<C: CapRep>(text: &mut String, hart: &Hart<C>) -> Result<(), AllocError>
+    ensures { OnOk result (string_bytes text.new ≡ string_bytes text.old ++ running_text hart.now) }
+{
+    put_instruction(text, hart)?;
+    put_stages(text, hart)?;
+    put(text, "effect: ")?;
+    put(text, effect_text(&hart.next_effect()).as_str())?;
+    put(text, "\n")
+}
+
+/// Puts what the next step will do, and why, behind a text: the instruction at PCC; each stage of the step with the capabilities that it
+/// asks and its conditions, up to the first that is false; and the effect. Of a machine that is halted it says so.
+///
+/// # Errors
+///
+/// Where there is no memory for the text.
+#[tactic(auto, unfolding(crate::specs::Text::why_text))]
+pub fn put_why<C: CapRep>(text: &mut String, hart: &Hart<C>) -> Result<(), AllocError>
+    ensures { OnOk result (string_bytes text.new ≡ string_bytes text.old ++ why_text hart.now) }
+{
+    match hart.halted() {
+        Some(number) => {
+            put(text, "halted ")?;
+            put_decimal(text, number)?;
+            put(text, "\n")
+        }
+        None => put_running(text, hart),
+    }
+}

@@ -1,0 +1,239 @@
+-- The lines of a traced run, and what is left of it where a sink fails.
+use Rattle.std.proofs.Common.{◌≡◌, ℕ, zero, suc, ◌+◌, ◌-◌, ◌<◌, ◌≤◌, Bool, true, false, List, [], ◌∷◌, ◌++◌, replicate, refl, sym, ap, ◌∙◌}
+use Rattle.std.proofs.Common.{append_assoc, append-nil, subst, arith}
+use Rattle.std.specs.Prelude.{Option, Some, None, is_some, option_to_list, if◌then◌else◌}
+use Rattle.std.specs.Io.KnownBytes.{Appends, Keeps}
+use Rattle.std.proofs.KnownBytes.{Appends-nil, Appends-trans, Appends-kept}
+use Rattle.image.specs.Devices.{AppendsBeginning}
+use Rattle.image.specs.BeginningLaws.{beginning_more, beginning_after}
+use Rattle.hart.specs.declared.event.Event.{Event}
+use Rattle.hart.specs.declared.event.Event.TheVariants.{Step, Tick, Byte}
+use Rattle.hart.specs.Event.{after, sent}
+use Rattle.hart.specs.State.{State}
+use Rattle.machine.specs.Run.{run_after, run_sent}
+use Rattle.effect_texts.specs.TraceLine.{trace_line}
+use Rattle.sim_run.specs.declared.schedule.Schedule.{Schedule}
+use Rattle.sim_run.specs.declared.traced.TraceFault.{TraceFault}
+use Rattle.sim_run.specs.declared.traced.TraceFault.TheVariants.{Output, Trace}
+use Rattle.sim_run.specs.Schedule.{block, byte_before, is_tick_after, first_steps, is_halted, scheduled, steps_in, up_to_halt, AreAlone}
+use Rattle.sim_run.specs.Trace.{trace_lines, IsOutputCut, IsTraceCut, WasCut}
+use Rattle.sim_run.proofs.Events.{brought, ticking, ticked_after, run_after-append, run_sent-append, run_sent-brought, goes_on}
+use Rattle.sim_run.proofs.Events.{up_to_halt-append, up_to_halt-block, then_up_to_halt, no_more, count_in_block, steps_in-append}
+use Rattle.sim_run.proofs.Scheduled.{nth_block, block_follows, more_follow, steps_from}
+
+-- ---- lines of events, one after the other
+
+trace_lines-append : (n : ℕ) (xs ys : List Event) (s : State)
+    → trace_lines n (xs ++ ys) s ≡ trace_lines n xs s ++ trace_lines (n + steps_in xs) ys (run_after xs s)
+trace_lines-append n [] ys s =
+    let none : n ≡ n + 0 = omega arith in
+    ap (λ m. trace_lines m ys s) none
+trace_lines-append n (Step ∷ xs) ys s =
+    let one : n + 1 + steps_in xs ≡ n + suc (steps_in xs) = omega arith in
+    ap (λ lines. trace_line (n + 1) s ++ lines) (trace_lines-append (n + 1) xs ys (after Step s))
+    ∙ sym (append_assoc (trace_line (n + 1) s) (trace_lines (n + 1) xs (after Step s)) _)
+    ∙ ap (λ m. (trace_line (n + 1) s ++ trace_lines (n + 1) xs (after Step s)) ++ trace_lines m ys (run_after xs (after Step s))) one
+trace_lines-append n (Tick ∷ xs) ys s = trace_lines-append n xs ys (after Tick s)
+trace_lines-append n (Byte b ∷ xs) ys s = trace_lines-append n xs ys (after (Byte b) s)
+
+trace_lines-brought : (n : ℕ) (byte : Option ℕ) (es : List Event) (s : State)
+    → trace_lines n (brought byte ++ es) s ≡ trace_lines n es (run_after (brought byte) s)
+trace_lines-brought n None es s = refl
+trace_lines-brought n (Some b) es s = refl
+
+trace_lines-ticked : (n : ℕ) (b : Bool) (s : State) → trace_lines n (if b then Tick ∷ [] else []) s ≡ []
+trace_lines-ticked n true s = refl
+trace_lines-ticked n false s = refl
+
+-- ---- runs that are cut short
+
+-- the lines of events behind others
+lines_behind : (n : ℕ) (before done last : List Event) (old : State)
+    → trace_lines n before old ++ trace_lines (n + steps_in before) (done ++ last) (run_after before old)
+    ≡ trace_lines n ((before ++ done) ++ last) old
+lines_behind n before done last old =
+    sym (trace_lines-append n before (done ++ last) old) ∙ ap (λ es. trace_lines n es old) (sym (append_assoc before done last))
+
+-- more events before and after
+traced_within : (n : ℕ) (fault : TraceFault) (before events more : List Event) (old new : State) (a b c d e f : Option (List ℕ))
+    → Appends a b (run_sent before old) → Appends d e (trace_lines n before old)
+    → WasCut fault (n + steps_in before) events (run_after before old) new b c e f
+    → WasCut fault n (before ++ (events ++ more)) old new a c d f
+traced_within n Output before events more old new a b c d e f written traced cut = record {
+  done = before ++ cut.done;
+  last = cut.last;
+  rest = cut.rest ++ more;
+  order = ap (λ es. before ++ (es ++ more)) cut.order
+      ∙ ap (λ es. before ++ es) (append_assoc cut.done (cut.last ∷ cut.rest) more)
+      ∙ sym (append_assoc before cut.done (cut.last ∷ (cut.rest ++ more)));
+  state = cut.state ∙ ap (after cut.last) (sym (run_after-append before cut.done old));
+  unwritten = rw (run_after-append before cut.done old) cut.unwritten;
+  held = rw (run_sent-append before cut.done old) (Appends-trans a b c _ _ written cut.held);
+  lines = subst (Appends d f) (lines_behind n before cut.done (cut.last ∷ []) old) (Appends-trans d e f _ _ traced cut.lines);
+}
+traced_within n Trace before events more old new a b c d e f written traced cut = record {
+  done = before ++ cut.done;
+  rest = cut.rest ++ more;
+  order = ap (λ es. before ++ (es ++ more)) cut.order
+      ∙ ap (λ es. before ++ es) (append_assoc cut.done (Step ∷ cut.rest) more)
+      ∙ sym (append_assoc before cut.done (Step ∷ (cut.rest ++ more)));
+  state = cut.state ∙ sym (run_after-append before cut.done old);
+  held = rw (run_sent-append before cut.done old) (Appends-trans a b c _ _ written cut.held);
+  lines = subst (AppendsBeginning d f) (lines_behind n before cut.done (Step ∷ []) old)
+      (beginning_after d e f _ _ traced cut.lines);
+}
+
+-- ---- one step
+
+-- the byte of a step was not written
+pub step_unwritten : (n : ℕ) (s u : State) (sent_byte : Option ℕ) (a b d e : Option (List ℕ)) → u ≡ after Step s
+    → sent_byte ≡ sent Step s → is_some sent_byte ≡ true → Keeps a b → Appends d e (trace_line (n + 1) s)
+    → WasCut Output n (Step ∷ []) s u a b d e
+step_unwritten n s u sent_byte a b d e there is some kept line = record {
+  done = [];
+  last = Step;
+  rest = [];
+  order = refl;
+  state = there;
+  unwritten = ap is_some (sym is) ∙ some;
+  held = Appends-kept a a b [] (Appends-nil a) kept;
+  lines = subst (Appends d e) (sym (append-nil (trace_line (n + 1) s))) line;
+}
+
+-- the line of a step was not written
+pub step_untraced : (n : ℕ) (s : State) (a d e : Option (List ℕ)) → AppendsBeginning d e (trace_line (n + 1) s)
+    → WasCut Trace n (Step ∷ []) s s a a d e
+step_untraced n s a d e line = record {
+  done = [];
+  rest = [];
+  order = refl;
+  state = refl;
+  held = Appends-nil a;
+  lines = subst (AppendsBeginning d e) (sym (append-nil (trace_line (n + 1) s))) line;
+}
+
+-- ---- a step with a byte before it and a tick after it
+
+one_met : (t : State) → up_to_halt (replicate 1 Step) t ≡ Step ∷ []
+one_met t = ap (λ es. Step ∷ es) (no_more (is_halted (after Step t)))
+
+pub at_step : (t u : State) → u ≡ after Step t → u ≡ run_after (up_to_halt (replicate 1 Step) t) t
+at_step t u there = there ∙ ap (λ es. run_after es t) (sym (one_met t))
+
+pub sent_at_step : (t : State) (a b : Option (List ℕ)) → Appends a b (option_to_list (sent Step t))
+    → Appends a b (run_sent (up_to_halt (replicate 1 Step) t) t)
+sent_at_step t a b written =
+    subst (Appends a b) (sym (append-nil (option_to_list (sent Step t))) ∙ ap (λ es. run_sent es t) (sym (one_met t))) written
+
+-- t is the machine after the byte
+module _ (byte : Option ℕ) (ticks : Bool) (s t : State) (running : is_halted s ≡ false) (at_byte : t ≡ run_after (brought byte) s) where
+  one_block : up_to_halt (block byte 1 ticks) s ≡ brought byte ++ ((Step ∷ []) ++ ticked_after ticks (after Step t))
+  one_block =
+      up_to_halt-block byte 1 ticks s t running at_byte (after Step t) (at_step t (after Step t) refl)
+      ∙ ap (λ es. brought byte ++ (es ++ ticked_after ticks (after Step t))) (one_met t)
+
+  pub count_of_block : steps_in (up_to_halt (block byte 1 ticks) s) ≡ 1
+  count_of_block =
+      count_in_block byte 1 ticks s t running at_byte (after Step t) (at_step t (after Step t) refl) ∙ ap steps_in (one_met t)
+
+  pub lines_of_block : (n : ℕ) (a b : Option (List ℕ)) → Appends a b (trace_line (n + 1) t)
+      → Appends a b (trace_lines n (up_to_halt (block byte 1 ticks) s) s)
+  lines_of_block n a b line =
+      let lines : trace_lines n (up_to_halt (block byte 1 ticks) s) s ≡ trace_line (n + 1) t =
+      ap (λ es. trace_lines n es s) one_block
+      ∙ trace_lines-brought n byte ((Step ∷ []) ++ ticked_after ticks (after Step t)) s
+      ∙ ap (λ v. trace_lines n ((Step ∷ []) ++ ticked_after ticks (after Step t)) v) (sym at_byte)
+      ∙ ap (λ more. trace_line (n + 1) t ++ more) (trace_lines-ticked (n + 1) _ (after Step t))
+      ∙ append-nil (trace_line (n + 1) t) in
+      subst (Appends a b) (sym lines) line
+
+  pub cut_in_one_block : (n : ℕ) (fault : TraceFault) (u : State) (a b d e : Option (List ℕ))
+      → WasCut fault n (Step ∷ []) t u a b d e → WasCut fault n (up_to_halt (block byte 1 ticks) s) s u a b d e
+  cut_in_one_block n fault u a b d e cut =
+      let none : n ≡ n + steps_in (brought byte) = steps_before n byte in
+      subst (λ es. WasCut fault n es s u a b d e) (sym one_block)
+      (traced_within n fault (brought byte) (Step ∷ []) (ticked_after ticks (after Step t)) s u a a b d d e
+      (subst (Appends a a) (sym (run_sent-brought byte s)) (Appends-nil a))
+      (subst (Appends d d) (sym (no_lines n byte s)) (Appends-nil d))
+      (subst (λ m. WasCut fault m (Step ∷ []) (run_after (brought byte) s) u a b d e) none
+      (subst (λ v. WasCut fault n (Step ∷ []) v u a b d e) at_byte cut)))
+    where
+      steps_before : (m : ℕ) (byte : Option ℕ) → m ≡ m + steps_in (brought byte)
+      steps_before m None = omega arith
+      steps_before m (Some b) = omega arith
+
+      no_lines : (m : ℕ) (byte : Option ℕ) (s : State) → trace_lines m (brought byte) s ≡ []
+      no_lines m None s = refl
+      no_lines m (Some b) s = refl
+
+-- ---- the steps of a schedule
+
+module _ (schedule : Schedule) (input : List ℕ) where
+  no_step_between : (j : ℕ) → 1 ≤ j → j < 1 → ⊥
+  no_step_between j some below = omega (arith, some, below)
+
+  -- one step is alone
+  pub one_alone : (m : ℕ) → AreAlone schedule input m 1
+  one_alone m = record {
+    bytes = λ j some below. absurd (no_step_between j some below);
+    ticks = λ j some below. absurd (no_step_between j some below);
+  }
+
+  -- after the first m steps of s the machine is t
+  module _ (m : ℕ) (s t : State) (running : is_halted s ≡ false)
+      (so_far : t ≡ run_after (up_to_halt (first_steps schedule input m) s) s) (still : is_halted t ≡ false)
+      (few : m + 1 ≤ schedule.steps) (count : steps_in (up_to_halt (first_steps schedule input m) s) ≡ m) where
+    follows : first_steps schedule input (m + 1) ≡ first_steps schedule input m ++ nth_block schedule input m 1
+    follows = block_follows schedule input m 1 one_is_some (one_alone m)
+      where
+        one_is_some : 1 ≤ 1
+        one_is_some = omega arith
+
+    met : up_to_halt (first_steps schedule input (m + 1)) s
+        ≡ up_to_halt (first_steps schedule input m) s ++ up_to_halt (nth_block schedule input m 1) t
+    met =
+        ap (λ es. up_to_halt es s) follows
+        ∙ goes_on (first_steps schedule input m) (nth_block schedule input m 1) s t running so_far still
+
+    pub more_count : steps_in (up_to_halt (first_steps schedule input (m + 1)) s) ≡ m + 1
+    more_count =
+        let done = up_to_halt (first_steps schedule input m) s in
+        let next = up_to_halt (nth_block schedule input m 1) t in
+        let byte = byte_before schedule input (m + 1) in
+        let one : steps_in next ≡ 1 =
+        count_of_block byte (is_tick_after schedule (m + 1)) t (run_after (brought byte) t) still refl in
+        let both : steps_in (done ++ next) ≡ steps_in done + steps_in next = steps_in-append done next in
+        ap steps_in met ∙ omega (arith, both, one, count)
+
+    pub more_lines : (a b c : Option (List ℕ)) → Appends a b (trace_lines 0 (up_to_halt (first_steps schedule input m) s) s)
+        → Appends b c (trace_lines m (up_to_halt (nth_block schedule input m 1) t) t)
+        → Appends a c (trace_lines 0 (up_to_halt (first_steps schedule input (m + 1)) s) s)
+    more_lines a b c before more =
+        let done = up_to_halt (first_steps schedule input m) s in
+        let next = up_to_halt (nth_block schedule input m 1) t in
+        let none : steps_in done ≡ 0 + steps_in done = omega arith in
+        let lines : trace_lines 0 done s ++ trace_lines m next t ≡ trace_lines 0 (up_to_halt (first_steps schedule input (m + 1)) s) s =
+        ap (λ k. trace_lines 0 done s ++ trace_lines k next t) (sym count ∙ none)
+        ∙ ap (λ v. trace_lines 0 done s ++ trace_lines (0 + steps_in done) next v) so_far
+        ∙ sym (trace_lines-append 0 done next s) ∙ ap (λ es. trace_lines 0 es s) (sym met) in
+        subst (Appends a c) lines (Appends-trans a b c _ _ before more)
+
+    pub more_cut : (fault : TraceFault) (u : State) (a b c d e f : Option (List ℕ))
+        → Appends a b (run_sent (up_to_halt (first_steps schedule input m) s) s)
+        → Appends d e (trace_lines 0 (up_to_halt (first_steps schedule input m) s) s)
+        → WasCut fault m (up_to_halt (nth_block schedule input m 1) t) t u b c e f
+        → WasCut fault 0 (scheduled schedule input s) s u a c d f
+    more_cut fault u a b c d e f written traced cut =
+        let done = up_to_halt (first_steps schedule input m) s in
+        let next = up_to_halt (nth_block schedule input m 1) t in
+        let none : steps_in done ≡ 0 + steps_in done = omega arith in
+        let behind = steps_from schedule input (m + 1) (schedule.steps - (m + 1)) in
+        let later = then_up_to_halt behind (run_after (up_to_halt (first_steps schedule input (m + 1)) s) s) in
+        let whole : done ++ (next ++ later) ≡ scheduled schedule input s =
+        sym (append_assoc done next later) ∙ ap (λ es. es ++ later) (sym met)
+        ∙ sym (up_to_halt-append (first_steps schedule input (m + 1)) behind s running)
+        ∙ ap (λ es. up_to_halt es s) (sym (more_follow schedule input (m + 1) few)) in
+        subst (λ es. WasCut fault 0 es s u a c d f) whole
+        (traced_within 0 fault done next later s u a b c d e f written traced
+        (subst (λ k. WasCut fault k next (run_after done s) u b c e f) (sym count ∙ none)
+        (subst (λ v. WasCut fault m next v u b c e f) so_far cut)))

@@ -1,0 +1,57 @@
+-- A run with a trace: the lines that its steps leave, and what is done and written where a call of a sink fails.
+use Rattle.std.specs.Prelude.{◌≡◌, ℕ, ◌+◌, true, List, [], ◌∷◌, ◌++◌, Option, Result, Ok, Err, is_some}
+use Rattle.std.specs.Io.KnownBytes.{Appends}
+use Rattle.image.specs.Devices.{AppendsBeginning}
+use Rattle.hart.specs.declared.event.Event.{Event}
+use Rattle.hart.specs.declared.event.Event.TheVariants.{Step, Tick, Byte}
+use Rattle.hart.specs.Event.{after, sent}
+use Rattle.hart.specs.State.{State}
+use Rattle.machine.specs.Run.{run_after, run_sent}
+use Rattle.effect_texts.specs.TraceLine.{trace_line}
+use Rattle.sim_run.specs.declared.traced.TraceFault.{TraceFault}
+use Rattle.sim_run.specs.declared.traced.TraceFault.TheVariants.{Output, Trace}
+
+-- a line for each step among the events, numbered behind the steps that came before
+abbrev pub trace_lines : ℕ → List Event → State → List ℕ
+trace_lines before [] s = []
+trace_lines before (Step ∷ es) s = trace_line (before + 1) s ++ trace_lines (before + 1) es (after Step s)
+trace_lines before (Tick ∷ es) s = trace_lines before es (after Tick s)
+trace_lines before (Byte b ∷ es) s = trace_lines before es (after (Byte b) s)
+
+-- The output failed: the machine met the events up to the one whose byte was not written. The bytes before it are written, and the
+-- lines with that of the last step.
+pub record IsOutputCut (before : ℕ) (events : List Event) (old new : State) (held_old held_new traced_old traced_new : Option (List ℕ))
+    : Type 0 where
+  pub done : List Event
+  pub last : Event
+  pub rest : List Event
+  pub order : events ≡ done ++ last ∷ rest
+  pub state : new ≡ after last (run_after done old)
+  pub unwritten : is_some (sent last (run_after done old)) ≡ true
+  pub held : Appends held_old held_new (run_sent done old)
+  pub lines : Appends traced_old traced_new (trace_lines before (done ++ last ∷ []) old)
+
+-- The trace failed: the machine met the events up to a step that is not done. What they sent is written, and of the lines with that of
+-- the step a beginning.
+pub record IsTraceCut (before : ℕ) (events : List Event) (old new : State) (held_old held_new traced_old traced_new : Option (List ℕ))
+    : Type 0 where
+  pub done : List Event
+  pub rest : List Event
+  pub order : events ≡ done ++ Step ∷ rest
+  pub state : new ≡ run_after done old
+  pub held : Appends held_old held_new (run_sent done old)
+  pub lines : AppendsBeginning traced_old traced_new (trace_lines before (done ++ Step ∷ []) old)
+
+-- what a fault left
+abbrev pub WasCut : TraceFault → ℕ → List Event → State → State → Option (List ℕ) → Option (List ℕ) → Option (List ℕ) → Option (List ℕ)
+    → Type 0
+WasCut Output before events old new held_old held_new traced_old traced_new =
+    IsOutputCut before events old new held_old held_new traced_old traced_new
+WasCut Trace before events old new held_old held_new traced_old traced_new =
+    IsTraceCut before events old new held_old held_new traced_old traced_new
+
+-- The count of failures of the sink that failed rises by one, and no other.
+abbrev pub CountsTraced : {T : Type 0} → Result T TraceFault → ℕ → ℕ → ℕ → ℕ → Type 0
+CountsTraced (Ok x) output_old output_new trace_old trace_new = (output_new ≡ output_old) × (trace_new ≡ trace_old)
+CountsTraced (Err Output) output_old output_new trace_old trace_new = (output_new ≡ output_old + 1) × (trace_new ≡ trace_old)
+CountsTraced (Err Trace) output_old output_new trace_old trace_new = (output_new ≡ output_old) × (trace_new ≡ trace_old + 1)
