@@ -20,7 +20,7 @@ def assembled(lines):
         source, obj, raw = (os.path.join(place, n) for n in ("a.s", "a.o", "a.bin"))
         with open(source, "w") as f:
             f.write(".option norvc\n.option norelax\n" + "\n".join(lines) + "\n")
-        subprocess.run([AS, "-march=rv64im_zicsr_zifencei", "-o", obj, source], check=True)
+        subprocess.run([AS, "-march=rv64im_zicsr_zifencei_zba_zbb_zbc_zbs", "-o", obj, source], check=True)
         subprocess.run([OBJCOPY, "-O", "binary", "-j", ".text", obj, raw], check=True)
         data = open(raw, "rb").read()
     words = [int.from_bytes(data[i:i + 4], "little") for i in range(0, len(data), 4)]
