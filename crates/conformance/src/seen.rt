@@ -6,19 +6,10 @@ use crate::case::CaseError;
 use crate::numbers::Words;
 use crate::telling::{halves, put_bytes, put_granule, put_value};
 use asm_names::{csr_named, register_name, register_named, scr_named};
-use base::{Size, is_csr, is_scr};
+use base::{Size, csr, is_csr, is_scr, ram, scr};
 use cap_bounds::CapRep;
 use machine::Machine;
 use std::alloc::AllocError;
-
-const MCAUSE: u16 = 0x342;
-
-const MTVAL: u16 = 0x343;
-
-/// Where RAM begins, and the bytes of a page.
-const RAM: u64 = 0x8000_0000;
-
-const PAGE: u64 = 4096;
 
 /// What the general or special capability register of a name holds.
 fn value_of<C: CapRep>(machine: &Machine<C>, name: &str) -> Result<C, CaseError> {
@@ -41,9 +32,9 @@ fn csr_of<C: CapRep>(machine: &Machine<C>, name: &str) -> Option<u64> {
 
 /// mcause and mtval where the last step trapped, with PCC at 0, where MTCC stands at first.
 fn put_trap<C: CapRep>(text: &mut String, machine: &Machine<C>) -> Result<(), AllocError> {
-    if machine.scr(0).address() == 0 {
-        let mcause = machine.csr(MCAUSE);
-        let mtval = machine.csr(MTVAL);
+    if machine.scr(scr::PCC).address() == 0 {
+        let mcause = machine.csr(csr::MCAUSE);
+        let mtval = machine.csr(csr::MTVAL);
         write!(text, "{mcause:x} {mtval:x}")
     } else {
         text.push_str("none")
@@ -87,8 +78,8 @@ fn put_double<C: CapRep>(
 
 /// What stands in RAM's first page.
 fn put_ram<C: CapRep>(text: &mut String, machine: &Machine<C>) -> Result<(), AllocError> {
-    for place in 0..PAGE / 8 {
-        put_double(text, machine, RAM + 8 * place)?;
+    for place in 0..ram::PAGE_BYTES / 8 {
+        put_double(text, machine, ram::BASE + 8 * place)?;
     }
     Ok(())
 }

@@ -5,6 +5,7 @@ use crate::forms::Form;
 use crate::numbers::Words;
 use crate::quoted::{put_quoted, unquoted};
 use crate::sessions::Errand;
+use base::scr;
 use cap_bounds::CapRep;
 use debugger::{DebugFault, Reply, Session, talk};
 use failing::{Narrow, Slow};
@@ -22,7 +23,7 @@ fn put_reply(text: &mut String, answered: Result<Reply, DebugFault>) -> Result<(
 /// Puts PCC's address, how many bytes wait, and whether the machine is halted, behind a text.
 fn put_state<C: CapRep>(text: &mut String, session: &Session<C>) -> Result<(), AllocError> {
     let machine = session.machine();
-    let address = machine.scr(0).address();
+    let address = machine.scr(scr::PCC).address();
     let waiting = machine.devices().waiting().len();
     let halted = u8::from(machine.halted().is_some());
     write!(text, "{address:x} {waiting} {halted}")

@@ -1,15 +1,17 @@
 -- A run goes on by one event.
-use Rattle.std.proofs.Common.{◌≡◌, ℕ, zero, suc, ◌-◌, ◌<◌, ◌≤◌, Bool, true, false, List, [], ◌∷◌, ◌++◌, refl, sym, ap, ◌∙◌, append_assoc}
+use Rattle.std.proofs.Common.{◌≡◌, ℕ, zero, suc, ◌+◌, ◌-◌, ◌<◌, ◌≤◌, Bool, true, false, List, [], ◌∷◌, ◌++◌, refl, sym, ap, subst, ◌∙◌, append_assoc}
 use Rattle.std.proofs.Common.{arith}
-use Rattle.std.specs.Prelude.{option_to_list, replicate, not, ◌&&◌, ◌||◌, nat_lt, is_some}
+use Rattle.std.specs.Prelude.{Option, option_to_list, replicate, length, not, ◌==◌, ◌&&◌, ◌||◌, nat_lt, is_some}
 use Rattle.std.proofs.lemmas.Bool.Decides.{nat_tests}
 use Rattle.hart.specs.declared.event.Event.{Event}
 use Rattle.hart.specs.declared.event.Event.TheVariants.{Step}
-use Rattle.hart.specs.State.{State}
+use Rattle.hart.specs.State.{State, pc_of}
+use Rattle.hart.specs.Steps.{GoesBy}
 use Rattle.hart.specs.Event.{after, sent}
 use Rattle.machine.specs.Run.{run_after, run_sent}
 use Rattle.debugger.specs.declared.command.Stop.{Stop}
-use Rattle.debugger.specs.Reply.{is_stop, steps_until}
+use Rattle.debugger.specs.declared.command.Stop.TheVariants.{Address, Trap}
+use Rattle.debugger.specs.Reply.{is_stop, stop_address, steps_until}
 use Rattle.debugger.specs.Lines.{goes_on}
 
 module _ (es : List Event) (e : Event) (rest : List Event) (first : es ≡ e ∷ rest) (s n : State) (step : n ≡ after e s) where
@@ -84,6 +86,66 @@ no_step stop zero s h = refl
 no_step stop (suc n) s h =
     let other : (is_stop stop s || is_some s.devices.halted) ≡ true = not_both _ (rw (some_left n) at h) in
     rw other refl
+
+-- ---- steps of a run towards a stop
+
+by_state : (k : ℕ) (rest : List Event) (s : State) → run_after (replicate k Step ++ rest) s ≡ run_after rest (run_after (replicate k Step) s)
+by_state zero rest s = refl
+by_state (suc k) rest s = by_state k rest (after Step s)
+
+by_bytes : (k : ℕ) (rest : List Event) (s : State) → run_sent (replicate k Step ++ rest) s
+    ≡ run_sent (replicate k Step) s ++ run_sent rest (run_after (replicate k Step) s)
+by_bytes zero rest s = refl
+by_bytes (suc k) rest s =
+    ap (λ bytes. option_to_list (sent Step s) ++ bytes) (by_bytes k rest (after Step s))
+    ∙ sym (append_assoc (option_to_list (sent Step s)) (run_sent (replicate k Step) (after Step s)) _)
+
+by_count : (k : ℕ) (rest : List Event) → length (replicate k Step ++ rest) ≡ k + length rest
+by_count zero rest = omega arith
+by_count (suc k) rest = let less = by_count k rest in omega (arith, less)
+
+-- a state that steps go by is none before which they stop
+elsewhere-not : (a b : ℕ) → (a ≡ b → ⊥) → a == b ≡ false
+elsewhere-not a b other = grind (arith, nat_tests, other)
+
+goes-on-by : (stop : Stop) (s : State) → GoesBy (stop_address stop) s → (is_stop stop s || is_some s.devices.halted) ≡ false
+goes-on-by (Address address) s by = rw (elsewhere-not (pc_of s) address by.elsewhere, by.running) refl
+goes-on-by Trap s by = rw (by.plain, by.running) refl
+
+steps_by : (stop : Stop) (n k : ℕ) (s : State) → k ≤ n
+    → ((j : ℕ) → j < k → GoesBy (stop_address stop) (run_after (replicate j Step) s))
+    → steps_until stop n s ≡ replicate k Step ++ steps_until stop (n - k) (run_after (replicate k Step) s)
+steps_by stop n zero s few by =
+    let all : n - 0 ≡ n = omega arith in
+    ap (λ m. steps_until stop m s) (sym all)
+steps_by stop zero (suc k) s few by = absurd (too_many k few)
+steps_by stop (suc n) (suc k) s few by =
+    let less : suc n - suc k ≡ n - k = omega arith in
+    rw (goes-on-by stop s (by 0 (omega arith))) (ap (λ steps. Step ∷ steps)
+    (steps_by stop n k (after Step s) (omega arith) (λ j below. by (suc j) (omega arith))
+    ∙ ap (λ m. replicate k Step ++ steps_until stop m (run_after (replicate k Step) (after Step s))) (sym less)))
+
+module _ (stop : Stop) (at : Option ℕ) (is : at ≡ stop_address stop) (n k : ℕ) (s m : State) (few : k ≤ n)
+    (state : m ≡ run_after (replicate k Step) s) (by : (j : ℕ) → j < k → GoesBy at (run_after (replicate j Step) s)) where
+  by-stop : (j : ℕ) → j < k → GoesBy (stop_address stop) (run_after (replicate j Step) s)
+  by-stop j below = subst (λ a. GoesBy a (run_after (replicate j Step) s)) is (by j below)
+
+  towards : steps_until stop n s ≡ replicate k Step ++ steps_until stop (n - k) m
+  towards = steps_by stop n k s few by-stop ∙ ap (λ t. replicate k Step ++ steps_until stop (n - k) t) (sym state)
+
+  pub state_towards : run_after (steps_until stop (n - k) m) m ≡ run_after (steps_until stop n s) s
+  state_towards =
+      ap (run_after (steps_until stop (n - k) m)) state ∙ sym (by_state k (steps_until stop (n - k) m) s)
+      ∙ ap (λ steps. run_after steps s) (sym towards)
+
+  pub bytes_towards : run_sent (replicate k Step) s ≡ [] → run_sent (steps_until stop (n - k) m) m ≡ run_sent (steps_until stop n s) s
+  bytes_towards silent =
+      ap (run_sent (steps_until stop (n - k) m)) state
+      ∙ ap (λ bytes. bytes ++ run_sent (steps_until stop (n - k) m) (run_after (replicate k Step) s)) (sym silent)
+      ∙ sym (by_bytes k (steps_until stop (n - k) m) s) ∙ ap (λ steps. run_sent steps s) (sym towards)
+
+  pub count_towards : k + length (steps_until stop (n - k) m) ≡ length (steps_until stop n s)
+  count_towards = sym (by_count k (steps_until stop (n - k) m)) ∙ ap length (sym towards)
 
 pub some_step : (stop : Stop) (n : ℕ) (s : State) → goes_on stop n s ≡ true → 0 < n
 some_step stop zero s h = absurd (cc)

@@ -14,8 +14,7 @@ use Rattle.hart.specs.State.{State, pc_of}
 use Rattle.hart.specs.Registers.{register}
 use Rattle.hart.specs.Event.{after}
 use Rattle.hart.specs.Step.{step_outcome}
-use Rattle.hart.specs.Outcome.{Outcome}
-use Rattle.hart.specs.Outcome as outcome
+use Rattle.hart.specs.Outcome.{is_trap}
 use Rattle.machine.specs.Run.{run_after, run_sent}
 use Rattle.explain.specs.Text.{why_text}
 use Rattle.asm_names.specs.Registers.{capability_names, register_name}
@@ -33,15 +32,15 @@ use Rattle.debugger.specs.SessionState.{SessionState}
 
 -- ---- commands that give events
 
--- whether a step comes to a trap: of its instruction, or by an interrupt
-abbrev pub is_trap : Outcome → Bool
-is_trap outcome.Trap = true
-is_trap other = false
-
 -- whether a state is one before which a command stops
 abbrev pub is_stop : Stop → State → Bool
 is_stop (Address address) s = pc_of s == address
 is_stop Trap s = is_trap (step_outcome s)
+
+-- the address at which a command stops, if it stops at one
+abbrev pub stop_address : Stop → Option ℕ
+stop_address (Address address) = Some address
+stop_address Trap = None
 
 -- the steps of `until` and of `trap`: given while they don't stop, the machine is not halted, and fewer than the most were
 abbrev pub steps_until : Stop → ℕ → State → List Event

@@ -6,6 +6,7 @@ ghost use Rattle.debugger.specs.Command.{Command as Written, step, tick, byte, u
 ghost use Rattle.debugger.specs.Command.{read_number, address_in};
 ghost use Rattle.debugger.specs.Command.{operands_or_B2, one_number, address_and_number, one_register, nothing_more, at_a_word};
 ghost use Rattle.debugger.specs.Command.{command_named, command_of};
+ghost use Rattle.debugger.specs.Reply.{stop_address};
 ghost use Rattle.debugger.specs.Seen.{seen_command, seen_request, made_of, made_of_two, IsWithinLimits};
 
 use crate::fault::DebugFault;
@@ -52,6 +53,18 @@ pub(crate) enum Stop {
     Address(u64),
     /// Where the next step would trap.
     Trap,
+}
+
+impl Stop {
+    /// The address at which it is, if it is at one.
+    pub(crate) fn address(self) -> Option<u64>
+        ensures { result ≡ stop_address self }
+    {
+        match self {
+            Stop::Address(address) => Some(address),
+            Stop::Trap => None,
+        }
+    }
 }
 
 /// A command of a session.

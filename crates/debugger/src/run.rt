@@ -1,14 +1,15 @@
 //! The events that a command gives, and the line that tells of them.
-ghost use Rattle.std.specs.Prelude.{◌≡◌, ◌+◌, ◌*◌, ◌<◌, ◌≤◌, ◌++◌, IfOk, IfErr, OnOk, OnErr, replicate, length, vec_len, vec_capacity};
+ghost use Rattle.std.specs.Prelude.{◌≡◌, ◌+◌, ◌-◌, ◌*◌, ◌<◌, ◌≤◌, ◌++◌, IfOk, IfErr, OnOk, OnErr, replicate, length, vec_len, vec_capacity};
 ghost use Rattle.std.specs.Prelude.{string_bytes, string_len, string_capacity};
 ghost use Rattle.std.specs.List.{flat_map};
 ghost use Rattle.special_regs.specs.Scrs.{scr_value};
 ghost use Rattle.hart.specs.declared.event.Event.TheVariants.{Step};
 ghost use Rattle.hart.specs.State.{pc_of};
+ghost use Rattle.hart.specs.Outcome.{is_trap};
 ghost use Rattle.hart.specs.Step.{step_outcome};
 ghost use Rattle.machine.specs.Run.{run_after, run_sent};
 ghost use Rattle.disassembler.specs.Hex.{hex_of};
-ghost use Rattle.debugger.specs.Reply.{is_trap, is_stop, steps_until as until_steps, events_of, events_line, shown_sent, shown_end};
+ghost use Rattle.debugger.specs.Reply.{is_stop, steps_until as until_steps, events_of, events_line, shown_sent, shown_end};
 ghost use Rattle.debugger.specs.Lines.{given_part, place_part, goes_on};
 ghost use Rattle.debugger.specs.Seen.{seen_command, most_of, IsWithinLimits};
 
@@ -87,6 +88,18 @@ fn goes_on<C: CapRep>(machine: &Machine<C>, stop: Stop, left: u64) -> bool
     left > 0 && !(is_stop(machine, stop) || machine.halted().is_some())
 }
 
+/// Gives steps of one run while they don't stop, at most so many, and answers how many there were. They send nothing.
+fn run_towards<C: CapRep>(machine: &mut Machine<C>, stop: Stop, most: u64) -> u64
+    ensures few { result ≤ most }
+    ensures state { run_after (until_steps stop (most - result) machine.new) machine.new
+        ≡ run_after (until_steps stop most machine.old) machine.old }
+    ensures bytes { run_sent (until_steps stop (most - result) machine.new) machine.new
+        ≡ run_sent (until_steps stop most machine.old) machine.old }
+    ensures count { result + length (until_steps stop (most - result) machine.new) ≡ length (until_steps stop most machine.old) }
+{
+    machine.advance_short_of(stop.address(), most)
+}
+
 /// Gives steps until the machine is where they stop or is halted, at most so many, and answers how many there were.
 fn steps_until<C: CapRep>(
     machine: &mut Machine<C>,
@@ -105,6 +118,7 @@ fn steps_until<C: CapRep>(
         let out = machine.event(Event::Step);
         emit(sent, out.byte);
         left -= 1;
+        left -= run_towards(machine, stop, left);
     }
     most - left
 }

@@ -13,18 +13,10 @@ ghost use Rattle.debugger.specs.Lines.{register_line, scr_line, csr_line, number
 use crate::shown::put_value_line;
 use crate::text::{put, put_hex};
 use asm_names::{csr_name, register_name, scr_name};
+use base::{CSRS, SPECIAL_REGISTERS};
 use cap_bounds::CapRep;
 use machine::Machine;
 use std::alloc::AllocError;
-
-/// The numbers of the special capability registers.
-const SCR_NUMBERS: [u8; 6] = [0, 1, 28, 29, 30, 31];
-
-/// The numbers of the control and status registers.
-const CSR_NUMBERS: [u16; 15] = [
-    0x300, 0x301, 0x304, 0x305, 0x340, 0x341, 0x342, 0x343, 0x344, 0xb00, 0xb02, 0xf11, 0xf12,
-    0xf13, 0xf14,
-];
 
 /// Puts the line of general register `n`, below 32, behind a text.
 pub(crate) fn put_register<C: CapRep>(
@@ -97,15 +89,16 @@ pub(crate) fn put_registers<C: CapRep>(
 fn put_scrs_of<C: CapRep>(
     text: &mut String,
     machine: &Machine<C>,
-    numbers: &[u8],
+    registers: &[(u16, &str)],
 ) -> Result<(), AllocError>
-    requires { IsTrue (list_all is_scr numbers.now) }
-    ensures { OnOk result (string_bytes text.new ≡ string_bytes text.old ++ flat_map (scr_line machine.now.scrs) numbers.now) }
+    requires { IsTrue (list_all (λ r. is_scr r.0) registers.now) }
+    ensures { OnOk result (string_bytes text.new ≡ string_bytes text.old
+        ++ flat_map (λ r. scr_line machine.now.scrs r.0) registers.now) }
 {
-    match numbers {
+    match registers {
         [] => Ok(()),
         [first, rest @ ..] => {
-            put_scr(text, machine, *first)?;
+            put_scr(text, machine, first.0 as u8)?;
             put_scrs_of(text, machine, rest)
         }
     }
@@ -116,23 +109,23 @@ fn put_scrs_of<C: CapRep>(
 pub(crate) fn put_scrs<C: CapRep>(text: &mut String, machine: &Machine<C>) -> Result<(), AllocError>
     ensures { OnOk result (string_bytes text.new ≡ string_bytes text.old ++ scr_lines (scr_values machine.now.scrs)) }
 {
-    put_scrs_of(text, machine, &SCR_NUMBERS)
+    put_scrs_of(text, machine, &SPECIAL_REGISTERS)
 }
 
 /// Puts the lines of these control and status registers behind a text.
 fn put_csrs_of<C: CapRep>(
     text: &mut String,
     machine: &Machine<C>,
-    numbers: &[u16],
+    registers: &[(u16, &str)],
 ) -> Result<(), AllocError>
-    requires { IsTrue (list_all is_csr numbers.now) }
+    requires { IsTrue (list_all (λ r. is_csr r.0) registers.now) }
     ensures { OnOk result (string_bytes text.new ≡ string_bytes text.old
-        ++ flat_map (csr_line machine.now.csrs machine.now.scrs (interrupts_of machine.now.devices)) numbers.now) }
+        ++ flat_map (λ r. csr_line machine.now.csrs machine.now.scrs (interrupts_of machine.now.devices) r.0) registers.now) }
 {
-    match numbers {
+    match registers {
         [] => Ok(()),
         [first, rest @ ..] => {
-            put_csr(text, machine, *first)?;
+            put_csr(text, machine, first.0)?;
             put_csrs_of(text, machine, rest)
         }
     }
@@ -144,5 +137,5 @@ pub(crate) fn put_csrs<C: CapRep>(text: &mut String, machine: &Machine<C>) -> Re
     ensures { OnOk result (string_bytes text.new ≡ string_bytes text.old
         ++ csr_lines (csr_values machine.now.csrs machine.now.scrs (interrupts_of machine.now.devices))) }
 {
-    put_csrs_of(text, machine, &CSR_NUMBERS)
+    put_csrs_of(text, machine, &CSRS)
 }

@@ -5,6 +5,8 @@ use Rattle.base.specs.declared.fault.Fault.{Fault}
 use Rattle.base.specs.declared.size.Size.{Size}
 use Rattle.base.specs.declared.size.Size.TheVariants.{Byte, Half, Word, Double}
 use Rattle.base.specs.Size.{bytes_of}
+use Rattle.base.specs.Fault.{number_of}
+use Rattle.base.specs.declared.cause.Cause.TheVariants as cause
 use Rattle.cap_bounds.specs.CapValue.{CapValue}
 use Rattle.cap_bounds.specs.SetAddress.{at_address}
 use Rattle.asm_names.specs.Registers.{register_name}
@@ -34,7 +36,7 @@ violation_names (Some what) (Some register) = what ++ codes " at " ++ register +
 -- the low five bits of a CHERI exception's mtval are what is forbidden, and above them stands the register
 abbrev pub violation_part : Fault → List ℕ
 violation_part f =
-    if f.mcause == 28 then violation_names (cheri_cause_name (f.mtval % 32)) (register_at_fault (f.mtval / 32)) else []
+    if f.mcause == number_of cause.Cheri then violation_names (cheri_cause_name (f.mtval % 32)) (register_at_fault (f.mtval / 32)) else []
 
 -- an exception traps; an interrupt, whose mcause has bit 63, is taken
 unfoldable pub taken : ℕ → List ℕ

@@ -5,11 +5,8 @@ ghost use Rattle.trap_texts.specs.Names.{cause_name as cause_name_of};
 ghost use Rattle.effect_texts.specs.EffectText.{cause_part, taken, trap_entry, violation_part};
 
 use crate::text::{Text, put_hex};
-use base::Fault;
+use base::{Cause, Fault};
 use trap_texts::{cause_name, cheri_cause_name, register_at_fault};
-
-/// The number of the CHERI exception.
-const CHERI: u64 = 28;
 
 /// Puts a cause's name, where it has one, behind a text.
 #[tactic(auto, using(trap_texts::specs::LengthLaws::cause_name_short))]
@@ -31,7 +28,7 @@ fn put_violation(text: &mut Text, fault: Fault)
     ensures text { text.new.bytes ≡ text.old.bytes ++ violation_part fault }
     ensures within { array_string_len text.new ≤ array_string_len text.old + 66 }
 {
-    if fault.mcause != CHERI {
+    if fault.mcause != Cause::Cheri.number() {
         return;
     }
     match (

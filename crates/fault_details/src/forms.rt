@@ -8,6 +8,7 @@ ghost use Rattle.fault_details.specs.Limits.{range_of};
 
 use crate::limits::{EVERY_NUMBER, Range, range_of};
 use asm_names::{row_named, slots_of};
+use base::ram;
 use isa_rows::{Naming, Slot};
 use std::alloc::{AllocError, Global};
 
@@ -28,7 +29,7 @@ const EXPRESSION: &'static [Range] = &[EVERY_NUMBER];
 
 const PAGES: &'static [Range] = &[Range {
     least: 1,
-    most: 65536,
+    most: ram::MOST_PAGES as i128,
 }];
 
 const MODE: &'static [Range] = &[Range { least: 0, most: 1 }];

@@ -3,6 +3,7 @@
 ghost use Rattle.std.specs.Prelude.{◌≡◌, ◌≤◌, ◌-◌, ℕ, ◌<◌, [], length, take, replicate, option_to_list};
 ghost use Rattle.hart.specs.declared.event.Event.TheVariants.{Step};
 ghost use Rattle.hart.specs.IsState.{IsState};
+ghost use Rattle.hart.specs.Steps.{GoesBy};
 ghost use Rattle.machine.specs.Run.{run_after, run_sent};
 ghost use Rattle.machine.specs.Steps.{BeginWithSteps};
 
@@ -56,6 +57,21 @@ impl<C: CapRep> Machine<C> {
         ensures is_state { IsState self.new }
     {
         self.hart.advance(most)
+    }
+
+    /// Does steps, `most` at most and maybe none, and answers how many: it ends before a step that stands at `stop`, that traps, or that
+    /// is more than arithmetic, a jump or an access of RAM.
+    ///
+    /// They are those of `event`, and none of them sends a byte. A halted machine does none. It takes no memory.
+    #[inline]
+    pub fn advance_short_of(&mut self, stop: Option<u64>, most: u64) -> u64
+        ensures few { result ≤ most }
+        ensures state { self.new ≡ run_after (replicate result Step) self.old }
+        ensures silent { run_sent (replicate result Step) self.old ≡ [] }
+        ensures goes { (k : ℕ) → k < result → GoesBy stop (run_after (replicate k Step) self.old) }
+        ensures is_state { IsState self.new }
+    {
+        self.hart.advance_short_of(stop, most)
     }
 
     /// Meets the first of events, or of the steps that they begin with as many as are done at once, and answers how many those are.

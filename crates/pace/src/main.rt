@@ -4,18 +4,13 @@
 
 ghost use Rattle.std.specs.Prelude.{◌≡◌, ◌+◌, ◌*◌, ◌/◌};
 
+use base::{csr, ram};
 use image::Image;
 use machine::Machine;
 use std::alloc::Global;
 use std::process::ExitCode;
 use std::{env, io};
 use word_cap::WordCap;
-
-/// Where RAM begins, and the program with it.
-const ENTRY: u64 = 0x8000_0000;
-
-/// The number of instructions that are done.
-const MINSTRET: u16 = 0xb02;
 
 /// Where `PROGRAM` has the number of its turns, at least 1.
 const TURNS: usize = 19;
@@ -93,7 +88,7 @@ fn machine_of(alloc: Global, words: &[u32]) -> Option<Machine<WordCap>> {
     for word in words {
         bytes.extend_from_slice(&word.to_le_bytes()).ok()?;
     }
-    let image = Image::build(alloc, 1, ENTRY, 0, &[(ENTRY, bytes.as_slice())]).ok()?;
+    let image = Image::build(alloc, 1, ram::BASE, 0, &[(ram::BASE, bytes.as_slice())]).ok()?;
     Machine::new(alloc, &image).ok()
 }
 
@@ -126,7 +121,7 @@ fn main(rt: HostRuntime) -> io::Result<ExitCode> {
     let steps = steps_of(turns);
     advance_by(machine, steps);
     // a halted machine counts no instruction: so many are counted only if the last step halted it
-    let done = machine.csr(MINSTRET);
+    let done = machine.csr(csr::MINSTRET);
     let halted = machine.halted();
     if done == steps && halted == Some(sum_to(turns)) {
         println!(rt; "{steps} steps, halted as expected")?;

@@ -1,11 +1,11 @@
 -- How long names are.
-use Rattle.std.proofs.Common.{◌≡◌, ℕ, ◌-◌, ◌≤◌, Bool, true, false, List, [], ◌∷◌, Some, refl, arith}
-use Rattle.std.specs.Prelude.{length, nat_le, nat_lt, ◌&&◌, if◌then◌else◌, None}
+use Rattle.std.proofs.Common.{◌≡◌, ℕ, ◌-◌, ◌≤◌, Bool, true, false, List, [], ◌∷◌, Some, refl, ◌∙◌, arith}
+use Rattle.std.specs.Prelude.{length, nat_le, nat_lt, ◌&&◌, if◌then◌else◌, Option, None}
 use Rattle.std.proofs.lemmas.Bool.Decides.{nat_tests}
 use Rattle.asm_names.specs.SpecialNames.{name_in, scr_name}
-use Rattle.asm_names.specs.Registers.{register_name}
+use Rattle.asm_names.specs.Registers.{register_name, or_else}
 use Rattle.disassembler.specs.LengthLaws.{register_name_short, scr_name_short}
-use Rattle.trap_texts.specs.Names.{causes, cheri_causes, cause_name, cheri_cause_name, register_at_fault}
+use Rattle.trap_texts.specs.Names.{exceptions, interrupts, cheri_causes, cause_name, cheri_cause_name, register_at_fault}
 
 -- no name of a list is longer than so many bytes
 abbrev are_within : ℕ → List (ℕ × List ℕ) → Bool
@@ -23,7 +23,11 @@ within k n (p ∷ ps) text h e =
 
 pub cause_name_short : (n : ℕ) (text : List ℕ) → cause_name n ≡ Some text → length text ≤ 30
 unfolding cause_name
-cause_name_short n text e = within 30 n causes text refl e
+cause_name_short n text e = go (name_in exceptions n) refl e
+  where
+    go : (o : Option (List ℕ)) → name_in exceptions n ≡ o → or_else o (name_in interrupts n) ≡ Some text → length text ≤ 30
+    go (Some name) at e = within 30 n exceptions text refl (at ∙ e)
+    go None at e = within 30 n interrupts text refl e
 
 pub cheri_cause_name_short : (n : ℕ) (text : List ℕ) → cheri_cause_name n ≡ Some text → length text ≤ 40
 unfolding cheri_cause_name

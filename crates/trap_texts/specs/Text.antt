@@ -1,6 +1,8 @@
 -- What a trap left in mcause and mtval, in words: `load access fault, mtval 0000000000001000`, and of a CHERI exception
 -- `CHERI exception, length violation at ca0`.
 use Rattle.std.specs.Prelude.{ℕ, ◌/◌, ◌%◌, ◌==◌, if◌then◌else◌, List, ◌++◌, Option, Some, None, codes}
+use Rattle.base.specs.Fault.{number_of}
+use Rattle.base.specs.declared.cause.Cause.TheVariants as cause
 use Rattle.disassembler.specs.Hex.{hex_of}
 use Rattle.trap_texts.specs.Names.{cause_name, cheri_cause_name, register_at_fault}
 
@@ -27,4 +29,4 @@ violation_text mtval = violation_or_number (cheri_cause_name (mtval % 32)) (regi
 
 unfoldable pub trap_text : ℕ → ℕ → List ℕ
 trap_text mcause mtval =
-    cause_text mcause ++ codes ", " ++ (if mcause == 28 then violation_text mtval else number_text mtval)
+    cause_text mcause ++ codes ", " ++ (if mcause == number_of cause.Cheri then violation_text mtval else number_text mtval)

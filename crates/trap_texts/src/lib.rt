@@ -5,6 +5,7 @@ mod names;
 mod text;
 
 pub use names::{
-    CAUSES, CHERI_CAUSES, cause_name, cheri_asked_name, cheri_cause_name, register_at_fault,
+    CHERI_CAUSES, EXCEPTIONS, INTERRUPTS, cause_name, cheri_asked_name, cheri_cause_name,
+    register_at_fault,
 };
 pub use text::trap_text;

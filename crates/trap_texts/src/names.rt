@@ -1,48 +1,55 @@
 //! The names of causes, and of the register at fault.
 
 ghost use Rattle.std.specs.Prelude.{◌≡◌, ◌==◌, find, option_map};
+ghost use Rattle.base.specs.Fault.{number_of, cheri_number_of};
 ghost use Rattle.trap_texts.specs.Names as spec;
 
 use asm_names::{register_name, scr_name};
+use base::{Cause, CheriCause, interrupt};
 
-/// The names of what stands in mcause: of exceptions by their numbers, and of interrupts by theirs, with bit 63 (RISC-V privileged
-/// manual, mcause; UCAM-CL-TR-987, CHERI exception).
-pub const CAUSES: [(u64, &str); 12] = [
-    (0, "instruction address misaligned"),
-    (1, "instruction access fault"),
-    (2, "illegal instruction"),
-    (3, "breakpoint"),
-    (4, "load address misaligned"),
-    (5, "load access fault"),
-    (6, "store address misaligned"),
-    (7, "store access fault"),
-    (11, "environment call"),
-    (28, "CHERI exception"),
-    (0x8000_0000_0000_0007, "timer interrupt"),
-    (0x8000_0000_0000_000b, "external interrupt"),
+/// What stands in mcause beside the number of an interrupt (RISC-V privileged manual, mcause).
+const INTERRUPT: u64 = 1 << 63;
+
+/// The names of exceptions (RISC-V privileged manual, mcause; UCAM-CL-TR-987, CHERI exception).
+pub const EXCEPTIONS: [(Cause, &str); 10] = [
+    (Cause::MisalignedJump, "instruction address misaligned"),
+    (Cause::FetchAccess, "instruction access fault"),
+    (Cause::IllegalInstruction, "illegal instruction"),
+    (Cause::Breakpoint, "breakpoint"),
+    (Cause::MisalignedLoad, "load address misaligned"),
+    (Cause::LoadAccess, "load access fault"),
+    (Cause::MisalignedStore, "store address misaligned"),
+    (Cause::StoreAccess, "store access fault"),
+    (Cause::EnvironmentCall, "environment call"),
+    (Cause::Cheri, "CHERI exception"),
+];
+
+/// The names of interrupts, by what stands in mcause (RISC-V privileged manual, mcause).
+pub const INTERRUPTS: [(u64, &str); 2] = [
+    (INTERRUPT + interrupt::TIMER as u64, "timer interrupt"),
+    (INTERRUPT + interrupt::EXTERNAL as u64, "external interrupt"),
 ];
 
 /// What a capability is asked for, and what is said where it isn't so: one text.
 macro_rules! asked {
-    ($number:literal, $asked:literal) => {
-        ($number, $asked, concat!($asked, " violation"))
+    ($cause:ident, $asked:literal) => {
+        (CheriCause::$cause, $asked, concat!($asked, " violation"))
     };
 }
 
-/// The names of what a capability is asked for and of what it forbids, by the number in the low five bits of mtval (UCAM-CL-TR-987,
-/// capability exception codes).
-pub const CHERI_CAUSES: [(u64, &str, &str); 11] = [
-    asked!(0x01, "length"),
-    asked!(0x02, "tag"),
-    asked!(0x03, "seal"),
-    asked!(0x04, "type"),
-    asked!(0x11, "permit execute"),
-    asked!(0x12, "permit load"),
-    asked!(0x13, "permit store"),
-    asked!(0x15, "permit store capability"),
-    asked!(0x16, "permit store local capability"),
-    asked!(0x18, "access system registers"),
-    asked!(0x19, "permit CInvoke"),
+/// The names of what a capability is asked for and of what it forbids (UCAM-CL-TR-987, capability exception codes).
+pub const CHERI_CAUSES: [(CheriCause, &str, &str); 11] = [
+    asked!(Length, "length"),
+    asked!(Tag, "tag"),
+    asked!(Seal, "seal"),
+    asked!(Type, "type"),
+    asked!(Execute, "permit execute"),
+    asked!(Load, "permit load"),
+    asked!(Store, "permit store"),
+    asked!(StoreCapability, "permit store capability"),
+    asked!(StoreLocalCapability, "permit store local capability"),
+    asked!(AccessSystemRegisters, "access system registers"),
+    asked!(CInvoke, "permit CInvoke"),
 ];
 
 /// The name of a cause, as mcause holds it, or none.
@@ -50,7 +57,10 @@ pub const CHERI_CAUSES: [(u64, &str, &str); 11] = [
 pub fn cause_name(mcause: u64) -> Option<&'static str>
     ensures { option_map (λ name. name.now) result ≡ spec.cause_name mcause }
 {
-    name_in(&CAUSES, mcause)
+    match exception_in(&EXCEPTIONS, mcause) {
+        Some(name) => Some(name),
+        None => interrupt_in(&INTERRUPTS, mcause),
+    }
 }
 
 /// The name of what a capability forbids, as `length violation`, by its number, or none.
@@ -83,20 +93,29 @@ pub fn register_at_fault(number: u64) -> Option<&'static str>
     }
 }
 
-fn name_in(names: &[(u64, &'static str)], number: u64) -> Option<&'static str>
+fn exception_in(names: &[(Cause, &'static str)], number: u64) -> Option<&'static str>
+    ensures { option_map (λ name. name.now) result ≡ option_map (λ p. p.1.now) (find (λ p. number_of p.0 == number) names.now) }
+{
+    names.iter().find(|p| p.0.number() == number).map(|p| p.1)
+}
+
+fn interrupt_in(names: &[(u64, &'static str)], number: u64) -> Option<&'static str>
     ensures { option_map (λ name. name.now) result ≡ option_map (λ p. p.1.now) (find (λ p. p.0 == number) names.now) }
 {
     names.iter().find(|p| p.0 == number).map(|p| p.1)
 }
 
-fn asked_in(names: &[(u64, &'static str, &'static str)], number: u64) -> Option<&'static str>
-    ensures { option_map (λ name. name.now) result ≡ option_map (λ p. p.1.now) (find (λ p. p.0 == number) names.now) }
+fn asked_in(names: &[(CheriCause, &'static str, &'static str)], number: u64) -> Option<&'static str>
+    ensures { option_map (λ name. name.now) result ≡ option_map (λ p. p.1.now) (find (λ p. cheri_number_of p.0 == number) names.now) }
 {
-    names.iter().find(|p| p.0 == number).map(|p| p.1)
+    names.iter().find(|p| p.0.number() == number).map(|p| p.1)
 }
 
-fn violation_in(names: &[(u64, &'static str, &'static str)], number: u64) -> Option<&'static str>
-    ensures { option_map (λ name. name.now) result ≡ option_map (λ p. p.2.now) (find (λ p. p.0 == number) names.now) }
+fn violation_in(
+    names: &[(CheriCause, &'static str, &'static str)],
+    number: u64,
+) -> Option<&'static str>
+    ensures { option_map (λ name. name.now) result ≡ option_map (λ p. p.2.now) (find (λ p. cheri_number_of p.0 == number) names.now) }
 {
-    names.iter().find(|p| p.0 == number).map(|p| p.2)
+    names.iter().find(|p| p.0.number() == number).map(|p| p.2)
 }

@@ -6,10 +6,8 @@ ghost use Rattle.trap_texts.specs.Text as spec;
 
 use crate::names::{cause_name, cheri_cause_name, register_at_fault};
 use arrayvec::ArrayString;
+use base::Cause;
 use disassembler::hex_digits;
-
-/// The number of the CHERI exception.
-const CHERI: u64 = 28;
 
 /// Puts the name of a cause behind a text, or its number.
 #[tactic(auto, using(crate::specs::LengthLaws::cause_name_short))]
@@ -65,7 +63,7 @@ pub fn trap_text(mcause: u64, mtval: u64) -> ArrayString<128>
     let mut text = ArrayString::new();
     push_cause(&mut text, mcause);
     text.push_str(", ");
-    if mcause == CHERI {
+    if mcause == Cause::Cheri.number() {
         push_violation(&mut text, mtval);
     } else {
         push_number(&mut text, mtval);

@@ -15,16 +15,17 @@ loop-stop-preserved g c =
     let more : goes_on a l.left l.machine ≡ true = sym c.goes_on.ensures ∙ c.loop-stop-test.true in
     let some = some_step a l.left l.machine more in
     let first = one_step a l.left l.machine m c.event-out.ensures.state more in
+    let towards = c.run_towards-left.ensures in
     record {
-      state = state_goes_on (steps_until a l.left l.machine) Step
+      state = towards.state ∙ state_goes_on (steps_until a l.left l.machine) Step
           (steps_until a (l.left - 1) m) first l.machine m c.event-out.ensures.state _ l.invariant.state;
-      bytes = bytes_go_on (steps_until a l.left l.machine) Step
+      bytes = ap (λ bytes. c.emit.new.out.items ++ bytes) towards.bytes ∙ bytes_go_on (steps_until a l.left l.machine) Step
           (steps_until a (l.left - 1) m) first l.machine m c.event-out.ensures.state _ l.sent.items _
           (c.emit.ensures.items ∙ ap (λ b. l.sent.items ++ option_to_list b) c.event-out.ensures.byte) l.invariant.bytes;
-      count = omega (arith, some, l.invariant.below, l.invariant.count, ap length first);
-      below = omega (arith, l.invariant.below);
-      len = omega (arith, some, c.emit.ensures.len, l.invariant.len);
-      room = omega (arith, some, c.emit.ensures.len, c.emit.ensures.room, l.invariant.room);
+      count = omega (arith, some, l.invariant.below, l.invariant.count, ap length first, towards.few, towards.count);
+      below = omega (arith, l.invariant.below, towards.few);
+      len = omega (arith, some, c.emit.ensures.len, l.invariant.len, towards.few);
+      room = omega (arith, some, c.emit.ensures.len, c.emit.ensures.room, l.invariant.room, towards.few);
     }
 
 pub returns-clause-state : goal.returns-clause-state
