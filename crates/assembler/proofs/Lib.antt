@@ -6,6 +6,7 @@ pub mod ModestLemmas
 pub mod AskedLemmas
 pub mod CapabilityLemmas
 pub mod SoundLemmas
+pub mod StepLemmas
 pub mod LoadLemmas
 pub mod PageLemmas
 pub mod SectionLemmas
