@@ -4,4 +4,5 @@ pub mod Loads
 pub mod Places
 pub mod PlainRun
 pub mod PlainSteps
+pub mod Plans
 pub mod Quiet
