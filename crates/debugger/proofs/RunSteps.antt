@@ -1,5 +1,6 @@
 -- A run goes on by one event.
-use Rattle.std.proofs.Common.{◌≡◌, ℕ, zero, suc, ◌+◌, ◌-◌, ◌<◌, ◌≤◌, Bool, true, false, List, [], ◌∷◌, ◌++◌, refl, sym, ap, subst, ◌∙◌, append_assoc}
+use Rattle.std.proofs.Common.{◌≡◌, ℕ, zero, suc, ◌+◌, ◌-◌, ◌<◌, ◌≤◌, Bool, true, false, List, []}
+use Rattle.std.proofs.Common.{◌∷◌, ◌++◌, refl, sym, ap, subst, ◌∙◌, append_assoc}
 use Rattle.std.proofs.Common.{arith}
 use Rattle.std.specs.Prelude.{Option, option_to_list, replicate, length, not, ◌==◌, ◌&&◌, ◌||◌, nat_lt, is_some}
 use Rattle.std.proofs.lemmas.Bool.Decides.{nat_tests}
@@ -89,7 +90,8 @@ no_step stop (suc n) s h =
 
 -- ---- steps of a run towards a stop
 
-by_state : (k : ℕ) (rest : List Event) (s : State) → run_after (replicate k Step ++ rest) s ≡ run_after rest (run_after (replicate k Step) s)
+by_state : (k : ℕ) (rest : List Event) (s : State) → run_after (replicate k Step ++ rest) s
+    ≡ run_after rest (run_after (replicate k Step) s)
 by_state zero rest s = refl
 by_state (suc k) rest s = by_state k rest (after Step s)
 

@@ -10,8 +10,11 @@ overflow_cast-first g t c =
     omega (arith, below)
 
 pub put_scr-requires : goal.put_scr-requires
-put_scr-requires g t c =
-    (search rules, all-first (λ r. is_scr r.0) (0, record { ref_ptr = (0, 0); now = [] }) c.args.registers.now c.in-len1-up.len_at_least c.requires)
+put_scr-requires g t c = (
+  search rules,
+  all-first (λ r. is_scr r.0) (0, record { ref_ptr = (0, 0); now = [] })
+      c.args.registers.now c.in-len1-up.len_at_least c.requires,
+)
 
 pub put_scrs_of-requires : goal.put_scrs_of-requires
 put_scrs_of-requires g t c κs within =

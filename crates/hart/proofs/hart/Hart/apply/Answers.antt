@@ -65,7 +65,9 @@ returns-in-Store g c = c.store.ensures ∙ sym (ap (λ e. applied (meant g.C.Cap
 
 pub returns-in-StoreCapability : goal.returns-in-StoreCapability
 unfolding applied
-returns-in-StoreCapability g c = c.store_capability.ensures ∙ sym (ap (λ e. applied (meant g.C.CapRep.value e) c.args.self.now) c.in-StoreCapability.is)
+returns-in-StoreCapability g c =
+    c.store_capability.ensures
+    ∙ sym (ap (λ e. applied (meant g.C.CapRep.value e) c.args.self.now) c.in-StoreCapability.is)
 
 pub returns-in-DeviceLoad : goal.returns-in-DeviceLoad
 unfolding applied

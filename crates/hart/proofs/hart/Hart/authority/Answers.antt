@@ -17,23 +17,27 @@ returns-then-through_rs1-clause-capability g c =
     let insn = c.args.insn in
     c.get.ensures.value ∙ ap (λ (s : State). register s.registers insn.rs1) c.self.view_is
     ∙ ap (λ b. authority_through b insn c.args.self.now)
-    (through insn.row true _ _ _ _ c.args.self.now c.if-through_rs1.true c.through_rs1.ensures c.flag.ensures c.pcc.ensures.value c.self.view_is)
+    (through insn.row true _ _ _ _ c.args.self.now c.if-through_rs1.true
+    c.through_rs1.ensures c.flag.ensures c.pcc.ensures.value c.self.view_is)
 
 pub returns-then-through_rs1-clause-register : goal.returns-then-through_rs1-clause-register
 returns-then-through_rs1-clause-register g c =
     let insn = c.args.insn in
     c.from.ensures ∙ ap (λ b. number_through b insn)
-    (through insn.row true _ _ _ _ c.args.self.now c.if-through_rs1.true c.through_rs1.ensures c.flag.ensures c.pcc.ensures.value c.self.view_is)
+    (through insn.row true _ _ _ _ c.args.self.now c.if-through_rs1.true
+    c.through_rs1.ensures c.flag.ensures c.pcc.ensures.value c.self.view_is)
 
 pub returns-else-through_rs1-clause-capability : goal.returns-else-through_rs1-clause-capability
 returns-else-through_rs1-clause-capability g c =
     let insn = c.args.insn in
     c.ddc.ensures ∙ ap (λ (s : State). s.scrs.ddc) c.self.view_is
     ∙ ap (λ b. authority_through b insn c.args.self.now)
-    (through insn.row false _ _ _ _ c.args.self.now c.if-through_rs1.false c.through_rs1.ensures c.flag.ensures c.pcc.ensures.value c.self.view_is)
+    (through insn.row false _ _ _ _ c.args.self.now c.if-through_rs1.false
+    c.through_rs1.ensures c.flag.ensures c.pcc.ensures.value c.self.view_is)
 
 pub returns-else-through_rs1-clause-register : goal.returns-else-through_rs1-clause-register
 returns-else-through_rs1-clause-register g c =
     let insn = c.args.insn in
     ap (λ b. number_through b insn)
-    (through insn.row false _ _ _ _ c.args.self.now c.if-through_rs1.false c.through_rs1.ensures c.flag.ensures c.pcc.ensures.value c.self.view_is)
+    (through insn.row false _ _ _ _ c.args.self.now c.if-through_rs1.false
+    c.through_rs1.ensures c.flag.ensures c.pcc.ensures.value c.self.view_is)

@@ -17,4 +17,5 @@ returns-in-Csrrwi g c =
 pub returns-in_default : goal.returns-in_default
 returns-in_default g c =
     let other = c.in_default in
-    c.number.ensures ∙ sym (csr_source-number c.args.insn.row c.args.insn c.args.self.now other.not-Csrrwi other.not-Csrrsi other.not-Csrrci)
+    c.number.ensures
+    ∙ sym (csr_source-number c.args.insn.row c.args.insn c.args.self.now other.not-Csrrwi other.not-Csrrsi other.not-Csrrci)

@@ -24,7 +24,8 @@ returns-in-MulDiv-clause-effect g c =
 pub returns-in-Capability-clause-effect : goal.returns-in-Capability-clause-effect
 unfolding kind_effect
 returns-in-Capability-clause-effect g c =
-    c.plan_capability.ensures.effect ∙ ap (λ k. kind_effect k c.args.word c.args.insn c.args.self.now) (sym c.in-Capability.is ∙ c.kind.ensures)
+    c.plan_capability.ensures.effect
+    ∙ ap (λ k. kind_effect k c.args.word c.args.insn c.args.self.now) (sym c.in-Capability.is ∙ c.kind.ensures)
 
 pub returns-in-Auipc-clause-effect : goal.returns-in-Auipc-clause-effect
 unfolding kind_effect
@@ -69,12 +70,14 @@ returns-in-Store-clause-effect g c =
 pub returns-in-LoadCapability-clause-effect : goal.returns-in-LoadCapability-clause-effect
 unfolding kind_effect
 returns-in-LoadCapability-clause-effect g c =
-    c.plan_load_capability.ensures.effect ∙ ap (λ k. kind_effect k c.args.word c.args.insn c.args.self.now) (sym c.in-LoadCapability.is ∙ c.kind.ensures)
+    c.plan_load_capability.ensures.effect
+    ∙ ap (λ k. kind_effect k c.args.word c.args.insn c.args.self.now) (sym c.in-LoadCapability.is ∙ c.kind.ensures)
 
 pub returns-in-StoreCapability-clause-effect : goal.returns-in-StoreCapability-clause-effect
 unfolding kind_effect
 returns-in-StoreCapability-clause-effect g c =
-    c.plan_store_capability.ensures.effect ∙ ap (λ k. kind_effect k c.args.word c.args.insn c.args.self.now) (sym c.in-StoreCapability.is ∙ c.kind.ensures)
+    c.plan_store_capability.ensures.effect
+    ∙ ap (λ k. kind_effect k c.args.word c.args.insn c.args.self.now) (sym c.in-StoreCapability.is ∙ c.kind.ensures)
 
 pub returns-in-Csr-clause-effect : goal.returns-in-Csr-clause-effect
 unfolding kind_effect

@@ -20,7 +20,8 @@ returns-clause-effect g c =
     let in_mode = λ (flag : Bool). if flag then at_address s.scrs.pcc ((pc_of s + insn.imm) % 2 ^ 64) else integer
     ((pc_of s + insn.imm) % 2 ^ 64) in
     let value : g.C.CapRep.value c.if-flag.result ≡ in_mode (value_flag s.scrs.pcc) = elim c.if-flag.branch [
-      | then-flag w ↦ ap g.C.CapRep.value w.result-is ∙ w.set_address.ensures ∙ ap (λ v. at_address v ((c.address.result + insn.imm) % 2 ^ 64)) pcc
+      | then-flag w ↦ ap g.C.CapRep.value w.result-is ∙ w.set_address.ensures
+          ∙ ap (λ v. at_address v ((c.address.result + insn.imm) % 2 ^ 64)) pcc
           ∙ ap (at_address s.scrs.pcc) here ∙ ap in_mode (sym w.if-flag.true ∙ flag)
       | else-flag w ↦ ap g.C.CapRep.value w.result-is ∙ w.integer.ensures ∙ ap integer here ∙ ap in_mode (sym w.if-flag.false ∙ flag)
     ] in

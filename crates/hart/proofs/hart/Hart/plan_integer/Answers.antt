@@ -20,7 +20,8 @@ returns-clause-effect g c =
     let s = c.args.self.now in
     let second : c.match-format.b ≡ second_of s insn (line_of insn.row).format = elim c.match-format.branch [
       | in-Register w ↦ w.b-is ∙ w.number-b.ensures ∙ ap (second_of s insn) (sym w.in-Register.is ∙ c.format.ensures)
-      | in_default w ↦ w.b-is ∙ second_of-immediate s insn c.format.result w.in_default.not-Register ∙ ap (second_of s insn) c.format.ensures
+      | in_default w ↦ w.b-is ∙ second_of-immediate s insn c.format.result w.in_default.not-Register
+          ∙ ap (second_of s insn) c.format.ensures
     ] in
     ap (λ (v : CapValue). Write (record { rd = insn.rd; value = v }))
     (c.integer.ensures ∙ ap integer (c.int_op.ensures

@@ -25,7 +25,8 @@ returns-in-Ok-clause-effect g c =
     let held = ap (λ (k : State). scr_value k.scrs insn.rs2) (sym c.self.view_is) ∙ c.in-Ok.ensures.value in
     let none = ap (λ (k : State). scr_fault k.scrs insn.rs2 (not (eqb insn.rs1 0))) (sym c.self.view_is) ∙ c.in-Ok.ensures.allowed in
     c.special_done.ensures.effect ∙ ap (λ o. special_done o c.args.word insn s) (sym held)
-    ∙ ap (λ f. unless_refused f (special_register insn.rs2) c.args.word (special_done (scr_value s.scrs insn.rs2) c.args.word insn s)) (sym none)
+    ∙ ap (λ f. unless_refused f (special_register insn.rs2) c.args.word
+    (special_done (scr_value s.scrs insn.rs2) c.args.word insn s)) (sym none)
 
 pub returns-in-Ok-clause-can : goal.returns-in-Ok-clause-can
 returns-in-Ok-clause-can g c = c.special_done.ensures.can
@@ -37,4 +38,5 @@ returns-in-Err-clause-effect g c =
     let s = c.args.self.now in
     let some = ap (λ (k : State). scr_fault k.scrs insn.rs2 (not (eqb insn.rs1 0))) (sym c.self.view_is) ∙ c.in-Err.ensures.refused in
     c.refused_effect.ensures ∙ ap (λ n. refused c.in-Err.refusal (special_register n) c.args.word) c.from.ensures
-    ∙ ap (λ f. unless_refused f (special_register insn.rs2) c.args.word (special_done (scr_value s.scrs insn.rs2) c.args.word insn s)) (sym some)
+    ∙ ap (λ f. unless_refused f (special_register insn.rs2) c.args.word
+    (special_done (scr_value s.scrs insn.rs2) c.args.word insn s)) (sym some)

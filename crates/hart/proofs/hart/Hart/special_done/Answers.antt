@@ -28,5 +28,6 @@ pub returns-clause-can : goal.returns-clause-can
 unfolding CanApply
 returns-clause-can g c = (
   c.requires.registers.0,
-  subst (λ b. scr_fault c.args.self.now.scrs c.args.insn.rs2 (not b) ≡ None) (ne_eqb c.args.insn.rs1 0 c.if-insn-eq0.false) c.requires.allowed,
+  subst (λ b. scr_fault c.args.self.now.scrs c.args.insn.rs2 (not b) ≡ None) (ne_eqb c.args.insn.rs1 0 c.if-insn-eq0.false)
+      c.requires.allowed,
 )
