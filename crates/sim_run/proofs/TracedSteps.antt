@@ -1,11 +1,11 @@
 -- The lines of a traced run, and what is left of it where a sink fails.
-use Rattle.std.proofs.Common.{◌≡◌, ℕ, zero, suc, ◌+◌, ◌-◌, ◌<◌, ◌≤◌, Bool, true, false, List, [], ◌∷◌, ◌++◌, replicate, refl, sym, ap, ◌∙◌}
+use Rattle.std.proofs.Common.{◌≡◌, ℕ, suc, ◌+◌, ◌-◌, ◌<◌, ◌≤◌, Bool, true, false, List, [], ◌∷◌, ◌++◌, replicate, refl, sym, ap, ◌∙◌}
 use Rattle.std.proofs.Common.{append_assoc, append-nil, subst, arith}
 use Rattle.std.specs.Prelude.{Option, Some, None, is_some, option_to_list, if◌then◌else◌}
 use Rattle.std.specs.Io.KnownBytes.{Appends, Keeps}
 use Rattle.std.proofs.KnownBytes.{Appends-nil, Appends-trans, Appends-kept}
 use Rattle.image.specs.Devices.{AppendsBeginning}
-use Rattle.image.specs.BeginningLaws.{beginning_more, beginning_after}
+use Rattle.image.specs.BeginningLaws.{beginning_after}
 use Rattle.hart.specs.declared.event.Event.{Event}
 use Rattle.hart.specs.declared.event.Event.TheVariants.{Step, Tick, Byte}
 use Rattle.hart.specs.Event.{after, sent}
@@ -16,8 +16,8 @@ use Rattle.sim_run.specs.declared.schedule.Schedule.{Schedule}
 use Rattle.sim_run.specs.declared.traced.TraceFault.{TraceFault}
 use Rattle.sim_run.specs.declared.traced.TraceFault.TheVariants.{Output, Trace}
 use Rattle.sim_run.specs.Schedule.{block, byte_before, is_tick_after, first_steps, is_halted, scheduled, steps_in, up_to_halt, AreAlone}
-use Rattle.sim_run.specs.Trace.{trace_lines, IsOutputCut, IsTraceCut, WasCut}
-use Rattle.sim_run.proofs.Events.{brought, ticking, ticked_after, run_after-append, run_sent-append, run_sent-brought, goes_on}
+use Rattle.sim_run.specs.Trace.{trace_lines, WasCut}
+use Rattle.sim_run.proofs.Events.{brought, ticked_after, run_after-append, run_sent-append, run_sent-brought, goes_on}
 use Rattle.sim_run.proofs.Events.{up_to_halt-append, up_to_halt-block, then_up_to_halt, no_more, count_in_block, steps_in-append}
 use Rattle.sim_run.proofs.Scheduled.{nth_block, block_follows, more_follow, steps_from}
 

@@ -1,5 +1,5 @@
 ghost use Rattle.std.specs.Prelude.{◌≡◌, ◌≤◌, ◌<◌, ◌^◌, IfOk, true, false, codes};
-ghost use Rattle.clap.specs.Words.{app_of, rule_of};
+ghost use Rattle.clap.specs.Words.{app_of, rule_of, with_rule};
 ghost use Rattle.clap.specs.declared.builder.command.Command.TheViews.{out-Command};
 ghost use Rattle.sim_run.specs.CommandLine.{operand, named, flag, in_range, steps_rule, gap_rule, tick_rule, with_options};
 ghost use Rattle.sim_run.specs.CommandLine.{with_schedule, with_symbols, with_layout};
@@ -30,12 +30,18 @@ Without a command the program runs a first image of five instructions, which pri
 The status is 0 where all went well, for `run` where the machine halted with 0; 1 where `run` ended
 otherwise; 2 for a command line that is no command; 3 for any other fault.";
 
-/// An argument that must be there.
-fn operand<'a>(alloc: Global, id: &'a str, help: &'a str) -> Arg<'a>
-    ensures rule { rule_of result ≡ operand id.entry.now }
-    ensures local { result.global ≡ false }
+/// Adds an argument that must be there.
+fn with_operand<'a>(
+    alloc: Global,
+    command: Command<'a>,
+    id: &'a str,
+    help: &'a str,
+) -> Result<Command<'a>, AllocError>
+    requires { (out-Command command).has_globals ≡ false }
+    ensures app { IfOk result (λ c. app_of c ≡ with_rule (app_of command.entry) (operand id.entry.now)) }
+    ensures local { IfOk result (λ c. (out-Command c).has_globals ≡ false) }
 {
-    Arg::new(alloc, id).help(help).required(true)
+    command.arg(Arg::new(alloc, id).help(help).required(true))
 }
 
 /// An option with a value: `--id VALUE`.
@@ -46,55 +52,78 @@ fn named<'a>(alloc: Global, id: &'a str, value: &'a str, help: &'a str) -> Arg<'
     Arg::new(alloc, id).long(id).value_name(value).help(help)
 }
 
-/// A flag: `--id`.
-fn flag<'a>(alloc: Global, id: &'a str, help: &'a str) -> Arg<'a>
-    ensures rule { rule_of result ≡ flag id.entry.now }
-    ensures local { result.global ≡ false }
+/// Adds an option with a value.
+fn with_named<'a>(
+    alloc: Global,
+    command: Command<'a>,
+    id: &'a str,
+    value: &'a str,
+    help: &'a str,
+) -> Result<Command<'a>, AllocError>
+    requires { (out-Command command).has_globals ≡ false }
+    ensures app { IfOk result (λ c. app_of c ≡ with_rule (app_of command.entry) (named id.entry.now)) }
+    ensures local { IfOk result (λ c. (out-Command c).has_globals ≡ false) }
 {
-    Arg::new(alloc, id)
-        .long(id)
-        .action(ArgAction::SetTrue)
-        .help(help)
+    command.arg(named(alloc, id, value, help))
 }
 
-fn steps<'a>(alloc: Global) -> Arg<'a>
-    ensures rule { rule_of result ≡ steps_rule }
-    ensures local { result.global ≡ false }
+/// Adds a flag: `--id`.
+fn with_flag<'a>(
+    alloc: Global,
+    command: Command<'a>,
+    id: &'a str,
+    help: &'a str,
+) -> Result<Command<'a>, AllocError>
+    requires { (out-Command command).has_globals ≡ false }
+    ensures app { IfOk result (λ c. app_of c ≡ with_rule (app_of command.entry) (flag id.entry.now)) }
+    ensures local { IfOk result (λ c. (out-Command c).has_globals ≡ false) }
 {
-    operand(
-        alloc,
-        "STEPS",
-        "The most steps that are done, 1 to 100000000",
+    command.arg(
+        Arg::new(alloc, id)
+            .long(id)
+            .action(ArgAction::SetTrue)
+            .help(help),
     )
-    .value_parser(ValueParser::unsigned(1, 100_000_000))
 }
 
-fn gap<'a>(alloc: Global) -> Arg<'a>
-    ensures rule { rule_of result ≡ gap_rule }
-    ensures local { result.global ≡ false }
+/// Adds the number of steps.
+fn with_steps<'a>(alloc: Global, run: Command<'a>) -> Result<Command<'a>, AllocError>
+    requires { (out-Command run).has_globals ≡ false }
+    ensures app { IfOk result (λ c. app_of c ≡ with_rule (app_of run.entry) steps_rule) }
+    ensures local { IfOk result (λ c. (out-Command c).has_globals ≡ false) }
 {
-    named(
-        alloc,
-        "gap",
-        "N",
-        "Steps from one byte of the input to the next, 1 to 1000000",
-    )
-    .value_parser(ValueParser::unsigned(1, 1_000_000))
-    .default_value("1000")
+    let steps = Arg::new(alloc, "STEPS")
+        .help("The most steps that are done, 1 to 100000000")
+        .required(true);
+    run.arg(steps.value_parser(ValueParser::unsigned(1, 100_000_000)))
 }
 
-fn tick<'a>(alloc: Global) -> Arg<'a>
-    ensures rule { rule_of result ≡ tick_rule }
-    ensures local { result.global ≡ false }
+/// Adds how many steps lie between two bytes of the input.
+fn with_gap<'a>(alloc: Global, run: Command<'a>) -> Result<Command<'a>, AllocError>
+    requires { (out-Command run).has_globals ≡ false }
+    ensures app { IfOk result (λ c. app_of c ≡ with_rule (app_of run.entry) gap_rule) }
+    ensures local { IfOk result (λ c. (out-Command c).has_globals ≡ false) }
 {
-    named(
-        alloc,
-        "tick",
-        "N",
-        "Steps from one tick of the timer to the next, 0 to 1000000; at 0 there is none",
+    let help = "Steps from one byte of the input to the next, 1 to 1000000";
+    run.arg(
+        named(alloc, "gap", "N", help)
+            .value_parser(ValueParser::unsigned(1, 1_000_000))
+            .default_value("1000"),
     )
-    .value_parser(ValueParser::unsigned(0, 1_000_000))
-    .default_value("100")
+}
+
+/// Adds how many steps lie between two ticks.
+fn with_tick<'a>(alloc: Global, run: Command<'a>) -> Result<Command<'a>, AllocError>
+    requires { (out-Command run).has_globals ≡ false }
+    ensures app { IfOk result (λ c. app_of c ≡ with_rule (app_of run.entry) tick_rule) }
+    ensures local { IfOk result (λ c. (out-Command c).has_globals ≡ false) }
+{
+    let help = "Steps from one tick of the timer to the next, 0 to 1000000; at 0 there is none";
+    run.arg(
+        named(alloc, "tick", "N", help)
+            .value_parser(ValueParser::unsigned(0, 1_000_000))
+            .default_value("100"),
+    )
 }
 
 /// Adds the option that names a file of labels.
@@ -107,17 +136,16 @@ fn with_symbols<'a>(
     ensures app { IfOk result (λ c. app_of c ≡ with_symbols (app_of command.entry)) }
     ensures local { IfOk result (λ c. (out-Command c).has_globals ≡ false) }
 {
-    command.arg(named(alloc, "symbols", "FILE", help))
+    with_named(alloc, command, "symbols", "FILE", help)
 }
 
 fn asm_command<'a>(alloc: Global) -> Result<Command<'a>, AllocError>
     ensures app { IfOk result (λ c. app_of c ≡ asm_command) }
     ensures local { IfOk result (λ c. (out-Command c).has_globals ≡ false) }
 {
-    let asm = Command::new(alloc, "asm")
-        .about("Assembles a text into an image")
-        .arg(operand(alloc, "IN", "The file with the text"))?
-        .arg(operand(alloc, "OUT", "The file that the image is written to"))?;
+    let asm = Command::new(alloc, "asm").about("Assembles a text into an image");
+    let asm = with_operand(alloc, asm, "IN", "The file with the text")?;
+    let asm = with_operand(alloc, asm, "OUT", "The file that the image is written to")?;
     with_symbols(alloc, asm, "The file that the labels are written to")
 }
 
@@ -131,21 +159,21 @@ fn with_layout<'a>(alloc: Global, image: Command<'a>) -> Result<Command<'a>, All
     let entry = "The address of the first instruction, by default that of the first byte";
     let pages = "Pages of 4096 bytes of RAM, 1 to 65536; by default the fewest that hold the bytes";
     let mode = "0 for integer mode, the default, and 1 for capability mode";
-    image
-        .arg(named(alloc, "at", "ADDRESS", at))?
-        .arg(named(alloc, "entry", "ADDRESS", entry))?
-        .arg(named(alloc, "pages", "N", pages))?
-        .arg(named(alloc, "mode", "M", mode))
+    let image = with_named(alloc, image, "at", "ADDRESS", at)?;
+    let image = with_named(alloc, image, "entry", "ADDRESS", entry)?;
+    let image = with_named(alloc, image, "pages", "N", pages)?;
+    with_named(alloc, image, "mode", "M", mode)
 }
 
 fn image_command<'a>(alloc: Global) -> Result<Command<'a>, AllocError>
     ensures app { IfOk result (λ c. app_of c ≡ image_command) }
     ensures local { IfOk result (λ c. (out-Command c).has_globals ≡ false) }
 {
-    let image = Command::new(alloc, "image")
-        .about("Makes an image of a file's bytes; numbers are decimal, or hexadecimal behind 0x")
-        .arg(operand(alloc, "FLAT", "The file with the bytes"))?
-        .arg(operand(alloc, "OUT", "The file that the image is written to"))?;
+    let image = Command::new(alloc, "image").about(
+        "Makes an image of a file's bytes; numbers are decimal, or hexadecimal behind 0x",
+    );
+    let image = with_operand(alloc, image, "FLAT", "The file with the bytes")?;
+    let image = with_operand(alloc, image, "OUT", "The file that the image is written to")?;
     with_layout(alloc, image)
 }
 
@@ -155,13 +183,10 @@ fn with_schedule<'a>(alloc: Global, run: Command<'a>) -> Result<Command<'a>, All
     ensures app { IfOk result (λ c. app_of c ≡ with_schedule (app_of run.entry)) }
     ensures local { IfOk result (λ c. (out-Command c).has_globals ≡ false) }
 {
-    let input = named(
-        alloc,
-        "input",
-        "FILE",
-        "The file whose bytes come on the console",
-    );
-    run.arg(input)?.arg(gap(alloc))?.arg(tick(alloc))
+    let input = "The file whose bytes come on the console";
+    let run = with_named(alloc, run, "input", "FILE", input)?;
+    let run = with_gap(alloc, run)?;
+    with_tick(alloc, run)
 }
 
 /// Adds the options of `run`.
@@ -170,28 +195,22 @@ fn with_options<'a>(alloc: Global, run: Command<'a>) -> Result<Command<'a>, Allo
     ensures app { IfOk result (λ c. app_of c ≡ with_options (app_of run.entry)) }
     ensures local { IfOk result (λ c. (out-Command c).has_globals ≡ false) }
 {
-    let quiet = flag(
-        alloc,
-        "quiet",
-        "Leaves out the line that says where a run ended",
-    );
-    let trace = named(
-        alloc,
-        "trace",
-        "FILE",
-        "The file that a line for each step is written to",
-    );
-    with_schedule(alloc, run)?.arg(quiet)?.arg(trace)
+    let quiet = "Leaves out the line that says where a run ended";
+    let trace = "The file that a line for each step is written to";
+    let run = with_schedule(alloc, run)?;
+    let run = with_flag(alloc, run, "quiet", quiet)?;
+    with_named(alloc, run, "trace", "FILE", trace)
 }
 
 fn run_command<'a>(alloc: Global) -> Result<Command<'a>, AllocError>
     ensures app { IfOk result (λ c. app_of c ≡ run_command) }
     ensures local { IfOk result (λ c. (out-Command c).has_globals ≡ false) }
 {
-    let run = Command::new(alloc, "run")
-        .about("Runs an image, and writes the bytes that it sends to standard output")
-        .arg(operand(alloc, "IMAGE", "The file with the image"))?
-        .arg(steps(alloc))?;
+    let run = Command::new(alloc, "run").about(
+        "Runs an image, and writes the bytes that it sends to standard output",
+    );
+    let run = with_operand(alloc, run, "IMAGE", "The file with the image")?;
+    let run = with_steps(alloc, run)?;
     with_options(alloc, run)
 }
 
@@ -199,9 +218,8 @@ fn dis_command<'a>(alloc: Global) -> Result<Command<'a>, AllocError>
     ensures app { IfOk result (λ c. app_of c ≡ dis_command) }
     ensures local { IfOk result (λ c. (out-Command c).has_globals ≡ false) }
 {
-    let dis = Command::new(alloc, "dis")
-        .about("Lists an image as instructions")
-        .arg(operand(alloc, "IMAGE", "The file with the image"))?;
+    let dis = Command::new(alloc, "dis").about("Lists an image as instructions");
+    let dis = with_operand(alloc, dis, "IMAGE", "The file with the image")?;
     with_symbols(alloc, dis, "A file with labels, which the listing shows")
 }
 
@@ -209,30 +227,25 @@ fn debug_command<'a>(alloc: Global) -> Result<Command<'a>, AllocError>
     ensures app { IfOk result (λ c. app_of c ≡ debug_command) }
     ensures local { IfOk result (λ c. (out-Command c).has_globals ≡ false) }
 {
-    let debug = Command::new(alloc, "debug")
-        .about("Debugs an image: commands from standard input, replies to standard output")
-        .arg(operand(alloc, "IMAGE", "The file with the image"))?;
-    with_symbols(
-        alloc,
-        debug,
-        "A file with labels, which stand for their addresses in commands",
-    )
+    let labels = "A file with labels, which stand for their addresses in commands";
+    let debug = Command::new(alloc, "debug").about(
+        "Debugs an image: commands from standard input, replies to standard output",
+    );
+    let debug = with_operand(alloc, debug, "IMAGE", "The file with the image")?;
+    with_symbols(alloc, debug, labels)
 }
 
 fn bounds_command<'a>(alloc: Global) -> Result<Command<'a>, AllocError>
     ensures app { IfOk result (λ c. app_of c ≡ bounds_command) }
     ensures local { IfOk result (λ c. (out-Command c).has_globals ≡ false) }
 {
-    Command::new(alloc, "bounds")
-        .about("Says what setting bounds gives; numbers are decimal, or hexadecimal behind 0x")
-        .arg(operand(alloc, "BASE", "The first address that is asked for"))?
-        .arg(operand(alloc, "LENGTH", "How many bytes are asked for"))?
-        .arg(named(
-            alloc,
-            "address",
-            "ADDRESS",
-            "An address to be placed against the bounds",
-        ))
+    let address = "An address to be placed against the bounds";
+    let bounds = Command::new(alloc, "bounds").about(
+        "Says what setting bounds gives; numbers are decimal, or hexadecimal behind 0x",
+    );
+    let bounds = with_operand(alloc, bounds, "BASE", "The first address that is asked for")?;
+    let bounds = with_operand(alloc, bounds, "LENGTH", "How many bytes are asked for")?;
+    with_named(alloc, bounds, "address", "ADDRESS", address)
 }
 
 /// The program with the commands that make an image.

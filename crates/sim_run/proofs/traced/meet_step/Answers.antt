@@ -1,4 +1,3 @@
-use Rattle.std.proofs.Common.{◌≡◌}
 use Rattle.sim_run.proofs.TracedSteps.{step_unwritten, step_untraced}
 use Rattle.sim_run.proofs.traced.meet_step.Goals as goal
 
