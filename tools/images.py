@@ -296,8 +296,8 @@ WRONG = {"L12": PLACES, "L13": RANGES, "L14": RIGHTS}
 
 
 def pairs():
-    """Two faults, and which is told: of one entry by the order of its checks, of two by the order of the entries, and what is asked of the header,
-    the sections and the count before any entry."""
+    """Two faults, and which is told: of one entry by the order of its checks, of two by the order of the entries, and what is asked of the
+    header, the sections and the count before any entry."""
     yield "# the first fault of two of one capability, behind a sound one"
     sound = granted(RAM)
     for first, second in (("L12", "L13"), ("L12", "L14"), ("L13", "L14")):

@@ -261,8 +261,10 @@ def images():
         yield case(f"image flat out.img {options}", [file], 3, "open flat", told=f"cherisim: flat: {text}\n")
     yield "# of a file that is larger than RAM one byte more than RAM has room for is read: the call behind it, which fails, isn't made"
     large = bytes(4098)
-    yield case("image flat out.img --pages 1", [f"flat 4097 {quoted(large)}"], 3, "open flat", told="cherisim: flat: L6 section outside RAM\n")
-    yield case("image flat out.img --pages 1", [f"flat 4096 {quoted(large)}"], 3, "open flat", told="cherisim: flat: read failed: broken pipe\n")
+    yield case("image flat out.img --pages 1", [f"flat 4097 {quoted(large)}"], 3, "open flat",
+               told="cherisim: flat: L6 section outside RAM\n")
+    yield case("image flat out.img --pages 1", [f"flat 4096 {quoted(large)}"], 3, "open flat",
+               told="cherisim: flat: read failed: broken pipe\n")
     yield case("image none out.img", [file], 3, "open none", told="cherisim: file none: entity not found\n")
     yield case("image flat out.img", [file, "made 3"], 3, opened,
                told="cherisim: out.img: L10 device failed: the file is cut short\n", made=flat_image(flat)[:3])
@@ -278,7 +280,8 @@ def debugged(table):
     yield session("mem start 5\nmem 2147483660 1", "0000000080000000: b7 05 00 10 13\n000000008000000c: b7\n")
     yield session("dis halt 1\nmem halt 1", "000000008000000c 001005b7 lui a1, 0x100\n000000008000000c: b7\n")
     for typed in ("until stop 9", "mem stop 1", "dis stop 1", "mem Start 1", "mem star 1", "mem starts 1", "mem start: 1", "mem start+0 1",
-                  "mem start start", "until halt halt", "step start", "tick halt", "trap start", "byte start", "reg start", "mem start", "dis halt"):
+                  "mem start start", "until halt halt", "step start", "tick halt", "trap start", "byte start", "reg start", "mem start",
+                   "dis halt"):
         yield session(typed + "\nmem start 1", "fault B2\n0000000080000000: b7\n")
     yield session("start 1\nhalt", "fault B1\nfault B1\n")
     yield "# of a name that stands twice the first address counts; a number is a number beside any labels"
@@ -295,11 +298,13 @@ def debugged(table):
     yield case("debug first.img", [FILE, table, 'input "mem start 1\\nmem 0x80000000 1"'], 0, "open first.img",
                "fault B2\n0000000080000000: b7\n")
     yield "# the table is read behind the image, and refused as that of a listing"
-    for wrong, line in ((table.replace(" halt", "  halt"), 2), (table.replace(" start", " 80000000"), 1), (table.replace("C halt", "C h:"), 2),
+    for wrong, line in ((table.replace(" halt", "  halt"), 2), (table.replace(" start", " 80000000"), 1),
+                        (table.replace("C halt", "C h:"), 2),
                         ('t "start 0000000080000000"', 1), ('t "\\n"', 1)):
         yield case("debug first.img --symbols t", [FILE, wrong], 3, "open first.img, open t",
                    told=f"cherisim: t: line {line}: no address and label\n")
-    yield case("debug first.img --symbols none", [FILE], 3, "open first.img, open none", told="cherisim: file none: entity not found\n")
+    yield case("debug first.img --symbols none", [FILE], 3, "open first.img, open none",
+               told="cherisim: file none: entity not found\n")
     yield case("debug first.img --symbols d", [FILE, "directory d"], 3, "open first.img, open d", told="cherisim: d: is a directory\n")
     yield case("debug first.img --symbols t", [FILE, table.replace("t ", "t 0 ", 1)], 3, "open first.img, open t",
                told="cherisim: t: read failed: broken pipe\n")
@@ -319,7 +324,8 @@ def named():
     yield case("dis first.img --symbols t", [FILE, 't ""'], 0, "open first.img, open t", LISTED)
     yield case("dis first.img --symbols t", [FILE, table.replace(" halt", "  halt")], 3, "open first.img, open t",
                told="cherisim: t: line 2: no address and label\n")
-    yield case("dis first.img --symbols none", [FILE], 3, "open first.img, open none", told="cherisim: file none: entity not found\n")
+    yield case("dis first.img --symbols none", [FILE], 3, "open first.img, open none",
+               told="cherisim: file none: entity not found\n")
     yield case("dis bad.img --symbols none", [BAD], 3, "open bad.img", told="cherisim: bad.img: L1 short header\n")
     yield from debugged(table)
     yield "# what setting bounds gives"
@@ -328,8 +334,10 @@ def named():
     yield case("bounds 0 1", ["output 0"], 3, told="cherisim: write failed\n")
     yield "# what was read of a faulty line stands behind the fault's words"
     for line, told in (("addi a0, a0, 4096", "A3 immediate out of range: 4096 (-2048 to 2047)"), ("j lop", "A5 label unknown: lop"),
-                       ("x: nop\\nx: nop", "A4 label twice: x"), ("addi a0", "A2 operands: addi takes rd, rs1, imm"), ("nop\\x01", "A8 byte not ASCII: 0x01 at column 4")):
-        yield case("asm a.s out.img", [f'a.s "{line}\\n"'], 3, "open a.s", told=f"cherisim: a.s: line {line.count('nop') if 'x:' in line else 1}: {told}\n")
+                       ("x: nop\\nx: nop", "A4 label twice: x"), ("addi a0", "A2 operands: addi takes rd, rs1, imm"),
+                        ("nop\\x01", "A8 byte not ASCII: 0x01 at column 4")):
+        number = line.count("nop") if "x:" in line else 1
+        yield case("asm a.s out.img", [f'a.s "{line}\\n"'], 3, "open a.s", told=f"cherisim: a.s: line {number}: {told}\n")
     for number, lines, told in DETAILED:
         text = "".join(f"{line}\\n" for line in lines)
         yield case("asm a.s out.img", [f'a.s "{text}"'], 3, "open a.s", told=f"cherisim: a.s: line {number}: {told}\n")
@@ -343,7 +351,8 @@ def faults():
         yield case(command, [BAD], 3, "open bad.img", told="cherisim: bad.img: L1 short header\n")
     yield case("asm a.s out.img", ['a.s "nop\\nfrob a0\\n"'], 3, "open a.s", told="cherisim: a.s: line 2: A1 unknown mnemonic: frob\n")
     yield case("asm a.s out.img", [TEXT, "full"], 3, "open a.s, make out.img", told="cherisim: file out.img: entity not found\n")
-    yield case("run first.img 5 --input none", [FILE], 3, "open first.img, open none", told="cherisim: file none: entity not found\n")
+    yield case("run first.img 5 --input none", [FILE], 3, "open first.img, open none",
+               told="cherisim: file none: entity not found\n")
     yield "# the faults in order: the command line, the file that is read first, what it says, the other file, the work"
     yield refused("run none 0 --input none", [])
     yield refused("asm none", [])
@@ -351,12 +360,14 @@ def faults():
     yield case("run bad.img 5 --input none", [BAD], 3, "open bad.img", told="cherisim: bad.img: L1 short header\n")
     yield case("asm none out.img", ["full"], 3, "open none", told="cherisim: file none: entity not found\n")
     yield case("asm a.s out.img", ['a.s "frob\\nnop\\n"', "full"], 3, "open a.s", told="cherisim: a.s: line 1: A1 unknown mnemonic: frob\n")
-    yield case("run first.img 5 --input none", [FILE, "output 0"], 3, "open first.img, open none", told="cherisim: file none: entity not found\n")
+    yield case("run first.img 5 --input none", [FILE, "output 0"], 3, "open first.img, open none",
+               told="cherisim: file none: entity not found\n")
 
 
 def failing():
     yield "# calls of files and streams that fail, by their numbers from 0"
-    yield from (case("asm a.s out.img", [TEXT.replace("a.s", f"a.s {call}", 1)], 3, "open a.s", told="cherisim: a.s: read failed: broken pipe\n")
+    yield from (case("asm a.s out.img", [TEXT.replace("a.s", f"a.s {call}", 1)], 3, "open a.s",
+                    told="cherisim: a.s: read failed: broken pipe\n")
                 for call in (0, 1, 40))
     for command in ("run", "dis", "debug"):
         words = f"{command} first.img" + (" 5" if command == "run" else "")
@@ -373,7 +384,8 @@ def failing():
     yield case("run first.img 5 --input keys --gap 4", [FILE, 'keys 2 "ABC"'], 0, "open first.img, open keys", b"A")
     yield "# a directory where a file is named"
     for words, opened in (("asm d out.img", "open d"), ("run d 5", "open d"), ("dis d", "open d"), ("debug d", "open d"),
-                          ("image d out.img", "open d"), ("asm a.s d", "open a.s, make d"), ("run first.img 5 --input d", "open first.img, open d")):
+                          ("image d out.img", "open d"), ("asm a.s d", "open a.s, make d"),
+                           ("run first.img 5 --input d", "open first.img, open d")):
         yield case(words, [FILE, TEXT, "directory d"], 3, opened, told="cherisim: d: is a directory\n")
     yield from (case("asm a.s out.img", [TEXT, f"made {call}"], 3, "open a.s, make out.img",
                      told="cherisim: out.img: L10 device failed: the file is cut short\n", made=FIRST[:call]) for call in (0, 1, 48, 67))

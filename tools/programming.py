@@ -463,7 +463,7 @@ def opening_list():
     devices = [(name, said("OPENING", text)) for name, text in fields(DEVICES.body("idle"))]
     for pairs in (csrs, devices):
         lines.append("; ".join(f"{name}: {text}" for name, text in pairs) + ".")
-    lines.append(f"RAM: {defined('hart/specs/Opening', 'loaded')}; {defined('hart/specs/Opening', 'opening_memory')}.")
+    lines.append(f"RAM: {defined('hart/specs/Opening', 'loaded_memory')}; {defined('hart/specs/Opening', 'opening_memory')}.")
     return "\n".join(f"- {line}" for line in lines)
 
 

@@ -241,8 +241,8 @@ DEFINITIONS = {
     "hart/specs/Effect applied (Return sealed) s: record s {scrs = returned_scrs s.scrs; csrs = counted (returned_csrs s.csrs)}":
         "mcycle and minstret are one more",
     "hart/specs/Registers null_registers: replicate 32 null": "all 32 null",
-    "hart/specs/Opening loaded: with_sections i.sections (zeroed i.pages)": "the image's sections, and zeros",
-    "hart/specs/Opening opening_memory: with_capabilities i.capabilities (loaded i)":
+    "hart/specs/Opening loaded_memory: with_sections i.sections (zeroed i.pages)": "the image's sections, and zeros",
+    "hart/specs/Opening opening_memory: with_capabilities i.capabilities (loaded_memory i)":
         "over them the image's capabilities; no other granule has a tag",
     "devices/specs/Devices received: let full : Bool = not (nat_lt (length d.queue) queue_limit) in record d {queue = if full then "
     "d.queue else d.queue ++ (b ∷ []); overrun = if full then true else d.overrun;}":

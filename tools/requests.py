@@ -246,7 +246,8 @@ def drawn_words():
 
 
 def agreement_lines():
-    yield "# a drawn word's high half and its address, a length and an exponent => 1, where every form agrees with the record in each field,"
+    yield ("# a drawn word's high half and its address, a length and an exponent => 1, where every form agrees with the record in each "
+           "field,")
     yield "# with the addresses at its ends, with bounds of that length and at the limits of that exponent, and without its tag"
     yield from (f"{high:016x} {address:x} {length:x} {e} => 1" for high, address, length, e in drawn_words())
 

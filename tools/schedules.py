@@ -11,7 +11,7 @@ import random
 HEAD = "# mode | statements => same, or the schedule on which steps done many at once differ from single events, and how"
 
 SEED = 20261123
-PROGRAMS = 196
+PROGRAMS = 200
 
 # Offsets of the handler and of data, from the program's first instruction.
 HANDLER, DATA = 0x300, 0x400
@@ -68,8 +68,10 @@ class Drawn:
 
     def arithmetic(self):
         d, a, b = self.register(), self.register(), self.register()
-        row = self.of("add", "sub", "xor", "or", "and", "sll", "srl", "sra", "slt", "sltu", "mul", "mulhu", "div", "divu", "rem", "addw", "subw")
-        self.add(self.of(f"{row} {d}, {a}, {b}", f"addi {d}, {a}, {self.draw.randrange(-2048, 2048)}", f"slli {d}, {a}, {self.draw.randrange(64)}",
+        row = self.of("add", "sub", "xor", "or", "and", "sll", "srl", "sra", "slt", "sltu", "mul", "mulhu", "div", "divu", "rem", "addw",
+                      "subw")
+        self.add(self.of(f"{row} {d}, {a}, {b}", f"addi {d}, {a}, {self.draw.randrange(-2048, 2048)}",
+                         f"slli {d}, {a}, {self.draw.randrange(64)}",
                          f"lui {d}, {self.draw.randrange(1 << 20)}", f"sltiu {d}, {a}, {self.draw.randrange(2048)}"))
 
     def access(self):
@@ -140,8 +142,15 @@ class Drawn:
         """To the instruction after the next by a capability: unsealed, or a sentry."""
         sealed = ["csealentry cs8, cs8"] if self.draw.random() < 0.5 else []
         after = 4 * (5 + len(sealed))
-        self.add("cspecialrw cs8, pcc, cnull", f"cincoffsetimm cs8, cs8, {after}", "addi t2, zero, 0", *sealed, "jalr.cap cra, cs8",
+        jump = "jalr.cap cra, cs8" if self.mode == 0 else self.of("jalr.cap cra, cs8", "cjalr cra, 0(cs8)")
+        self.add("cspecialrw cs8, pcc, cnull", f"cincoffsetimm cs8, cs8, {after}", "addi t2, zero, 0", *sealed, jump,
                  "addi a1, a1, 1", "addi a2, a2, 1")
+
+    def invocation(self):
+        """To the instruction after the next by a pair sealed with one type, its data without Execute."""
+        self.add("cspecialrw cs8, pcc, cnull", "cincoffsetimm cs8, cs8, 44", "cspecialrw cs10, ddc, cnull",
+                 f"addi t1, zero, {self.draw.randrange(8)}", "csetaddr cs10, cs10, t1", "addi t1, zero, -3", "candperm cs9, cs2, t1",
+                 "cseal cs8, cs8, cs10", "cseal cs9, cs9, cs10", "cinvoke cs8, cs9", "addi a1, a1, 1", "addi a2, a2, 1")
 
     def self_modifying(self):
         """Writes an instruction over one of the program: the one after the store, or one that was done before, which is done again."""
@@ -163,7 +172,7 @@ class Drawn:
     def body(self):
         parts = [self.arithmetic] * 4 + [self.access] * 4 + [self.branch, self.loop, self.system, self.system, self.device, self.device,
                                                            self.derivation, self.derivation, self.capability_access, self.jump,
-                                                           self.far_jump, self.self_modifying]
+                                                           self.far_jump, self.invocation, self.self_modifying]
         while len(self.lines) < 100:
             self.draw.choice(parts)()
         if self.draw.random() < 0.7:
@@ -181,7 +190,7 @@ def program(draw, mode):
 
 
 def over_the_same_slot():
-    """Instructions 16 KiB apart, which a memo of 4096 decoded instructions keeps in one place, done in turns; and a store over one of them."""
+    """Instructions 16 KiB apart, which a memo of 4096 decoded instructions keeps in one place, done in turns; and a store over one."""
     far = 0x4000
     body = [".pages 5", "auipc s1, 0", f"lui s2, {far >> 12}", "add s2, s2, s1", "addi s3, zero, 6",
             "turn: addi a0, a0, 1", "addi s4, s1, 48", "jalr ra, 20(s2)", "back: addi s3, s3, -1", "bne s3, zero, turn",

@@ -296,7 +296,8 @@ events 1 out - pc 0000000000000000 running
 > csr
 ! csr mstatus=1880 mie=80 mepc=80000014 mcause=8000000000000007 mip=80 mcycle=6 minstret=5
 """),
-    ("The commands are listed, and nothing is changed", FIRST_IMAGE, "\n> help\n" + COMMANDS + "> \\t\\thelp\n" + COMMANDS + "> csr\n! csr\n"),
+    ("The commands are listed, and nothing is changed", FIRST_IMAGE, "\n> help\n" + COMMANDS + "> \\t\\thelp\n" + COMMANDS
+     + "> csr\n! csr\n"),
     ("A halt with the greatest number", "lui a1, 0x100; addi a0, zero, -1; sd a0, 0(a1)", """
 > step 3
 events 3 out - pc 000000008000000c halted 18446744073709551615

@@ -90,7 +90,8 @@ def fitted(text, pairs):
     if surplus < 0:
         old, new = pairs[-1]
         return [*pairs[:-1], (old, new + " " * -surplus)]
-    return next((less for less in indented_less(text, pairs, surplus) if is_found(text, less)), None) or without_comment(text, pairs, surplus)
+    less = next((less for less in indented_less(text, pairs, surplus) if is_found(text, less)), None)
+    return less or without_comment(text, pairs, surplus)
 
 
 def by_file(edit):

@@ -16,25 +16,18 @@ use std::alloc::{AllocError, Global};
 /// How many steps a program makes on each schedule.
 const STEPS: u64 = 200;
 
-/// After how many steps a tick comes, 0 for no ticks, with before how many steps a byte comes.
-const GRID: [(u64, u64); 9] = [
-    (0, 1000),
-    (0, 1),
-    (0, 7),
-    (1, 1000),
-    (1, 3),
-    (3, 5),
-    (10, 2),
-    (50, 20),
-    (50, 1000),
-];
+/// After how many steps a tick comes, 0 for no ticks.
+const TICKS: [u64; 5] = [0, 1, 3, 10, 50];
+
+/// Before how many steps a byte comes, 0 for no bytes: each with each of the ticks.
+const GAPS: [u64; 6] = [0, 1, 2, 7, 20, 1000];
 
 /// The bytes that come.
-const KEYS: &str = "seven bytes";
+const KEYS: &[u8] = b"eleven bytes";
 
-/// What is asked behind a run: all of the state but tags in RAM, which loads show.
+/// What is asked behind a run: all of the state.
 const STATE: &str =
-    "end; sent; halted; registers; ram; waiting; mtime; mtimecmp; overrun; control; mstatus; mie; mip; mscratch; \
+    "end; sent; halted; registers; memory; waiting; mtime; mtimecmp; overrun; control; mstatus; mie; mip; mscratch; \
 mcause; mtval; mcycle; minstret; bits pcc; bits ddc; bits mtcc; bits mtdc; bits mscratchc; bits mepcc";
 
 impl Outcome {
@@ -75,12 +68,12 @@ fn difference(
 ) -> Result<Option<String>, CaseError> {
     let schedule = Schedule {
         steps: STEPS,
-        gap,
+        gap: gap.max(1),
         tick,
     };
     let timetable = Timetable {
         schedule,
-        keys: KEYS.as_bytes(),
+        keys: if gap == 0 { b"" } else { KEYS },
         fails_at: u64::MAX,
         pace: Pace::AtOnce,
     };
@@ -103,9 +96,11 @@ pub(crate) fn answer(alloc: Global, form: Form, inputs: &str) -> Result<String, 
     let Ok(assembly) = assemble(alloc, text.as_bytes()) else {
         return Err(CaseError::Unreadable);
     };
-    for (tick, gap) in GRID {
-        if let Some(text) = difference(alloc, form, assembly.image(), tick, gap)? {
-            return Ok(text);
+    for tick in TICKS {
+        for gap in GAPS {
+            if let Some(text) = difference(alloc, form, assembly.image(), tick, gap)? {
+                return Ok(text);
+            }
         }
     }
     Ok(String::from_str(alloc, "same")?)

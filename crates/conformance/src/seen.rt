@@ -84,6 +84,17 @@ fn put_ram<C: CapRep>(text: &mut String, machine: &Machine<C>) -> Result<(), All
     Ok(())
 }
 
+/// What stands in all of RAM, and behind it the words of its tags.
+fn put_memory<C: CapRep>(text: &mut String, machine: &Machine<C>) -> Result<(), AllocError> {
+    for place in 0..u64::from(machine.memory().pages()) * (ram::PAGE_BYTES / 8) {
+        put_double(text, machine, ram::BASE + 8 * place)?;
+    }
+    for word in machine.memory().planes() {
+        write!(text, "{word:x},")?;
+    }
+    Ok(())
+}
+
 /// What devices tell, or none where the query is not of them.
 fn device_of<C: CapRep>(machine: &Machine<C>, name: &str) -> Option<u64> {
     let devices = machine.devices();
@@ -145,6 +156,7 @@ fn put_of_machine<C: CapRep>(
         "trap" => put_trap(text, machine),
         "registers" => put_registers(text, machine),
         "ram" => put_ram(text, machine),
+        "memory" => put_memory(text, machine),
         "waiting" => put_bytes(text, machine.devices().waiting()),
         "halted" => put_halted(text, machine.halted()),
         _ => return put_named(text, machine, query),
@@ -184,10 +196,10 @@ fn put_word_at<C: CapRep>(
 
 /// Puts what a query tells behind a text.
 ///
-/// `trap`; `registers`; `ram`; `waiting`, the bytes in the console's queue; `halted`; `granule AT` and `word AT` of memory;
-/// `same NAME NAME`; `address`, `permissions`, `fields`, `bits` or `bytes` and a register's name, of its value the address, the
-/// permissions, address with type and tag, the halves of the word with the tag, or the same in memory's form; and else the name of a
-/// register or of a device's state.
+/// `trap`; `registers`; `ram`, its first page; `memory`, all of it and its tags; `waiting`, the bytes in the console's queue; `halted`;
+/// `granule AT` and `word AT` of memory; `same NAME NAME`; `address`, `permissions`, `fields`, `bits` or `bytes` and a register's
+/// name, of its value the address, the permissions, address with type and tag, the halves of the word with the tag, or the same in
+/// memory's form; and else the name of a register or of a device's state.
 pub(crate) fn put_seen<C: CapRep>(
     text: &mut String,
     machine: &Machine<C>,

@@ -37,7 +37,7 @@ use std::alloc::AllocError;
 const CAPABILITY_BYTES: u64 = 16;
 
 /// How many bytes an instruction has.
-const INSTRUCTION_BYTES: u64 = 4;
+pub(crate) const INSTRUCTION_BYTES: u64 = 4;
 
 /// A capability that conditions ask, and its register as mtval counts it.
 #[derive(Clone, Copy)]
@@ -305,7 +305,7 @@ fn store_condition<C: CapRep>(hart: &Hart<C>, address: u64, size: Size) -> Condi
 }
 
 /// Whether a capability may lie at an address.
-fn is_in_ram<C: CapRep>(hart: &Hart<C>, address: u64) -> bool
+fn capability_in_ram<C: CapRep>(hart: &Hart<C>, address: u64) -> bool
     ensures { result ≡ spec.capability_in_ram address hart.now }
 {
     hart.memory().is_in_ram(address, CAPABILITY_BYTES)
@@ -436,7 +436,10 @@ fn put_capability_load<C: CapRep>(
     ensures { OnOk result (string_bytes text.new ≡ string_bytes text.old ++ stage_text (spec.capability_load_stage insn hart.now)) }
 {
     let place = hart.place(insn);
-    let mapped = (is_in_ram(hart, place), Fault::of(Cause::LoadAccess, place));
+    let mapped = (
+        capability_in_ram(hart, place),
+        Fault::of(Cause::LoadAccess, place),
+    );
     put_access(text, hart, insn, Access::LoadCapability, mapped)
 }
 
@@ -451,7 +454,10 @@ fn put_capability_store<C: CapRep>(
     ensures { OnOk result (string_bytes text.new ≡ string_bytes text.old ++ stage_text (spec.capability_store_stage insn hart.now)) }
 {
     let place = hart.place(insn);
-    let mapped = (is_in_ram(hart, place), Fault::of(Cause::StoreAccess, place));
+    let mapped = (
+        capability_in_ram(hart, place),
+        Fault::of(Cause::StoreAccess, place),
+    );
     let stored = Stored::of(hart.reg(insn.rs2));
     put_access(text, hart, insn, Access::StoreCapability(stored), mapped)
 }

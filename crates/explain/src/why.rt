@@ -3,7 +3,7 @@ ghost use Rattle.std.specs.Prelude.{◌≡◌, ◌%◌, ◌++◌, OnOk, string_b
 ghost use Rattle.tagged_memory.specs.Memory.{is_in_ram, number_at};
 ghost use Rattle.explain.specs.Text.{instruction_text, running_text, why_text};
 
-use crate::stages::put_stages;
+use crate::stages::{INSTRUCTION_BYTES, put_stages};
 use crate::text::{put, put_decimal};
 use base::Size;
 use cap_bounds::CapRep;
@@ -12,9 +12,6 @@ use effect_texts::effect_text;
 use hart::Hart;
 use std::alloc::AllocError;
 use tagged_memory::Memory;
-
-/// How many bytes an instruction has.
-const INSTRUCTION_BYTES: u64 = 4;
 
 /// The word at an address in RAM.
 #[tactic(auto, unfolding(tagged_memory::specs::Memory::place_fault))]

@@ -18,8 +18,8 @@ with_sections [] m = m
 with_sections (s ∷ ss) m = with_sections ss (data_written m s.address s.bytes)
 
 -- RAM with the sections and zeros, and no tag
-abbrev pub loaded : Image → Memory
-loaded i = with_sections i.sections (zeroed i.pages)
+abbrev pub loaded_memory : Image → Memory
+loaded_memory i = with_sections i.sections (zeroed i.pages)
 
 -- root at the entry's base, set to its length (*set bounds*), with its permissions and its flag
 abbrev pub entry_record : CapEntry → Record
@@ -32,7 +32,7 @@ with_capabilities (e ∷ es) m = with_capabilities es (capability_written m e.pl
 
 -- RAM holds the sections and zeros, over them the capabilities of the entries, and no other tag
 abbrev pub opening_memory : Image → Memory
-opening_memory i = with_capabilities i.capabilities (loaded i)
+opening_memory i = with_capabilities i.capabilities (loaded_memory i)
 
 -- PCC is root at the entry with the mode as flag; DDC, MTCC and MEPCC are root at 0; MTDC and MScratchC are null
 abbrev pub opening_scrs : Image → Scrs

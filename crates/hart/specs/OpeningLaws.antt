@@ -1,12 +1,12 @@
 -- A memory that sections were loaded into has no tag; one that the capabilities of entries were put into holds capabilities.
-use Rattle.std.proofs.Common.{◌≡◌, ℕ, ◌+◌, ◌*◌, ◌%◌, ◌^◌, ◌<◌, ◌≤◌, true, false, eqb, List, [], ◌∷◌, length, None, refl, sym, ap, subst}
+use Rattle.std.proofs.Common.{◌≡◌, ℕ, ◌+◌, ◌*◌, ◌%◌, ◌^◌, ◌<◌, ◌≤◌, true, false, eqb, List, [], ◌∷◌, length, None, refl, ap}
 use Rattle.std.proofs.Common.{◌∙◌}
-use Rattle.std.proofs.Common.{arith, lit<}
+use Rattle.std.proofs.Common.{arith}
 use Rattle.std.proofs.lemmas.Bool.{both_ways, false_from_ne_true, eq-eqb, le-leb}
 use Rattle.base.specs.Bits.{bit}
 use Rattle.cap_format.specs.Word.{with_field}
 use Rattle.cap_bounds.specs.FieldLaws.{perms-encoded, flag-encoded, IsWellFormed-perms, IsWellFormed-flag}
-use Rattle.cap_bounds.specs.Record.{IsWellFormed, IsWordWellFormed, encoded}
+use Rattle.cap_bounds.specs.Record.{IsWellFormed, encoded}
 use Rattle.cap_bounds.specs.RecordLaws.{encoded-well_formed}
 use Rattle.cap_bounds.specs.Root.{root}
 use Rattle.cap_bounds.specs.RootLaws.{IsWellFormed-root}
@@ -22,7 +22,7 @@ use Rattle.image.specs.Image.{Section, Image}
 use Rattle.image.specs.ImageLaws.{IsGoodCapability, AreGoodCapabilities}
 use Rattle.hart.specs.State.{HoldsCapabilities}
 use Rattle.hart.specs.StateLaws.{HoldsCapabilities-capability_written}
-use Rattle.hart.specs.Opening.{with_sections, loaded, entry_record, with_capabilities}
+use Rattle.hart.specs.Opening.{with_sections, loaded_memory, entry_record, with_capabilities}
 
 abbrev pub HasNoTag : Memory → Type 0
 HasNoTag m = (granule : ℕ) → has_tag m granule ≡ false
@@ -33,10 +33,10 @@ HasNoTag-with_sections (s ∷ ss) m none =
     HasNoTag-with_sections ss (data_written m s.address s.bytes)
     (λ g. false_from_ne_true _ (λ tagged. both_ways _ (none g) (tagged-before_data_written m s.address s.bytes g tagged)))
 
-HasNoTag-loaded : (i : Image) → HasNoTag (loaded i)
+HasNoTag-loaded : (i : Image) → HasNoTag (loaded_memory i)
 HasNoTag-loaded i = HasNoTag-with_sections i.sections (zeroed i.pages) (λ g. set.contains-empty nat_cmp g)
 
-pub HoldsCapabilities-loaded : (i : Image) → HoldsCapabilities (loaded i)
+pub HoldsCapabilities-loaded : (i : Image) → HoldsCapabilities (loaded_memory i)
 HoldsCapabilities-loaded i = λ granule tagged. absurd (both_ways _ (HasNoTag-loaded i granule) tagged)
 
 -- ---- the capability of an entry

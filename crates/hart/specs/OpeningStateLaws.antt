@@ -18,7 +18,7 @@ use Rattle.image.specs.ImageLaws.{AllInRam, AllInRam-image, AreGoodCapabilities-
 use Rattle.image.specs.ImageLaws.{pages_some}
 use Rattle.hart.specs.Registers.{null, register}
 use Rattle.hart.specs.State.{HoldsCapabilities}
-use Rattle.hart.specs.Opening.{with_sections, loaded, opening_memory, opening_scrs, opening}
+use Rattle.hart.specs.Opening.{with_sections, loaded_memory, opening_memory, opening_scrs, opening}
 use Rattle.hart.specs.OpeningLaws.{HoldsCapabilities-loaded, capabilities-put}
 use Rattle.hart.specs.IsState.{IsState}
 
@@ -82,7 +82,7 @@ module _ (i : Image) (valid : IsImage i) where
       let zeros = length-replicate (4096 * i.pages) 0 in
       let memory = IsMemory-with_sections i.sections (zeroed i.pages) i.pages (IsMemory-zeroed i.pages some ranges.0)
       zeros (AllInRam-image i valid) bytes in
-      capabilities-put i.capabilities (loaded i) i.pages memory
+      capabilities-put i.capabilities (loaded_memory i) i.pages memory
       (length-loaded i.sections (zeroed i.pages) i.pages zeros (AllInRam-image i valid)) (AreGoodCapabilities-image i valid)
       (HoldsCapabilities-loaded i)
 

@@ -4,7 +4,7 @@ ghost use Rattle.std.specs.Prelude.{◌≡◌, ◌+◌, ◌^◌, ◌<◌, ◌≤
 ghost use Rattle.cap_bounds.specs.Record.{encoded};
 ghost use Rattle.hart.specs.IsState.{IsState};
 ghost use Rattle.hart.specs.State.{HoldsCapabilities};
-ghost use Rattle.hart.specs.Opening.{opening, opening_memory, loaded, entry_record};
+ghost use Rattle.hart.specs.Opening.{opening, opening_memory, loaded_memory, entry_record};
 
 use crate::hart::Hart;
 use crate::memo::Memo;
@@ -21,7 +21,7 @@ use tagged_memory::Memory;
 
 /// RAM with an image's sections in it, and zeros.
 fn loaded_memory(alloc: Global, image: &Image) -> Result<Memory, AllocError>
-    ensures { IfOk result (λ memory. memory ≡ loaded image.now) }
+    ensures { IfOk result (λ memory. memory ≡ loaded_memory image.now) }
 {
     let Ok(mut memory) = Memory::new(alloc, image.pages()) else {
         return Err(AllocError);

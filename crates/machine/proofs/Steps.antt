@@ -11,7 +11,7 @@ use Rattle.hart.specs.declared.event.Event.TheVariants.{Step}
 use Rattle.hart.specs.State.{State}
 use Rattle.hart.specs.Event.{after, sent}
 use Rattle.hart.specs.Step.{stepped, step_sent}
-use Rattle.hart.specs.Steps.{steps_after, AreQuiet}
+use Rattle.hart.specs.Steps.{steps_after}
 use Rattle.machine.specs.Run.{run_after, run_sent}
 use Rattle.machine.specs.Steps.{BeginWithSteps}
 

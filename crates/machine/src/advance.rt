@@ -43,8 +43,8 @@ pub(crate) fn known_steps(events: &[Event], known: usize) -> usize
 impl<C: CapRep> Machine<C> {
     /// Does steps, one at least and `most` at most, and answers how many and the byte that they sent, if they sent one.
     ///
-    /// They are those of `event`, one after the other, only faster: a step that is more than arithmetic, a jump or an access of RAM is
-    /// the last of its call. A halted machine ignores them. It takes no memory.
+    /// They are those of `event`, one after the other, only faster: a step that stores into a device, takes a byte or replaces the
+    /// default data capability is the last of its call. A halted machine ignores them. It takes no memory.
     #[inline]
     pub fn advance(&mut self, most: u64) -> Advance
         requires { 1 ≤ most }
@@ -59,8 +59,8 @@ impl<C: CapRep> Machine<C> {
         self.hart.advance(most)
     }
 
-    /// Does steps, `most` at most and maybe none, and answers how many: it ends before a step that stands at `stop`, that traps, or that
-    /// is more than arithmetic, a jump or an access of RAM.
+    /// Does steps, `most` at most and maybe none, and answers how many: it ends before a step that stands at `stop`, that traps, that
+    /// replaces PCC, or that changes a device or touches a system register.
     ///
     /// They are those of `event`, and none of them sends a byte. A halted machine does none. It takes no memory.
     #[inline]

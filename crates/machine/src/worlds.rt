@@ -4,6 +4,7 @@ ghost use Rattle.std.specs.Prelude.{◌≡◌, ℕ, ◌+◌, ◌≤◌, ◌++◌
 ghost use Rattle.std.specs.Prelude.{IsOk, IfOk, IfErr, OnOk, OnErr};
 ghost use Rattle.hart.specs.declared.ends.Why.{Why};
 ghost use Rattle.hart.specs.declared.event.Event.{Event};
+ghost use Rattle.hart.specs.IsState.{IsState};
 ghost use Rattle.hart.specs.State.{State};
 ghost use Rattle.authority.specs.Worlds.{Agree};
 ghost use Rattle.machine.specs.Run.{run_after, run_sent};
@@ -68,6 +69,8 @@ pub fn run_both<C: CapRep, D: CapRep>(
     ensures one_bytes { IfOk result (λ r. one_out.new.items ≡ one_out.old.items ++ run_sent (take r.one.done events.now) one.old) }
     ensures two_bytes { IfOk result (λ r. two_out.new.items ≡ two_out.old.items ++ run_sent (take r.one.done events.now) one.old) }
     ensures agree { Agree one.new two.new }
+    ensures one_is_state { IsState one.new }
+    ensures two_is_state { IsState two.new }
 
     ensures fault { IfErr result (λ fault. fault ≡ MachineFault.M5) }
     ensures same_one { OnErr result (one.new ≡ one.old) }
@@ -77,6 +80,8 @@ pub fn run_both<C: CapRep, D: CapRep>(
     ensures room { vec_len one_out.old + length events.now ≤ vec_capacity one_out.old
         → vec_len two_out.old + length events.now ≤ vec_capacity two_out.old → IsOk result }
 {
+    one.hart.is_state();
+    two.hart.is_state();
     make_room(one_out, two_out, events.len())?;
     let first = one.run_stretch(events, one_out).unwrap();
     let second = two.run_stretch(events, two_out).unwrap();

@@ -51,8 +51,9 @@ impl Kind {
     }
 }
 
-/// Tries a line, and says whether it holds.
-fn holds(rt: &HostRuntime, kind: Kind, case: &Case) -> io::Result<bool> {
+/// Tries the line of this number, and says whether it holds.
+fn holds(rt: &HostRuntime, kind: Kind, number: u64, case: &Case) -> io::Result<bool> {
+    let file = kind.file();
     let inputs = case.inputs;
     let expected = case.expected;
     let came = match kind.came(rt.alloc(), case) {
@@ -62,7 +63,7 @@ fn holds(rt: &HostRuntime, kind: Kind, case: &Case) -> io::Result<bool> {
     if came.as_str() == expected {
         return Ok(true);
     }
-    println!(rt; "{inputs}\n  expected {expected}\n  came     {came}")?;
+    println!(rt; "{file}, line {number}: {inputs}\n  expected {expected}\n  came     {came}")?;
     Ok(false)
 }
 
@@ -70,12 +71,14 @@ fn holds(rt: &HostRuntime, kind: Kind, case: &Case) -> io::Result<bool> {
 fn all_hold(rt: &HostRuntime, kind: Kind) -> io::Result<bool> {
     let mut text = String::new(rt.alloc());
     fs::open(rt, kind.file())?.read_to_string(&mut text)?;
+    let mut number: u64 = 0;
     let mut cases: u64 = 0;
     let mut failed: u64 = 0;
     for line in text.lines() {
+        number = number.wrapping_add(1);
         if let Some(case) = Case::of(line) {
             cases = cases.wrapping_add(1);
-            failed = failed.wrapping_add(u64::from(!holds(rt, kind, &case)?));
+            failed = failed.wrapping_add(u64::from(!holds(rt, kind, number, &case)?));
         }
     }
     let name = kind.name();

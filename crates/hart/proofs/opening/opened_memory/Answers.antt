@@ -1,11 +1,9 @@
-use Rattle.std.proofs.Common.{◌≡◌, ℕ, suc, ◌+◌, ◌<◌, true, List, ◌∷◌, length, get_or, drop, refl, sym, ap, subst, ◌∙◌, add-one, drop-cons}
+use Rattle.std.proofs.Common.{◌≡◌, ℕ, ◌+◌, ◌<◌, true, List, ◌∷◌, length, get_or, drop, refl, sym, ap, subst, ◌∙◌, add-one, drop-cons}
 use Rattle.std.proofs.lemmas.List.{length-replicate}
-use Rattle.cap_bounds.specs.Record.{encoded}
-use Rattle.tagged_memory.specs.Memory.{Memory, zeroed, capability_written}
+use Rattle.tagged_memory.specs.Memory.{zeroed, capability_written}
 use Rattle.image.specs.declared.cap_entry.CapEntry.{CapEntry}
 use Rattle.image.specs.ImageLaws.{AllInRam-image, AreGoodCapabilities, AreGoodCapabilities-image}
 use Rattle.hart.specs.State.{HoldsCapabilities}
-use Rattle.hart.specs.Opening.{entry_record}
 use Rattle.hart.specs.OpeningLaws.{HoldsCapabilities-loaded, no_place_fault, length-put, HoldsCapabilities-put}
 use Rattle.hart.specs.OpeningStateLaws.{length-loaded}
 use Rattle.hart.proofs.opening.opened_memory.Goals as goal
