@@ -103,9 +103,9 @@ def choices(text):
 
 
 def worth(text, names=None):
-    """The number that an expression of literals, known names and + - * / % ^ is."""
+    """The number that an expression of literals, known names and + - * / % ^ << is."""
     python, at = "", 0
-    token = re.compile(r"\s*(0x[0-9A-Fa-f_]+|[0-9][0-9_]*|[A-Za-z_][\w.]*|[-+*/%^()])")
+    token = re.compile(r"\s*(0x[0-9A-Fa-f_]+|[0-9][0-9_]*|[A-Za-z_][\w.]*|<<|[-+*/%^()])")
     while at < len(text.rstrip()):
         found = token.match(text, at)
         if not found:

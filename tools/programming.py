@@ -441,7 +441,7 @@ def results_table():
     names = row_names()
     rows = []
     for patterns, body in Definitions("cap_insns/specs/CapabilityRows").cases("row_value"):
-        row = patterns.split()[0]
+        row = patterns.split()[0].removeprefix("row.")
         if row != "_":
             rows.append([f"`{names[row]}`", said("GIVES", body), tag_kept(body)])
     return table(["Instruction", "Gives", "Tagged if"], rows)

@@ -3,7 +3,7 @@
 ghost use Rattle.std.specs.Prelude.{◌≡◌, ◌%◌, ◌^◌};
 ghost use Rattle.isa_rows.specs.Insn.{sign_extended};
 ghost use Rattle.base.specs.Bits.{bit};
-ghost use Rattle.alu.specs.Integer.{signed, signed_word, wrapped};
+ghost use Rattle.alu.specs.Integer.{signed_word, wrapped};
 
 /// A truth value as a number.
 #[inline]

@@ -1,5 +1,5 @@
 -- Operands that could be read fit their row: a line that says an instruction without a fault says one that has a word.
-use Rattle.std.proofs.Common.{◌≡◌, ℕ, ◌^◌, Bool, true, false, ◌&&◌, List, [], ◌∷◌, Option, Some, None, refl, subst, ap, arith}
+use Rattle.std.proofs.Common.{◌≡◌, ℕ, ◌^◌, Bool, true, false, ◌&&◌, List, [], ◌∷◌, Option, Some, None, refl, subst, arith}
 use Rattle.std.specs.Prelude.{ℤ, Result, Ok, Err, nat_lt, not, length, take, drop, ◌-◌, ◌==◌, if◌then◌else◌, codes}
 use Rattle.std.specs.List.{prefix_len}
 use Rattle.isa_rows.specs.declared.operands.Insn.{Insn}
@@ -253,11 +253,6 @@ said-fits word operands =
     one-fits (is_word word (codes ".org")) (origin_said number) _
     (number-fits origin None (up_to (2 ^ 64 - 1) number) (λ n i t q. cc)) (
     placing-fits (directive_in directives word) word operands))))))
-
--- the same, where what is said is one equation
-pub said_by-fits : (word operands : List ℕ) (i : Insn) (target : Option Expression)
-    → said_by word operands ≡ said (Some (instruction (row i target))) None → FitsAt i target
-said_by-fits word operands i target e = said-fits word operands i target (ap (λ s. s.statement) e) (ap (λ s. s.fault) e)
 
 line_said-fits : (label : Option (List ℕ)) (statement : List ℕ) → RowFits (line_said label statement)
 line_said-fits label [] i target e h = cc

@@ -7,3 +7,4 @@ pub mod Line
 -- Inner words
 pub mod Class
 pub mod Seen
+pub mod Bounded

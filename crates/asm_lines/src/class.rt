@@ -56,7 +56,7 @@ pub fn run_length(text: &[u8], class: Class) -> usize
 }
 
 /// The value of a digit or a letter, or 36.
-pub(crate) fn digit_value(byte: u8) -> u32
+pub fn digit_value(byte: u8) -> u32
     ensures { result ≡ digit_value byte }
 {
     match byte {

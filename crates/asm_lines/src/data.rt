@@ -4,7 +4,7 @@ ghost use Rattle.asm_lines.specs.Number.{number_of};
 ghost use Rattle.asm_lines.specs.declared.parsed.Directive.TheVariants.{Capability};
 ghost use Rattle.asm_lines.specs.Statement.{is_size, is_sized, most_of, directives, directive_in, count_said, values_said, text_said};
 ghost use Rattle.asm_lines.specs.Statement.{data_said, contents, item, said_unless, capability_fault};
-ghost use Rattle.asm_lines.specs.Line.{IsBoundedIfAny};
+ghost use Rattle.asm_lines.specs.Bounded.{IsBoundedIfAny};
 ghost use Rattle.asm_lines.specs.Seen.{seen_said};
 
 use crate::fault::LineFault;
@@ -84,7 +84,7 @@ fn values_said<'a>(size: u8, operands: &'a [u8]) -> Said<'a>
         number: 0,
         text: operands,
     };
-    Said::unless(Statement::Data(values), values_fault(size, operands))
+    Said::with_fault(Statement::Data(values), values_fault(size, operands))
 }
 
 /// A text between quotes.
@@ -113,7 +113,7 @@ fn capability_said<'a>(operands: &'a [u8]) -> Said<'a>
         number: 0,
         text: operands,
     };
-    Said::unless(Statement::Data(capability), capability_fault(operands))
+    Said::with_fault(Statement::Data(capability), capability_fault(operands))
 }
 
 /// What a directive and its operands say.

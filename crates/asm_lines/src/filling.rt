@@ -3,7 +3,7 @@ ghost use Rattle.std.specs.Prelude.{◌≡◌, ◌≤◌, ◌+◌, length};
 ghost use Rattle.std.specs.Option.{option_map_or};
 ghost use Rattle.asm_lines.specs.Text.{pieces_of, pieces_left};
 ghost use Rattle.asm_lines.specs.Operand.{told_fault, fault_of, draft_after, filled_slot, filled_draft, filled_fault};
-ghost use Rattle.asm_lines.specs.Line.{HasTargetOffset};
+ghost use Rattle.asm_lines.specs.Bounded.{HasTargetOffset};
 ghost use Rattle.asm_lines.specs.Seen.{seen_draft, seen_rest};
 
 use crate::fault::LineFault;
@@ -23,7 +23,7 @@ pub(crate) fn told_fault(fault: Option<LineFault>, later: Option<LineFault>) -> 
 }
 
 /// The operands between commas, to be split off one after another: none in no text.
-pub(crate) fn first_rest(operands: &[u8]) -> Option<&[u8]>
+pub fn first_rest(operands: &[u8]) -> Option<&[u8]>
     ensures value { pieces_left (seen_rest result) ≡ pieces_of operands.now }
     ensures bound { option_map_or (λ t. length t.now + 1) result 0 ≤ length operands.now + 1 }
 {

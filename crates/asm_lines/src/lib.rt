@@ -16,11 +16,13 @@ mod statement;
 mod text;
 mod values;
 
-pub use class::{Class, run_length};
+pub use class::{Class, digit_value, run_length};
 pub use fault::LineFault;
+pub use filling::first_rest;
 pub use line::parse_line;
 pub use number::expression;
-pub use operand::natural;
+pub use operand::{natural, wrapped};
 pub use parsed::{Data, Directive, Expression, Instruction, Parsed, Setting, Statement};
-pub use text::split_piece;
+pub use pattern::is_word;
+pub use text::{is_dot, is_name, split_piece, trimmed_end, trimmed_start};
 pub use values::{is_in_size, is_natural, operand_at, operand_count};

@@ -1,6 +1,8 @@
 //! Lines.
 ghost use Rattle.std.specs.Prelude.{◌≡◌};
-ghost use Rattle.asm_lines.specs.Line.{labelled, line_said, line_meaning, seen_line, RowFits, IsBoundedIfAny};
+ghost use Rattle.asm_lines.specs.Line.{labelled, line_said, line_meaning, RowFits};
+ghost use Rattle.asm_lines.specs.Seen.{seen_line};
+ghost use Rattle.asm_lines.specs.Bounded.{IsBoundedIfAny};
 ghost use Rattle.asm_lines.specs.Seen.{seen_said, seen_rest};
 
 use crate::class::{Class, run_length};

@@ -3,7 +3,8 @@ ghost use Rattle.std.specs.Prelude.{◌≡◌, ◌≤◌, ◌<◌, ◌^◌, pos,
 ghost use Rattle.std.specs.Str.Parse.{digits_value};
 ghost use Rattle.asm_lines.specs.Number.{is_numeral, is_in_limits, is_hexadecimal, is_negative, limited, number_of, named_expression};
 ghost use Rattle.asm_lines.specs.Number.{expression_of, expression};
-ghost use Rattle.asm_lines.specs.Line.{seen_expression, seen_result, IsOffset};
+ghost use Rattle.asm_lines.specs.Seen.{seen_expression, seen_result};
+ghost use Rattle.asm_lines.specs.Bounded.{IsOffset};
 
 use crate::class::{Class, begins_name, digit_value, run_length};
 use crate::fault::LineFault;

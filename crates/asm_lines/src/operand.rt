@@ -4,9 +4,9 @@ ghost use Rattle.isa_rows.specs.Insn.{sign_extended};
 ghost use Rattle.asm_names.specs.Registers.{register_named};
 ghost use Rattle.asm_names.specs.SpecialNames.{csr_named, scr_named};
 ghost use Rattle.asm_lines.specs.Number.{number_of};
-ghost use Rattle.asm_lines.specs.Operand.{up_to, signed_12, named_or, has_brackets, before_bracket, in_brackets, displacement};
+ghost use Rattle.asm_lines.specs.Operand.{wrapped, up_to, signed_12, named_or, has_brackets, before_bracket, in_brackets, displacement};
 ghost use Rattle.asm_lines.specs.Operand.{filled_address, filled_authority, filled_slot};
-ghost use Rattle.asm_lines.specs.Line.{HasTargetOffset};
+ghost use Rattle.asm_lines.specs.Bounded.{HasTargetOffset};
 ghost use Rattle.asm_lines.specs.Seen.{seen_draft, seen_filled, or_A2, wrapped_or};
 
 use crate::class::Class;
@@ -22,6 +22,20 @@ use isa_rows::Insn;
 pub(crate) struct Draft<'a> {
     pub(crate) insn: Insn,
     pub(crate) target: Option<Expression<'a>>,
+}
+
+/// The least number of more than 64 bits.
+const END: u128 = 1 << 64;
+
+/// A number modulo 2^64.
+pub fn wrapped(value: i128) -> u64
+    ensures { result ≡ wrapped value }
+{
+    if value >= 0 {
+        (value as u128 % END) as u64
+    } else {
+        u64::MAX - ((-1 - value) as u128 % END) as u64
+    }
 }
 
 /// The register that a text names, or A2.

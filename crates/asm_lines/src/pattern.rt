@@ -36,7 +36,7 @@ const fn plain(row: Row) -> Insn
 }
 
 /// Whether a text is this word.
-pub(crate) fn is_word(text: &[u8], word: &str) -> bool
+pub fn is_word(text: &[u8], word: &str) -> bool
     ensures { result ≡ is_word text.now word.now }
 {
     text == word.as_bytes()

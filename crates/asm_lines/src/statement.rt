@@ -1,10 +1,11 @@
 //! Statements: instructions, the two-row loads of a value, directives.
-ghost use Rattle.std.specs.Prelude.{◌≡◌, ◌<◌, Some, None, option_map, IfOk, IfSome, IsTrue};
+ghost use Rattle.std.specs.Prelude.{◌≡◌, ◌<◌, Some, None, option_map, IfOk, IfSome};
 ghost use Rattle.asm_lines.specs.Text.{pieces_of};
 ghost use Rattle.asm_lines.specs.Number.{number_of, expression_of};
 ghost use Rattle.asm_lines.specs.Statement.{said, said_unless, pattern_said, load_said, register_load, entry_said, pages_said};
 ghost use Rattle.asm_lines.specs.Statement.{mode_said, origin_said, directives, directive_in, placing_said, said_by};
-ghost use Rattle.asm_lines.specs.Line.{seen_statement, seen_result, HasOffset, IsBounded, IsBoundedIfAny};
+ghost use Rattle.asm_lines.specs.Seen.{seen_statement, seen_result};
+ghost use Rattle.asm_lines.specs.Bounded.{HasOffset, IsBounded, IsBoundedIfAny};
 ghost use Rattle.asm_lines.specs.Seen.{seen_pattern, seen_said};
 
 use crate::data::{data_said, directive_named};
@@ -60,7 +61,7 @@ impl<'a> Said<'a> {
     }
 
     /// A statement, which a number out of range leaves and operands of another form do not.
-    pub(crate) fn unless(statement: Statement<'a>, fault: Option<LineFault>) -> Said<'a>
+    pub(crate) fn with_fault(statement: Statement<'a>, fault: Option<LineFault>) -> Said<'a>
         requires { IsBounded statement }
         ensures value { seen_said result ≡ said_unless (seen_statement statement.entry) fault }
         ensures bounds { IsBoundedIfAny result.statement }
@@ -89,7 +90,7 @@ pub(crate) fn pattern_said<'a>(pattern: Option<Pattern>, operands: &'a [u8]) -> 
     };
     let (draft, fault) = filled(pattern.slots, operands, draft);
     let row = Instruction::Row(draft.insn, draft.target);
-    Said::unless(Statement::Instruction(row), fault)
+    Said::with_fault(Statement::Instruction(row), fault)
 }
 
 const NOUGHT: Expression<'static> = Expression {
@@ -135,7 +136,7 @@ fn register_load<'a>(
         rd,
         value,
     };
-    Said::unless(Statement::Instruction(load), fault)
+    Said::with_fault(Statement::Instruction(load), fault)
 }
 
 /// `.pages`: a number of 1 to the most pages of RAM; out of range it leaves 0.
@@ -145,9 +146,9 @@ fn pages_said<'a>(operands: &[u8]) -> Said<'a>
 {
     let none = Statement::Setting(Setting::Pages(0));
     match natural(operands, u64::from(ram::MOST_PAGES)) {
-        Ok(0) => Said::unless(none, Some(LineFault::A3)),
+        Ok(0) => Said::with_fault(none, Some(LineFault::A3)),
         Ok(pages) => Said::plain(Statement::Setting(Setting::Pages(pages as u32))),
-        Err(fault) => Said::unless(none, Some(fault)),
+        Err(fault) => Said::with_fault(none, Some(fault)),
     }
 }
 
@@ -158,7 +159,7 @@ fn mode_said<'a>(operands: &[u8]) -> Said<'a>
 {
     match natural(operands, 1) {
         Ok(mode) => Said::plain(Statement::Setting(Setting::Mode(mode == 1))),
-        Err(fault) => Said::unless(Statement::Setting(Setting::Mode(false)), Some(fault)),
+        Err(fault) => Said::with_fault(Statement::Setting(Setting::Mode(false)), Some(fault)),
     }
 }
 
@@ -169,7 +170,7 @@ fn entry_said<'a>(operands: &'a [u8]) -> Said<'a>
 {
     let value = expression(operands);
     let entry = Setting::Entry(value.unwrap_or(NOUGHT));
-    Said::unless(Statement::Setting(entry), value.err())
+    Said::with_fault(Statement::Setting(entry), value.err())
 }
 
 /// `.org`: a number of 0 to 2^64 - 1.

@@ -8,7 +8,7 @@ ghost use Rattle.asm_lines.specs.Class.{is_in};
 use crate::class::{Class, begins_name, is_blank, run_length};
 
 /// A text without the white space at its beginning.
-pub(crate) fn trimmed_start(text: &[u8]) -> &[u8]
+pub fn trimmed_start(text: &[u8]) -> &[u8]
     ensures value { result.now ≡ trimmed_start text.now }
     ensures bound { length result.now ≤ length text.now }
 {
@@ -16,7 +16,7 @@ pub(crate) fn trimmed_start(text: &[u8]) -> &[u8]
 }
 
 /// A text without the white space at its end.
-pub(crate) fn trimmed_end(text: &[u8]) -> &[u8]
+pub fn trimmed_end(text: &[u8]) -> &[u8]
     ensures value { result.now ≡ trimmed_end text.now }
     ensures bound { length result.now ≤ length text.now }
 {
@@ -57,7 +57,7 @@ pub(crate) fn after(text: &[u8], class: Class) -> &[u8]
 }
 
 /// Whether a text is a name: a letter, `_` or `.`, and then letters, digits, `_` and `.`.
-pub(crate) fn is_name(text: &[u8]) -> bool
+pub fn is_name(text: &[u8]) -> bool
     ensures { result ≡ is_name text.now }
 {
     match text {
@@ -66,7 +66,8 @@ pub(crate) fn is_name(text: &[u8]) -> bool
     }
 }
 
-fn is_dot(text: &[u8]) -> bool
+/// Whether a name is that of the statement's own place: `.` alone.
+pub fn is_dot(text: &[u8]) -> bool
     ensures { result ≡ is_dot text.now }
 {
     text.len() == 1 && text[0] == b'.'

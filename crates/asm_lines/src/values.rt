@@ -2,7 +2,8 @@
 ghost use Rattle.std.specs.Prelude.{◌≡◌, ◌≤◌, ◌+◌, [], get_or, length, IfOk, IsTrue};
 ghost use Rattle.asm_lines.specs.Text.{pieces_of};
 ghost use Rattle.asm_lines.specs.Statement.{is_in_size, value_fault, values_fault, is_size, is_natural, operand_at, capability_fault};
-ghost use Rattle.asm_lines.specs.Line.{seen_result, IsOffset};
+ghost use Rattle.asm_lines.specs.Seen.{seen_result};
+ghost use Rattle.asm_lines.specs.Bounded.{IsOffset};
 
 use crate::fault::LineFault;
 use crate::filling::{first_rest, told_fault};

@@ -1,4 +1,4 @@
-ghost use Rattle.std.specs.Prelude.{◌≡◌, ◌<◌, Bool, List, Some, ℕ};
+ghost use Rattle.std.specs.Prelude.{◌≡◌, Bool, List, Some, ℕ};
 ghost use Rattle.isa_rows.specs.declared.rows.Row.{Row};
 ghost use Rattle.asm_names.specs.Mnemonic.{mnemonic, row_named};
 ghost use Rattle.asm_names.specs.Registers.{register_name, register_named};

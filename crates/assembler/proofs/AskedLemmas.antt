@@ -8,12 +8,12 @@ use Rattle.isa_rows.specs.Line.{line_of}
 use Rattle.asm_lines.specs.Text.{pieces_of}
 use Rattle.asm_lines.specs.Number.{Expression, expression_of, is_in_limits}
 use Rattle.asm_lines.specs.declared.parsed.Directive.TheVariants.{Values, Capability}
-use Rattle.asm_lines.specs.Statement.{row, load, entry, item, capability_parts, expression_or_nought}
+use Rattle.asm_lines.specs.Statement.{row, load, item, capability_parts, expression_or_nought}
 use Rattle.assembler.specs.declared.fault.AsmCode.TheVariants.{A3, A5, A6}
 use Rattle.assembler.specs.declared.checks.Test.TheVariants.{IsUnknown, IsBeyond}
 use Rattle.assembler.specs.Places.{Symbols}
-use Rattle.assembler.specs.Values.{value_of, known_and, reach_of, is_reached, is_loadable, is_entry, Asked, asked, asked_by_instruction}
-use Rattle.assembler.specs.Values.{asked_by_setting, asked_value, asked_part, part_of, asked_by_data, is_beyond, is_unknown, is_far}
+use Rattle.assembler.specs.Values.{value_of, known_and, reach_of, is_reached, is_loadable, Asked, asked, asked_by_instruction}
+use Rattle.assembler.specs.Values.{asked_value, asked_part, part_of, asked_by_data, is_beyond, is_unknown, is_far}
 use Rattle.assembler.specs.Checks.{asked_fault, value_fault, passes, any_passes}
 use Rattle.assembler.specs.Sound.{IsKnown, AreKnown}
 use Rattle.assembler.proofs.TestLemmas.{or-false, false-or}
@@ -53,11 +53,6 @@ pub asked_load : (page_count : ℕ) (symbols : Symbols) (here : ℕ) (capability
     ≡ asked_fault page_count symbols here (asked_by_instruction (load capability rd e))
 asked_load page_count symbols here capability rd e =
     asked_one page_count symbols here (asked e is_in_limits (λ count place v. is_loadable (v -ℤ pos place)))
-
-pub asked_entry : (page_count : ℕ) (symbols : Symbols) (here : ℕ) (e : Expression)
-    → value_fault is_in_limits (is_entry page_count) (value_of symbols here e)
-    ≡ asked_fault page_count symbols here (asked_by_setting (entry e))
-asked_entry page_count symbols here e = asked_one page_count symbols here (asked e is_in_limits (λ count place v. is_entry count v))
 
 -- of the values of a list, of which each is in reach
 beyond-values : (symbols : Symbols) (here size : ℕ) (ps : List (List ℕ))

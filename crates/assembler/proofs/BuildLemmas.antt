@@ -6,8 +6,8 @@ use Rattle.std.proofs.Common.{subst, arith}
 use Rattle.std.specs.Int.{bytes_low_first}
 use Rattle.std.specs.List.{flat_map}
 use Rattle.std.proofs.lemmas.List.{length-replicate}
-use Rattle.std.proofs.lemmas.Bool.{le-leb}
 use Rattle.std.proofs.lemmas.Bool.Decides.{nat_tests}
+use Rattle.base.specs.FirstFault.{first_fault}
 use Rattle.base.specs.Ram.{ram_base, ram_end, most_pages, most_pages_version_1}
 use Rattle.cap_bounds.specs.Rounding.{is_exact}
 use Rattle.image.specs.declared.cap_entry.CapEntry.{CapEntry}
@@ -16,7 +16,7 @@ use Rattle.image.specs.ImageLaws.{IsGoodCapability, GoodParts, no_build_fault, h
 use Rattle.asm_lines.specs.declared.parsed.Directive.{Directive}
 use Rattle.asm_lines.specs.declared.parsed.Statement.{Statement as Read}
 use Rattle.asm_lines.specs.declared.parsed.Statement.TheVariants as read
-use Rattle.asm_lines.specs.Line.{seen_statement}
+use Rattle.asm_lines.specs.Seen.{seen_statement}
 use Rattle.assembler.specs.Capabilities.{capability_in, is_inexact, part_value, capability_at, entered, with_capability}
 use Rattle.assembler.specs.Sound.{ArePartsKnown, IsPutThere}
 use Rattle.assembler.specs.Text.{version_for, version_of}
@@ -32,14 +32,17 @@ use Rattle.asm_lines.specs.Line.{Line}
 use Rattle.assembler.specs.Places.{Symbols, zero_count, instruction_size, data_size, size_at, end_of, end_after}
 use Rattle.assembler.specs.Values.{value_of, known_and, is_entry, has_unknown_name, is_out_of_reach}
 use Rattle.assembler.specs.Bytes.{or_zero, value_at, insn_bytes, value_bytes, instruction_bytes, data_bytes, bytes_at}
-use Rattle.assembler.specs.Faults.{Assembled, given, page_count, is_misplaced, is_statement_misplaced, line_fault, lacks_place, is_taken}
+use Rattle.assembler.specs.Faults.{Assembled, given, page_count, is_misplaced, is_statement_misplaced, line_fault, misplaced_bytes}
+use Rattle.assembler.specs.Faults.{is_taken}
 use Rattle.assembler.specs.Faults.{is_instruction, closed, filled, empty_at, with_bytes, with_statement, with_statement_of, assembled_after}
 use Rattle.assembler.specs.Faults.{opening}
 use Rattle.assembler.specs.FaultLaws.{fault_in_text}
+use Rattle.assembler.specs.declared.misplaced.Misplaced.TheVariants.{BelowRam, PastRam, Taken, TooManySections, CodeAskew, CapabilityAskew}
+use Rattle.assembler.specs.declared.misplaced.Misplaced.TheVariants.{TooManyCapabilities}
 use Rattle.assembler.specs.Buildable.{is_paged, is_paged_or_none, is_paged_line, is_paged_unless, IsUnbegun, IsBuildable, AreAscending}
 use Rattle.assembler.specs.Buildable.{AreHeld}
 use Rattle.assembler.proofs.TestLemmas.{or-false, and-first, and-second, and-rest, not-false, not-below, true-false}
-use Rattle.assembler.proofs.SectionLemmas.{AreGood, closed-good, IsFree, grown}
+use Rattle.assembler.proofs.SectionLemmas.{closed-good, IsFree, grown}
 use Rattle.assembler.proofs.SoundLemmas.{IsFaultless, statement_fault-none, line_fault-none, in-range}
 
 no-byte : (bytes : List ℕ) → bytes ≡ [] → 0 < length bytes → ⊥
@@ -111,11 +114,37 @@ good-entry count (Some v) h g = and-second _ _ (not-false (is_entry count v) g)
 abbrev at-place : Assembled → ℕ → Symbols → Assembled
 at-place s end symbols = record s { places = record { place = end; symbols = symbols } }
 
-is-free : (s : Assembled) (n : ℕ) (is_code : Bool) → lacks_place s s.places.place n is_code ≡ false → 0 < n
+-- bytes have no place where one of the conditions is false
+misplaced-is : (some below past taken many askew : Bool)
+    → is_some
+    (if some then
+    first_fault
+    ((not below, BelowRam) ∷ (not past, PastRam) ∷ (not taken, Taken) ∷ (not many, TooManySections) ∷ (not askew, CodeAskew) ∷ [])
+    else None)
+    ≡ some && (below || (past || (taken || (many || askew))))
+misplaced-is false below past taken many askew = refl
+misplaced-is true true past taken many askew = refl
+misplaced-is true false true taken many askew = refl
+misplaced-is true false false true many askew = refl
+misplaced-is true false false false true askew = refl
+misplaced-is true false false false false true = refl
+misplaced-is true false false false false false = refl
+
+granule-is : (aligned many : Bool)
+    → is_some (first_fault ((aligned, CapabilityAskew) ∷ (not many, TooManyCapabilities) ∷ [])) ≡ not aligned || many
+granule-is false many = refl
+granule-is true false = refl
+granule-is true true = refl
+
+is-free : (s : Assembled) (n : ℕ) (is_code : Bool) → is_some (misplaced_bytes s s.places.place n is_code) ≡ false → 0 < n
     → IsFree (page_count s) s.done s.current s.places.place n
 is-free s n is_code h f =
     let some : nat_lt 0 n ≡ true = grind (arith, nat_tests) in
-    let a = or-false _ _ (and-rest _ _ some h) in
+    let conditions =
+    sym (misplaced-is (nat_lt 0 n) (nat_lt s.places.place ram_base) (nat_lt (ram_end (page_count s)) (s.places.place + n))
+    (is_taken s.places.place (s.places.place + n) s.done) ((length s.current.bytes == 0) && nat_le 64 (length s.done))
+    (is_code && not (s.places.place % 4 == 0))) ∙ h in
+    let a = or-false _ _ (and-rest _ _ some conditions) in
     let b = or-false _ _ a.1 in
     let c = or-false _ _ b.1 in
     let d = or-false _ _ c.1 in
@@ -154,7 +183,7 @@ ends-below base size h =
     (grind (arith, nat_tests), and-second _ _ h)
 
 cap-placed : (s : Assembled) (n : ℕ) (operands : List ℕ)
-    → lacks_place s s.places.place (size_at (contents (item Capability n operands)) s.places.place) false ≡ false
+    → is_some (misplaced_bytes s s.places.place (size_at (contents (item Capability n operands)) s.places.place) false) ≡ false
     → IsFree (page_count s) s.done s.current s.places.place 16
 unfolding size_at
 cap-placed s n operands h = is-free s 16 false h (omega arith)
@@ -164,11 +193,12 @@ good-statement : (symbols : Symbols) (s : Assembled) (n : ℕ) (operands : List 
 good-statement symbols s n operands f =
     let r = in-range symbols s n operands f in
     let room = cap-placed s n operands f.placed in
-    let granule = or-false (not (s.places.place % 16 == 0)) (nat_le 1024 (length s.capabilities)) f.granule in
+    let conditions = sym (granule-is (s.places.place % 16 == 0) (nat_le 1024 (length s.capabilities))) ∙ f.granule in
+    let granule = or-false (not (s.places.place % 16 == 0)) (nat_le 1024 (length s.capabilities)) conditions in
     let ends = ends-below _ _ (exact-parts symbols s.places.place n operands f.exact) in
     record {
       good = record {
-        aligned = multiple-of-16 s.places.place (nat_le 1024 (length s.capabilities)) f.granule;
+        aligned = multiple-of-16 s.places.place (nat_le 1024 (length s.capabilities)) conditions;
         above_base = room.above;
         inside = room.below;
         base_fits = omega (arith, r.base);
@@ -254,7 +284,7 @@ data-kept symbols s Capability n operands b f = one-kept symbols s _ n operands 
 
 grown-buildable : (s : Assembled) (bytes : List ℕ) (capabilities : List CapEntry) (n end : ℕ) (symbols : Symbols) (is_code : Bool)
     → IsBuildable s → AreKept s bytes capabilities → length bytes ≡ n → end ≡ s.places.place + n
-    → lacks_place s s.places.place n is_code ≡ false
+    → is_some (misplaced_bytes s s.places.place n is_code) ≡ false
     → IsBuildable (at-place (record (with_bytes s bytes) { capabilities = capabilities }) end symbols)
 grown-buildable s bytes capabilities n end symbols is_code b kept e g h =
     let both : length (s.current.bytes ++ bytes) ≡ length s.current.bytes + n = omega (arith, length-append s.current.bytes bytes) in

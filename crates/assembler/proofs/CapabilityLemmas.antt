@@ -1,6 +1,6 @@
 -- Capabilities in ascending order, each held by the bytes of a section, stay so when one is put among them whose place is free.
-use Rattle.std.proofs.Common.{◌≡◌, ℕ, ◌+◌, ◌%◌, ◌^◌, ◌<◌, ◌≤◌, Bool, true, false, not, ◌&&◌, ◌||◌, ◌==◌, nat_lt, nat_le, if◌then◌else◌}
-use Rattle.std.proofs.Common.{List, [], ◌∷◌, length, Option, None, refl, sym, ap, ◌∙◌, subst, arith}
+use Rattle.std.proofs.Common.{◌≡◌, ℕ, ◌+◌, ◌%◌, ◌^◌, ◌<◌, ◌≤◌, Bool, true, false, ◌&&◌, ◌||◌, ◌==◌, nat_lt, nat_le, if◌then◌else◌}
+use Rattle.std.proofs.Common.{List, [], ◌∷◌, length, None, refl, sym, ap, ◌∙◌, subst, arith}
 use Rattle.std.proofs.lemmas.Bool.Decides.{nat_tests}
 use Rattle.base.specs.Ram.{ram_base, ram_end}
 use Rattle.cap_bounds.specs.Rounding.{is_exact}
@@ -10,7 +10,7 @@ use Rattle.image.specs.ImageLaws.{IsGoodCapability, capabilities_fault-none}
 use Rattle.assembler.specs.Faults.{is_taken, inserted, closed}
 use Rattle.assembler.specs.Capabilities.{entered}
 use Rattle.assembler.specs.Buildable.{AreAscending, AreHeld}
-use Rattle.assembler.proofs.TestLemmas.{or-false, true-false}
+use Rattle.assembler.proofs.TestLemmas.{true-false}
 
 pub none_there : (cs : List CapEntry) → length cs ≡ 0 → cs ≡ []
 none_there [] e = refl

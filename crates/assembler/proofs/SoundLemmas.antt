@@ -1,5 +1,5 @@
 -- A line without a fault: its values are known, and its instructions have words.
-use Rattle.std.proofs.Common.{option_map, ◌≡◌, ℕ, ◌-◌, ◌^◌, ◌<◌, ◌≤◌, Bool, true, false, not, ◌&&◌, ◌==◌, ◌⊎◌, inl, inr, map}
+use Rattle.std.proofs.Common.{option_map, ◌≡◌, ℕ, ◌-◌, ◌^◌, ◌<◌, ◌≤◌, Bool, true, false, not, ◌==◌, ◌⊎◌, inl, inr, map}
 use Rattle.std.proofs.Common.{if◌then◌else◌, ℤ, pos, negsuc, ◌-ℤ◌}
 use Rattle.std.proofs.Common.{List, [], ◌∷◌, Option, Some, None, is_none, is_some, refl, sym, ap, ◌∙◌, subst, arith}
 use Rattle.std.specs.Option.{option_or}
@@ -23,7 +23,9 @@ use Rattle.asm_lines.specs.Number.{is_in_limits}
 use Rattle.asm_lines.specs.Operand.{wrapped}
 use Rattle.asm_lines.specs.Statement.{Statement, instruction, setting, origin, contents, item, is_size, is_sized, is_in_size, is_natural}
 use Rattle.asm_lines.specs.Statement.{capability_parts}
-use Rattle.asm_lines.specs.Line.{Line, RowFits, IsTargetOffset, IsBounded, IsBoundedIfAny, seen_expression, seen_statement, seen_line}
+use Rattle.asm_lines.specs.Line.{Line, RowFits, IsTargetOffset}
+use Rattle.asm_lines.specs.Seen.{seen_expression, seen_statement, seen_line}
+use Rattle.asm_lines.specs.Bounded.{IsBounded, IsBoundedIfAny}
 use Rattle.assembler.specs.declared.fault.AsmCode.{AsmCode}
 use Rattle.assembler.specs.declared.fault.AsmCode.TheVariants.{A1, A2, A3, A4, A5, A6, A7, A11}
 use Rattle.assembler.specs.Places.{Symbols, size_at}
@@ -33,7 +35,7 @@ use Rattle.assembler.specs.Values.{has_unknown_name, is_out_of_reach}
 use Rattle.assembler.specs.Checks.{named_fault}
 use Rattle.assembler.specs.Bytes.{or_zero}
 use Rattle.assembler.specs.Capabilities.{capability_in, is_inexact, has_inexact_range, part_value}
-use Rattle.assembler.specs.Faults.{Assembled, page_count, line_fault, is_statement_misplaced, lacks_place, lacks_granule}
+use Rattle.assembler.specs.Faults.{Assembled, page_count, line_fault, is_statement_misplaced, misplaced_bytes, misplaced_capability}
 use Rattle.assembler.specs.Faults.{lacks_place_for, is_instruction}
 use Rattle.assembler.specs.FaultLaws.{fault_by, fault_in_text, statement_fault, line_fault-by}
 use Rattle.assembler.proofs.TestLemmas.{or-false, not-false, and-first}
@@ -54,6 +56,11 @@ neither : {A : Type 0} (first later : Option A) → option_or first later ≡ No
 neither None later h = (refl, h)
 neither (Some x) later h = cc
 
+both-none : {A : Type 0} (first later : Option A) → is_some (option_or first later) ≡ false
+    → (is_some first ≡ false) × (is_some later ≡ false)
+both-none None later h = (refl, h)
+both-none (Some x) later h = cc
+
 no-fault : (code : AsmCode) → Some code ≡ None → ⊥
 no-fault code h = cc
 
@@ -62,8 +69,8 @@ pub record IsFaultless (symbols : Symbols) (s : Assembled) (statement : Statemen
   pub in_range : has_value_beyond symbols s.places.place statement ≡ false
   pub named : has_unknown_name symbols s.places.place statement ≡ false
   pub near : is_out_of_reach (page_count s) symbols s.places.place statement ≡ false
-  pub placed : lacks_place s s.places.place (size_at statement s.places.place) (is_instruction statement) ≡ false
-  pub granule : (is_some (capability_in statement) && lacks_granule s s.places.place) ≡ false
+  pub placed : is_some (misplaced_bytes s s.places.place (size_at statement s.places.place) (is_instruction statement)) ≡ false
+  pub granule : is_some (misplaced_capability s (capability_in statement) s.places.place) ≡ false
   pub exact : is_inexact symbols s.places.place statement ≡ false
 
 pub statement_fault-none : (symbols : Symbols) (s : Assembled) (statement : Statement) → statement_fault symbols s statement ≡ None
@@ -76,7 +83,7 @@ statement_fault-none symbols s statement h =
     let c = not-none _ A6 _ b.1 in
     let d = if-none _ A7 _ both.1 in
     let e = if-none _ A11 None d.1 in
-    let place = or-false _ _ d.0 in
+    let place = both-none (misplaced_bytes s s.places.place (size_at statement s.places.place) (is_instruction statement)) _ d.0 in
     record { in_range = a.0; named = b.0; near = c.0; placed = place.0; granule = place.1; exact = e.0 }
 
 -- a line that has no fault

@@ -1,6 +1,7 @@
 -- What is assembled so far, and the first fault of the next line.
 use Rattle.std.specs.Prelude.{ℕ, ◌+◌, ◌%◌, Bool, true, false, not, ◌&&◌, ◌||◌, ◌==◌, nat_lt, nat_le, if◌then◌else◌, List, [], ◌∷◌}
 use Rattle.std.specs.Prelude.{◌++◌, length, Option, Some, None, is_some}
+use Rattle.std.specs.Option.{option_or}
 use Rattle.base.specs.FirstFault.{first_fault}
 use Rattle.base.specs.Ram.{ram_base, ram_end}
 use Rattle.image.specs.declared.cap_entry.CapEntry.{CapEntry}
@@ -12,6 +13,9 @@ use Rattle.asm_lines.specs.Statement.{Statement, instruction, setting, origin, S
 use Rattle.asm_lines.specs.Line.{Line}
 use Rattle.assembler.specs.declared.fault.AsmCode.{AsmCode}
 use Rattle.assembler.specs.declared.fault.AsmCode.TheVariants.{A1, A2, A3, A4, A5, A6, A7, A8, A9, A11}
+use Rattle.assembler.specs.declared.misplaced.Misplaced.{Misplaced}
+use Rattle.assembler.specs.declared.misplaced.Misplaced.TheVariants.{BelowRam, PastRam, Taken, TooManySections, CodeAskew, CapabilityAskew}
+use Rattle.assembler.specs.declared.misplaced.Misplaced.TheVariants.{TooManyCapabilities}
 use Rattle.assembler.specs.Places.{Symbols, Places, value_in, size_at, places_after, opening_places}
 use Rattle.assembler.specs.Values.{has_value_beyond, has_unknown_name, is_out_of_reach}
 use Rattle.assembler.specs.Bytes.{bytes_at, value_at}
@@ -56,22 +60,37 @@ abbrev pub is_taken : ℕ → ℕ → List Section → Bool
 is_taken from to [] = false
 is_taken from to (s ∷ ss) = (nat_lt from (s.address + length s.bytes) && nat_lt s.address to) || is_taken from to ss
 
--- Bytes that have no place (A7): outside RAM, where an earlier line places one, the first byte of a 65th section; or an instruction at no
--- multiple of 4. No byte has always its place.
-abbrev pub lacks_place : Assembled → ℕ → ℕ → Bool → Bool
-lacks_place s place size is_code =
-    nat_lt 0 size
-    && (nat_lt place ram_base || (nat_lt (ram_end (page_count s)) (place + size) || (is_taken place (place + size) s.done
-    || (((length s.current.bytes == 0) && nat_le 64 (length s.done)) || (is_code && not (place % 4 == 0))))))
+-- Why bytes have no place, in this order: outside RAM, where an earlier line places one, the first byte of a 65th section; or an
+-- instruction at no multiple of 4. No byte has always its place.
+abbrev pub place_checks : Assembled → ℕ → ℕ → Bool → List (Bool × Misplaced)
+place_checks s place size is_code =
+    (not (nat_lt place ram_base), BelowRam)
+    ∷ (not (nat_lt (ram_end (page_count s)) (place + size)), PastRam)
+    ∷ (not (is_taken place (place + size) s.done), Taken)
+    ∷ (not ((length s.current.bytes == 0) && nat_le 64 (length s.done)), TooManySections)
+    ∷ (not (is_code && not (place % 4 == 0)), CodeAskew)
+    ∷ []
 
--- a capability has none at no multiple of 16, nor as the 1025th
-abbrev pub lacks_granule : Assembled → ℕ → Bool
-lacks_granule s place = not (place % 16 == 0) || nat_le 1024 (length s.capabilities)
+-- why a capability has none where its bytes have one: at no multiple of 16, or as the 1025th
+abbrev pub granule_checks : Assembled → ℕ → List (Bool × Misplaced)
+granule_checks s place =
+    (place % 16 == 0, CapabilityAskew) ∷ (not (nat_le 1024 (length s.capabilities)), TooManyCapabilities) ∷ []
 
+abbrev pub misplaced_bytes : Assembled → ℕ → ℕ → Bool → Option Misplaced
+misplaced_bytes s place size is_code = if nat_lt 0 size then first_fault (place_checks s place size is_code) else None
+
+abbrev pub misplaced_capability : Assembled → Option (List ℕ) → ℕ → Option Misplaced
+misplaced_capability s None place = None
+misplaced_capability s (Some operands) place = first_fault (granule_checks s place)
+
+abbrev pub misplaced : Assembled → Statement → Option Misplaced
+misplaced s statement =
+    option_or (misplaced_bytes s s.places.place (size_at statement s.places.place) (is_instruction statement))
+    (misplaced_capability s (capability_in statement) s.places.place)
+
+-- a statement that has no place (A7)
 abbrev pub lacks_place_for : Assembled → Statement → Bool
-lacks_place_for s statement =
-    lacks_place s s.places.place (size_at statement s.places.place) (is_instruction statement)
-    || (is_some (capability_in statement) && lacks_granule s s.places.place)
+lacks_place_for s statement = is_some (misplaced s statement)
 
 -- a test of the statement that a line leaves, if it leaves one
 abbrev pub does : (Statement → Bool) → Option Statement → Bool

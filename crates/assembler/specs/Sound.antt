@@ -1,5 +1,5 @@
 -- What a statement without a fault has besides its bytes: values that are known, and a word for each of its instructions.
-use Rattle.std.specs.Prelude.{◌≡◌, ℕ, ◌<◌, ◌≤◌, true, ℤ, List, [], ◌∷◌, map, ◌^◌, Option, Some, None}
+use Rattle.std.specs.Prelude.{◌≡◌, ℕ, ◌<◌, true, ℤ, List, [], ◌∷◌, map, ◌^◌, Option, Some, None}
 use Rattle.isa_rows.specs.Insn.{Fits}
 use Rattle.asm_lines.specs.Number.{is_in_limits}
 use Rattle.asm_lines.specs.Statement.{Statement, instruction, Instruction, row, load, capability_parts}

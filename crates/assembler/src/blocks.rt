@@ -1,8 +1,8 @@
 //! Sections of an image that is being made.
-ghost use Rattle.std.specs.Prelude.{◌≡◌, ◌++◌, ◌≤◌, ◌<◌, ◌^◌, IsTrue, [], length, nat_lt, None, OnOk, IfOk};
-ghost use Rattle.image.specs.Image.{Section, Builds, build_fault, image_of, lent_sections};
+ghost use Rattle.std.specs.Prelude.{◌≡◌, ◌≤◌, ◌<◌, ◌^◌, IsTrue, [], length, nat_lt, None, OnOk, IfOk};
+ghost use Rattle.image.specs.Image.{Section, build_fault, image_of, lent_sections};
 ghost use Rattle.std.specs.List.{position_or_len};
-ghost use Rattle.asm_lines.specs.Line.{seen_statement};
+ghost use Rattle.asm_lines.specs.Seen.{seen_statement};
 ghost use Rattle.assembler.specs.Bytes.{bytes_at};
 ghost use Rattle.assembler.specs.Modest.{is_modest};
 ghost use Rattle.assembler.specs.Sound.{IsValued, HasWords};

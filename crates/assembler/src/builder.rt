@@ -1,6 +1,8 @@
 //! What the lines of a text set and place.
-ghost use Rattle.std.specs.Prelude.{◌≡◌, ◌+◌, ◌<◌, ◌^◌, ◌≤◌, None, Some, IsTrue, OnOk, IfOk};
-ghost use Rattle.asm_lines.specs.Line.{seen_setting, seen_statement, seen_line, RowFits, IsBoundedIfAny};
+ghost use Rattle.std.specs.Prelude.{◌≡◌, ◌+◌, ◌<◌, ◌^◌, None, Some, IsTrue, OnOk, IfOk};
+ghost use Rattle.asm_lines.specs.Line.{RowFits};
+ghost use Rattle.asm_lines.specs.Seen.{seen_setting, seen_statement, seen_line};
+ghost use Rattle.asm_lines.specs.Bounded.{IsBoundedIfAny};
 ghost use Rattle.assembler.specs.Capabilities.{capability_in, with_capability};
 ghost use Rattle.assembler.specs.Sound.{AreKnown, IsValued, HasWords, ArePartsKnown, HasSmallParts, IsPutThere};
 ghost use Rattle.assembler.specs.Values.{asked_by_setting};
@@ -10,10 +12,10 @@ ghost use Rattle.std.specs.Option.{option_map};
 ghost use Rattle.assembler.specs.Bytes.{bytes_at};
 ghost use Rattle.assembler.specs.Blocks.{begun_at};
 ghost use Rattle.assembler.specs.Text.{image_of};
-ghost use Rattle.assembler.specs.Faults.{page_count, is_misplaced, is_instruction, lacks_place, line_fault, assembled_after};
-ghost use Rattle.assembler.specs.Faults.{lacks_granule, lacks_place_for};
+ghost use Rattle.assembler.specs.Faults.{page_count, is_misplaced, is_instruction, line_fault, assembled_after};
+ghost use Rattle.assembler.specs.Faults.{misplaced, misplaced_bytes, misplaced_capability};
 ghost use Rattle.assembler.specs.Faults.{with_setting, with_statement, opening, is_repeated, is_statement_misplaced, with_bytes};
-ghost use Rattle.assembler.specs.Standing.{misplaced, misplaced_bytes, misplaced_capability, misplaced_if_any};
+ghost use Rattle.assembler.specs.Standing.{misplaced_if_any};
 ghost use Rattle.assembler.specs.FaultLaws.{statement_fault, fault_by, fault_in_text};
 
 use crate::blocks::{Block, built, close, is_taken};
@@ -24,8 +26,7 @@ use crate::fault::AsmCode;
 use crate::labels::Labels;
 use crate::misplaced::Misplaced;
 use crate::places::{Places, size_at};
-use crate::values::wrapped;
-use asm_lines::{LineFault, Parsed, Setting, Statement};
+use asm_lines::{LineFault, Parsed, Setting, Statement, wrapped};
 use base::ram;
 use image::{CapEntry, Image};
 use std::alloc::{AllocError, Global};
@@ -113,41 +114,6 @@ impl Builder {
         }
     }
 
-    /// Whether some of so many bytes from a place on have no place there.
-    fn lacks_place(&self, place: u128, size: u128, is_code: bool) -> bool
-        requires place { place < 2 ^ 100 }
-        requires size { size < 2 ^ 101 }
-        ensures { result ≡ lacks_place self.now place size is_code }
-    {
-        let ram_end = u128::from(ram::BASE)
-            + u128::from(ram::PAGE_BYTES) * u128::from(self.page_count());
-        size > 0
-            && (place < u128::from(ram::BASE)
-                || ram_end < place + size
-                || is_taken(place, place + size, &self.done)
-                || self.current.len() == 0 && self.done.len() >= 64
-                || is_code && place % 4 != 0)
-    }
-
-    /// Whether a capability has no place at a place: at no multiple of 16, or as the 1025th.
-    fn lacks_granule(&self, place: u128) -> bool
-        ensures { result ≡ lacks_granule self.now place }
-    {
-        place % 16 != 0 || self.capabilities.len() >= 1024
-    }
-
-    /// Whether a statement has no place, or bytes of it.
-    fn lacks_place_for(&self, statement: &Statement<'_>, operands: Option<&[u8]>) -> bool
-        requires modest { IsTrue (is_modest (seen_statement statement.now)) }
-        requires operands { option_map (λ t. t.now) operands ≡ capability_in (seen_statement statement.now) }
-        ensures { result ≡ lacks_place_for self.now (seen_statement statement.now) }
-    {
-        let place = self.places.place();
-        let size = size_at(statement, place);
-        self.lacks_place(place, size, is_instruction(statement))
-            || operands.is_some() && self.lacks_granule(place)
-    }
-
     /// Why bytes have no place.
     fn misplaced_bytes(&self, place: u128, size: u128, is_code: bool) -> Option<Misplaced>
         requires place { place < 2 ^ 100 }
@@ -181,7 +147,7 @@ impl Builder {
             None
         } else if place % 16 != 0 {
             Some(Misplaced::CapabilityAskew)
-        } else if self.lacks_granule(place) {
+        } else if self.capabilities.len() >= 1024 {
             Some(Misplaced::TooManyCapabilities)
         } else {
             None
@@ -224,10 +190,10 @@ impl Builder {
         if named.is_some() {
             return named;
         }
-        let operands = capability_in(statement);
-        if self.lacks_place_for(statement, operands) {
+        if self.misplaced(statement).is_some() {
             return Some(AsmCode::A7);
         }
+        let operands = capability_in(statement);
         exact_fault(labels, place, operands)
     }
 

@@ -1,11 +1,11 @@
 //! The bytes that a statement places.
-ghost use Rattle.std.specs.Prelude.{◌≡◌, ◌<◌, ◌≤◌, ◌++◌, ◌%◌, ◌^◌, ◌*◌, Bool, if◌then◌else◌, replicate, pos, neg_ℤ, ◌-ℤ◌, ◌<ℤ◌, Some};
-ghost use Rattle.std.specs.Prelude.{map, IsTrue, OnOk, IfOk};
+ghost use Rattle.std.specs.Prelude.{◌≡◌, ◌<◌, ◌≤◌, ◌++◌, ◌%◌, ◌^◌, ◌*◌, if◌then◌else◌, replicate, pos, neg_ℤ, ◌<ℤ◌, Some};
+ghost use Rattle.std.specs.Prelude.{map, IsTrue, OnOk};
 ghost use Rattle.byteorder.specs.Endian.{little_bytes};
 ghost use Rattle.isa_rows.specs.Insn.{insn, sign_extended, Fits};
 ghost use Rattle.isa_rows.specs.Operands.{IsUpperImmediate, IsSignedOf};
 ghost use Rattle.isa_rows.specs.InsnLaws.{insn_word};
-ghost use Rattle.asm_lines.specs.Line.{seen_expression, seen_instruction, seen_data, seen_statement};
+ghost use Rattle.asm_lines.specs.Seen.{seen_expression, seen_instruction, seen_data, seen_statement};
 ghost use Rattle.asm_lines.specs.Number.{is_in_limits, expression_of};
 ghost use Rattle.asm_lines.specs.Operand.{wrapped};
 ghost use Rattle.asm_lines.specs.Statement.{row, is_size, expression_or_nought, text_bytes, escaped_byte};
@@ -18,11 +18,13 @@ ghost use Rattle.assembler.specs.Values.{value_of, asked_by_instruction, asked_b
 ghost use Rattle.assembler.specs.Bytes.{value_at, insn_bytes, aimed, upper_part, lower_part, load_bytes, instruction_bytes, data_bytes};
 ghost use Rattle.assembler.specs.Bytes.{bytes_at, value_bytes};
 
-use crate::checks::{distance, operand, pieces};
+use crate::checks::{distance, operand};
 use crate::labels::Labels;
 use crate::places::zero_count;
-use crate::values::{Worth, value, wrapped};
-use asm_lines::{Data, Directive, Expression, Instruction, Statement, split_piece};
+use crate::values::{Worth, value};
+use asm_lines::{
+    Data, Directive, Expression, Instruction, Statement, first_rest, split_piece, wrapped,
+};
 use byteorder::{ByteOrder, LittleEndian};
 use isa_rows::{Insn, Row};
 use isa_table::encode;
@@ -246,7 +248,7 @@ fn push_values(
     requires known { AreKnown labels.now here (map (asked_value size) (pieces_of operands.now)) }
     ensures { OnOk result (bytes.new.items ≡ bytes.old.items ++ flat_map (value_bytes labels.now here size) (pieces_of operands.now)) }
 {
-    let mut rest = pieces(operands);
+    let mut rest = first_rest(operands);
     while let Some(text) = rest {
         let (piece, after) = split_piece(text);
         push_value(bytes, size, labels, here, piece)?;

@@ -1,7 +1,7 @@
 //! Capabilities that a text puts into RAM.
-ghost use Rattle.std.specs.Prelude.{◌≡◌, ◌≤◌, ◌<◌, ◌^◌, Some, None, if◌then◌else◌, length, nat_lt, option_map, OnOk};
+ghost use Rattle.std.specs.Prelude.{◌≡◌, ◌≤◌, ◌<◌, Some, None, if◌then◌else◌, length, nat_lt, option_map, OnOk};
 ghost use Rattle.std.specs.List.{position_or_len};
-ghost use Rattle.asm_lines.specs.Line.{seen_statement};
+ghost use Rattle.asm_lines.specs.Seen.{seen_statement};
 ghost use Rattle.assembler.specs.declared.fault.AsmCode.TheVariants.{A11};
 ghost use Rattle.assembler.specs.Values.{value_of, part_of};
 ghost use Rattle.assembler.specs.Capabilities.{capability_in, part_value, capability_at, has_inexact_range, entered, with_capability};
@@ -11,8 +11,7 @@ use crate::bytes::known;
 use crate::checks::part_of;
 use crate::fault::AsmCode;
 use crate::labels::Labels;
-use crate::values::wrapped;
-use asm_lines::{Directive, Statement};
+use asm_lines::{Directive, Statement, wrapped};
 use image::{CapEntry, is_exact_range};
 use std::alloc::AllocError;
 

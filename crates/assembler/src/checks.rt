@@ -1,11 +1,10 @@
 //! The values of a statement: whether they are known, in range and within reach.
-ghost use Rattle.std.specs.Prelude.{◌≡◌, ℕ, ◌+◌, ◌≤◌, length, [], ◌∷◌, map, not, is_none, option_map, pos, ◌-ℤ◌, ◌<◌, ◌^◌, IsTrue};
-ghost use Rattle.std.specs.Option.{option_map_or};
+ghost use Rattle.std.specs.Prelude.{◌≡◌, ℕ, ◌≤◌, [], ◌∷◌, map, not, is_none, option_map, pos, ◌-ℤ◌, ◌<◌, ◌^◌, IsTrue};
 ghost use Rattle.base.specs.FirstFault.{first_fault};
-ghost use Rattle.asm_lines.specs.Line.{seen_expression, seen_instruction, seen_setting, seen_data, seen_statement};
+ghost use Rattle.asm_lines.specs.Seen.{seen_expression, seen_instruction, seen_setting, seen_data, seen_statement};
 ghost use Rattle.asm_lines.specs.Number.{is_in_limits, expression_of};
 ghost use Rattle.asm_lines.specs.Statement.{row, is_size, is_natural, capability_parts, expression_or_nought};
-ghost use Rattle.asm_lines.specs.Text.{pieces_of, pieces_left};
+ghost use Rattle.asm_lines.specs.Text.{pieces_of};
 ghost use Rattle.assembler.specs.declared.fault.AsmCode.TheVariants.{A3, A5, A6};
 ghost use Rattle.assembler.specs.Values.{value_of, reach_of, is_reached, is_loadable, is_entry, asked_by_instruction, asked_by_setting};
 ghost use Rattle.assembler.specs.Values.{asked_by_data, asked_part, part_of, known_and, is_beyond, is_unknown};
@@ -15,10 +14,10 @@ ghost use Rattle.assembler.specs.Checks.{asked_fault, value_fault, passes, any_p
 
 use crate::fault::AsmCode;
 use crate::labels::Labels;
-use crate::values::{Worth, value, wrapped};
+use crate::values::{Worth, value};
 use asm_lines::{
-    Data, Directive, Expression, Instruction, Setting, Statement, expression, is_in_size,
-    is_natural, operand_at, split_piece,
+    Data, Directive, Expression, Instruction, Setting, Statement, expression, first_rest,
+    is_in_size, is_natural, operand_at, split_piece, wrapped,
 };
 use image::is_good_header;
 use isa_rows::{Format, Insn};
@@ -45,18 +44,6 @@ pub(crate) fn operand(piece: &[u8]) -> Expression<'_>
     }
 }
 
-/// The operands of a list, if there are some.
-pub(crate) fn pieces(operands: &[u8]) -> Option<&[u8]>
-    ensures value { pieces_left (option_map (λ t. t.now) result) ≡ pieces_of operands.now }
-    ensures bound { option_map_or (λ t. length t.now + 1) result 0 ≤ length operands.now + 1 }
-{
-    if operands.is_empty() {
-        None
-    } else {
-        Some(operands)
-    }
-}
-
 impl Test {
     /// Whether the answer for a list's operand is yes.
     fn passes(self, labels: &Labels, here: u128, piece: &[u8]) -> bool
@@ -77,7 +64,7 @@ impl Test {
         requires { IsTrue (is_test self) }
         ensures { result ≡ any_passes self labels.now here (pieces_of operands.now) }
     {
-        let mut rest = pieces(operands);
+        let mut rest = first_rest(operands);
         while let Some(text) = rest {
             let (piece, after) = split_piece(text);
             if self.passes(labels, here, piece) {
@@ -99,8 +86,9 @@ pub(crate) fn distance(value: i128, here: u128) -> i128
 }
 
 /// How far a branch or jal reaches.
-fn reach_of(format: Format) -> u32
-    ensures { result ≡ reach_of format }
+pub fn reach_of(format: Format) -> u32
+    ensures value { result ≡ reach_of format }
+    ensures some { 2 ≤ result }
 {
     match format {
         Format::Branch => 4096,

@@ -17,6 +17,7 @@ mod standing;
 mod values;
 
 pub use assembly::{Assembly, assemble};
+pub use checks::reach_of;
 pub use fault::{AsmCode, AsmFault};
 pub use misplaced::Misplaced;
 pub use standing::{Standing, standing_before_fault};

@@ -1,7 +1,9 @@
 //! How a text is cut into lines.
 ghost use Rattle.std.specs.Prelude.{◌≡◌, ◌<◌, ◌==◌, [], ◌∷◌, length, IfSome, IsTrue};
 ghost use Rattle.std.specs.List.{slice_split};
-ghost use Rattle.asm_lines.specs.Line.{seen_line, line_meaning, RowFits, IsBoundedIfAny};
+ghost use Rattle.asm_lines.specs.Line.{line_meaning, RowFits};
+ghost use Rattle.asm_lines.specs.Seen.{seen_line};
+ghost use Rattle.asm_lines.specs.Bounded.{IsBoundedIfAny};
 ghost use Rattle.assembler.specs.Modest.{is_modest_line};
 ghost use Rattle.assembler.specs.Buildable.{is_paged_line};
 ghost use Rattle.assembler.specs.Places.{lines_of};

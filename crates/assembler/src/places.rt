@@ -1,14 +1,13 @@
 //! Where statements stand.
 ghost use Rattle.std.specs.Prelude.{◌≡◌, ◌+◌, ◌*◌, ◌<◌, ◌≤◌, ◌^◌, length, IsTrue, OnOk};
-ghost use Rattle.asm_lines.specs.Line.{seen_instruction, seen_data, seen_statement, seen_line};
+ghost use Rattle.asm_lines.specs.Seen.{seen_instruction, seen_data, seen_statement, seen_line};
 ghost use Rattle.asm_lines.specs.Statement.{text_bytes, most_of};
 ghost use Rattle.asm_lines.specs.Text.{pieces_of};
 ghost use Rattle.assembler.specs.Modest.{is_modest_data, is_modest, is_modest_line, IsNear};
 ghost use Rattle.assembler.specs.Places.{aligned, instruction_size, zero_count, data_size, size_at, end_of, places_after, opening_places};
 
-use crate::checks::pieces;
 use crate::labels::Labels;
-use asm_lines::{Data, Directive, Instruction, Parsed, Statement, split_piece};
+use asm_lines::{Data, Directive, Instruction, Parsed, Statement, first_rest, split_piece};
 use base::ram;
 use std::alloc::{AllocError, Global};
 use std::marker::Model;
@@ -19,7 +18,7 @@ fn piece_count(operands: &[u8]) -> u128
     ensures bound { result ≤ length operands.now + 1 }
 {
     let mut count = 0;
-    let mut rest = pieces(operands);
+    let mut rest = first_rest(operands);
     while let Some(text) = rest {
         count += 1;
         rest = split_piece(text).1;

@@ -1,6 +1,7 @@
 //! Where a text stands at its first faulty line.
 ghost use Rattle.std.specs.Prelude.{◌≡◌, ◌<◌, ◌^◌, IfOk};
-ghost use Rattle.asm_lines.specs.Line.{line_meaning, seen_expression};
+ghost use Rattle.asm_lines.specs.Line.{line_meaning};
+ghost use Rattle.asm_lines.specs.Seen.{seen_expression};
 ghost use Rattle.assembler.specs.Faults.{opening, page_count};
 ghost use Rattle.assembler.specs.Places.{lines_of};
 ghost use Rattle.assembler.specs.Standing.{before_fault, misplaced_if_any, standing_of};

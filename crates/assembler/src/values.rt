@@ -1,14 +1,11 @@
 //! What expressions are worth.
-ghost use Rattle.std.specs.Prelude.{◌≡◌, Some, pos, ◌+ℤ◌, ◌-ℤ◌, ◌*◌, ◌<◌, ◌^◌, ◌≤ℤ◌, ◌<ℤ◌, IsTrue};
-ghost use Rattle.asm_lines.specs.Line.{seen_expression};
-ghost use Rattle.asm_lines.specs.Number.{is_in_limits};
-ghost use Rattle.asm_lines.specs.Operand.{wrapped};
-ghost use Rattle.asm_lines.specs.Text.{is_dot};
+ghost use Rattle.std.specs.Prelude.{◌≡◌, Some, pos, ◌+ℤ◌, ◌-ℤ◌, ◌<◌};
+ghost use Rattle.asm_lines.specs.Seen.{seen_expression};
 ghost use Rattle.assembler.specs.Values.{value_of};
 ghost use Rattle.assembler.specs.Worth.{worth};
 
 use crate::labels::Labels;
-use asm_lines::Expression;
+use asm_lines::{Expression, is_dot};
 
 /// What an expression is worth.
 #[derive(Clone, Copy)]
@@ -67,13 +64,6 @@ fn sum(base: u128, offset: i128) -> Worth
     }
 }
 
-/// Whether a name is that of the statement's own place.
-fn is_dot(name: &[u8]) -> bool
-    ensures { result ≡ is_dot name.now }
-{
-    name.len() == 1 && name[0] == b'.'
-}
-
 /// What an expression of a statement at a place is worth.
 #[tactic(auto, unfolding(crate::specs::Values::value_of))]
 pub(crate) fn value(labels: &Labels, here: u128, expression: &Expression<'_>) -> Worth
@@ -86,16 +76,5 @@ pub(crate) fn value(labels: &Labels, here: u128, expression: &Expression<'_>) ->
             Some(place) => sum(place, expression.offset),
             None => Worth::Unknown,
         },
-    }
-}
-
-/// A number modulo 2^64.
-pub(crate) fn wrapped(value: i128) -> u64
-    ensures { result ≡ wrapped value }
-{
-    if value >= 0 {
-        (value as u128 % END) as u64
-    } else {
-        u64::MAX - ((-1 - value) as u128 % END) as u64
     }
 }

@@ -1,10 +1,11 @@
-//! What several crates speak of: sizes of accesses, faults and their causes, the numbers and names of special registers, where RAM
-//! lies, and the object types that are reserved.
+//! What several crates speak of: sizes of accesses, instructions and capabilities, faults and their causes, the numbers and names of
+//! special registers, where RAM lies, and the object types that are reserved.
 #![tactic(auto)]
 
 mod cause;
 mod fault;
 pub mod interrupt;
+pub mod laws;
 pub mod otype;
 pub mod ram;
 mod registers;
@@ -15,4 +16,4 @@ pub use fault::Fault;
 pub use registers::{
     CSRS, DDC_REGISTER, FIRST_SPECIAL, PCC_REGISTER, SPECIAL_REGISTERS, csr, is_csr, is_scr, scr,
 };
-pub use size::Size;
+pub use size::{CAPABILITY_BYTES, INSTRUCTION_BYTES, Size};

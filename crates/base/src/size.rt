@@ -1,6 +1,12 @@
 ghost use Rattle.std.specs.Prelude.{◌≡◌};
 ghost use Rattle.base.specs.Size.{bytes_of};
 
+/// How many bytes an instruction has; its address is a multiple of them.
+pub const INSTRUCTION_BYTES: u64 = 4;
+
+/// How many bytes a capability takes in memory.
+pub const CAPABILITY_BYTES: u64 = 16;
+
 /// How many bytes a load or a store of data moves.
 #[derive(Clone, Copy, Debug, PartialEq, Eq, Hash)]
 pub enum Size {

@@ -37,11 +37,6 @@ pub rounded_top-near : (base top : ℕ) → rounded_top base top < top + 2 ^ 55
 unfolding rounded_top
 rounded_top-near base top = omega (arith, rounding_granule-positive base top, rounding_granule-high base top)
 
--- and below
-pub rounded_base-near : (base top : ℕ) → base < rounded_base base top + 2 ^ 55
-unfolding rounded_base
-rounded_base-near base top = omega (arith, rounding_granule-positive base top, rounding_granule-high base top)
-
 -- the exponent that stands in a word is the one that it was encoded with
 exponent_of-encoded_at : (e : ℕ) (ie : Bool) (r : Record) → e ≤ 52 → (ie ≡ false → e ≡ 0) → r.otype < 2 ^ 18 → r.address < 2 ^ 64
     → exponent_of (encoded_at e ie r) ≡ e

@@ -1,6 +1,6 @@
 //! The text of a request: its lines in order.
 
-ghost use Rattle.std.specs.Prelude.{◌≡◌, ◌+◌, ◌-◌, ◌%◌, ◌^◌, ◌<◌, ◌≤◌, ◌++◌, true, false, length as bytes_of};
+ghost use Rattle.std.specs.Prelude.{◌≡◌, ◌+◌, ◌-◌, ◌%◌, ◌^◌, ◌<◌, ◌≤◌, ◌++◌, true, length as bytes_of};
 ghost use Rattle.arrayvec.specs.ArrayString.{array_string_len};
 ghost use Rattle.cap_bounds.specs.CapValue.{is_tagged, value_base, value_top};
 ghost use Rattle.cap_bounds.specs.Rounding.{is_exact, rounded_base, rounded_top, rounding_exponent};

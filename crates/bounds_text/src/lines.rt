@@ -1,6 +1,6 @@
 //! The lines of the text, at most 80 bytes each.
 
-ghost use Rattle.std.specs.Prelude.{◌≡◌, ◌+◌, ◌-◌, ◌/◌, ◌%◌, ◌^◌, ◌<◌, ◌≤◌, ◌++◌, length, codes, decimal, false};
+ghost use Rattle.std.specs.Prelude.{◌≡◌, ◌+◌, ◌^◌, ◌<◌, ◌≤◌, ◌++◌, length, codes};
 ghost use Rattle.arrayvec.specs.ArrayString.{array_string_len};
 ghost use Rattle.disassembler.specs.Hex.{hex_of};
 ghost use Rattle.bounds_text.specs.BoundsText.{added_line, bounds_line, cram_line, crrl_line, exact_line, granule_line};

@@ -3,7 +3,7 @@
 ghost use Rattle.std.specs.Prelude.{◌≡◌, ◌+◌, ◌-◌, ◌%◌, ◌^◌, ◌<◌, ◌≤◌, false, IsTrue};
 ghost use Rattle.cap_bounds.specs.CapValue.{is_tagged, value_top};
 ghost use Rattle.cap_bounds.specs.Root.{root};
-ghost use Rattle.cap_bounds.specs.Rounding.{is_exact, rounded_base, rounded_top, rounding_exponent, rounding_granule};
+ghost use Rattle.cap_bounds.specs.Rounding.{is_exact, rounded_top, rounding_exponent, rounding_granule};
 ghost use Rattle.cap_bounds.specs.SetBounds.{HasRoundedBounds};
 ghost use Rattle.cap_insns.specs.CapabilityRows.{alignment_mask, representable_length};
 ghost use Rattle.bounds_text.specs.BoundsText.{set};

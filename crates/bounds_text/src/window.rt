@@ -1,8 +1,7 @@
 //! The window of bounds, and the columns that it is cut into.
 
 ghost use Rattle.std.specs.Prelude.{◌≡◌, ◌+◌, ◌-◌, ◌*◌, ◌/◌, ◌%◌, ◌^◌, ◌<◌, ◌≤◌, nat_le};
-ghost use Rattle.cap_bounds.specs.Record.{is_in_window};
-ghost use Rattle.bounds_text.specs.WindowEnds.{window_first, window_last, window_place, window_size};
+ghost use Rattle.bounds_text.specs.WindowEnds.{window_first, window_last, window_size};
 ghost use Rattle.bounds_text.specs.Picture.{column_size};
 
 /// The window of some bounds.

@@ -1,9 +1,6 @@
-use base::{Cause, CheriCause, Size};
+use base::{CAPABILITY_BYTES, Cause, CheriCause, Size};
 use cap_bounds::CapRep;
 use cap_rights::{Permission, permits};
-
-/// How many bytes a load or a store of a capability moves.
-const CAPABILITY_BYTES: u64 = 16;
 
 /// What is stored where a capability may be.
 #[derive(Clone, Copy, Debug, PartialEq, Eq)]

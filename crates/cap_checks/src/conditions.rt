@@ -12,9 +12,6 @@ use base::{CheriCause, Fault, otype};
 use cap_bounds::CapRep;
 use cap_rights::{Permission, permits};
 
-/// How many bytes an instruction has; its address is a multiple of them.
-pub(crate) const INSTRUCTION_BYTES: u64 = 4;
-
 /// Reports the fault unless the condition holds.
 #[inline(always)]
 pub(crate) fn check(condition: bool, fault: Fault) -> Result<(), Fault>

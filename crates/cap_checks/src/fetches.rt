@@ -2,10 +2,8 @@ ghost use Rattle.std.specs.Prelude.{◌≡◌, None, Some, IfOk, IfErr, OnOk};
 ghost use Rattle.cap_bounds.specs.CapValue.{value_address};
 ghost use Rattle.cap_checks.specs.FirstFault.{fetch_fault};
 
-use crate::conditions::{
-    INSTRUCTION_BYTES, check, check_bounds, check_permission, check_tag, is_sealed,
-};
-use base::{CheriCause, Fault, PCC_REGISTER};
+use crate::conditions::{check, check_bounds, check_permission, check_tag, is_sealed};
+use base::{CheriCause, Fault, INSTRUCTION_BYTES, PCC_REGISTER};
 use cap_bounds::CapRep;
 use cap_rights::Permission;
 

@@ -7,10 +7,8 @@ ghost use Rattle.cap_checks.specs.FirstFault.{target_fault, jump_fault, invoke_t
 ghost use Rattle.cap_checks.specs.FirstFault as spec;
 ghost use Rattle.base.specs.ObjectType.{is_reserved};
 
-use crate::conditions::{
-    INSTRUCTION_BYTES, check, check_bounds, check_permission, check_tag, is_sealed,
-};
-use base::{Cause, CheriCause, Fault, PCC_REGISTER, otype};
+use crate::conditions::{check, check_bounds, check_permission, check_tag, is_sealed};
+use base::{Cause, CheriCause, Fault, INSTRUCTION_BYTES, PCC_REGISTER, otype};
 use cap_bounds::CapRep;
 use cap_rights::{OType, Permission, permits};
 

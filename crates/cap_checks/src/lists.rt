@@ -6,9 +6,9 @@ ghost use Rattle.cap_checks.specs.FirstFault as spec;
 ghost use Rattle.cap_rights.specs.Permission.{permits};
 
 use crate::access::Access;
-use crate::conditions::{INSTRUCTION_BYTES, is_sealed};
+use crate::conditions::is_sealed;
 use crate::jumps::{is_entered_sealed, jump_target, misaligned};
-use base::{CheriCause, Fault, PCC_REGISTER};
+use base::{CheriCause, Fault, INSTRUCTION_BYTES, PCC_REGISTER};
 use cap_bounds::CapRep;
 use cap_rights::{OType, Permission, permits};
 

@@ -18,10 +18,7 @@ use Rattle.cap_rights.specs.ObjectType.{signed_type}
 use Rattle.cap_rights.specs.Perms.{hardware_view, perms_in_view}
 use Rattle.isa_rows.specs.declared.operands.Insn.{Insn}
 use Rattle.isa_rows.specs.declared.rows.Row.{Row}
-use Rattle.isa_rows.specs.declared.rows.Row.TheVariants.{CIncOffsetImm, CSetBoundsImm, CSetBounds, CSetBoundsExact, CSeal, CUnseal}
-use Rattle.isa_rows.specs.declared.rows.Row.TheVariants.{CAndPerm, CSetFlags, CSetOffset, CSetAddr, CIncOffset, CSub, CTestSubset}
-use Rattle.isa_rows.specs.declared.rows.Row.TheVariants.{CSetEqualExact, CGetPerm, CGetType, CGetBase, CGetLen, CGetTag, CGetSealed}
-use Rattle.isa_rows.specs.declared.rows.Row.TheVariants.{CGetOffset, CGetFlags, Crrl, Cram, CMove, CClearTag, CGetAddr, CSealEntry}
+use Rattle.isa_rows.specs.declared.rows.Row.TheVariants as row
 use Rattle.cap_insns.specs.CapabilityRows.{length_of, representable_length, alignment_mask, with_exact_bounds, outer_of, row_value}
 
 -- ---- numbers
@@ -66,40 +63,43 @@ unfolding with_exact_bounds
 IsSound-with_exact_bounds v length sound short = IsSound-tagged_if (bounds_exact v length) (with_bounds v length)
     (IsSound-with_bounds v length sound short)
 
-pub IsSound-row_value : (row : Row) (insn : Insn) (cs1 cs2 ddc : CapValue) → insn.imm < 2 ^ 64 → IsSound cs1 → IsSound cs2
-    → IsSound (row_value row insn cs1 cs2 ddc)
+pub IsSound-row_value : (r : Row) (insn : Insn) (cs1 cs2 ddc : CapValue) → insn.imm < 2 ^ 64 → IsSound cs1 → IsSound cs2
+    → IsSound (row_value r insn cs1 cs2 ddc)
 unfolding row_value
-IsSound-row_value CIncOffsetImm insn cs1 cs2 ddc fits one two = IsSound-at_address cs1 _ one (modulo-below (value_address cs1 + insn.imm))
-IsSound-row_value CSetBoundsImm insn cs1 cs2 ddc fits one two = IsSound-with_bounds cs1 insn.imm one fits
-IsSound-row_value CSetBounds insn cs1 cs2 ddc fits one two = IsSound-with_bounds cs1 (value_address cs2) one (value_address-below cs2 two)
-IsSound-row_value CSetBoundsExact insn cs1 cs2 ddc fits one two = IsSound-with_exact_bounds cs1 (value_address cs2) one
+IsSound-row_value row.CIncOffsetImm insn cs1 cs2 ddc fits one two =
+    IsSound-at_address cs1 _ one (modulo-below (value_address cs1 + insn.imm))
+IsSound-row_value row.CSetBoundsImm insn cs1 cs2 ddc fits one two = IsSound-with_bounds cs1 insn.imm one fits
+IsSound-row_value row.CSetBounds insn cs1 cs2 ddc fits one two =
+    IsSound-with_bounds cs1 (value_address cs2) one (value_address-below cs2 two)
+IsSound-row_value row.CSetBoundsExact insn cs1 cs2 ddc fits one two = IsSound-with_exact_bounds cs1 (value_address cs2) one
     (value_address-below cs2 two)
-IsSound-row_value CSeal insn cs1 cs2 ddc fits one two = IsSound-seal cs1 cs2 one
-IsSound-row_value CUnseal insn cs1 cs2 ddc fits one two = IsSound-unseal cs1 cs2 one
-IsSound-row_value CAndPerm insn cs1 cs2 ddc fits one two = IsSound-and_perms cs1 (perms_in_view (value_address cs2)) one
-IsSound-row_value CSetFlags insn cs1 cs2 ddc fits one two = IsSound-set_flags cs1 (eqb (value_address cs2 % 2) 1) one
-IsSound-row_value CSetOffset insn cs1 cs2 ddc fits one two = IsSound-at_address cs1 _ one
+IsSound-row_value row.CSeal insn cs1 cs2 ddc fits one two = IsSound-seal cs1 cs2 one
+IsSound-row_value row.CUnseal insn cs1 cs2 ddc fits one two = IsSound-unseal cs1 cs2 one
+IsSound-row_value row.CAndPerm insn cs1 cs2 ddc fits one two = IsSound-and_perms cs1 (perms_in_view (value_address cs2)) one
+IsSound-row_value row.CSetFlags insn cs1 cs2 ddc fits one two = IsSound-set_flags cs1 (eqb (value_address cs2 % 2) 1) one
+IsSound-row_value row.CSetOffset insn cs1 cs2 ddc fits one two = IsSound-at_address cs1 _ one
     (modulo-below (value_base cs1 + value_address cs2))
-IsSound-row_value CSetAddr insn cs1 cs2 ddc fits one two = IsSound-at_address cs1 _ one (value_address-below cs2 two)
-IsSound-row_value CIncOffset insn cs1 cs2 ddc fits one two = IsSound-at_address cs1 _ one
+IsSound-row_value row.CSetAddr insn cs1 cs2 ddc fits one two = IsSound-at_address cs1 _ one (value_address-below cs2 two)
+IsSound-row_value row.CIncOffset insn cs1 cs2 ddc fits one two = IsSound-at_address cs1 _ one
     (modulo-below (value_address cs1 + value_address cs2))
-IsSound-row_value CSub insn cs1 cs2 ddc fits one two = IsSound-integer _ (modulo-below (value_address cs1 + 2 ^ 64 - value_address cs2))
-IsSound-row_value CTestSubset insn cs1 cs2 ddc fits one two = truth (subset (outer_of insn.rs1 cs1 ddc) cs2)
-IsSound-row_value CSetEqualExact insn cs1 cs2 ddc fits one two = truth (equal_exact cs1 cs2)
-IsSound-row_value CGetPerm insn cs1 cs2 ddc fits one two = IsSound-integer _
+IsSound-row_value row.CSub insn cs1 cs2 ddc fits one two = IsSound-integer _ (modulo-below (value_address cs1 + 2 ^ 64 - value_address cs2))
+IsSound-row_value row.CTestSubset insn cs1 cs2 ddc fits one two = truth (subset (outer_of insn.rs1 cs1 ddc) cs2)
+IsSound-row_value row.CSetEqualExact insn cs1 cs2 ddc fits one two = truth (equal_exact cs1 cs2)
+IsSound-row_value row.CGetPerm insn cs1 cs2 ddc fits one two = IsSound-integer _
     (hardware_view-below (value_perms cs1) (value_perms-below cs1 one))
-IsSound-row_value CGetType insn cs1 cs2 ddc fits one two = IsSound-integer _
+IsSound-row_value row.CGetType insn cs1 cs2 ddc fits one two = IsSound-integer _
     (signed_type-below (value_otype cs1) (value_otype-below cs1 one))
-IsSound-row_value CGetBase insn cs1 cs2 ddc fits one two = IsSound-integer _ (value_base-below cs1 one)
-IsSound-row_value CGetLen insn cs1 cs2 ddc fits one two = IsSound-integer _ (length_of-below cs1)
-IsSound-row_value CGetTag insn cs1 cs2 ddc fits one two = truth (is_tagged cs1)
-IsSound-row_value CGetSealed insn cs1 cs2 ddc fits one two = truth (is_sealed cs1)
-IsSound-row_value CGetOffset insn cs1 cs2 ddc fits one two = IsSound-integer _ (modulo-below (value_address cs1 + 2 ^ 64 - value_base cs1))
-IsSound-row_value CGetFlags insn cs1 cs2 ddc fits one two = truth (value_flag cs1)
-IsSound-row_value Crrl insn cs1 cs2 ddc fits one two = IsSound-integer _ (representable_length-below (value_address cs1))
-IsSound-row_value Cram insn cs1 cs2 ddc fits one two = IsSound-integer _ (alignment_mask-below (value_address cs1))
-IsSound-row_value CMove insn cs1 cs2 ddc fits one two = one
-IsSound-row_value CClearTag insn cs1 cs2 ddc fits one two = word_of-below cs1 one
-IsSound-row_value CGetAddr insn cs1 cs2 ddc fits one two = IsSound-integer _ (value_address-below cs1 one)
-IsSound-row_value CSealEntry insn cs1 cs2 ddc fits one two = IsSound-seal_entry cs1 one
+IsSound-row_value row.CGetBase insn cs1 cs2 ddc fits one two = IsSound-integer _ (value_base-below cs1 one)
+IsSound-row_value row.CGetLen insn cs1 cs2 ddc fits one two = IsSound-integer _ (length_of-below cs1)
+IsSound-row_value row.CGetTag insn cs1 cs2 ddc fits one two = truth (is_tagged cs1)
+IsSound-row_value row.CGetSealed insn cs1 cs2 ddc fits one two = truth (is_sealed cs1)
+IsSound-row_value row.CGetOffset insn cs1 cs2 ddc fits one two =
+    IsSound-integer _ (modulo-below (value_address cs1 + 2 ^ 64 - value_base cs1))
+IsSound-row_value row.CGetFlags insn cs1 cs2 ddc fits one two = truth (value_flag cs1)
+IsSound-row_value row.Crrl insn cs1 cs2 ddc fits one two = IsSound-integer _ (representable_length-below (value_address cs1))
+IsSound-row_value row.Cram insn cs1 cs2 ddc fits one two = IsSound-integer _ (alignment_mask-below (value_address cs1))
+IsSound-row_value row.CMove insn cs1 cs2 ddc fits one two = one
+IsSound-row_value row.CClearTag insn cs1 cs2 ddc fits one two = word_of-below cs1 one
+IsSound-row_value row.CGetAddr insn cs1 cs2 ddc fits one two = IsSound-integer _ (value_address-below cs1 one)
+IsSound-row_value row.CSealEntry insn cs1 cs2 ddc fits one two = IsSound-seal_entry cs1 one
 IsSound-row_value _ insn cs1 cs2 ddc fits one two = one

@@ -1,6 +1,6 @@
 //! The steps that derivations are made of: one field replaced, and the tag kept or lost.
 
-ghost use Rattle.std.specs.Prelude.{◌≡◌, ◌+◌, ◌^◌, ◌<◌};
+ghost use Rattle.std.specs.Prelude.{◌≡◌, ◌<◌};
 ghost use Rattle.cap_bounds.specs.CapValue.{is_sealed};
 ghost use Rattle.cap_rights.specs.Opened.{with_type};
 ghost use Rattle.cap_rights.specs.Derivations.{tagged_if, with_perms, with_flag, address_in_bounds};

@@ -1,6 +1,5 @@
 //! Programs on a grid of schedules: steps many at once, as a run on a schedule does them, against the same events one at a time.
 
-ghost use Rattle.std.specs.Prelude.{◌≡◌};
 ghost use Rattle.sim_run.specs.Schedule.{IsInRange};
 
 use crate::case::CaseError;

@@ -1,10 +1,8 @@
 //! Values as texts, as cases have them.
 
 use cap_bounds::CapRep;
+use cap_format::CapWord;
 use std::alloc::AllocError;
-
-/// The high half of a null capability's word.
-const NULL_HIGH: u64 = 0x1fff_fc01_8004;
 
 /// Puts bytes behind a text: two digits each, or `-` where there are none.
 pub(crate) fn put_bytes(text: &mut String, bytes: &[u8]) -> Result<(), AllocError> {
@@ -38,7 +36,7 @@ pub(crate) fn put_granule(text: &mut String, bytes: [u8; 16], tag: bool) -> Resu
 /// permissions, flag and type.
 pub(crate) fn put_value<C: CapRep>(text: &mut String, value: C) -> Result<(), AllocError> {
     let (high, address) = halves(value);
-    if high == NULL_HIGH && !value.tag() {
+    if u128::from(high) == CapWord::NULL.logical() >> 64 && !value.tag() {
         return write!(text, "{address:x}");
     }
     let tag = u8::from(value.tag());

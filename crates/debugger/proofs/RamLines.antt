@@ -1,5 +1,5 @@
 -- The lines of bytes and of words are the first line and those behind it.
-use Rattle.std.proofs.Common.{◌≡◌, ℕ, zero, suc, ◌+◌, ◌-◌, ◌<◌, ◌≤◌, Bool, List, [], ◌++◌, length, take, drop, refl, ap, sym, ◌∙◌}
+use Rattle.std.proofs.Common.{◌≡◌, ℕ, zero, suc, ◌+◌, ◌-◌, ◌<◌, ◌≤◌, Bool, List, ◌++◌, length, take, drop, refl, ap, sym, ◌∙◌}
 use Rattle.std.proofs.Common.{append_assoc, arith}
 use Rattle.std.specs.Prelude.{◌==◌, false}
 use Rattle.std.proofs.lemmas.Bool.Decides.{nat_tests}
@@ -27,10 +27,6 @@ word_step mode m (suc n) address some = rw (less_one n) refl
 joined : (old mid new one others all : List ℕ) → all ≡ one ++ others → mid ≡ old ++ one → new ≡ mid ++ others → new ≡ old ++ all
 joined old mid new one others all whole first rest =
     rest ∙ ap (λ text. text ++ others) first ∙ append_assoc old one others ∙ ap (λ lines. old ++ lines) (sym whole)
-
-pub no_byte_lines : (n address : ℕ) (bytes : List ℕ) → length bytes ≡ 0 → byte_lines n address bytes ≡ []
-no_byte_lines zero address bytes h = refl
-no_byte_lines (suc n) address bytes h = rw h refl
 
 pub byte_lines_from : (n address : ℕ) (bytes line rest old mid new : List ℕ) → 0 < length bytes → length bytes ≤ n
     → line ≡ take 16 bytes → rest ≡ drop 16 bytes

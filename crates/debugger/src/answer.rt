@@ -1,5 +1,5 @@
 //! The replies to commands.
-ghost use Rattle.std.specs.Prelude.{◌≡◌, ◌<◌, ◌≤◌, ◌*◌, ◌%◌, false, IfOk, IfErr, OnOk, OnErr};
+ghost use Rattle.std.specs.Prelude.{◌≡◌, ◌<◌, ◌*◌, ◌%◌, false, IfOk, IfErr, OnOk, OnErr};
 ghost use Rattle.cap_bounds.specs.CapValue.{value_flag};
 ghost use Rattle.special_regs.specs.Scrs.{scr_value};
 ghost use Rattle.machine.specs.Run.{run_after};

@@ -1,6 +1,5 @@
 //! Commands as they are written.
-ghost use Rattle.std.specs.Prelude.{◌≡◌, ℕ, ◌≤◌, ◌<◌, ◌%◌, IfOk, IfSome, nat_eq, codes, option_map};
-ghost use Rattle.std.specs.Cmp.Lexicographic.{pointwise};
+ghost use Rattle.std.specs.Prelude.{◌≡◌, ℕ, ◌≤◌, ◌<◌, ◌%◌, IfOk, IfSome};
 ghost use Rattle.asm_names.specs.Registers.{register_named};
 ghost use Rattle.debugger.specs.Command.{Command as Written, step, tick, byte, until, reg, regs, mem, dis, help, words_of, number_between};
 ghost use Rattle.debugger.specs.Command.{read_number, address_in};

@@ -1,10 +1,9 @@
 //! Bytes and words of RAM as lines of text.
-ghost use Rattle.std.specs.Prelude.{◌≡◌, ◌+◌, ◌-◌, ◌*◌, ◌/◌, ◌%◌, ◌^◌, ◌<◌, ◌≤◌, ◌++◌, [], ◌∷◌, IsTrue, IfOk, OnOk, string_bytes, length};
+ghost use Rattle.std.specs.Prelude.{◌≡◌, ◌+◌, ◌-◌, ◌*◌, ◌%◌, ◌^◌, ◌<◌, ◌≤◌, ◌++◌, [], ◌∷◌, IsTrue, IfOk, OnOk, string_bytes, length};
 ghost use Rattle.std.specs.Prelude.{take, drop};
 ghost use Rattle.std.specs.List.{flat_map};
 ghost use Rattle.base.specs.Ram.{ram_base};
 ghost use Rattle.tagged_memory.specs.Memory.{is_in_ram, bytes_at, number_at};
-ghost use Rattle.disassembler.specs.Hex.{hex_of};
 ghost use Rattle.disassembler.specs.Shown.{word_line as word_line_of};
 ghost use Rattle.debugger.specs.Reply.{byte_line, byte_lines, word_lines};
 ghost use Rattle.debugger.specs.Lines.{spaced};
@@ -133,10 +132,7 @@ fn word_at(memory: &Memory, address: u64) -> u32
     requires high { address + 4 ≤ ram_base + length memory.now.bytes }
     ensures { result ≡ number_at memory.now address 4 }
 {
-    match memory.read(address, Size::Word) {
-        Ok(word) => word as u32,
-        Err(_) => unreachable!(),
-    }
+    memory.load(address, Size::Word) as u32
 }
 
 /// Puts a line behind a text: an address, a word, and its text in a mode.

@@ -1,5 +1,5 @@
 //! Values as lines of text.
-ghost use Rattle.std.specs.Prelude.{◌≡◌, ◌++◌, OnOk, string_bytes, codes};
+ghost use Rattle.std.specs.Prelude.{◌≡◌, ◌++◌, OnOk, string_bytes};
 ghost use Rattle.effect_texts.specs.ValueText.{value_line};
 
 use crate::text::put;

@@ -71,6 +71,10 @@ shown_found mode word None = codes ".word 0x" ++ hex_of 8 word
 abbrev pub shown_word : Bool → ℕ → List ℕ
 shown_word mode word = shown_found mode word (insn_of word)
 
+-- a line of a listing for a byte that is no part of a word
+abbrev pub byte_line : ℕ → ℕ → List ℕ
+byte_line address byte = hex_of 16 address ++ codes " .byte 0x" ++ hex_of 2 byte ++ codes "\n"
+
 -- a line of a listing: an address, the word there, and its text in a mode
 abbrev pub word_line : Bool → ℕ → ℕ → List ℕ
 word_line mode address word = hex_of 16 address ++ codes " " ++ hex_of 8 word ++ codes " " ++ shown_word mode word ++ codes "\n"

@@ -1,7 +1,7 @@
 ghost use Rattle.std.specs.Prelude.{◌≡◌, ◌++◌, codes};
 ghost use Rattle.isa_rows.specs.declared.operands.Insn.{Insn};
 ghost use Rattle.disassembler.specs.Hex.{hex_of};
-ghost use Rattle.disassembler.specs.Shown.{shown_insn, shown_word, word_line as word_line_of};
+ghost use Rattle.disassembler.specs.Shown.{byte_line as byte_line_of, shown_insn, shown_word, word_line as word_line_of};
 ghost use Rattle.disassembler.specs.Widths.{HasRegisters};
 
 use crate::hex::hex_digits;
@@ -33,6 +33,18 @@ pub fn word_line(address: u64, word: u32, mode: bool) -> ArrayString<96>
     line.push_str(hex_digits(u128::from(word), 8).as_str());
     line.push_str(" ");
     line.push_str(disassemble(word, mode).as_str());
+    line.push_str("\n");
+    line
+}
+
+/// A line of a listing for a byte that is no part of a word: 16 digits of its address, and its value in two.
+pub fn byte_line(address: u64, byte: u8) -> ArrayString<32>
+    ensures { result.bytes ≡ byte_line_of address byte }
+{
+    let mut line = ArrayString::new();
+    line.push_str(hex_digits(u128::from(address), 16).as_str());
+    line.push_str(" .byte 0x");
+    line.push_str(hex_digits(u128::from(byte), 2).as_str());
     line.push_str("\n");
     line
 }

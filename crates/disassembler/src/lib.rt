@@ -5,5 +5,5 @@ mod disassembling;
 mod hex;
 mod operands;
 
-pub use disassembling::{disassemble, word_line};
+pub use disassembling::{byte_line, disassemble, word_line};
 pub use hex::hex_digits;

@@ -1,15 +1,13 @@
 //! A line of a trace.
-ghost use Rattle.std.specs.Prelude.{◌≡◌, ◌+◌, ◌<◌, ◌≤◌, ◌++◌, length, decimal};
+ghost use Rattle.std.specs.Prelude.{◌≡◌, ◌+◌, ◌<◌, ◌≤◌, ◌++◌};
 ghost use Rattle.arrayvec.specs.ArrayString.{array_string_len};
-ghost use Rattle.cap_bounds.specs.CapValue.{value_flag};
-ghost use Rattle.disassembler.specs.Hex.{hex_of};
 ghost use Rattle.hart.specs.Applying.{meant};
-ghost use Rattle.hart.specs.State.{pc_of};
 ghost use Rattle.hart.specs.Step.{step_effect};
 ghost use Rattle.effect_texts.specs.TraceLine as spec;
 
 use crate::effect::effect_text;
 use arrayvec::ArrayString;
+use base::interrupt;
 use cap_bounds::CapRep;
 use disassembler::{disassemble, hex_digits};
 use hart::{Effect, Hart};
@@ -23,7 +21,7 @@ fn is_interrupt<C: CapRep>(effect: &Effect<C>) -> bool
     ensures { result ≡ spec.is_interrupt (meant C.value effect.now) }
 {
     match effect {
-        Effect::Trap(fault) => fault.mcause >= 1 << 63,
+        Effect::Trap(fault) => fault.mcause >= interrupt::CAUSE,
         _ => false,
     }
 }

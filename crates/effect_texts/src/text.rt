@@ -1,5 +1,5 @@
 //! A text of one line that takes no memory, and what is put behind it.
-ghost use Rattle.std.specs.Prelude.{◌≡◌, ◌+◌, ◌<◌, ◌≤◌, [], ◌++◌, length, codes};
+ghost use Rattle.std.specs.Prelude.{◌≡◌, ◌+◌, ◌<◌, ◌≤◌, ◌++◌, length};
 ghost use Rattle.arrayvec.specs.ArrayString.{array_string_len};
 ghost use Rattle.disassembler.specs.Hex.{hex_of};
 ghost use Rattle.effect_texts.specs.ValueText.{shown_value};

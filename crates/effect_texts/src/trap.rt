@@ -5,7 +5,7 @@ ghost use Rattle.trap_texts.specs.Names.{cause_name as cause_name_of};
 ghost use Rattle.effect_texts.specs.EffectText.{cause_part, taken, trap_entry, violation_part};
 
 use crate::text::{Text, put_hex};
-use base::{Cause, Fault};
+use base::{Cause, Fault, interrupt};
 use trap_texts::{cause_name, cheri_cause_name, register_at_fault};
 
 /// Puts a cause's name, where it has one, behind a text.
@@ -52,7 +52,11 @@ fn put_taken(text: &mut Text, mcause: u64)
     ensures text { text.new.bytes ≡ text.old.bytes ++ taken mcause }
     ensures within { array_string_len text.new ≤ array_string_len text.old + 5 }
 {
-    text.push_str(if mcause < 1 << 63 { "trap " } else { "take " });
+    text.push_str(if mcause < interrupt::CAUSE {
+        "trap "
+    } else {
+        "take "
+    });
 }
 
 /// Puts a trap behind a text.

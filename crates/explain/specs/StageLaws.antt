@@ -1,5 +1,5 @@
 -- The step traps by the first false condition of its stages.
-use Rattle.std.proofs.Common.{◌≡◌, ℕ, Bool, true, false, cond, not, ◌&&◌, ◌||◌, eqb, List, [], ◌∷◌, ◌++◌, map, Option, Some, None, refl}
+use Rattle.std.proofs.Common.{◌≡◌, ℕ, Bool, true, false, cond, not, ◌&&◌, ◌||◌, eqb, List, [], ◌∷◌, ◌++◌, Option, Some, None, refl}
 use Rattle.std.proofs.Common.{sym, ap, ◌∙◌}
 use Rattle.std.specs.Prelude.{is_none, IsSome, Result, Ok, Err}
 use Rattle.std.specs.Option.{option_or}
@@ -16,7 +16,7 @@ use Rattle.cap_bounds.specs.CapValue.{CapValue, integer}
 use Rattle.cap_checks.specs.Access.{stored_of}
 use Rattle.cap_checks.specs.declared.access.Access.TheVariants as access
 use Rattle.cap_checks.specs.FirstFault.{access_checks, access_fault, fetch_checks, fetch_fault, target_checks, target_fault, jump_checks}
-use Rattle.cap_checks.specs.FirstFault.{jump_fault, invoke_checks, invoke_fault, jump_target, invoke_target}
+use Rattle.cap_checks.specs.FirstFault.{jump_fault, invoke_checks, invoke_fault, jump_target}
 use Rattle.tagged_memory.specs.Memory.{is_in_ram, number_at}
 use Rattle.devices.specs.Devices.{read_fault, write_fault, interrupts_of}
 use Rattle.devices.specs.declared.fault.DeviceFault.{DeviceFault}
@@ -52,8 +52,8 @@ use Rattle.hart.specs.MemoryRows.{store_capability_effect}
 use Rattle.hart.specs.SystemRows.{csr_number, csr_source, csr_writes, csr_new, csr_done, csr_effect, special_done, special_effect}
 use Rattle.hart.specs.SystemRows.{return_effect}
 use Rattle.hart.specs.Step.{kind_effect, fetched, fetch, decoded_effect, fetched_effect, decided, step_effect}
-use Rattle.explain.specs.Stages.{Stage, ram_condition, fetch_stage, decode_stage, access_stage, pair_stage, target_stage}
-use Rattle.explain.specs.Stages.{jump_stage, invoke_stage, branch_stages}
+use Rattle.explain.specs.Stages.{ram_condition, fetch_stage, decode_stage, access_stage, pair_stage, target_stage}
+use Rattle.explain.specs.Stages.{jump_stage, invoke_stage}
 use Rattle.explain.specs.Stages.{jalr_stage, load_condition, store_condition, capability_load_condition, capability_store_condition}
 use Rattle.explain.specs.Stages.{load_stage, store_stage, capability_load_stage, capability_store_stage, csr_stage, special_stage}
 use Rattle.explain.specs.Stages.{return_stage, refusal_fault, refusal_conditions, kind_stages, decoded_stages, fetched_stages}

@@ -1,6 +1,6 @@
 -- What the next step will do, and why, as a text: the instruction's line, its stages with the conditions up to the first false one, and
 -- its effect.
-use Rattle.std.specs.Prelude.{ℕ, ◌/◌, ◌%◌, Bool, true, false, not, ◌&&◌, ◌||◌, ◌==◌, if◌then◌else◌, List, [], ◌∷◌, ◌++◌, flat_map, Option}
+use Rattle.std.specs.Prelude.{ℕ, ◌/◌, ◌%◌, Bool, true, not, ◌&&◌, ◌||◌, ◌==◌, if◌then◌else◌, List, [], ◌∷◌, ◌++◌, flat_map, Option}
 use Rattle.std.specs.Prelude.{Some, None, codes, decimal}
 use Rattle.base.specs.declared.fault.Fault.{Fault}
 use Rattle.base.specs.declared.cause.Cause.TheVariants as cause
@@ -12,7 +12,7 @@ use Rattle.cap_bounds.specs.CapValue.{CapValue, value_base, value_top, value_fla
 use Rattle.cap_checks.specs.Access.{width_of, stores_capability, stores_local, misaligned}
 use Rattle.cap_checks.specs.declared.access.Access.{Access as Asked}
 use Rattle.cap_checks.specs.declared.access.Access.TheVariants as access
-use Rattle.tagged_memory.specs.Memory.{Memory, is_in_ram, number_at}
+use Rattle.tagged_memory.specs.Memory.{is_in_ram, number_at}
 use Rattle.disassembler.specs.Hex.{hex_of}
 use Rattle.disassembler.specs.Shown.{name_or, word_line}
 use Rattle.trap_texts.specs.Names.{cheri_asked_name, register_at_fault}

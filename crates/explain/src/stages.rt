@@ -18,7 +18,10 @@ use crate::headings::{put_heading, put_held};
 use crate::interrupts::is_interrupted;
 use crate::text::put;
 use alu::branch_taken;
-use base::{Cause, CheriCause, FIRST_SPECIAL, Fault, PCC_REGISTER, Size};
+use base::{
+    CAPABILITY_BYTES, Cause, CheriCause, FIRST_SPECIAL, Fault, INSTRUCTION_BYTES, PCC_REGISTER,
+    Size,
+};
 use cap_bounds::CapRep;
 use cap_checks::{
     Access, Condition, Stored, access_conditions, fetch_conditions, invoke_conditions,
@@ -32,12 +35,6 @@ use special_regs::{
     Condition as SystemCondition, SpecialFault, csr_conditions, return_conditions, scr_conditions,
 };
 use std::alloc::AllocError;
-
-/// How many bytes a capability takes in memory.
-const CAPABILITY_BYTES: u64 = 16;
-
-/// How many bytes an instruction has.
-pub(crate) const INSTRUCTION_BYTES: u64 = 4;
 
 /// A capability that conditions ask, and its register as mtval counts it.
 #[derive(Clone, Copy)]

@@ -3,9 +3,9 @@ ghost use Rattle.std.specs.Prelude.{◌≡◌, ◌%◌, ◌++◌, OnOk, string_b
 ghost use Rattle.tagged_memory.specs.Memory.{is_in_ram, number_at};
 ghost use Rattle.explain.specs.Text.{instruction_text, running_text, why_text};
 
-use crate::stages::{INSTRUCTION_BYTES, put_stages};
+use crate::stages::put_stages;
 use crate::text::{put, put_decimal};
-use base::Size;
+use base::{INSTRUCTION_BYTES, Size};
 use cap_bounds::CapRep;
 use disassembler::word_line;
 use effect_texts::effect_text;
@@ -20,10 +20,7 @@ fn word_at(memory: &Memory, address: u64) -> u32
     requires inside { is_in_ram memory.now address 4 ≡ true }
     ensures { result ≡ number_at memory.now address 4 }
 {
-    match memory.read(address, Size::Word) {
-        Ok(word) => word as u32,
-        Err(_) => unreachable!(),
-    }
+    memory.load(address, Size::Word) as u32
 }
 
 /// Puts the line of the instruction at PCC behind a text, where there is RAM.

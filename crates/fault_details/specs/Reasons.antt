@@ -1,5 +1,5 @@
 -- What the whole text says of a fault: the value of an operand, a name, a distance, why a place is none, a range.
-use Rattle.std.specs.Prelude.{ℕ, ◌+◌, ◌-◌, ◌^◌, ◌==◌, Bool, true, false, ◌||◌, nat_lt, if◌then◌else◌, ℤ, pos, neg_ℤ, ◌-ℤ◌, int_lt, List, []}
+use Rattle.std.specs.Prelude.{ℕ, ◌+◌, ◌-◌, ◌^◌, ◌==◌, Bool, true, false, ◌||◌, nat_lt, if◌then◌else◌, pos, neg_ℤ, ◌-ℤ◌, int_lt, List, []}
 use Rattle.std.specs.Prelude.{◌∷◌, ◌++◌, Option, Some, None, Result, Ok, Err, codes, decimal}
 use Rattle.isa_rows.specs.Line.{line_of}
 use Rattle.asm_lines.specs.declared.fault.LineFault.{LineFault}
@@ -46,6 +46,7 @@ is_value_beyond r Unknown = false
 is_value_beyond r Beyond = true
 is_value_beyond r (Known value) = int_lt value r.least || int_lt r.most value
 
+-- (a name that no line defines is A5; a value below -2 ^ 63 or from 2 ^ 64 on has no number to show)
 abbrev pub value_text : Worth → List ℕ
 value_text (Known value) = codes " is " ++ shown value
 value_text other = []
@@ -80,6 +81,7 @@ abbrev pub name_of_instruction : Instruction → List ℕ
 name_of_instruction (row i target) = name_of_expression target
 name_of_instruction (load capability rd value) = named value.name
 
+-- (no other setting, and no statement of another kind, has an expression: none has this fault)
 abbrev pub name_of_setting : Setting → List ℕ
 name_of_setting (entry e) = named e.name
 name_of_setting other = []
@@ -102,6 +104,7 @@ even_range reach = range (neg_ℤ (pos reach)) (pos (reach - 2))
 abbrev pub load_range : Range
 load_range = range (neg_ℤ (pos (2 ^ 31))) (pos (2 ^ 31 - 2049))
 
+-- (a name that no line defines is A5; what is beyond all numbers has no distance to show)
 abbrev pub distance_text : ℕ → Worth → List ℕ → Range → List ℕ
 distance_text here (Known value) opening r = shown (value -ℤ pos here) ++ bracketed opening r
 distance_text here other opening r = []
@@ -135,6 +138,7 @@ far_instruction s (row i target) = target_text s (reach_of (line_of i.row).forma
 far_instruction s (load capability rd value) =
     distance_text s.assembled.places.place (worth_of s value) (codes " bytes away (") load_range
 
+-- (no other setting has this fault)
 abbrev pub far_setting : Standing → Setting → List ℕ
 far_setting s (entry e) = entry_text (page_count s.assembled) (worth_of s e)
 far_setting s other = []

@@ -1,12 +1,12 @@
 //! What a statement is written with, by its mnemonic.
 ghost use Rattle.std.specs.Prelude.{◌≡◌, ◌++◌, codes, if◌then◌else◌, map, option_map, IfOk, OnOk};
-ghost use Rattle.asm_lines.specs.Statement.{is_word};
 ghost use Rattle.fault_details.specs.Forms.{form, form_in, forms, later_names, ranges_read, slot_name, slots_read, slots_text};
 ghost use Rattle.fault_details.specs.Forms.{is_capability, takes_text, stands_text, written_text};
 ghost use Rattle.fault_details.specs.SeenForm.{seen_form};
 ghost use Rattle.fault_details.specs.Limits.{range_of};
 
 use crate::limits::{EVERY_NUMBER, Range, range_of};
+use asm_lines::is_word;
 use asm_names::{row_named, slots_of};
 use base::ram;
 use isa_rows::{Naming, Slot};
@@ -67,12 +67,6 @@ const CAPABILITY: &'static [Range] = &[
     },
     Range { least: 0, most: 1 },
 ];
-
-fn is_word(text: &[u8], word: &str) -> bool
-    ensures { result ≡ is_word text.now word.now }
-{
-    text == word.as_bytes()
-}
 
 /// A directive with a number.
 fn number_form(ranges: &'static [Range]) -> Form

@@ -1,13 +1,13 @@
 //! The ranges of an operand's number, and the first operand whose number is out of its range.
 ghost use Rattle.std.specs.Prelude.{◌≡◌, ◌++◌, OnOk};
 ghost use Rattle.std.specs.Option.{option_copied};
-ghost use Rattle.asm_lines.specs.Line.{seen_result};
+ghost use Rattle.asm_lines.specs.Seen.{seen_result};
 ghost use Rattle.asm_lines.specs.Text.{pieces_left};
 ghost use Rattle.fault_details.specs.Limits.{beyond_in, beyond_text, bracketed, is_beyond, is_outside, natural, number_in, range_of};
 ghost use Rattle.fault_details.specs.Limits.{range_text, shown, to_most};
 
-use crate::text::{trimmed_end, up_to};
-use asm_lines::{Expression, LineFault, expression, split_piece};
+use crate::text::up_to;
+use asm_lines::{Expression, LineFault, expression, split_piece, trimmed_end};
 use isa_rows::Slot;
 use itoa::Buffer;
 use std::alloc::AllocError;

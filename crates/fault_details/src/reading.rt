@@ -13,8 +13,8 @@ use crate::limits::push_beyond;
 use crate::reasons::{
     name_of_statement, push_far, push_inexact, push_misplaced, push_value_beyond,
 };
-use crate::text::{first_word, line_at, trimmed_start, up_to};
-use asm_lines::{Class, LineFault, parse_line, run_length};
+use crate::text::{first_word, line_at, up_to};
+use asm_lines::{Class, LineFault, parse_line, run_length, trimmed_start};
 use assembler::{AsmCode, AsmFault, standing_before_fault};
 use disassembler::hex_digits;
 use itoa::Buffer;

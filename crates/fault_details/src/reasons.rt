@@ -1,26 +1,20 @@
 //! What the whole text says of a fault.
-ghost use Rattle.std.specs.Prelude.{◌≡◌, ◌++◌, ◌<◌, ◌≤◌, ◌^◌, decimal, option_map, OnOk};
 ghost use Rattle.std.specs.Option.{option_copied};
-ghost use Rattle.asm_lines.specs.Line.{seen_data, seen_expression, seen_instruction, seen_result, seen_setting, seen_statement};
-ghost use Rattle.asm_lines.specs.Operand.{wrapped};
-ghost use Rattle.asm_lines.specs.Text.{pieces_left, pieces_of};
-ghost use Rattle.assembler.specs.Values.{reach_of};
+ghost use Rattle.asm_lines.specs.Text.{pieces_left};
+ghost use Rattle.std.specs.Prelude.{◌≡◌, ◌++◌, ◌<◌, ◌≤◌, ◌^◌, decimal, option_map, OnOk};
+ghost use Rattle.asm_lines.specs.Seen.{seen_data, seen_expression, seen_instruction, seen_result, seen_setting, seen_statement};
 ghost use Rattle.disassembler.specs.Hex.{hex_of};
 ghost use Rattle.fault_details.specs.Reasons as spec;
 
 use crate::limits::{Range, push_bracketed, push_range, push_shown};
 use asm_lines::{
     Data, Directive, Expression, Instruction, LineFault, Setting, Statement, expression,
-    operand_at, split_piece,
+    first_rest, operand_at, split_piece, wrapped,
 };
-use assembler::{Misplaced, Standing, Worth};
+use assembler::{Misplaced, Standing, Worth, reach_of};
 use disassembler::hex_digits;
-use isa_rows::Format;
 use itoa::Buffer;
 use std::alloc::AllocError;
-
-/// The least number of more than 64 bits.
-const END: u128 = 1 << 64;
 
 /// What an operand is worth; nothing that is no expression is worth anything.
 fn worth_read(standing: &Standing, read: Result<Expression<'_>, LineFault>) -> Worth
@@ -29,17 +23,6 @@ fn worth_read(standing: &Standing, read: Result<Expression<'_>, LineFault>) -> W
     match read {
         Ok(expression) => standing.worth(&expression),
         Err(_) => Worth::Unknown,
-    }
-}
-
-/// A number modulo 2^64.
-fn wrapped(value: i128) -> u64
-    ensures { result ≡ wrapped value }
-{
-    if value >= 0 {
-        (value as u128 % END) as u64
-    } else {
-        u64::MAX - ((-1 - value) as u128 % END) as u64
     }
 }
 
@@ -147,17 +130,6 @@ fn unknown_in<'a>(standing: &Standing, operands: Option<&'a [u8]>) -> &'a [u8]
     }
 }
 
-/// The operands of a list, if there are some.
-fn pieces(operands: &[u8]) -> Option<&[u8]>
-    ensures { pieces_left (option_copied result) ≡ pieces_of operands.now }
-{
-    if operands.is_empty() {
-        None
-    } else {
-        Some(operands)
-    }
-}
-
 fn name_of_instruction<'a>(instruction: &Instruction<'a>) -> &'a [u8]
     ensures { result.now ≡ spec.name_of_instruction (seen_instruction instruction.now) }
 {
@@ -187,7 +159,7 @@ pub(crate) fn name_of_statement<'a>(
     match statement {
         Some(Statement::Instruction(instruction)) => name_of_instruction(instruction),
         Some(Statement::Setting(setting)) => name_of_setting(setting),
-        Some(Statement::Data(data)) => unknown_in(standing, pieces(data.text)),
+        Some(Statement::Data(data)) => unknown_in(standing, first_rest(data.text)),
         _ => &[],
     }
 }
@@ -200,17 +172,6 @@ fn even_range(reach: u32) -> Range
     Range {
         least: -i128::from(reach),
         most: i128::from(reach) - 2,
-    }
-}
-
-/// How far a branch or jal reaches.
-fn reach_of(format: Format) -> u32
-    ensures value { result ≡ reach_of format }
-    ensures some { 2 ≤ result }
-{
-    match format {
-        Format::Branch => 4096,
-        _ => 1_048_576,
     }
 }
 

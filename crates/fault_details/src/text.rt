@@ -1,6 +1,5 @@
 //! Lines of a text, and pieces of a line.
 ghost use Rattle.std.specs.Prelude.{◌≡◌};
-ghost use Rattle.asm_lines.specs.Text.{is_blank, trimmed_end, trimmed_start};
 ghost use Rattle.fault_details.specs.Detail.{behind_lines, first_word, line_at};
 ghost use Rattle.fault_details.specs.Pieces.{behind, up_to};
 
@@ -45,33 +44,9 @@ pub(crate) fn line_at(number: u64, text: &[u8]) -> &[u8]
     up_to(b'\n', behind_lines(number.saturating_sub(1), text))
 }
 
-/// A text without the white space at its beginning.
-pub(crate) fn trimmed_start(text: &[u8]) -> &[u8]
-    ensures { result.now ≡ trimmed_start text.now }
-{
-    &text[run_length(text, Class::Blank)..]
-}
-
 /// A text up to its first white space.
 pub(crate) fn first_word(text: &[u8]) -> &[u8]
     ensures { result.now ≡ first_word text.now }
 {
     &text[..run_length(text, Class::Solid)]
-}
-
-fn is_blank(byte: u8) -> bool
-    ensures { result ≡ is_blank byte }
-{
-    byte == b' ' || byte == b'\t' || byte == b'\r'
-}
-
-/// A text without the white space at its end.
-pub(crate) fn trimmed_end(text: &[u8]) -> &[u8]
-    ensures { result.now ≡ trimmed_end text.now }
-{
-    let mut end = text.len();
-    while end > 0 && is_blank(text[end - 1]) {
-        end -= 1;
-    }
-    &text[..end]
 }

@@ -1,11 +1,8 @@
 -- Loading an image's sections one after the other.
 use Rattle.std.proofs.Common.{◌≡◌, ℕ, suc, ◌+◌, ◌*◌, ◌<◌, true, List, ◌∷◌, length, get_or, drop, None}
-use Rattle.std.proofs.Common.{refl, sym, ap, subst, ◌∙◌, add-one, drop-cons}
-use Rattle.std.specs.Prelude.{IsOk, Result}
-use Rattle.base.specs.FirstFault.{unless}
+use Rattle.std.proofs.Common.{refl, sym, ap, ◌∙◌, add-one, drop-cons}
 use Rattle.tagged_memory.specs.Memory.{Memory, is_in_ram, data_written, fill_fault}
 use Rattle.tagged_memory.specs.MemoryLaws.{in_ram-from, length-data_written}
-use Rattle.tagged_memory.specs.declared.fault.MemoryFault.{MemoryFault}
 use Rattle.image.specs.Image.{Section}
 use Rattle.image.specs.ImageLaws.{AllInRam}
 use Rattle.hart.specs.Opening.{with_sections}
@@ -24,8 +21,8 @@ module _ (m : Memory) (pages : ℕ) (x : Section) (rest : List Section) (whole :
   inside = in_ram-from m x.address (length x.bytes) all.0.0 (rw whole all.0.1)
 
   -- the section's bytes fit into RAM
-  pub IsOk-fill : (r : Result (Unit {0}) MemoryFault) → r ≡ unless (fill_fault m x.address (length x.bytes)) tt → IsOk r
-  IsOk-fill r e = subst IsOk (sym (e ∙ ap (λ f. unless f tt) (no_fault m x.address (length x.bytes) inside))) refl
+  pub section-fits : fill_fault m x.address (length x.bytes) ≡ None
+  section-fits = no_fault m x.address (length x.bytes) inside
 
   pub length-with_sections : (n : Memory) → n ≡ data_written m x.address x.bytes → length n.bytes ≡ 4096 * pages
   length-with_sections n e = ap (λ k. length k.bytes) e ∙ length-data_written m x.address x.bytes inside ∙ whole

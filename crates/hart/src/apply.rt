@@ -1,6 +1,6 @@
 //! An effect applied to the state: the one place where a step changes anything.
 
-ghost use Rattle.std.specs.Prelude.{◌≡◌, ◌+◌, ◌%◌, ◌^◌, ◌<◌, None, true};
+ghost use Rattle.std.specs.Prelude.{◌≡◌, ◌+◌, ◌%◌, ◌^◌, ◌<◌, None};
 ghost use Rattle.byteorder.specs.Endian.{little_bytes};
 ghost use Rattle.base.specs.Size.{bytes_of};
 ghost use Rattle.cap_bounds.specs.CapValue.{value_address, word_of, is_tagged};

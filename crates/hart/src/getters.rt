@@ -2,7 +2,6 @@
 
 ghost use Rattle.std.specs.Prelude.{◌≡◌, ◌<◌, IsTrue, Some};
 ghost use Rattle.cap_bounds.specs.CapValue.{IsSound};
-ghost use Rattle.tagged_memory.specs.Memory.{IsMemory};
 ghost use Rattle.devices.specs.Devices.{interrupts_of};
 ghost use Rattle.base.specs.Registers.{is_scr};
 ghost use Rattle.special_regs.specs.Scrs.{IsAligned, scr_value};
@@ -15,7 +14,7 @@ ghost use Rattle.hart.specs.IsState.{IsState};
 use crate::hart::Hart;
 use cap_bounds::CapRep;
 use devices::Devices;
-use special_regs::{Scrs, held_csr};
+use special_regs::{Csrs, Scrs, held_csr};
 use tagged_memory::Memory;
 
 impl<C: CapRep> Hart<C> {
@@ -61,6 +60,15 @@ impl<C: CapRep> Hart<C> {
     {
         self.is_state();
         &self.scrs
+    }
+
+    /// The control and status registers that are stored.
+    pub fn csrs(&self) -> &Csrs
+        ensures value { result.now ≡ self.now.csrs }
+        ensures state { IsState self.now }
+    {
+        self.is_state();
+        &self.csrs
     }
 
     /// What a read of control and status register `n` gives; the register must exist.

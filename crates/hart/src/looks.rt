@@ -1,7 +1,7 @@
 //! What the hart looks at to decide an instruction's effect.
 
 ghost use Rattle.std.specs.Prelude.{◌≡◌, ◌<◌};
-ghost use Rattle.hart.specs.Applying.{meant, CanApply};
+ghost use Rattle.hart.specs.Applying.{meant};
 ghost use Rattle.hart.specs.Looks.{number_in, next_of, illegal, refused};
 
 use crate::effect::Effect;

@@ -27,7 +27,7 @@ fn loaded_memory(alloc: Global, image: &Image) -> Result<Memory, AllocError>
         return Err(AllocError);
     };
     for section in image.sections() {
-        memory.fill(section.address(), section.bytes()).unwrap();
+        memory.store_bytes(section.address(), section.bytes());
     }
     Ok(memory)
 }

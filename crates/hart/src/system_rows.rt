@@ -1,6 +1,6 @@
 //! Control and status registers, special capability registers, and the return from a trap.
 
-ghost use Rattle.std.specs.Prelude.{◌≡◌, ◌<◌, ◌%◌, ◌^◌, ◌==◌, not, Some, None, option_map};
+ghost use Rattle.std.specs.Prelude.{◌≡◌, ◌<◌, ◌%◌, ◌==◌, not, Some, None};
 ghost use Rattle.special_regs.specs.Refusals.{scr_fault};
 ghost use Rattle.hart.specs.Applying.{meant, CanApply};
 ghost use Rattle.hart.specs.Looks.{HasRegisters};

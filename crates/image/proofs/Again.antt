@@ -17,7 +17,7 @@ use Rattle.image.specs.Image.{Section, Image, IsImage, image_of, is_version, is_
 use Rattle.image.specs.Image.{capability_fault, capabilities_fault, most_capabilities_of}
 use Rattle.image.specs.Grammar.{magic, number_at, header_bytes, span_bytes, section_bytes, spelling, header_fault, header_of, header_at}
 use Rattle.image.specs.Grammar.{span_at, section_at, sections_at, capability_bytes, capabilities_bytes, capability_in, capability_at}
-use Rattle.image.specs.Grammar.{unless_more, entries_at, count_at, capabilities_at, image_at, reading}
+use Rattle.image.specs.Grammar.{entries_at, count_at, capabilities_at, image_at, reading}
 use Rattle.image.specs.ImageLaws.{no_fault_cons, in_ram, image_parts, header_ranges, few_sections, few_capabilities}
 use Rattle.image.specs.ImageLaws.{good_capability, no_capability_fault, version-small}
 

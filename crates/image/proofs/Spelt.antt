@@ -11,7 +11,7 @@ use Rattle.image.specs.declared.fault.ImageFault.{ImageFault}
 use Rattle.image.specs.declared.fault.ImageFault.TheVariants.{L9}
 use Rattle.image.specs.declared.cap_entry.CapEntry.{CapEntry}
 use Rattle.image.specs.declared.parts.Header.{Header}
-use Rattle.image.specs.Image.{Section, Image, IsImage, image_of, build_fault, mode_number}
+use Rattle.image.specs.Image.{Section, Image, IsImage, build_fault, mode_number}
 use Rattle.image.specs.ImageLaws.{IsImage-image_of, mode_again, header_ranges, build_parts}
 use Rattle.image.specs.Grammar.{◌>>=◌, AreBytes, magic, number_at, header_bytes, span_bytes, section_bytes, spelling, header_at, section_at}
 use Rattle.image.specs.Grammar.{sections_at, capability_bytes, capabilities_bytes, capability_in, capability_at, entries_at, count_at}

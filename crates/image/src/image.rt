@@ -1,6 +1,6 @@
 ghost use Rattle.std.specs.Prelude.{◌≡◌, ◌⊎◌, ◌<◌, ◌≤◌, ◌+◌, IfOk, IfNone, IfSome, None, [], length};
 ghost use Rattle.base.specs.Ram.{ram_end};
-ghost use Rattle.image.specs.Image.{IsImage, Builds, build_fault, span_fault, image_of, lent_sections, lent_section, is_good_header};
+ghost use Rattle.image.specs.Image.{IsImage, Builds, build_fault, span_fault, image_of, lent_sections, is_good_header};
 ghost use Rattle.image.specs.Image.{sections_fault, is_capability_place, capability_fault, capabilities_fault, most_pages_of};
 ghost use Rattle.image.specs.Image.{most_capabilities_of};
 ghost use Rattle.image.specs.Reads.{IsOfBytes};

@@ -1,7 +1,6 @@
 -- The listing of an image with names: labels before the words at their addresses, and the place in names behind a branch or jal.
 use Rattle.std.specs.Prelude.{ℕ, ◌+◌, ◌-◌, ◌%◌, ◌^◌, Bool, true, false, ◌==◌, nat_lt, if◌then◌else◌, List, [], ◌∷◌, ◌++◌, Option, Some}
-use Rattle.std.specs.Prelude.{None}
-use Rattle.std.specs.Prelude.{codes, decimal}
+use Rattle.std.specs.Prelude.{None, codes, decimal}
 use Rattle.std.specs.List.{flat_map}
 use Rattle.byteorder.specs.Endian.{little_number}
 use Rattle.isa_rows.specs.declared.formats.Format.{Format}
@@ -11,7 +10,7 @@ use Rattle.isa_rows.specs.Decoded.{insn_of}
 use Rattle.isa_rows.specs.Line.{line_of}
 use Rattle.image.specs.Image.{Image, Section}
 use Rattle.disassembler.specs.Hex.{hex_of}
-use Rattle.disassembler.specs.Shown.{shown_word}
+use Rattle.disassembler.specs.Shown.{byte_line, shown_word}
 use Rattle.symbols.specs.Symbols.{Symbol, name_at, nearest}
 
 -- where a branch or jal at an address leads
@@ -54,9 +53,6 @@ word_text mode address word = hex_of 16 address ++ codes " " ++ hex_of 8 word ++
 abbrev pub named_word : List Symbol → Bool → ℕ → ℕ → List ℕ
 named_word symbols mode address word =
     ((label_text (name_at symbols address) ++ word_text mode address word) ++ target_text symbols (target_of address word)) ++ codes "\n"
-
-abbrev pub byte_line : ℕ → ℕ → List ℕ
-byte_line address byte = hex_of 16 address ++ codes " .byte 0x" ++ hex_of 2 byte ++ codes "\n"
 
 abbrev pub named_byte : List Symbol → ℕ → ℕ → List ℕ
 named_byte symbols address byte = label_text (name_at symbols address) ++ byte_line address byte

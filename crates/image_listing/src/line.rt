@@ -2,13 +2,13 @@
 ghost use Rattle.std.specs.Prelude.{◌≡◌, ◌+◌, ◌≤◌, ◌++◌, length, IfSome};
 ghost use Rattle.std.specs.Option.{option_copied};
 ghost use Rattle.arrayvec.specs.ArrayVec.{array_vec_len};
-ghost use Rattle.image_listing.specs.Named.{byte_line as byte_line_of, distance_text, label_text, named_byte};
+ghost use Rattle.image_listing.specs.Named.{distance_text, label_text, named_byte};
 ghost use Rattle.image_listing.specs.Named.{named_word, place_text, target_text};
 ghost use Rattle.image_listing.specs.Named.{word_text as word_text_of};
 
 use crate::target::target_of;
 use arrayvec::{ArrayString, ArrayVec};
-use disassembler::{disassemble, hex_digits};
+use disassembler::{byte_line, disassemble, hex_digits};
 use itoa::Buffer;
 use symbols::{Symbol, Symbols};
 
@@ -111,18 +111,6 @@ pub(crate) fn word_lines(symbols: &Symbols, address: u64, word: u32, mode: bool)
     push_target(&mut lines, symbols, target_of(address, word));
     push(&mut lines, b"\n");
     lines
-}
-
-/// The line of a byte that is no part of a word: 16 digits of its address, and its value in two.
-fn byte_line(address: u64, byte: u8) -> ArrayString<32>
-    ensures { result.bytes ≡ byte_line_of address byte }
-{
-    let mut line = ArrayString::new();
-    line.push_str(hex_digits(u128::from(address), 16).as_str());
-    line.push_str(" .byte 0x");
-    line.push_str(hex_digits(u128::from(byte), 2).as_str());
-    line.push_str("\n");
-    line
 }
 
 /// The lines of a byte that is no part of a word: its label, if it has one, and the byte.

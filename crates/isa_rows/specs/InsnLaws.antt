@@ -18,11 +18,6 @@ sign_cases : (bits n : ℕ)
 unfolding sign_extended
 sign_cases bits n = grind (arith, nat_tests)
 
--- the fields of a word
-pub word-fields : (w : ℕ) → w < 2 ^ 32
-    → w ≡ w % 2 ^ 7 + field w 7 5 * 2 ^ 7 + field w 12 3 * 2 ^ 12 + field w 15 5 * 2 ^ 15 + field w 20 5 * 2 ^ 20 + field w 25 7 * 2 ^ 25
-word-fields w h = omega arith
-
 -- a word made of six fields has them
 pub fields-word : (op rd f3 rs1 rs2 f7 w : ℕ) → op < 2 ^ 7 → rd < 2 ^ 5 → f3 < 2 ^ 3 → rs1 < 2 ^ 5 → rs2 < 2 ^ 5 → f7 < 2 ^ 7
     → w ≡ op + rd * 2 ^ 7 + f3 * 2 ^ 12 + rs1 * 2 ^ 15 + rs2 * 2 ^ 20 + f7 * 2 ^ 25

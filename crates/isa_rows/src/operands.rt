@@ -1,4 +1,4 @@
-ghost use Rattle.std.specs.Prelude.{◌≡◌, ◌<◌, ◌↔◌, IsTrue};
+ghost use Rattle.std.specs.Prelude.{◌<◌, ◌↔◌, IsTrue};
 ghost use Rattle.isa_rows.specs.Insn.{Fits};
 ghost use Rattle.isa_rows.specs.Operands.{IsSignedOf, IsBranchOffset, IsJumpOffset, IsUpperImmediate, OperandsFit};
 

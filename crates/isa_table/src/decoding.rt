@@ -1,4 +1,4 @@
-ghost use Rattle.std.specs.Prelude.{◌≡◌, ◌^◌, ◌<◌, Some, IfSome, IfNone};
+ghost use Rattle.std.specs.Prelude.{◌≡◌, ◌<◌, Some, IfSome, IfNone};
 ghost use Rattle.isa_rows.specs.declared.operands.Insn.{Insn};
 ghost use Rattle.isa_rows.specs.declared.rows.Row.{Row};
 ghost use Rattle.isa_rows.specs.Insn.{IsInsn, insn_at};

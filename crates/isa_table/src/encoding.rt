@@ -1,4 +1,4 @@
-ghost use Rattle.std.specs.Prelude.{ℕ, ◌≡◌, ◌<◌, ◌≤◌, ◌^◌};
+ghost use Rattle.std.specs.Prelude.{ℕ, ◌≡◌, ◌<◌, ◌^◌};
 ghost use Rattle.base.specs.Bits.{field};
 ghost use Rattle.isa_rows.specs.Insn.{IsInsn, Fits};
 ghost use Rattle.isa_rows.specs.Operands.{OperandsFit, word_of};

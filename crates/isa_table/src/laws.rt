@@ -3,7 +3,7 @@
 ghost use Rattle.std.specs.Prelude.{ℕ, ◌≡◌, Option, Some};
 ghost use Rattle.isa_rows.specs.declared.operands.Insn.{Insn};
 ghost use Rattle.isa_rows.specs.declared.rows.Row.{Row};
-ghost use Rattle.isa_rows.specs.Insn.{IsInsn, Fits};
+ghost use Rattle.isa_rows.specs.Insn.{Fits};
 ghost use Rattle.isa_rows.specs.Line.{IsRow};
 ghost use Rattle.isa_table.specs.Inverse.{IsDecoded, IsEncoded};
 

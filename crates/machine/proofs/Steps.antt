@@ -91,11 +91,6 @@ pub BeginWithSteps-more : (n : ℕ) (es : List Event) (d : Event) → n < length
 BeginWithSteps-more n es d below begin is =
     subst (λ m. BeginWithSteps m es) (sym (add-one n)) (one_more n es d below begin is)
 
--- the first event alone
-pub take_first : (es : List Event) (d : Event) → 1 ≤ length es → take 1 es ≡ get_or es 0 d ∷ []
-take_first [] d any = absurd (not_some any)
-take_first (e ∷ es) d any = refl
-
 -- ---- a run in two parts
 
 run_after-split : (n : ℕ) (es : List Event) (s : State) → run_after (drop n es) (run_after (take n es) s) ≡ run_after es s

@@ -8,7 +8,8 @@ use Rattle.base.specs.Ram.{ram_end}
 use Rattle.image.specs.Image.{Image, Section, IsImage, mode_number}
 use Rattle.image.specs.ImageLaws.{AllInRam, AllInRam-image, image_parts, header_ranges}
 use Rattle.disassembler.specs.Shown.{word_line}
-use Rattle.sim_run.specs.Listing.{byte_line, byte_lines, lines_from}
+use Rattle.disassembler.specs.Shown.{byte_line}
+use Rattle.sim_run.specs.Listing.{byte_lines, lines_from}
 
 -- the piece of an item behind those of the items before it
 pub next_item : {X : Type 0} (f : X → List ℕ) (xs : List X) (i : ℕ) (d : X) → i < length xs

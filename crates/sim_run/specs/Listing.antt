@@ -1,14 +1,9 @@
 -- The listing of an image: each section from its first byte, in the image's mode.
-use Rattle.std.specs.Prelude.{ℕ, ◌+◌, Bool, List, [], ◌∷◌, ◌++◌, codes}
+use Rattle.std.specs.Prelude.{ℕ, ◌+◌, Bool, List, [], ◌∷◌, ◌++◌}
 use Rattle.std.specs.List.{flat_map}
 use Rattle.byteorder.specs.Endian.{little_number}
 use Rattle.image.specs.Image.{Image, Section}
-use Rattle.disassembler.specs.Hex.{hex_of}
-use Rattle.disassembler.specs.Shown.{word_line}
-
--- a byte that is no part of a word
-abbrev pub byte_line : ℕ → ℕ → List ℕ
-byte_line address byte = hex_of 16 address ++ codes " .byte 0x" ++ hex_of 2 byte ++ codes "\n"
+use Rattle.disassembler.specs.Shown.{byte_line, word_line}
 
 -- bytes from an address on, one a line
 abbrev pub byte_lines : ℕ → List ℕ → List ℕ

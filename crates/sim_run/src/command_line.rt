@@ -1,7 +1,7 @@
-ghost use Rattle.std.specs.Prelude.{◌≡◌, ◌≤◌, ◌<◌, ◌^◌, IfOk, true, false, codes};
+ghost use Rattle.std.specs.Prelude.{◌≡◌, ◌<◌, IfOk, true, false};
 ghost use Rattle.clap.specs.Words.{app_of, rule_of, with_rule};
 ghost use Rattle.clap.specs.declared.builder.command.Command.TheViews.{out-Command};
-ghost use Rattle.sim_run.specs.CommandLine.{operand, named, flag, in_range, steps_rule, gap_rule, tick_rule, with_options};
+ghost use Rattle.sim_run.specs.CommandLine.{operand, named, flag, steps_rule, gap_rule, tick_rule, with_options};
 ghost use Rattle.sim_run.specs.CommandLine.{with_schedule, with_symbols, with_layout};
 ghost use Rattle.sim_run.specs.CommandLine.{asm_command, image_command, run_command, dis_command, debug_command};
 ghost use Rattle.sim_run.specs.CommandLine.{bounds_command, making, taking, program};

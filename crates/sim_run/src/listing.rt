@@ -1,26 +1,13 @@
 //! The listing of an image.
 
-ghost use Rattle.std.specs.Prelude.{◌≡◌, ◌+◌, ◌-◌, ◌*◌, ◌/◌, ◌^◌, ◌<◌, length, take, OnOk, OnErr};
+ghost use Rattle.std.specs.Prelude.{◌+◌, ◌-◌, ◌*◌, ◌/◌, ◌^◌, ◌<◌, length, take, OnOk, OnErr};
 ghost use Rattle.std.specs.Io.KnownBytes.{Appends};
 ghost use Rattle.image.specs.Devices.{Counts, AppendsBeginning};
-ghost use Rattle.sim_run.specs.Listing.{byte_line as byte_line_of, byte_lines, lines_from, listing, section_listing};
+ghost use Rattle.sim_run.specs.Listing.{byte_lines, lines_from, listing, section_listing};
 
-use arrayvec::ArrayString;
 use byteorder::{ByteOrder, LittleEndian};
-use disassembler::{hex_digits, word_line};
+use disassembler::{byte_line, word_line};
 use image::{DeviceFailed, Image, Section, Sink, write_all};
-
-/// The line of a byte that is no part of a word: 16 digits of its address, and its value in two.
-fn byte_line(address: u64, byte: u8) -> ArrayString<32>
-    ensures { result.bytes ≡ byte_line_of address byte }
-{
-    let mut line = ArrayString::new();
-    line.push_str(hex_digits(u128::from(address), 16).as_str());
-    line.push_str(" .byte 0x");
-    line.push_str(hex_digits(u128::from(byte), 2).as_str());
-    line.push_str("\n");
-    line
-}
 
 /// Writes a line for each of the bytes that are left over.
 fn list_bytes<W: Sink>(address: u64, bytes: &[u8], sink: &mut W) -> Result<(), DeviceFailed>

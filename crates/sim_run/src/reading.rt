@@ -1,8 +1,8 @@
-ghost use Rattle.std.specs.Prelude.{◌≡◌, ◌<◌, ◌^◌, ℕ, Option, IfOk, IfNone, IfErr, OnOk, Some, None, IfSome, IsTrue, map, option_map};
+ghost use Rattle.std.specs.Prelude.{◌≡◌, ◌<◌, ◌^◌, ℕ, Option, IfOk, IfNone, IfErr, OnOk, Some, None, IfSome, map, option_map};
 ghost use Rattle.std.specs.Prelude.{codes};
 ghost use Rattle.clap.specs.Words.{found_of, rows_of, kind_of, first_of, subcommand_of, subcommand_rows_of};
 ghost use Rattle.clap.specs.declared.error.kind.ErrorKind.{ErrorKind};
-ghost use Rattle.sim_run.specs.CommandLine.{program, IsSound, IsTaken, IsNumber, IsNatural, IsFile, IsLayoutOf, IsPlanOf, IsPlanOfCommand};
+ghost use Rattle.sim_run.specs.CommandLine.{program, IsSound, IsTaken, IsNumber, IsNatural, IsLayoutOf, IsPlanOf, IsPlanOfCommand};
 ghost use Rattle.sim_run.specs.CommandLine.{IsScheduleOf, NoCommandFits, NoPlanFits, are_apart, is_apart, is_used};
 ghost use Rattle.sim_run.specs.Schedule.{IsInRange};
 ghost use Rattle.sim_run.specs.declared.fault.PlanFault.TheVariants.{Memory};

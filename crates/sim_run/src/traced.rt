@@ -1,6 +1,6 @@
 //! A machine that is run on a schedule, with a line of a trace for each of its steps.
 
-ghost use Rattle.std.specs.Prelude.{ℕ, ◌≡◌, ◌≤◌, ◌<◌, ◌+◌, ◌-◌, ◌^◌, IfOk, IfErr, OnOk, true, false, [], ◌∷◌, option_to_list};
+ghost use Rattle.std.specs.Prelude.{◌≡◌, ◌<◌, ◌+◌, ◌-◌, ◌^◌, IfOk, IfErr, OnOk, false, [], ◌∷◌, option_to_list};
 ghost use Rattle.std.specs.Io.KnownBytes.{Appends};
 ghost use Rattle.hart.specs.Event.{after, sent};
 ghost use Rattle.hart.specs.declared.event.Event.TheVariants.{Step};

@@ -6,9 +6,6 @@ use crate::bits::has_bit;
 use crate::csrs::Csrs;
 use base::{Fault, interrupt};
 
-/// The bit of mcause that says that the cause is an interrupt.
-const INTERRUPT: u64 = 1 << 63;
-
 /// An interrupt that machine mode takes.
 #[derive(Clone, Copy, Debug, PartialEq, Eq)]
 pub enum Interrupt {
@@ -19,9 +16,9 @@ pub enum Interrupt {
 }
 
 impl Interrupt {
-    /// Returns its bit in mie and mip.
+    /// Returns the place of its bit in mie and mip.
     #[inline]
-    fn bit(self) -> u32
+    fn place(self) -> u32
         ensures value { result ≡ bit_of self }
         ensures range { result < 63 }
     {
@@ -36,7 +33,7 @@ impl Interrupt {
         ensures { result ≡ cause_of self }
     {
         Fault {
-            mcause: INTERRUPT + u64::from(self.bit()),
+            mcause: interrupt::CAUSE + u64::from(self.place()),
             mtval: 0,
         }
     }
@@ -47,8 +44,8 @@ impl Interrupt {
 fn is_asked(csrs: &Csrs, mip: u64, interrupt: Interrupt) -> bool
     ensures { result ≡ spec.is_asked csrs.now mip interrupt }
 {
-    let bit = interrupt.bit();
-    has_bit(csrs.mie, bit) && has_bit(mip, bit)
+    let place = interrupt.place();
+    has_bit(csrs.mie, place) && has_bit(mip, place)
 }
 
 /// Finds the interrupt to be taken while devices ask for those in `mip`: none with interrupts off, and the external one before the

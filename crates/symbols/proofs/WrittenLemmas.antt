@@ -136,10 +136,10 @@ unfolding is_label
 label_inside name h = every_weaker continues_name inside name name_inside (is_name_every name (and_left _ _ h))
 
 -- a symbol's line without its line feed
-abbrev line_of : Symbol → List ℕ
-line_of s = hex_of 16 s.address ++ 32 ∷ s.name
+abbrev written_line : Symbol → List ℕ
+written_line s = hex_of 16 s.address ++ 32 ∷ s.name
 
-line_is : (s : Symbol) → HasLine s → is_symbol (line_of s) ≡ true
+line_is : (s : Symbol) → HasLine s → is_symbol (written_line s) ≡ true
 unfolding is_symbol
 line_is s h =
     let n = digits_length 16 s.address in
@@ -148,7 +148,7 @@ line_is s h =
     let name = rw n at (drop_behind (hex_of 16 s.address) 32 s.name) in
     rw (count, blank, name, h.name) refl
 
-line_says : (s : Symbol) → HasLine s → symbol_of (line_of s) ≡ s
+line_says : (s : Symbol) → HasLine s → symbol_of (written_line s) ≡ s
 unfolding symbol_of
 line_says s h =
     let n = digits_length 16 s.address in
@@ -157,19 +157,19 @@ line_says s h =
     let value = digits_number 16 s.address h.address in
     rw (front, name, value) refl
 
-line_inside : (s : Symbol) → HasLine s → every inside (line_of s) ≡ true
+line_inside : (s : Symbol) → HasLine s → every inside (written_line s) ≡ true
 line_inside s h =
     let digits = every_weaker is_hexadecimal_digit inside (hex_of 16 s.address) digit_inside (digits_every 16 s.address) in
     every-append inside (hex_of 16 s.address) (32 ∷ s.name) digits (label_inside s.name h.name)
 
-written_lines : (s : Symbol) (rest : List ℕ) → HasLine s → lines_of (symbol_line s ++ rest) ≡ line_of s ∷ lines_of rest
+written_lines : (s : Symbol) (rest : List ℕ) → HasLine s → lines_of (symbol_line s ++ rest) ≡ written_line s ∷ lines_of rest
 unfolding hex_of
 written_lines s rest h =
     let hex = hex_of 16 s.address in
-    let whole : symbol_line s ++ rest ≡ line_of s ++ 10 ∷ rest =
+    let whole : symbol_line s ++ rest ≡ written_line s ++ 10 ∷ rest =
     append_assoc hex (32 ∷ (s.name ++ 10 ∷ [])) rest ∙ ap (λ t. hex ++ 32 ∷ t) (append_assoc s.name (10 ∷ []) rest)
     ∙ sym (append_assoc hex (32 ∷ s.name) (10 ∷ rest)) in
-    ap lines_of whole ∙ line_at (line_of s) rest (line_inside s h)
+    ap lines_of whole ∙ line_at (written_line s) rest (line_inside s h)
 
 pub written_symbols : (symbols : List Symbol) → AllByRecursion HasLine symbols → symbols_of (table_text symbols) ≡ symbols
 written_symbols [] h = refl

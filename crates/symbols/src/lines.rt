@@ -1,12 +1,11 @@
 //! How a table is cut into lines, and what a line says.
 ghost use Rattle.std.specs.Prelude.{◌≡◌, ◌<◌, ◌^◌, ◌==◌, ◌∷◌, length, take, drop, slice_index, IsTrue, SomeIff};
 ghost use Rattle.std.specs.List.{prefix_len};
-ghost use Rattle.std.specs.Char.{digit_value};
 ghost use Rattle.std.specs.Str.Parse.{digits_value};
 ghost use Rattle.symbols.specs.Symbols.{lines_of, is_hexadecimal_digit, is_symbol};
 
 use crate::symbol::is_label;
-use asm_lines::{Class, run_length};
+use asm_lines::{Class, digit_value, run_length};
 
 /// What stands before the first line feed, or before the end, and what stands behind it.
 pub(crate) fn split_line(text: &[u8]) -> (&[u8], &[u8])
@@ -67,18 +66,6 @@ fn value(digits: &[u8]) -> Option<u64>
         value = value.checked_mul(16)?.checked_add(digit)?;
     }
     Some(value)
-}
-
-/// The value of a digit or a letter, or 36.
-fn digit_value(byte: u8) -> u32
-    ensures { result ≡ digit_value byte }
-{
-    match byte {
-        b'0'..=b'9' => u32::from(byte - b'0'),
-        b'A'..=b'Z' => u32::from(byte - b'A') + 10,
-        b'a'..=b'z' => u32::from(byte - b'a') + 10,
-        _ => 36,
-    }
 }
 
 /// The address of a line of a table.

@@ -1,9 +1,8 @@
 //! A name and its address.
 ghost use Rattle.std.specs.Prelude.{◌≡◌, ◌<◌, ◌≤◌, length, IsTrue};
-ghost use Rattle.asm_lines.specs.Text.{begins_name, is_dot, is_name};
 ghost use Rattle.symbols.specs.Symbols.{is_label, symbol};
 
-use asm_lines::{Class, run_length};
+use asm_lines::{is_dot, is_name};
 use std::marker::Model;
 
 /// A name and the address that it stands for.
@@ -47,27 +46,6 @@ impl Symbol {
     {
         &self.name
     }
-}
-
-fn begins_name(byte: u8) -> bool
-    ensures { result ≡ begins_name byte }
-{
-    byte.is_ascii_alphabetic() || byte == b'_' || byte == b'.'
-}
-
-fn is_name(text: &[u8]) -> bool
-    ensures { result ≡ is_name text.now }
-{
-    match text {
-        [first, rest @ ..] => begins_name(*first) && run_length(rest, Class::Name) == rest.len(),
-        [] => false,
-    }
-}
-
-fn is_dot(text: &[u8]) -> bool
-    ensures { result ≡ is_dot text.now }
-{
-    text.len() == 1 && text[0] == b'.'
 }
 
 /// Whether a line of assembly can define a name: a letter, `_` or `.`, and then letters, digits, `_` and `.`, but not `.` alone, and

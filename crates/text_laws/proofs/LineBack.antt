@@ -13,10 +13,9 @@ use Rattle.isa_rows.specs.DecodedLaws.{insn_of-IsInsn}
 use Rattle.isa_rows.specs.Insn.{IsInsn}
 use Rattle.isa_rows.specs.InsnLaws.{OperandsFit-Fits}
 use Rattle.isa_rows.specs.Line.{line_of}
-use Rattle.isa_rows.specs.Name.{name_of}
 use Rattle.isa_rows.specs.Operands.{OperandsFit}
 use Rattle.isa_rows.specs.declared.slots.Slot.{Slot}
-use Rattle.asm_names.specs.Mnemonic.{capability_name_of, mnemonic}
+use Rattle.asm_names.specs.Mnemonic.{mnemonic}
 use Rattle.asm_names.specs.Slots.{slots_of}
 use Rattle.asm_lines.specs.declared.fault.LineFault.TheVariants.{A3}
 use Rattle.asm_lines.specs.Text.{pieces_of}

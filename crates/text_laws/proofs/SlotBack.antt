@@ -58,9 +58,6 @@ with_slot i (Target bits) d = record d { target = Some (distance_to i.imm) }
 signed_range : (n : ℕ) → IsSignedOf 12 n → n < 2 ^ 64
 signed_range n h = elim h [ inl p ↦ omega arith | inr p ↦ omega (arith, p.1) ]
 
-upper_range : (n : ℕ) → IsUpperImmediate n → n < 2 ^ 64
-upper_range n h = elim h.1 [ inl p ↦ omega arith | inr p ↦ omega (arith, p.1) ]
-
 signed_12_pos : (n : ℕ) → n < 2048 → signed_12 (Ok (pos n)) ≡ Ok (pos n)
 signed_12_pos n h = grind (arith, nat_tests)
 

@@ -5,10 +5,7 @@ ghost use Rattle.base.specs.Fault.{number_of, cheri_number_of};
 ghost use Rattle.trap_texts.specs.Names as spec;
 
 use asm_names::{register_name, scr_name};
-use base::{Cause, CheriCause, interrupt};
-
-/// What stands in mcause beside the number of an interrupt (RISC-V privileged manual, mcause).
-const INTERRUPT: u64 = 1 << 63;
+use base::{Cause, CheriCause, FIRST_SPECIAL, interrupt};
 
 /// The names of exceptions (RISC-V privileged manual, mcause; UCAM-CL-TR-987, CHERI exception).
 pub const EXCEPTIONS: [(Cause, &str); 10] = [
@@ -26,8 +23,14 @@ pub const EXCEPTIONS: [(Cause, &str); 10] = [
 
 /// The names of interrupts, by what stands in mcause (RISC-V privileged manual, mcause).
 pub const INTERRUPTS: [(u64, &str); 2] = [
-    (INTERRUPT + interrupt::TIMER as u64, "timer interrupt"),
-    (INTERRUPT + interrupt::EXTERNAL as u64, "external interrupt"),
+    (
+        interrupt::CAUSE + interrupt::TIMER as u64,
+        "timer interrupt",
+    ),
+    (
+        interrupt::CAUSE + interrupt::EXTERNAL as u64,
+        "external interrupt",
+    ),
 ];
 
 /// What a capability is asked for, and what is said where it isn't so: one text.
@@ -84,10 +87,10 @@ pub fn cheri_asked_name(number: u64) -> Option<&'static str>
 pub fn register_at_fault(number: u64) -> Option<&'static str>
     ensures { option_map (λ name. name.now) result ≡ spec.register_at_fault number }
 {
-    if number < 32 {
+    if number < FIRST_SPECIAL {
         Some(register_name(number as u8, true))
-    } else if number < 64 {
-        scr_name((number - 32) as u8)
+    } else if number < 2 * FIRST_SPECIAL {
+        scr_name((number - FIRST_SPECIAL) as u8)
     } else {
         None
     }

@@ -1,18 +1,14 @@
 -- The parts of what a word and a tag mean are those of the word.
-use Rattle.std.proofs.Common.{◌≡◌, ℕ, Bool, true, false, IsTrue, refl}
+use Rattle.std.proofs.Common.{◌≡◌, ℕ, Bool, true, false, refl}
 use Rattle.cap_format.specs.Word.{address_of, perms_of, flag_of, otype_of}
 use Rattle.cap_bounds.specs.Window.{base_of_word, top_of_word}
-use Rattle.cap_bounds.specs.Record.{IsWordWellFormed, decoded}
-use Rattle.cap_bounds.specs.CapValue.{value_of, word_of, is_tagged, value_base, value_top, value_address, value_perms, value_flag}
+use Rattle.cap_bounds.specs.Record.{decoded}
+use Rattle.cap_bounds.specs.CapValue.{value_of, is_tagged, value_base, value_top, value_address, value_perms, value_flag}
 use Rattle.cap_bounds.specs.CapValue.{value_otype}
 
 pub is_tagged-value_of : (word : ℕ) (tag : Bool) → is_tagged (value_of word tag) ≡ tag
 is_tagged-value_of word true = refl
 is_tagged-value_of word false = refl
-
-pub word_of-value_of : (word : ℕ) (tag : Bool) → (IsTrue tag → IsWordWellFormed word) → word_of (value_of word tag) ≡ word
-word_of-value_of word true well = (well refl).canonical
-word_of-value_of word false well = refl
 
 pub value_base-value_of : (word : ℕ) (tag : Bool) → value_base (value_of word tag) ≡ base_of_word word
 unfolding decoded

@@ -1,7 +1,7 @@
 use Rattle.std.proofs.Common.{◌≡◌, drop}
 use Rattle.asm_lines.specs.Text.{pieces_of, pieces_left}
 use Rattle.asm_lines.specs.Operand.{told_fault, filled_draft, filled_fault}
-use Rattle.asm_lines.specs.Line.{HasTargetOffset}
+use Rattle.asm_lines.specs.Bounded.{HasTargetOffset}
 use Rattle.asm_lines.specs.Seen.{seen_draft, seen_rest}
 use Rattle.asm_lines.proofs.filling.filled.Given as goal
 

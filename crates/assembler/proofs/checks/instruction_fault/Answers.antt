@@ -1,5 +1,5 @@
 use Rattle.std.proofs.Common.{◌∙◌}
-use Rattle.asm_lines.specs.Line.{seen_expression}
+use Rattle.asm_lines.specs.Seen.{seen_expression}
 use Rattle.assembler.proofs.AskedLemmas.{asked_load}
 use Rattle.assembler.proofs.checks.instruction_fault.Goals as goal
 

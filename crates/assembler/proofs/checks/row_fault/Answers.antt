@@ -1,6 +1,6 @@
 use Rattle.std.proofs.Common.{ap, ◌∙◌}
 use Rattle.std.specs.Prelude.{pos, ◌-ℤ◌}
-use Rattle.asm_lines.specs.Line.{seen_expression}
+use Rattle.asm_lines.specs.Seen.{seen_expression}
 use Rattle.asm_lines.specs.Number.{is_in_limits}
 use Rattle.assembler.specs.Values.{value_of, reach_of, is_reached}
 use Rattle.assembler.specs.Checks.{value_fault}
@@ -15,5 +15,5 @@ returns-in-Some c =
     rw c.in-Some.is
     (c.target_fault.ensures
     ∙ ap (λ r. value_fault is_in_limits (λ v. is_reached r (v -ℤ pos c.args.here)) value)
-    (c.reach_of.ensures ∙ ap reach_of c.format.ensures)
+    (c.reach_of.ensures.value ∙ ap reach_of c.format.ensures)
     ∙ asked_target page_count c.args.labels.now c.args.here c.args.insn.now e)

@@ -1,5 +1,5 @@
 use Rattle.std.proofs.Common.{◌≡◌, ◌+◌, ◌≤◌, length, None, ap, ◌∙◌, arith}
-use Rattle.asm_lines.specs.Line.{seen_line}
+use Rattle.asm_lines.specs.Seen.{seen_line}
 use Rattle.assembler.specs.Faults.{line_fault}
 use Rattle.assembler.specs.Left.{left, lines_left}
 use Rattle.assembler.specs.Standing.{before_fault}

@@ -2,7 +2,7 @@ use Rattle.std.proofs.Common.{length, refl, ap, ◌∙◌}
 use Rattle.std.proofs.lemmas.List.{length-replicate}
 use Rattle.tagged_memory.specs.Memory.{zeroed}
 use Rattle.image.specs.ImageLaws.{AllInRam-image}
-use Rattle.hart.proofs.Loading.{rest-cons, IsOk-fill, length-with_sections, with_sections-rest}
+use Rattle.hart.proofs.Loading.{rest-cons, section-fits, length-with_sections, with_sections-rest}
 use Rattle.hart.proofs.opening.loaded_memory.Goals as goal
 
 pub loop-section-init : goal.loop-section-init
@@ -15,13 +15,12 @@ loop-section-init c =
       rest = rw (c.sections-section-items.ensures.value, made) refl;
     }
 
-pub unwrap-requires : goal.unwrap-requires
-unwrap-requires c =
+pub store_bytes-requires : goal.store_bytes-requires
+store_bytes-requires c =
     let i = c.loop-section.invariant in
     let x = c.section-item.result in
     let e = rest-cons c.sections-section-items.result.now c.loop-section.section-index x c.loop-section-test.true c.section-item.is in
-    IsOk-fill c.loop-section.memory _ x _ i.whole (rw e at i.inside) c.fill.result
-    (rw (c.address.ensures, c.bytes.ensures) at c.fill.ensures.which)
+    rw (c.address.ensures, c.bytes.ensures) (section-fits c.loop-section.memory _ x _ i.whole (rw e at i.inside))
 
 pub loop-section-preserved : goal.loop-section-preserved
 loop-section-preserved c =
@@ -29,9 +28,9 @@ loop-section-preserved c =
     let x = c.section-item.result in
     let e = rest-cons c.sections-section-items.result.now c.loop-section.section-index x c.loop-section-test.true c.section-item.is in
     let all = rw e at i.inside in
-    let filled = rw (c.unwrap.ensures, c.address.ensures, c.bytes.ensures) at c.fill.ensures.ok in
+    let filled = rw (c.address.ensures, c.bytes.ensures) at c.store_bytes.ensures.value in
     record {
-      whole = length-with_sections c.loop-section.memory _ x _ i.whole all c.fill.new.self filled;
+      whole = length-with_sections c.loop-section.memory _ x _ i.whole all c.store_bytes.new.self filled;
       inside = all.1;
-      rest = with_sections-rest c.loop-section.memory _ x _ i.whole all c.fill.new.self _ filled (rw e at i.rest);
+      rest = with_sections-rest c.loop-section.memory _ x _ i.whole all c.store_bytes.new.self _ filled (rw e at i.rest);
     }

@@ -1,4 +1,4 @@
-use Rattle.std.proofs.Common.{rules, ◌≡◌, ℕ, suc, ◌+◌, ◌<◌, List, ◌∷◌, length, get_or, drop, None, sym, ap, ◌∙◌, add-one, drop-cons}
+use Rattle.std.proofs.Common.{rules, ◌≡◌, ℕ, ◌+◌, ◌<◌, List, ◌∷◌, length, get_or, drop, None, sym, ap, ◌∙◌, add-one, drop-cons}
 use Rattle.std.specs.Option.{option_or}
 use Rattle.image.specs.declared.cap_entry.CapEntry.{CapEntry}
 use Rattle.image.specs.Image.{capability_fault, capabilities_fault}

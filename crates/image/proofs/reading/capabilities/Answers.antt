@@ -1,4 +1,4 @@
-use Rattle.std.proofs.Common.{◌≡◌, ℕ, eqb, List, Result, sym, subst, refl}
+use Rattle.std.proofs.Common.{◌≡◌, ℕ, List, Result, subst, refl}
 use Rattle.std.proofs.lemmas.Bool.{ne_eqb}
 use Rattle.image.specs.declared.cap_entry.CapEntry.{CapEntry}
 use Rattle.image.specs.declared.fault.ImageFault.{ImageFault}

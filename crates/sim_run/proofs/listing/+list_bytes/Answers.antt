@@ -1,7 +1,8 @@
 use Rattle.std.proofs.Common.{◌+◌, ◌<◌, length, get_or, drop, subst, arith}
 use Rattle.std.proofs.lemmas.Result.{on_err_weaker}
 use Rattle.image.specs.Devices.{AppendsBeginning}
-use Rattle.sim_run.specs.Listing.{byte_line, byte_lines}
+use Rattle.disassembler.specs.Shown.{byte_line}
+use Rattle.sim_run.specs.Listing.{byte_lines}
 use Rattle.image.specs.BeginningLaws.{beginning_after}
 use Rattle.sim_run.proofs.Listed.{first_line, to_the_end}
 use Rattle.sim_run.proofs.listing.+list_bytes.Goals as goal

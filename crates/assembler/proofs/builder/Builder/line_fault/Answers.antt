@@ -1,5 +1,5 @@
 use Rattle.std.proofs.Common.{sym, ◌∙◌}
-use Rattle.asm_lines.specs.Line.{seen_line}
+use Rattle.asm_lines.specs.Seen.{seen_line}
 use Rattle.assembler.specs.FaultLaws.{line_fault-by}
 use Rattle.assembler.proofs.builder.Builder.line_fault.Goals as goal
 

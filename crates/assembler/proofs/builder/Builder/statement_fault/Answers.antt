@@ -1,3 +1,4 @@
+use Rattle.std.proofs.Common.{is_some, ap, ◌∙◌}
 use Rattle.assembler.proofs.SoundLemmas.{named-none, parts-known, last-fault}
 use Rattle.assembler.proofs.builder.Builder.statement_fault.Goals as goal
 
@@ -9,5 +10,5 @@ exact_fault-requires c =
 pub returns : goal.returns
 returns c =
     last-fault _ _ _ _ _ _ _ _ _ c.page_count.ensures c.place-place.ensures.value c.named_fault-named.ensures
-    (named-none _ _ c.is_some.ensures c.if-is_some.false) c.lacks_place_for.ensures c.if-lacks_place_for.false
+    (named-none _ _ c.is_some.ensures c.if-is_some.false) (c.is_some-2.ensures ∙ ap is_some c.misplaced.ensures) c.if-is_some-2.false
     c.capability_in-operands.ensures c.exact_fault.ensures
