@@ -2,29 +2,14 @@
 ghost use Rattle.std.specs.Prelude.{◌≡◌, ◌+◌, ◌*◌, ◌<◌, ◌≤◌, ◌^◌, length, IsTrue, OnOk};
 ghost use Rattle.asm_lines.specs.Seen.{seen_instruction, seen_data, seen_statement, seen_line};
 ghost use Rattle.asm_lines.specs.Statement.{text_bytes, most_of};
-ghost use Rattle.asm_lines.specs.Text.{pieces_of};
 ghost use Rattle.assembler.specs.Modest.{is_modest_data, is_modest, is_modest_line, IsNear};
 ghost use Rattle.assembler.specs.Places.{aligned, instruction_size, zero_count, data_size, size_at, end_of, places_after, opening_places};
 
 use crate::labels::Labels;
-use asm_lines::{Data, Directive, Instruction, Parsed, Statement, first_rest, split_piece};
+use asm_lines::{Data, Directive, Instruction, Parsed, Statement, operand_count};
 use base::ram;
 use std::alloc::{AllocError, Global};
 use std::marker::Model;
-
-/// The number of a list's operands.
-fn piece_count(operands: &[u8]) -> u128
-    ensures value { result ≡ length (pieces_of operands.now) }
-    ensures bound { result ≤ length operands.now + 1 }
-{
-    let mut count = 0;
-    let mut rest = first_rest(operands);
-    while let Some(text) = rest {
-        count += 1;
-        rest = split_piece(text).1;
-    }
-    count
-}
 
 /// The number of bytes that a text between quotes stands for.
 fn text_length(between: &[u8]) -> u128
@@ -99,7 +84,7 @@ fn data_size(item: &Data<'_>, place: u128) -> u128
     ensures bound { result ≤ 2 ^ 28 }
 {
     match item.directive {
-        Directive::Values(size) => u128::from(size) * piece_count(item.text),
+        Directive::Values(size) => u128::from(size) * operand_count(item.text),
         Directive::Ascii => text_length(item.text),
         directive => zero_count(directive, place, item.number),
     }

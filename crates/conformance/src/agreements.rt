@@ -2,12 +2,12 @@
 
 ghost use Rattle.std.specs.Prelude.{◌≤◌};
 
-use crate::case::CaseError;
 use crate::numbers::Words;
 use crate::text::bit;
 use crate::values::cap_word;
 use cap_bounds::{CapRep, PlainCap, is_well_formed};
 use cap_format::CapWord;
+use case_texts::CaseError;
 use std::alloc::Global;
 use word_cap::parts;
 

@@ -1,9 +1,8 @@
 //! Texts of the assembly language, and what they make.
 
-use crate::case::CaseError;
 use crate::numbers::Words;
-use crate::quoted::unquoted;
 use assembler::{AsmFault, Assembly, assemble};
+use case_texts::{CaseError, unquoted};
 use image::{FromRead, Image, Section, ToWrite, read, write};
 use std::alloc::{AllocError, Global};
 

@@ -1,10 +1,9 @@
 //! Texts that say what setting bounds gives.
 
-use crate::case::CaseError;
 use crate::numbers::Words;
-use crate::quoted::put_quoted;
 use bounds_text::bounds_text;
 use cap_bounds::CapRep;
+use case_texts::{CaseError, put_quoted};
 use std::alloc::Global;
 
 /// An address in hexadecimal digits, or `-` for none.

@@ -1,7 +1,7 @@
 //! Bytes in cases: pairs of hexadecimal digits, `-` for none, and `HH*COUNT` for bytes of one value. An input may join such parts
 //! by `+`.
 
-use crate::case::CaseError;
+use case_texts::CaseError;
 use std::alloc::Global;
 
 /// The bytes that a word of a case is.

@@ -1,11 +1,11 @@
 //! What the rows over capabilities give.
 
-use crate::case::CaseError;
 use crate::numbers::Words;
 use crate::rows::row;
 use crate::values::{text, value};
 use cap_bounds::CapRep;
 use cap_insns::{cap_op, integer};
+use case_texts::CaseError;
 use isa_rows::{Format, Insn, Kind, Row};
 use std::alloc::Global;
 

@@ -1,7 +1,4 @@
-//! A case of a file, and why a case cannot be tried.
-
-use std::alloc::{AllocError, AllocFailed};
-use std::fmt;
+//! A case of a file.
 
 /// The answer to a block of lines that hold.
 pub(crate) const HELD: &str = "as it stands";
@@ -40,41 +37,5 @@ impl<'a> Case<'a> {
             inputs: text,
             expected: HELD,
         }
-    }
-}
-
-/// Why a case cannot be tried.
-#[derive(Clone, Copy)]
-pub(crate) enum CaseError {
-    /// Its inputs are not those that its file's cases have.
-    Unreadable,
-    /// Memory is out, or a text is cut.
-    Memory,
-}
-
-impl CaseError {
-    pub(crate) fn text(self) -> &'static str {
-        match self {
-            CaseError::Unreadable => "no case",
-            CaseError::Memory => "no memory",
-        }
-    }
-}
-
-impl From<AllocError> for CaseError {
-    fn from(_: AllocError) -> Self {
-        CaseError::Memory
-    }
-}
-
-impl<T: Drop> From<AllocFailed<T>> for CaseError {
-    fn from(_: AllocFailed<T>) -> Self {
-        CaseError::Memory
-    }
-}
-
-impl From<fmt::Error> for CaseError {
-    fn from(_: fmt::Error) -> Self {
-        CaseError::Memory
     }
 }

@@ -2,7 +2,6 @@
 
 ghost use Rattle.std.specs.Prelude.{◌<◌};
 
-use crate::case::CaseError;
 use crate::numbers::Words;
 use crate::sizes::size;
 use crate::text::{hex, name};
@@ -12,6 +11,7 @@ use cap_bounds::CapRep;
 use cap_checks::{
     Access, Stored, check_access, check_fetch, check_invoke, check_jump, check_target, jump_target,
 };
+use case_texts::CaseError;
 use std::alloc::Global;
 
 /// A fault by its two numbers.

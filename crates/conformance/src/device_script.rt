@@ -1,11 +1,11 @@
 //! Scripts of the devices.
 
 use crate::bytes;
-use crate::case::CaseError;
 use crate::numbers::Words;
 use crate::script::{Called, answers};
 use crate::sizes::size;
 use crate::text::{bit, hex, name};
+use case_texts::CaseError;
 use devices::{DeviceFault, Devices, Effect};
 use std::alloc::Global;
 

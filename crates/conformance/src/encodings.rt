@@ -1,8 +1,8 @@
 //! Words of the instruction table, and the instructions that they are.
 
-use crate::case::CaseError;
 use crate::numbers::Words;
 use crate::text::name;
+use case_texts::CaseError;
 use isa_rows::{Insn, fits};
 use isa_table::{decode, encode};
 use std::alloc::Global;

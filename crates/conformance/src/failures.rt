@@ -1,10 +1,10 @@
 //! Images that are read from devices whose calls fail, and written to such devices.
 
 use crate::bytes;
-use crate::case::CaseError;
 use crate::images::{fault_name, image_text};
 use crate::numbers::Words;
 use crate::text::name;
+use case_texts::CaseError;
 use failing::{Failure, Narrow, Reader, Slow, Writer};
 use image::{DeviceFailed, FromRead, Image, Sink, Source, ToWrite, read, write, write_all};
 use std::alloc::Global;

@@ -1,10 +1,10 @@
 //! The forms of capabilities that there are, and machines that work with each.
 
-use crate::case::CaseError;
 use crate::programs::{Outcome, Pace, Timetable, text_of};
 use crate::sessions::Errand;
 use assembler::assemble;
 use cap_bounds::PlainCap;
+use case_texts::CaseError;
 use debugger::Session;
 use failing::Narrow;
 use image::{DeviceFailed, Image, Sink};

@@ -1,9 +1,9 @@
 //! Images and their files.
 
 use crate::bytes;
-use crate::case::CaseError;
 use crate::numbers::Words;
 use crate::text::name;
+use case_texts::CaseError;
 use image::{CapEntry, FromRead, Image, ImageFault, Section, ToWrite, read, write};
 use std::alloc::Global;
 

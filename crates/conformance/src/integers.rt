@@ -1,9 +1,9 @@
 //! What the rows of integer arithmetic give of two numbers.
 
-use crate::case::CaseError;
 use crate::numbers::Words;
 use crate::rows::row;
 use alu::{branch_taken, int_op, mul_div};
+use case_texts::CaseError;
 use isa_rows::Kind;
 use std::alloc::Global;
 

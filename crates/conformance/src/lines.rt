@@ -1,11 +1,10 @@
 //! Lines of the assembly language, each by itself.
 
-use crate::case::CaseError;
-use crate::quoted::{put_quoted, unquoted};
 use asm_lines::{
     Data, Directive, Expression, Instruction, LineFault, Setting, Statement, expression,
     parse_line, split_piece,
 };
+use case_texts::{CaseError, put_quoted, unquoted};
 use isa_rows::Insn;
 use std::alloc::{AllocError, Global};
 

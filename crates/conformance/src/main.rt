@@ -25,7 +25,6 @@ mod numbers;
 mod parts;
 mod plans;
 mod programs;
-mod quoted;
 mod register_script;
 mod requests;
 mod rights;
@@ -47,7 +46,8 @@ mod words;
 mod worlds;
 
 use cap_bounds::{CapRep, PlainCap};
-use case::{Case, CaseError};
+use case::Case;
+use case_texts::CaseError;
 use forms::Form;
 use numbers::Words;
 use std::alloc::Global;

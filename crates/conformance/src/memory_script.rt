@@ -1,13 +1,13 @@
 //! Scripts of memory.
 
 use crate::bytes::bytes;
-use crate::case::CaseError;
 use crate::numbers::Words;
 use crate::script::{Called, answers};
 use crate::sizes::size;
 use crate::text::{hex, name};
 use crate::values::{cap_word, high_half};
 use cap_format::CapWord;
+use case_texts::CaseError;
 use std::alloc::Global;
 use tagged_memory::{Memory, MemoryFault};
 

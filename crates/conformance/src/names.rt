@@ -1,12 +1,11 @@
 //! Names of registers and rows.
 
-use crate::case::CaseError;
 use crate::numbers::Words;
-use crate::quoted::unquoted;
 use asm_names::{
     csr_name, csr_named, mnemonic, register_name, register_named, row_named, scr_name, scr_named,
     slots_of,
 };
+use case_texts::{CaseError, unquoted};
 use std::alloc::{AllocError, Global};
 
 /// Puts a number behind a text, or `-` where there is none.

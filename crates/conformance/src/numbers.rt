@@ -2,7 +2,7 @@
 
 ghost use Rattle.std.specs.Prelude.{◌≤◌};
 
-use crate::case::CaseError;
+use case_texts::CaseError;
 use std::str::SplitWhitespace;
 
 /// The words of a case's inputs, from left to right. A word that is missing or can't be read counts as 0 or as no text, and is told by

@@ -1,8 +1,8 @@
 //! The parts that the bounds of words are decoded from.
 
-use crate::case::CaseError;
 use crate::numbers::Words;
 use crate::values::cap_word;
+use case_texts::CaseError;
 use std::alloc::Global;
 use word_cap::parts;
 

@@ -1,9 +1,8 @@
 //! Command lines, and listings.
 
-use crate::case::CaseError;
 use crate::numbers::Words;
-use crate::quoted::{put_quoted, unquoted};
 use assembler::assemble;
+use case_texts::{CaseError, put_quoted, unquoted};
 use failing::Narrow;
 use image::{Image, Sink};
 use sim_run::{Layout, Plan, PlanFault, Schedule, list, plan};

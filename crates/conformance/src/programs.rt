@@ -1,7 +1,6 @@
 //! Programs that run on the whole machine, and what is seen of it between their events and behind them.
 
 use crate::bytes;
-use crate::case::CaseError;
 use crate::failures::image_of;
 use crate::forms::Form;
 use crate::numbers::Words;
@@ -10,6 +9,7 @@ use crate::stretches::put_next_ends;
 use crate::telling::put_bytes;
 use assembler::assemble;
 use cap_bounds::CapRep;
+use case_texts::CaseError;
 use image::Image;
 use machine::{End, Event, Machine};
 use sim_run::{Schedule, verdict};

@@ -1,6 +1,5 @@
 //! Scripts of control and status registers, special capability registers, traps and the choice of an interrupt.
 
-use crate::case::CaseError;
 use crate::checks::fault_text;
 use crate::numbers::Words;
 use crate::script::{Called, answers};
@@ -8,6 +7,7 @@ use crate::text::{hex, name};
 use crate::values::{text, value};
 use base::Fault;
 use cap_bounds::CapRep;
+use case_texts::CaseError;
 use special_regs::{
     Csrs, Scrs, SpecialFault, check_csr, check_return, check_scr, csr_value, enter_trap,
     leave_trap, pending, read_csr, special_rw, target, write_csr,

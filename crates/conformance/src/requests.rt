@@ -1,9 +1,9 @@
 //! Requests for bounds, and what setting the bounds gives.
 
-use crate::case::CaseError;
 use crate::numbers::Words;
 use crate::values::{text, value};
 use cap_bounds::CapRep;
+use case_texts::CaseError;
 use std::alloc::Global;
 
 /// A value with new bounds, whether rounding changed nothing, and the value's permissions, flag, object type, base and top.

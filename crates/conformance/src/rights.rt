@@ -1,6 +1,5 @@
 //! Permissions, types and seals of values, and what is asked of numbers alone.
 
-use crate::case::CaseError;
 use crate::numbers::Words;
 use crate::text::{bit, hex, name};
 use crate::values::{text, value};
@@ -10,6 +9,7 @@ use cap_rights::{
     OType, Permission, Perms, and_perms, equal_exact, opened, permits, seal, seal_entry, set_flags,
     subset, unseal,
 };
+use case_texts::CaseError;
 use std::alloc::Global;
 
 /// The hardware permissions by their bits, from 0 on.

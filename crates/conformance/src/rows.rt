@@ -1,7 +1,7 @@
 //! Rows of the instruction table in cases, by their mnemonics.
 
-use crate::case::CaseError;
 use crate::numbers::Words;
+use case_texts::CaseError;
 use isa_rows::{ROWS, Row};
 
 /// The row whose mnemonic is the next word.

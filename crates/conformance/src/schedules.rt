@@ -2,11 +2,11 @@
 
 ghost use Rattle.sim_run.specs.Schedule.{IsInRange};
 
-use crate::case::CaseError;
 use crate::forms::Form;
 use crate::programs::{Outcome, Pace, Timetable, text_in_mode};
 use assembler::assemble;
 use cap_bounds::CapRep;
+use case_texts::CaseError;
 use image::Image;
 use machine::{End, Event, Machine};
 use sim_run::Schedule;

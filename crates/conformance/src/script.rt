@@ -1,7 +1,7 @@
 //! Scripts: cases that are calls in a row, parted by `;`. The answer is the calls' answers, parted by `; `.
 
-use crate::case::CaseError;
 use crate::numbers::Words;
+use case_texts::CaseError;
 use std::alloc::Global;
 
 /// What a script's calls are made to.

@@ -1,7 +1,7 @@
 //! Searches of words.
 
-use crate::case::CaseError;
 use crate::numbers::Words;
+use case_texts::CaseError;
 use std::alloc::Global;
 use tagged_memory::first_word;
 

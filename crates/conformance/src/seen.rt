@@ -2,12 +2,12 @@
 
 ghost use Rattle.std.specs.Prelude.{◌<◌};
 
-use crate::case::CaseError;
 use crate::numbers::Words;
 use crate::telling::{halves, put_bytes, put_granule, put_value};
 use asm_names::{csr_named, register_name, register_named, scr_named};
 use base::{Size, csr, is_csr, is_scr, ram, scr};
 use cap_bounds::CapRep;
+use case_texts::CaseError;
 use machine::Machine;
 use std::alloc::AllocError;
 

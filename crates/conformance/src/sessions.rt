@@ -1,11 +1,11 @@
 //! Conversations of the debugger.
 
-use crate::case::{CaseError, HELD};
+use crate::case::HELD;
 use crate::forms::Form;
-use crate::quoted::{put_quoted, unescaped};
 use crate::talks::{commanded, cut_short};
 use crate::text::name;
 use cap_bounds::CapRep;
+use case_texts::{CaseError, put_quoted, unescaped};
 use debugger::{Session, talk};
 use image::{FromRead, ToWrite};
 use std::alloc::Global;

@@ -1,7 +1,7 @@
 //! Words as they are shown, and numbers as hexadecimal digits.
 
-use crate::case::CaseError;
 use crate::numbers::Words;
+use case_texts::CaseError;
 use disassembler::{disassemble, hex_digits};
 use std::alloc::Global;
 

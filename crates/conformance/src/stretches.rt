@@ -1,8 +1,8 @@
 //! Stretches of events, and whether an event would end one.
 
-use crate::case::CaseError;
 use crate::programs::Outcome;
 use cap_bounds::CapRep;
+use case_texts::CaseError;
 use machine::{Event, Machine, Why};
 use std::alloc::Global;
 

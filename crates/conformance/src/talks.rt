@@ -1,12 +1,11 @@
 //! Calls of sessions: commands, and conversations over devices whose calls fail.
 
-use crate::case::CaseError;
 use crate::forms::Form;
 use crate::numbers::Words;
-use crate::quoted::{put_quoted, unquoted};
 use crate::sessions::Errand;
 use base::scr;
 use cap_bounds::CapRep;
+use case_texts::{CaseError, put_quoted, unquoted};
 use debugger::{DebugFault, Reply, Session, talk};
 use failing::{Narrow, Slow};
 use std::alloc::{AllocError, Global};

@@ -1,6 +1,6 @@
 //! Answers that several readers give.
 
-use crate::case::CaseError;
+use case_texts::CaseError;
 use std::alloc::Global;
 
 /// A name.

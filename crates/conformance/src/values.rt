@@ -1,9 +1,9 @@
 //! Capabilities and data in cases, each by three words: bits 127..64 of its capability word, its address, and its tag.
 
-use crate::case::CaseError;
 use crate::numbers::Words;
 use cap_bounds::{CapRep, is_well_formed};
 use cap_format::CapWord;
+use case_texts::CaseError;
 use std::alloc::Global;
 
 /// The capability word that the next two words are: its high half and its address.

@@ -1,9 +1,9 @@
 //! Addresses in and out of the window in which the bounds of a value stay.
 
-use crate::case::CaseError;
 use crate::numbers::Words;
 use crate::values::{text, value};
 use cap_bounds::{CapRep, representable};
+use case_texts::CaseError;
 use std::alloc::Global;
 
 /// Whether bounds stay, and the value that is moved, its base and its top.

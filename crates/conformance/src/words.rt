@@ -1,11 +1,11 @@
 //! Words in memory, and what they decode to.
 
 use crate::bytes::bytes;
-use crate::case::CaseError;
 use crate::numbers::Words;
 use crate::values::text;
 use cap_bounds::{CapRep, is_well_formed};
 use cap_format::CapWord;
+use case_texts::CaseError;
 use std::alloc::Global;
 
 /// The word of sixteen bytes in memory; where it gives other bytes, it is unreadable.

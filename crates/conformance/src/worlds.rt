@@ -1,8 +1,8 @@
 //! Two worlds: one program in two images that differ in what it may not look at, and what is seen of each.
 
-use crate::case::CaseError;
 use crate::forms::Form;
 use crate::programs::ran_program;
+use case_texts::CaseError;
 use std::alloc::{AllocError, Global};
 
 /// The answers of two worlds, one by one: once where they are equal, and else both, parted by ` / `.

@@ -9,44 +9,14 @@
 //! Of a text by clap, status 2, only whether there is one is told, and where: among what was sent, or among what was told.
 
 use crate::desk::Desk;
-use crate::quoting::{put_quoted, unquoted};
+use case_texts::{CaseError, put_quoted, unescaped};
 use commands::status_of;
 use failing::{Failure, Reader, Writer};
-use std::alloc::{AllocError, AllocFailed, Global};
+use std::alloc::{AllocError, Global};
 use std::io::ErrorKind;
 
 /// The kind of the errors of devices that fail: calls of std don't call again after one of it.
 pub const BROKEN: ErrorKind = ErrorKind::BrokenPipe;
-
-/// Why a case cannot be tried.
-#[derive(Clone, Copy, Debug)]
-pub enum CaseError {
-    /// It is none.
-    Unreadable,
-    /// Memory is out.
-    Memory,
-}
-
-impl CaseError {
-    pub fn text(self) -> &'static str {
-        match self {
-            CaseError::Unreadable => "no case",
-            CaseError::Memory => "no memory",
-        }
-    }
-}
-
-impl From<AllocError> for CaseError {
-    fn from(_: AllocError) -> Self {
-        CaseError::Memory
-    }
-}
-
-impl<T: Drop> From<AllocFailed<T>> for CaseError {
-    fn from(_: AllocFailed<T>) -> Self {
-        CaseError::Memory
-    }
-}
 
 /// A file, or what is typed, and the number of the call that fails.
 #[derive(Debug, Drop)]
@@ -97,7 +67,7 @@ fn content_of<'a>(alloc: Global, name: &'a str, rest: &str) -> Result<Content<'a
     };
     Ok(Content {
         name,
-        bytes: unquoted(alloc, text)?,
+        bytes: unescaped(alloc, text.strip_suffix('"').ok_or(CaseError::Unreadable)?)?,
         fails_at,
     })
 }

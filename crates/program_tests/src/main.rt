@@ -4,10 +4,10 @@
 
 mod case;
 mod desk;
-mod quoting;
 mod texts;
 
-use case::{Case, CaseError};
+use case::Case;
+use case_texts::CaseError;
 use std::alloc::Global;
 use std::io::Read;
 use std::mem::size_of;

@@ -4,8 +4,8 @@
 //! A name is a code, of a text, of an image or of a machine; or words for a fault that has none. A fault of a text is one of line 7 of
 //! `a.s` of which nothing more was read; a file is `a.s`.
 
-use crate::case::CaseError;
 use assembler::{AsmCode, AsmFault};
+use case_texts::CaseError;
 use commands::ProgramFault;
 use debugger::TalkFault;
 use image::{DeviceFailed, ImageFault};

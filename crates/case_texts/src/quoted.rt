@@ -1,6 +1,6 @@
 //! Texts in quotes: `\n`, `\t`, `\r`, `\0`, and `\xHH` for a quote, a backslash and every byte that is not printed.
 
-use crate::case::CaseError;
+use crate::fault::CaseError;
 use std::alloc::{AllocError, Global};
 
 /// The number of a hexadecimal digit.
@@ -36,7 +36,7 @@ fn put_piece(bytes: &mut Vec<u8>, piece: &[u8]) -> Result<(), CaseError> {
 }
 
 /// The bytes that a text with escapes means.
-pub(crate) fn unescaped(alloc: Global, text: &str) -> Result<Vec<u8>, CaseError> {
+pub fn unescaped(alloc: Global, text: &str) -> Result<Vec<u8>, CaseError> {
     let mut bytes = Vec::new(alloc);
     let mut pieces = text.split('\\');
     if let Some(first) = pieces.next() {
@@ -49,7 +49,7 @@ pub(crate) fn unescaped(alloc: Global, text: &str) -> Result<Vec<u8>, CaseError>
 }
 
 /// The bytes of a text in quotes, and what stands behind it.
-pub(crate) fn unquoted<'a>(alloc: Global, text: &'a str) -> Result<(Vec<u8>, &'a str), CaseError> {
+pub fn unquoted<'a>(alloc: Global, text: &'a str) -> Result<(Vec<u8>, &'a str), CaseError> {
     let opened = text.strip_prefix('"').ok_or(CaseError::Unreadable)?;
     let (inner, rest) = opened.split_once('"').ok_or(CaseError::Unreadable)?;
     Ok((unescaped(alloc, inner)?, rest))
@@ -68,7 +68,7 @@ fn put_escaped(text: &mut String, byte: u8) -> Result<(), AllocError> {
 }
 
 /// Puts bytes in quotes behind a text.
-pub(crate) fn put_quoted(text: &mut String, bytes: &[u8]) -> Result<(), AllocError> {
+pub fn put_quoted(text: &mut String, bytes: &[u8]) -> Result<(), AllocError> {
     text.push('"')?;
     for byte in bytes {
         put_escaped(text, *byte)?;
