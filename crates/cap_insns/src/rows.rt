@@ -23,7 +23,7 @@ use isa_rows::{Insn, Row};
 /// tag.
 ///
 /// Of all these rows CUnseal alone can give a capability that is not within the rights of what rs1 holds.
-#[inline]
+#[inline(always)]
 pub fn cap_op<C: CapRep>(insn: Insn, cs1: C, cs2: C, ddc: C) -> C
     requires { kind_of insn.row ≡ kind.Capability }
     ensures value { C.value result ≡ row_value insn.row insn (C.value cs1) (C.value cs2) (C.value ddc) }
@@ -34,7 +34,7 @@ pub fn cap_op<C: CapRep>(insn: Insn, cs1: C, cs2: C, ddc: C) -> C
 
 /// The same for `cap_op`, which says of rights what follows from the row's equation.
 #[tactic(auto, unfolding(crate::specs::CapabilityRows::row_value, isa_rows::specs::Line::line_of))]
-#[inline]
+#[inline(always)]
 fn row_op<C: CapRep>(insn: Insn, cs1: C, cs2: C, ddc: C) -> C
     requires { kind_of insn.row ≡ kind.Capability }
     ensures { C.value result ≡ row_value insn.row insn (C.value cs1) (C.value cs2) (C.value ddc) }

@@ -219,7 +219,7 @@ impl<C: CapRep> Hart<C> {
     }
 
     /// Applies an effect. A trap changes nothing but what trap entry says.
-    #[inline]
+    #[inline(always)]
     #[tactic(auto, unfolding(crate::specs::Effect::applied, crate::specs::Applying::CanApply))]
     pub(crate) fn apply(&mut self, effect: Effect<C>)
         requires { CanApply effect self.old }

@@ -52,7 +52,7 @@ impl<C: CapRep> Hart<C> {
     }
 
     /// A row over capabilities that touches neither memory nor special registers and does not jump.
-    #[inline]
+    #[inline(always)]
     #[tactic(auto, unfolding(crate::specs::ComputeRows::capability_effect, crate::specs::Applying::CanApply))]
     pub(crate) fn plan_capability(&self, insn: Insn) -> Effect<C>
         requires kind { kind_of insn.row ≡ kind.Capability }

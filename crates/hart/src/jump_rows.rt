@@ -90,6 +90,7 @@ impl<C: CapRep> Hart<C> {
     }
 
     /// A jump to the capability in rs1, whose seal, if it has one, is opened: JALR in capability mode, and JALR.CAP.
+    #[inline(always)]
     #[tactic(auto, unfolding(crate::specs::JumpRows::enter_effect, crate::specs::Applying::CanApply))]
     pub(crate) fn plan_enter(&self, insn: Insn) -> Effect<C>
         requires registers { HasRegisters insn }
@@ -110,7 +111,7 @@ impl<C: CapRep> Hart<C> {
     }
 
     /// JALR, by the mode.
-    #[inline]
+    #[inline(always)]
     #[tactic(auto, unfolding(crate::specs::JumpRows::jalr_effect))]
     pub(crate) fn plan_jalr(&self, insn: Insn) -> Effect<C>
         requires registers { HasRegisters insn }

@@ -59,6 +59,7 @@ impl<C: CapRep> Hart<C> {
     }
 
     /// A CSR row: its old number goes to rd, and its new one into the register.
+    #[inline(always)]
     #[tactic(auto, unfolding(crate::specs::SystemRows::csr_effect, crate::specs::SystemRows::csr_done, crate::specs::Applying::CanApply))]
     pub(crate) fn plan_csr(&self, word: u32, insn: Insn) -> Effect<C>
         requires registers { HasRegisters insn }
@@ -121,6 +122,7 @@ impl<C: CapRep> Hart<C> {
     }
 
     /// MRET.
+    #[inline(always)]
     #[tactic(auto, unfolding(crate::specs::SystemRows::return_effect, crate::specs::Applying::CanApply))]
     pub(crate) fn plan_return(&self, word: u32) -> Effect<C>
         ensures effect { meant C.value result ≡ spec.return_effect word self.now }
