@@ -23,4 +23,4 @@ def lines():
 
 
 def files():
-    yield os.path.join("..", "..", "examples", "data", "compartments.s"), list(lines())
+    yield os.path.join("..", "..", "..", "examples", "compartments.s"), list(lines())

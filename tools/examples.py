@@ -1,0 +1,79 @@
+#!/usr/bin/env python3
+"""Assembles and runs each example, and compares what it sends, and what a session of the debugger answers, with what stands beside it.
+
+    python3 tools/examples.py [PROGRAM]
+
+PROGRAM is the proved program, as the gate leaves it: crates/cherisim/out/cherisim. An example is a text NAME.s in examples/, with what
+it sends in NAME.out, and NAME.in where bytes come in; it must halt with 0 within 100000 steps. Where a page shows a session with it,
+what is typed stands in NAME.commands and what is answered in NAME.replies.
+"""
+import glob
+import os
+import subprocess
+import sys
+import tempfile
+
+TOP = os.path.join(os.path.dirname(os.path.abspath(__file__)), "..")
+EXAMPLES = os.path.join(TOP, "examples")
+PROGRAM = os.path.join(TOP, "crates", "cherisim", "out", "cherisim")
+
+# The steps between two bytes and between two ticks, of examples whose texts ask for others than the program's own.
+OPTIONS = {"echo": ["--gap", "20"], "timer": ["--tick", "10"], "compartments": ["--tick", "0"]}
+
+STEPS = "100000"
+# How long a command may take.
+SECONDS = 120
+
+
+def read(path):
+    with open(path, "rb") as file:
+        return file.read()
+
+
+def stands(path):
+    return os.path.exists(path)
+
+
+def came(words, typed=b""):
+    """What a command prints on standard output; nothing may stand on standard error, and its status is 0."""
+    ran = subprocess.run(words, input=typed, capture_output=True, timeout=SECONDS, check=False)
+    if ran.returncode or ran.stderr:
+        raise ValueError(f"status {ran.returncode}: {ran.stderr.decode(errors='replace').strip()}")
+    return ran.stdout
+
+
+def wrong(program, name, room):
+    """What is wrong with an example, or nothing."""
+    beside = os.path.join(EXAMPLES, name)
+    image = os.path.join(room, f"{name}.img")
+    came([program, "asm", f"{beside}.s", image])
+    typed = ["--input", f"{beside}.in"] if stands(f"{beside}.in") else []
+    if came([program, "run", image, STEPS, *typed, *OPTIONS.get(name, [])]) != read(f"{beside}.out"):
+        return "doesn't send what it is to send"
+    if stands(f"{beside}.commands") and came([program, "debug", image], read(f"{beside}.commands")) != read(f"{beside}.replies"):
+        return "isn't answered as it is to be answered"
+    return ""
+
+
+def tried(program, name, room):
+    """Tries an example, says how it went, and answers whether it is as expected."""
+    try:
+        told = wrong(program, name, room)
+    except (OSError, ValueError, subprocess.TimeoutExpired) as error:
+        told = str(error)
+    print(f"examples/{name}.s: {told or 'as expected'}")
+    return not told
+
+
+def main():
+    program = os.path.abspath(sys.argv[1] if len(sys.argv) > 1 else PROGRAM)
+    if not os.path.exists(program):
+        print(f"no program {os.path.relpath(program, TOP)}: the gate leaves it there")
+        return 1
+    names = sorted(os.path.basename(path).removesuffix(".s") for path in glob.glob(os.path.join(EXAMPLES, "*.s")))
+    with tempfile.TemporaryDirectory(prefix="examples-") as room:
+        return 0 if names and all([tried(program, name, room) for name in names]) else 1
+
+
+if __name__ == "__main__":
+    sys.exit(main())
