@@ -2,9 +2,10 @@
 
 use crate::fault::ProgramFault;
 use crate::files::{Folder, read_image, read_table};
-use crate::running::machine_of;
+use crate::running::ProgramMachine;
 use debugger::{Session, talk};
 use image::{FromRead, ToWrite};
+use machine::Machine;
 use std::alloc::Global;
 use std::io::{Read, Write};
 use symbols::Symbols;
@@ -24,7 +25,7 @@ pub fn debug_file<'a, F: Folder, I: Read + Drop, O: Write + Drop>(
         Some(table) => read_table(alloc, folder, table)?,
         None => Symbols::new(alloc),
     };
-    let machine = machine_of(alloc, &image)?;
+    let machine: ProgramMachine = Machine::new(alloc, &image)?;
     let mut session = Session::with_symbols(alloc, machine, table);
     let mut input = FromRead::new(input);
     let mut output = ToWrite::new(output);

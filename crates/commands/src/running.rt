@@ -1,7 +1,5 @@
 //! The command `run`, and the run without a command.
 
-ghost use Rattle.std.specs.Prelude.{◌≡◌, IfOk};
-ghost use Rattle.hart.specs.Opening.{opening};
 ghost use Rattle.sim_run.specs.Schedule.{IsInRange};
 
 use crate::fault::ProgramFault;
@@ -23,12 +21,8 @@ const FIRST: [u8; 20] = [
     0x23, 0xb0, 0x05, 0x00,
 ];
 
-/// The program's machine, in the opening state of an image: over capabilities as 128-bit words.
-pub fn machine_of<'a>(alloc: Global, image: &Image) -> Result<Machine<WordCap>, ProgramFault<'a>>
-    ensures { IfOk result (λ machine. machine ≡ opening image.now) }
-{
-    Ok(Machine::new(alloc, image)?)
-}
+/// The program's machine: over capabilities as 128-bit words.
+pub type ProgramMachine = Machine<WordCap>;
 
 /// How a run ended, and the line that says where.
 #[derive(Clone, Copy, Debug)]
@@ -38,7 +32,7 @@ pub struct Ended {
 }
 
 /// How a machine's run ended, and where.
-fn ending(machine: &Machine<WordCap>, ran: Ran) -> Ended {
+fn ending(machine: &ProgramMachine, ran: Ran) -> Ended {
     Ended {
         end: ran.end,
         place: ending_line(machine, ran.steps),
@@ -55,7 +49,7 @@ fn run_machine<'a, O: Write + Drop>(
 ) -> Result<Ended, ProgramFault<'a>>
     requires { IsInRange schedule }
 {
-    let mut machine = machine_of(alloc, image)?;
+    let mut machine: ProgramMachine = Machine::new(alloc, image)?;
     let mut sink = ToWrite::new(output);
     let ran = run_counted(&mut machine, schedule, input, &mut sink)?;
     Ok(ending(&machine, ran))
@@ -73,7 +67,7 @@ fn trace_machine<'a, F: Folder, O: Write + Drop>(
 ) -> Result<Ended, ProgramFault<'a>>
     requires { IsInRange schedule }
 {
-    let mut machine = machine_of(alloc, image)?;
+    let mut machine: ProgramMachine = Machine::new(alloc, image)?;
     let mut lines = ToWrite::new(make_file(folder, trace)?);
     let mut sink = ToWrite::new(output);
     match run_traced(&mut machine, schedule, input, &mut sink, &mut lines) {
