@@ -1,0 +1,7 @@
+use Rattle.std.proofs.Common.{rules}
+use Rattle.isa_rows.specs.Line.{line_of}
+use Rattle.isa_rows.proofs.rows.Row.name.Goals as goal
+
+pub returns : goal.returns
+unfolding line_of
+returns c = search rules
