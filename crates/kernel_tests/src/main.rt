@@ -6,7 +6,7 @@ mod stretches;
 
 use crate::stretches::{Course, course_of};
 use assembler::assemble;
-use cap_bounds::PlainCap;
+use cap_bounds::{CapRep, PlainCap};
 use image::ToWrite;
 use machine::{Machine, Why};
 use sim_run::{Schedule, run_scheduled, verdict};
@@ -69,35 +69,34 @@ fn further() -> [Meeting; 23] {
     ]
 }
 
-/// What a run of 100000 steps at most sends, and its status: `None` where the text is not assembled or there is no memory.
-/// A macro, since the size of a machine is known for each form of capability alone.
-macro_rules! run_on {
-    ($capability:ty, $alloc:expr, $text:expr, $tick:expr) => {{
-        let schedule = Schedule {
-            steps: 100_000,
-            gap: 1000,
-            tick: $tick,
-        };
-        if !schedule.is_in_range() {
-            return None;
-        }
-        let assembly = assemble($alloc, $text).ok()?;
-        let mut machine: Machine<$capability> = Machine::new($alloc, assembly.image()).ok()?;
-        let mut sent = Vec::new($alloc);
-        let mut sink = ToWrite::new(&mut sent);
-        let end = run_scheduled(&mut machine, schedule, &[], &mut sink).ok()?;
-        Some((sent, verdict(end).0))
-    }};
+/// What a machine sends in 100000 steps at most, and the status of its run: `None` where it is halted or there is no memory.
+fn sent_by<C: CapRep>(alloc: Global, machine: &mut Machine<C>, tick: u64) -> Option<(Vec<u8>, u8)> {
+    let schedule = Schedule {
+        steps: 100_000,
+        gap: 1000,
+        tick,
+    };
+    if !schedule.is_in_range() || machine.halted().is_some() {
+        return None;
+    }
+    let mut sent = Vec::new(alloc);
+    let mut sink = ToWrite::new(&mut sent);
+    let end = run_scheduled(machine, schedule, &[], &mut sink).ok()?;
+    Some((sent, verdict(end).0))
 }
 
-/// A run on capabilities of 128 bits.
+/// A run on capabilities of 128 bits: `None` where the text is not assembled or there is no memory.
 fn run_on_words(alloc: Global, text: &[u8], tick: u64) -> Option<(Vec<u8>, u8)> {
-    run_on!(WordCap, alloc, text, tick)
+    let assembly = assemble(alloc, text).ok()?;
+    let mut machine: Machine<WordCap> = Machine::new(alloc, assembly.image()).ok()?;
+    sent_by(alloc, &mut machine, tick)
 }
 
 /// A run on records.
 fn run_on_records(alloc: Global, text: &[u8], tick: u64) -> Option<(Vec<u8>, u8)> {
-    run_on!(PlainCap, alloc, text, tick)
+    let assembly = assemble(alloc, text).ok()?;
+    let mut machine: Machine<PlainCap> = Machine::new(alloc, assembly.image()).ok()?;
+    sent_by(alloc, &mut machine, tick)
 }
 
 /// Puts a text behind those before it.
