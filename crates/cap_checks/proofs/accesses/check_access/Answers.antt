@@ -22,3 +22,7 @@ returns-clause-allowed g c =
     let bounded = passed _ _ _ _ (c.check_bounds.ensures) (c.in_ok-check_bounds.was) in
     let aligned = passed _ _ _ _ (c.check-4.ensures) (c.in_ok-check-4.was) in
     search rules
+
+pub returns-in_err-check-4-clause-refused : goal.returns-in_err-check-4-clause-refused
+unfolding access_fault
+returns-in_err-check-4-clause-refused g c = search rules

@@ -1,4 +1,4 @@
-use Rattle.std.proofs.Common.{◌≡◌, ◌-◌, [], Ok, Some, None, ap, sym, ◌∙◌, arith, inl, inr}
+use Rattle.std.proofs.Common.{◌≡◌, ◌-◌, [], Ok, Some, None, ap, sym, ◌∙◌, arith, inl, inr, rules}
 use Rattle.std.proofs.lemmas.Bool.{cases_lt}
 use Rattle.tagged_memory.specs.declared.fault.MemoryFault.TheVariants.{M3}
 use Rattle.base.specs.Ram.{ram_base}
@@ -23,3 +23,6 @@ returns-clause-value c =
     let given : fill_fault m c.args.address c.args.size ≡ None =
     fill_fault-inside m c.args.address c.args.size (omega arith) (omega arith) in
     ap Ok (omega arith) ∙ sym (ap (λ f. unless f (c.args.address - ram_base)) given)
+
+pub returns-clause-within : goal.returns-clause-within
+returns-clause-within c = search rules

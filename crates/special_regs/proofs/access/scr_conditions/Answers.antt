@@ -1,0 +1,5 @@
+use Rattle.std.proofs.Common.{rules}
+use Rattle.special_regs.proofs.access.scr_conditions.Goals as goal
+
+pub returns : goal.returns
+returns g c = search rules

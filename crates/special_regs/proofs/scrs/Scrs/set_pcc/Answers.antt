@@ -1,0 +1,5 @@
+use Rattle.std.proofs.Common.{rules}
+use Rattle.special_regs.proofs.scrs.Scrs.set_pcc.Goals as goal
+
+pub returns : goal.returns
+returns g c = search rules
