@@ -1,3 +1,4 @@
+use Rattle.std.proofs.lemmas.Grind.{common_steps}
 use Rattle.std.proofs.Common.{arith, rules, ℕ, ◌≡◌, ◌+◌, ◌≤◌, List, ◌++◌, length, take, ◌∙◌, ap, sym}
 use Rattle.std.proofs.lemmas.List.{take-append-le, length-append, length-take-le}
 use Rattle.std.proofs.Math.Seq.{take-append-add}
@@ -31,3 +32,6 @@ loop-at-preserved g c =
           (Consumes-trans _ _ _ _ _ c.loop-at.invariant.read c.in_ok-count.ensures.bytes.0);
       count = search rules;
     }
+
+pub returns-then-count-eq0-clause-count : goal.returns-then-count-eq0-clause-count
+returns-then-count-eq0-clause-count g c = search rules

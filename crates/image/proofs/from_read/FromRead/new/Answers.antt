@@ -1,0 +1,5 @@
+use Rattle.std.proofs.Common.{refl}
+use Rattle.image.proofs.from_read.FromRead.new.Goals as goal
+
+pub returns-clause-failed : goal.returns-clause-failed
+returns-clause-failed g c = refl

@@ -1,0 +1,5 @@
+use Rattle.std.proofs.Common.{rules}
+use Rattle.image.proofs.section.Section.address.Goals as goal
+
+pub returns : goal.returns
+returns c = search rules
