@@ -1,4 +1,4 @@
-use Rattle.std.proofs.Common.{add-one, sym, ap, ◌∙◌}
+use Rattle.std.proofs.Common.{add-one, sym, ap, ◌∙◌, arith}
 use Rattle.hart.specs.Step.{stepped}
 use Rattle.hart.specs.Steps.{steps_after}
 use Rattle.hart.proofs.hart.Hart.advance.Goals as goal
@@ -7,3 +7,6 @@ pub returns-clause-state : goal.returns-clause-state
 returns-clause-state g c =
     c.step-byte.ensures.state ∙ ap stepped c.run_plain-steps.ensures.state
     ∙ ap (λ n. steps_after n c.args.self.now) (sym (add-one c.run_plain-steps.result))
+
+pub returns-clause-byte : goal.returns-clause-byte
+returns-clause-byte g c = grind arith

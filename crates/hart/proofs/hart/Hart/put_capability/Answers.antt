@@ -1,4 +1,4 @@
-use Rattle.std.proofs.Common.{◌≡◌, None, sym, subst}
+use Rattle.std.proofs.Common.{◌≡◌, None, sym, subst, rules}
 use Rattle.tagged_memory.specs.Memory.{place_fault}
 use Rattle.hart.specs.State.{State, HoldsCapabilities}
 use Rattle.hart.specs.StateLaws.{HoldsCapabilities-value_stored}
@@ -15,3 +15,6 @@ invariant_of-self g c =
     subst HoldsCapabilities (sym stored)
     (HoldsCapabilities-value_stored memory store.address (g.C.CapRep.value value) c.store_cap.ensures.was_sound allowed
     (g.met.C.CapRep.valid value) c.self.invariant)
+
+pub returns : goal.returns
+returns g c = search rules

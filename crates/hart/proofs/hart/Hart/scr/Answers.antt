@@ -1,4 +1,4 @@
-use Rattle.std.proofs.Common.{sym, subst, Option, None, Some}
+use Rattle.std.proofs.Common.{sym, subst, Option, None, Some, rules}
 use Rattle.std.specs.Prelude.{IsSome, option_map}
 use Rattle.special_regs.specs.Scrs.{IsAligned}
 use Rattle.special_regs.specs.NumberedLaws.{IsSome-scr_value}
@@ -15,3 +15,6 @@ unwrap-requires g c =
 
 pub returns-clause-aligned : goal.returns-clause-aligned
 returns-clause-aligned g c = subst (λ s. IsAligned s.scrs.pcc) c.self.view_is c.get.ensures.aligned
+
+pub returns-clause-value : goal.returns-clause-value
+returns-clause-value g c = search rules

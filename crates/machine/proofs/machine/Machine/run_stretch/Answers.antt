@@ -1,4 +1,4 @@
-use Rattle.std.proofs.Common.{◌≤◌, ◌++◌, ◌+◌, ap, refl, sym, ◌∙◌, arith, subst, take, drop, length, None}
+use Rattle.std.proofs.Common.{◌≤◌, ◌++◌, ◌+◌, ap, refl, sym, ◌∙◌, arith, subst, take, drop, length, None, rules}
 use Rattle.std.proofs.lemmas.Grind.{common_steps}
 use Rattle.std.proofs.lemmas.List.{append-nil, drop_all}
 use Rattle.std.specs.Prelude.{option_to_list}
@@ -109,3 +109,15 @@ returns-clause-two_worlds g c =
     let s = c.args.self.now in
     let all : length events ≤ l.done = omega arith in
     IsSameStretch-twins events s l.event-index l.done l.invariant.done (omega arith) l.invariant.twins None (drop_all l.done events all)
+
+pub returns-then-is_some-clause-state : goal.returns-then-is_some-clause-state
+returns-then-is_some-clause-state g c = search rules
+
+pub returns-clause-state : goal.returns-clause-state
+returns-clause-state g c = search rules
+
+pub returns-clause-bytes : goal.returns-clause-bytes
+returns-clause-bytes g c = search rules
+
+pub returns-clause-end : goal.returns-clause-end
+returns-clause-end g c = grind (arith, common_steps)
