@@ -42,7 +42,7 @@ REST = [
     ("names: tables of symbols, listings with names", "symbols/specs/Symbols; image_listing/specs/Named"),
     ("sessions", "debugger/specs/Command, SessionState, Reply, Answers, Conversation, Talk"),
     ("the command line and runs on a schedule",
-     "sim_run/specs/CommandLine, Schedule, Trace, Verdict, Ending, Listing"),
+     "command_line/specs/CommandLine; sim_run/specs/Schedule, Trace, Verdict, Ending, Listing"),
 ]
 
 

@@ -1,6 +1,7 @@
 //! A command line carried out, and the status that it ends with.
 
-ghost use Rattle.sim_run.specs.CommandLine.{IsSound};
+ghost use Rattle.command_line.specs.CommandLine.{AreInRange, IsSound};
+ghost use Rattle.sim_run.specs.Schedule.{IsInRange};
 
 use crate::assembling::assemble_file;
 use crate::bounding::show_bounds;
@@ -10,8 +11,9 @@ use crate::files::Folder;
 use crate::imaging::image_file;
 use crate::listing::list_file;
 use crate::running::{Ended, run_file, run_first};
+use command_line::{Plan, PlanFault, plan};
 use image::DeviceFailed;
-use sim_run::{Plan, PlanFault, plan, verdict};
+use sim_run::{Schedule, verdict};
 use std::alloc::Global;
 use std::io::{Read, Write};
 
@@ -49,6 +51,14 @@ pub fn tell_fault<E: Write>(errors: &mut E, fault: &ProgramFault<'_>) -> u8 {
     FAULT
 }
 
+/// The schedule of a run, whose numbers lie in their ranges.
+fn schedule_of(steps: u64, gap: u64, tick: u64) -> Schedule
+    requires { AreInRange steps gap tick }
+    ensures { IsInRange result }
+{
+    Schedule { steps, gap, tick }
+}
+
 /// Does what the plan says.
 fn carry_out<'a, F: Folder, I: Read + Drop, O: Write + Drop>(
     alloc: Global,
@@ -63,11 +73,14 @@ fn carry_out<'a, F: Folder, I: Read + Drop, O: Write + Drop>(
         Plan::First => Ok(Done::Run(run_first(alloc, output)?, false)),
         Plan::Run {
             image,
-            schedule,
+            steps,
+            gap,
+            tick,
             input,
             quiet,
             trace,
         } => {
+            let schedule = schedule_of(steps, gap, tick);
             let ended = run_file(alloc, folder, image, schedule, input, trace, output)?;
             Ok(Done::Run(ended, quiet))
         }

@@ -3,8 +3,8 @@
 use crate::fault::ProgramFault;
 use crate::files::{Folder, read_beginning, write_image};
 use base::ram;
+use command_line::Layout;
 use image::{Image, ImageFault};
-use sim_run::Layout;
 use std::alloc::Global;
 
 /// How many bytes of a flat file are read: one more than RAM has room for, so that a file that is too large is known by it.

@@ -3,9 +3,10 @@
 use crate::numbers::Words;
 use assembler::assemble;
 use case_texts::{CaseError, put_quoted, unquoted};
+use command_line::{Layout, Plan, PlanFault, plan};
 use failing::Narrow;
 use image::{Image, Sink};
-use sim_run::{Layout, Plan, PlanFault, Schedule, list, plan};
+use sim_run::list;
 use std::alloc::{AllocError, Global};
 
 /// Puts a number behind a text and a space, or `-` where there is none.
@@ -22,14 +23,6 @@ fn put_layout(text: &mut String, layout: Layout) -> Result<(), AllocError> {
     put_number(text, layout.entry)?;
     put_number(text, layout.pages)?;
     put_number(text, layout.mode)
-}
-
-/// Puts a schedule's numbers behind a text.
-fn put_schedule(text: &mut String, schedule: Schedule) -> Result<(), AllocError> {
-    let steps = schedule.steps;
-    let gap = schedule.gap;
-    let tick = schedule.tick;
-    write!(text, " {steps} {gap} {tick}")
 }
 
 /// Puts the file of a trace behind a text, where one is named.
@@ -61,13 +54,14 @@ fn put_plan(text: &mut String, plan: &Plan) -> Result<(), AllocError> {
         }
         Plan::Run {
             image,
-            schedule,
+            steps,
+            gap,
+            tick,
             input,
             quiet,
             trace,
         } => {
-            write!(text, "run {image}")?;
-            put_schedule(text, *schedule)?;
+            write!(text, "run {image} {steps} {gap} {tick}")?;
             let input = input.unwrap_or("-");
             let end = if *quiet { " quiet" } else { "" };
             write!(text, " {input}{end}")?;

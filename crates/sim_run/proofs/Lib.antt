@@ -2,6 +2,5 @@ pub mod Events
 pub mod Scheduled
 pub mod Alone
 pub mod StepsMet
-pub mod Found
 pub mod Listed
 pub mod TracedSteps

@@ -1,5 +1,4 @@
 -- What to read
-pub mod CommandLine
 pub mod Schedule
 pub mod Trace
 pub mod Verdict

@@ -1,105 +1,59 @@
-ghost use Rattle.std.specs.Prelude.{◌≡◌, ◌<◌, ◌^◌, ℕ, Option, IfOk, IfNone, IfErr, OnOk, Some, None, IfSome, map, option_map};
-ghost use Rattle.std.specs.Prelude.{codes};
-ghost use Rattle.clap.specs.Words.{found_of, rows_of, kind_of, first_of, subcommand_of, subcommand_rows_of};
-ghost use Rattle.clap.specs.declared.error.kind.ErrorKind.{ErrorKind};
-ghost use Rattle.sim_run.specs.CommandLine.{program, IsSound, IsTaken, IsNumber, IsNatural, IsLayoutOf, IsPlanOf, IsPlanOfCommand};
-ghost use Rattle.sim_run.specs.CommandLine.{IsScheduleOf, NoCommandFits, NoPlanFits, are_apart, is_apart, is_used};
-ghost use Rattle.sim_run.specs.Schedule.{IsInRange};
-ghost use Rattle.sim_run.specs.declared.fault.PlanFault.TheVariants.{Memory};
-ghost use Rattle.sim_run.specs.declared.layout.Layout.{Layout};
-ghost use Rattle.sim_run.specs.declared.schedule.Schedule.{Schedule};
+//! The plan that a command line asks for.
 
-use crate::command_line::program;
+ghost use Rattle.std.specs.Prelude.{◌≡◌, ◌<◌, ◌^◌, ◌↔◌, ℕ, IsTrue, Option, IfOk, IfNone, IfErr, OnOk, IfSome, map};
+ghost use Rattle.std.specs.Prelude.{codes};
+ghost use Rattle.clap.specs.Words.{found_of, rows_of, kind_of, subcommand_of, subcommand_rows_of};
+ghost use Rattle.clap.specs.declared.error.kind.ErrorKind.{ErrorKind};
+ghost use Rattle.command_line.specs.CommandLine.{program, IsSound, IsTaken, IsLayoutOf, IsPlanOf, IsPlanOfCommand};
+ghost use Rattle.command_line.specs.CommandLine.{AreNumbersOf, AreInRange, NoCommandFits, NoPlanFits, are_apart, is_apart};
+ghost use Rattle.command_line.specs.declared.fault.PlanFault.TheVariants.{Memory};
+ghost use Rattle.command_line.specs.declared.layout.Layout.{Layout};
+
+use crate::commands::program;
 use crate::fault::PlanFault;
 use crate::layout::Layout;
+use crate::limits::{MOST_GAP, MOST_STEPS, MOST_TICK};
 use crate::plans::Plan;
-use crate::schedule::Schedule;
-use asm_lines::natural;
+use crate::values::{MISSING, Misfit, is_used, natural_of, needed, number, operand, text};
 use clap::error::ErrorKind;
 use clap::{ArgMatches, Error};
 use std::alloc::Global;
 
-/// Why what clap found is no plan: a text for whoever typed it.
-type Misfit = &'static str;
-
-/// An argument that must be there isn't, or a number of a run lies outside its range.
-const MISSING: Misfit = "an argument is missing, or its value is out of range";
-
 /// A file would be written over another of the command.
 const SAME_FILE: Misfit = "a file that is written cannot be another file of the command";
 
-/// The number that was found for `id`.
-fn number(matches: &ArgMatches<'_>, id: &str) -> Option<u64>
-    ensures some { IfSome result (IsNumber id.now (rows_of (found_of matches.now))) }
-    ensures none { IfNone result ((n : ℕ) → n < 2 ^ 64 → IsNumber id.now (rows_of (found_of matches.now)) n → ⊥) }
-{
-    matches.get_one::<u64>(id)
+/// The numbers of a run: its most steps, and the steps from one byte and from one tick to the next.
+#[derive(Clone, Copy)]
+struct RunNumbers {
+    steps: u64,
+    gap: u64,
+    tick: u64,
 }
 
-/// The numbers that were found for a schedule, where they are in their ranges.
-fn schedule_of(matches: &ArgMatches<'_>) -> Option<Schedule>
-    ensures value { IfSome result (IsScheduleOf (rows_of (found_of matches.now))) }
-    ensures range { IfSome result IsInRange }
-    ensures none { IfNone result ((schedule : Schedule) → IsScheduleOf (rows_of (found_of matches.now)) schedule
-        → IsInRange schedule → ⊥) }
+/// Whether the numbers of a run lie in their ranges, as clap's own parsers say of them.
+fn are_in_range(run: RunNumbers) -> bool
+    ensures { IsTrue result ↔ AreInRange run.steps run.gap run.tick }
 {
-    let schedule = Schedule {
+    1 <= run.steps
+        && run.steps <= MOST_STEPS
+        && 1 <= run.gap
+        && run.gap <= MOST_GAP
+        && run.tick <= MOST_TICK
+}
+
+/// The numbers that were found for a run, where they lie in their ranges.
+fn numbers_of(matches: &ArgMatches<'_>) -> Option<RunNumbers>
+    ensures value { IfSome result (λ run. AreNumbersOf (rows_of (found_of matches.now)) run.steps run.gap run.tick) }
+    ensures range { IfSome result (λ run. AreInRange run.steps run.gap run.tick) }
+    ensures none { IfNone result ((steps gap tick : ℕ) → AreNumbersOf (rows_of (found_of matches.now)) steps gap tick
+        → AreInRange steps gap tick → ⊥) }
+{
+    let run = RunNumbers {
         steps: number(matches, "STEPS")?,
         gap: number(matches, "gap")?,
         tick: number(matches, "tick")?,
     };
-    if schedule.is_in_range() {
-        Some(schedule)
-    } else {
-        None
-    }
-}
-
-/// The text that was found for `id`.
-fn text<'a>(matches: &ArgMatches<'a>, id: &str) -> Option<&'a str>
-    ensures { option_map (λ s. s.now) result ≡ first_of id.now (rows_of (found_of matches.now)) }
-{
-    matches.get_str(id)
-}
-
-/// The text of an argument that must be there.
-fn operand<'a>(found: &ArgMatches<'a>, id: &str) -> Result<&'a str, Misfit>
-    ensures ok { IfOk result (λ s. first_of id.now (rows_of (found_of found.now)) ≡ Some s.now) }
-    ensures err { IfErr result (λ _. first_of id.now (rows_of (found_of found.now)) ≡ None) }
-{
-    text(found, id).ok_or(MISSING)
-}
-
-/// Whether a flag was used.
-fn is_used(found: &ArgMatches<'_>, id: &str) -> bool
-    ensures { result ≡ is_used id.now (rows_of (found_of found.now)) }
-{
-    match text(found, id) {
-        Some(value) => value == "true",
-        None => false,
-    }
-}
-
-/// The number that was found for `id`, as the assembly language writes numbers; none where the argument isn't used.
-fn natural_of(found: &ArgMatches<'_>, id: &str, misfit: Misfit) -> Result<Option<u64>, Misfit>
-    ensures ok { IfOk result (IsNatural id.now (rows_of (found_of found.now))) }
-    ensures err { IfErr result (λ _. (number : Option ℕ) → IsNatural id.now (rows_of (found_of found.now)) number → ⊥) }
-{
-    match text(found, id) {
-        None => Ok(None),
-        Some(digits) => match natural(digits.as_bytes(), u64::MAX) {
-            Ok(number) => Ok(Some(number)),
-            Err(_) => Err(misfit),
-        },
-    }
-}
-
-/// The number of an argument that must be there.
-fn needed(found: &ArgMatches<'_>, id: &str, misfit: Misfit) -> Result<u64, Misfit>
-    ensures ok { IfOk result (λ n. IsNatural id.now (rows_of (found_of found.now)) (Some n)) }
-    ensures err { IfErr result (λ _. (n : ℕ) → IsNatural id.now (rows_of (found_of found.now)) (Some n) → ⊥) }
-{
-    natural_of(found, id, misfit)?.ok_or(MISSING)
+    if are_in_range(run) { Some(run) } else { None }
 }
 
 /// Where the bytes of a flat file go.
@@ -188,11 +142,13 @@ fn run_plan<'a>(found: &ArgMatches<'a>) -> Result<Plan<'a>, Misfit>
     let image = operand(found, "IMAGE")?;
     let input = text(found, "input");
     let trace = text(found, "trace");
-    match schedule_of(found) {
+    match numbers_of(found) {
         Some(_) if !(is_apart(image, trace) && are_apart(input, trace)) => Err(SAME_FILE),
-        Some(schedule) => Ok(Plan::Run {
+        Some(run) => Ok(Plan::Run {
             image,
-            schedule,
+            steps: run.steps,
+            gap: run.gap,
+            tick: run.tick,
             input,
             quiet: is_used(found, "quiet"),
             trace,
@@ -300,8 +256,8 @@ fn fault_of(alloc: Global, error: Error) -> PlanFault
 
 /// Reads the words of a command line, the program's name first.
 ///
-/// A file that is written may not bear the name of another file of the command; numbers of 64 bits are written as in the
-/// assembly language. `Help` and `Refused` hold the text for whoever typed the words; `Memory` says that there was none.
+/// A file that is written may not bear the name of another file of the command; a number of 64 bits is typed in
+/// decimal digits, or in hexadecimal digits behind `0x`. `Help` and `Refused` hold the text for whoever typed the words; `Memory` says that there was none.
 pub fn plan<'a>(alloc: Global, words: &'a [&'a str]) -> Result<Plan<'a>, PlanFault>
     ensures taken { OnOk result (IsTaken (map (λ word. word.now) words.entry.now)) }
     ensures ok { IfOk result (IsPlanOf (subcommand_of program (map (λ word. word.now) words.entry.now))) }

@@ -1,20 +1,16 @@
 -- The command line: the command that clap reads the words by, and what a plan says of clap's matches.
-use Rattle.std.specs.Prelude.{◌≡◌, ◌-◌, ◌^◌, ℕ, Bool, not, ◌&&◌, IsTrue, List, [], ◌∷◌, Option, Some, None, Ok, true, bytes_eq, codes}
-use Rattle.std.specs.Prelude.{false, option_map, ⊤}
+use Rattle.std.specs.Prelude.{◌≡◌, ◌<◌, ◌≤◌, ◌^◌, ◌==◌, ℕ, Bool, not, ◌&&◌, if◌then◌else◌, IsTrue, List, [], ◌∷◌, drop, Option, Some, None}
+use Rattle.std.specs.Prelude.{true, false, bytes_eq, codes, option_map, ⊤}
+use Rattle.std.specs.List.{starts_with}
 use Rattle.std.specs.Option.{option_map_or}
 use Rattle.std.specs.Borrow.{Bor}
 use Rattle.std.specs.Str.Parse.{IsNumeral, digits_value, without_leading_plus}
 use Rattle.clap.specs.Words.{App, Row, Rule, Text, fault_of, first_of, one_of, new_app, new_rule, with_rule, with_subcommand}
 use Rattle.clap.specs.declared.builder.action.ArgAction.TheVariants.{SetTrue}
 use Rattle.clap.specs.declared.builder.value_parser.ValueParser.TheVariants as parser
-use Rattle.asm_lines.specs.Number.{number_of}
-use Rattle.asm_lines.specs.Operand.{up_to}
-use Rattle.asm_lines.specs.Seen.{wrapped_or}
-use Rattle.sim_run.specs.declared.layout.Layout.{Layout}
-use Rattle.sim_run.specs.declared.plans.Plan.{Plan}
-use Rattle.sim_run.specs.declared.plans.Plan.TheVariants.{Asm, Image, Run, Dis, Debug, Bounds, First}
-use Rattle.sim_run.specs.declared.schedule.Schedule.{Schedule}
-use Rattle.sim_run.specs.Schedule.{IsInRange}
+use Rattle.command_line.specs.declared.layout.Layout.{Layout}
+use Rattle.command_line.specs.declared.plans.Plan.{Plan}
+use Rattle.command_line.specs.declared.plans.Plan.TheVariants.{Asm, Image, Run, Dis, Debug, Bounds, First}
 
 -- an argument that must be there, an option --ID VALUE, and a flag --ID
 abbrev pub operand : Text → Rule
@@ -103,15 +99,43 @@ pub record IsNumber (id : Text) (rows : List Row) (number : ℕ) : Type 0 where
   pub numeral : IsNumeral 10 (without_leading_plus text)
   pub value : number ≡ digits_value 10 (without_leading_plus text)
 
--- the numbers of a schedule are those that clap found
-pub record IsScheduleOf (rows : List Row) (schedule : Schedule) : Type 0 where
-  pub steps : IsNumber (codes "STEPS") rows schedule.steps
-  pub gap : IsNumber (codes "gap") rows schedule.gap
-  pub tick : IsNumber (codes "tick") rows schedule.tick
+-- the numbers of a run are those that clap found
+pub record AreNumbersOf (rows : List Row) (steps gap tick : ℕ) : Type 0 where
+  pub steps_found : IsNumber (codes "STEPS") rows steps
+  pub gap_found : IsNumber (codes "gap") rows gap
+  pub tick_found : IsNumber (codes "tick") rows tick
 
--- the number of an argument, 0 to 2^64 - 1, as the assembly language writes numbers; none where the argument isn't used
+-- and lie in their ranges
+pub record AreInRange (steps gap tick : ℕ) : Type 0 where
+  pub some_step : 1 ≤ steps
+  pub most_steps : steps ≤ 100000000
+  pub some_gap : 1 ≤ gap
+  pub most_gap : gap ≤ 1000000
+  pub most_tick : tick ≤ 1000000
+
+-- the digits write the number, which is below 2 ^ 64
+pub record AreDigitsOf (radix : ℕ) (digits : Text) (number : ℕ) : Type 0 where
+  pub numeral : IsNumeral radix digits
+  pub value : number ≡ digits_value radix digits
+  pub small : number < 2 ^ 64
+
+-- hexadecimal digits behind `0x`, or else decimal digits; a sign is neither
+abbrev pub is_hexadecimal : Text → Bool
+is_hexadecimal text = starts_with (λ a b. a == b) text (codes "0x")
+
+abbrev pub radix_of : Text → ℕ
+radix_of text = if is_hexadecimal text then 16 else 10
+
+abbrev pub digits_of : Text → Text
+digits_of text = if is_hexadecimal text then drop 2 text else text
+
+abbrev pub IsWrittenNumber : Text → ℕ → Type 0
+IsWrittenNumber text number = AreDigitsOf (radix_of text) (digits_of text) number
+
+-- the number that an argument's text is; none where the argument isn't used
 abbrev pub IsNatural : Text → List Row → Option ℕ → Type 0
-IsNatural id rows number = option_map (λ text. wrapped_or (up_to (2 ^ 64 - 1) (number_of text))) (first_of id rows) ≡ option_map Ok number
+IsNatural id rows None = first_of id rows ≡ None
+IsNatural id rows (Some number) = (text : Text) × (first_of id rows ≡ Some text) × IsWrittenNumber text number
 
 -- where the bytes of a flat file go
 pub record IsLayoutOf (rows : List Row) (layout : Layout) : Type 0 where
@@ -137,9 +161,9 @@ IsPlanOfCommand name rows (Image flat output layout) =
     (name ≡ codes "image")
     × (first_of (codes "FLAT") rows ≡ Some flat.now) × (first_of (codes "OUT") rows ≡ Some output.now)
     × IsLayoutOf rows layout
-IsPlanOfCommand name rows (Run image schedule input quiet trace) =
+IsPlanOfCommand name rows (Run image steps gap tick input quiet trace) =
     (name ≡ codes "run")
-    × (first_of (codes "IMAGE") rows ≡ Some image.now) × IsScheduleOf rows schedule
+    × (first_of (codes "IMAGE") rows ≡ Some image.now) × AreNumbersOf rows steps gap tick
     × IsFile (codes "input") rows input × (quiet ≡ is_used (codes "quiet") rows) × IsFile (codes "trace") rows trace
 IsPlanOfCommand name rows (Dis image symbols) =
     (name ≡ codes "dis") × (first_of (codes "IMAGE") rows ≡ Some image.now) × IsFile (codes "symbols") rows symbols
@@ -169,7 +193,8 @@ abbrev pub IsSound : Plan → Type 0
 IsSound (Asm input output symbols) =
     IsTrue (not (bytes_eq input.now output.now) && (is_apart input.now symbols && is_apart output.now symbols))
 IsSound (Image flat output layout) = IsTrue (not (bytes_eq flat.now output.now))
-IsSound (Run image schedule input quiet trace) = IsInRange schedule × IsTrue (is_apart image.now trace && are_apart input trace)
+IsSound (Run image steps gap tick input quiet trace) =
+    AreInRange steps gap tick × IsTrue (is_apart image.now trace && are_apart input trace)
 IsSound (Dis image symbols) = ⊤
 IsSound (Debug image symbols) = ⊤
 IsSound (Bounds base length address) = ⊤

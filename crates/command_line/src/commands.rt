@@ -1,13 +1,15 @@
-ghost use Rattle.std.specs.Prelude.{◌≡◌, ◌<◌, IfOk, true, false};
-ghost use Rattle.clap.specs.Words.{app_of, rule_of, with_rule};
-ghost use Rattle.clap.specs.declared.builder.command.Command.TheViews.{out-Command};
-ghost use Rattle.sim_run.specs.CommandLine.{operand, named, flag, steps_rule, gap_rule, tick_rule, with_options};
-ghost use Rattle.sim_run.specs.CommandLine.{with_schedule, with_symbols, with_layout};
-ghost use Rattle.sim_run.specs.CommandLine.{asm_command, image_command, run_command, dis_command, debug_command};
-ghost use Rattle.sim_run.specs.CommandLine.{bounds_command, making, taking, program};
+//! The commands, and the program that they are of.
 
-use clap::builder::ValueParser;
-use clap::{Arg, ArgAction, Command};
+ghost use Rattle.std.specs.Prelude.{◌≡◌, IfOk, false};
+ghost use Rattle.clap.specs.Words.{app_of, with_rule};
+ghost use Rattle.clap.specs.declared.builder.command.Command.TheViews.{out-Command};
+ghost use Rattle.command_line.specs.CommandLine.{operand, named, flag, steps_rule, gap_rule, tick_rule, with_options};
+ghost use Rattle.command_line.specs.CommandLine.{with_schedule, with_symbols, with_layout};
+ghost use Rattle.command_line.specs.CommandLine.{asm_command, image_command, run_command, dis_command, debug_command};
+ghost use Rattle.command_line.specs.CommandLine.{bounds_command, making, taking, program};
+
+use crate::arguments::{flag, gap, named, operand, steps, tick};
+use clap::Command;
 use std::alloc::{AllocError, Global};
 
 /// What the help says below the commands.
@@ -41,15 +43,7 @@ fn with_operand<'a>(
     ensures app { IfOk result (λ c. app_of c ≡ with_rule (app_of command.entry) (operand id.entry.now)) }
     ensures local { IfOk result (λ c. (out-Command c).has_globals ≡ false) }
 {
-    command.arg(Arg::new(alloc, id).help(help).required(true))
-}
-
-/// An option with a value: `--id VALUE`.
-fn named<'a>(alloc: Global, id: &'a str, value: &'a str, help: &'a str) -> Arg<'a>
-    ensures rule { rule_of result ≡ named id.entry.now }
-    ensures local { result.global ≡ false }
-{
-    Arg::new(alloc, id).long(id).value_name(value).help(help)
+    command.arg(operand(alloc, id, help))
 }
 
 /// Adds an option with a value.
@@ -78,12 +72,7 @@ fn with_flag<'a>(
     ensures app { IfOk result (λ c. app_of c ≡ with_rule (app_of command.entry) (flag id.entry.now)) }
     ensures local { IfOk result (λ c. (out-Command c).has_globals ≡ false) }
 {
-    command.arg(
-        Arg::new(alloc, id)
-            .long(id)
-            .action(ArgAction::SetTrue)
-            .help(help),
-    )
+    command.arg(flag(alloc, id, help))
 }
 
 /// Adds the number of steps.
@@ -92,10 +81,7 @@ fn with_steps<'a>(alloc: Global, run: Command<'a>) -> Result<Command<'a>, AllocE
     ensures app { IfOk result (λ c. app_of c ≡ with_rule (app_of run.entry) steps_rule) }
     ensures local { IfOk result (λ c. (out-Command c).has_globals ≡ false) }
 {
-    let steps = Arg::new(alloc, "STEPS")
-        .help("The most steps that are done, 1 to 100000000")
-        .required(true);
-    run.arg(steps.value_parser(ValueParser::unsigned(1, 100_000_000)))
+    run.arg(steps(alloc))
 }
 
 /// Adds how many steps lie between two bytes of the input.
@@ -104,12 +90,7 @@ fn with_gap<'a>(alloc: Global, run: Command<'a>) -> Result<Command<'a>, AllocErr
     ensures app { IfOk result (λ c. app_of c ≡ with_rule (app_of run.entry) gap_rule) }
     ensures local { IfOk result (λ c. (out-Command c).has_globals ≡ false) }
 {
-    let help = "Steps from one byte of the input to the next, 1 to 1000000";
-    run.arg(
-        named(alloc, "gap", "N", help)
-            .value_parser(ValueParser::unsigned(1, 1_000_000))
-            .default_value("1000"),
-    )
+    run.arg(gap(alloc))
 }
 
 /// Adds how many steps lie between two ticks.
@@ -118,12 +99,7 @@ fn with_tick<'a>(alloc: Global, run: Command<'a>) -> Result<Command<'a>, AllocEr
     ensures app { IfOk result (λ c. app_of c ≡ with_rule (app_of run.entry) tick_rule) }
     ensures local { IfOk result (λ c. (out-Command c).has_globals ≡ false) }
 {
-    let help = "Steps from one tick of the timer to the next, 0 to 1000000; at 0 there is none";
-    run.arg(
-        named(alloc, "tick", "N", help)
-            .value_parser(ValueParser::unsigned(0, 1_000_000))
-            .default_value("100"),
-    )
+    run.arg(tick(alloc))
 }
 
 /// Adds the option that names a file of labels.

@@ -5,10 +5,9 @@ use Rattle.std.specs.Str.Parse.{IsNumeral, digits_value, without_leading_plus}
 use Rattle.clap.specs.Words.{ReadsOne, Row, one_text, rows_of}
 use Rattle.clap.specs.declared.parser.matches.Found.{Found}
 use Rattle.clap.proofs.WalkLemmas.{one_text-rows}
-use Rattle.sim_run.specs.declared.plans.Plan.TheVariants.{Asm, Image, Run, Dis, Debug, Bounds, First}
-use Rattle.sim_run.specs.declared.schedule.Schedule.{Schedule}
-use Rattle.sim_run.specs.Schedule.{IsInRange}
-use Rattle.sim_run.specs.CommandLine.{IsNumber, IsScheduleOf, NoCommandFits}
+use Rattle.command_line.specs.declared.plans.Plan.TheVariants.{Asm, Image, Run, Dis, Debug, Bounds, First}
+use Rattle.command_line.specs.declared.layout.Layout.{Layout}
+use Rattle.command_line.specs.CommandLine.{IsNumber, IsNatural, IsLayoutOf, AreNumbersOf, AreInRange, NoCommandFits}
 
 pub if_err : {T E : Type 0} (r : Result T E) (P : Type 0) → P → IfErr r (λ _. P)
 if_err (Ok x) P p = tt
@@ -47,14 +46,30 @@ number_none f id G says None reads = λ n small number.
 
 -- ---- plans
 
--- a plan of `run` has a schedule
-pub no_run : (rows : List Row) → ((schedule : Schedule) → IsScheduleOf rows schedule → IsInRange schedule → ⊥)
+-- a plan of `image` has a layout
+pub no_image : (rows : List Row) → ((layout : Layout) → IsLayoutOf rows layout → ⊥)
+    → NoCommandFits (codes "image") rows
+no_image rows none (Asm input output symbols) fits sound =
+    let bad : 105 ≡ 97 = ap (λ t. slice_index t 0) fits.0 in absurd (omega (arith, bad))
+no_image rows none (Image flat output layout) fits sound = none layout fits.3
+no_image rows none (Run image steps gap tick input quiet trace) fits sound =
+    let bad : 105 ≡ 114 = ap (λ t. slice_index t 0) fits.0 in absurd (omega (arith, bad))
+no_image rows none (Dis image symbols) fits sound =
+    let bad : 105 ≡ 100 = ap (λ t. slice_index t 0) fits.0 in absurd (omega (arith, bad))
+no_image rows none (Debug image symbols) fits sound =
+    let bad : 105 ≡ 100 = ap (λ t. slice_index t 0) fits.0 in absurd (omega (arith, bad))
+no_image rows none (Bounds base length address) fits sound =
+    let bad : 105 ≡ 98 = ap (λ t. slice_index t 0) fits.0 in absurd (omega (arith, bad))
+no_image rows none First fits sound = fits
+
+-- a plan of `run` has its numbers, in their ranges
+pub no_run : (rows : List Row) → ((steps gap tick : ℕ) → AreNumbersOf rows steps gap tick → AreInRange steps gap tick → ⊥)
     → NoCommandFits (codes "run") rows
 no_run rows none (Asm input output symbols) fits sound =
     let bad : 114 ≡ 97 = ap (λ t. slice_index t 0) fits.0 in absurd (omega (arith, bad))
 no_run rows none (Image flat output layout) fits sound =
     let bad : 114 ≡ 105 = ap (λ t. slice_index t 0) fits.0 in absurd (omega (arith, bad))
-no_run rows none (Run image schedule input quiet trace) fits sound = none schedule fits.2 sound.0
+no_run rows none (Run image steps gap tick input quiet trace) fits sound = none steps gap tick fits.2 sound.0
 no_run rows none (Dis image symbols) fits sound =
     let bad : 114 ≡ 100 = ap (λ t. slice_index t 0) fits.0 in absurd (omega (arith, bad))
 no_run rows none (Debug image symbols) fits sound =
@@ -62,3 +77,19 @@ no_run rows none (Debug image symbols) fits sound =
 no_run rows none (Bounds base length address) fits sound =
     let bad : 114 ≡ 98 = ap (λ t. slice_index t 0) fits.0 in absurd (omega (arith, bad))
 no_run rows none First fits sound = fits
+
+-- a plan of `bounds` has a base and a length
+pub no_bounds : (rows : List Row) → ((base length : ℕ) → IsNatural (codes "BASE") rows (Some base) → IsNatural (codes "LENGTH") rows (Some length) → ⊥)
+    → NoCommandFits (codes "bounds") rows
+no_bounds rows none (Asm input output symbols) fits sound =
+    let bad : 98 ≡ 97 = ap (λ t. slice_index t 0) fits.0 in absurd (omega (arith, bad))
+no_bounds rows none (Image flat output layout) fits sound =
+    let bad : 98 ≡ 105 = ap (λ t. slice_index t 0) fits.0 in absurd (omega (arith, bad))
+no_bounds rows none (Run image steps gap tick input quiet trace) fits sound =
+    let bad : 98 ≡ 114 = ap (λ t. slice_index t 0) fits.0 in absurd (omega (arith, bad))
+no_bounds rows none (Dis image symbols) fits sound =
+    let bad : 98 ≡ 100 = ap (λ t. slice_index t 0) fits.0 in absurd (omega (arith, bad))
+no_bounds rows none (Debug image symbols) fits sound =
+    let bad : 98 ≡ 100 = ap (λ t. slice_index t 0) fits.0 in absurd (omega (arith, bad))
+no_bounds rows none (Bounds base length address) fits sound = none base length fits.1 fits.2
+no_bounds rows none First fits sound = fits

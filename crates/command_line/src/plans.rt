@@ -1,5 +1,4 @@
 use crate::layout::Layout;
-use crate::schedule::Schedule;
 
 /// What the command line asks for.
 #[derive(Clone, Copy, Debug, PartialEq, Eq)]
@@ -26,8 +25,12 @@ pub enum Plan<'a> {
     Run {
         /// The file with the image.
         image: &'a str,
-        /// When the run ends, and when bytes and ticks come.
-        schedule: Schedule,
+        /// The most steps that are done, 1 to 100000000.
+        steps: u64,
+        /// Steps from one byte of the input to the next, 1 to 1000000.
+        gap: u64,
+        /// Steps from one tick of the timer to the next, at most 1000000; at 0 there is no tick.
+        tick: u64,
         /// The file whose bytes come on the console, if one is named.
         input: Option<&'a str>,
         /// Whether the line that says where a run ended is left out.

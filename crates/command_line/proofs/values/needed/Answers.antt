@@ -1,6 +1,6 @@
 use Rattle.std.specs.Prelude.{Some}
-use Rattle.sim_run.proofs.Found.{if_err}
-use Rattle.sim_run.proofs.reading.needed.Goals as goal
+use Rattle.command_line.proofs.Found.{if_err}
+use Rattle.command_line.proofs.values.needed.Goals as goal
 
 pub returns-in_err-natural_of-clause-err : goal.returns-in_err-natural_of-clause-err
 returns-in_err-natural_of-clause-err c =

@@ -1,5 +1,5 @@
 ghost use Rattle.std.specs.Prelude.{◌≡◌};
-ghost use Rattle.sim_run.specs.declared.fault.PlanFault.TheVariants.{Memory};
+ghost use Rattle.command_line.specs.declared.fault.PlanFault.TheVariants.{Memory};
 
 use std::alloc::AllocError;
 

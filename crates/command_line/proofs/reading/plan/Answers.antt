@@ -4,8 +4,8 @@ use Rattle.clap.specs.Words.{App, HasKind, HasMatchesOf, Text, fault_of, is_simp
 use Rattle.clap.specs.declared.parser.matches.ArgMatches.{ArgMatches}
 use Rattle.clap.specs.declared.error.Error.{Error}
 use Rattle.clap.specs.declared.error.kind.ErrorKind.{ErrorKind}
-use Rattle.sim_run.specs.CommandLine.{program, IsPlanOf, NoPlanFits}
-use Rattle.sim_run.proofs.reading.plan.Goals as goal
+use Rattle.command_line.specs.CommandLine.{program, IsPlanOf, NoPlanFits}
+use Rattle.command_line.proofs.reading.plan.Goals as goal
 
 -- what clap says of errors holds of a command without rules between its arguments, as the program's
 is_free : (app : App) → app ≡ program → is_simple_and_free app ≡ true

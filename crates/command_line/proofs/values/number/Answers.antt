@@ -1,7 +1,7 @@
 use Rattle.std.specs.Str.Parse.{ParsesUnsigned, ExplainsUnsignedError, HasUnsignedDigitsIfOk}
 use Rattle.clap.specs.Words.{found_of}
-use Rattle.sim_run.proofs.Found.{number_some, number_none}
-use Rattle.sim_run.proofs.reading.number.Goals as goal
+use Rattle.command_line.proofs.Found.{number_some, number_none}
+use Rattle.command_line.proofs.values.number.Goals as goal
 
 pub returns : goal.returns
 returns c = record {

@@ -1,6 +1,6 @@
 use Rattle.clap.specs.Words.{found_of, rows_of}
-use Rattle.sim_run.proofs.Found.{no_run}
-use Rattle.sim_run.proofs.reading.run_plan.Goals as goal
+use Rattle.command_line.proofs.Found.{no_run}
+use Rattle.command_line.proofs.reading.run_plan.Goals as goal
 
 pub returns-in-None-clause-none : goal.returns-in-None-clause-none
 returns-in-None-clause-none c = no_run (rows_of (found_of c.args.found.now)) c.in-None.ensures.none

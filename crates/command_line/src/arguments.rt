@@ -1,0 +1,68 @@
+//! The arguments of the commands.
+
+ghost use Rattle.std.specs.Prelude.{◌≡◌, false};
+ghost use Rattle.clap.specs.Words.{rule_of};
+ghost use Rattle.command_line.specs.CommandLine.{operand, named, flag, steps_rule, gap_rule, tick_rule};
+
+use crate::limits::{MOST_GAP, MOST_STEPS, MOST_TICK};
+use clap::builder::ValueParser;
+use clap::{Arg, ArgAction};
+use std::alloc::Global;
+
+/// An argument that must be there.
+pub(crate) fn operand<'a>(alloc: Global, id: &'a str, help: &'a str) -> Arg<'a>
+    ensures rule { rule_of result ≡ operand id.entry.now }
+    ensures local { result.global ≡ false }
+{
+    Arg::new(alloc, id).help(help).required(true)
+}
+
+/// An option with a value: `--id VALUE`.
+pub(crate) fn named<'a>(alloc: Global, id: &'a str, value: &'a str, help: &'a str) -> Arg<'a>
+    ensures rule { rule_of result ≡ named id.entry.now }
+    ensures local { result.global ≡ false }
+{
+    Arg::new(alloc, id).long(id).value_name(value).help(help)
+}
+
+/// A flag: `--id`.
+pub(crate) fn flag<'a>(alloc: Global, id: &'a str, help: &'a str) -> Arg<'a>
+    ensures rule { rule_of result ≡ flag id.entry.now }
+    ensures local { result.global ≡ false }
+{
+    Arg::new(alloc, id)
+        .long(id)
+        .action(ArgAction::SetTrue)
+        .help(help)
+}
+
+/// The number of steps of a run.
+pub(crate) fn steps<'a>(alloc: Global) -> Arg<'a>
+    ensures rule { rule_of result ≡ steps_rule }
+    ensures local { result.global ≡ false }
+{
+    let help = "The most steps that are done, 1 to 100000000";
+    operand(alloc, "STEPS", help).value_parser(ValueParser::unsigned(1, MOST_STEPS))
+}
+
+/// How many steps lie between two bytes of the input.
+pub(crate) fn gap<'a>(alloc: Global) -> Arg<'a>
+    ensures rule { rule_of result ≡ gap_rule }
+    ensures local { result.global ≡ false }
+{
+    let help = "Steps from one byte of the input to the next, 1 to 1000000";
+    named(alloc, "gap", "N", help)
+        .value_parser(ValueParser::unsigned(1, MOST_GAP))
+        .default_value("1000")
+}
+
+/// How many steps lie between two ticks.
+pub(crate) fn tick<'a>(alloc: Global) -> Arg<'a>
+    ensures rule { rule_of result ≡ tick_rule }
+    ensures local { result.global ≡ false }
+{
+    let help = "Steps from one tick of the timer to the next, 0 to 1000000; at 0 there is none";
+    named(alloc, "tick", "N", help)
+        .value_parser(ValueParser::unsigned(0, MOST_TICK))
+        .default_value("100")
+}

@@ -1,0 +1,10 @@
+//! How far the numbers of a run go.
+
+/// The most steps that a run may do; it does at least one.
+pub(crate) const MOST_STEPS: u64 = 100_000_000;
+
+/// The most steps from one byte of the input to the next; there is at least one.
+pub(crate) const MOST_GAP: u64 = 1_000_000;
+
+/// The most steps from one tick of the timer to the next; 0 says that there is no tick.
+pub(crate) const MOST_TICK: u64 = 1_000_000;
