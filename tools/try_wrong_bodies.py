@@ -28,7 +28,8 @@ import sys
 import tempfile
 import threading
 
-ROOT = os.path.dirname(os.path.dirname(os.path.abspath(__file__)))
+from toolchain import ROOT, compiler, crates, folder_of, over_the_logic, words
+
 FOLDERS = ("must-fail", "wrong-bodies")
 PARTS = ("src", "specs", "proofs")
 COMMENTS = ("//", "--")
@@ -42,29 +43,6 @@ PRINTING = threading.Lock()
 def say(text):
     with PRINTING:
         print(text, flush=True)
-
-
-def kit():
-    """The folder of the toolchain that `rt` belongs to."""
-    found = shutil.which("rt")
-    if not found:
-        sys.exit("no rt on the path")
-    return os.path.dirname(os.path.dirname(os.path.realpath(found)))
-
-
-def crates():
-    """The crates of crates.txt, each with what it stands on."""
-    found = {}
-    with open(os.path.join(ROOT, "crates.txt"), encoding="utf-8") as file:
-        for line in file:
-            name, colon, needs = line.partition("#")[0].partition(":")
-            if colon:
-                found[name.split()[0]] = needs.split()
-    return found
-
-
-def folder_of(crate):
-    return os.path.join(ROOT, "crates", crate)
 
 
 def edits_of(crate):
@@ -127,7 +105,7 @@ def function_of(crate, path, old):
         text = file.read()
     at = text.find(old)
     before = text[: text.find("\n", at + len(old.rstrip("\n")))] if at >= 0 else ""
-    functions = [*re.finditer(r"^( *)(?:pub(?:\([a-z]+\))? )?(?:const )?fn (\w+)", before, re.M)]
+    functions = [*re.finditer(r'^( *)(?:pub(?:\([a-z]+\))? )?(?:const )?(?:extern "C" )?fn (\w+)', before, re.M)]
     if not functions or "\n}\n" in before[functions[-1].end() :]:
         return None
     indent, name = functions[-1][1], functions[-1][2]
@@ -141,19 +119,8 @@ class Checker:
     """Checks copies of a crate, over the libraries below it."""
 
     def __init__(self, crate, known):
-        self.crate, self.kit = crate, kit()
-        self.words = [os.path.join(self.kit, "bin", "rattle"), "check", *self.given(known)]
-
-    def given(self, known):
-        rlib = lambda it: os.path.join(folder_of(it), "out", "rlib", f"{it}.rlib") if it in known else os.path.join(self.kit, "rlibs", f"{it}.rlib")
-        root = next(it for it in ("src/main.rt", "src/lib.rt") if os.path.exists(os.path.join(folder_of(self.crate), it)))
-        yield from ("--crate-name", self.crate, root, "--extern", f"std={rlib('std')}")
-        for need in known[self.crate]:
-            yield from ("--extern", f"{need}={rlib(need)}")
-        for room in [os.path.join(self.kit, "rlibs"), *(os.path.dirname(rlib(it)) for it in below(self.crate, known))]:
-            yield from ("-L", f"dependency={room}")
-        logic = os.path.join(self.kit, "rattle", "logic", "antt-project.json")
-        yield from ("--antt-project", logic, "--logic-built", os.path.join(self.kit, "logic_built"), "--jobs", "1")
+        self.crate = crate
+        self.words = [compiler(), "check", *words(crate, known), *over_the_logic(1)]
 
     def report(self, texts, functions):
         """What a check says of these functions, and of what they call, of a copy with these texts."""
@@ -167,15 +134,6 @@ class Checker:
             only = [word for it in sorted(functions) for word in ("--only", it)]
             how = {"cwd": room, "stdin": subprocess.DEVNULL, "stdout": subprocess.PIPE, "stderr": subprocess.STDOUT}
             return subprocess.run([*self.words, *only], check=False, encoding="utf-8", errors="replace", **how).stdout
-
-
-def below(crate, known):
-    """The crates that a crate stands on, directly or not."""
-    found = []
-    for need in known[crate]:
-        if need in known:
-            found += [it for it in [*below(need, known), need] if it not in found]
-    return found
 
 
 def broken(crate, said):

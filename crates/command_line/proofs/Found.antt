@@ -79,7 +79,8 @@ no_run rows none (Bounds base length address) fits sound =
 no_run rows none First fits sound = fits
 
 -- a plan of `bounds` has a base and a length
-pub no_bounds : (rows : List Row) → ((base length : ℕ) → IsNatural (codes "BASE") rows (Some base) → IsNatural (codes "LENGTH") rows (Some length) → ⊥)
+pub no_bounds : (rows : List Row)
+    → ((base length : ℕ) → IsNatural (codes "BASE") rows (Some base) → IsNatural (codes "LENGTH") rows (Some length) → ⊥)
     → NoCommandFits (codes "bounds") rows
 no_bounds rows none (Asm input output symbols) fits sound =
     let bad : 98 ≡ 97 = ap (λ t. slice_index t 0) fits.0 in absurd (omega (arith, bad))

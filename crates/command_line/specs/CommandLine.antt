@@ -1,6 +1,6 @@
 -- The command line: the command that clap reads the words by, and what a plan says of clap's matches.
-use Rattle.std.specs.Prelude.{◌≡◌, ◌<◌, ◌≤◌, ◌^◌, ◌==◌, ℕ, Bool, not, ◌&&◌, if◌then◌else◌, IsTrue, List, [], ◌∷◌, drop, Option, Some, None}
-use Rattle.std.specs.Prelude.{true, false, bytes_eq, codes, option_map, ⊤}
+use Rattle.std.specs.Prelude.{◌≡◌, ◌<◌, ◌≤◌, ◌^◌, ◌==◌, ℕ, Bool, not, ◌&&◌, if◌then◌else◌, IsTrue, List, [], ◌∷◌, drop, Option, Some}
+use Rattle.std.specs.Prelude.{None, true, false, bytes_eq, codes, option_map, ⊤}
 use Rattle.std.specs.List.{starts_with}
 use Rattle.std.specs.Option.{option_map_or}
 use Rattle.std.specs.Borrow.{Bor}

@@ -47,7 +47,11 @@ pub(crate) fn is_used(found: &ArgMatches<'_>, id: &str) -> bool
 }
 
 /// The number that was found for `id`, which its text writes; none where the argument isn't used.
-pub(crate) fn natural_of(found: &ArgMatches<'_>, id: &str, misfit: Misfit) -> Result<Option<u64>, Misfit>
+pub(crate) fn natural_of(
+    found: &ArgMatches<'_>,
+    id: &str,
+    misfit: Misfit,
+) -> Result<Option<u64>, Misfit>
     ensures ok { IfOk result (IsNatural id.now (rows_of (found_of found.now))) }
     ensures err { IfErr result (λ _. (number : Option ℕ) → IsNatural id.now (rows_of (found_of found.now)) number → ⊥) }
 {

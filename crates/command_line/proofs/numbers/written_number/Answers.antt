@@ -1,4 +1,4 @@
-use Rattle.std.proofs.Common.{◌≡◌, ℕ, Bool, false, List, Option, IfNone, drop, codes, sym, subst}
+use Rattle.std.proofs.Common.{◌≡◌, ℕ, false, List, Option, IfNone, drop, codes, sym, subst}
 use Rattle.std.specs.Prelude.{if◌then◌else◌}
 use Rattle.std.proofs.lemmas.Str.Pattern.{starts_text}
 use Rattle.command_line.specs.CommandLine.{AreDigitsOf, IsWrittenNumber, is_hexadecimal}
