@@ -40,7 +40,7 @@ REST = [
     ("what a step comes to, as text", "trap_texts/specs/Names, Text; effect_texts/specs/ValueText, EffectText, TraceLine"),
     ("what the next step asks for, and why", "explain/specs/Stages, Text"),
     ("names: tables of symbols, listings with names", "symbols/specs/Symbols; image_listing/specs/Named"),
-    ("sessions", "debugger/specs/Command, SessionState, Reply, Answers, Conversation, Talk"),
+    ("sessions", "debug_commands/specs/Command; debugger/specs/SessionState, Reply, Answers, Conversation, Talk"),
     ("the command line and runs on a schedule",
      "command_line/specs/CommandLine; sim_run/specs/Schedule, Trace, Verdict, Ending, Listing"),
 ]

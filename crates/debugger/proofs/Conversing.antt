@@ -10,9 +10,9 @@ use Rattle.std.specs.List.{slice_split, join_by}
 use Rattle.hart.specs.State.{State}
 use Rattle.symbols.specs.Symbols.{Symbol}
 use Rattle.machine.specs.Run.{run_after}
-use Rattle.debugger.specs.declared.fault.DebugFault.{DebugFault}
-use Rattle.debugger.specs.declared.fault.DebugFault.TheVariants.{B2}
-use Rattle.debugger.specs.Command.{Command, step, tick, byte, until, reg, regs, scr, csr, caps, mem, dis, why, help, quit, command_of}
+use Rattle.debug_commands.specs.declared.fault.DebugFault.{DebugFault}
+use Rattle.debug_commands.specs.declared.fault.DebugFault.TheVariants.{B2}
+use Rattle.debug_commands.specs.Command.{Command, step, tick, byte, until, reg, regs, scr, csr, caps, mem, dis, why, help, quit, command_of}
 use Rattle.debugger.specs.SessionState.{SessionState, session_state}
 use Rattle.debugger.specs.Reply.{answer_to, events_of, command_in, state_by, state_after}
 use Rattle.debugger.specs.Conversation.{reply_to, is_end, ends_by, is_last, replies_to, state_after_lines, unread_lines, conversation}

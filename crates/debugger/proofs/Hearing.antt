@@ -12,7 +12,7 @@ use Rattle.image.specs.Devices.{AppendsBeginning}
 use Rattle.image.specs.BeginningLaws.{beginning_after}
 use Rattle.debugger.specs.declared.fault.TalkFault.{TalkFault}
 use Rattle.debugger.specs.declared.fault.TalkFault.TheVariants.{Read, Write, Memory}
-use Rattle.debugger.specs.Command.{command_of}
+use Rattle.debug_commands.specs.Command.{command_of}
 use Rattle.debugger.specs.Reply.{state_after, allowed, state_by}
 use Rattle.debugger.specs.SessionState.{SessionState, session_state}
 use Rattle.debugger.specs.Standing.{Standing, standing_with}

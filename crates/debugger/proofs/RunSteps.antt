@@ -10,9 +10,10 @@ use Rattle.hart.specs.State.{State, pc_of}
 use Rattle.hart.specs.Steps.{GoesBy}
 use Rattle.hart.specs.Event.{after, sent}
 use Rattle.machine.specs.Run.{run_after, run_sent}
-use Rattle.debugger.specs.declared.command.Stop.{Stop}
-use Rattle.debugger.specs.declared.command.Stop.TheVariants.{Address, Trap}
-use Rattle.debugger.specs.Reply.{is_stop, stop_address, steps_until}
+use Rattle.debug_commands.specs.declared.command.Stop.{Stop}
+use Rattle.debug_commands.specs.declared.command.Stop.TheVariants.{Address, Trap}
+use Rattle.debug_commands.specs.Command.{stop_address}
+use Rattle.debugger.specs.Reply.{is_stop, steps_until}
 use Rattle.debugger.specs.Lines.{goes_on}
 
 module _ (es : List Event) (e : Event) (rest : List Event) (first : es ≡ e ∷ rest) (s n : State) (step : n ≡ after e s) where

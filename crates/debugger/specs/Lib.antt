@@ -1,12 +1,10 @@
 -- What to read
-pub mod Command
 pub mod SessionState
 pub mod Reply
 pub mod Conversation
 pub mod Answers
 pub mod Talk
 -- Inner words
-pub mod Seen
 pub mod Lines
 pub mod Standing
 pub mod Heard

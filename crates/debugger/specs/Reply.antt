@@ -19,15 +19,15 @@ use Rattle.machine.specs.Run.{run_after, run_sent}
 use Rattle.explain.specs.Text.{why_text}
 use Rattle.asm_names.specs.Registers.{capability_names, register_name}
 use Rattle.asm_names.specs.SpecialNames.{csr_name, scr_name}
-use Rattle.debugger.specs.declared.fault.DebugFault.{DebugFault}
-use Rattle.debugger.specs.declared.fault.DebugFault.TheVariants.{B3}
+use Rattle.debug_commands.specs.declared.fault.DebugFault.{DebugFault}
+use Rattle.debug_commands.specs.declared.fault.DebugFault.TheVariants.{B3}
 use Rattle.disassembler.specs.Hex.{hex_of}
 use Rattle.disassembler.specs.Shown.{name_or, word_line}
 use Rattle.effect_texts.specs.ValueText.{value_line}
-use Rattle.debugger.specs.declared.command.Stop.{Stop}
-use Rattle.debugger.specs.declared.command.Stop.TheVariants.{Address, Trap}
-use Rattle.debugger.specs.Command.{Command, step, tick, byte, until, reg, regs, scr, csr, caps, mem, dis, why, help, quit}
-use Rattle.debugger.specs.Command.{help_lines, command_of}
+use Rattle.debug_commands.specs.declared.command.Stop.{Stop}
+use Rattle.debug_commands.specs.declared.command.Stop.TheVariants.{Address, Trap}
+use Rattle.debug_commands.specs.Command.{Command, step, tick, byte, until, reg, regs, scr, csr, caps, mem, dis, why, help, quit}
+use Rattle.debug_commands.specs.Command.{help_text, command_of}
 use Rattle.debugger.specs.SessionState.{SessionState}
 
 -- ---- commands that give events
@@ -36,11 +36,6 @@ use Rattle.debugger.specs.SessionState.{SessionState}
 abbrev pub is_stop : Stop → State → Bool
 is_stop (Address address) s = pc_of s == address
 is_stop Trap s = is_trap (step_outcome s)
-
--- the address at which a command stops, if it stops at one
-abbrev pub stop_address : Stop → Option ℕ
-stop_address (Address address) = Some address
-stop_address Trap = None
 
 -- the steps of `until` and of `trap`: given while they don't stop, the machine is not halted, and fewer than the most were
 abbrev pub steps_until : Stop → ℕ → State → List Event
@@ -115,10 +110,6 @@ byte_lines (suc n) address bytes =
 abbrev pub word_lines : Bool → Memory → ℕ → ℕ → List ℕ
 word_lines mode m zero address = []
 word_lines mode m (suc n) address = word_line mode address (number_at m address 4) ++ word_lines mode m n (address + 4)
-
--- the commands, one a line
-abbrev pub help_text : List ℕ
-help_text = flat_map (λ line. line ++ codes "\n") help_lines
 
 -- ---- replies
 

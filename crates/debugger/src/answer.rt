@@ -3,20 +3,19 @@ ghost use Rattle.std.specs.Prelude.{◌≡◌, ◌<◌, ◌*◌, ◌%◌, false,
 ghost use Rattle.cap_bounds.specs.CapValue.{value_flag};
 ghost use Rattle.special_regs.specs.Scrs.{scr_value};
 ghost use Rattle.machine.specs.Run.{run_after};
-ghost use Rattle.debugger.specs.Command.{reg, regs, scr, csr, caps, mem, dis, why};
-ghost use Rattle.debugger.specs.Reply.{told, events_of, events_line, help_text, is_outside, answer_to};
-ghost use Rattle.debugger.specs.Seen.{seen_command, IsWithinLimits};
+ghost use Rattle.debug_commands.specs.Command.{reg, regs, scr, csr, caps, mem, dis, why, help_text};
+ghost use Rattle.debugger.specs.Reply.{told, events_of, events_line, is_outside, answer_to};
+ghost use Rattle.debug_commands.specs.Seen.{seen_command, IsWithinLimits};
 ghost use Rattle.debugger.specs.Answers.{seen_reply};
 
 use crate::caps::put_caps;
-use crate::command::{Command, HELP};
-use crate::fault::DebugFault;
 use crate::ram::{put_memory, put_words};
 use crate::reply::Reply;
 use crate::run::told_events;
 use crate::state::{put_csrs, put_register, put_registers, put_scrs};
 use crate::text::put;
 use cap_bounds::CapRep;
+use debug_commands::{Command, DebugFault, help_text};
 use explain::put_why;
 use machine::Machine;
 use std::alloc::Global;
@@ -144,7 +143,7 @@ fn help(alloc: Global) -> Result<Reply, DebugFault>
     ensures err { IfErr result (λ fault. fault ≡ DebugFault.B4) }
 {
     let mut text = String::new(alloc);
-    put(&mut text, HELP)?;
+    put(&mut text, help_text())?;
     Ok(Reply::Text(text))
 }
 

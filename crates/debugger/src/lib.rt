@@ -3,9 +3,7 @@
 
 mod answer;
 mod caps;
-mod command;
 mod fault;
-pub mod laws;
 mod ram;
 mod reply;
 mod run;
@@ -14,10 +12,10 @@ mod shown;
 mod state;
 mod talking;
 mod text;
-mod words;
 
+pub use debug_commands::{DebugFault, laws};
 pub use disassembler::disassemble;
-pub use fault::{DebugFault, TalkFault};
+pub use fault::TalkFault;
 pub use reply::Reply;
 pub use session::Session;
 pub use talking::talk;

@@ -9,7 +9,6 @@ ghost use Rattle.debugger.specs.Reply.{byte_line, byte_lines, word_lines};
 ghost use Rattle.debugger.specs.Lines.{spaced};
 
 use crate::text::{put, put_hex};
-use crate::words::{before, behind};
 use base::Size;
 use disassembler::word_line;
 use std::alloc::{AllocError, Global};
@@ -73,7 +72,7 @@ fn first_line(bytes: &[u8]) -> &[u8]
     if bytes.len() < LINE_BYTES {
         bytes
     } else {
-        before(bytes, LINE_BYTES)
+        &bytes[..LINE_BYTES]
     }
 }
 
@@ -84,7 +83,7 @@ fn other_lines(bytes: &[u8]) -> &[u8]
     if bytes.len() < LINE_BYTES {
         &[]
     } else {
-        behind(bytes, LINE_BYTES)
+        &bytes[LINE_BYTES..]
     }
 }
 

@@ -11,12 +11,11 @@ ghost use Rattle.machine.specs.Run.{run_after, run_sent};
 ghost use Rattle.disassembler.specs.Hex.{hex_of};
 ghost use Rattle.debugger.specs.Reply.{is_stop, steps_until as until_steps, events_of, events_line, shown_sent, shown_end};
 ghost use Rattle.debugger.specs.Lines.{given_part, place_part, goes_on};
-ghost use Rattle.debugger.specs.Seen.{seen_command, most_of, IsWithinLimits};
+ghost use Rattle.debug_commands.specs.Seen.{seen_command, most_of, IsWithinLimits};
 
-use crate::command::{Command, Stop};
-use crate::fault::DebugFault;
 use crate::text::{put, put_decimal, put_hex};
 use cap_bounds::CapRep;
+use debug_commands::{Command, DebugFault, Stop};
 use machine::{Event, Machine, Why, emit};
 use std::alloc::{AllocError, Global};
 

@@ -2,14 +2,13 @@
 ghost use Rattle.std.specs.Prelude.{◌≡◌, ◌⊎◌, [], false, Err, IfOk, IfErr, OnOk, OnErr};
 ghost use Rattle.debugger.specs.Reply.{command_in, state_after, is_outside};
 ghost use Rattle.debugger.specs.SessionState.{session_state};
-ghost use Rattle.debugger.specs.Seen.{seen_command, seen_request, IsWithinLimits};
+ghost use Rattle.debug_commands.specs.Seen.{seen_command, seen_request, IsWithinLimits};
 ghost use Rattle.debugger.specs.Answers.{seen_reply, IsAnswer};
 
 use crate::answer::{answer, is_outside};
-use crate::command::{Command, command_of};
-use crate::fault::DebugFault;
 use crate::reply::Reply;
 use cap_bounds::CapRep;
+use debug_commands::{Command, DebugFault, command_of};
 use machine::Machine;
 use std::alloc::Global;
 use std::marker::Model;

@@ -2,7 +2,7 @@
 ghost use Rattle.std.specs.Prelude.{◌≡◌, ◌≢◌, ◌-◌, ◌^◌, ◌<◌, [], ◌∷◌, ◌++◌, take, None, MatchOption, IfOk, IfErr, OnOk, OnErr, IfSome};
 ghost use Rattle.std.specs.Io.KnownBytes.{Appends, Consumes, Keeps, IsAtEnd};
 ghost use Rattle.image.specs.Devices.{AppendsBeginning};
-ghost use Rattle.debugger.specs.declared.fault.DebugFault.TheVariants.{B4};
+ghost use Rattle.debug_commands.specs.declared.fault.DebugFault.TheVariants.{B4};
 ghost use Rattle.debugger.specs.declared.fault.TalkFault.TheVariants.{Read, Write};
 ghost use Rattle.debugger.specs.Reply.{state_after};
 ghost use Rattle.debugger.specs.Conversation.{fault_text, reply_to, is_last};
@@ -10,11 +10,12 @@ ghost use Rattle.debugger.specs.Standing.{standing_with};
 ghost use Rattle.debugger.specs.Talk.{IsTold, LeavesOff, CountsReads, CountsWrites};
 ghost use Rattle.debugger.specs.Heard.{FailsToRefuse, FailsToReply, Hears};
 
-use crate::fault::{DebugFault, TalkFault};
+use crate::fault::TalkFault;
 use crate::reply::Reply;
 use crate::session::Session;
 use arrayvec::ArrayVec;
 use cap_bounds::CapRep;
+use debug_commands::DebugFault;
 use image::{Sink, Source, write_all};
 
 /// The most bytes of a line that are kept: a longer line is refused for its length, as its beginning is.

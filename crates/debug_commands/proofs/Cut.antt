@@ -5,7 +5,7 @@ use Rattle.std.specs.Prelude.{filter}
 use Rattle.std.proofs.lemmas.Bool.Decides.{nat_tests}
 use Rattle.std.specs.List.{prefix_len, slice_split}
 use Rattle.asm_lines.specs.Text.{is_blank}
-use Rattle.debugger.specs.Command.{words_of}
+use Rattle.debug_commands.specs.Command.{words_of}
 
 abbrev pub kept : List (List ℕ) → List (List ℕ)
 kept ws = filter (λ word. not (length word == 0)) ws

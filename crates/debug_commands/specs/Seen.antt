@@ -1,10 +1,10 @@
 -- What the code's own commands say.
 use Rattle.std.specs.Prelude.{◌≡◌, ℕ, ◌%◌, ◌<◌, ◌≤◌, ⊤, Result, Ok, Err}
-use Rattle.debugger.specs.declared.fault.DebugFault.{DebugFault}
-use Rattle.debugger.specs.declared.command.Command.{Command as Request}
-use Rattle.debugger.specs.declared.command.Command.TheVariants.{Step, Tick, Byte, Until, Reg, Regs, Scr, Csr, Caps, Mem, Dis, Why}
-use Rattle.debugger.specs.declared.command.Command.TheVariants.{Help, Quit}
-use Rattle.debugger.specs.Command.{Command, step, tick, byte, until, reg, regs, scr, csr, caps, mem, dis, why, help, quit}
+use Rattle.debug_commands.specs.declared.fault.DebugFault.{DebugFault}
+use Rattle.debug_commands.specs.declared.command.Command.{Command as Request}
+use Rattle.debug_commands.specs.declared.command.Command.TheVariants.{Step, Tick, Byte, Until, Reg, Regs, Scr, Csr, Caps, Mem, Dis, Why}
+use Rattle.debug_commands.specs.declared.command.Command.TheVariants.{Help, Quit}
+use Rattle.debug_commands.specs.Command.{Command, step, tick, byte, until, reg, regs, scr, csr, caps, mem, dis, why, help, quit}
 
 abbrev pub seen_command : Request → Command
 seen_command (Step n) = step n

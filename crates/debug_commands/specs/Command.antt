@@ -1,8 +1,8 @@
 -- The commands of a session, as they are written.
-use Rattle.std.specs.Prelude.{ℕ, ◌-◌, ◌%◌, ◌^◌, Bool, not, ◌||◌, ◌==◌, nat_lt, if◌then◌else◌, ℤ, pos, List, [], ◌∷◌, length, filter}
+use Rattle.std.specs.Prelude.{ℕ, ◌-◌, ◌%◌, ◌^◌, Bool, not, ◌||◌, ◌==◌, nat_lt, if◌then◌else◌, ℤ, pos, List, [], ◌∷◌, ◌++◌, length, filter}
 use Rattle.std.specs.Prelude.{Option, Some, None, Result, Ok, Err, codes}
 use Rattle.std.specs.Option.{option_or}
-use Rattle.std.specs.List.{slice_split, prefix_len}
+use Rattle.std.specs.List.{slice_split, prefix_len, flat_map}
 use Rattle.asm_names.specs.Registers.{register_named}
 use Rattle.asm_lines.specs.declared.fault.LineFault.{LineFault}
 use Rattle.asm_lines.specs.Text.{is_blank}
@@ -10,10 +10,10 @@ use Rattle.asm_lines.specs.Statement.{is_word}
 use Rattle.asm_lines.specs.Number.{number_of}
 use Rattle.asm_lines.specs.Operand.{ranged, wrapped}
 use Rattle.symbols.specs.Symbols.{Symbol, address_of}
-use Rattle.debugger.specs.declared.fault.DebugFault.{DebugFault}
-use Rattle.debugger.specs.declared.fault.DebugFault.TheVariants.{B1, B2}
-use Rattle.debugger.specs.declared.command.Stop.{Stop}
-use Rattle.debugger.specs.declared.command.Stop.TheVariants.{Address, Trap}
+use Rattle.debug_commands.specs.declared.fault.DebugFault.{DebugFault}
+use Rattle.debug_commands.specs.declared.fault.DebugFault.TheVariants.{B1, B2}
+use Rattle.debug_commands.specs.declared.command.Stop.{Stop}
+use Rattle.debug_commands.specs.declared.command.Stop.TheVariants.{Address, Trap}
 
 pub data Command : Type 0 where
   -- so many steps, so many ticks, one byte on the console's line
@@ -38,11 +38,19 @@ pub data Command : Type 0 where
   help : Command
   quit : Command
 
--- what `help` answers, one a line
+-- the address at which a command stops, if it stops at one
+abbrev pub stop_address : Stop → Option ℕ
+stop_address (Address address) = Some address
+stop_address Trap = None
+
+-- what `help` answers: the commands with their operands, as lines and as a text with a line feed behind each
 abbrev pub help_lines : List (List ℕ)
 help_lines =
     codes "step N" ∷ codes "tick N" ∷ codes "byte B" ∷ codes "until ADDR N" ∷ codes "trap N" ∷ codes "reg R" ∷ codes "regs"
     ∷ codes "scr" ∷ codes "csr" ∷ codes "caps" ∷ codes "mem ADDR LEN" ∷ codes "dis ADDR N" ∷ codes "why" ∷ codes "help" ∷ codes "quit" ∷ []
+
+abbrev pub help_text : List ℕ
+help_text = flat_map (λ line. line ++ codes "\n") help_lines
 
 -- the words of a line: what stands between spaces, tabs and carriage returns
 abbrev pub words_of : List ℕ → List (List ℕ)

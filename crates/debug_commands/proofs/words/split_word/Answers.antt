@@ -1,7 +1,7 @@
 use Rattle.std.proofs.Common.{ap, sym, ◌∙◌, drop, refl, arith}
 use Rattle.std.proofs.lemmas.Bool.Decides.{nat_tests}
-use Rattle.debugger.proofs.Cut.{found_word}
-use Rattle.debugger.proofs.words.split_word.Goals as goal
+use Rattle.debug_commands.proofs.Cut.{found_word}
+use Rattle.debug_commands.proofs.words.split_word.Goals as goal
 
 pub returns : goal.returns
 returns c =

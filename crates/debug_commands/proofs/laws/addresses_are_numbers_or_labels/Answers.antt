@@ -1,6 +1,6 @@
 use Rattle.std.proofs.Common.{refl}
-use Rattle.debugger.proofs.Labels.{or_none, label_is_read}
-use Rattle.debugger.proofs.laws.addresses_are_numbers_or_labels.Goals as goal
+use Rattle.debug_commands.proofs.Labels.{or_none, label_is_read}
+use Rattle.debug_commands.proofs.laws.addresses_are_numbers_or_labels.Goals as goal
 
 pub returns-clause-number : goal.returns-clause-number
 returns-clause-number c = λ symbols text n e. rw e refl

@@ -1,12 +1,11 @@
 //! Commands as they are written.
 ghost use Rattle.std.specs.Prelude.{◌≡◌, ℕ, ◌≤◌, ◌<◌, ◌%◌, IfOk, IfSome};
 ghost use Rattle.asm_names.specs.Registers.{register_named};
-ghost use Rattle.debugger.specs.Command.{Command as Written, step, tick, byte, until, reg, regs, mem, dis, help, words_of, number_between};
-ghost use Rattle.debugger.specs.Command.{read_number, address_in};
-ghost use Rattle.debugger.specs.Command.{operands_or_B2, one_number, address_and_number, one_register, nothing_more, at_a_word};
-ghost use Rattle.debugger.specs.Command.{command_named, command_of};
-ghost use Rattle.debugger.specs.Reply.{stop_address};
-ghost use Rattle.debugger.specs.Seen.{seen_command, seen_request, made_of, made_of_two, IsWithinLimits};
+ghost use Rattle.debug_commands.specs.Command.{Command as Written, step, tick, byte, until, reg, regs, mem, dis, help, words_of, number_between};
+ghost use Rattle.debug_commands.specs.Command.{read_number, address_in};
+ghost use Rattle.debug_commands.specs.Command.{operands_or_B2, one_number, address_and_number, one_register, nothing_more, at_a_word};
+ghost use Rattle.debug_commands.specs.Command.{command_named, command_of, help_text, stop_address};
+ghost use Rattle.debug_commands.specs.Seen.{seen_command, seen_request, made_of, made_of_two, IsWithinLimits};
 
 use crate::fault::DebugFault;
 use crate::words::split_word;
@@ -26,8 +25,8 @@ const MOST_SHOWN: u64 = 4096;
 /// The most words that a command disassembles.
 const MOST_WORDS: u64 = 1024;
 
-/// What `help` answers: the commands with their operands, one a line.
-pub(crate) const HELP: &str = "\
+/// The commands with their operands, one a line.
+const HELP: &str = "\
 step N
 tick N
 byte B
@@ -45,18 +44,25 @@ help
 quit
 ";
 
+/// What `help` answers: the commands with their operands, one a line, each ended by a line feed.
+pub fn help_text() -> &'static str
+    ensures { result.now ≡ help_text }
+{
+    HELP
+}
+
 /// Where a command that gives steps stops.
 #[derive(Clone, Copy)]
-pub(crate) enum Stop {
-    /// Where PCC's address is this one.
+pub enum Stop {
+    /// Before a step at which PCC's address is this one; any number of 64 bits.
     Address(u64),
-    /// Where the next step would trap.
+    /// Before a step that would trap.
     Trap,
 }
 
 impl Stop {
-    /// The address at which it is, if it is at one.
-    pub(crate) fn address(self) -> Option<u64>
+    /// The address at which it is, or none where it is before a trap.
+    pub fn address(self) -> Option<u64>
         ensures { result ≡ stop_address self }
     {
         match self {
@@ -66,18 +72,18 @@ impl Stop {
     }
 }
 
-/// A command of a session.
+/// A command of a session. The ranges are those of a command that [`command_of`] reads.
 #[derive(Clone, Copy)]
-pub(crate) enum Command {
-    /// So many steps.
+pub enum Command {
+    /// So many steps, 1 to 1000000.
     Step(u64),
-    /// So many ticks.
+    /// So many ticks, 1 to 1000000.
     Tick(u64),
     /// One byte on the console's line.
     Byte(u8),
-    /// Steps until the machine is where they stop, at most so many.
+    /// Steps until the machine is where they stop, at most so many, 1 to 1000000.
     Until { stop: Stop, most: u64 },
-    /// A register.
+    /// A register, by its number: 0 to 31.
     Reg(u8),
     /// All registers.
     Regs,
@@ -87,9 +93,9 @@ pub(crate) enum Command {
     Csr,
     /// The capabilities in RAM.
     Caps,
-    /// So many bytes from an address.
+    /// So many bytes from an address, 1 to 4096. They may lie outside RAM.
     Mem { address: u64, count: u64 },
-    /// So many words from an address, as instructions.
+    /// So many words from an address, as instructions: 1 to 1024, from a multiple of 4 on. They may lie outside RAM.
     Dis { address: u64, count: u64 },
     /// What the next step will do, and why.
     Why,
@@ -256,7 +262,7 @@ fn command_named(symbols: &Symbols, name: &[u8], operands: &[u8]) -> Result<Comm
 /// The command that a line writes, over a table of labels: B2 where the line has more than 255 bytes or one of 128 or more; else B1
 /// where its first word is no command's name or there is none, and else B2 where the operands are not that command's.
 #[tactic(auto, unfolding(crate::specs::Command::command_of))]
-pub(crate) fn command_of(symbols: &Symbols, line: &[u8]) -> Result<Command, DebugFault>
+pub fn command_of(symbols: &Symbols, line: &[u8]) -> Result<Command, DebugFault>
     ensures value { seen_request result ≡ command_of symbols.now line.now }
     ensures limits { IfOk result IsWithinLimits }
 {

@@ -1,11 +1,11 @@
 //! The words of a line.
 ghost use Rattle.std.specs.Prelude.{◌≡◌, ◌≤◌, [], ◌∷◌, length, take, drop, MatchOption};
-ghost use Rattle.debugger.specs.Command.{words_of};
+ghost use Rattle.debug_commands.specs.Command.{words_of};
 
 use asm_lines::{Class, run_length};
 
 /// A text up to its byte number `end`.
-pub(crate) fn before<'a>(text: &'a [u8], end: usize) -> &'a [u8]
+fn before<'a>(text: &'a [u8], end: usize) -> &'a [u8]
     requires { end ≤ length text.now }
     ensures { result.now ≡ take end text.now }
 {
@@ -13,7 +13,7 @@ pub(crate) fn before<'a>(text: &'a [u8], end: usize) -> &'a [u8]
 }
 
 /// A text from its byte number `start` on.
-pub(crate) fn behind<'a>(text: &'a [u8], start: usize) -> &'a [u8]
+fn behind<'a>(text: &'a [u8], start: usize) -> &'a [u8]
     requires { start ≤ length text.now }
     ensures { result.now ≡ drop start text.now }
 {

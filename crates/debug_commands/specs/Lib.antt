@@ -1,0 +1,4 @@
+-- What to read
+pub mod Command
+-- Inner words
+pub mod Seen
