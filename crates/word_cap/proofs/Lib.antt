@@ -8,3 +8,6 @@ pub mod Granules
 pub mod Holds
 pub mod Encodings
 pub mod Requests
+pub mod JoinedFields
+pub mod UnitWords
+pub mod WellFormedWords

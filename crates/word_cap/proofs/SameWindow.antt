@@ -160,7 +160,7 @@ mod-twice n m =
     mod-apart (n % (m * 16384)) n (n / (m * 16384) * m) 0 16384 (omega (arith, split, mul_assoc (n / (m * 16384)) m 16384))
 
 -- a base in units of 2 ^ e, whose mantissa is b
-units_of_base : (w e b : ℕ) → e ≤ 50 → b < 16384
+pub units_of_base : (w e b : ℕ) → e ≤ 50 → b < 16384
     → ((w * 16384 + b) % 2 ^ (50 - e + 14) * 2 ^ e ≡ (w * 16384 + b) * 2 ^ e % 2 ^ 64) × ((w * 16384 + b) % 2 ^ (50 - e + 14) % 16384 ≡ b)
 units_of_base w e b low mantissa =
     let total : 50 - e + 14 + e ≡ 64 = omega arith in

@@ -18,7 +18,7 @@ use cap_format::CapWord;
 /// does too, since it is in the same eighth of a window at every exponent. Only for another are windows compared: their numbers go
 /// round at `2^(50 - e)`, and with an exponent of 50 or more there is one window.
 #[inline(always)]
-pub(crate) fn keeps_bounds(word: CapWord, address: u64) -> bool
+pub fn keeps_bounds(word: CapWord, address: u64) -> bool
     ensures { IsTrue result ↔ KeepsBounds word address }
 {
     if (word.address() ^ address) < 2048 {
