@@ -16,8 +16,8 @@ from toolchain import below, built, compiler, crates, folder_of, kit, over_the_l
 
 def call(crate, given):
     """Calls the compiler in a crate's folder, and ends with what it said where it fails."""
-    ran = subprocess.run([compiler(), *given], cwd=folder_of(crate), stdin=subprocess.DEVNULL, stdout=subprocess.PIPE, stderr=subprocess.STDOUT,
-                         encoding="utf-8", errors="replace", check=False)
+    how = {"stdin": subprocess.DEVNULL, "stdout": subprocess.PIPE, "stderr": subprocess.STDOUT, "encoding": "utf-8", "errors": "replace"}
+    ran = subprocess.run([compiler(), *given], cwd=folder_of(crate), check=False, **how)
     if ran.returncode:
         sys.exit(ran.stdout)
 
@@ -33,7 +33,8 @@ def build(crate, archive):
         for backend, folder in (("llvm", ""), ("rattle", "by-rattle")):
             to = os.path.join(os.path.dirname(os.path.abspath(archive)), folder, os.path.basename(archive))
             os.makedirs(os.path.dirname(to), exist_ok=True)
-            call(crate, ["build", *whole, "--crate-checked", checked, "--toolchain", os.path.join(kit(), "toolchain"), "--backend", backend, "-o", to])
+            over = ["--crate-checked", checked, "--toolchain", os.path.join(kit(), "toolchain"), "--backend", backend]
+            call(crate, ["build", *whole, *over, "-o", to])
 
 
 def main(given):

@@ -11,8 +11,8 @@ A wrong body is a file of crates/NAME/wrong-bodies/ or crates/NAME/must-fail/: l
 gate reads them in must-fail/. A function is proved from its own body and from the contracts of what it calls, so wrong bodies of
 different functions don't meet: one check of a copy that has them all shows each refused. What is asked of each is more than that the
 crate is refused: a goal of the function that it changes must break, and not only a proof file name what is gone. A wrong body that
-changes a constant or a line of a table names that function in a line `in: TYPE::FUNCTION` or `in: MODULE::FUNCTION`. Those that change one function, or one
-text, are tried one after the other, in checks of these functions alone.
+changes a constant or a line of a table names that function in a line `in: TYPE::FUNCTION` or `in: MODULE::FUNCTION`. Those that change
+one function, or one text, are tried one after the other, in checks of these functions alone.
 
 It stands on the libraries below each crate in crates/*/out/rlib, as the gate or `rt lib` leaves them.
 """
@@ -96,7 +96,7 @@ def impl_name(head):
 
 
 def function_of(crate, path, old):
-    """The function whose text holds `old`, by the end of the name that a report gives it, or None: `registers::is_csr`, `WordCapCapRep::top`.
+    """The function whose text holds `old`, by the end of the name that a report gives it: `registers::is_csr`, `WordCapCapRep::top`; or None.
 
     A method goes by its type alone, since its impl may stand in another module than the type."""
     if is_comment(old):
@@ -179,24 +179,31 @@ def misfits(crate):
             yield f"{edit}: an old text isn't in its file once"
 
 
+def unrefused(crate, checker, edits, texts):
+    """Those of some wrong bodies that a check of a copy with all of them shows no broken goal of."""
+    functions = set().union(*(edit.functions for edit in edits))
+    goals = broken(crate, checker.report(texts, functions))
+    return [edit for edit in edits if not any(f"::{name}".endswith(f"::{function}") for function in edit.functions for name in goals)]
+
+
 def try_crate(crate, known):
     """Tries the wrong bodies of a crate, and returns what is wrong with them."""
     wrong, checks = [*misfits(crate)], 0
     if wrong:
         return wrong
+    checker, again = Checker(crate, known), []
     left = [Edit(path, crate) for path in edits_of(crate)]
-    whole, checker = len(left), Checker(crate, known)
+    whole = len(left)
     while left:
         texts, taken, left = next_wave(crate, left)
-        functions = set().union(*(edit.functions for edit in taken))
-        said, checks = checker.report(texts, functions), checks + 1
-        goals = broken(crate, said)
-        for edit in taken:
-            if not any(f"::{name}".endswith(f"::{function}") for function in edit.functions for name in goals):
-                wrong.append(f"{edit}: no goal of {', '.join(sorted(edit.functions))} broke")
-        if not goals and "\nonly=" not in said:
-            wrong.append("\n".join(said.split("\n")[:5]))
-    say(f"{crate}: {whole - len(wrong)} of {whole} wrong bodies refused, each by a goal of its own function, in {checks} check{'s' * (checks != 1)}")
+        again += unrefused(crate, checker, taken, texts)
+        checks += 1
+    # a function whose callee isn't proved may be told as such and no more: by itself it is told by its goal
+    for edit in again:
+        if unrefused(crate, checker, [edit], edit.applied(texts_of(crate, [edit]))):
+            wrong.append(f"{edit}: no goal of {', '.join(sorted(edit.functions))} broke")
+        checks += 1
+    say(f"{crate}: {whole - len(wrong)} of {whole} wrong bodies refused, each by a goal of its own function, in {checks} checks")
     return wrong
 
 
