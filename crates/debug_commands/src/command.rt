@@ -1,7 +1,8 @@
 //! Commands as they are written.
 ghost use Rattle.std.specs.Prelude.{◌≡◌, ℕ, ◌≤◌, ◌<◌, ◌%◌, IfOk, IfSome};
 ghost use Rattle.asm_names.specs.Registers.{register_named};
-ghost use Rattle.debug_commands.specs.Command.{Command as Written, step, tick, byte, until, reg, regs, mem, dis, help, words_of, number_between};
+ghost use Rattle.debug_commands.specs.Command.{Command as Written, step, tick, byte, until, reg, regs, mem, dis, help, words_of};
+ghost use Rattle.debug_commands.specs.Command.{number_between};
 ghost use Rattle.debug_commands.specs.Command.{read_number, address_in};
 ghost use Rattle.debug_commands.specs.Command.{operands_or_B2, one_number, address_and_number, one_register, nothing_more, at_a_word};
 ghost use Rattle.debug_commands.specs.Command.{command_named, command_of, help_text, stop_address};

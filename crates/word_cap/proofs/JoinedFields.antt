@@ -52,7 +52,8 @@ pub record AreCanonical (word e : ℕ) (ie : Bool) : Type 0 where
 
 canonical_fields-encoded : (r : Record) → IsWellFormed r → (e : ℕ) (ie : Bool) → e ≡ exponent_for (r.top - r.base)
     → ie ≡ has_exponent (r.top - r.base)
-    → (e ≤ 52) × (ie_of (encoded r) ≡ ie) × (t_field_of (encoded r) ≡ encoded_t r.top e ie) × (b_field_of (encoded r) ≡ encoded_b r.base e ie)
+    → (e ≤ 52) × (ie_of (encoded r) ≡ ie) × (t_field_of (encoded r) ≡ encoded_t r.top e ie)
+    × (b_field_of (encoded r) ≡ encoded_b r.base e ie)
 unfolding encoded encoded_at joined
 canonical_fields-encoded r well e ie exponent internal =
     let high : e ≤ 52 = rw exponent (encodable r well).exponent_high in

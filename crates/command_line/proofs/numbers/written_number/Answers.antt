@@ -12,4 +12,5 @@ decimal text r is none =
 
 pub returns-in-None-clause-none : goal.returns-in-None-clause-none
 returns-in-None-clause-none c =
-    decimal c.args.word.now _ (sym (starts_text false (codes "0x") c.args.word.now c.in-None.ensures.cases)) c.digits_number-in-None.ensures.none
+    let no_prefix = starts_text false (codes "0x") c.args.word.now c.in-None.ensures.cases in
+    decimal c.args.word.now _ (sym no_prefix) c.digits_number-in-None.ensures.none
