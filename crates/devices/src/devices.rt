@@ -58,6 +58,24 @@ impl Devices {
         }
     }
 
+    /// Makes the same devices once more.
+    pub fn copied(&self) -> Self
+        ensures { result ≡ self.now }
+    {
+        let mut queue = ArrayVec::new();
+        for byte in self.queue.as_slice() {
+            queue.push(*byte);
+        }
+        Devices {
+            mtime: self.mtime,
+            mtimecmp: self.mtimecmp,
+            queue,
+            overrun: self.overrun,
+            control: self.control,
+            halted: self.halted,
+        }
+    }
+
     /// Answers mtime: the ticks of the timer, modulo 2^64.
     #[inline]
     pub fn mtime(&self) -> u64

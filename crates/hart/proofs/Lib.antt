@@ -6,3 +6,4 @@ pub mod PlainRun
 pub mod PlainSteps
 pub mod Plans
 pub mod Quiet
+pub mod Written

@@ -16,6 +16,7 @@ pub mod Opening
 pub mod IsState
 pub mod IsEvent
 pub mod Steps
+pub mod Setting
 -- Laws
 pub mod StateLaws
 pub mod OpeningLaws

@@ -23,6 +23,7 @@ mod plain_run;
 mod plan;
 mod registers;
 mod run;
+mod setting;
 mod step;
 mod system_rows;
 mod values;

@@ -5,6 +5,7 @@ mod advance;
 mod end;
 mod fault;
 mod machine;
+mod setting;
 mod stretch;
 mod worlds;
 

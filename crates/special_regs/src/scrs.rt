@@ -57,6 +57,20 @@ impl<C: CapRep> Scrs<C> {
         }
     }
 
+    /// The same registers once more.
+    pub fn copied(&self) -> Self
+        ensures { result ≡ self.now }
+    {
+        Scrs {
+            pcc: self.pcc,
+            ddc: self.ddc,
+            mtcc: self.mtcc,
+            mtdc: self.mtdc,
+            mscratchc: self.mscratchc,
+            mepcc: self.mepcc,
+        }
+    }
+
     /// Tells proofs what is true of all special capability registers: their values are sound. It does nothing.
     #[inline]
     pub fn are_sound(&self)
