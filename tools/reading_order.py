@@ -30,7 +30,8 @@ STEP = [
     ("the step", "hart/specs/State, Registers, Looks, Accesses, ComputeRows, MemoryRows, JumpRows, SystemRows, Effect, Outcome, Step"),
 ]
 REST = [
-    ("runs: the opening state, events, *machine run*", "image/specs/Image; hart/specs/Opening, Event; machine/specs/Run"),
+    ("runs: the opening state, events, *machine run*, what is set from outside",
+     "image/specs/Image; hart/specs/Opening, Event, Setting; machine/specs/Run"),
     ("image files", "image/specs/Grammar, Reads"),
     ("a text: its lines",
      "asm_names/specs/Mnemonic, Registers, SpecialNames, Slots; asm_lines/specs/Text, Number, Operand, Statement, Line"),
@@ -43,6 +44,7 @@ REST = [
     ("sessions", "debug_commands/specs/Command; debugger/specs/SessionState, Reply, Answers, Conversation, Talk"),
     ("the command line and runs on a schedule",
      "command_line/specs/CommandLine; sim_run/specs/Schedule, Trace, Verdict, Ending, Listing"),
+    ("capabilities and the machine for C", "c_types/specs/Halves, Words; cheri_c/specs/Insns; cherisim_c/specs/Status, Made, Running"),
 ]
 
 

@@ -55,6 +55,12 @@ uint64_t cheri_alignment_mask(uint64_t length);
 cheri_word_t cheri_from_memory(const uint8_t bytes[16]);
 void cheri_to_memory(cheri_word_t word, uint8_t bytes[16]);
 
+/* An instruction: its row's place in the table of instructions, from 0 on, the numbers of its registers, and its immediate,
+ * sign-extended modulo 2^64, or unsigned where the instruction says so. Operands that a row has not are 0. */
+typedef struct { uint64_t imm; uint16_t row; uint8_t rd, rs1, rs2; } cheri_insn_t;
+/* The instruction that a word is, and the word of an instruction: false, and nothing is written, where there is none. */
+bool cheri_decode(uint32_t word, cheri_insn_t *insn);
+bool cheri_encode(const cheri_insn_t *insn, uint32_t *word);
 /* The text of an instruction word, in capability mode or in integer mode: how many bytes of `text` it has, at most 64. No 0 ends it. */
 size_t cheri_disassemble(uint32_t word, bool capability_mode, char text[64]);
 /* The value of an instruction over capabilities that touches neither memory nor special registers and does not jump (28 rows, from

@@ -13,7 +13,8 @@ in-ram : (b : Bool) (x : Unit {0}) → Ok x ≡ unless (if not b then Some M3 el
 in-ram true x e = refl
 in-ram false x e = absurd (cc)
 
-in_ram-fill_fault : (m : Memory) (address size : ℕ) (x : Unit {0}) → Ok x ≡ unless (fill_fault m address size) x → is_in_ram m address size ≡ true
+in_ram-fill_fault : (m : Memory) (address size : ℕ) (x : Unit {0}) → Ok x ≡ unless (fill_fault m address size) x
+    → is_in_ram m address size ≡ true
 unfolding fill_fault
 in_ram-fill_fault m address size x e = in-ram (is_in_ram m address size) x e
 

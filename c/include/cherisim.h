@@ -1,0 +1,142 @@
+/* libcherisim: the proved CHERI-RISC-V machine (RV64IM in machine mode, 128-bit capabilities, timer, console, halt).
+ *
+ * A machine is held by a handle. Each function below has a contract that the library's code is proved to meet; it stands here in words.
+ * Every call is total, returns, and answers a status; what it writes it writes whole, or not at all where the status isn't CHERISIM_OK.
+ *
+ * What C owes: pointers that are not null point to what their types say and to nothing else that the call is given; a handle begins as
+ * CHERISIM_NONE and is never copied; it is used by one call at a time, and by the thread that made it; a tagged cherisim_cap_t comes
+ * from this library or from cheri_cap() of cheri_caps.h. A handle without a machine is a value that every call answers
+ * (CHERISIM_NO_MACHINE), so that a machine may be freed twice. */
+#ifndef CHERISIM_H
+#define CHERISIM_H
+#include <stdbool.h>
+#include <stddef.h>
+#include <stdint.h>
+#include "cheri_caps.h"
+#ifdef __cplusplus
+extern "C" {
+#endif
+
+/* A machine, or none. */
+typedef struct { void *at; } cherisim_t;
+#define CHERISIM_NONE {0}
+
+/* A capability, or 128 bits of data. */
+typedef cheri_cap_t cherisim_cap_t;
+
+/* What a call answers: 1 to 15 are the faults L1 to L15 of an image, 33 to 43 the faults A1 to A11 of a text. */
+typedef uint32_t cherisim_status;
+enum {
+    CHERISIM_OK = 0,
+    CHERISIM_NO_MEMORY = 64,  /* out of memory */
+    CHERISIM_NO_MACHINE = 65, /* the handle has none */
+    CHERISIM_RANGE = 66,      /* no such register, an address outside RAM or not aligned, a value that can't stand there */
+    CHERISIM_FULL = 67        /* the buffer is too short */
+};
+
+/* 1 for this version of the interface: functions and types are added, and none changes. */
+uint32_t cherisim_version(void);
+
+/* ---- life: where a call fails, the handle keeps what it held; where it succeeds, what it held is freed. */
+
+/* The machine in the opening state of an image file of these bytes, of version 1 or 2. */
+cherisim_status cherisim_new(const uint8_t *image, size_t length, cherisim_t *machine);
+/* The machine in the opening state of the image of version 2 with these bytes as its one section, at this address: RAM of `pages` pages
+ * of 4096 bytes (1 to 65536), PCC at `entry`, in capability mode or in integer mode. */
+cherisim_status cherisim_new_flat(const uint8_t *bytes, size_t length, uint64_t address, uint64_t entry, uint32_t pages,
+                                  bool capability_mode, cherisim_t *machine);
+/* The machine in the opening state of the image of a text in the assembly language. A fault's line is written to *line, counted from 1. */
+cherisim_status cherisim_assemble(const uint8_t *text, size_t length, cherisim_t *machine, uint64_t *line);
+/* A machine in the same state as `from`, into the handle `to`. */
+cherisim_status cherisim_copy(cherisim_t *from, cherisim_t *to);
+/* Frees the machine, if there is one. */
+void cherisim_free(cherisim_t *machine);
+
+/* ---- events */
+
+/* A byte that was sent, if `sends`. */
+typedef struct { bool sends; uint8_t byte; } cherisim_sent_t;
+/* One step: an interrupt that pends, an instruction, or a trap. A halted machine ignores it. */
+cherisim_status cherisim_step(cherisim_t *machine, cherisim_sent_t *sent);
+/* The timer ticks. */
+cherisim_status cherisim_tick(cherisim_t *machine);
+/* A byte comes on the console's line. */
+cherisim_status cherisim_receive(cherisim_t *machine, uint8_t byte);
+
+/* What a run does: `steps` steps at most. With `at_address` it stops before a step whose PCC has this address, and with `at_end` before
+ * one that traps, unseals, or jumps through a seal. A tick follows each step whose number is a multiple of `tick` (0: none), where steps
+ * are numbered from `before` + 1 on. */
+typedef struct { uint64_t steps, tick, before, address; bool at_address, at_end; } cherisim_asked_t;
+/* Why a run stopped. */
+enum {
+    CHERISIM_STEPS = 0,       /* all steps were done */
+    CHERISIM_HALTED = 1,      /* the machine is halted; no tick follows the step that halted it */
+    CHERISIM_BUFFER = 2,      /* the buffer has no room for a byte that the next step might send */
+    CHERISIM_ADDRESS = 3,     /* PCC has the address */
+    CHERISIM_TRAP = 4,        /* the next step traps */
+    CHERISIM_UNSEAL = 5,      /* the next step unseals a capability */
+    CHERISIM_SEALED_JUMP = 6  /* the next step is a CInvoke, or a jump or a return through a sentry */
+};
+/* What a run did: how many steps, how many bytes it put into the buffer, and why it stopped (the first reason that holds, in the order
+ * of their numbers). */
+typedef struct { uint64_t steps, sent; uint32_t stop; } cherisim_ran_t;
+/* Runs, and puts the bytes that the steps send into `buffer`. It stops before a step where the buffer is full, so one of no bytes
+ * takes no step. */
+cherisim_status cherisim_run(cherisim_t *machine, const cherisim_asked_t *asked, uint8_t *buffer, size_t room, cherisim_ran_t *ran);
+
+/* ---- what a machine holds */
+
+/* General register n, 0 to 31, and all 32 of them. */
+cherisim_status cherisim_reg(cherisim_t *machine, uint8_t n, cherisim_cap_t *value);
+cherisim_status cherisim_all_regs(cherisim_t *machine, cherisim_cap_t values[32]);
+/* Special capability register n: PCC 0, DDC 1, MTCC 28, MTDC 29, MScratchC 30, MEPCC 31. */
+cherisim_status cherisim_scr(cherisim_t *machine, uint8_t n, cherisim_cap_t *value);
+/* Control and status register n, by its number in the privileged manual. */
+cherisim_status cherisim_csr(cherisim_t *machine, uint16_t n, uint64_t *value);
+/* RAM begins at 0x80000000 and has this many pages of 4096 bytes. */
+cherisim_status cherisim_pages(cherisim_t *machine, uint32_t *pages);
+/* The bytes of RAM from an address on. */
+cherisim_status cherisim_read(cherisim_t *machine, uint64_t address, uint8_t *bytes, size_t length);
+/* The granule of 16 bytes at a multiple of 16. */
+cherisim_status cherisim_read_cap(cherisim_t *machine, uint64_t address, cherisim_cap_t *value);
+/* The address of the first tagged granule at `from` or above: CHERISIM_RANGE where there is none. */
+cherisim_status cherisim_next_tagged(cherisim_t *machine, uint64_t from, uint64_t *address);
+
+typedef struct { bool halted; uint64_t number; } cherisim_halted_t;
+/* Whether the machine is halted, and with which number (else 0). */
+cherisim_status cherisim_halted(cherisim_t *machine, cherisim_halted_t *halted);
+/* The timer's ticks, and those from which on it interrupts. */
+typedef struct { uint64_t mtime, mtimecmp; } cherisim_timer_t;
+cherisim_status cherisim_timer(cherisim_t *machine, cherisim_timer_t *timer);
+/* The console: how many bytes wait, whether one was lost, and whether a byte that waits interrupts. The bytes that wait stand at the
+ * beginning of `queue`, the oldest first. */
+typedef struct { uint64_t waiting; bool overrun, control; } cherisim_console_t;
+cherisim_status cherisim_console(cherisim_t *machine, uint8_t queue[64], cherisim_console_t *console);
+
+/* ---- writing, between two events: nothing is counted, and no check is made of an authority */
+
+/* General register n; one of register 0 is lost. */
+cherisim_status cherisim_set_reg(cherisim_t *machine, uint8_t n, cherisim_cap_t value);
+/* A special capability register. PCC takes an address that is a multiple of 4: CHERISIM_RANGE for another. */
+cherisim_status cherisim_set_scr(cherisim_t *machine, uint8_t n, cherisim_cap_t value);
+/* A control and status register, as CSRRW writes it; one that is only read stays as it is. */
+cherisim_status cherisim_set_csr(cherisim_t *machine, uint16_t n, uint64_t value);
+/* Bytes of RAM from an address on; each granule that they touch loses its tag. */
+cherisim_status cherisim_write(cherisim_t *machine, uint64_t address, const uint8_t *bytes, size_t length);
+/* The granule of 16 bytes at a multiple of 16, with the value's tag. */
+cherisim_status cherisim_write_cap(cherisim_t *machine, uint64_t address, cherisim_cap_t value);
+
+/* ---- questions */
+
+/* Why the next step would end a stretch: CHERISIM_TRAP, CHERISIM_UNSEAL or CHERISIM_SEALED_JUMP, or 0 where it would not. */
+cherisim_status cherisim_next_ends(cherisim_t *machine, uint32_t *why);
+/* What the next step will do, and why, as the debugger's command `why` shows it: *length bytes of text, no 0 behind them. Where the
+ * buffer is too short, CHERISIM_FULL, and *length is what it takes. */
+cherisim_status cherisim_why(cherisim_t *machine, uint8_t *text, size_t room, size_t *length);
+/* The text of an instruction word, as cheri_disassemble() gives it: how many bytes of `text` it has, at most 64. */
+size_t cherisim_disassemble(uint32_t word, bool capability_mode, char text[64]);
+
+#ifdef __cplusplus
+}
+#endif
+#endif

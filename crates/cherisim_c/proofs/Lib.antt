@@ -1,0 +1,3 @@
+pub mod RamBytes
+pub mod Runs
+pub mod Values

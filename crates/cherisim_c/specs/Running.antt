@@ -1,0 +1,78 @@
+-- Runs for C: the events that a run meets, and why it stops.
+use Rattle.std.specs.Prelude.{ℕ, zero, suc, ◌+◌, ◌-◌, ◌%◌, ◌==◌, ◌&&◌, not, Bool, true, false, if◌then◌else◌, List, [], ◌∷◌, ◌++◌, length}
+use Rattle.std.specs.Prelude.{Option, None, Some, is_some, option_to_list}
+use Rattle.hart.specs.declared.event.Event.{Event}
+use Rattle.hart.specs.declared.event.Event.TheVariants.{Step, Tick, Byte}
+use Rattle.hart.specs.declared.ends.Why.{Why}
+use Rattle.hart.specs.declared.ends.Why.TheVariants.{Trap, Unseal, SealedJump}
+use Rattle.hart.specs.Ends.{why_of}
+use Rattle.hart.specs.Event.{after, sent, outcome}
+use Rattle.hart.specs.State.{State, pc_of}
+use Rattle.machine.specs.Run.{run_after}
+use Rattle.cherisim_c.specs.declared.types.Asked.{Asked}
+use Rattle.cherisim_c.specs.declared.types.Halted.{Halted}
+use Rattle.cherisim_c.specs.declared.types.Sent.{Sent}
+
+-- why the next step would end a stretch, as a number
+abbrev pub end_code : Option Why → Option ℕ
+end_code None = None
+end_code (Some Trap) = Some 4
+end_code (Some Unseal) = Some 5
+end_code (Some SealedJump) = Some 6
+
+-- the same with 0 where it would not
+abbrev pub code_or_zero : Option ℕ → ℕ
+code_or_zero None = 0
+code_or_zero (Some n) = n
+
+-- the address where a run stops
+abbrev pub is_at_stop : Asked → State → Bool
+is_at_stop a s = a.at_address && (pc_of s == a.address)
+
+-- Why a run goes no further, where so many steps are left and the buffer has room for so many bytes: all steps were done (0), the
+-- machine is halted (1), the buffer is full (2), PCC has the address (3), or the next step traps (4), unseals (5) or jumps through a
+-- seal (6).
+unfoldable pub stop_at : Asked → ℕ → ℕ → State → Option ℕ
+stop_at a left room s =
+    if left == 0 then Some 0 else
+    (if is_some s.devices.halted then Some 1 else
+    (if room == 0 then Some 2 else
+    (if is_at_stop a s then Some 3 else
+    (if a.at_end then end_code (why_of (outcome Step s)) else None))))
+
+-- a tick comes after each step whose number is a multiple of the tick; at 0 there is none
+abbrev pub is_tick_after : Asked → ℕ → Bool
+is_tick_after a number = not (a.tick == 0) && (number % a.tick == 0)
+
+-- the tick after the step of this number, which left this state; none follows a step that halts the machine
+abbrev pub tick_after : Asked → ℕ → State → List Event
+tick_after a number s = if is_tick_after a number && not (is_some s.devices.halted) then Tick ∷ [] else []
+
+-- the events of a run from a state on: the number of the last step before them, and how many steps and bytes it has left
+abbrev pub run_from : Asked → ℕ → ℕ → ℕ → State → List Event
+run_from a before zero room s = []
+run_from a before (suc left) room s =
+    if is_some (stop_at a (suc left) room s) then [] else
+    (Step ∷ (tick_after a (before + 1) (after Step s)
+    ++ run_from a (before + 1) left (room - length (option_to_list (sent Step s)))
+    (run_after (tick_after a (before + 1) (after Step s)) (after Step s))))
+
+-- all events of a run into a buffer of so many bytes
+abbrev pub run_events : Asked → ℕ → State → List Event
+run_events a room s = run_from a a.before a.steps room s
+
+-- how many of the events are steps
+abbrev pub steps_in : List Event → ℕ
+steps_in [] = 0
+steps_in (Step ∷ es) = suc (steps_in es)
+steps_in (Tick ∷ es) = steps_in es
+steps_in (Byte b ∷ es) = steps_in es
+
+-- the byte that a step sent, if it sent one, as C gets it
+abbrev pub sent_of : Sent → List ℕ
+sent_of s = if s.sends then s.byte ∷ [] else []
+
+-- whether a machine is halted, as C gets it
+abbrev pub halted_of : Option ℕ → Halted
+halted_of None = record { halted = false; number = 0 }
+halted_of (Some number) = record { halted = true; number = number }

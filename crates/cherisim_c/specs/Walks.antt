@@ -1,0 +1,31 @@
+-- What steps that are done in one call are to a run for C.
+use Rattle.std.specs.Prelude.{◌≡◌, ℕ, ◌+◌, ◌-◌, ◌<◌, ◌≤◌, false, [], ◌++◌, length, replicate, Option, None, option_to_list}
+use Rattle.hart.specs.declared.event.Event.TheVariants.{Step}
+use Rattle.hart.specs.State.{State}
+use Rattle.machine.specs.Run.{run_after, run_sent}
+use Rattle.cherisim_c.specs.declared.types.Asked.{Asked}
+use Rattle.cherisim_c.specs.Running.{is_at_stop, is_tick_after, run_from, steps_in}
+
+-- a state that steps of a run go by: it runs, it is not at the address where the run stops, and the run does not stop at ends
+pub record GoesOn (a : Asked) (s : State) : Type 0 where
+  pub running : s.devices.halted ≡ None
+  pub elsewhere : is_at_stop a s ≡ false
+  pub no_end : a.at_end ≡ false
+
+-- so many steps go by such states, and none but the last of them sends
+pub record WalksOn (a : Asked) (count : ℕ) (s : State) : Type 0 where
+  pub goes : (j : ℕ) → 1 ≤ j → j < count → GoesOn a (run_after (replicate j Step) s)
+  pub silent : run_sent (replicate (count - 1) Step) s ≡ []
+
+-- between so many steps after the step of a number comes no tick
+abbrev pub NoTicks : Asked → ℕ → ℕ → Type 0
+NoTicks a before count = (j : ℕ) → 1 ≤ j → j < count → is_tick_after a (before + j) ≡ false
+
+-- A run from a state goes on from the state after so many of its steps, with the tick after the last of them: what it comes to is the same.
+pub record GoesOnFrom (a : Asked) (before left room count : ℕ) (byte : Option ℕ) (s t : State) : Type 0 where
+  pub state : run_after (run_from a before left room s) s
+      ≡ run_after (run_from a (before + count) (left - count) (room - length (option_to_list byte)) t) t
+  pub sent : run_sent (run_from a before left room s) s
+      ≡ option_to_list byte ++ run_sent (run_from a (before + count) (left - count) (room - length (option_to_list byte)) t) t
+  pub steps : steps_in (run_from a before left room s)
+      ≡ count + steps_in (run_from a (before + count) (left - count) (room - length (option_to_list byte)) t)

@@ -1,0 +1,105 @@
+//! What the next step will do, and texts.
+
+ghost use Rattle.std.specs.Prelude.{◌≡◌, ◌⊎◌, ◌≤◌, ◌<◌, None, IfSome, IfOk, length, take, string_bytes};
+ghost use Rattle.disassembler.specs.Shown.{shown_word};
+ghost use Rattle.explain.specs.Text.{why_text};
+ghost use Rattle.hart.specs.declared.event.Event.TheVariants.{Step};
+ghost use Rattle.hart.specs.Ends.{why_of};
+ghost use Rattle.hart.specs.Event.{outcome};
+ghost use Rattle.cherisim_c.specs.Status.{no_machine, no_memory, full};
+ghost use Rattle.cherisim_c.specs.Running.{end_code, code_or_zero};
+
+use crate::handle::Handle;
+use crate::running::code_of_end;
+use crate::status::{FULL, NO_MACHINE, NO_MEMORY, OK};
+use disassembler::disassemble;
+use explain::put_why;
+use machine::{Event, Machine};
+use std::alloc::{AllocError, Global};
+use word_cap::WordCap;
+
+/// Why the next step would end a stretch, or 0 where it would not.
+#[unsafe(no_mangle)]
+pub extern "C" fn cherisim_next_ends(alloc: Global, machine: &mut Handle, why: &mut u32) -> u32
+    ensures state { machine.new.machine ≡ machine.old.machine }
+    ensures closed { machine.old.machine ≡ None → result ≡ no_machine }
+    ensures ok { IfSome machine.old.machine (λ s. (result ≡ 0) × (why.new ≡ code_or_zero (end_code (why_of (outcome Step s))))) }
+    ensures same { 1 ≤ result → why.new ≡ why.old }
+{
+    match machine.take(alloc) {
+        Some(held) => {
+            *why = code_of_end(held.next_ends(Event::Step)).unwrap_or(0);
+            machine.put(held);
+            OK
+        }
+        None => NO_MACHINE,
+    }
+}
+
+/// What the next step will do, and why, as a text.
+fn why_of(alloc: Global, machine: &Machine<WordCap>) -> Result<String, AllocError>
+    ensures { IfOk result (λ text. string_bytes text ≡ why_text machine.now) }
+{
+    let mut text = String::new(alloc);
+    put_why(&mut text, machine.hart())?;
+    Ok(text)
+}
+
+/// Copies a text into a buffer that is long enough.
+fn copy(text: &str, out: &mut [u8]) -> u32
+    ensures ok { length text.now ≤ length out.old → (result ≡ 0) × (take (length text.now) out.new ≡ text.now) }
+    ensures full { length out.old < length text.now → (result ≡ full) × (out.new ≡ out.old) }
+    ensures room { length out.new ≡ length out.old }
+{
+    let bytes = text.as_bytes();
+    if bytes.len() <= out.len() {
+        out[..bytes.len()].copy_from_slice(bytes);
+        OK
+    } else {
+        FULL
+    }
+}
+
+/// What the next step will do, and why: so many bytes at the beginning of `text`. Where it is too short, its length is what it takes.
+#[unsafe(no_mangle)]
+pub extern "C" fn cherisim_why(
+    alloc: Global,
+    machine: &mut Handle,
+    text: &mut [u8],
+    size: &mut u64,
+) -> u32
+    ensures state { machine.new.machine ≡ machine.old.machine }
+    ensures closed { machine.old.machine ≡ None → (result ≡ no_machine) × (text.new ≡ text.old) × (size.new ≡ size.old) }
+    ensures memory { result ≡ no_memory → (text.new ≡ text.old) × (size.new ≡ size.old) }
+    ensures ok { IfSome machine.old.machine (λ s. result ≡ 0 → (size.new ≡ length (why_text s)) × (take size.new text.new ≡ why_text s)) }
+    ensures full { IfSome machine.old.machine (λ s. result ≡ full
+        → (size.new ≡ length (why_text s)) × (length text.old < size.new) × (text.new ≡ text.old)) }
+    ensures only { IfSome machine.old.machine (λ s. (result ≡ 0) ⊎ ((result ≡ full) ⊎ (result ≡ no_memory))) }
+{
+    match machine.take(alloc) {
+        Some(held) => {
+            let told = why_of(alloc, &held);
+            machine.put(held);
+            match told {
+                Ok(told) => {
+                    *size = told.len() as u64;
+                    copy(told.as_str(), text)
+                }
+                Err(_) => NO_MEMORY,
+            }
+        }
+        None => NO_MACHINE,
+    }
+}
+
+/// Writes the text of a word in a mode to the beginning of `text`, and answers how many bytes it has, at most 64.
+#[unsafe(no_mangle)]
+pub extern "C" fn cherisim_disassemble(word: u32, mode: bool, text: &mut [u8; 64]) -> usize
+    ensures few { result ≤ 64 }
+    ensures text { take result text.new ≡ shown_word mode word }
+{
+    let shown = disassemble(word, mode);
+    let bytes = shown.as_str().as_bytes();
+    text[..bytes.len()].copy_from_slice(bytes);
+    bytes.len()
+}
