@@ -4,7 +4,7 @@
 #   cherisim run compartments.img 100000 --tick 0
 #
 # A calls B by a sealed pair, B has the kernel send 'c' and comes back by A's, A sends 'a' and ends, and B sends 'b' three times.
-# docs/COMPARTMENTS.md walks through it. The text is three of crates/kernel_tests/data: common.s, b-call.s and a-call.s.
+# docs/COMPARTMENTS.md walks through it. The text is three of cases/kernel: common.s, b-call.s and a-call.s.
 #
 # common: a kernel for two compartments, A and B, that do not trust one another.
 #

@@ -1,5 +1,6 @@
 #!/usr/bin/env python3
-"""Makes the files of cases in crates/conformance/data anew, and examples/compartments.s, which is three texts joined.
+"""Makes the files of cases anew, in cases/ and, where the proved program reads them, in crates/conformance/data; and
+examples/compartments.s, which is three texts joined.
 
     python3 tools/cases.py            writes them
     python3 tools/cases.py --check    says which differ from those that stand there, and ends with 1 if any does
@@ -11,7 +12,10 @@ import importlib
 import os
 import sys
 
-DATA = os.path.join(os.path.dirname(os.path.abspath(__file__)), "..", "crates", "conformance", "data")
+from trying.paths import CASES, PROVED_CASES
+
+# The files that the proved program reads.
+PROVED = {"words", "windows", "requests", "agreements", "rights", "capability_rows", "accesses", "jumps", "invocations", "alone", "failures"}
 
 # The modules that make files, one a line.
 SOURCES = [
@@ -38,6 +42,7 @@ SOURCES = [
     "command_lines",
     "compartments",
     "program_cases",
+    "alone",
 ]
 
 # The programs that some modules need, and Debian's packages that have them.
@@ -71,7 +76,7 @@ def main():
     check = sys.argv[1:] == ["--check"]
     differing = 0
     for name, text in made():
-        path = os.path.join(DATA, name)
+        path = os.path.join(PROVED_CASES if name.removesuffix(".txt") in PROVED else CASES, name)
         if standing(path) == text:
             continue
         differing += 1

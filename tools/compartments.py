@@ -1,7 +1,7 @@
 """The example of compartments: the kernel's text and those of a compartment B and a compartment A, one behind the other."""
 import os
 
-TEXTS = os.path.join(os.path.dirname(os.path.abspath(__file__)), "..", "crates", "kernel_tests", "data")
+TEXTS = os.path.join(os.path.dirname(os.path.abspath(__file__)), "..", "cases", "kernel")
 
 HEAD = """\
 # compartments: two programs that do not trust one another, and the kernel between them.
@@ -10,7 +10,7 @@ HEAD = """\
 #   cherisim run compartments.img 100000 --tick 0
 #
 # A calls B by a sealed pair, B has the kernel send 'c' and comes back by A's, A sends 'a' and ends, and B sends 'b' three times.
-# docs/COMPARTMENTS.md walks through it. The text is three of crates/kernel_tests/data: common.s, b-call.s and a-call.s.
+# docs/COMPARTMENTS.md walks through it. The text is three of cases/kernel: common.s, b-call.s and a-call.s.
 #
 """
 
@@ -23,4 +23,4 @@ def lines():
 
 
 def files():
-    yield os.path.join("..", "..", "..", "examples", "compartments.s"), list(lines())
+    yield os.path.join("..", "examples", "compartments.s"), list(lines())

@@ -433,5 +433,5 @@ def fault_texts():
 def files():
     lines = ["# a command line, files and streams => the status, what is opened and made, sent, told, and what stands in the file made"]
     lines += [*ends(), *traces(), *images(), *named(), *faults(), *failing()]
-    yield "../../program_tests/data/commands.txt", lines
-    yield "../../program_tests/data/faults.txt", fault_texts()
+    yield "commands.txt", lines
+    yield "told.txt", fault_texts()

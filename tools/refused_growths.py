@@ -1,11 +1,12 @@
 #!/usr/bin/env python3
-"""Refuses the growths of memory of crates/refusals one after the other, and says how many of each call were refused.
+"""Refuses the growths of memory of the calls that take it one after the other, and says how many of each call were refused.
 
     python3 tools/refused_growths.py [PROGRAM]
 
-PROGRAM is the proved program, as the gate leaves it: crates/refusals/out/refusals. A small library in front of the C library's
-allocator refuses the growth of a number, for numbers upwards until a run has fewer. In each other run one call says that it was
-refused with its code; the program itself tries what the refusal left, and the call made again.
+PROGRAM is the proved program, as the gate leaves it: crates/conformance/out/conformance, which makes these calls where its word is
+`growths`. A small library in front of the C library's allocator refuses the growth of a number, for numbers upwards until a run has fewer.
+In each other run one call says that it was refused with its code; the program itself tries what the refusal left, and the call made again.
+The first growths are those of the program's own words: it ends with status 1, and makes no call.
 """
 import os
 import shutil
@@ -65,21 +66,24 @@ def library(folder):
 
 
 def refusal(program, shim, number):
-    """The call that was refused where the growth of this number is, or None where there are fewer."""
-    ran = subprocess.run([program], env={"LD_PRELOAD": shim, "REFUSED_GROWTH": str(number)}, capture_output=True, text=True, timeout=120)
+    """The call that was refused where the growth of this number is, `words` where the program's words were, or None where there are
+    fewer."""
+    ran = subprocess.run([program, "growths"], env={"LD_PRELOAD": shim, "REFUSED_GROWTH": str(number)}, capture_output=True, text=True, timeout=120)
     lines = [line.partition(": ") for line in ran.stdout.splitlines()]
     refused = [(name, said.partition(",")[0]) for name, _, said in lines if said != "no refusal, done"]
     is_whole = ran.returncode == 0 and [name for name, _, _ in lines] == CALLS
     if ran.stderr == "fewer" and is_whole and not refused:
         return None
+    if ran.stderr.endswith("refused") and ran.returncode == 1 and not ran.stdout:
+        return "words"
     if ran.stderr != "refused" or not is_whole or len(refused) != 1 or CODES[refused[0][0]] != refused[0][1]:
         sys.exit(f"growth {number} refused: status {ran.returncode}\n{ran.stdout}{ran.stderr}")
     return refused[0][0]
 
 
 def main():
-    program = sys.argv[1] if len(sys.argv) > 1 else os.path.join(ROOT, "crates", "refusals", "out", "refusals")
-    counts = dict.fromkeys(CODES, 0)
+    program = sys.argv[1] if len(sys.argv) > 1 else os.path.join(ROOT, "crates", "conformance", "out", "conformance")
+    counts = {"words": 0, **dict.fromkeys(CODES, 0)}
     with tempfile.TemporaryDirectory() as folder:
         shim = library(folder)
         number = 1
@@ -87,7 +91,7 @@ def main():
             counts[name] += 1
             number += 1
     print("refused growths: " + ", ".join(f"{name} {count}" for name, count in counts.items()))
-    never = [name for name, count in counts.items() if count == 0]
+    never = [name for name, count in counts.items() if count == 0 and name != "words"]
     if never:
         sys.exit(f"never refused: {', '.join(never)}")
 

@@ -1,8 +1,8 @@
 /* libcheri-caps: the capability arithmetic of CHERI-RISC-V (128-bit CHERI Concentrate, UCAM-CL-TR-987), proved.
  *
  * Each function below has a contract that the library's code is proved to meet; it stands here in words. Every function is total and
- * returns; none takes memory, locks, keeps state or can fail. What C owes: pointers that are not null point to what their types say
- * and to nothing else that the call is given, and a tagged cheri_cap_t comes from this library (cheri_cap() tests a word of your own). */
+ * returns; none takes memory, locks, keeps state or can fail. What C owes: a pointer points to what its type says and to nothing
+ * else that the call is given, and none is null; a tagged cheri_cap_t comes from this library (cheri_cap() tests a word of your own). */
 #ifndef CHERI_CAPS_H
 #define CHERI_CAPS_H
 #include <stdbool.h>

@@ -3,8 +3,8 @@
  * A machine is held by a handle. Each function below has a contract that the library's code is proved to meet; it stands here in words.
  * Every call is total, returns, and answers a status; what it writes it writes whole, or not at all where the status isn't CHERISIM_OK.
  *
- * What C owes: pointers that are not null point to what their types say and to nothing else that the call is given; a handle begins as
- * CHERISIM_NONE and is never copied; it is used by one call at a time, and by the thread that made it; a tagged cherisim_cap_t comes
+ * What C owes: a pointer points to what its type says and to nothing else that the call is given, and none is null, be its length 0; a
+ * handle begins as CHERISIM_NONE and is never copied; it is used by one call at a time, and by the thread that made it; a tagged cherisim_cap_t comes
  * from this library or from cheri_cap() of cheri_caps.h. A handle without a machine is a value that every call answers
  * (CHERISIM_NO_MACHINE), so that a machine may be freed twice. */
 #ifndef CHERISIM_H
@@ -45,7 +45,8 @@ cherisim_status cherisim_new(const uint8_t *image, size_t length, cherisim_t *ma
  * of 4096 bytes (1 to 65536), PCC at `entry`, in capability mode or in integer mode. */
 cherisim_status cherisim_new_flat(const uint8_t *bytes, size_t length, uint64_t address, uint64_t entry, uint32_t pages,
                                   bool capability_mode, cherisim_t *machine);
-/* The machine in the opening state of the image of a text in the assembly language. A fault's line is written to *line, counted from 1. */
+/* The machine in the opening state of the image of a text in the assembly language. Where it fails, the fault's line is written to *line,
+ * counted from 1, and 0 where memory ran out. */
 cherisim_status cherisim_assemble(const uint8_t *text, size_t length, cherisim_t *machine, uint64_t *line);
 /* A machine in the same state as `from`, into the handle `to`. */
 cherisim_status cherisim_copy(cherisim_t *from, cherisim_t *to);
@@ -81,7 +82,7 @@ enum {
  * of their numbers). */
 typedef struct { uint64_t steps, sent; uint32_t stop; } cherisim_ran_t;
 /* Runs, and puts the bytes that the steps send into `buffer`. It stops before a step where the buffer is full, so one of no bytes
- * takes no step. */
+ * takes no step. With `at_end` each step is looked at before it is done, so that such a run is some ten times slower. */
 cherisim_status cherisim_run(cherisim_t *machine, const cherisim_asked_t *asked, uint8_t *buffer, size_t room, cherisim_ran_t *ran);
 
 /* ---- what a machine holds */

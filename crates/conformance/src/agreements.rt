@@ -1,15 +1,44 @@
-//! Values in two forms beside each other: the records that are easy to believe, and any form.
+//! Values in two forms beside each other: the records that are easy to believe, and the words that the program runs on.
 
 ghost use Rattle.std.specs.Prelude.{◌≤◌};
 
-use crate::numbers::Words;
-use crate::text::bit;
-use crate::values::cap_word;
 use cap_bounds::{CapRep, PlainCap, is_well_formed};
 use cap_format::CapWord;
-use case_texts::CaseError;
-use std::alloc::Global;
-use word_cap::parts;
+use case_texts::Words;
+use word_cap::{WordCap, parts};
+
+/// A value in both forms.
+#[derive(Clone, Copy)]
+pub(crate) struct Both {
+    pub record: PlainCap,
+    pub word: WordCap,
+}
+
+/// The capability word that the next two words are: its high half and its address.
+fn cap_word(words: &mut Words) -> CapWord {
+    let high = words.hex();
+    let address = words.hex();
+    CapWord::from_logical(u128::from(high) << 64 | u128::from(address))
+}
+
+/// A word in both forms, tagged if it may be.
+pub(crate) fn pair_of(word: CapWord, tag: bool) -> Both {
+    let well_formed = is_well_formed(word);
+    Both {
+        record: PlainCap::from_word(word, tag && well_formed),
+        word: WordCap::from_word(word, tag && well_formed),
+    }
+}
+
+/// The value that the next three words are; what is tagged is to be well-formed.
+pub(crate) fn pair(words: &mut Words) -> Both {
+    let word = cap_word(words);
+    let tag = words.bit();
+    if tag && !is_well_formed(word) {
+        words.refuse();
+    }
+    pair_of(word, tag)
+}
 
 /// What each call says of a value.
 fn said<C: CapRep>(c: C) -> [u128; 8] {
@@ -31,17 +60,17 @@ fn said<C: CapRep>(c: C) -> [u128; 8] {
 }
 
 /// Whether two values are one, call by call.
-fn agree<A: CapRep, B: CapRep>(one: A, other: B) -> bool {
+pub(crate) fn agree<A: CapRep, B: CapRep>(one: A, other: B) -> bool {
     said(one) == said(other)
 }
 
 /// Whether they still are with this address.
-fn agree_at<A: CapRep, B: CapRep>(one: A, other: B, address: u64) -> bool {
+pub(crate) fn agree_at<A: CapRep, B: CapRep>(one: A, other: B, address: u64) -> bool {
     agree(one.set_address(address), other.set_address(address))
 }
 
 /// Whether they still are with the bounds of so many bytes.
-fn agree_over<A: CapRep, B: CapRep>(one: A, other: B, length: u64) -> bool {
+pub(crate) fn agree_over<A: CapRep, B: CapRep>(one: A, other: B, length: u64) -> bool {
     let (one, one_exact) = one.set_bounds(length);
     let (other, other_exact) = other.set_bounds(length);
     agree(one, other) && one_exact == other_exact
@@ -96,21 +125,12 @@ fn forms_agree<A: CapRep, B: CapRep>(one: A, other: B, length: u64, e: u32) -> b
         && agree(one.clear_tag(), other.clear_tag())
 }
 
-/// Whether this form of a word, tagged if it may be, and the record of it agree.
-fn word_agrees<C: CapRep>(word: CapWord, length: u64, e: u32) -> bool
-    requires { e ≤ 50 }
-{
-    let tag = is_well_formed(word);
-    let record = PlainCap::from_word(word, tag);
-    forms_agree(record, C::from_word(word, tag), length, e)
-}
-
-/// A word's high half and its address, a length and an exponent, which counts as 50 at most; answered by whether this form of the
-/// word, tagged if it may be, and the record of it agree: in every field, with the addresses at the ends of its window and its bounds,
-/// with bounds of that length and of those at which rounding changes at the exponent, and without the tag.
-pub(crate) fn answer<C: CapRep>(alloc: Global, words: &mut Words) -> Result<String, CaseError> {
-    let word = cap_word(words);
+/// A word's high half and its address, a length and an exponent, which counts as 50 at most: whether both forms of the word, tagged if it
+/// may be, agree in every field, with the addresses at the ends of its window and its bounds, with bounds of that length and of those at
+/// which rounding changes at the exponent, and without the tag.
+pub(crate) fn drawn(words: &mut Words) -> bool {
+    let c = pair_of(cap_word(words), true);
     let length = words.hex();
     let e = u32::from(words.small()).min(50);
-    bit(alloc, word_agrees::<C>(word, length, e))
+    forms_agree(c.record, c.word, length, e)
 }

@@ -1,144 +1,230 @@
-//! The forms of capabilities that there are, and machines that work with each.
+//! Calls over capabilities in both forms, of which each is to say and to give the same.
 
-use crate::programs::{Outcome, Pace, Timetable, text_of};
-use crate::sessions::Errand;
-use assembler::assemble;
-use cap_bounds::PlainCap;
-use case_texts::CaseError;
-use debugger::Session;
-use failing::Narrow;
-use image::{DeviceFailed, Image, Sink};
-use machine::{End, Machine};
-use sim_run::run_scheduled;
+use crate::agreements::{Both, agree, agree_at, agree_over, pair, pair_of};
+use base::{Fault, Size};
+use cap_bounds::{CapRep, representable};
+use cap_checks::{
+    Access, Stored, check_access, check_fetch, check_invoke, check_jump, check_target,
+};
+use cap_format::CapWord;
+use cap_insns::cap_op;
+use cap_rights::{
+    Permission, Perms, and_perms, equal_exact, opened, permits, seal, seal_entry, set_flags,
+    subset, unseal,
+};
+use case_texts::{CaseError, Words, bytes};
+use isa_rows::{Format, Insn, Kind, ROWS, Row};
 use std::alloc::Global;
-use word_cap::WordCap;
 
-/// A form of capabilities.
-#[derive(Clone, Copy)]
-pub(crate) enum Form {
-    /// Records with decoded bounds.
-    Records,
-    /// 128-bit words.
-    Words,
+/// The hardware permissions by their bits, from 0 on.
+pub(crate) const PERMISSIONS: [Permission; 12] = [
+    Permission::Global,
+    Permission::Execute,
+    Permission::Load,
+    Permission::Store,
+    Permission::LoadCapability,
+    Permission::StoreCapability,
+    Permission::StoreLocalCapability,
+    Permission::Seal,
+    Permission::CInvoke,
+    Permission::Unseal,
+    Permission::AccessSystemRegisters,
+    Permission::SetCid,
+];
+
+/// Sixteen bytes in memory and a tag.
+pub(crate) fn word(alloc: Global, words: &mut Words) -> Result<bool, CaseError> {
+    let memory = bytes(alloc, words.word())?;
+    let memory = <[u8; 16]>::try_from(memory.as_slice()).map_err(|_| CaseError::Unreadable)?;
+    let word = CapWord::from_memory(memory);
+    let c = pair_of(word, words.bit());
+    Ok(word.to_memory() == memory && agree(c.record, c.word))
 }
 
-/// A machine of records, in the opening state of an image.
-fn machine_of_records(alloc: Global, image: &Image) -> Result<Machine<PlainCap>, CaseError> {
-    Machine::new(alloc, image).map_err(|_| CaseError::Memory)
+/// A value and an address.
+pub(crate) fn window(words: &mut Words) -> bool {
+    let c = pair(words);
+    let address = words.hex();
+    representable(c.record.word(), address) == representable(c.word.word(), address)
+        && agree_at(c.record, c.word, address)
 }
 
-/// A machine of words, in the opening state of an image.
-fn machine_of_words(alloc: Global, image: &Image) -> Result<Machine<WordCap>, CaseError> {
-    Machine::new(alloc, image).map_err(|_| CaseError::Memory)
+/// A value and a length.
+pub(crate) fn request(words: &mut Words) -> bool {
+    let c = pair(words);
+    agree_over(c.record, c.word, words.hex())
 }
 
-/// What a machine sends on a schedule, if it runs on one, and its end. A macro, since the size of a machine is known for each form alone.
-macro_rules! on_schedule {
-    ($alloc:expr, $machine:expr, $timetable:expr) => {{
-        let machine = $machine;
-        let mut sent = Vec::new($alloc);
-        let Some(timetable) = $timetable else {
-            return Ok(Outcome {
-                sent,
-                end: End::Running,
-                cut: None,
-            });
-        };
-        if !timetable.schedule.is_in_range() || machine.halted().is_some() {
-            return Err(CaseError::Unreadable);
+/// Whether a value has the same permissions, and is the same unsealed, as an entry, and with fewer permissions and either flag.
+fn rights_agree(c: Both, mask: u16) -> bool {
+    let mut permit_the_same = true;
+    for permission in &PERMISSIONS {
+        permit_the_same &= permits(c.record, *permission) == permits(c.word, *permission);
+    }
+    let mask = Perms::from_bits(mask);
+    permit_the_same
+        && agree(opened(c.record), opened(c.word))
+        && agree(seal_entry(c.record), seal_entry(c.word))
+        && agree(and_perms(c.record, mask), and_perms(c.word, mask))
+        && agree(set_flags(c.record, true), set_flags(c.word, true))
+        && agree(set_flags(c.record, false), set_flags(c.word, false))
+}
+
+/// Whether a value and another one compare the same, and give the same sealed and unsealed.
+fn pairs_agree(c: Both, other: Both) -> bool {
+    subset(other.record, c.record) == subset(other.word, c.word)
+        && equal_exact(c.record, other.record) == equal_exact(c.word, other.word)
+        && agree(seal(c.record, other.record), seal(c.word, other.word))
+        && agree(unseal(c.record, other.record), unseal(c.word, other.word))
+}
+
+/// A question about a value, and behind it another value, or a number or none: all that can be asked of these is. Others are of no value.
+pub(crate) fn right(words: &mut Words) -> bool {
+    match words.word() {
+        "type" | "set" | "shown" | "named" | "names" | "granule" | "record" => true,
+        "subset" | "equal" | "seal" | "unseal" => {
+            let c = pair(words);
+            pairs_agree(c, pair(words))
         }
-        if let Pace::Singly = timetable.pace {
-            let mut outcome = Outcome {
-                sent,
-                end: End::Running,
-                cut: None,
-            };
-            outcome.meet_singly(machine, timetable)?;
-            return Ok(outcome);
+        "perms" => {
+            let c = pair(words);
+            rights_agree(c, words.hex16())
         }
-        let mut sink = Narrow::new(&mut sent, 1, timetable.fails_at);
-        let ended = run_scheduled(machine, timetable.schedule, timetable.keys, &mut sink);
-        let failures = sink.failures();
-        let (end, cut) = match ended {
-            Ok(end) => (end, None),
-            Err(DeviceFailed) => (End::Running, Some(failures)),
-        };
-        Ok(Outcome { sent, end, cut })
-    }};
+        _ => rights_agree(pair(words), 0x5a5a),
+    }
 }
 
-fn records_on_schedule(
-    alloc: Global,
-    machine: &mut Machine<PlainCap>,
-    timetable: Option<Timetable>,
-) -> Result<Outcome, CaseError> {
-    on_schedule!(alloc, machine, timetable)
+/// The row whose mnemonic is the next word.
+pub(crate) fn row(words: &mut Words) -> Result<Row, CaseError> {
+    let name = words.word();
+    ROWS.iter()
+        .find(|row| row.name() == name)
+        .copied()
+        .ok_or(CaseError::Unreadable)
 }
 
-fn words_on_schedule(
-    alloc: Global,
-    machine: &mut Machine<WordCap>,
-    timetable: Option<Timetable>,
-) -> Result<Outcome, CaseError> {
-    on_schedule!(alloc, machine, timetable)
+/// The immediate of a row and the value in rs2, of which the next words are the one that it has.
+fn second(row: Row, words: &mut Words) -> (u64, Both) {
+    match row.format() {
+        Format::Immediate | Format::Unsigned => (words.hex(), null()),
+        _ => (0, pair(words)),
+    }
 }
 
-impl Form {
-    /// The form's name.
-    pub(crate) fn name(self) -> &'static str {
-        match self {
-            Form::Records => "records",
-            Form::Words => "words",
+fn null() -> Both {
+    pair_of(CapWord::NULL, false)
+}
+
+/// The number of rs1 and the value in DDC: the words that are left, or 11 and null.
+fn first(words: &mut Words) -> (u8, Both) {
+    match words.next() {
+        None => (11, null()),
+        Some(number) => match number.parse() {
+            Ok(rs1) => (rs1, pair(words)),
+            Err(_) => {
+                words.refuse();
+                (11, null())
+            }
+        },
+    }
+}
+
+/// A mnemonic, the value in rs1, and the value in rs2 or the immediate; then the number of rs1 and DDC, or nothing for 11 and null.
+pub(crate) fn capability_row(words: &mut Words) -> Result<bool, CaseError> {
+    let row = row(words)?;
+    let cs1 = pair(words);
+    let (imm, cs2) = second(row, words);
+    let (rs1, ddc) = first(words);
+    if !matches!(row.kind(), Kind::Capability) {
+        return Err(CaseError::Unreadable);
+    }
+    let insn = Insn {
+        row,
+        rd: 10,
+        rs1,
+        rs2: 12,
+        imm,
+    };
+    let record = cap_op(insn, cs1.record, cs2.record, ddc.record);
+    Ok(agree(record, cap_op(insn, cs1.word, cs2.word, ddc.word)))
+}
+
+const ACCESSES: [Access; 8] = [
+    Access::Load(Size::Byte),
+    Access::Load(Size::Double),
+    Access::Store(Size::Half),
+    Access::Store(Size::Word),
+    Access::LoadCapability,
+    Access::StoreCapability(Stored::Untagged),
+    Access::StoreCapability(Stored::Local),
+    Access::StoreCapability(Stored::Global),
+];
+
+/// `load SIZE`, `store SIZE`, `loadc`, or `storec` and what is stored; then the authority's register, the authority and the address, with
+/// which each kind of access is tried. Or `stored` and a value.
+pub(crate) fn access(words: &mut Words) -> bool {
+    match words.word() {
+        "stored" => {
+            let c = pair(words);
+            return Stored::of(c.record) == Stored::of(c.word);
+        }
+        "loadc" => {}
+        _ => {
+            words.word();
         }
     }
-
-    /// What is told to the queries among the deeds of a case over an image's program, behind a run on a schedule if there is one.
-    pub(crate) fn run(
-        self,
-        alloc: Global,
-        image: &Image,
-        timetable: Option<Timetable>,
-        deeds: &str,
-    ) -> Result<String, CaseError> {
-        match self {
-            Form::Records => {
-                let mut machine = machine_of_records(alloc, image)?;
-                let mut outcome = records_on_schedule(alloc, &mut machine, timetable)?;
-                outcome.answers(alloc, &mut machine, deeds)
-            }
-            Form::Words => {
-                let mut machine = machine_of_words(alloc, image)?;
-                let mut outcome = words_on_schedule(alloc, &mut machine, timetable)?;
-                outcome.answers(alloc, &mut machine, deeds)
-            }
-        }
+    let register = words.register();
+    let authority = pair(words);
+    let address = words.hex();
+    let mut all_same = true;
+    for access in &ACCESSES {
+        let record = check_access(authority.record, register, *access, address);
+        let word = check_access(authority.word, register, *access, address);
+        all_same &= are_same(record, word);
     }
+    all_same
+}
 
-    /// What comes of what is asked of a session with the machine of an image.
-    fn ask(self, alloc: Global, image: &Image, errand: Errand) -> Result<String, CaseError> {
-        match self {
-            Form::Records => {
-                let machine = machine_of_records(alloc, image)?;
-                errand.done(alloc, &mut Session::new(alloc, machine))
-            }
-            Form::Words => {
-                let machine = machine_of_words(alloc, image)?;
-                errand.done(alloc, &mut Session::new(alloc, machine))
-            }
-        }
+/// Whether two checks allow the same address, or have the same fault.
+fn are_same(one: Result<u64, Fault>, other: Result<u64, Fault>) -> bool {
+    match (one, other) {
+        (Ok(one), Ok(other)) => one == other,
+        (Err(one), Err(other)) => one == other,
+        _ => false,
     }
+}
 
-    /// The same of the machine of a program, by its statements, which are parted by `; `.
-    pub(crate) fn ask_program(
-        self,
-        alloc: Global,
-        statements: &str,
-        errand: Errand,
-    ) -> Result<String, CaseError> {
-        let text = text_of(alloc, "", statements)?;
-        match assemble(alloc, text.as_bytes()) {
-            Ok(assembly) => self.ask(alloc, assembly.image(), errand),
-            Err(_) => Err(CaseError::Unreadable),
+/// `fetch PCC`, `target PCC TARGET` or `jump REGISTER VALUE OFFSET`; `to` is of no capability.
+pub(crate) fn jump(words: &mut Words) -> bool {
+    match words.word() {
+        "fetch" => {
+            let pcc = pair(words);
+            are_same(check_fetch(pcc.record), check_fetch(pcc.word))
         }
+        "target" => {
+            let pcc = pair(words);
+            let target = words.hex();
+            let record = check_target(pcc.record, target);
+            are_same(record, check_target(pcc.word, target))
+        }
+        "jump" => {
+            let register = words.register();
+            let c = pair(words);
+            let offset = words.hex();
+            let record = check_jump(c.record, register, offset);
+            are_same(record, check_jump(c.word, register, offset))
+        }
+        _ => true,
     }
+}
+
+/// A register and the code in it, and a register and the data in it.
+pub(crate) fn invocation(words: &mut Words) -> bool {
+    let code_register = words.register();
+    let code = pair(words);
+    let data_register = words.register();
+    let data = pair(words);
+    let record = check_invoke(code.record, code_register, data.record, data_register);
+    let word = check_invoke(code.word, code_register, data.word, data_register);
+    are_same(record, word)
 }

@@ -1,190 +1,154 @@
-//! Conversations of the debugger.
+//! The calls of sessions.
 
-use crate::case::HELD;
-use crate::forms::Form;
-use crate::talks::{commanded, cut_short};
-use crate::text::name;
-use cap_bounds::CapRep;
-use case_texts::{CaseError, put_quoted, unescaped};
-use debugger::{Session, talk};
-use image::{FromRead, ToWrite};
-use std::alloc::Global;
+use crate::sameness::are_same;
+use crate::tried::{Tried, Wrong};
+use debugger::{DebugFault, Reply, Session, TalkFault, talk};
+use failing::Paper;
+use image::FromRead;
+use machine::{Event, Machine};
+use word_cap::WordCap;
 
-/// A conversation: what is typed, with what of it is left unread, and what is answered.
-#[derive(Drop)]
-struct Conversation<'a> {
-    statements: &'a str,
-    typed: Vec<u8>,
-    left: usize,
-    answers: String,
+/// Commands, how many steps each does, and their replies.
+const TYPED: [(&str, u64, &str); 3] = [
+    ("step 2", 2, "events 2 out - pc 0000000080000008 running\n"),
+    ("mem 0x80000000 4", 0, "0000000080000000: b7 05 00 10\n"),
+    (
+        "step 3",
+        3,
+        "events 3 out 41 pc 0000000080000014 halted 0\n",
+    ),
+];
+
+/// What a conversation of these commands tells.
+const TOLD: &str = "events 2 out - pc 0000000080000008 running\n0000000080000000: b7 05 00 10\n\
+    events 3 out 41 pc 0000000080000014 halted 0\n";
+
+/// A conversation that is broken off: what is told by then, what is left to type, and the steps that were done.
+struct Stage {
+    told: &'static str,
+    left: &'static [u8],
+    steps: u64,
 }
 
-/// A line without the blank at its beginning.
-fn without_blank(line: &str) -> &str {
-    line.strip_prefix(' ').unwrap_or(line)
-}
-
-impl<'a> Conversation<'a> {
-    /// Puts a line that is typed behind the others, and says how many bytes it has.
-    fn put_typed(&mut self, alloc: Global, line: &str) -> Result<usize, CaseError> {
-        let bytes = unescaped(alloc, without_blank(line))?;
-        self.typed.extend_from_slice(&bytes)?;
-        self.typed.extend_from_slice(b"\n")?;
-        Ok(bytes.len().saturating_add(1))
-    }
-
-    /// Takes a line: of the program behind `@`, typed behind `>`, typed and left unread behind `<`, and else answered.
-    fn put_line(&mut self, alloc: Global, line: &'a str) -> Result<(), CaseError> {
-        if let Some(statements) = line.strip_prefix('@') {
-            self.statements = without_blank(statements);
-        } else if let Some(line) = line.strip_prefix('>') {
-            self.put_typed(alloc, line)?;
-        } else if let Some(line) = line.strip_prefix('<') {
-            let count = self.put_typed(alloc, line)?;
-            self.left = self.left.saturating_add(count);
-        } else if !line.starts_with('#') {
-            self.answers.push_str(line)?;
-            self.answers.push('\n')?;
-        }
-        Ok(())
-    }
-
-    /// The conversation of a block of lines.
-    fn of(alloc: Global, block: &'a str) -> Result<Self, CaseError> {
-        let mut conversation = Conversation {
-            statements: "",
-            typed: Vec::new(alloc),
-            left: 0,
-            answers: String::new(alloc),
-        };
-        for line in block.lines() {
-            conversation.put_line(alloc, line)?;
-        }
-        Ok(conversation)
-    }
-}
-
-/// What is asked of a session.
-#[derive(Clone, Copy)]
-pub(crate) enum Errand<'a> {
-    /// To answer what is typed by these answers, with so many bytes left unread.
-    Talk {
-        typed: &'a [u8],
-        answers: &'a str,
-        left: usize,
+const STAGES: [Stage; 3] = [
+    Stage {
+        told: "",
+        left: b"step 2\nmem 0x80000000 4\nstep 3\nquit\nregs",
+        steps: 0,
     },
-    /// To answer what is typed over devices that fail at these calls.
-    Cut {
-        typed: &'a [u8],
-        read: u64,
-        write: u64,
+    Stage {
+        told: "events 2 out - pc 0000000080000008 running\n",
+        left: b"mem 0x80000000 4\nstep 3\nquit\nregs",
+        steps: 2,
     },
-    /// To do what lines say.
-    Commands(&'a str),
-}
+    Stage {
+        told: "events 2 out - pc 0000000080000008 running\n0000000080000000: b7 05 00 10\n",
+        left: b"step 3\nquit\nregs",
+        steps: 2,
+    },
+];
 
-/// What has been answered, and how many bytes are left unread.
-#[derive(Drop)]
-struct Said {
-    answers: Vec<u8>,
-    left: usize,
-}
-
-/// What a session answers to what is typed.
-fn conversed<C: CapRep>(
-    alloc: Global,
-    session: &mut Session<C>,
-    typed: &[u8],
-) -> Result<Said, CaseError> {
-    let mut rest = typed;
-    let mut answers = Vec::new(alloc);
-    let talked = talk(
-        session,
-        &mut FromRead::new(&mut rest),
-        &mut ToWrite::new(&mut answers),
-    );
-    match talked {
-        Ok(()) => Ok(Said {
-            answers,
-            left: rest.len(),
-        }),
-        Err(_) => Err(CaseError::Memory),
+/// Gives a machine so many steps.
+fn step(machine: &mut Machine<WordCap>, steps: u64) {
+    for _ in 0..steps {
+        machine.event(Event::Step);
     }
 }
 
-/// The first line that is said where another is expected, with that one.
-fn difference<'a>(said: &'a [u8], answers: &'a str) -> Option<(&'a [u8], &'a str)> {
-    let mut lines = said.split(|byte| *byte == b'\n');
-    for expected in answers.split('\n') {
-        let came = lines.next().unwrap_or(b"");
-        if came != expected.as_bytes() {
-            return Some((came, expected));
+/// Whether a command answers this text.
+fn answers(answered: &Result<Reply, DebugFault>, reply: &str) -> bool {
+    match answered {
+        Ok(Reply::Text(text)) => text.as_str() == reply,
+        _ => false,
+    }
+}
+
+/// Asks for a line, and again where it is refused; answers whether it was. The other machine meets the steps.
+fn asked(
+    session: &mut Session<WordCap>,
+    other: &mut Machine<WordCap>,
+    typed: &(&'static str, u64, &'static str),
+) -> Result<bool, Wrong> {
+    let (line, steps, reply) = *typed;
+    let mut answered = session.command(line);
+    let mut is_refused = false;
+    if let Err(fault) = &answered {
+        if *fault != DebugFault::B4 || !are_same(session.machine(), other) {
+            return Err(Wrong("a refused command changes something"));
         }
+        is_refused = true;
+        answered = session.command(line);
     }
-    None
-}
-
-/// What is said where something else is expected.
-fn told_apart(alloc: Global, said: &Said, answers: &str, left: usize) -> Result<String, CaseError> {
-    let said_bytes = said.answers.len();
-    let said_left = said.left;
-    let mut told = format!(in alloc; "{said_bytes} bytes and {said_left} left, not {left}: ")?;
-    if let Some((came, expected)) = difference(&said.answers, answers) {
-        put_quoted(&mut told, came)?;
-        write!(told, " in place of {expected}")?;
-    }
-    Ok(told)
-}
-
-/// `HELD`, or what is said where something else is expected.
-fn compared(alloc: Global, said: &Said, answers: &str, left: usize) -> Result<String, CaseError> {
-    if said.answers.as_slice() == answers.as_bytes() && said.left == left {
-        name(alloc, HELD)
+    step(other, steps);
+    if answers(&answered, reply) && are_same(session.machine(), other) {
+        Ok(is_refused)
     } else {
-        told_apart(alloc, said, answers, left)
+        Err(Wrong("a command tells or leaves something else"))
     }
 }
 
-impl Errand<'_> {
-    /// What comes of it.
-    pub(crate) fn done<C: CapRep>(
-        self,
-        alloc: Global,
-        session: &mut Session<C>,
-    ) -> Result<String, CaseError> {
-        match self {
-            Errand::Talk {
-                typed,
-                answers,
-                left,
-            } => compared(alloc, &conversed(alloc, session, typed)?, answers, left),
-            Errand::Cut { typed, read, write } => cut_short(alloc, session, typed, read, write),
-            Errand::Commands(lines) => commanded(alloc, session, lines),
+/// `command`, of each line in order. The other machine, which is in the same state before, meets the steps.
+pub(crate) fn command(
+    session: &mut Session<WordCap>,
+    other: &mut Machine<WordCap>,
+) -> Result<Tried<()>, Wrong> {
+    let mut refusal = None;
+    for typed in &TYPED {
+        if asked(session, other, typed)? {
+            refusal = Some("B4");
         }
     }
+    Ok(Tried { value: (), refusal })
 }
 
-/// A block of lines; answered by `HELD`, or by the first difference. It is tried with the last line's line feed and, where that line is
-/// not empty, without it.
-pub(crate) fn answer(alloc: Global, form: Form, block: &str) -> Result<String, CaseError> {
-    let conversation = Conversation::of(alloc, block)?;
-    let typed = conversation.typed.as_slice();
-    let cut = match typed {
-        [.., b'\n', b'\n'] | [b'\n'] | [] => typed,
-        [line @ .., _] => line,
-    };
-    for typed in [typed, cut] {
-        let shorter = conversation.typed.len().saturating_sub(typed.len());
-        let left = conversation.left.saturating_sub(shorter);
-        let errand = Errand::Talk {
-            typed,
-            answers: &conversation.answers,
-            left,
+/// `talk`, and what it tells.
+fn spoken(session: &mut Session<WordCap>, typed: &[u8]) -> (Result<(), TalkFault>, Paper) {
+    let mut paper = Paper::new();
+    let answered = talk(session, &mut FromRead::new(typed), &mut paper);
+    (answered, paper)
+}
+
+/// Whether a conversation is held to its end, tells this and no more, and leaves the state of another machine behind so many steps.
+fn is_held(
+    session: &mut Session<WordCap>,
+    other: &mut Machine<WordCap>,
+    stage: &Stage,
+    answered: Result<(), TalkFault>,
+    paper: &Paper,
+) -> bool {
+    step(other, 5u64.saturating_sub(stage.steps));
+    let rest = TOLD.as_bytes().get(stage.told.len()..);
+    answered.is_ok() && rest == Some(paper.written()) && are_same(session.machine(), other)
+}
+
+/// The conversation that is broken off where this is told.
+fn stage_of(told: &[u8]) -> Option<&'static Stage> {
+    STAGES.iter().find(|stage| stage.told.as_bytes() == told)
+}
+
+/// `talk`. Where it is refused, the lines before are answered and done and no other; it goes on with the line that was refused.
+pub(crate) fn converse(
+    session: &mut Session<WordCap>,
+    other: &mut Machine<WordCap>,
+) -> Result<Tried<()>, Wrong> {
+    let mut stage = &STAGES[0];
+    let (mut answered, mut paper) = spoken(session, stage.left);
+    let mut refusal = None;
+    if let Err(fault) = answered {
+        let Some(broken_off) = stage_of(paper.written()) else {
+            return Err(Wrong("a refused conversation tells no beginning"));
         };
-        let told = form.ask_program(alloc, conversation.statements, errand)?;
-        if told.as_str() != HELD {
-            return Ok(told);
+        stage = broken_off;
+        step(other, stage.steps);
+        if fault != TalkFault::Memory || !are_same(session.machine(), other) {
+            return Err(Wrong("a refused conversation leaves another state"));
         }
+        refusal = Some("Memory");
+        (answered, paper) = spoken(session, stage.left);
     }
-    Ok(String::from_str(alloc, HELD)?)
+    if is_held(session, other, stage, answered, &paper) {
+        Ok(Tried { value: (), refusal })
+    } else {
+        Err(Wrong("a conversation tells or leaves something else"))
+    }
 }

@@ -1,0 +1,118 @@
+/* Tries libcherisim where memory runs out: each allocation of a call fails in turn. The call answers CHERISIM_NO_MEMORY, the handle holds
+ * what it held, and no block is lost; then it succeeds. The heap below stands in place of c/heap.c. */
+#include "machines.h"
+#include <stdlib.h>
+
+static long left = -1; /* from which allocation on they fail, counted from 1; 0: each; -1: none */
+static long blocks;    /* how many live */
+static uint8_t nothing;
+typedef struct { uint8_t ok; void *block; } tried_t;
+
+static bool fails(void) {
+    left -= left > 0;
+    return left == 0;
+}
+static tried_t answered(void *block) { return (tried_t){block != NULL, block ? block : &nothing}; }
+tried_t rattle_alloc(size_t size, size_t align) {
+    void *block = fails() ? NULL : malloc(size ? size : align);
+    blocks += block != NULL;
+    return answered(block);
+}
+tried_t rattle_realloc(void *block, size_t kept, size_t size, size_t align) {
+    (void)kept;
+    return answered(fails() ? NULL : realloc(block, size ? size : align));
+}
+void rattle_dealloc(void *block) {
+    blocks -= 1;
+    free(block);
+}
+
+/* ---- the calls */
+
+/* version 2, a page: the word of `nop` at its beginning, and a capability behind it */
+static const uint8_t image[] = "CHERIIMG" "\2\0\0\0" "\1\0\0\0" "\0\0\0\x80\0\0\0\0" "\1\0\0\0" "\0\0\0\0"
+                               "\0\0\0\x80\0\0\0\0" "\4\0\0\0\0\0\0\0" "\x13\0\0\0"
+                               "\1\0\0\0" "\x10\0\0\x80\0\0\0\0" "\0\0\0\x80\0\0\0\0" "\x40\0\0\0\0\0\0\0" "\xff\xff\0\0" "\0\0\0\0";
+static const char *text = ".pages 3\n.mode 1\nfirst: nop\nsecond: j first\n.org 0x80001000\ntable: .cap second, 16, 65535, 0\n"
+                          ".dword table\n.org 0x80000100\nthird: .zero 100\n.ascii \"and so on\"\n";
+static cherisim_t source;
+
+static cherisim_status call_new(cherisim_t *m) { return cherisim_new(image, sizeof image - 1, m); }
+static cherisim_status call_new_flat(cherisim_t *m) { return cherisim_new_flat(image, 64, RAM, RAM, 2, true, m); }
+static cherisim_status call_assemble(cherisim_t *m) {
+    uint64_t line = 0;
+    return cherisim_assemble((const uint8_t *)text, strlen(text), m, &line);
+}
+static cherisim_status call_copy(cherisim_t *m) { return cherisim_copy(&source, m); }
+static cherisim_status call_why(cherisim_t *m) {
+    uint8_t shown[2048] = {0xee};
+    size_t length = 99;
+    cherisim_status status = cherisim_why(m, shown, sizeof shown, &length);
+    if (status) ROW(length == 99 && shown[0] == 0xee);
+    return status;
+}
+
+/* each allocation of the call fails in turn, into a handle with a machine or without one */
+static void each_fails(const char *name, cherisim_status (*call)(cherisim_t *), bool has_machine) {
+    cherisim_t m = CHERISIM_NONE, before = CHERISIM_NONE;
+    if (has_machine) {
+        of_text(&m, "li a0, 7\nebreak\n");
+        steps(&m, 1);
+        DONE(cherisim_copy(&m, &before));
+    }
+    long held = blocks, failed = 0;
+    for (cherisim_status status; failed < 1000; failed += 1) {
+        void *at = m.at;
+        left = failed + 1;
+        status = call(&m);
+        left = -1;
+        if (status == CHERISIM_OK) break;
+        ROW(status == CHERISIM_NO_MEMORY && m.at == at && blocks == held && (!has_machine || same(&m, &before)));
+    }
+    ROW(failed > 0 && failed < 1000);
+    printf("%s%s: %ld; ", name, has_machine ? " over a machine" : "", failed);
+    cherisim_free(&m);
+    cherisim_free(&before);
+}
+
+/* what takes no memory succeeds without any */
+static void takes_none(void) {
+    cherisim_t m = CHERISIM_NONE;
+    cherisim_asked_t asked = {1000, 7, 0, 0, false, false};
+    cherisim_ran_t ran;
+    uint8_t bytes[64] = {0};
+    cherisim_cap_t values[32];
+    of_text(&m, "loop: addi a0, a0, 1\nsc.ddc ca1, (a2)\nebreak\n");
+    DONE(cherisim_set_reg(&m, 12, number(RAM + 64)));
+    DONE(cherisim_set_scr(&m, MTCC, root_at(RAM)));
+    left = 0;
+    DONE(cherisim_run(&m, &asked, bytes, 64, &ran));
+    DONE(cherisim_receive(&m, 5));
+    DONE(cherisim_tick(&m));
+    DONE(cherisim_set_reg(&m, X11, bounded(RAM, 16)));
+    DONE(cherisim_set_csr(&m, MSCRATCH, 5));
+    DONE(cherisim_write(&m, RAM + 512, bytes, 64));
+    DONE(cherisim_write_cap(&m, RAM + 1024, root_at(3)));
+    DONE(cherisim_all_regs(&m, values));
+    steps(&m, 9);
+    ROW(ran.steps == 1000 && same(&m, &m) && ends(&m) < 4);
+    ROW(cherisim_new(image, 5, &m) == 1);
+    left = -1;
+    cherisim_free(&m);
+}
+
+int main(void) {
+    call_new(&source);
+    steps(&source, 1);
+    const struct { const char *name; cherisim_status (*call)(cherisim_t *); } calls[] = {
+        {"new", call_new}, {"new_flat", call_new_flat}, {"assemble", call_assemble}, {"copy", call_copy}, {"why", call_why}};
+    for (size_t i = 0; i < COUNT_OF(calls); i += 1) {
+        if (calls[i].call != call_why) each_fails(calls[i].name, calls[i].call, false);
+        each_fails(calls[i].name, calls[i].call, true);
+    }
+    takes_none();
+    cherisim_free(&source);
+    ROW(blocks == 0);
+    printf("that many allocations failed in turn; %lu rows, %lu wrong\n", tried, wrong);
+    return wrong != 0;
+}

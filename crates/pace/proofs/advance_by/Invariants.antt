@@ -1,4 +1,0 @@
-use Rattle.pace.proofs.advance_by.Given as goal
-
-abbrev pub decreases-loop-left : goal.decreases-loop-left
-decreases-loop-left l = l.left

@@ -1,0 +1,73 @@
+"""What the library or the module refuses, as exceptions."""
+from __future__ import annotations
+
+
+class CherisimError(Exception):
+    """What the library or this module refuses. `status` is the library's number for it, 0 where the module refuses."""
+
+    status = 0
+
+
+class ImageFault(CherisimError):
+    """An image is none: `code` is L1 to L15."""
+
+    def __init__(self, status: int) -> None:
+        self.status, self.code = status, f"L{status}"
+        super().__init__(f"{self.code} {_IMAGE_FAULTS.get(status, 'fault')}")
+
+
+class TextFault(CherisimError):
+    """A text in the assembly language has a fault: `code` is A1 to A11, and `line` is counted from 1."""
+
+    def __init__(self, status: int, line: int) -> None:
+        self.status, self.code, self.line = status, f"A{status - 32}", line
+        super().__init__(f"line {line}: {self.code} {_TEXT_FAULTS.get(status - 32, 'fault')}")
+
+
+class OutOfMemory(CherisimError):
+    """The host has no memory left; what was asked changes nothing."""
+
+    status = 64
+
+
+class Closed(CherisimError):
+    """The machine was closed."""
+
+    status = 65
+
+
+class OutOfRange(CherisimError, LookupError):
+    """There is no such register, an address lies outside RAM or is not aligned, or a value can't stand where it is put."""
+
+    status = 66
+
+
+class WrongThread(CherisimError):
+    """A machine is used by another thread than the one that made it."""
+
+
+_IMAGE_FAULTS = {
+    1: "short header", 2: "magic", 3: "version", 4: "pages, entry or mode", 5: "too many sections", 6: "section outside RAM",
+    7: "sections not ascending", 8: "truncated", 9: "bytes after the end", 10: "device failed", 11: "no memory", 12: "capability place",
+    13: "capability not exact", 14: "permissions or flag", 15: "too many capabilities"}
+_TEXT_FAULTS = {
+    1: "unknown mnemonic", 2: "operands", 3: "immediate out of range", 4: "label twice", 5: "label unknown", 6: "target out of range",
+    7: "place", 8: "byte not ASCII", 9: "line too long", 10: "no memory", 11: "capability not exact"}
+
+
+def in_range(what: str, number: int, bits: int) -> None:
+    """ctypes cuts a number that is too long for C: it is refused here."""
+    if not 0 <= number < 1 << bits:
+        raise OutOfRange(f"no {what} {number:#x}")
+
+
+def refusal(status: int, call: str, line: int = 0) -> CherisimError:
+    """The exception of a status."""
+    if 1 <= status <= 15:
+        return ImageFault(status)
+    if 33 <= status <= 43:
+        return TextFault(status, line)
+    for kind in (OutOfMemory, Closed, OutOfRange):
+        if kind.status == status:
+            return kind(f"{call}: {(kind.__doc__ or '').splitlines()[0]}")
+    return CherisimError(f"{call}: status {status}")

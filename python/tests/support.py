@@ -1,0 +1,41 @@
+"""What the tests share: where things are, and images by the grammar of docs/ASSEMBLY.md."""
+import os
+import re
+import struct
+import sys
+
+TOP = os.path.abspath(os.path.join(os.path.dirname(os.path.abspath(__file__)), "..", ".."))
+PROGRAM = os.environ.get("CHERISIM_PROGRAM") or os.path.join(TOP, "crates", "cherisim", "out", "cherisim")
+NO_PROGRAM = f"{os.path.relpath(PROGRAM, TOP)} is not built"
+sys.path.insert(0, os.path.join(TOP, "python"))
+sys.path += [os.path.join(TOP, "python", "examples"), os.path.join(TOP, "tools")]
+
+RAM, PAGE = 0x80000000, 4096
+# lui a1, 0x10000; addi a0, zero, 65; sb a0, 0(a1); lui a1, 0x100; sd zero, 0(a1): sends A, and halts with 0
+FIRST = struct.pack("<5I", 0x100005B7, 0x04100513, 0x00A58023, 0x001005B7, 0x0005B023)
+
+
+def has_program():
+    return os.path.exists(PROGRAM)
+
+
+def read(*path):
+    with open(os.path.join(TOP, *path), "rb") as file:
+        return file.read()
+
+
+def image(sections, *, version=1, pages=1, entry=RAM, mode=0, caps=()):
+    """An image file: sections as (address, bytes), capabilities as (place, base, length, permissions, flag)."""
+    parts = [b"CHERIIMG", struct.pack("<IIQII", version, pages, entry, len(sections), mode)]
+    for address, data in sections:
+        parts += [struct.pack("<QQ", address, len(data)), data]
+    if version == 2:
+        parts += [struct.pack("<I", len(caps)), *(struct.pack("<QQQII", *cap) for cap in caps)]
+    return b"".join(parts)
+
+
+def encodings():
+    """The rows of docs/PROGRAMMING.md: (mask, value, format, mnemonic)."""
+    page = read("docs", "PROGRAMMING.md").decode()
+    lines = re.findall(r"^\| `0x([0-9a-f]{8})` \| `0x([0-9a-f]{8})` \| (\w+) \| `([\w.]+)", page, re.MULTILINE)
+    return [(int(mask, 16), int(value, 16), form, name) for mask, value, form, name in lines]

@@ -1,0 +1,1 @@
+"""The readers of the cases that tools/try_cases.py tries, a module an idea."""

@@ -1,0 +1,111 @@
+"""Conversations of the debugger, by the program's standard input and output."""
+import os
+import subprocess
+
+from quoting import quoted
+
+from .desk import Desk
+from .programs import text_of
+from .reading import unescaped, unquoted
+
+
+class Conversation:
+    """A block of lines: what is typed behind `>`, or behind `<` and left unread, over the program behind `@`, and what is answered."""
+
+    def __init__(self, block):
+        self.statements, self.typed, self.left, self.answers = "", b"", 0, ""
+        for line in block.removesuffix("\n").split("\n"):
+            self.take(line)
+
+    def take(self, line):
+        mark, rest = line[:1], line[1:].removeprefix(" ")
+        if mark == "@":
+            self.statements = rest
+        elif mark in (">", "<"):
+            typed = unescaped(rest) + b"\n"
+            self.typed += typed
+            self.left += len(typed) if mark == "<" else 0
+        elif mark != "#":
+            self.answers += line + "\n"
+
+    def without_end(self):
+        """What is typed, without the last line's line feed where that line isn't empty."""
+        return self.typed if self.typed.endswith(b"\n\n") or self.typed in (b"\n", b"") else self.typed[:-1]
+
+
+def conversed(bench, typed):
+    """What a session over the image answers to what is typed, and how many bytes it leaves unread; or what it tells of a fault."""
+    with open(bench.file("typed", typed), "rb", buffering=0) as given:
+        ran = subprocess.run([bench.program, "debug", "a.img"], stdin=given, capture_output=True, cwd=bench.folder, timeout=60, check=False)
+        left = len(typed) - os.lseek(given.fileno(), 0, os.SEEK_CUR)
+    if ran.returncode or ran.stderr:
+        raise ValueError(f"status {ran.returncode}: {ran.stderr.decode()}")
+    return ran.stdout.decode(), left
+
+
+def difference(said, expected):
+    """The first line that is said where another is expected."""
+    lines = said.split("\n")
+    for place, line in enumerate(expected.split("\n")):
+        came = lines[place] if place < len(lines) else ""
+        if came != line:
+            return f"{came!r} in place of {line!r}"
+    return f"{len(said)} bytes, not {len(expected)}"
+
+
+def session(bench, case):
+    """A conversation with the machine of a program, with the last line's line feed and, where that line is not empty, without it."""
+    conversation = Conversation(case.inputs)
+    image, told = bench.image_of(text_of("", conversation.statements))
+    if image is None:
+        return told
+    for typed in (conversation.typed, conversation.without_end()):
+        left = max(conversation.left - (len(conversation.typed) - len(typed)), 0)
+        said, unread = conversed(bench, typed)
+        if said != conversation.answers:
+            return difference(said, conversation.answers)
+        if unread != left:
+            return f"{unread} bytes are left unread, not {left}"
+    return case.expected
+
+
+# What the program's status and message say of a conversation.
+ENDINGS = {(0, b""): "ok", (3, b"cherisim: read failed\n"): "Read", (3, b"cherisim: write failed\n"): "Write"}
+
+
+def cut_short(bench, image, words, typed):
+    """The answer of a conversation whose devices fail at these calls, and what is written."""
+    devices = [(name, int(call)) for name, call in zip(("input", "output"), words) if call != "-"]
+    desk = Desk(bench, {"a.img": image}, devices=devices)
+    status, _, sent, told, _ = desk.run(["debug", "a.img"], typed)
+    desk.clear()
+    return f"{ENDINGS.get((status, told), told.decode())} {quoted(sent)}"
+
+
+def commanded(bench, lines):
+    """What a session answers to lines, each typed behind those before it that were no `quit`, which leaves the rest unread."""
+    told, before, said_before = [], b"", ""
+    for line in lines:
+        said, left = conversed(bench, before + line.encode() + b"\n#")
+        if left:
+            told.append(line)
+            continue
+        said = conversed(bench, before + line.encode() + b"\n")[0]
+        answer = said.removeprefix(said_before)
+        told.append(answer.split()[1] if answer.startswith("fault ") else quoted(answer))
+        before, said_before = before + line.encode() + b"\n", said
+    return " ".join(told)
+
+
+def talk(bench, case):
+    """`cut` and the calls that fail, or `commands`; statements; and what is typed. Where the session stands then is shown by nothing: the
+    answer's last three words are taken over."""
+    asked, statements, typed = case.inputs.split(" | ")
+    image, told = bench.image_of(text_of("", statements))
+    if image is None:
+        return told
+    state = " ".join(case.expected.rsplit(" ", 3)[1:])
+    what, *words = asked.split()
+    if what == "cut":
+        return f"{cut_short(bench, image, words, unquoted(typed)[0])} {state}"
+    return f"{commanded(bench, typed.split('; '))} {state}"

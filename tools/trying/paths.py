@@ -1,0 +1,28 @@
+"""Where everything stands that the cases are tried with."""
+import os
+
+TOP = os.path.abspath(os.path.join(os.path.dirname(os.path.abspath(__file__)), "..", ".."))
+
+
+def below(*names):
+    return os.path.join(TOP, *names)
+
+
+# Files of cases, and those of them that the proved program reads too.
+CASES = below("cases")
+PROVED_CASES = below("crates", "conformance", "data")
+# The texts of the kernel and of compartments.
+COMPARTMENTS = below("cases", "kernel")
+# The table of instructions.
+ROWS = below("crates", "isa_rows", "src", "table.rt")
+# The library in front of the C library's calls.
+FAILING_DEVICES = below("tools", "trying", "failing_devices.c")
+# What is tried, as the gate leaves it.
+LIBRARY = below("c", "build")
+PROGRAM = below("crates", "cherisim", "out", "cherisim")
+
+
+def cases_of(name):
+    """Where the file of cases of a name stands."""
+    proved = os.path.join(PROVED_CASES, f"{name}.txt")
+    return proved if os.path.exists(proved) else os.path.join(CASES, f"{name}.txt")

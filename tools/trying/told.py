@@ -1,0 +1,93 @@
+"""The texts of the program's faults, each by a command line that has it."""
+import re
+import subprocess
+
+from images import FIRST, ONE_CAPABILITY, file_v2, granted, header, patched, section
+from refused_growths import library
+
+from .desk import Desk
+from .machines import RAM
+
+# More growths than any of these command lines has.
+MOST_GROWTHS = 200
+OUTSIDE, BEFORE = section(RAM - 1, b""), section(RAM + 4, b"\1") + section(RAM, b"")
+LONG = b" " * 256
+TEXT = b"lui a1, 0x10000\n"
+
+# Of a fault of a text the lines before the seventh, and the seventh.
+TEXTS = {
+    "A1": (b"\n" * 6, b"frob"), "A2": (b"\n" * 6, b"add a0"), "A3": (b"\n" * 6, b"addi a0, a0, 5000"), "A4": (b"x:" + b"\n" * 6, b"x:"),
+    "A5": (b"\n" * 6, b"j nowhere"), "A6": (b"\n" * 6, b"j .+1"), "A7": (b"\n" * 5 + b".org 0\n", b"nop"), "A8": (b"\n" * 6, b"\x7f"),
+    "A9": (b"\n" * 6, LONG), "A11": (b"\n" * 6, b".cap 0x80000001, 65537, 0, 0"),
+}
+# Of a fault of an image a file that has it.
+FILES = {
+    "L1": FIRST[:31], "L2": patched(FIRST, {0: 0}), "L3": patched(FIRST, {8: 3}), "L4": patched(FIRST, {12: 0}),
+    "L5": patched(FIRST, {24: 65}), "L6": header(1, RAM, 1, 0) + OUTSIDE, "L7": header(1, RAM, 2, 0) + BEFORE, "L8": FIRST[:67],
+    "L9": FIRST + b"\0", "L12": file_v2(1, RAM, 0, [granted(RAM + 8)]), "L13": file_v2(1, RAM, 0, [granted(length=4097)]),
+    "L14": patched(ONE_CAPABILITY, {64: 2}), "L15": patched(ONE_CAPABILITY, {32: 1, 33: 4}),
+}
+# Of another fault the command line, the files, what is typed, the directories and the devices.
+OTHERS = {
+    "L10": ("run a.img 5", {"a.img": FIRST}, b"", [], {"/a.img": 3}),
+    "talk read": ("debug a.img", {"a.img": FIRST}, b"step 1\n", [], {"input": 3}),
+    "talk write": ("debug a.img", {"a.img": FIRST}, b"step 1\n", [], {"output": 3}),
+    "write": ("run a.img 5", {"a.img": FIRST}, b"", [], {"output": 0}),
+    "no file": ("asm a.s a.img", {}, b"", [], {}),
+    "broken file": ("asm a.s a.img", {"a.s": TEXT}, b"", [], {"/a.s": 3}),
+    "directory": ("asm a.s a.img", {}, b"", ["a.s"], {}),
+    "cut short": ("asm b.s a.s", {"b.s": TEXT}, b"", [], {"made": 3}),
+    "symbols": ("dis a.img --symbols a.s", {"a.img": FIRST, "a.s": b"0000000080000000 x\n" * 6 + b"x\n"}, b"", [], {}),
+    "file L2": ("run a.s 5", {"a.s": FILES["L2"]}, b"", [], {}),
+}
+# Of want of memory the command line, what is typed, and the text that a refused growth has.
+GROWTHS = {
+    "A10": ("asm a.s b.img", b"", "a.s: line 0: A10 no memory"), "L11": ("run a.img 5", b"", "a.img: L11 no memory"),
+    "M2": ("run a.img 5", b"", "M2 no memory"), "memory": ("asm a.s b.img", b"", "no memory"),
+    "talk memory": ("debug a.img", b"regs\n", "no memory"),
+}
+# What no command line has: its text stands in the program.
+NEVER = {"M5": "M5 no memory", "words": "read failed"}
+
+
+def message(told):
+    """What stands behind `cherisim: ` in what is told."""
+    return re.fullmatch(rb"cherisim: (.*)\n(?:fewer|refused)?", told, re.DOTALL)
+
+
+def told_by(bench, line, files, typed=b"", directories=(), devices=()):
+    """The message of a command line."""
+    desk = Desk(bench, files, directories, dict(devices).items())
+    _, _, _, told, _ = desk.run(line.split(), typed)
+    desk.clear()
+    found = message(told)
+    return found[1].decode("latin-1") if found else told.decode()
+
+
+def told_without(bench, line, typed, number):
+    """The message of a command line whose growth of a number is refused."""
+    shim = bench.once("refused growths", lambda: library(bench.folder))
+    bench.file("a.s", TEXT)
+    bench.file("a.img", FIRST)
+    ran = subprocess.run([bench.program, *line.split()], input=typed, capture_output=True, cwd=bench.folder, timeout=60, check=False,
+                         env={"LD_PRELOAD": shim, "REFUSED_GROWTH": str(number)})
+    found = message(ran.stderr)
+    return found[1].decode() if found else None
+
+
+def fault(bench, case):
+    """The fault of a name: its text, as the program tells it. Of a text's fault what was read may stand behind the text."""
+    name = case.inputs
+    if name in TEXTS:
+        told = told_by(bench, "asm a.s a.img", {"a.s": b"".join(TEXTS[name])})
+        return case.expected if told.startswith(f"{case.expected}: ") else told
+    if name in FILES:
+        return told_by(bench, "run a.img 5", {"a.img": FILES[name]}).removeprefix("a.img: ")
+    if name in OTHERS:
+        return told_by(bench, *OTHERS[name]).removeprefix("a.img: ")
+    if name in GROWTHS:
+        line, typed, text = GROWTHS[name]
+        is_told = any(told_without(bench, line, typed, number) == text for number in range(1, MOST_GROWTHS))
+        return text.removeprefix("a.img: ").replace("line 0", "line 7") if is_told else "another text"
+    with open(bench.program, "rb") as program:
+        return NEVER[name] if NEVER[name].encode() in program.read() else "no such text"
