@@ -1,7 +1,7 @@
-//! Tries what neither the C libraries nor the program `cherisim` show: over files of cases both forms of capabilities beside each other, calls
-//! that nobody shows, and devices that fail. With the word `growths` it makes each call that takes memory, so that a growth of it can be
-//! refused from outside: tools/refused_growths.py refuses one after the other.
-//! A case is a line `inputs => answer`. Of both forms the answer is the libraries', which tools/try_cases.py compares with the line's.
+//! Tries what neither the C libraries nor the program `cherisim` show: over files of cases both forms of capabilities beside each
+//! other, calls that nobody shows, and devices that fail. With the word `growths` it makes each call that takes memory, so that a
+//! growth of it can be refused from outside: tools/refused_growths.py refuses one after the other. A case is a line
+//! `inputs => answer`. Of both forms the answer is the libraries', which tools/try_cases.py compares with the line's.
 #![tactic(auto)]
 
 mod agreements;

@@ -1,5 +1,5 @@
-//! Devices of the tests: each gives or takes few bytes a call, and one of its calls fails, after which it works again; and a sink that takes
-//! no memory.
+//! Devices of the tests: each gives or takes few bytes a call, and one of its calls fails, after which it works again; and a sink
+//! that takes no memory.
 #![tactic(auto)]
 
 mod over_memory;
