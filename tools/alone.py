@@ -2,7 +2,7 @@
 own.
 
 A permission's set, a type that is none, a reserved type opened, a jump from where nothing is fetched, a text's pieces, a name with a blank
-behind it, an expression longer than a line, what halted devices do, and amounts that no shift has.
+after it, an expression longer than a line, what halted devices do, and amounts that no shift has.
 """
 import alu_vectors
 import asm_lines
@@ -44,9 +44,9 @@ def lines():
     yield from (line for line in cases(rights.lines()) if line.startswith("opened") and line.split()[1][4:10] == RESERVED)
     yield "# a target where nothing is fetched"
     yield from (line for line in cases(checks.jumps()) if line.startswith("target") and not is_fetched(line))
-    yield "# what stands before a text's first comma, and what behind it"
+    yield "# what stands before a text's first comma, and what after it"
     yield from (line for line in of(asm_lines, "lines.txt") if line.startswith("piece"))
-    yield "# a name with a blank behind it, and the fault of an expression of as many bytes as a line has"
+    yield "# a name with a blank after it, and the fault of an expression of as many bytes as a line has"
     yield 'register "a0 " => None'
     yield f'expression "{"9" * BYTES_OF_A_LINE}" => Some(A3)'
     yield "# a number that halts the devices, and one that is stored into transmit then => what is loaded of halt, the byte that is sent,"

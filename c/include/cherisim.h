@@ -131,7 +131,7 @@ cherisim_status cherisim_write_cap(cherisim_t *machine, uint64_t address, cheris
 
 /* Why the next step would end a stretch: CHERISIM_TRAP, CHERISIM_UNSEAL or CHERISIM_SEALED_JUMP, or 0 where it would not. */
 cherisim_status cherisim_next_ends(cherisim_t *machine, uint32_t *why);
-/* What the next step will do, and why, as the debugger's command `why` shows it: *length bytes of text, no 0 behind them. Where the
+/* What the next step will do, and why, as the debugger's command `why` shows it: *length bytes of text, no 0 after them. Where the
  * buffer is too short, CHERISIM_FULL, and *length is what it takes. */
 cherisim_status cherisim_why(cherisim_t *machine, uint8_t *text, size_t room, size_t *length);
 /* The text of an instruction word, as cheri_disassemble() gives it: how many bytes of `text` it has, at most 64. */

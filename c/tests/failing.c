@@ -29,7 +29,7 @@ void rattle_dealloc(void *block) {
 
 /* ---- the calls */
 
-/* version 2, a page: the word of `nop` at its beginning, and a capability behind it */
+/* version 2, a page: the word of `nop` at its beginning, and a capability after it */
 static const uint8_t image[] = "CHERIIMG" "\2\0\0\0" "\1\0\0\0" "\0\0\0\x80\0\0\0\0" "\1\0\0\0" "\0\0\0\0"
                                "\0\0\0\x80\0\0\0\0" "\4\0\0\0\0\0\0\0" "\x13\0\0\0"
                                "\1\0\0\0" "\x10\0\0\x80\0\0\0\0" "\0\0\0\x80\0\0\0\0" "\x40\0\0\0\0\0\0\0" "\xff\xff\0\0" "\0\0\0\0";

@@ -183,7 +183,7 @@ static void run_ticks(void) {
     cherisim_free(&m);
 }
 
-/* the timer's interrupt comes behind the tick that brings it, and a dot is sent: ticks 3, 6, 9 and 12, and 15 behind the last step */
+/* the timer's interrupt comes after the tick that brings it, and a dot is sent: ticks 3, 6, 9 and 12, and 15 after the last step */
 static void timer_ticks(void) {
     cherisim_t m = CHERISIM_NONE;
     of_text(&m, "cspecialrw ct0, pcc, cnull\nla t1, trap\ncsetaddr ct0, ct0, t1\ncspecialrw cnull, mtcc, ct0\nlui s1, 0x2004\n"

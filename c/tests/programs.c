@@ -183,7 +183,7 @@ static cherisim_cap_t drawn_place(void) {
     uint64_t place = RAM + 16 + 4 * (drawn() % 900);
     return drawn() % 2 ? root_at(place) : capability_mode_at(place);
 }
-/* drawn words, and at the beginning a trap handler that goes on behind the instruction that trapped:
+/* drawn words, and at the beginning a trap handler that goes on after the instruction that trapped:
  * cspecialrw c31, mepcc, cnull; cincoffsetimm c31, c31, 4; cspecialrw cnull, mepcc, c31; mret */
 static void random_program(cherisim_t *m) {
     uint32_t words[1024] = {0x03f00fdb, 0x004f9fdb, 0x03ff805b, 0x30200073};
@@ -218,7 +218,7 @@ static cherisim_ran_t by_single_calls(cherisim_t *m, cherisim_asked_t asked, uin
 
 static unsigned long stops[7], sent_bytes;
 
-/* runs one behind the other come to the same as single calls */
+/* runs one after the other come to the same as single calls */
 static void random_runs(void) {
     cherisim_t m = CHERISIM_NONE, single = CHERISIM_NONE;
     uint8_t bytes[2][64];

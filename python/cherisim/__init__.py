@@ -159,7 +159,7 @@ class Cap:
 
     @property
     def top(self) -> int:
-        """The address behind the last of its bounds: of 65 bits."""
+        """The address after the last of its bounds: of 65 bits."""
         top = lib.cheri_top(self._word)
         return top.high << 64 | top.low
 
@@ -476,7 +476,7 @@ class Memory:
 
     def _span(self, where: slice) -> Tuple[int, int]:
         if where.step not in (None, 1):
-            raise ValueError("bytes of memory stand one behind the other")
+            raise ValueError("bytes of memory stand one after the other")
         begin = RAM if where.start is None else operator.index(where.start)
         end = RAM + len(self) if where.stop is None else operator.index(where.stop)
         if not 0 <= begin <= end <= 1 << 64:
@@ -517,7 +517,7 @@ class Machine:
         Machine(text=Path("hello.s").read_text())
         Machine.flat(words, entry=0x80000000)
 
-    Raises ImageFault, TextFault or OutOfMemory. It is freed with the object, or by close(), or behind a `with`.
+    Raises ImageFault, TextFault or OutOfMemory. It is freed with the object, or by close(), or after a `with`.
     """
 
     sent: bytearray
@@ -616,15 +616,15 @@ class Machine:
             self._do(lib.cherisim_tick)
 
     def receive(self, data: bytes) -> None:
-        """Bytes come on the console's line, one behind the other. 64 may wait; what comes while so many do is lost."""
+        """Bytes come on the console's line, one after the other. 64 may wait; what comes while so many do is lost."""
         for byte in bytes(memoryview(data)):
             self._do(lib.cherisim_receive, byte)
 
     def run(self, steps: int, until: Union[None, str, int] = None, *, tick: int = 0, input: bytes = b"", gap: int = 1000) -> Ran:
         """Runs so many steps at most, as `cherisim run` does, and answers what was done.
 
-        A byte of the input comes just before each step with a number 1 + i * gap, and a tick behind each step whose number is a
-        multiple of `tick` (0: none). Steps are counted anew in each call. Nothing comes behind the step that halts the machine.
+        A byte of the input comes just before each step with a number 1 + i * gap, and a tick after each step whose number is a
+        multiple of `tick` (0: none). Steps are counted anew in each call. Nothing comes after the step that halts the machine.
 
         With an address as `until` the run stops before a step whose PCC has it; with "trap" before a step that traps, unseals a
         capability, or jumps through a seal: what it leaves is the state before that step.

@@ -3,7 +3,7 @@
     python3 fuzz.py [--executions 50000] [--seed 1]
 
 The program reads `CH`, a length and so many bytes, and copies them into a table of 16 bytes without looking at the length. Its capability
-to the table does look: the seventeenth byte traps. The machine behind its set-up is made once, and each input runs in a copy of it.
+to the table does look: the seventeenth byte traps. The machine after its set-up is made once, and each input runs in a copy of it.
 """
 import argparse
 import random
@@ -39,7 +39,7 @@ MOST_BYTES = 64
 
 
 def ready():
-    """The machine behind its set-up."""
+    """The machine after its set-up."""
     machine = Machine(text=TEXT)
     machine.regs["ca1"] = Cap.make(0x10000000, 0x10000020, perms=Perms.Load | Perms.Store)
     machine.regs["ca2"] = Cap.make(TABLE, TABLE + 16, perms=Perms.Load | Perms.Store)

@@ -1,4 +1,4 @@
-"""Random programs, step by step, against the program's debugger: all registers behind each step, and at the end all else.
+"""Random programs, step by step, against the program's debugger: all registers after each step, and at the end all else.
 
 Both stand on the proved machine, and share nothing around it: the debugger reads an image file and commands, and shows text; this side
 goes through C and Python. CHERISIM_STEPS says how many steps in all.
@@ -19,9 +19,9 @@ STEPS = int(os.environ.get("CHERISIM_STEPS", "100000"))
 OF_A_PROGRAM = 400
 SEED = 21
 
-# Where things lie behind RAM's beginning: set-up, trap handler, random code and how many words of it, the table of first values, data.
+# Where things lie after RAM's beginning: set-up, trap handler, random code and how many words of it, the table of first values, data.
 HANDLER, CODE, WORDS, TABLE, DATA = 0x180, 0x200, 120, 0x400, 0x1000
-# The entries of the table behind those of registers 1 to 31.
+# The entries of the table after those of registers 1 to 31.
 FOR_MTCC, FOR_MIE, MTIMECMP, FIRST_TIME = range(31, 35)
 
 
@@ -86,7 +86,7 @@ def set_up():
 
 
 def handler():
-    """Lets no more interrupts in, and goes on behind the instruction that trapped."""
+    """Lets no more interrupts in, and goes on after the instruction that trapped."""
     return [CSRS["mie"] << 20 | 1 << 12 | 0x73, special(SCRS["mepcc"], 31, 0), 4 << 20 | 31 << 15 | 1 << 12 | 31 << 7 | 0x5B,
             special(SCRS["mepcc"], 0, 31), 0x30200073]
 
@@ -119,7 +119,7 @@ def program(drawn):
 
 
 def commands(drawn, steps):
-    """Steps with all registers behind each, and now and then a tick or a byte before."""
+    """Steps with all registers after each, and now and then a tick or a byte before."""
     for _ in range(steps):
         event = drawn.random()
         if event < 0.06:

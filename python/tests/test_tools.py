@@ -135,7 +135,7 @@ class Records(unittest.TestCase):
 
 class Page(unittest.TestCase):
     def test_blocks(self):
-        """The blocks of docs/PYTHON.md run, one behind the other, and the first prints what the page says."""
+        """The blocks of docs/PYTHON.md run, one after the other, and the first prints what the page says."""
         blocks = re.findall(r"^```python\n(.*?)^```", support.read("docs", "PYTHON.md").decode(), re.MULTILINE | re.DOTALL)
         names, before, printed, runner = {}, os.getcwd(), [], doctest.DocTestRunner()
         os.chdir(support.TOP)

@@ -44,7 +44,7 @@ class Bench:
 
     def fault(self, machine, marks=True):
         """Does a step: the mcause and the mtval of its trap, or None. What ends a stretch says beforehand whether it traps; a mark in
-        mcause tells it behind the step, where the instruction isn't to see mcause."""
+        mcause tells it after the step, where the instruction isn't to see mcause."""
         traps = machine.next_ends() == TRAP
         if marks:
             machine.set_csr(MCAUSE, UNTRAPPED)
@@ -68,7 +68,7 @@ class Bench:
         return ran.returncode, ran.stdout, ran.stderr
 
     def run_cut(self, *words, limit):
-        """The same where the output can't be written behind so many bytes."""
+        """The same where the output can't be written after so many bytes."""
         def cut():
             signal.signal(signal.SIGXFSZ, signal.SIG_IGN)
             resource.setrlimit(resource.RLIMIT_FSIZE, (limit, limit))

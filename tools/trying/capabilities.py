@@ -208,7 +208,7 @@ def of_two(bench, what, value, other):
 
 
 def right(bench, case):
-    """A question about a value, and a permission's bit, a set of permissions, a flag or another value behind it; or about a number."""
+    """A question about a value, and a permission's bit, a set of permissions, a flag or another value after it; or about a number."""
     words = Words(bench.library, case.inputs)
     what = words.word()
     if what in ("type", "set", "shown", "named", "names", "granule", "record"):

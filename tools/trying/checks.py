@@ -134,7 +134,7 @@ def fetch(bench, pcc):
 
 
 def target(bench, pcc, address):
-    """A jump within PCC, which is fetched through it; where nothing can be fetched the check behind the fetch is never made."""
+    """A jump within PCC, which is fetched through it; where nothing can be fetched the check after the fetch is never made."""
     if not is_in_ram(pcc.address) or not pcc.upper >> 48 & EXECUTE:
         raise Left
     machine = machine_of(bench, False)

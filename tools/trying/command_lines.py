@@ -49,7 +49,7 @@ def files(bench, text):
 
 
 def outcome(bench, words, text=WATCHES):
-    """What comes of a command line: status, output, what is told, and the files behind it."""
+    """What comes of a command line: status, output, what is told, and the files after it."""
     folder = tempfile.mkdtemp(dir=bench.folder)
     for name, contents in files(bench, text).items():
         with open(os.path.join(folder, name), "wb") as file:
@@ -129,7 +129,7 @@ def bounds(bench, case):
 
 def listing(bench, case):
     """A text in quotes, and the number of the call that fails of a sink, or nothing: `whole` or `cut`, how often a call has failed, and
-    the listing. The output is cut behind so many bytes as the answer has."""
+    the listing. The output is cut after so many bytes as the answer has."""
     text, rest = unquoted(case.inputs)
     image, told = bench.image_of(text)
     if image is None:

@@ -10,7 +10,7 @@ from .reading import unescaped, unquoted
 
 
 class Conversation:
-    """A block of lines: what is typed behind `>`, or behind `<` and left unread, over the program behind `@`, and what is answered."""
+    """A block of lines: what is typed after `>`, or after `<` and left unread, over the program after `@`, and what is answered."""
 
     def __init__(self, block):
         self.statements, self.typed, self.left, self.answers = "", b"", 0, ""
@@ -83,7 +83,7 @@ def cut_short(bench, image, words, typed):
 
 
 def commanded(bench, lines):
-    """What a session answers to lines, each typed behind those before it that were no `quit`, which leaves the rest unread."""
+    """What a session answers to lines, each typed after those before it that were no `quit`, which leaves the rest unread."""
     told, before, said_before = [], b"", ""
     for line in lines:
         said, left = conversed(bench, before + line.encode() + b"\n#")

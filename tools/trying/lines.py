@@ -12,7 +12,7 @@ LABELS = {"x": RAM + 0x800, "y": 16, "z": 1}
 FAR = 1 << 63
 # How many bytes a line has at most.
 MOST_BYTES = 255
-# The label behind all that a line places.
+# The label after all that a line places.
 BEHIND = b"\nz:"
 AT_ONE = b".byte 1\n"
 LINE_FAULTS = ("A8", "A9", "A1", "A2", "A3")
@@ -22,7 +22,7 @@ NOT_EXACT = re.compile(rb"A11 capability not exact: from 0x([0-9a-f]{16}) on, (\
 
 
 def with_labels(line, labels):
-    """A text of a line, and behind it labels at places."""
+    """A text of a line, and after it labels at places."""
     return line + b"".join(f"\n.org {place}\n{name}:".encode() for name, place in labels.items())
 
 

@@ -1,4 +1,4 @@
-"""Programs that run on the whole machine, and what is seen of it between their events and behind them."""
+"""Programs that run on the whole machine, and what is seen of it between their events and after them."""
 from .machines import BUFFER, ENDS, SEALED_JUMP, TRAP, UNSEAL, Machine
 from .reading import bytes_of, spaced
 from .seen import seen
@@ -17,7 +17,7 @@ def in_mode(mode, statements):
 
 
 class Outcome:
-    """A machine in the middle of a case: the bytes that it has sent, and how it stood behind the last run of events."""
+    """A machine in the middle of a case: the bytes that it has sent, and how it stood after the last run of events."""
 
     def __init__(self, machine):
         self.machine, self.sent, self.end, self.cut = machine, bytearray(), "running", None
@@ -28,7 +28,7 @@ class Outcome:
             self.sent.append(byte)
 
     def settle(self):
-        """Notes how the machine stands behind a run."""
+        """Notes how the machine stands after a run."""
         number = self.machine.halted()
         self.end = "running" if number is None else f"halted {number:x}"
 
@@ -81,7 +81,7 @@ class Outcome:
 
     def scheduled(self, steps, gap, tick, keys, fails_at=None):
         """A run on a schedule: a byte comes before each step whose number from 0 is a multiple of gap, and a tick after each whose number
-        from 1 is one of tick. Where a byte can't be sent, which the sink fails at, the run ends behind the step that sent it."""
+        from 1 is one of tick. Where a byte can't be sent, which the sink fails at, the run ends after the step that sent it."""
         done = 0
         while done < steps and self.machine.halted() is None and self.cut is None:
             place, off = divmod(done, gap)
@@ -92,7 +92,7 @@ class Outcome:
         self.settle()
 
     def single(self, tick, done, fails_at):
-        """One step of such a run, whose byte may be the one that can't be sent, and else the tick behind it."""
+        """One step of such a run, whose byte may be the one that can't be sent, and else the tick after it."""
         byte = self.machine.step()
         if byte is not None and len(self.sent) == fails_at:
             self.cut = 1
@@ -169,7 +169,7 @@ def program(bench, case):
 
 
 def worlds(bench, case):
-    """The mode, statements, those that the first and the second image have behind them, and deeds: what is told of both worlds, once
+    """The mode, statements, those that the first and the second image have after them, and deeds: what is told of both worlds, once
     where it is the same."""
     mode, statements, one, two, deeds = case.inputs.split(" | ")
     told = [Outcome(Machine.of_text(bench.library, in_mode(mode, f"{statements}; {more}"))).answers(deeds).split("; ")

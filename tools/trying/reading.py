@@ -49,7 +49,7 @@ def unescaped(text):
 
 
 def unquoted(text):
-    """The bytes of a text in quotes, and what stands behind it."""
+    """The bytes of a text in quotes, and what stands after it."""
     opening, inner, rest = text.split('"', 2)
     if opening:
         raise ValueError(f"no quote before {opening}")

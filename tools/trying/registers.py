@@ -241,7 +241,7 @@ class Registers:
 
 
 def script(bench, case):
-    """PCC, the value that begins in DDC, MTCC and MEPCC, and that of MTDC and MScratchC; and behind `;` calls."""
+    """PCC, the value that begins in DDC, MTCC and MEPCC, and that of MTDC and MScratchC; and after `;` calls."""
     begin, _, calls = case.inputs.partition(";")
     words = Words(bench.library, begin)
     registers = Registers(bench, words.value(), words.value(), words.value())

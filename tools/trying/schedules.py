@@ -10,7 +10,7 @@ CSRS = MSTATUS, MIE, MIP, MSCRATCH, MCAUSE, MTVAL, MCYCLE, MINSTRET
 
 
 def state_of(outcome):
-    """All of the state behind a run, by name."""
+    """All of the state after a run, by name."""
     machine = outcome.machine
     timer = machine.timer()
     return {

@@ -48,7 +48,7 @@ def doubles(contents):
 
 
 def memory(machine):
-    """What stands in all of RAM, and behind it the words of its tags."""
+    """What stands in all of RAM, and after it the words of its tags."""
     return doubles(machine.ram()) + "".join(f"{word:x}," for word in planes_of(machine))
 
 

@@ -66,7 +66,7 @@ def parts(bench, case):
 
 
 def image_file(bench, case):
-    """A text in quotes, and how many bytes of its image's file are read, with zeros behind its end: the file of what is read, where the
+    """A text in quotes, and how many bytes of its image's file are read, with zeros after its end: the file of what is read, where the
     machine of it is that of the text, or the code of the fault."""
     text, rest = unquoted(case.inputs)
     file, fault = assembled(bench, text)

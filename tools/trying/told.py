@@ -51,7 +51,7 @@ NEVER = {"M5": "M5 no memory", "words": "read failed"}
 
 
 def message(told):
-    """What stands behind `cherisim: ` in what is told."""
+    """What stands after `cherisim: ` in what is told."""
     return re.fullmatch(rb"cherisim: (.*)\n(?:fewer|refused)?", told, re.DOTALL)
 
 
@@ -76,7 +76,7 @@ def told_without(bench, line, typed, number):
 
 
 def fault(bench, case):
-    """The fault of a name: its text, as the program tells it. Of a text's fault what was read may stand behind the text."""
+    """The fault of a name: its text, as the program tells it. Of a text's fault what was read may stand after the text."""
     name = case.inputs
     if name in TEXTS:
         told = told_by(bench, "asm a.s a.img", {"a.s": b"".join(TEXTS[name])})
