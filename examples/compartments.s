@@ -4,13 +4,11 @@
 #   cherisim run compartments.img 100000 --tick 0
 #
 # A calls B by a sealed pair, B has the kernel send 'c' and comes back by A's, A sends 'a' and ends, and B sends 'b' three times.
-# docs/COMPARTMENTS.md walks through it. The text is three of cases/kernel: common.s, b-call.s and a-call.s.
+# docs/COMPARTMENTS.md walks through it; cases/kernel has other compartments for this kernel.
 #
-# common: a kernel for two compartments, A and B, that do not trust one another.
-#
-# It is joined in front of a text of B and a text of A, which place a page of code (b_code, a_code) and a page of data (b_data,
-# a_data) each. The first word of a page of code is where the compartment starts. The second is its door: there, and nowhere
-# else, the other compartment comes in, by CInvoke of the pair that the kernel sealed.
+# Behind the kernel stand B and A, which place a page of code (b_code, a_code) and a page of data (b_data, a_data) each. The
+# first word of a page of code is where the compartment starts. The second is its door: there, and nowhere else, the other
+# compartment comes in, by CInvoke of the pair that the kernel sealed.
 #
 # A compartment starts with these registers; every other one is null, and so is DDC whenever it is given the processor:
 #   cgp        its data
@@ -316,7 +314,8 @@ devices: .zero  64                      # capabilities to transmit, halt, mtimec
 # A frame: 32 capabilities; the other's frame at 512; the letter at 528; 0 at 536 once the compartment has ended.
 a_frame: .zero  544
 b_frame: .zero  544
-# B with a door: sends 'b' three times as before, and whoever comes in by the door has a 'c' sent.
+
+# ---- b-start: B, which has a door. It sends 'b' three times, and lets A run after each. -------------------------------------
 
         .align  12
 b_code: j       b_start
@@ -333,8 +332,10 @@ b_again: li     a7, 1                   # send
         li      a7, 0                   # end
         ecall
 
-# The door. ct6 is B's data; ca2 and ca3 are the pair to come back by, which the caller passed. What B held on its way out is
-# cleared: the jump itself puts the caller's data into ct6.
+# ---- b-door: whoever comes in has a 'c' sent. -------------------------------------------------------------------------------
+
+# ct6 is B's data; ca2 and ca3 are the pair to come back by, which the caller passed. What B held on its way out is cleared:
+# the jump itself puts the caller's data into ct6.
 b_door: li      a7, 1                   # send
         li      a0, 99                  # 'c'
         ecall
@@ -344,14 +345,19 @@ b_door: li      a7, 1                   # send
 
         .align  12
 b_data: .dword  0
-# A calls B by its door, comes back by its own, sends 'a' and ends. It passes the pair of its own door, which is sealed, and
-# clears the rest: register by register, all that it was given.
+
+# ---- a-start: A, which has a door. ------------------------------------------------------------------------------------------
 
         .align  12
 a_code: j       a_start
         j       a_door
 
-a_start: cmove  ca2, cs2                # to come back by
+a_start:
+
+# ---- a-call: A calls B by its door. -----------------------------------------------------------------------------------------
+
+# It passes the pair of its own door, which is sealed, and clears the rest: register by register, all that it was given.
+        cmove   ca2, cs2                # to come back by
         cmove   ca3, cs3
         cmove   ca4, cs0
         cmove   ca5, cs1
@@ -362,7 +368,9 @@ a_start: cmove  ca2, cs2                # to come back by
         cmove   cs3, cnull
         cinvoke ca4, ca5                # B's own door
 
-# The door. ct6 is A's data.
+# ---- a-door: A comes back by its own, sends 'a' and ends. -------------------------------------------------------------------
+
+# ct6 is A's data.
 a_door: li      a7, 1                   # send
         li      a0, 97                  # 'a'
         ecall

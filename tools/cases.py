@@ -1,6 +1,5 @@
 #!/usr/bin/env python3
-"""Makes the files of cases anew, in cases/ and, where the proved program reads them, in crates/conformance/data; and
-examples/compartments.s, which is three texts joined.
+"""Makes the files of cases anew, in cases/ and, where the proved program reads them, in crates/conformance/data.
 
     python3 tools/cases.py            writes them
     python3 tools/cases.py --check    says which differ from those that stand there, and ends with 1 if any does
@@ -40,7 +39,6 @@ SOURCES = [
     "bounds_texts",
     "sessions",
     "command_lines",
-    "compartments",
     "program_cases",
     "alone",
 ]
@@ -80,7 +78,6 @@ def main():
         if standing(path) == text:
             continue
         differing += 1
-        name = os.path.basename(path)
         print(f"{name} differs" if check else f"{name} is written")
         if not check:
             with open(path, "w", encoding="utf-8", newline="") as file:

@@ -1,19 +1,4 @@
-# B with a door that stores behind what its caller lends it in ca6, 8 bytes: cause 1, length. The caller runs, so it is A that ends.
-
-        .align  12
-b_code: j       b_start
-        j       b_door
-
-b_start: li     s4, 3
-b_again: li     a7, 1                   # send
-        li      a0, 98                  # 'b'
-        ecall
-        li      a7, 2                   # yield
-        ecall
-        addi    s4, s4, -1
-        bne     s4, zero, b_again
-        li      a7, 0                   # end
-        ecall
+# B's door: it stores behind what the caller lends it in ca6, 8 bytes: cause 1, length. The caller runs, so it is A that ends.
 
 b_door: csb     zero, 8(ca6)
         cinvoke ca2, ca3

@@ -1,28 +1,39 @@
 """Compartments: the kernel with a text of each of two compartments, and what a run sends; and A's first stretch by itself."""
 import os
+import re
 
 from .machines import ENDS, RAM, Machine
-from .paths import COMPARTMENTS
+from .paths import COMPARTMENTS, KERNEL
 from .programs import Outcome
 from .texts import symbols_of
 
 STEPS, GAP = 100_000, 1000
 # How many steps the kernel takes to A's first one, at most, and A's stretch.
 START, STRETCH = 1000, 1000
+# What begins a piece of a compartment in the example, with its name.
+HEADING = re.compile(r"^# ---- ([ab]-\w+): .*\n", re.MULTILINE)
 
 
-def joined(a, b):
-    """The kernel, B and A as one text."""
-    contents = b""
-    for name in ("common", b, a):
-        with open(os.path.join(COMPARTMENTS, f"{name}.s"), "rb") as text:
-            contents += text.read()
-    return contents
+def kernel_and_pieces():
+    """The kernel, and the pieces of compartments behind it by their names: those of the example, and each other text."""
+    with open(KERNEL, encoding="utf-8") as example:
+        kernel, *named = HEADING.split(example.read())
+    pieces = dict(zip(named[::2], named[1::2]))
+    for file in os.listdir(COMPARTMENTS):
+        with open(os.path.join(COMPARTMENTS, file), encoding="utf-8") as text:
+            pieces[file.removesuffix(".s")] = text.read()
+    return kernel, pieces
+
+
+def joined(bench, a, b):
+    """The kernel, B and A as one text; a compartment is pieces joined by `+`."""
+    kernel, pieces = bench.once("compartments", kernel_and_pieces)
+    return "".join([kernel, *(pieces[name] for name in [*b.split("+"), *a.split("+")])]).encode()
 
 
 def ran(bench, a, b, tick):
     """What a run sends, and its status."""
-    outcome = Outcome(Machine.of_text(bench.library, joined(a, b)))
+    outcome = Outcome(Machine.of_text(bench.library, joined(bench, a, b)))
     outcome.scheduled(STEPS, GAP, int(tick), b"")
     return f"{outcome.sent.decode()}, status {outcome.verdict()[0]}"
 
@@ -30,7 +41,7 @@ def ran(bench, a, b, tick):
 def course(bench, a, b):
     """A's stretch, from the kernel's switch to A up to what ends it: how many steps, what ends it and where, counted from the beginning of
     A's code, and whether all memory that isn't A's is the same after it."""
-    text = joined(a, b)
+    text = joined(bench, a, b)
     image, told = bench.image_of(text, "--symbols", "a.sym")
     if image is None:
         return told
@@ -49,6 +60,6 @@ def course(bench, a, b):
 
 
 def meeting(bench, case):
-    """`run A B TICK`, the names of the compartments' texts and the steps from one tick to the next; or `alone A B`."""
+    """`run A B TICK`, the compartments' pieces and the steps from one tick to the next; or `alone A B`."""
     what, *words = case.inputs.split()
     return {"run": ran, "alone": course}[what](bench, *words)

@@ -11,7 +11,8 @@ def below(*names):
 # Files of cases, and those of them that the proved program reads too.
 CASES = below("cases")
 PROVED_CASES = below("crates", "conformance", "data")
-# The texts of the kernel and of compartments.
+# The kernel with two compartments, and other pieces of compartments.
+KERNEL = below("examples", "compartments.s")
 COMPARTMENTS = below("cases", "kernel")
 # The table of instructions.
 ROWS = below("crates", "isa_rows", "src", "table.rt")
