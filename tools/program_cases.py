@@ -419,7 +419,7 @@ OTHER_TEXTS = [
     ("memory", "no memory"), ("words", "read failed"), ("no file", "file a.s: entity not found"),
     ("broken file", "a.s: read failed: broken pipe"), ("directory", "a.s: is a directory"),
     ("cut short", "a.s: L10 device failed: the file is cut short"), ("symbols", "a.s: line 7: no address and label"),
-    ("file L2", "a.s: L2 magic"),
+    ("file L2", "a.s: L2 magic"), ("foreign word", "error: a word of the command line is not UTF-8"),
 ]
 
 

@@ -602,7 +602,9 @@ def cases():
 
 # ---- devices that fail
 
-# Lines at a machine of `RECEIVES`, each with its reply, and how the session stands after it: PCC's address, and how many bytes wait.
+# A program that goes on receiving, so that what waits can be taken.
+TAKES = f"{RECEIVES}; j .-4"
+# Lines at its machine, each with its reply, and how the session stands after it: PCC's address, and how many bytes wait.
 PIECES = [
     ("step 1\n", f"{STEP}\n", 0x8000_0004, 0),
     ("frob\n", "fault B1\n", 0x8000_0004, 0),
@@ -614,11 +616,11 @@ PIECES = [
 def cut(read, write, answer, written, address, waiting):
     """A conversation of all pieces, whose calls of these numbers fail."""
     typed = quoted("".join(piece[0] for piece in PIECES))
-    return f"cut {read} {write} | {RECEIVES} | {typed} => {answer} {quoted(written)} {address:x} {waiting} 0"
+    return f"cut {read} {write} | {TAKES} | {typed} => {answer} {quoted(written)} {address:x} {waiting} 0"
 
 
 def cut_replies():
-    """Each call of the sink in turn fails: a beginning of all replies is written, and the session stands after the line of that call."""
+    """Each call of the sink in turn fails: a beginning of all replies is written, and the line of that call is the last that is done."""
     whole = "".join(piece[1] for piece in PIECES)
     call = 0
     for _, reply, address, waits in PIECES:
@@ -630,7 +632,7 @@ def cut_replies():
 
 def cut_lines():
     """Each call of the source in turn fails, and behind the last line the one that meets the end: the replies to the lines before are
-    written, and the session stands after those."""
+    written, and those are done."""
     call, answered, address, waits = 0, "", 0x8000_0000, 0
     for line, reply, after, then in PIECES:
         for _ in range(len(line) + (not line.endswith("\n"))):
@@ -641,12 +643,16 @@ def cut_lines():
 
 def talks():
     yield "# the numbers of the calls that fail, of what is read and of what is written | statements | what is typed"
-    yield "# => the answer, what is written, PCC's address, how many bytes wait, and whether the machine is halted"
+    yield "# => the answer, what is written, and how a session stands that did the lines whose replies were begun: PCC's address, how many"
+    yield "# bytes wait, and whether the machine is halted"
     yield from cut_replies()
     yield from cut_lines()
-    yield "# commands | statements | lines => their answers, and the same behind them"
-    reply = quoted(f"{STEP}\n")
-    yield f"commands | {RECEIVES} | step 1; quit; frob => {reply} quit B1 80000004 0 0"
+    yield "# commands | statements | lines => their answers, and the same behind them; what waits in a machine that is halted shows nowhere"
+    at_first, reply, ticked = (quoted(f"{told}\n") for told in (TICK, STEP, STEP.replace("events 1", "events 2")))
+    yield f"commands | {TAKES} | step 1; quit; frob => {reply} quit B1 80000004 0 0"
+    yield f"commands | {TAKES} | byte 0x41; step 1; byte 0x42; tick 2; mem 0 1 => {at_first} {reply} {reply} {ticked} B3 80000004 2 0"
+    halted = quoted("events 5 out 41 pc 0000000080000014 halted 0\n")
+    yield f"commands | {FIRST_IMAGE} | step 5; quit => {halted} quit 80000014 - 1"
 
 
 def files():

@@ -1,5 +1,6 @@
 """Conversations of the debugger, by the program's standard input and output."""
 import os
+import re
 import subprocess
 
 from quoting import quoted
@@ -69,17 +70,52 @@ def session(bench, case):
     return case.expected
 
 
+# What shows how many bytes wait, more often than bytes can wait: a step, and what is taken behind it by a program that takes bytes at
+# 0x80000004.
+TAKEN = 65 * b"step 1\nuntil 0x80000008 3\nreg a0\n"
+
+
+def standing(bench, typed):
+    """How a session stands that did what is typed: PCC's address, how many bytes wait, or `-` where the machine is halted, and whether it
+    is."""
+    said = len(conversed(bench, typed)[0])
+    address = address_of(conversed(bench, typed + b"scr\n")[0][said:])
+    here, *lines = conversed(bench, typed + b"until %d 1\n" % address + TAKEN)[0][said:].splitlines()
+    if here.startswith(f"events 0 out - pc {address:016x} halted "):
+        return f"{address:x} - 1"
+    return f"{address:x} {sum(address_of(line) != 0 for line in lines[2::3])} 0"
+
+
+def address_of(line):
+    """The address in a line that shows a register."""
+    return int(re.search(r" a:([0-9a-f]{16}) ", line)[1], 16)
+
+
 # What the program's status and message say of a conversation.
 ENDINGS = {(0, b""): "ok", (3, b"cherisim: read failed\n"): "Read", (3, b"cherisim: write failed\n"): "Write"}
 
 
 def cut_short(bench, image, words, typed):
-    """The answer of a conversation whose devices fail at these calls, and what is written."""
+    """The answer of a conversation whose devices fail at these calls, what is written, and how a session stands that answered so far."""
     devices = [(name, int(call)) for name, call in zip(("input", "output"), words) if call != "-"]
     desk = Desk(bench, {"a.img": image}, devices=devices)
     status, _, sent, told, _ = desk.run(["debug", "a.img"], typed)
     desk.clear()
-    return f"{ENDINGS.get((status, told), told.decode())} {quoted(sent)}"
+    ended = ENDINGS.get((status, told), told.decode())
+    done = lines_done(bench, image, typed, len(sent), ended != "Read")
+    return f"{ended} {quoted(sent)} {bench.once(('standing', image, done), lambda: standing(bench, done))}"
+
+
+def lines_done(bench, image, typed, written, is_begun):
+    """The lines that are done where so much is written: those whose replies are written, and one of which nothing or a part is, if a reply
+    was begun."""
+    done = b""
+    for line in typed.splitlines(keepends=True):
+        said = bench.once(("said", image, done), lambda: len(conversed(bench, done)[0]))
+        if said > written or said == written and not is_begun:
+            break
+        done += line if line.endswith(b"\n") else line + b"\n"
+    return done
 
 
 def commanded(bench, lines):
@@ -94,18 +130,17 @@ def commanded(bench, lines):
         answer = said.removeprefix(said_before)
         told.append(answer.split()[1] if answer.startswith("fault ") else quoted(answer))
         before, said_before = before + line.encode() + b"\n", said
-    return " ".join(told)
+    return f"{' '.join(told)} {standing(bench, before)}"
 
 
 def talk(bench, case):
-    """`cut` and the calls that fail, or `commands`; statements; and what is typed. Where the session stands then is shown by nothing: the
-    answer's last three words are taken over."""
+    """`cut` and the calls that fail, or `commands`; statements; and what is typed. Where a call fails the program ends, so that how its
+    session stands shows nowhere: a session does the same lines, and shows it."""
     asked, statements, typed = case.inputs.split(" | ")
     image, told = bench.image_of(text_of("", statements))
     if image is None:
         return told
-    state = " ".join(case.expected.rsplit(" ", 3)[1:])
     what, *words = asked.split()
     if what == "cut":
-        return f"{cut_short(bench, image, words, unquoted(typed)[0])} {state}"
-    return f"{commanded(bench, typed.split('; '))} {state}"
+        return cut_short(bench, image, words, unquoted(typed)[0])
+    return commanded(bench, typed.split("; "))

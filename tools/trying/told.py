@@ -46,6 +46,8 @@ GROWTHS = {
     "M2": ("run a.img 5", b"", "M2 no memory"), "memory": ("asm a.s b.img", b"", "no memory"),
     "talk memory": ("debug a.img", b"regs\n", "no memory"),
 }
+# A word of the command line that is no text.
+FOREIGN = "foreign word", b"\xff"
 # What no command line has: its text stands in the program.
 NEVER = {"M5": "M5 no memory", "words": "read failed"}
 
@@ -89,5 +91,7 @@ def fault(bench, case):
         line, typed, text = GROWTHS[name]
         is_told = any(told_without(bench, line, typed, number) == text for number in range(1, MOST_GROWTHS))
         return text.removeprefix("a.img: ").replace("line 0", "line 7") if is_told else "another text"
+    if name == FOREIGN[0]:
+        return bench.run("asm", FOREIGN[1], "a.img")[2].decode().removesuffix("\n")
     with open(bench.program, "rb") as program:
         return NEVER[name] if NEVER[name].encode() in program.read() else "no such text"
