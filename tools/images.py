@@ -196,6 +196,8 @@ ONE_CAPABILITY = bytes.fromhex(
 assert len(ONE_CAPABILITY) == 68
 MOST = 65536
 MOST_END = RAM + 4096 * MOST
+# the end of RAM of a page more than version 1 has
+NEXT_END = LAST_END + 4096
 
 
 def capability(place, base, length, perms, flag):
@@ -232,9 +234,49 @@ def granted(place=RAM + 0x100, base=0x80001000, length=4095, perms=0xFFFF, flag=
     return place, base, length, perms, flag
 
 
+def over_zeros():
+    """Images that a text makes: capabilities over zeros of sections, before, between and behind other bytes; none, and more pages than
+    version 1 has."""
+    yield "# version 2: capabilities over zeros of sections, built, written, and written back the same"
+    around = b"\1" * 16 + bytes(16) + b"\2" * 16 + bytes(32) + b"\3"
+    three = [granted(RAM + 16, 0, 1 << 13, 0x8001, 1), granted(RAM + 48, ONES, 1, 1, 0), granted(RAM + 64, 0, 0, 0, 1)]
+    for pages, entry, mode, capabilities, given in (
+            (1, RAM, 1, [GRANTED], [(RAM + 0x100, bytes(16))]), (4097, NEXT_END - 4, 0, three, [(RAM, around)]),
+            (2, RAM + 4, 0, [granted(RAM), granted(END - 16)],
+             [(RAM, bytes(16)), (RAM + 16, b"\4"), (END - 32, bytes(32))]),
+            (4097, RAM, 1, [], [(RAM, b"\5\6")]), (MOST, RAM, 0, [], [])):
+        file = file_v2(pages, entry, mode, capabilities, given)
+        yield asked_v2("file2", pages, entry, mode, capabilities, given, file.hex())
+        yield f"copy {file.hex()} => {file.hex()}"
+        yield from both(capabilities, pages=pages, entry=entry, mode=mode, sections=given)
+
+
+def versions(pages, entry, mode, given, answer=None):
+    """A build of both versions without capabilities: what it is built of, or another answer."""
+    words = "".join(f" {address:x}:{text(contents)}" for address, contents in given)
+    same = f"{pages:x} {entry:x} {mode:x}{words}"
+    return f"versions {same} => {answer.format(same) if answer else same}"
+
+
+def either_version():
+    """Without capabilities both versions say the same, but for how many pages there are at most."""
+    yield "# and either version of the same parts"
+    yield versions(1, RAM, 0, [])
+    yield versions(1, RAM, 0, [(RAM, FIRST[48:])])
+    yield versions(2, RAM + 4, 1, [(RAM + 0x10, b"\1\2\3\4"), (RAM + 0x14, b""), (RAM + 0x14, b"\5")])
+    yield versions(4096, LAST_END - 4, 1, [(LAST_END - 2, b"\7\10")])
+    yield versions(1, RAM, 0, [(RAM, b"")] * 64)
+    yield versions(4097, NEXT_END - 4, 0, [(NEXT_END - 1, b"\7")], "L4 / {}")
+    for pages, entry, mode, given, fault in (
+            (0, RAM, 0, [], "L4"), (MOST + 1, RAM, 0, [], "L4"), (1, RAM, 2, [], "L4"), (1, END, 0, [], "L4"),
+            (1, RAM, 0, [(RAM, b"")] * 65, "L5"), (1, RAM, 0, [(END - 1, b"\7\10")], "L6"),
+            (1, RAM, 0, [(RAM + 4, b"\1\2"), (RAM + 5, b"\3")], "L7")):
+        yield versions(pages, entry, mode, given, fault)
+
+
 def second_version():
-    yield "# version 2: one capability, built, written and read; cut at every byte, and a byte too long"
-    yield asked_v2("file2", 1, RAM, 1, [GRANTED], (), ONE_CAPABILITY.hex())
+    yield from over_zeros()
+    yield "# one capability, written back and read; cut at every byte, and a byte too long"
     yield f"copy {ONE_CAPABILITY.hex()} => {ONE_CAPABILITY.hex()}"
     yield from both([GRANTED], mode=1)
     for length in range(len(ONE_CAPABILITY)):
@@ -247,6 +289,7 @@ def second_version():
     yield "# none at all, and what sections version 1 may have"
     yield from both([])
     yield from both([], sections=[(RAM, b"\1\2\3\4"), (RAM + 4, b"\5")])
+    yield from either_version()
     yield "# pages are 1 to 65536"
     for pages in (4096, 4097, MOST):
         yield from both([], pages=pages, entry=RAM + 4096 * pages - 4)
@@ -338,6 +381,7 @@ def pairs():
 
 def lines():
     yield "# a file's bytes, or pages, entry, mode and sections => the image or, of copy and file, its bytes; or the fault"
+    yield "# versions: the image of either version without its mark, or those of version 1 and of version 2"
     for group in (headers, sections, first_faults, read_and_written, cut_short, limits, faults, second_version):
         yield from group()
 

@@ -42,7 +42,7 @@ FILES = [
     File("searches", memory.search, 45),
     File("integers", instructions.integer, 388, 12),
     File("encodings", instructions.encoding, 430),
-    File("images", image_cases.image, 565, 2),
+    File("images", image_cases.image, 597, 1),
     File("programs", programs.program, 714),
     File("advances", programs.program, 680),
     File("assembled", texts.first_section, 481, piece=40),

@@ -1,7 +1,7 @@
 """Images: the machine of a file, whose state the image says, and the files that the program writes."""
 from ctypes import byref
 
-from .image_files import MOST_PAGES, asked, read_back, shown
+from .image_files import MOST_PAGES, asked, read_back, shown, version_of
 from .libraries import Cap, Fields
 from .machines import DDC, MEPCC, MTCC, PAGE, PCC, RAM, Machine, Refused
 from .reading import NULL_UPPER, Left, bytes_of
@@ -65,13 +65,14 @@ def loaded(bench, file):
         return None, refused.code()
 
 
-def as_answered(bench, file, case):
-    """The answer of a case over a file, where its machine is in the state that the answer shows."""
+def as_answered(bench, file, answer):
+    """The answer over a file, where its machine is in the state that the answer shows."""
     machine, fault = loaded(bench, file)
-    if fault:
-        return fault
-    wrong = difference(bench, machine, shown(case.expected)) if case.expected[0] != "L" else "no fault"
-    return wrong or case.expected
+    if fault or answer[0] == "L":
+        return fault or "no fault"
+    image = shown(answer)
+    wrong = difference(bench, machine, image)
+    return wrong or (answer if image.version == version_of(file) else f"version {version_of(file)}")
 
 
 def written(bench, image, case):
@@ -85,6 +86,18 @@ def written(bench, image, case):
     return case.expected if file == bytes_of(case.expected) else file.hex()
 
 
+def of_both_versions(bench, words, case):
+    """The answers over the files of both versions of the same parts: of version 2 without its mark, and once where they are the same."""
+    answers = case.expected.split(" / ")
+    first = as_answered(bench, asked("build", words).file(), answers[0])
+    second = as_answered(bench, asked("build2", [*words[:3], "0", *words[3:]]).file(), as_second(answers[-1])).removeprefix("v2 ")
+    return first if first == second else f"{first} / {second}"
+
+
+def as_second(answer):
+    return answer if answer[0] == "L" else f"v2 {answer}"
+
+
 def flat(bench, image):
     """The machine that cherisim_new_flat makes of an image of one section without capabilities, or its fault."""
     (address, contents), = image.sections
@@ -96,17 +109,21 @@ def flat(bench, image):
 
 def image(bench, case):
     """`read FILE` or `copy FILE`, or `build` or `file` and pages, entry, mode and sections, or `build2` or `file2` with the capabilities
-    before the sections: the image as its machine begins, or the file that the program writes of it; or the fault."""
+    before the sections: the image as its machine begins, or the file that the program writes of it; or the fault. `versions` and pages,
+    entry, mode and sections is a build of either version."""
     what, *words = case.inputs.split()
     if what == "read":
-        return as_answered(bench, bytes_of(words[0]), case)
+        return as_answered(bench, bytes_of(words[0]), case.expected)
+    if what == "versions":
+        return of_both_versions(bench, words, case)
     if what == "copy":
-        machine, fault = loaded(bench, bytes_of(words[0]))
-        return fault or written(bench, read_back(bytes_of(case.expected)), case)
+        file = bytes_of(words[0])
+        _, fault = loaded(bench, file)
+        return fault or written(bench, read_back(file), case)
     given = asked(what, words)
     if what.startswith("file"):
         return written(bench, given, case)
-    came = as_answered(bench, given.file(), case)
+    came = as_answered(bench, given.file(), case.expected)
     if came == case.expected and len(given.sections) == 1 and not given.capabilities and given.pages <= MOST_PAGES and given.mode < 2:
         machine, fault = flat(bench, given)
         if fault != (case.expected if machine is None else None) or machine and difference(bench, machine, given):

@@ -26,15 +26,26 @@ class Image(NamedTuple):
         return front + number(len(self.capabilities), 4) + b"".join(entry_bytes(*one) for one in self.capabilities)
 
     def text(self):
-        """The text that assembles to it, or None where none does: empty sections are left out, and the assembler's capabilities stand
-        over zeros of a section."""
-        if self.version == 2 or not all(contents for _, contents in self.sections):
+        """The text that assembles to it, or None where none does: empty sections are left out, capabilities stand over zeros of a section,
+        and version 2 is for them and for more pages than version 1 has."""
+        is_second = bool(self.capabilities) or self.pages > MOST_PAGES
+        if self.version != 1 + is_second or not all(contents for _, contents in self.sections):
             return None
-        lines = [f".pages {self.pages}", f".mode {self.mode}", f".entry {self.entry}"]
+        lines, left = [f".pages {self.pages}", f".mode {self.mode}", f".entry {self.entry}"], list(self.capabilities)
         for address, contents in self.sections:
             lines.append(f".org {address}")
-            lines += [f".byte {', '.join(map(str, contents[start:start + 32]))}" for start in range(0, len(contents), 32)]
-        return "\n".join(lines)
+            place, end = address, address + len(contents)
+            while left and place <= left[0][0] <= end - 16 and not any(contents[left[0][0] - address:][:16]):
+                at, *parts = left.pop(0)
+                lines += [*bytes_of_text(contents[place - address:at - address]), f".cap {', '.join(map(str, parts))}"]
+                place = at + 16
+            lines += bytes_of_text(contents[place - address:])
+        return None if left else "\n".join(lines)
+
+
+def bytes_of_text(contents):
+    """The lines that place bytes."""
+    return [f".byte {', '.join(map(str, contents[start:start + 32]))}" for start in range(0, len(contents), 32)]
 
 
 def section_of(word):
@@ -63,11 +74,15 @@ def asked(what, words):
     return Image(2 if what.endswith("2") else 1, pages, entry, mode, [section_of(word) for word in rest], capabilities)
 
 
+def version_of(file):
+    return int.from_bytes(file[8:12], "little")
+
+
 def read_back(file):
     """The image of a file that has no fault."""
     def number_at(place, size):
         return int.from_bytes(file[place:place + size], "little")
-    version, sections, capabilities, place = number_at(8, 4), [], [], 32
+    version, sections, capabilities, place = version_of(file), [], [], 32
     for _ in range(number_at(24, 4)):
         address, length = number_at(place, 8), number_at(place + 8, 8)
         sections.append((address, file[place + 16:place + 16 + length]))
