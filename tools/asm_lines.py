@@ -14,6 +14,10 @@ def capability(operands):
     return f"cap {quoted(operands)}"
 
 
+def inexact(bounds):
+    return f"inexact {quoted(bounds)}"
+
+
 def statement(line, told, fault):
     return f"statement {quoted(line)} => {told or '-'} | {fault or '-'}"
 
@@ -115,7 +119,8 @@ EXPRESSIONS = [
     ("x+4+4", "A2"),
 ]
 
-# Lines with their statements and faults. A statement has its kind, and expressions have a name, or -, and a number.
+# Lines with their statements and faults. A statement has its kind, and expressions have a name, or -, and a number. Of one with a fault,
+# which is a number out of range, there are its size and what it sets.
 STATEMENTS = [
     ("j .-16", "Jal 0 0 0 0 to . -16", None),
     ("beq a0, a1, x", "Beq 0 10 11 0 to x 0", None),
@@ -141,16 +146,22 @@ STATEMENTS = [
     (".ascii \"a#b\" # c", text("a#b"), None),
     (".ascii \"\\n\\0\\\\\\\"#\"#", text("\\n\\0\\\\\\\"#"), None),
     (".ascii \"a\tb\rc\"\r", text("a\tb\rc"), None),
-    (".cap 18446744073709551615, 18446744073709551615, 65535, 1", capability("18446744073709551615, 18446744073709551615, 65535, 1"), None),
+    (".cap 18446744073709551615, 1, 65535, 1", capability("18446744073709551615, 1, 65535, 1"), None),
     (".cap 0,0,0,0", capability("0,0,0,0"), None),
-    (".cap x, . + 8, y - 1, z", capability("x, . + 8, y - 1, z"), None),
-    (".cap x, 0, 65536, 0", capability("x, 0, 65536, 0"), "A3"),
-    (".pages 0", "pages 0", "A3"),
-    (".mode 2", "mode 0", "A3"),
-    (".entry 18446744073709551616", "entry - 0", "A3"),
-    ("la a0, 18446744073709551616", "la 10 - 0", "A3"),
-    ("addi a0, a1, 2048", "Addi 10 11 0 0", "A3"),
-    (".byte 256", values(1, "256"), "A3"),
+    (".cap . + 8, y, y - 1, z", capability(". + 8, y, y - 1, z"), None),
+    (".cap x, y, 0x17, 0", capability("x, y, 0x17, 0"), None),
+    (".cap 18446744073709551615, 18446744073709551615, 65535, 1", inexact("18446744073709551615, 18446744073709551615"), None),
+    (".cap x, . + 8, y - 1, z", inexact("x, . + 8"), None),
+    (".cap x, 0, 65536, 0", "takes 16", "A3"),
+    (".pages 0", "sets pages", "A3"),
+    (".mode 2", "sets mode", "A3"),
+    (".entry 18446744073709551616", "sets entry", "A3"),
+    ("la a0, 18446744073709551616", "takes 8", "A3"),
+    ("cla ca0, 18446744073709551616", "takes 8", "A3"),
+    ("addi a0, a1, 2048", "takes 4", "A3"),
+    ("j x + 18446744073709551616", "takes 4", "A3"),
+    (".byte 256", "takes 1", "A3"),
+    (".half 65536, 0", "takes 4", "A3"),
     (".org -1", None, "A3"),
     (".align 13", None, "A3"),
     (".zero 268435457", None, "A3"),
@@ -181,7 +192,8 @@ def fault(line, code):
 
 
 def cases():
-    yield "# statement LINE => kind and operands | fault: of an instruction its row, rd, rs1, rs2 and immediate"
+    yield "# statement LINE => kind and operands | fault: of an instruction its row, rd, rs1, rs2 and immediate; of a line with a fault how"
+    yield "# many bytes it takes, or what it sets"
     yield from (statement(line, f"{row} {rd} {rs1} {rs2} {imm:x}", None) for line, row, rd, rs1, rs2, imm in INSTRUCTIONS)
     yield from (statement(*row) for row in STATEMENTS)
     yield from (statement(line, None, "A2") for line in BOTH)

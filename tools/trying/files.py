@@ -49,7 +49,7 @@ FILES = [
     File("faults", texts.first_section, 154, piece=40),
     File("assemblies", texts.parts, 21, piece=4),
     File("image_files", texts.image_file, 9),
-    File("lines", lines.line, 258, 3),
+    File("lines", lines.line, 264, 3),
     File("names", naming.name, 103, 1),
     File("shown", instructions.shown, 701),
     File("digits", instructions.digits, 3),

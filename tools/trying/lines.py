@@ -19,6 +19,10 @@ LINE_FAULTS = ("A8", "A9", "A1", "A2", "A3")
 ESCAPES = {"n": "\n", "0": "\0", "\\": "\\", '"': '"'}
 AWAY = re.compile(rb"A6 target out of range: (-?\d+) bytes away")
 NOT_EXACT = re.compile(rb"A11 capability not exact: from 0x([0-9a-f]{16}) on, (\d+) bytes")
+# Lines that set what is set once, and before anything is placed or .entry is set; and a jump over another line to a place that is too far
+# behind it.
+SETTINGS = {"pages": b".pages 1\n", "mode": b".mode 0\n", "entry": b".entry 0x80000000\n"}
+BEFORE, FAR_BEHIND, AROUND = b"j z\n.align 4\n", b"\n.zero 1048576" + BEHIND, 16 + 1048576
 
 
 def with_labels(line, labels):
@@ -119,16 +123,23 @@ def ascii_text(bench, line, meaning):
     return meaning if came == expected + b"\0" else came.hex()
 
 
+def expressions(meaning):
+    """The values of the expressions that stand in quotes behind a kind."""
+    return [number_of(item) for item in unquoted(meaning.partition(" ")[2])[0].decode().split(",")]
+
+
 def capability(bench, line, meaning):
-    """A capability's four expressions; where its bounds are not exact, the base and the length that the program tells."""
-    base, length, perms, flag = (number_of(item) for item in unquoted(meaning.partition(" ")[2])[0].decode().split(","))
-    text = with_labels(line, LABELS)
-    match = NOT_EXACT.search(told(bench, text))
-    if match:
-        return meaning if (int(match[1], 16), int(match[2])) == (base, length) else match[0].decode()
-    machine = Machine.of_text(bench.library, text)
-    is_there = list(machine.tagged()) == [RAM] and machine.read_cap(RAM).key() == granted(bench.library, base, length, perms, flag).key()
+    """A capability's four expressions."""
+    machine = Machine.of_text(bench.library, with_labels(line, LABELS))
+    is_there = list(machine.tagged()) == [RAM] and machine.read_cap(RAM).key() == granted(bench.library, *expressions(meaning)).key()
     return meaning if is_there else "another capability"
+
+
+def inexact(bench, line, meaning):
+    """The base and the length of a capability whose bounds are not exact, which the program tells; what else it has shows nowhere."""
+    message = told(bench, with_labels(line, LABELS))
+    match = NOT_EXACT.search(message)
+    return meaning if match and [int(match[1], 16), int(match[2])] == expressions(meaning) else message.decode()
 
 
 def entry(bench, line, meaning):
@@ -143,15 +154,26 @@ MEANINGS = {
     "entry": entry,
     "org": lambda bench, line, _: f"org {place_of(bench, line + BEHIND, 'z')}",
     "align": lambda bench, line, _: f"align {(place_of(bench, AT_ONE + line + BEHIND, 'z') - RAM).bit_length() - 1}",
-    "zero": zeros, "values": values, "text": ascii_text, "cap": capability, "la": address, "cla": address,
+    "zero": zeros, "values": values, "text": ascii_text, "cap": capability, "inexact": inexact, "la": address, "cla": address,
 }
 
 
+def left_by(bench, line, fault):
+    """What a line with a fault leaves, by faults of lines: `sets` and the first setting behind which it is A2, though its number is A3; or
+    `takes` and how many bytes, which a jump over it tells; or `-`."""
+    for name, before in SETTINGS.items():
+        if fault == "A3" and fault_in(bench, before + line).code() == "A2":
+            return f"sets {name}"
+    away = AWAY.search(told(bench, BEFORE + line + FAR_BEHIND))
+    size = int(away[1]) - AROUND
+    return f"takes {size}" if size else "-"
+
+
 def statement(bench, line, expected):
-    """A line's meaning and its fault. What a line with a fault means beside it shows nowhere: its fault is tried."""
+    """A line's meaning and its fault; beside a fault what the line leaves for others."""
     meaning, _, fault = expected.rpartition(" | ")
     if fault != "-":
-        return f"{meaning} | {fault_of_line(bench, line)}"
+        return f"{left_by(bench, line, fault)} | {fault_of_line(bench, line)}"
     if meaning == "-":
         nothing = not any(Machine.of_text(bench.library, line).ram()) and place_of(bench, line + BEHIND, "z") == RAM
         return expected if nothing else "it places something"
