@@ -62,6 +62,13 @@ impl<'a> Words<'a> {
         self.digits(16)
     }
 
+    /// The next word as hexadecimal digits of a number of 128 bits.
+    pub fn wide(&mut self) -> u128 {
+        let number = u128::from_str_radix(self.word(), 16);
+        self.is_good &= number.is_ok();
+        number.unwrap_or(0)
+    }
+
     /// The next word as decimal digits.
     pub fn decimal(&mut self) -> u64 {
         self.digits(10)

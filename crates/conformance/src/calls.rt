@@ -3,16 +3,14 @@
 
 use crate::sameness::are_same;
 use crate::sessions::{command, converse};
-use crate::tried::{Tried, Wrong, twice};
+use crate::tried::{Done, Wrong, made, tell};
 use assembler::{AsmCode, AsmFault, Assembly, assemble};
 use base::ram;
 use debugger::Session;
 use failing::Paper;
 use image::{FromRead, Image, ImageFault};
 use machine::{Event, Machine, MachineFault};
-use std::alloc::Global;
 use std::io;
-use std::process::ExitCode;
 use word_cap::WordCap;
 
 /// The file of the image that sends `A` and halts with 0: 32 bytes of header, 16 of its section, five instructions.
@@ -44,60 +42,41 @@ fn is_spelt(image: &Image, file: &[u8]) -> bool {
     image::write(image, &mut paper).is_ok() && paper.written() == file
 }
 
+fn is_good_image(image: &Image) -> bool {
+    is_spelt(image, FILE)
+}
+
+fn is_good_assembly(assembly: &Assembly) -> bool {
+    is_spelt(assembly.image(), ASSEMBLED) && assembly.symbols().len() == 3
+}
+
+fn is_running(machine: &Machine<WordCap>) -> bool {
+    machine.halted().is_none()
+}
+
 /// `Image::build`.
-fn build(alloc: Global) -> Result<Tried<Image>, Wrong> {
+fn build(rt: &HostRuntime) -> Result<Image, Wrong> {
     let section: (u64, &[u8]) = (ram::BASE, FIRST);
-    let tried: Tried<Image> = twice!(
-        Image::build(alloc, 1, ram::BASE, 0, &[section]),
-        ImageFault::L11,
-        "L11"
-    )?;
-    if is_spelt(&tried.value, FILE) {
-        Ok(tried)
-    } else {
-        Err(Wrong("another image is built"))
-    }
+    made!(rt; "build", ImageFault::L11 => "L11", is_good_image;
+        Image::build(rt.alloc(), 1, ram::BASE, 0, &[section]))
 }
 
 /// `image::read`.
-fn read(alloc: Global) -> Result<Tried<Image>, Wrong> {
-    let tried: Tried<Image> = twice!(
-        image::read(alloc, &mut FromRead::new(&FILE[..])),
-        ImageFault::L11,
-        "L11"
-    )?;
-    if is_spelt(&tried.value, FILE) {
-        Ok(tried)
-    } else {
-        Err(Wrong("another image is read"))
-    }
+fn read(rt: &HostRuntime) -> Result<Image, Wrong> {
+    made!(rt; "read", ImageFault::L11 => "L11", is_good_image;
+        image::read(rt.alloc(), &mut FromRead::new(&FILE[..])))
 }
 
 /// `assemble`.
-fn text_of(alloc: Global) -> Result<Tried<Assembly>, Wrong> {
-    let tried: Tried<Assembly> = twice!(
-        assemble(alloc, TEXT),
-        AsmFault {
-            line: 0,
-            code: AsmCode::A10
-        },
-        "A10"
-    )?;
-    if is_spelt(tried.value.image(), ASSEMBLED) && tried.value.symbols().len() == 3 {
-        Ok(tried)
-    } else {
-        Err(Wrong("another image is assembled"))
-    }
+fn assembled(rt: &HostRuntime) -> Result<Assembly, Wrong> {
+    made!(rt; "assemble", AsmFault { line: 0, code: AsmCode::A10 } => "A10", is_good_assembly;
+        assemble(rt.alloc(), TEXT))
 }
 
 /// A machine of the image, in its opening state: `Machine::new`.
 fn fresh(rt: &HostRuntime, image: &Image) -> Result<Machine<WordCap>, Wrong> {
-    let tried: Result<Tried<Machine<WordCap>>, Wrong> = twice!(
-        Machine::new(rt.alloc(), image),
-        MachineFault::M2,
-        "M2"
-    );
-    tried?.told(rt, "new")
+    made!(rt; "new", MachineFault::M2 => "M2", is_running;
+        Machine::new(rt.alloc(), image))
 }
 
 /// `run` of so many steps, at most 60. The other machine, which is in the same state before, meets the steps one by one.
@@ -107,9 +86,9 @@ fn run(
     count: usize,
     sent: &mut Vec<u8>,
     before: &[u8],
-) -> Result<Tried<()>, Wrong> {
+) -> Done {
     let events = STEPS.get(..count).unwrap_or(&STEPS);
-    let mut refusal = None;
+    let mut is_refused = false;
     if let Err(fault) = machine.run(events, sent) {
         if fault != MachineFault::M5 || !are_same(machine, other) || sent.as_slice() != before {
             return Err(Wrong("a refused run changes something"));
@@ -117,41 +96,62 @@ fn run(
         if machine.run(events, sent).is_err() {
             return Err(Wrong("a run is refused twice"));
         }
-        refusal = Some("M5");
+        is_refused = true;
     }
     for event in events {
         other.event(*event);
     }
     if are_same(machine, other) && sent.as_slice() == b"A".as_slice() {
-        Ok(Tried { value: (), refusal })
+        Ok(is_refused)
     } else {
         Err(Wrong("a run ends in another state, or sends other bytes"))
     }
 }
 
-/// Makes the calls in order, and tells of each: of the runs one sends `A`, and one has more events than the list has room for.
-fn made(rt: &HostRuntime) -> Result<(), Wrong> {
-    let image = build(rt.alloc())?.told(rt, "build")?;
-    read(rt.alloc())?.told(rt, "read")?;
-    text_of(rt.alloc())?.told(rt, "assemble")?;
-    let mut machine = fresh(rt, &image)?;
-    let mut other = fresh(rt, &image)?;
+/// A machine's runs: one sends `A`, and one has more events than the list has room for.
+fn runs(rt: &HostRuntime, image: &Image) -> Result<(), Wrong> {
+    let mut machine = fresh(rt, image)?;
+    let mut other = fresh(rt, image)?;
     let mut sent = Vec::new(rt.alloc());
-    run(&mut machine, &mut other, 3, &mut sent, b"")?.told(rt, "run")?;
-    run(&mut machine, &mut other, 60, &mut sent, b"A")?.told(rt, "run")?;
-    let mut session = Session::new(rt.alloc(), fresh(rt, &image)?);
-    command(&mut session, &mut fresh(rt, &image)?)?.told(rt, "command")?;
-    let mut session = Session::new(rt.alloc(), fresh(rt, &image)?);
-    converse(&mut session, &mut fresh(rt, &image)?)?.told(rt, "talk")
+    let done = run(&mut machine, &mut other, 3, &mut sent, b"");
+    tell(rt, "run", "M5", done)?;
+    let done = run(&mut machine, &mut other, 60, &mut sent, b"A");
+    tell(rt, "run", "M5", done)
 }
 
-/// Makes the calls, and tells of one that does not hold its promise.
-pub(crate) fn try_calls(rt: &HostRuntime) -> io::Result<ExitCode> {
-    match made(rt) {
-        Ok(()) => Ok(ExitCode::SUCCESS),
+/// A session's commands.
+fn commands(rt: &HostRuntime, image: &Image) -> Result<(), Wrong> {
+    let machine = fresh(rt, image)?;
+    let mut other = fresh(rt, image)?;
+    let mut session = Session::new(rt.alloc(), machine);
+    tell(rt, "command", "B4", command(&mut session, &mut other))
+}
+
+/// A conversation.
+fn conversation(rt: &HostRuntime, image: &Image) -> Result<(), Wrong> {
+    let machine = fresh(rt, image)?;
+    let mut other = fresh(rt, image)?;
+    let mut session = Session::new(rt.alloc(), machine);
+    tell(rt, "talk", "Memory", converse(&mut session, &mut other))
+}
+
+/// Makes the calls in order, and tells of each.
+fn make(rt: &HostRuntime) -> Result<(), Wrong> {
+    let image = build(rt)?;
+    read(rt)?;
+    assembled(rt)?;
+    runs(rt, &image)?;
+    commands(rt, &image)?;
+    conversation(rt, &image)
+}
+
+/// Makes the calls, tells of one that does not hold its promise, and says whether all do.
+pub(crate) fn try_calls(rt: &HostRuntime) -> io::Result<bool> {
+    match make(rt) {
+        Ok(()) => Ok(true),
         Err(Wrong(what)) => {
             println!(rt; "wrong: {what}")?;
-            Ok(ExitCode::FAILURE)
+            Ok(false)
         }
     }
 }

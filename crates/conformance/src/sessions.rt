@@ -1,7 +1,7 @@
 //! The calls of sessions.
 
 use crate::sameness::are_same;
-use crate::tried::{Tried, Wrong};
+use crate::tried::{Done, Wrong};
 use debugger::{DebugFault, Reply, Session, TalkFault, talk};
 use failing::Paper;
 use image::FromRead;
@@ -23,29 +23,14 @@ const TYPED: [(&str, u64, &str); 3] = [
 const TOLD: &str = "events 2 out - pc 0000000080000008 running\n0000000080000000: b7 05 00 10\n\
     events 3 out 41 pc 0000000080000014 halted 0\n";
 
-/// A conversation that is broken off: what is told by then, what is left to type, and the steps that were done.
-struct Stage {
-    told: &'static str,
-    left: &'static [u8],
-    steps: u64,
-}
+/// Where a conversation may be broken off: how many bytes of what it tells are told by then, what is left to type, and the steps that were
+/// done.
+type Stage = (usize, &'static [u8], u64);
 
 const STAGES: [Stage; 3] = [
-    Stage {
-        told: "",
-        left: b"step 2\nmem 0x80000000 4\nstep 3\nquit\nregs",
-        steps: 0,
-    },
-    Stage {
-        told: "events 2 out - pc 0000000080000008 running\n",
-        left: b"mem 0x80000000 4\nstep 3\nquit\nregs",
-        steps: 2,
-    },
-    Stage {
-        told: "events 2 out - pc 0000000080000008 running\n0000000080000000: b7 05 00 10\n",
-        left: b"step 3\nquit\nregs",
-        steps: 2,
-    },
+    (0, b"step 2\nmem 0x80000000 4\nstep 3\nquit\nregs", 0),
+    (43, b"mem 0x80000000 4\nstep 3\nquit\nregs", 2),
+    (73, b"step 3\nquit\nregs", 2),
 ];
 
 /// Gives a machine so many steps.
@@ -55,100 +40,87 @@ fn step(machine: &mut Machine<WordCap>, steps: u64) {
     }
 }
 
-/// Whether a command answers this text.
-fn answers(answered: &Result<Reply, DebugFault>, reply: &str) -> bool {
-    match answered {
-        Ok(Reply::Text(text)) => text.as_str() == reply,
-        _ => false,
+/// Whether a line is answered with this text.
+fn answers(session: &mut Session<WordCap>, line: &str, reply: &str) -> Result<bool, DebugFault> {
+    match session.command(line) {
+        Ok(Reply::Text(text)) => Ok(text.as_str() == reply),
+        Ok(_) => Ok(false),
+        Err(fault) => Err(fault),
     }
 }
 
-/// Asks for a line, and again where it is refused; answers whether it was. The other machine meets the steps.
+/// Asks for a line, and again where it is refused. The other machine meets the steps.
 fn asked(
     session: &mut Session<WordCap>,
     other: &mut Machine<WordCap>,
     typed: &(&'static str, u64, &'static str),
-) -> Result<bool, Wrong> {
+) -> Done {
     let (line, steps, reply) = *typed;
-    let mut answered = session.command(line);
+    let mut answered = answers(session, line, reply);
     let mut is_refused = false;
-    if let Err(fault) = &answered {
-        if *fault != DebugFault::B4 || !are_same(session.machine(), other) {
+    if let Err(fault) = answered {
+        if fault != DebugFault::B4 || !are_same(session.machine(), other) {
             return Err(Wrong("a refused command changes something"));
         }
         is_refused = true;
-        answered = session.command(line);
+        answered = answers(session, line, reply);
     }
     step(other, steps);
-    if answers(&answered, reply) && are_same(session.machine(), other) {
-        Ok(is_refused)
-    } else {
-        Err(Wrong("a command tells or leaves something else"))
+    match answered {
+        Ok(true) if are_same(session.machine(), other) => Ok(is_refused),
+        _ => Err(Wrong("a command tells or leaves something else")),
     }
 }
 
 /// `command`, of each line in order. The other machine, which is in the same state before, meets the steps.
-pub(crate) fn command(
-    session: &mut Session<WordCap>,
-    other: &mut Machine<WordCap>,
-) -> Result<Tried<()>, Wrong> {
-    let mut refusal = None;
+pub(crate) fn command(session: &mut Session<WordCap>, other: &mut Machine<WordCap>) -> Done {
+    let mut is_refused = false;
     for typed in &TYPED {
-        if asked(session, other, typed)? {
-            refusal = Some("B4");
-        }
+        is_refused |= asked(session, other, typed)?;
     }
-    Ok(Tried { value: (), refusal })
+    Ok(is_refused)
 }
 
-/// `talk`, and what it tells.
-fn spoken(session: &mut Session<WordCap>, typed: &[u8]) -> (Result<(), TalkFault>, Paper) {
-    let mut paper = Paper::new();
-    let answered = talk(session, &mut FromRead::new(typed), &mut paper);
-    (answered, paper)
+/// Where a conversation was broken off that told this.
+fn stage_of(told: &[u8]) -> Option<Stage> {
+    let stage = STAGES.iter().find(|(length, _, _)| *length == told.len())?;
+    TOLD.as_bytes().starts_with(told).then_some(*stage)
 }
 
-/// Whether a conversation is held to its end, tells this and no more, and leaves the state of another machine behind so many steps.
-fn is_held(
+/// Holds a conversation from where it was broken off: to its end, where it tells what is left to tell and leaves the state of the other
+/// machine behind the steps that are left; or else answers where it is refused for memory.
+fn held(
     session: &mut Session<WordCap>,
     other: &mut Machine<WordCap>,
-    stage: &Stage,
-    answered: Result<(), TalkFault>,
-    paper: &Paper,
-) -> bool {
-    step(other, 5u64.saturating_sub(stage.steps));
-    let rest = TOLD.as_bytes().get(stage.told.len()..);
-    answered.is_ok() && rest == Some(paper.written()) && are_same(session.machine(), other)
-}
-
-/// The conversation that is broken off where this is told.
-fn stage_of(told: &[u8]) -> Option<&'static Stage> {
-    STAGES.iter().find(|stage| stage.told.as_bytes() == told)
+    (told, left, steps): Stage,
+) -> Result<(), Option<Stage>> {
+    let mut paper = Paper::new();
+    match talk(session, &mut FromRead::new(left), &mut paper) {
+        Ok(()) => step(other, 5u64.saturating_sub(steps)),
+        Err(TalkFault::Memory) => return Err(stage_of(paper.written())),
+        Err(_) => return Err(None),
+    }
+    if TOLD.as_bytes().get(told..) == Some(paper.written()) && are_same(session.machine(), other) {
+        Ok(())
+    } else {
+        Err(None)
+    }
 }
 
 /// `talk`. Where it is refused, the lines before are answered and done and no other; it goes on with the line that was refused.
-pub(crate) fn converse(
-    session: &mut Session<WordCap>,
-    other: &mut Machine<WordCap>,
-) -> Result<Tried<()>, Wrong> {
-    let mut stage = &STAGES[0];
-    let (mut answered, mut paper) = spoken(session, stage.left);
-    let mut refusal = None;
-    if let Err(fault) = answered {
-        let Some(broken_off) = stage_of(paper.written()) else {
-            return Err(Wrong("a refused conversation tells no beginning"));
-        };
-        stage = broken_off;
-        step(other, stage.steps);
-        if fault != TalkFault::Memory || !are_same(session.machine(), other) {
-            return Err(Wrong("a refused conversation leaves another state"));
-        }
-        refusal = Some("Memory");
-        (answered, paper) = spoken(session, stage.left);
+pub(crate) fn converse(session: &mut Session<WordCap>, other: &mut Machine<WordCap>) -> Done {
+    let stage = match held(session, other, STAGES[0]) {
+        Ok(()) => return Ok(false),
+        Err(Some(stage)) => stage,
+        Err(None) => return Err(Wrong("a conversation tells or leaves something else")),
+    };
+    let (_, _, steps) = stage;
+    step(other, steps);
+    if !are_same(session.machine(), other) {
+        return Err(Wrong("a refused conversation leaves another state"));
     }
-    if is_held(session, other, stage, answered, &paper) {
-        Ok(Tried { value: (), refusal })
-    } else {
-        Err(Wrong("a conversation tells or leaves something else"))
+    match held(session, other, stage) {
+        Ok(()) => Ok(true),
+        Err(_) => Err(Wrong("a conversation that goes on tells or leaves something else")),
     }
 }

@@ -12,9 +12,8 @@ use cap_rights::{
     Permission, Perms, and_perms, equal_exact, opened, permits, seal, seal_entry, set_flags,
     subset, unseal,
 };
-use case_texts::{CaseError, Words, bytes};
+use case_texts::Words;
 use isa_rows::{Format, Insn, Kind, ROWS, Row};
-use std::alloc::Global;
 
 /// The hardware permissions by their bits, from 0 on.
 pub(crate) const PERMISSIONS: [Permission; 12] = [
@@ -33,12 +32,11 @@ pub(crate) const PERMISSIONS: [Permission; 12] = [
 ];
 
 /// Sixteen bytes in memory and a tag.
-pub(crate) fn word(alloc: Global, words: &mut Words) -> Result<bool, CaseError> {
-    let memory = bytes(alloc, words.word())?;
-    let memory = <[u8; 16]>::try_from(memory.as_slice()).map_err(|_| CaseError::Unreadable)?;
+pub(crate) fn word(words: &mut Words) -> bool {
+    let memory = words.wide().to_be_bytes();
     let word = CapWord::from_memory(memory);
     let c = pair_of(word, words.bit());
-    Ok(word.to_memory() == memory && agree(c.record, c.word))
+    word.to_memory() == memory && agree(c.record, c.word)
 }
 
 /// A value and an address.
@@ -95,12 +93,9 @@ pub(crate) fn right(words: &mut Words) -> bool {
 }
 
 /// The row whose mnemonic is the next word.
-pub(crate) fn row(words: &mut Words) -> Result<Row, CaseError> {
+pub(crate) fn row(words: &mut Words) -> Option<Row> {
     let name = words.word();
-    ROWS.iter()
-        .find(|row| row.name() == name)
-        .copied()
-        .ok_or(CaseError::Unreadable)
+    ROWS.iter().find(|row| row.name() == name).copied()
 }
 
 /// The immediate of a row and the value in rs2, of which the next words are the one that it has.
@@ -130,13 +125,13 @@ fn first(words: &mut Words) -> (u8, Both) {
 }
 
 /// A mnemonic, the value in rs1, and the value in rs2 or the immediate; then the number of rs1 and DDC, or nothing for 11 and null.
-pub(crate) fn capability_row(words: &mut Words) -> Result<bool, CaseError> {
+pub(crate) fn capability_row(words: &mut Words) -> Option<bool> {
     let row = row(words)?;
     let cs1 = pair(words);
     let (imm, cs2) = second(row, words);
     let (rs1, ddc) = first(words);
     if !matches!(row.kind(), Kind::Capability) {
-        return Err(CaseError::Unreadable);
+        return None;
     }
     let insn = Insn {
         row,
@@ -146,7 +141,7 @@ pub(crate) fn capability_row(words: &mut Words) -> Result<bool, CaseError> {
         imm,
     };
     let record = cap_op(insn, cs1.record, cs2.record, ddc.record);
-    Ok(agree(record, cap_op(insn, cs1.word, cs2.word, ddc.word)))
+    Some(agree(record, cap_op(insn, cs1.word, cs2.word, ddc.word)))
 }
 
 const ACCESSES: [Access; 8] = [

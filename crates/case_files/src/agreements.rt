@@ -43,20 +43,13 @@ pub(crate) fn pair(words: &mut Words) -> Both {
 /// What each call says of a value.
 fn said<C: CapRep>(c: C) -> [u128; 8] {
     let word = c.word().logical();
+    let tag = u128::from(c.tag());
     let base = u128::from(c.base());
     let address = u128::from(c.address());
     let perms = u128::from(c.perms());
+    let flag = u128::from(c.flag());
     let otype = u128::from(c.otype());
-    [
-        word,
-        u128::from(c.tag()),
-        base,
-        c.top(),
-        address,
-        perms,
-        u128::from(c.flag()),
-        otype,
-    ]
+    [word, tag, base, c.top(), address, perms, flag, otype]
 }
 
 /// Whether two values are one, call by call.
