@@ -13,7 +13,8 @@ import re
 import sys
 
 import programming_words as words
-from definitions import Definitions, NotUnderstood, bare, choices, constants, fields, items, matched, pair, split, text_of, variants, worth
+from definitions import Definitions, NotUnderstood, bare, choices, constants, fields, items, matched, pair, plain, split, text_of, variants
+from definitions import worth
 from markdown import table
 from programming_rows import format_table, row_count, row_names, rows_table
 
@@ -22,6 +23,7 @@ PROSE = os.path.join(TOP, "tools", "programming.md")
 PAGE = os.path.join(TOP, "docs", "PROGRAMMING.md")
 
 FIRST_FAULT = Definitions("cap_checks/specs/FirstFault")
+QUESTION = Definitions("cap_checks/specs/Question")
 ACCESS = Definitions("cap_checks/specs/Access")
 FAULT = Definitions("base/specs/Fault")
 DEVICES = Definitions("devices/specs/Devices")
@@ -30,6 +32,9 @@ TRAPS = Definitions("special_regs/specs/Traps")
 INTERRUPTS = Definitions("special_regs/specs/Interrupts")
 REFUSALS = Definitions("special_regs/specs/Refusals")
 OPENING = Definitions("hart/specs/Opening")
+MEMORY = Definitions("hart/specs/MemoryRows")
+SYSTEM = Definitions("hart/specs/SystemRows")
+STEP = Definitions("hart/specs/Step")
 
 NUMBERS = {
     name: worth(text)
@@ -57,12 +62,20 @@ def unused():
         yield from (f"{book}: {text}" for text in getattr(words, book) if (book, text) not in used)
 
 
+def cases_shown(name, definition, pattern=None):
+    """A definition as words name it: all its cases, or one."""
+    bodies = [body for patterns, body in Definitions(name).cases(definition) if pattern in (None, patterns)]
+    return f"{definition if pattern is None else f'{definition} {pattern}'}: {' | '.join(bodies)}"
+
+
 def defined(name, definition, pattern=None):
     """The words for a definition: of all its cases, or of one."""
-    cases = Definitions(name).cases(definition)
-    bodies = [body for patterns, body in cases if pattern in (None, patterns)]
-    shown = definition if pattern is None else f"{definition} {pattern}"
-    return said("DEFINITIONS", f"{name} {shown}: {' | '.join(bodies)}")
+    return said("DEFINITIONS", f"{name} {cases_shown(name, definition, pattern)}")
+
+
+def together(name, *definitions):
+    """The words for several definitions that say one thing."""
+    return said("DEFINITIONS", f"{name} {'; '.join(cases_shown(name, definition) for definition in definitions)}")
 
 
 def steps(sentences):
@@ -117,59 +130,101 @@ def by_access(definition, prefix):
     return found["load"], found["store"]
 
 
-def fault(text, register):
-    """The words for the fault of a list's entry; `register` is the one that a refusal names."""
+def fault(text):
+    """The words for a fault."""
     if text == "cheri register (lacking access)":
         load, store = by_access("lacking", "forbids.")
         return f"{cheri(load)}, or {CHERI[store]:#04x}, {cause(store)}: {said('REGISTERS', 'register')}"
     if text == "fault (misaligned access) address":
         load, store = by_access("misaligned", "cause.")
         return f"{mcause(load)}, or {MCAUSE[store]}, {cause(store)}: mtval is {said('MTVAL', 'address')}"
-    found = re.fullmatch(r"cheri (\w+) forbids\.(\w+)", text)
+    found = re.fullmatch(r"cheri (\w+|\(.*\)) forbids\.(\w+)", text)
     if found:
-        return f"{cheri(found.group(2))}: {said('REGISTERS', found.group(1))}"
-    found = re.fullmatch(r"fault cause\.(\w+) (.+)", text)
-    if found:
-        return f"{mcause(found.group(1))}: mtval is {said('MTVAL', bare(found.group(2)))}"
-    refused = dict((pattern.split()[0], body) for pattern, body in Definitions("hart/specs/Looks").cases("refused"))
-    if refused.get(text) == "illegal word":
-        return f"{mcause('IllegalInstruction')}: mtval is {said('MTVAL', 'word')}"
-    found = matched(r"Trap \(cheri register forbids\.(\w+)\)", refused.get(text, text))
-    return f"{cheri(found.group(1))}: {said('REGISTERS', register)}"
+        return f"{cheri(found.group(2))}: {said('REGISTERS', bare(found.group(1)))}"
+    found = matched(r"fault cause\.(\w+) (.+)", text)
+    return f"{mcause(found.group(1))}: mtval is {said('MTVAL', bare(found.group(2)))}"
+
+
+# ---- conditions: a question, whose fault is the trap where the answer is no, and whether the answer is yes
+
+
+def put_in(body, places):
+    """A definition's body with what stands for its parameters."""
+    return re.sub(r"(?<![\w.])[a-z]\w*", lambda found: places.get(found.group(), found.group()), body)
+
+
+def called(book, name, *arguments):
+    """What a definition is for these arguments: a parameter is put in, and of constructors the first case is taken that has them."""
+    for pattern, body in book.cases(name):
+        places, parameters = {}, split(pattern, " ")
+        for parameter, argument in zip(parameters, arguments):
+            parts, given = split(bare(parameter), " "), split(bare(argument), " ")
+            if re.fullmatch(r"[a-z]\w*", parameter):
+                places[parameter] = argument
+            elif parts[0] == given[0] and len(parts) == len(given):
+                places |= zip(parts[1:], given[1:])
+            else:
+                break
+        else:
+            if len(parameters) == len(arguments):
+                return plain(put_in(body, places))
+    raise NotUnderstood(f"{book.file}: no {name} of {arguments}")
+
+
+def condition_of(book, text):
+    """The fault and the truth of a condition; what stands for it is put in until its question stands there."""
+    name, *arguments = split(bare(text), " ")
+    if name == "asks" and len(arguments) == 2:
+        return called(QUESTION, "fault_of", arguments[0]), bare(arguments[1])
+    return condition_of(book, called(book, name, *arguments))
 
 
 def condition(text):
-    """The words for the condition of a list's entry."""
+    """The words for the truth of a condition."""
     if text == "permits authority (needed access)":
         load, store = by_access("needed", "permission.")
         return f"it has {permission(load)} for a load, {permission(store)} for a store"
     return said("CONDITIONS", text)
 
 
-def checks(text, register=None, behind=()):
-    """The table of a list of checks, with what is checked behind it."""
-    rows = [(condition(condition_), fault(fault_, register)) for condition_, fault_ in map(pair, items(text))]
+def checks(conditions, behind=()):
+    """The table of a list of conditions, with what is asked behind it."""
+    rows = [(condition(holds), fault(otherwise)) for otherwise, holds in conditions]
     return table(["", "Must hold", "Else"], [[str(number), *row] for number, row in enumerate([*rows, *behind], 1)])
 
 
-def refusals(name, register):
-    """The table of the list that a refusal is the first fault of."""
-    found = matched(r"first_fault \((\w+) .*\)", REFUSALS.body(name))
-    return checks(REFUSALS.body(found.group(1)), register)
+def listed_checks(name):
+    """The conditions of a list of cap_checks."""
+    return [condition_of(FIRST_FAULT, entry) for entry in items(FIRST_FAULT.body(name))]
+
+
+def asked_of_register(name):
+    """The table of what a row asks of a system register: each refusal is a question, whose fault names the row's register."""
+    matched(r"map \(λ c\. asks \(question_of c\.1 register word\) c\.0\) checks", SYSTEM.body("asked_of_register"))
+    found = matched(r"asked_of_register (\w+|\([^()]*\)) word \((\w+) .*\)", SYSTEM.body(name))
+    questions = [(holds, called(SYSTEM, "question_of", refusal, found.group(1), "word"))
+                 for holds, refusal in map(pair, items(REFUSALS.body(found.group(2))))]
+    return checks([(called(QUESTION, "fault_of", f"({question})"), holds) for holds, question in questions])
+
+
+def mapped(*conditions):
+    """The row of what a load and a store ask of the map: the same, with a fault of each."""
+    asked = [condition_of(MEMORY, text) for text in conditions]
+    load, store = (matched(r"fault cause\.(\w+) address", otherwise).group(1) for otherwise, _ in asked)
+    holds, other = (condition(text) for _, text in asked)
+    if holds != other:
+        raise NotUnderstood(f"{MEMORY.file}: {conditions}")
+    return holds, f"{mcause(load)}, or {MCAUSE[store]}, {cause(store)}: mtval is {said('MTVAL', 'address')}"
 
 
 def access_table():
-    memory = Definitions("hart/specs/MemoryRows")
-    made_fault = r"Trap \(fault cause\.(\w+) address\)"
-    loads, stores = (matched(made_fault, memory.cases(name)[1][1]) for name in ("device_load", "device_store"))
-    last = ("RAM or a device register answers at the address",
-            f"{mcause(loads.group(1))}, or {MCAUSE[stores.group(1)]}, {cause(stores.group(1))}: mtval is {said('MTVAL', 'address')}")
-    return checks(FIRST_FAULT.body("access_checks"), behind=[last])
+    found = matched(r"(\w+) \(authority_of insn s\) \(authority_number_of insn s\) a \(place_of insn s\) \+\+ mapped ∷ \[\]",
+                    MEMORY.body("access_asked"))
+    return checks(listed_checks(found.group(1)), behind=[mapped("loads_from address size s", "stores_to address size s")])
 
 
 def fetch_table():
-    last = (defined("hart/specs/Step", "fetched", "None s"), f"{mcause('FetchAccess')}: mtval is {said('MTVAL', 'pc_of s')}")
-    return checks(FIRST_FAULT.body("fetch_checks"), behind=[last])
+    return checks([*listed_checks("fetch_checks"), condition_of(STEP, "fetches_from s")])
 
 
 # ---- the map and the devices
@@ -337,23 +392,41 @@ def general_table():
 # ---- causes
 
 
+def faults_in(book, body):
+    """The faults that a definition's body makes: those that it names, and those of the conditions that it makes."""
+    argument = r"(?: [\w.]+| \((?:[^()]|\((?:[^()]|\([^()]*\))*\))*\))"
+    yield from re.findall(rf"\bfault{argument * 2}", body)
+    for maker in ("asks", *CONDITION_MAKERS):
+        if maker == "asks" or maker in book.equations:
+            count = 2 if maker == "asks" else len(split(book.cases(maker)[0][0], " "))
+            for text in re.findall(rf"\b{maker}{argument * count}", body):
+                yield condition_of(book, text)[0]
+
+
+# The definitions that make a condition of its parts.
+CONDITION_MAKERS = ("within", "aligned", "capability_at")
+
+
 def mtval_by_cause():
     """What mtval holds, by the cause, wherever a definition makes such a fault."""
     found = {}
-    sources = ("base/specs/Fault", "cap_checks/specs/FirstFault", "hart/specs/Looks", "hart/specs/MemoryRows", "hart/specs/Step")
-    for source in sources:
-        for cases in Definitions(source).equations.values():
-            for _, body in cases:
-                for name, value in re.findall(r"fault cause\.(\w+) (\w+|\((?:[^()]|\([^()]*\))*\))", body):
-                    found.setdefault(name, []).append(said("MTVAL", bare(value)))
-                if "fault (misaligned access) address" in body:
-                    for name in by_access("misaligned", "cause."):
-                        found.setdefault(name, []).append(said("MTVAL", "address"))
+    sources = ("base/specs/Fault", "cap_checks/specs/Question", "cap_checks/specs/FirstFault", "hart/specs/Looks", "hart/specs/MemoryRows",
+               "hart/specs/Step")
+    for book in map(Definitions, sources):
+        for body in (body for cases in book.equations.values() for _, body in cases):
+            for text in faults_in(book, body):
+                made_fault = re.fullmatch(r"fault (cause\.(\w+)|\(misaligned access\)) (.*)", text)
+                if made_fault:
+                    names = [made_fault.group(2)] if made_fault.group(2) else by_access("misaligned", "cause.")
+                    for name in names:
+                        found.setdefault(name, []).append(said("MTVAL", bare(made_fault.group(3))))
     return {name: " or ".join(dict.fromkeys(values)) for name, values in found.items()}
 
 
 def mcause_table():
     mtval = mtval_by_cause()
+    if mtval.keys() != MCAUSE.keys():
+        raise NotUnderstood(f"no fault of {sorted(MCAUSE.keys() - mtval.keys())}")
     rows = [[str(MCAUSE[name]), cause(name), comment.rstrip("."), mtval[name]] for name, comment in variants("base/src/cause.rt", "Cause")]
     interrupt = dict(fields(INTERRUPTS.body("cause_of")))
     for bit, name in sorted((NUMBERS[constant], name) for name, constant in INTERRUPTS.cases("bit_of")):
@@ -510,10 +583,9 @@ def step_list():
     return steps([
         defined(step, "stepped_unless"),
         f"{asked}. {defined(step, 'decided')}: {pending_order()}",
-        defined(step, "fetched_effect"),
+        together(step, "fetched_effect", "fetch", "fetched"),
         defined(step, "decoded_effect"),
-        "the instruction's own checks are made, in the order of the lists below. The first that fails is the trap, and nothing else "
-        "changes",
+        f"{defined(step, 'kind_effect')}. {defined('hart/specs/Looks', 'where_all')}",
         f"{defined('hart/specs/Effect', 'done_at')}; {defined('hart/specs/Effect', 'counted')}",
     ])
 
@@ -544,13 +616,13 @@ def made_of_registers():
         "general": general_table(),
         "mode": defined("hart/specs/Looks", "in_capability_mode"),
         "csrs": csr_table(),
-        "csr_checks": refusals("csr_fault", "pcc_register"),
-        "csr_register": defined(system, "csr_effect"),
+        "csr_checks": asked_of_register("csr_asked"),
+        "csr_register": defined(system, "csr_asked"),
         "csr_writes": defined(system, "csr_writes"),
         "csr_counted": defined("hart/specs/Effect", "applied", "(Csr w) s"),
         "special": special_table(),
-        "special_checks": refusals("scr_fault", "special_register insn.rs2"),
-        "special_register": defined(system, "special_effect"),
+        "special_checks": asked_of_register("special_asked"),
+        "special_register": defined(system, "special_asked"),
         "special_writes": defined(system, "special_done"),
         "opening": opening_list(),
     }
@@ -565,8 +637,8 @@ def made_of_traps():
         "entry": traps("entry_address", "vector_of", "is_vectored"),
         "vectors": vectors(),
         "trap_target": traps("trap_target", "sentry_opened", "placed_at"),
-        "return_checks": refusals("return_fault", "pcc_register"),
-        "return_register": defined("hart/specs/SystemRows", "return_effect"),
+        "return_checks": asked_of_register("return_asked"),
+        "return_register": defined("hart/specs/SystemRows", "return_asked"),
         "return": trap_return(),
         "return_target": traps("target", "aligned"),
     }
@@ -591,26 +663,28 @@ def made_of_rows():
 def made_of_checks():
     memory, jumps, tags = "hart/specs/MemoryRows", "hart/specs/JumpRows", "tagged_memory/specs/Memory"
     first_fault = "cap_checks/specs/FirstFault"
-    mapped = [defined(memory, name) for name in ("mapped_load", "mapped_store", "mapped_capability_load", "mapped_capability_store")]
+    data = f"{together(memory, 'load_asked', 'load_done')}. {together(memory, 'store_asked', 'store_done', 'stored_number')}"
+    capabilities = f"{together(memory, 'load_capability_asked', 'capability_at')}, {defined(memory, 'store_capability_asked')}"
     return {
         "step": step_list(),
+        "order": together("cap_checks/specs/Question", "first_false", "judged", "asks"),
         "holds": defined(first_fault, "holds"),
         "fetch": fetch_table(),
         "place": defined(memory, "place_of"),
         "authority": "; ".join([defined(memory, "authority_through"), defined("hart/specs/Accesses", "is_rs1"),
                                 defined(memory, "number_through")]),
         "access": access_table(),
-        "mapped": f"{'. '.join(mapped[:3])}, {mapped[3]}",
-        "loaded_capability": defined(memory, "loaded_capability"),
+        "mapped": f"{data}. {capabilities}",
+        "loaded_capability": together(memory, "load_capability_done", "loaded_capability"),
         "tags": f"{defined(tags, 'data_written')}; {defined(tags, 'capability_written')}",
         "jump_target": defined(first_fault, "jump_target"),
-        "target": checks(FIRST_FAULT.body("target_checks")),
+        "target": checks(listed_checks(matched(r"(\w+) s\.scrs\.pcc target", Definitions(jumps).body("link_asked")).group(1))),
         "link": f"{defined(jumps, 'link_of')}; {defined(jumps, 'sentry_link')}",
-        "entered": defined(jumps, "enter_effect"),
-        "invoked": defined(jumps, "invoke_effect"),
-        "jump": checks(FIRST_FAULT.body("jump_checks")),
+        "entered": together(jumps, "enter_asked", "enter_done"),
+        "invoked": together(jumps, "invoke_asked", "invoke_done"),
+        "jump": checks(listed_checks("jump_checks")),
         "invoke_target": defined(first_fault, "invoke_target"),
-        "invoke": checks(FIRST_FAULT.body("invoke_checks")),
+        "invoke": checks(listed_checks("invoke_checks")),
     }
 
 

@@ -4,7 +4,7 @@ The key is the source's own text, with single blanks. A text that changes there 
 definition says here, in words, what it says now; and an entry that nothing asks for is an error too.
 """
 
-# Conditions of the ordered lists (cap_checks/specs/FirstFault, special_regs/specs/Refusals).
+# Conditions of the ordered lists (cap_checks/specs/FirstFault, special_regs/specs/Refusals, hart/specs/MemoryRows and Step).
 CONDITIONS = {
     "is_tagged authority": "the authority has its tag",
     "not (is_sealed authority)": "it isn't sealed",
@@ -13,7 +13,7 @@ CONDITIONS = {
     "not (stores_local access) || permits authority permission.StoreLocalCapability":
         "it has Store_Local_Capability, where a capability that isn't Global is stored",
     "holds authority address (width_of access)": "all bytes of the access lie in its bounds",
-    "address % width_of access == 0": "the address is a multiple of the bytes that are moved",
+    "address % (width_of access) == 0": "the address is a multiple of the bytes that are moved",
     "is_tagged pcc": "PCC has its tag",
     "not (is_sealed pcc)": "it isn't sealed",
     "permits pcc permission.Execute": "it has Execute",
@@ -24,7 +24,7 @@ CONDITIONS = {
     "not (is_sealed v) || is_entered_sealed v offset": "it isn't sealed, or it is a sentry and the immediate is 0",
     "permits v permission.Execute": "it has Execute",
     "holds v (jump_target (value_address v) offset) 4": "the 4 bytes at the target lie in its bounds",
-    "jump_target (value_address v) offset % 4 == 0": "the target is a multiple of 4",
+    "(jump_target (value_address v) offset) % 4 == 0": "the target is a multiple of 4",
     "is_tagged code": "cs1 has its tag",
     "is_tagged datum": "cs2 has its tag",
     "not (is_reserved (value_otype code))": "the type of cs1 isn't reserved (so it is sealed, and no sentry)",
@@ -35,11 +35,16 @@ CONDITIONS = {
     "permits code permission.Execute": "cs1 has Execute",
     "not (permits datum permission.Execute)": "cs2 hasn't Execute",
     "holds code (invoke_target code) 4": "the 4 bytes at the target lie in the bounds of cs1",
-    "invoke_target code % 4 == 0": "the target is a multiple of 4",
+    "(invoke_target code) % 4 == 0": "the target is a multiple of 4",
     "is_csr n && not (writes && is_read_only n)": "there is such a register, and it isn't written if it is only read",
     "is_scr n && not (writes && (n == PCC))": "there is such a register, and PCC isn't written",
     "has_system_access s": "PCC has Access_System_Registers",
     "not (nat_le MTCC n) || has_system_access s": "PCC has Access_System_Registers, where the number is that of MTCC or above",
+    "is_in_ram s.memory address (bytes_of size) || is_none (read_fault address (bytes_of size))":
+        "RAM or a device register answers at the address",
+    "is_in_ram s.memory address (bytes_of size) || is_none (write_fault address (bytes_of size))":
+        "RAM or a device register answers at the address",
+    "is_in_ram s.memory (pc_of s) 4": "the 4 bytes lie in RAM",
 }
 
 # Which register a CHERI fault names.
@@ -58,6 +63,7 @@ MTVAL = {
     "address": "the address",
     "target": "the target",
     "pc_of s": "the instruction's address",
+    "place_of insn s": "the address",
     "jump_target (value_address v) offset": "the target",
     "invoke_target code": "the target",
     "32 * register + cheri_number_of what": "32 × register + CHERI cause",
@@ -159,6 +165,9 @@ GIVES = {
 
 # Definitions that the page says in words, each with its body.
 DEFINITIONS = {
+    "cap_checks/specs/Question first_false: first_fault (judged conditions); judged: map (λ c. (c.holds, fault_of c.question)) "
+    "conditions; asks: record {question = question; holds = holds}":
+        "Each list is read from the top: the first condition that fails is the trap",
     "cap_checks/specs/FirstFault holds: nat_le (value_base v) address && nat_le (address + size) (value_top v)":
         "Bytes lie in the bounds of a capability if base ≤ address and address + size ≤ top; the sum is a whole number, which doesn't wrap",
     "cap_checks/specs/FirstFault jump_target: (address + offset) % 2 ^ 64 / 2 * 2":
@@ -173,21 +182,23 @@ DEFINITIONS = {
         "a fault names that register",
     "hart/specs/Accesses is_rs1: capability_mode | false | true":
         "it is rs1 in capability mode and in the `.cap` forms, and DDC in integer mode and in the `.ddc` forms",
-    "hart/specs/MemoryRows loaded_capability: value_of (word_at m address) (has_tag m address && permits authority "
-    "permission.LoadCapability)":
-        "A capability that is loaded has the granule's tag if the authority has Load_Capability, and else none; it is no fault",
-    "hart/specs/MemoryRows mapped_load: if is_in_ram s.memory address (bytes_of size) then Write (record {rd = insn.rd; value = integer "
-    "(loaded insn.row size (number_at s.memory address (bytes_of size)))}) else device_load (read_fault address (bytes_of size)) insn.rd "
-    "address size s":
+    "hart/specs/MemoryRows load_asked: access_asked (access.Load (size_of insn.row)) (loads_from (place_of insn s) (size_of insn.row) s) "
+    "insn s; load_done: if is_in_ram s.memory address (bytes_of size) then Write (record {rd = insn.rd; value = integer (loaded insn.row "
+    "size (number_at s.memory address (bytes_of size)))}) else DeviceLoad (record {rd = insn.rd; value = integer (value_at address "
+    "s.devices); address = address; size = size})":
         "A load that its authority allows reads RAM if all its bytes lie there, or else a device register",
-    "hart/specs/MemoryRows mapped_store: if is_in_ram s.memory address (bytes_of size) then Store (stored_number address size number) "
-    "else device_store (write_fault address (bytes_of size)) address size number":
+    "hart/specs/MemoryRows store_asked: access_asked (access.Store (size_of insn.row)) (stores_to (place_of insn s) (size_of insn.row) s) "
+    "insn s; store_done: if is_in_ram s.memory address (bytes_of size) then Store (stored_number address size number) else DeviceStore "
+    "(stored_number address size number); stored_number: record {address = address; size = size; number = number}":
         "A store writes RAM if all its bytes lie there, or else a device register",
-    "hart/specs/MemoryRows mapped_capability_load: if is_in_ram s.memory address 16 then Write (record {rd = rd; value = "
-    "loaded_capability authority address s.memory}) else Trap (fault cause.LoadAccess address)":
+    "hart/specs/MemoryRows load_capability_asked: access_asked access.LoadCapability (capability_at cause.LoadAccess (place_of insn s) s) "
+    "insn s; capability_at: asks (Ram otherwise address) (is_in_ram s.memory address 16)":
         "A capability is loaded from RAM alone",
-    "hart/specs/MemoryRows mapped_capability_store: if is_in_ram s.memory address 16 then StoreCapability (record {address = address; "
-    "value = v}) else Trap (fault cause.StoreAccess address)":
+    "hart/specs/MemoryRows load_capability_done: Write (record {rd = rd; value = loaded_capability authority address s.memory}); "
+    "loaded_capability: value_of (word_at m address) (has_tag m address && permits authority permission.LoadCapability)":
+        "A capability that is loaded has the granule's tag if the authority has Load_Capability, and else none; it is no fault",
+    "hart/specs/MemoryRows store_capability_asked: access_asked (access.StoreCapability (stored_of (register s.registers insn.rs2))) "
+    "(capability_at cause.StoreAccess (place_of insn s) s) insn s":
         "and stored into RAM alone",
     "tagged_memory/specs/Memory data_written: record {bytes = replaced_at m address new; tags = set.retain m.tags (λ granule. not "
     "(touches address (length new) granule));}":
@@ -195,31 +206,33 @@ DEFINITIONS = {
     "tagged_memory/specs/Memory capability_written: record {bytes = replaced_at m address (memory_bytes word); tags = if tag then "
     "set.insert m.tags address else set.remove m.tags address;}":
         "a store of a capability gives its granule the tag of what is stored",
-    "hart/specs/Step fetched None s: if is_in_ram s.memory (pc_of s) 4 then Ok (number_at s.memory (pc_of s) 4) else Err (fault "
-    "cause.FetchAccess (pc_of s))":
-        "the 4 bytes lie in RAM",
     "hart/specs/Step stepped_unless: applied (step_effect s) s | s": "a machine that is halted ignores the step",
     "hart/specs/Step decided: Trap (cause_of interrupt) | fetched_effect (fetch s) s":
         "An interrupt that is pending is taken, and is the whole step",
-    "hart/specs/Step fetched_effect: decoded_effect (insn_of word) word s | Trap f":
+    "hart/specs/Step fetched_effect: decoded_effect (insn_of word) word s | Trap f; fetch: fetched (fetch_fault s.scrs.pcc) s; fetched: "
+    "Err f | if (fetches_from s).holds then Ok (number_at s.memory (pc_of s) 4) else Err (fault_of ((fetches_from s).question))":
         "the instruction is fetched; a fetch that fails is the trap",
     "hart/specs/Step decoded_effect: kind_effect (kind_of insn.row) word insn s | illegal word":
         "The word is decoded; one that is no row is an illegal instruction",
+    "hart/specs/Step kind_effect: where_all (asked k word insn s) (does k insn s)":
+        "the instruction's own checks are made, in the order of the lists below",
+    "hart/specs/Looks where_all: unless_fault (first_false conditions) effect":
+        "The first that fails is the trap, and nothing else changes",
     "hart/specs/Effect done_at: record s {scrs = moved address s.scrs; csrs = counted s.csrs}":
         "The instruction is done: PCC's address becomes that of the next instruction, or the target of a jump",
     "hart/specs/Effect counted: cycle_counted (instruction_counted c)": "mcycle and minstret are one more",
     "hart/specs/SystemRows csr_writes: true | true | not (field == 0)":
         "CSRRW and CSRRWI always write; the forms that set or clear bits write unless their field rs1 is 0",
-    "hart/specs/SystemRows special_done: illegal word | if insn.rs1 == 0 then Write (record {rd = insn.rd; value = old}) else Special "
-    "(record {rd = insn.rd; old = old; number = insn.rs2; value = register s.registers insn.rs1})":
+    "hart/specs/SystemRows special_done: if insn.rs1 == 0 then Write (record {rd = insn.rd; value = old}) else Special (record {rd = "
+    "insn.rd; old = old; number = insn.rs2; value = register s.registers insn.rs1})":
         "CSpecialRW reads the register into cd, and writes cs1 into it unless its field rs1 is 0",
-    "hart/specs/SystemRows return_effect: unless_refused (return_fault s.scrs) pcc_register word (Return (is_sentry s.scrs.mepcc))":
+    "hart/specs/SystemRows return_asked: asked_of_register pcc_register word (return_checks s.scrs)":
         "a fault names PCC",
-    "hart/specs/SystemRows csr_effect: unless_refused (csr_fault s.scrs (csr_number insn) (csr_writes insn.row insn.rs1)) pcc_register "
-    "word (csr_done (csr_value s.csrs s.scrs (interrupts_of s.devices) (csr_number insn)) word insn s)":
+    "hart/specs/SystemRows csr_asked: asked_of_register pcc_register word (csr_checks s.scrs (csr_number insn) (csr_writes insn.row "
+    "insn.rs1))":
         "a fault names PCC",
-    "hart/specs/SystemRows special_effect: unless_refused (scr_fault s.scrs insn.rs2 (not (insn.rs1 == 0))) (special_register insn.rs2) "
-    "word (special_done (scr_value s.scrs insn.rs2) word insn s)":
+    "hart/specs/SystemRows special_asked: asked_of_register (special_register insn.rs2) word (scr_checks s.scrs insn.rs2 (not (insn.rs1 "
+    "== 0)))":
         "a fault names the special register",
     "special_regs/specs/Traps trap_target: placed_at (entry_address f (value_address v)) (sentry_opened v)":
         "PCC becomes MTCC's capability with the entry as its address",
@@ -256,13 +269,13 @@ DEFINITIONS = {
         "An interrupt is pending if MIE is 1 and its bit is 1 in mie and in mip",
     "cap_bounds/specs/CapValue is_sealed: if value_otype v == unsealed_type then false else true":
         "A value is sealed unless its type is the unsealed one",
-    "hart/specs/JumpRows invoke_effect: let code : CapValue = register s.registers insn.rs1 in let datum : CapValue = register "
-    "s.registers insn.rs2 in unless_fault (invoke_fault code insn.rs1 datum insn.rs2) (Enter (record {rd = 31; link = opened "
-    "datum; code = opened code; target = invoke_target code; sealed = true}))":
+    "hart/specs/JumpRows invoke_asked: invoke_checks (register s.registers insn.rs1) insn.rs1 (register s.registers insn.rs2) insn.rs2; "
+    "invoke_done: let code : CapValue = register s.registers insn.rs1 in let datum : CapValue = register s.registers insn.rs2 in Enter "
+    "(record {rd = 31; link = opened datum; code = opened code; target = invoke_target code; sealed = true})":
         "PCC becomes cs1, unsealed, at the target, and register 31 becomes cs2, unsealed",
-    "hart/specs/JumpRows enter_effect: let v : CapValue = register s.registers insn.rs1 in unless_fault (jump_fault v insn.rs1 "
-    "insn.imm) (Enter (record {rd = insn.rd; link = sentry_link s; code = opened v; target = jump_target (value_address v) "
-    "insn.imm; sealed = is_sealed v;}))":
+    "hart/specs/JumpRows enter_asked: jump_checks (register s.registers insn.rs1) insn.rs1 insn.imm; enter_done: let v : CapValue = "
+    "register s.registers insn.rs1 in Enter (record {rd = insn.rd; link = sentry_link s; code = opened v; target = jump_target "
+    "(value_address v) insn.imm; sealed = is_sealed v;})":
         "PCC becomes the capability, unsealed, at the target, and rd a sentry link",
     "hart/specs/JumpRows sentry_link: seal_entry (at_address s.scrs.pcc (next_of s))":
         "a sentry link is PCC at the next instruction, sealed as an entry",

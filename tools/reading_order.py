@@ -23,7 +23,7 @@ STEP = [
     ("the table of rows", "isa_rows/specs/Line, Forms, Shape, Insn, Kind, Decoded"),
     ("integer rows", "alu/specs/Integer"),
     ("capability rows", "cap_insns/specs/CapabilityRows"),
-    ("faults, and which comes first", "base/specs/Registers, Fault, FirstFault; cap_checks/specs/Access, FirstFault"),
+    ("faults, and which comes first", "base/specs/Registers, Fault, FirstFault; cap_checks/specs/Access, Question, FirstFault"),
     ("special registers and traps",
      "special_regs/specs/Scrs, Csrs, Numbered, Mtvec, CsrValues, Writes, Refusals, Interrupts, Traps"),
     ("devices", "devices/specs/Devices"),

@@ -1,14 +1,14 @@
 -- The effect of every instruction that is fetched is derived: one line a kind of row.
 use Rattle.std.proofs.Common.{◌≡◌, ℕ, ◌+◌, ◌%◌, ◌^◌, ◌<◌, ◌≤◌, Bool, true, false, eqb, leb, not, ◌&&◌, ◌||◌, Option, None, Some, refl}
-use Rattle.std.proofs.Common.{subst, arith, lit≤, inl, inr}
+use Rattle.std.proofs.Common.{cond, subst, arith, lit≤, inl, inr}
 use Rattle.std.specs.Prelude.{IfSome, List, [], ◌∷◌}
+use Rattle.std.specs.Option.{unwrap_or}
 use Rattle.std.proofs.lemmas.Bool.{and_parts, both_ways, cond_both, eqb-true, le-leb, leb-true, not-true, or_cases, true≢false}
 use Rattle.base.specs.declared.fault.Fault.{Fault}
 use Rattle.base.specs.declared.cause.Cause.TheVariants as cause
 use Rattle.base.specs.declared.registers.scr.TheConstants.{PCC, MTCC, MTDC, MSCRATCHC, MEPCC}
 use Rattle.base.specs.declared.size.Size.{Size}
 use Rattle.base.specs.declared.size.Size.TheVariants.{Byte, Half, Word, Double}
-use Rattle.base.specs.Fault.{fault}
 use Rattle.base.specs.FirstFaultLaws.{EachHolds, first_fault-none}
 use Rattle.base.specs.FirstFault.{first_fault}
 use Rattle.base.specs.Registers.{is_csr, is_scr, pcc_register, special_register}
@@ -24,17 +24,14 @@ use Rattle.cap_rights.specs.DerivedLaws.{derived-at_address, derived-seal_entry,
 use Rattle.cap_checks.specs.Access.{stored_of, width_of, needed}
 use Rattle.cap_checks.specs.declared.access.Access.{Access}
 use Rattle.cap_checks.specs.declared.access.Access.TheVariants as access
-use Rattle.cap_checks.specs.FirstFault.{holds, access_checks, access_fault, fetch_checks, fetch_fault, target_fault, jump_target}
-use Rattle.cap_checks.specs.FirstFault.{jump_fault}
-use Rattle.cap_checks.specs.FirstFault.{invoke_fault}
+use Rattle.cap_checks.specs.declared.question.Condition.{Condition}
+use Rattle.cap_checks.specs.Question.{judged, first_false}
+use Rattle.cap_checks.specs.FirstFault.{holds, access_checks, access_fault, fetch_checks, fetch_fault, target_checks, jump_target}
 use Rattle.tagged_memory.specs.Memory.{is_in_ram, has_tag, word_at}
-use Rattle.devices.specs.Devices.{read_fault, write_fault, interrupts_of}
-use Rattle.devices.specs.declared.fault.DeviceFault.{DeviceFault}
-use Rattle.special_regs.specs.CsrValues.{csr_value}
 use Rattle.special_regs.specs.Numbered.{value_at}
-use Rattle.special_regs.specs.Refusals.{has_system_access, csr_fault, scr_fault, return_fault, is_read_only}
+use Rattle.special_regs.specs.Refusals.{has_system_access, csr_checks, csr_fault, scr_checks, scr_fault, return_checks, return_fault}
+use Rattle.special_regs.specs.Refusals.{is_read_only}
 use Rattle.special_regs.specs.Scrs.{scr_value, scr_values}
-use Rattle.special_regs.specs.Traps.{is_sentry}
 use Rattle.special_regs.specs.declared.refusal.SpecialFault.{SpecialFault}
 use Rattle.special_regs.specs.declared.refusal.SpecialFault.TheVariants.{S1, S2}
 use Rattle.alu.specs.Integer.{branch_result}
@@ -46,23 +43,27 @@ use Rattle.isa_rows.specs.declared.operands.Insn.{Insn}
 use Rattle.isa_rows.specs.declared.rows.Row.{Row}
 use Rattle.isa_rows.specs.declared.rows.Row.TheVariants.{CUnseal}
 use Rattle.hart.specs.declared.effect.Effect.{Effect}
-use Rattle.hart.specs.declared.effect.Effect.TheVariants.{Trap, Nothing, Write, Jump, Link, Store, StoreCapability, Special, Return}
+use Rattle.hart.specs.declared.effect.Effect.TheVariants.{Nothing, Write, Jump, Store, DeviceStore, Special}
 use Rattle.hart.specs.Accesses.{size_of, through_rs1}
 use Rattle.hart.specs.ComputeRows.{integer_effect, mul_div_effect, written_by, capability_effect, auipc_effect}
 use Rattle.hart.specs.IsState.{IsState}
-use Rattle.hart.specs.JumpRows.{branch_effect, sentry_link, link_of, link_effect, jal_effect, enter_effect, jalr_effect, invoke_effect}
-use Rattle.hart.specs.Looks.{number_in, in_capability_mode, next_of, unless_fault, unless_refused}
-use Rattle.hart.specs.MemoryRows.{place_of, authority_through, authority_of, authority_number_of, device_load, mapped_load, load_effect}
-use Rattle.hart.specs.MemoryRows.{device_store, stored_number, mapped_store, store_effect, loaded_capability, mapped_capability_load}
-use Rattle.hart.specs.MemoryRows.{load_capability_effect, mapped_capability_store, store_capability_effect}
+use Rattle.hart.specs.AskedLaws.{access_asked-none, register-none}
+use Rattle.hart.specs.JumpRows.{branch_effect, sentry_link, link_of, link_asked, link_done, link_effect, jal_target, enter_asked, enter_done}
+use Rattle.hart.specs.JumpRows.{enter_effect, jalr_target, jalr_effect, invoke_asked, invoke_done, invoke_effect}
+use Rattle.hart.specs.Looks.{number_in, in_capability_mode, next_of, unless_fault, where_all}
+use Rattle.hart.specs.MemoryRows.{place_of, authority_through, authority_of, authority_number_of, access_asked, load_asked, load_done}
+use Rattle.hart.specs.MemoryRows.{load_effect, stored_number, stores_to, store_asked, store_done, store_effect, loaded_capability}
+use Rattle.hart.specs.MemoryRows.{capability_at, load_capability_asked, load_capability_done, load_capability_effect}
+use Rattle.hart.specs.MemoryRows.{store_capability_asked, store_capability_done, store_capability_effect}
 use Rattle.hart.specs.Registers.{register}
 use Rattle.hart.specs.State.{State, pc_of}
-use Rattle.hart.specs.Step.{kind_effect}
-use Rattle.hart.specs.SystemRows.{csr_number, csr_writes, csr_done, csr_effect, special_done, special_effect, return_effect}
+use Rattle.hart.specs.Step.{asked, does, kind_effect}
+use Rattle.hart.specs.SystemRows.{asked_of_register, csr_number, csr_writes, csr_held, csr_done, csr_effect, special_held, special_done}
+use Rattle.hart.specs.SystemRows.{special_effect, return_done, return_effect}
 use Rattle.authority.specs.Reachable.{IsSpecial, IsRoot, in_register, in_pcc, in_ddc, in_mtcc, in_mtdc, in_mscratchc, in_mepcc, IsReachable}
 use Rattle.authority.specs.Reachable.{from_root}
 use Rattle.authority.specs.Reachable.{from_granule}
-use Rattle.authority.specs.Authority.{IsWritable, HasSystem}
+use Rattle.authority.specs.Authority.{HasSystem}
 use Rattle.authority.specs.Grounded.{IsGrounded, IsGroundedIfTagged}
 use Rattle.authority.specs.GroundedLaws.{grounded-reachable, grounded-derived, grounded-made}
 use Rattle.authority.specs.FrameLaws.{grounded-register, grounded-pcc, grounded-ddc, grounded-special}
@@ -74,11 +75,12 @@ unless_fault-derives : (f : Option Fault) (e : Effect CapValue) (s : State) → 
 unless_fault-derives None e s derives = derives refl
 unless_fault-derives (Some f) e s derives = tt
 
-unless_refused-derives : (f : Option SpecialFault) (n word : ℕ) (e : Effect CapValue) (s : State) → (f ≡ None → Derives e s)
-    → Derives (unless_refused f n word e) s
-unless_refused-derives None n word e s derives = derives refl
-unless_refused-derives (Some S1) n word e s derives = tt
-unless_refused-derives (Some S2) n word e s derives = tt
+-- the conditions of a system register
+register-derives : (register word : ℕ) (checks : List (Bool × SpecialFault)) (e : Effect CapValue) (s : State)
+    → (first_fault checks ≡ None → Derives e s) → Derives (where_all (asked_of_register register word checks) e) s
+register-derives register word checks e s derives =
+    unless_fault-derives (first_false (asked_of_register register word checks)) e s
+    (λ none. derives (register-none register word checks e none))
 
 -- ---- what passes its checks
 
@@ -94,7 +96,7 @@ pub allowed : (authority : CapValue) (number : ℕ) (a : Access) (address : ℕ)
     → IsAllowed authority (needed a) address (width_of a)
 unfolding access_fault holds
 allowed authority number a address none =
-    let all : EachHolds (access_checks authority number a address) = first_fault-none (access_checks authority number a address) none in
+    let all : EachHolds (judged (access_checks authority number a address)) = first_fault-none (judged (access_checks authority number a address)) none in
     let bounds =
     and_parts (leb (value_base authority) address) (leb (address + width_of a) (value_top authority)) all.1.1.1.1.1.0 in
     record {
@@ -116,7 +118,7 @@ pub record IsFetched (s : State) : Type 0 where
 pub fetched-pcc : (s : State) → fetch_fault s.scrs.pcc ≡ None → IsFetched s
 unfolding fetch_fault holds
 fetched-pcc s none =
-    let all : EachHolds (fetch_checks s.scrs.pcc) = first_fault-none (fetch_checks s.scrs.pcc) none in
+    let all : EachHolds (judged (fetch_checks s.scrs.pcc)) = first_fault-none (judged (fetch_checks s.scrs.pcc)) none in
     let bounds =
     and_parts (leb (value_base s.scrs.pcc) (pc_of s)) (leb (pc_of s + 4) (value_top s.scrs.pcc)) all.1.1.1.0 in
     record {
@@ -258,43 +260,41 @@ module _ (s : State) (is : IsState s) (insn : Insn) where
   link_effect-derives : (rd target : ℕ) → Derives (link_effect rd target s) s
   unfolding link_effect
   link_effect-derives rd target =
-      unless_fault-derives (target_fault s.scrs.pcc target) (Link (record { rd = rd; link = link_of s; target = target })) s
-      (λ _. grounded-link_of s)
+      unless_fault-derives (first_false (link_asked target s)) (link_done rd target s) s (λ _. grounded-link_of s)
 
   branch_effect-derives : Derives (branch_effect insn s) s
   unfolding branch_effect
   branch_effect-derives =
-      let target : ℕ = jump_target (pc_of s) insn.imm in
-      cond_both (branch_result insn.row (number_in s insn.rs1) (number_in s insn.rs2))
-      (unless_fault (target_fault s.scrs.pcc target) (Jump target)) Nothing (λ e. Derives e s)
-      (λ _. unless_fault-derives (target_fault s.scrs.pcc target) (Jump target) s (λ _. tt)) (λ _. tt)
-
-  jal_effect-derives : Derives (jal_effect insn s) s
-  unfolding jal_effect
-  jal_effect-derives = link_effect-derives insn.rd (jump_target (pc_of s) insn.imm)
+      elim (branch_result insn.row (number_in s insn.rs1) (number_in s insn.rs2)) as
+      (λ b. Derives (where_all (cond b (target_checks s.scrs.pcc (jump_target (pc_of s) insn.imm)) [])
+      (cond b (Jump (jump_target (pc_of s) insn.imm)) Nothing)) s) [
+        | true ↦ unless_fault-derives (first_false (target_checks s.scrs.pcc (jump_target (pc_of s) insn.imm)))
+            (Jump (jump_target (pc_of s) insn.imm)) s (λ _. tt)
+        | false ↦ tt
+      ]
 
   enter_effect-derives : Derives (enter_effect insn s) s
   unfolding enter_effect
   enter_effect-derives =
       let v : CapValue = register s.registers insn.rs1 in
-      unless_fault-derives (jump_fault v insn.rs1 insn.imm) _ s
+      unless_fault-derives (first_false (enter_asked insn s)) (enter_done insn s) s
       (λ _. λ unsealed. (
         grounded-sentry_link s,
         grounded-derived s (opened v) v (grounded-register s insn.rs1) (derived-opened v unsealed),
       ))
 
   jalr_effect-derives : Derives (jalr_effect insn s) s
-  unfolding jalr_effect
+  unfolding jalr_effect enter_effect link_effect
   jalr_effect-derives =
-      cond_both (in_capability_mode s) (enter_effect insn s) (link_effect insn.rd (jump_target (number_in s insn.rs1) insn.imm) s)
-      (λ e. Derives e s) (λ _. enter_effect-derives) (λ _. link_effect-derives insn.rd (jump_target (number_in s insn.rs1) insn.imm))
+      elim (in_capability_mode s) as
+      (λ b. Derives (where_all (cond b (enter_asked insn s) (link_asked (jalr_target insn s) s))
+      (cond b (enter_done insn s) (link_done insn.rd (jalr_target insn s) s))) s)
+      [ true ↦ enter_effect-derives | false ↦ link_effect-derives insn.rd (jalr_target insn s) ]
 
   invoke_effect-derives : Derives (invoke_effect insn s) s
   unfolding invoke_effect
   invoke_effect-derives =
-      let code : CapValue = register s.registers insn.rs1 in
-      let datum : CapValue = register s.registers insn.rs2 in
-      unless_fault-derives (invoke_fault code insn.rs1 datum insn.rs2) _ s (λ _. λ never. absurd (true≢false never))
+      unless_fault-derives (first_false (invoke_asked insn s)) (invoke_done insn s) s (λ _. λ never. absurd (true≢false never))
 
   -- ---- memory
 
@@ -308,22 +308,15 @@ module _ (s : State) (is : IsState s) (insn : Insn) where
         opens = record { unsealed = allows.unsealed; stores = allows.permitted; base = omega arith; top = omega arith };
       }
 
-  device_load-derives : (f : Option DeviceFault) (rd address : ℕ) (size : Size) → Derives (device_load f rd address size s) s
-  device_load-derives None rd address size = λ tagged. cc
-  device_load-derives (Some refusal) rd address size = tt
-
-  mapped_load-derives : (address : ℕ) (size : Size) → Derives (mapped_load insn address size s) s
-  unfolding mapped_load
-  mapped_load-derives address size =
-      cond_both (is_in_ram s.memory address (bytes_of size)) _ (device_load (read_fault address (bytes_of size)) insn.rd address size s)
-      (λ e. Derives e s) (λ _. λ tagged. cc) (λ _. device_load-derives (read_fault address (bytes_of size)) insn.rd address size)
+  load_done-derives : (address : ℕ) (size : Size) → Derives (load_done insn address size s) s
+  unfolding load_done
+  load_done-derives address size =
+      cond_both (is_in_ram s.memory address (bytes_of size)) _ _ (λ e. Derives e s) (λ _. λ tagged. cc) (λ _. λ tagged. cc)
 
   load_effect-derives : Derives (load_effect insn s) s
   unfolding load_effect
   load_effect-derives =
-      unless_fault-derives (access_fault (authority_of insn s) (authority_number_of insn s) (access.Load (size_of insn.row))
-      (place_of insn s)) _ s
-      (λ _. mapped_load-derives (place_of insn s) (size_of insn.row))
+      unless_fault-derives (first_false (load_asked insn s)) _ s (λ _. load_done-derives (place_of insn s) (size_of insn.row))
 
   some_byte : (address : ℕ) (size : Size) → address < address + bytes_of size
   some_byte address Byte = omega arith
@@ -331,31 +324,28 @@ module _ (s : State) (is : IsState s) (insn : Insn) where
   some_byte address Word = omega arith
   some_byte address Double = omega arith
 
-  device_store-derives : (f : Option DeviceFault) (address : ℕ) (size : Size) (number : ℕ) → IsWritable s address
-      → Derives (device_store f address size number) s
-  device_store-derives None address size number writable = writable
-  device_store-derives (Some refusal) address size number writable = tt
-
-  mapped_store-derives : (address : ℕ) (size : Size) (number : ℕ) → MayWrite s address (bytes_of size)
-      → Derives (mapped_store address size number s) s
-  unfolding mapped_store
-  mapped_store-derives address size number may =
+  store_done-derives : (address : ℕ) (size : Size) (number : ℕ) → MayWrite s address (bytes_of size)
+      → Derives (store_done address size number s) s
+  unfolding store_done
+  store_done-derives address size number may =
       cond_both (is_in_ram s.memory address (bytes_of size)) (Store (stored_number address size number))
-      (device_store (write_fault address (bytes_of size)) address size number) (λ e. Derives e s)
-      (λ _. may)
-      (λ _. device_store-derives (write_fault address (bytes_of size)) address size number
-      (may address (omega arith) (some_byte address size)))
+      (DeviceStore (stored_number address size number)) (λ e. Derives e s) (λ _. may)
+      (λ _. may address (omega arith) (some_byte address size))
+
+  -- an access that its authority and the map allow
+  access-allowed : (a : Access) (mapped : Condition) → first_false (access_asked a mapped insn s) ≡ None
+      → IsAllowed (authority_of insn s) (needed a) (place_of insn s) (width_of a)
+  access-allowed a mapped none =
+      allowed (authority_of insn s) (authority_number_of insn s) a (place_of insn s) (access_asked-none a mapped insn s none).0
 
   store_effect-derives : Derives (store_effect insn s) s
   unfolding store_effect
   store_effect-derives =
-      let authority : CapValue = authority_of insn s in
-      let number : ℕ = authority_number_of insn s in
       let size : Size = size_of insn.row in
       let place : ℕ = place_of insn s in
-      unless_fault-derives (access_fault authority number (access.Store size) place) _ s
-      (λ none. mapped_store-derives place size (number_in s insn.rs2)
-      (may_write place (bytes_of size) (allowed authority number (access.Store size) place none)))
+      unless_fault-derives (first_false (store_asked insn s)) _ s
+      (λ none. store_done-derives place size (number_in s insn.rs2)
+      (may_write place (bytes_of size) (access-allowed (access.Store size) (stores_to place size s) none)))
 
   grounded-loaded : (address : ℕ) → IsAllowed (authority_of insn s) permission.Load address 16
       → IsGroundedIfTagged s (loaded_capability (authority_of insn s) address s.memory)
@@ -376,82 +366,64 @@ module _ (s : State) (is : IsState s) (insn : Insn) where
       grounded-reachable s (value_of (word_at s.memory address) true)
       (from_granule {c = authority} address (reachable-authority s insn allows.tagged) opens (record { tagged = parts.0; value = refl })))
 
-  mapped_capability_load-derives : (address : ℕ) → IsAllowed (authority_of insn s) permission.Load address 16
-      → Derives (mapped_capability_load (authority_of insn s) insn.rd address s) s
-  unfolding mapped_capability_load
-  mapped_capability_load-derives address allows =
-      cond_both (is_in_ram s.memory address 16) _ (Trap (fault cause.LoadAccess address)) (λ e. Derives e s)
-      (λ _. grounded-loaded address allows) (λ _. tt)
-
   load_capability_effect-derives : Derives (load_capability_effect insn s) s
-  unfolding load_capability_effect
+  unfolding load_capability_effect load_capability_done
   load_capability_effect-derives =
-      let authority : CapValue = authority_of insn s in
-      let number : ℕ = authority_number_of insn s in
-      let place : ℕ = place_of insn s in
-      unless_fault-derives (access_fault authority number access.LoadCapability place) _ s
-      (λ none. mapped_capability_load-derives place (allowed authority number access.LoadCapability place none))
-
-  mapped_capability_store-derives : (address : ℕ) (v : CapValue) → MayWrite s address 16 → IsGroundedIfTagged s v
-      → Derives (mapped_capability_store address v s) s
-  unfolding mapped_capability_store
-  mapped_capability_store-derives address v may earned =
-      cond_both (is_in_ram s.memory address 16) (StoreCapability (record { address = address; value = v }))
-      (Trap (fault cause.StoreAccess address)) (λ e. Derives e s)
-      (λ _. (may, earned)) (λ _. tt)
+      unless_fault-derives (first_false (load_capability_asked insn s)) _ s
+      (λ none. grounded-loaded (place_of insn s)
+      (access-allowed access.LoadCapability (capability_at cause.LoadAccess (place_of insn s) s) none))
 
   store_capability_effect-derives : Derives (store_capability_effect insn s) s
-  unfolding store_capability_effect
+  unfolding store_capability_effect store_capability_done
   store_capability_effect-derives =
-      let authority : CapValue = authority_of insn s in
-      let number : ℕ = authority_number_of insn s in
-      let place : ℕ = place_of insn s in
-      let v : CapValue = register s.registers insn.rs2 in
-      unless_fault-derives (access_fault authority number (access.StoreCapability (stored_of v)) place) _ s
-      (λ none. mapped_capability_store-derives place v
-      (may_write place 16 (allowed authority number (access.StoreCapability (stored_of v)) place none))
-      (grounded-register s insn.rs2))
+      let a : Access = access.StoreCapability (stored_of (register s.registers insn.rs2)) in
+      unless_fault-derives (first_false (store_capability_asked insn s)) _ s
+      (λ none. (
+        may_write (place_of insn s) 16 (access-allowed a (capability_at cause.StoreAccess (place_of insn s) s) none),
+        grounded-register s insn.rs2,
+      ))
 
   -- ---- system registers
 
-  csr_done-derives : (held : Option ℕ) (word : ℕ) → HasSystem s → Derives (csr_done held word insn s) s
+  csr_done-derives : (old : ℕ) → HasSystem s → Derives (csr_done old insn s) s
   unfolding csr_done
-  csr_done-derives None word has = tt
-  csr_done-derives (Some old) word has =
+  csr_done-derives old has =
       cond_both (csr_writes insn.row insn.rs1) _ (Write (record { rd = insn.rd; value = integer old })) (λ e. Derives e s)
       (λ _. (grounded-integer s old, has)) (λ _. grounded-integer s old)
 
   csr_effect-derives : (word : ℕ) → IsFetched s → Derives (csr_effect word insn s) s
-  unfolding csr_effect
+  unfolding csr_effect csr_fault
   csr_effect-derives word fetched =
       let writes : Bool = csr_writes insn.row insn.rs1 in
-      unless_refused-derives (csr_fault s.scrs (csr_number insn) writes) pcc_register word _ s
-      (λ none. csr_done-derives (csr_value s.csrs s.scrs (interrupts_of s.devices) (csr_number insn)) word
-      (system-pcc s fetched (csr-access s (csr_number insn) writes none)))
+      register-derives pcc_register word (csr_checks s.scrs (csr_number insn) writes) _ s
+      (λ none. csr_done-derives (csr_held insn s) (system-pcc s fetched (csr-access s (csr_number insn) writes none)))
 
-  special_done-derives : (held : Option CapValue) (word : ℕ) → (MTCC ≤ insn.rs2 → HasSystem s) → IfSome held (IsGroundedIfTagged s)
-      → Derives (special_done held word insn s) s
+  special_done-derives : (old : CapValue) → (MTCC ≤ insn.rs2 → HasSystem s) → IsGroundedIfTagged s old → Derives (special_done old insn s) s
   unfolding special_done
-  special_done-derives None word system earned = tt
-  special_done-derives (Some old) word system earned =
+  special_done-derives old system earned =
       cond_both (eqb insn.rs1 0) (Write (record { rd = insn.rd; value = old }))
       (Special (record { rd = insn.rd; old = old; number = insn.rs2; value = register s.registers insn.rs1 }))
       (λ e. Derives e s)
       (λ _. earned) (λ _. (earned, grounded-register s insn.rs1, system))
 
+  grounded-held : (o : Option CapValue) → IfSome o (IsGroundedIfTagged s) → IsGroundedIfTagged s (unwrap_or o (integer 0))
+  grounded-held None each = grounded-integer s 0
+  grounded-held (Some v) each = each
+
   special_effect-derives : (word : ℕ) → IsFetched s → Derives (special_effect word insn s) s
-  unfolding special_effect
+  unfolding special_effect scr_fault
   special_effect-derives word fetched =
       let writes : Bool = not (eqb insn.rs1 0) in
-      unless_refused-derives (scr_fault s.scrs insn.rs2 writes) (special_register insn.rs2) word _ s
+      register-derives (special_register insn.rs2) word (scr_checks s.scrs insn.rs2 writes) _ s
       (λ none.
       let system : MTCC ≤ insn.rs2 → HasSystem s = λ high. system-pcc s fetched (scr-access s insn.rs2 writes none high) in
-      special_done-derives (scr_value s.scrs insn.rs2) word system (grounded-scr_value s insn.rs2 system))
+      special_done-derives (special_held insn s) system
+      (grounded-held (scr_value s.scrs insn.rs2) (grounded-scr_value s insn.rs2 system)))
 
   return_effect-derives : (word : ℕ) → IsFetched s → Derives (return_effect word s) s
-  unfolding return_effect
+  unfolding return_effect return_fault
   return_effect-derives word fetched =
-      unless_refused-derives (return_fault s.scrs) pcc_register word (Return (is_sentry s.scrs.mepcc)) s
+      register-derives pcc_register word (return_checks s.scrs) (return_done s) s
       (λ none. (system-pcc s fetched (return-access s none), refl))
 
   -- ---- all rows, by kind
@@ -465,13 +437,13 @@ module _ (s : State) (is : IsState s) (insn : Insn) where
   mul_div_effect-derives = λ tagged. cc
 
   pub kind_effect-derives : (k : Kind) (word : ℕ) → IsFetched s → Derives (kind_effect k word insn s) s
-  unfolding kind_effect
+  unfolding kind_effect asked does branch_effect link_effect jalr_effect enter_effect invoke_effect load_effect store_effect load_capability_effect store_capability_effect csr_effect special_effect return_effect
   kind_effect-derives kind.Integer word fetched = integer_effect-derives
   kind_effect-derives kind.MulDiv word fetched = mul_div_effect-derives
   kind_effect-derives kind.Capability word fetched = capability_effect-derives
   kind_effect-derives kind.Auipc word fetched = auipc_effect-derives
   kind_effect-derives kind.Branch word fetched = branch_effect-derives
-  kind_effect-derives kind.Jal word fetched = jal_effect-derives
+  kind_effect-derives kind.Jal word fetched = link_effect-derives insn.rd (jal_target insn s)
   kind_effect-derives kind.Jalr word fetched = jalr_effect-derives
   kind_effect-derives kind.JalrCap word fetched = enter_effect-derives
   kind_effect-derives kind.Invoke word fetched = invoke_effect-derives

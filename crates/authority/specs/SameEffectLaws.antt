@@ -4,20 +4,27 @@ use Rattle.std.proofs.Common.{Option, None, Some, Ok, Err, lit≤}
 use Rattle.std.proofs.lemmas.Bool.{cond_both, eqb-true}
 use Rattle.base.specs.Fault.{fault}
 use Rattle.base.specs.Ram.{ram_base}
+use Rattle.std.specs.Prelude.{◌||◌, is_none, List}
+use Rattle.std.specs.Option.{unwrap_or}
 use Rattle.base.specs.Registers.{pcc_register, special_register}
 use Rattle.base.specs.Size.{bytes_of}
+use Rattle.base.specs.FirstFault.{first_fault}
+use Rattle.base.specs.declared.cause.Cause.{Cause}
 use Rattle.base.specs.declared.cause.Cause.TheVariants as cause
 use Rattle.base.specs.declared.fault.Fault.{Fault}
 use Rattle.base.specs.declared.registers.scr.TheConstants.{PCC, DDC, MTCC, MTDC, MSCRATCHC, MEPCC}
 use Rattle.base.specs.declared.size.Size.{Size}
 use Rattle.cap_bounds.specs.CapValue.{CapValue, value_of, integer}
 use Rattle.cap_checks.specs.Access.{stored_of}
-use Rattle.cap_checks.specs.FirstFault.{access_fault, fetch_fault}
+use Rattle.cap_checks.specs.Question.{asks, first_false}
+use Rattle.cap_checks.specs.declared.question.Question.TheVariants.{Ram, RamOrDevice}
+use Rattle.cap_checks.specs.declared.question.Condition.{Condition}
+use Rattle.cap_checks.specs.FirstFault.{fetch_fault}
+use Rattle.cap_checks.specs.declared.access.Access.{Access}
 use Rattle.cap_checks.specs.declared.access.Access.TheVariants as access
 use Rattle.cap_rights.specs.Permission.{permits}
 use Rattle.cap_rights.specs.declared.permission.Permission.TheVariants as permission
-use Rattle.devices.specs.Devices.{interrupts_of, read_fault, write_fault}
-use Rattle.devices.specs.declared.fault.DeviceFault.{DeviceFault}
+use Rattle.devices.specs.Devices.{interrupts_of, read_fault, write_fault, value_at}
 use Rattle.isa_rows.specs.Decoded.{insn_of}
 use Rattle.isa_rows.specs.Kind.{kind_of}
 use Rattle.isa_rows.specs.declared.kinds.Kind.{Kind}
@@ -27,7 +34,7 @@ use Rattle.isa_rows.specs.declared.rows.Row.{Row}
 use Rattle.isa_rows.specs.declared.rows.Row.TheVariants.{Csrrwi, Csrrsi, Csrrci}
 use Rattle.special_regs.specs.CsrValues.{csr_value}
 use Rattle.special_regs.specs.Interrupts.{pending}
-use Rattle.special_regs.specs.Refusals.{csr_fault, scr_fault, return_fault}
+use Rattle.special_regs.specs.Refusals.{csr_checks, csr_fault, scr_checks, scr_fault, return_checks, return_fault}
 use Rattle.special_regs.specs.Scrs.{Scrs, scr_value}
 use Rattle.special_regs.specs.Traps.{is_sentry}
 use Rattle.special_regs.specs.declared.interrupts.Interrupt.{Interrupt}
@@ -35,18 +42,19 @@ use Rattle.special_regs.specs.declared.refusal.SpecialFault.{SpecialFault}
 use Rattle.tagged_memory.specs.Memory.{Memory, is_in_ram, has_tag, number_at, word_at}
 use Rattle.hart.specs.Accesses.{size_of, loaded}
 use Rattle.hart.specs.ComputeRows.{integer_effect, mul_div_effect, capability_effect, auipc_effect}
-use Rattle.hart.specs.JumpRows.{branch_effect, link_of, link_effect, jal_effect, enter_effect, jalr_effect, invoke_effect}
-use Rattle.hart.specs.Looks.{number_in, unless_fault, unless_refused}
-use Rattle.hart.specs.MemoryRows.{place_of, authority_of, authority_number_of, device_load, mapped_load, load_effect, stored_number}
-use Rattle.hart.specs.MemoryRows.{device_store, mapped_store, store_effect, loaded_capability, mapped_capability_load}
-use Rattle.hart.specs.MemoryRows.{load_capability_effect, mapped_capability_store, store_capability_effect}
+use Rattle.hart.specs.AskedLaws.{access_asked-none, register-none}
+use Rattle.hart.specs.JumpRows.{branch_effect, link_of, link_effect, jal_target, enter_effect, jalr_effect, invoke_effect}
+use Rattle.hart.specs.Looks.{number_in, unless_fault, where_all}
+use Rattle.hart.specs.MemoryRows.{place_of, authority_of, access_asked, loads_from, load_asked, load_done, load_effect, stored_number}
+use Rattle.hart.specs.MemoryRows.{stores_to, store_asked, store_done, store_effect, loaded_capability, capability_at, load_capability_asked}
+use Rattle.hart.specs.MemoryRows.{load_capability_done, load_capability_effect, store_capability_done, store_capability_effect}
 use Rattle.hart.specs.Registers.{register}
 use Rattle.hart.specs.State.{State, pc_of}
-use Rattle.hart.specs.Step.{kind_effect, fetched, decoded_effect, fetched_effect, decided, step_effect}
-use Rattle.hart.specs.SystemRows.{csr_number, csr_source, csr_writes, csr_new, csr_done, csr_effect, special_done, special_effect}
-use Rattle.hart.specs.SystemRows.{return_effect}
+use Rattle.hart.specs.Step.{asked, does, kind_effect, fetched, decoded_effect, fetched_effect, decided, step_effect}
+use Rattle.hart.specs.SystemRows.{asked_of_register, csr_number, csr_source, csr_writes, csr_new, csr_held, csr_done, csr_effect}
+use Rattle.hart.specs.SystemRows.{special_held, special_done, special_effect, return_effect}
 use Rattle.hart.specs.declared.effect.Effect.{Effect}
-use Rattle.hart.specs.declared.effect.Effect.TheVariants.{Trap, Write, Store, StoreCapability, Csr, Return}
+use Rattle.hart.specs.declared.effect.Effect.TheVariants.{Write, Store, DeviceLoad, DeviceStore, Csr, Return}
 use Rattle.authority.specs.Authority.{SameScrs}
 use Rattle.authority.specs.RowLaws.{csr-access, scr-access, return-access}
 use Rattle.authority.specs.WorldLooks.{IsNext, LoadsCapability, SameLooks}
@@ -94,10 +102,14 @@ unless_fault-same : (f : Option Fault) (x y : Effect CapValue) → (f ≡ None �
 unless_fault-same None x y same = same refl
 unless_fault-same (Some f) x y same = refl
 
-unless_refused-same : (f : Option SpecialFault) (n word : ℕ) (x y : Effect CapValue) → (f ≡ None → y ≡ x)
-    → unless_refused f n word y ≡ unless_refused f n word x
-unless_refused-same None n word x y same = same refl
-unless_refused-same (Some f) n word x y same = refl
+where_all-same : (conditions : List Condition) (x y : Effect CapValue) → (first_false conditions ≡ None → y ≡ x)
+    → where_all conditions y ≡ where_all conditions x
+where_all-same conditions x y same = unless_fault-same (first_false conditions) x y same
+
+register-same : (register word : ℕ) (checks : List (Bool × SpecialFault)) (x y : Effect CapValue) → (first_fault checks ≡ None → y ≡ x)
+    → where_all (asked_of_register register word checks) y ≡ where_all (asked_of_register register word checks) x
+register-same register word checks x y same =
+    where_all-same (asked_of_register register word checks) x y (λ none. same (register-none register word checks x none))
 
 if-same : {A : Type 0} (b c : Bool) (x y z : A) → c ≡ b → (b ≡ true → y ≡ x) → cond c y z ≡ cond b x z
 if-same true c x y z same equal = ap (λ d. cond d y z) same ∙ equal refl
@@ -144,16 +156,16 @@ module _ (s : State) (m : Memory) (x : Scrs) (looks : SameLooks s (elsewise s m 
   unfolding branch_effect
   branch_effect-same = refl
 
-  jal_effect-same : jal_effect insn (elsewise s m x) ≡ jal_effect insn s
-  unfolding jal_effect link_effect link_of
-  jal_effect-same = refl
+  link_effect-same : (rd target : ℕ) → link_effect rd target (elsewise s m x) ≡ link_effect rd target s
+  unfolding link_effect link_of
+  link_effect-same rd target = refl
 
   enter_effect-same : enter_effect insn (elsewise s m x) ≡ enter_effect insn s
   unfolding enter_effect
   enter_effect-same = refl
 
   jalr_effect-same : jalr_effect insn (elsewise s m x) ≡ jalr_effect insn s
-  unfolding jalr_effect enter_effect link_effect link_of
+  unfolding jalr_effect link_of
   jalr_effect-same = refl
 
   invoke_effect-same : invoke_effect insn (elsewise s m x) ≡ invoke_effect insn s
@@ -161,58 +173,67 @@ module _ (s : State) (m : Memory) (x : Scrs) (looks : SameLooks s (elsewise s m 
   invoke_effect-same = refl
 
   -- loads and stores of data
-  device_load-same : (f : Option DeviceFault) (rd address : ℕ) (size : Size)
-      → device_load f rd address size (elsewise s m x) ≡ device_load f rd address size s
-  device_load-same None rd address size = refl
-  device_load-same (Some refusal) rd address size = refl
+  in_ram : (address size : ℕ) → is_in_ram m address size ≡ is_in_ram s.memory address size
+  in_ram address size = in_ram-same s.memory m address size looks.size
 
-  mapped_load-same : (address : ℕ) (size : Size)
+  -- the map's conditions
+  loads_from-same : (address : ℕ) (size : Size) → loads_from address size (elsewise s m x) ≡ loads_from address size s
+  loads_from-same address size =
+      ap (λ inside. asks (RamOrDevice cause.LoadAccess address) (inside || is_none (read_fault address (bytes_of size))))
+      (in_ram address (bytes_of size))
+
+  stores_to-same : (address : ℕ) (size : Size) → stores_to address size (elsewise s m x) ≡ stores_to address size s
+  stores_to-same address size =
+      ap (λ inside. asks (RamOrDevice cause.StoreAccess address) (inside || is_none (write_fault address (bytes_of size))))
+      (in_ram address (bytes_of size))
+
+  capability_at-same : (otherwise : Cause) (address : ℕ) → capability_at otherwise address (elsewise s m x) ≡ capability_at otherwise address s
+  capability_at-same otherwise address = ap (asks (Ram otherwise address)) (in_ram address 16)
+
+  load_done-same : (address : ℕ) (size : Size)
       → (is_in_ram s.memory address (bytes_of size) ≡ true
       → number_at m address (bytes_of size) ≡ number_at s.memory address (bytes_of size))
-      → mapped_load insn address size (elsewise s m x) ≡ mapped_load insn address size s
-  unfolding mapped_load
-  mapped_load-same address size same =
+      → load_done insn address size (elsewise s m x) ≡ load_done insn address size s
+  unfolding load_done
+  load_done-same address size same =
       let n : ℕ = bytes_of size in
-      let other : Effect CapValue = device_load (read_fault address n) insn.rd address size (elsewise s m x) in
       if-same (is_in_ram s.memory address n) (is_in_ram m address n)
       (Write (record { rd = insn.rd; value = integer (loaded insn.row size (number_at s.memory address n)) }))
       (Write (record { rd = insn.rd; value = integer (loaded insn.row size (number_at m address n)) }))
-      other (in_ram-same s.memory m address n looks.size)
+      (DeviceLoad (record { rd = insn.rd; value = integer (value_at address s.devices); address = address; size = size }))
+      (in_ram address n)
       (λ inside. ap (λ k. Write (record { rd = insn.rd; value = integer (loaded insn.row size k) })) (same inside))
-      ∙ ap (cond (is_in_ram s.memory address n) (Write (record {
-        rd = insn.rd;
-        value = integer (loaded insn.row size (number_at s.memory address n));
-      }))) (device_load-same (read_fault address n) insn.rd address size)
 
   load_effect-same : IsNext s insn → kind_of insn.row ≡ kind.Load → load_effect insn (elsewise s m x) ≡ load_effect insn s
   unfolding load_effect
   load_effect-same next row =
       let place : ℕ = place_of insn s in
       let size : Size = size_of insn.row in
-      unless_fault-same (access_fault (authority_of insn s) (authority_number_of insn s) (access.Load size) place)
-      (mapped_load insn place size s) (mapped_load insn place size (elsewise s m x))
-      (λ none. mapped_load-same place size (λ inside. looks.number insn (record {
+      let a : Access = access.Load size in
+      ap (λ mapped. where_all (access_asked a mapped insn s) (load_done insn place size (elsewise s m x))) (loads_from-same place size)
+      ∙ where_all-same (load_asked insn s) (load_done insn place size s) (load_done insn place size (elsewise s m x))
+      (λ none. load_done-same place size (λ inside. looks.number insn (record {
         next = next;
         row = row;
-        allowed = none;
+        allowed = (access_asked-none a (loads_from place size s) insn s none).0;
         inside = inside;
       })))
 
-  mapped_store-same : (address : ℕ) (size : Size) (number : ℕ)
-      → mapped_store address size number (elsewise s m x) ≡ mapped_store address size number s
-  unfolding mapped_store
-  mapped_store-same address size number =
-      ap (λ inside. cond inside (Store (stored_number address size number))
-      (device_store (write_fault address (bytes_of size)) address size number))
-      (in_ram-same s.memory m address (bytes_of size) looks.size)
+  store_done-same : (address : ℕ) (size : Size) (number : ℕ)
+      → store_done address size number (elsewise s m x) ≡ store_done address size number s
+  unfolding store_done
+  store_done-same address size number =
+      ap (λ inside. cond inside (Store (stored_number address size number)) (DeviceStore (stored_number address size number)))
+      (in_ram address (bytes_of size))
 
   store_effect-same : store_effect insn (elsewise s m x) ≡ store_effect insn s
   unfolding store_effect
   store_effect-same =
       let place : ℕ = place_of insn s in
       let size : Size = size_of insn.row in
-      ap (unless_fault (access_fault (authority_of insn s) (authority_number_of insn s) (access.Store size) place))
-      (mapped_store-same place size (number_in s insn.rs2))
+      ap (λ mapped. where_all (access_asked (access.Store size) mapped insn s) (store_done place size (number_in s insn.rs2) (elsewise s m x)))
+      (stores_to-same place size)
+      ∙ ap (where_all (store_asked insn s)) (store_done-same place size (number_in s insn.rs2))
 
   -- loads and stores of capabilities
   loaded_capability-same : LoadsCapability s insn
@@ -225,49 +246,29 @@ module _ (s : State) (m : Memory) (x : Scrs) (looks : SameLooks s (elsewise s m 
       ∙ ap (value_of (word_at s.memory place))
       (and-same (has_tag s.memory place) (has_tag m place) (permits authority permission.LoadCapability) (looks.tag insn loads))
 
-  mapped_capability_load-same : (is_in_ram s.memory (place_of insn s) 16 ≡ true → LoadsCapability s insn)
-      → mapped_capability_load (authority_of insn s) insn.rd (place_of insn s) (elsewise s m x)
-      ≡ mapped_capability_load (authority_of insn s) insn.rd (place_of insn s) s
-  unfolding mapped_capability_load
-  mapped_capability_load-same loads =
-      let authority : CapValue = authority_of insn s in
-      let place : ℕ = place_of insn s in
-      if-same (is_in_ram s.memory place 16) (is_in_ram m place 16)
-      (Write (record { rd = insn.rd; value = loaded_capability authority place s.memory }))
-      (Write (record { rd = insn.rd; value = loaded_capability authority place m }))
-      (Trap (fault cause.LoadAccess place)) (in_ram-same s.memory m place 16 looks.size)
-      (λ inside. ap (λ v. Write (record { rd = insn.rd; value = v })) (loaded_capability-same (loads inside)))
-
   load_capability_effect-same : IsNext s insn → kind_of insn.row ≡ kind.LoadCapability
       → load_capability_effect insn (elsewise s m x) ≡ load_capability_effect insn s
-  unfolding load_capability_effect
+  unfolding load_capability_effect load_capability_done
   load_capability_effect-same next row =
       let authority : CapValue = authority_of insn s in
       let place : ℕ = place_of insn s in
-      unless_fault-same (access_fault authority (authority_number_of insn s) access.LoadCapability place)
-      (mapped_capability_load authority insn.rd place s) (mapped_capability_load authority insn.rd place (elsewise s m x))
-      (λ none. mapped_capability_load-same (λ inside. record { next = next; row = row; allowed = none; inside = inside }))
-
-  mapped_capability_store-same : (address : ℕ) (v : CapValue)
-      → mapped_capability_store address v (elsewise s m x) ≡ mapped_capability_store address v s
-  unfolding mapped_capability_store
-  mapped_capability_store-same address v =
-      ap (λ inside. cond inside (StoreCapability (record { address = address; value = v })) (Trap (fault cause.StoreAccess address)))
-      (in_ram-same s.memory m address 16 looks.size)
+      let mapped : Condition = capability_at cause.LoadAccess place s in
+      let write : Memory → Effect CapValue = λ k. Write (record { rd = insn.rd; value = loaded_capability authority place k }) in
+      ap (λ c. where_all (access_asked access.LoadCapability c insn s) (write m)) (capability_at-same cause.LoadAccess place)
+      ∙ where_all-same (load_capability_asked insn s) (write s.memory) (write m)
+      (λ none.
+      let both = access_asked-none access.LoadCapability mapped insn s none in
+      ap (λ v. Write (record { rd = insn.rd; value = v }))
+      (loaded_capability-same (record { next = next; row = row; allowed = both.0; inside = both.1 })))
 
   store_capability_effect-same : store_capability_effect insn (elsewise s m x) ≡ store_capability_effect insn s
-  unfolding store_capability_effect
+  unfolding store_capability_effect store_capability_done
   store_capability_effect-same =
       let v : CapValue = register s.registers insn.rs2 in
-      let place : ℕ = place_of insn s in
-      ap (unless_fault (access_fault (authority_of insn s) (authority_number_of insn s) (access.StoreCapability (stored_of v)) place))
-      (mapped_capability_store-same place v)
+      ap (λ c. where_all (access_asked (access.StoreCapability (stored_of v)) c insn s) (store_capability_done (place_of insn s) v))
+      (capability_at-same cause.StoreAccess (place_of insn s))
 
   -- system registers
-  csr_fault-same : (n : ℕ) (writes : Bool) → csr_fault (joined s.scrs x) n writes ≡ csr_fault s.scrs n writes
-  unfolding csr_fault
-  csr_fault-same n writes = refl
-
   csr_source-same : (row : Row) → csr_source row insn (elsewise s m x) ≡ csr_source row insn s
   unfolding csr_source
   csr_source-same Csrrwi = refl
@@ -275,10 +276,9 @@ module _ (s : State) (m : Memory) (x : Scrs) (looks : SameLooks s (elsewise s m 
   csr_source-same Csrrci = refl
   csr_source-same _ = refl
 
-  csr_done-same : (held : Option ℕ) (word : ℕ) → csr_done held word insn (elsewise s m x) ≡ csr_done held word insn s
+  csr_done-same : (old : ℕ) → csr_done old insn (elsewise s m x) ≡ csr_done old insn s
   unfolding csr_done
-  csr_done-same None word = refl
-  csr_done-same (Some old) word =
+  csr_done-same old =
       ap (λ source. cond (csr_writes insn.row insn.rs1) (Csr (record {
         rd = insn.rd;
         old = integer old;
@@ -288,21 +288,14 @@ module _ (s : State) (m : Memory) (x : Scrs) (looks : SameLooks s (elsewise s m 
       (csr_source-same insn.row)
 
   csr_effect-same : (word : ℕ) → fetch_fault s.scrs.pcc ≡ None → csr_effect word insn (elsewise s m x) ≡ csr_effect word insn s
-  unfolding csr_effect
+  unfolding csr_effect csr_fault
   csr_effect-same word passes =
       let n : ℕ = csr_number insn in
       let writes : Bool = csr_writes insn.row insn.rs1 in
-      let held : Scrs → Option ℕ = λ y. csr_value s.csrs y (interrupts_of s.devices) n in
-      ap (λ f. unless_refused f pcc_register word (csr_done (held (joined s.scrs x)) word insn (elsewise s m x))) (csr_fault-same n writes)
-      ∙ unless_refused-same (csr_fault s.scrs n writes) pcc_register word (csr_done (held s.scrs) word insn s)
-      (csr_done (held (joined s.scrs x)) word insn (elsewise s m x))
-      (λ none. ap (λ y. csr_done (held y) word insn (elsewise s m x))
-      (same-joined s.scrs x (looks.scrs passes (csr-access s n writes none)))
-      ∙ csr_done-same (held s.scrs) word)
-
-  scr_fault-same : (n : ℕ) (writes : Bool) → scr_fault (joined s.scrs x) n writes ≡ scr_fault s.scrs n writes
-  unfolding scr_fault
-  scr_fault-same n writes = refl
+      let done : Scrs → Effect CapValue =
+      λ y. csr_done (unwrap_or (csr_value s.csrs y (interrupts_of s.devices) n) 0) insn (elsewise s m x) in
+      register-same pcc_register word (csr_checks s.scrs n writes) (csr_done (csr_held insn s) insn s) (done (joined s.scrs x))
+      (λ none. ap done (same-joined s.scrs x (looks.scrs passes (csr-access s n writes none))) ∙ csr_done-same (csr_held insn s))
 
   scr_value-same : (n : ℕ) → (MTCC ≤ n → SameScrs s.scrs (joined s.scrs x)) → scr_value (joined s.scrs x) n ≡ scr_value s.scrs n
   unfolding scr_value
@@ -316,46 +309,38 @@ module _ (s : State) (m : Memory) (x : Scrs) (looks : SameLooks s (elsewise s m 
       (entry-same (eqb MSCRATCHC n) s.scrs.mscratchc x.mscratchc _ _ (λ e. (there MSCRATCHC (lit≤ tt) e).mscratchc)
       (entry-same (eqb MEPCC n) s.scrs.mepcc x.mepcc None None (λ e. (there MEPCC (lit≤ tt) e).mepcc) refl)))))
 
-  special_done-same : (held : Option CapValue) (word : ℕ) → special_done held word insn (elsewise s m x) ≡ special_done held word insn s
+  special_done-same : (old : CapValue) → special_done old insn (elsewise s m x) ≡ special_done old insn s
   unfolding special_done
-  special_done-same None word = refl
-  special_done-same (Some old) word = refl
+  special_done-same old = refl
 
   special_effect-same : (word : ℕ) → fetch_fault s.scrs.pcc ≡ None
       → special_effect word insn (elsewise s m x) ≡ special_effect word insn s
-  unfolding special_effect
+  unfolding special_effect scr_fault
   special_effect-same word passes =
       let n : ℕ = insn.rs2 in
       let writes : Bool = not (eqb insn.rs1 0) in
-      let register : ℕ = special_register n in
-      let done : Option CapValue → Effect CapValue = λ held. special_done held word insn (elsewise s m x) in
-      ap (λ f. unless_refused f register word (done (scr_value (joined s.scrs x) n))) (scr_fault-same n writes)
-      ∙ unless_refused-same (scr_fault s.scrs n writes) register word (special_done (scr_value s.scrs n) word insn s)
+      let done : Option CapValue → Effect CapValue = λ held. special_done (unwrap_or held (integer 0)) insn (elsewise s m x) in
+      register-same (special_register n) word (scr_checks s.scrs n writes) (special_done (special_held insn s) insn s)
       (done (scr_value (joined s.scrs x) n))
       (λ none. ap done (scr_value-same n (λ high. looks.scrs passes (scr-access s n writes none high)))
-      ∙ special_done-same (scr_value s.scrs n) word)
-
-  return_fault-same : return_fault (joined s.scrs x) ≡ return_fault s.scrs
-  unfolding return_fault
-  return_fault-same = refl
+      ∙ special_done-same (special_held insn s))
 
   return_effect-same : (word : ℕ) → fetch_fault s.scrs.pcc ≡ None → return_effect word (elsewise s m x) ≡ return_effect word s
-  unfolding return_effect
+  unfolding return_effect return_fault
   return_effect-same word passes =
-      ap (λ f. unless_refused f pcc_register word (Return (is_sentry x.mepcc))) return_fault-same
-      ∙ unless_refused-same (return_fault s.scrs) pcc_register word (Return (is_sentry s.scrs.mepcc)) (Return (is_sentry x.mepcc))
+      register-same pcc_register word (return_checks s.scrs) (Return (is_sentry s.scrs.mepcc)) (Return (is_sentry x.mepcc))
       (λ none. ap (λ v. Return (is_sentry v)) (looks.scrs passes (return-access s none)).mepcc)
 
   -- all rows, by kind
   kind_effect-same : (k : Kind) (word : ℕ) → kind_of insn.row ≡ k → IsNext s insn
       → kind_effect k word insn (elsewise s m x) ≡ kind_effect k word insn s
-  unfolding kind_effect
+  unfolding kind_effect asked does branch_effect link_effect jalr_effect enter_effect invoke_effect load_effect store_effect load_capability_effect store_capability_effect csr_effect special_effect return_effect
   kind_effect-same kind.Integer word row next = integer_effect-same
   kind_effect-same kind.MulDiv word row next = mul_div_effect-same
   kind_effect-same kind.Capability word row next = capability_effect-same
   kind_effect-same kind.Auipc word row next = auipc_effect-same
   kind_effect-same kind.Branch word row next = branch_effect-same
-  kind_effect-same kind.Jal word row next = jal_effect-same
+  kind_effect-same kind.Jal word row next = link_effect-same insn.rd (jal_target insn s)
   kind_effect-same kind.Jalr word row next = jalr_effect-same
   kind_effect-same kind.JalrCap word row next = enter_effect-same
   kind_effect-same kind.Invoke word row next = invoke_effect-same

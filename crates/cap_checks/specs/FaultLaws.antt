@@ -11,6 +11,7 @@ use Rattle.base.specs.Registers.{pcc_register}
 use Rattle.cap_bounds.specs.CapValue.{CapValue, value_address}
 use Rattle.cap_checks.specs.declared.access.Access.{Access}
 use Rattle.cap_checks.specs.Access.{width_of, lacking, misaligned}
+use Rattle.cap_checks.specs.Question.{judged}
 use Rattle.cap_checks.specs.FirstFault.{access_checks, access_fault, fetch_checks, fetch_fault, jump_target, target_checks, target_fault}
 use Rattle.cap_checks.specs.FirstFault.{jump_checks, jump_fault, invoke_target, invoke_checks, invoke_fault}
 
@@ -24,7 +25,7 @@ pub access_fault-range : (authority : CapValue) (register : ℕ) (access : Acces
 unfolding access_fault
 access_fault-range authority register access address exists fits =
     let at = λ (what : CheriCause). IsInRange-cheri register what exists in
-    first_fault-each IsInRange (access_checks authority register access address) (
+    first_fault-each IsInRange (judged (access_checks authority register access address)) (
       at forbids.Tag,
       (
         at forbids.Seal,
@@ -48,15 +49,15 @@ pub access_fault-aligned : (authority : CapValue) (register : ℕ) (access : Acc
     → access_fault authority register access address ≡ None → address % width_of access ≡ 0
 unfolding access_fault
 access_fault-aligned authority register access address none =
-    let all : EachHolds (access_checks authority register access address) = first_fault-none
-    (access_checks authority register access address) none in
+    let all : EachHolds (judged (access_checks authority register access address)) = first_fault-none
+    (judged (access_checks authority register access address)) none in
     eqb-true (address % width_of access) 0 all.1.1.1.1.1.1.0
 
 pub fetch_fault-range : (pcc : CapValue) → IfSome (fetch_fault pcc) IsInRange
 unfolding fetch_fault
 fetch_fault-range pcc =
     let at = λ (what : CheriCause). IsInRange-cheri pcc_register what (lit< tt) in
-    first_fault-each IsInRange (fetch_checks pcc) (at forbids.Tag, (at forbids.Seal, (at forbids.Execute, (at forbids.Length, tt))))
+    first_fault-each IsInRange (judged (fetch_checks pcc)) (at forbids.Tag, (at forbids.Seal, (at forbids.Execute, (at forbids.Length, tt))))
 
 -- ---- jumps
 
@@ -64,13 +65,13 @@ module _ (pcc : CapValue) (target : ℕ) where
   pub target_fault-range : target < 2 ^ 64 → IfSome (target_fault pcc target) IsInRange
   unfolding target_fault
   target_fault-range fits =
-      first_fault-each IsInRange (target_checks pcc target)
+      first_fault-each IsInRange (judged (target_checks pcc target))
       (IsInRange-cheri pcc_register forbids.Length (lit< tt), (IsInRange-fault cause.MisalignedJump target fits, tt))
 
   pub target_fault-aligned : target_fault pcc target ≡ None → target % 4 ≡ 0
   unfolding target_fault
   target_fault-aligned none =
-      let all : EachHolds (target_checks pcc target) = first_fault-none (target_checks pcc target) none in
+      let all : EachHolds (judged (target_checks pcc target)) = first_fault-none (judged (target_checks pcc target)) none in
       eqb-true (target % 4) 0 all.1.0
 
 module _ (v : CapValue) (register offset : ℕ) where
@@ -78,7 +79,7 @@ module _ (v : CapValue) (register offset : ℕ) where
   unfolding jump_fault
   jump_fault-range exists =
       let at = λ (what : CheriCause). IsInRange-cheri register what exists in
-      first_fault-each IsInRange (jump_checks v register offset) (
+      first_fault-each IsInRange (judged (jump_checks v register offset)) (
         at forbids.Tag,
         (
           at forbids.Seal,
@@ -98,7 +99,7 @@ module _ (v : CapValue) (register offset : ℕ) where
   pub jump_fault-aligned : jump_fault v register offset ≡ None → jump_target (value_address v) offset % 4 ≡ 0
   unfolding jump_fault
   jump_fault-aligned none =
-      let all : EachHolds (jump_checks v register offset) = first_fault-none (jump_checks v register offset) none in
+      let all : EachHolds (judged (jump_checks v register offset)) = first_fault-none (judged (jump_checks v register offset)) none in
       eqb-true (jump_target (value_address v) offset % 4) 0 all.1.1.1.1.0
 
 module _ (code datum : CapValue) (code_register data_register : ℕ) where
@@ -107,7 +108,7 @@ module _ (code datum : CapValue) (code_register data_register : ℕ) where
   invoke_fault-range code_exists data_exists =
       let at_code = λ (what : CheriCause). IsInRange-cheri code_register what code_exists in
       let at_data = λ (what : CheriCause). IsInRange-cheri data_register what data_exists in
-      first_fault-each IsInRange (invoke_checks code code_register datum data_register) (
+      first_fault-each IsInRange (judged (invoke_checks code code_register datum data_register)) (
         at_code forbids.Tag,
         (
           at_data forbids.Tag,
@@ -142,6 +143,6 @@ module _ (code datum : CapValue) (code_register data_register : ℕ) where
   pub invoke_fault-aligned : invoke_fault code code_register datum data_register ≡ None → invoke_target code % 4 ≡ 0
   unfolding invoke_fault
   invoke_fault-aligned none =
-      let all : EachHolds (invoke_checks code code_register datum data_register) =
-      first_fault-none (invoke_checks code code_register datum data_register) none in
+      let all : EachHolds (judged (invoke_checks code code_register datum data_register)) =
+      first_fault-none (judged (invoke_checks code code_register datum data_register)) none in
       eqb-true (invoke_target code % 4) 0 all.1.1.1.1.1.1.1.1.1.1.0

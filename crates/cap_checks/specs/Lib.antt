@@ -1,5 +1,7 @@
 -- What to read
 pub mod Access
+pub mod Question
 pub mod FirstFault
 -- Laws
+pub mod QuestionLaws
 pub mod FaultLaws

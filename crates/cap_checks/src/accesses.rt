@@ -1,12 +1,45 @@
 ghost use Rattle.std.specs.Prelude.{◌≡◌, ◌<◌, ◌%◌, None, Some, IfOk, IfErr, OnOk};
 ghost use Rattle.cap_checks.specs.Access.{width_of};
-ghost use Rattle.cap_checks.specs.FirstFault.{access_fault};
+ghost use Rattle.cap_checks.specs.FirstFault.{access_fault, access_checks};
 
 use crate::access::Access;
-use crate::conditions::{check, check_bounds, check_permission, check_tag, is_sealed};
+use crate::conditions::{checked, holds, is_sealed, listed};
+use crate::question::{Condition, Question};
 use base::{CheriCause, Fault};
 use cap_bounds::CapRep;
 use cap_rights::{Permission, permits};
+
+/// What an access through an authority asks for, in order.
+macro_rules! asked_of_access {
+    ($form:ident: $authority:ident, $register:ident, $access:ident, $address:ident) => {
+        $form! {
+            Question::Right { register: $register, cause: CheriCause::Tag } => $authority.tag();
+            Question::Right { register: $register, cause: CheriCause::Seal } => !is_sealed($authority);
+            Question::Right { register: $register, cause: $access.lacking() } => permits($authority, $access.needed());
+            Question::Right { register: $register, cause: CheriCause::StoreCapability } =>
+                !$access.stores_capability() || permits($authority, Permission::StoreCapability);
+            Question::Right { register: $register, cause: CheriCause::StoreLocalCapability } =>
+                !$access.stores_local() || permits($authority, Permission::StoreLocalCapability);
+            Question::Bounds { register: $register, address: $address, size: $access.width() } =>
+                holds($authority, $address, $access.width());
+            Question::Multiple { cause: $access.misaligned(), address: $address, size: $access.width() } =>
+                $address % $access.width() == 0;
+        }
+    };
+}
+
+/// Lists what an access through an authority asks for: tag, seal, Load or Store, Store_Capability, Store_Local_Capability, bounds,
+/// alignment.
+pub fn access_conditions<C: CapRep>(
+    authority: C,
+    register: u64,
+    access: Access,
+    address: u64,
+) -> [Condition; 7]
+    ensures { result ≡ access_checks (C.value authority) register access address }
+{
+    asked_of_access!(listed: authority, register, access, address)
+}
 
 /// Checks an access through an authority that a register holds, and gives its address.
 ///
@@ -27,28 +60,6 @@ pub fn check_access<C: CapRep>(
     ensures refused { IfErr result (λ fault. access_fault (C.value authority) register access address ≡ Some fault) }
     ensures aligned { OnOk result (address % width_of access ≡ 0) }
 {
-    let may_store_capability = !access.stores_capability()
-        || permits(authority, Permission::StoreCapability);
-    let may_store_local = !access.stores_local()
-        || permits(authority, Permission::StoreLocalCapability);
-    check_tag(authority, register)?;
-    check(
-        !is_sealed(authority),
-        Fault::cheri(register, CheriCause::Seal),
-    )?;
-    check_permission(authority, register, access.needed(), access.lacking())?;
-    check(
-        may_store_capability,
-        Fault::cheri(register, CheriCause::StoreCapability),
-    )?;
-    check(
-        may_store_local,
-        Fault::cheri(register, CheriCause::StoreLocalCapability),
-    )?;
-    check_bounds(authority, register, address, access.width())?;
-    check(
-        address % access.width() == 0,
-        Fault::of(access.misaligned(), address),
-    )?;
+    asked_of_access!(checked: authority, register, access, address);
     Ok(address)
 }

@@ -1,64 +1,40 @@
-//! The conditions that several lists share. What reports a fault is inlined always, since at a call its result would go through
-//! memory, and each step of the machine makes several checks.
+//! What several checks share: of one text of a check, the array of its conditions and the chain that reports the first that is false.
+//! What reports a fault is inlined always, since at a call its result would go through memory, and each step of the machine makes
+//! several checks.
 
-ghost use Rattle.std.specs.Prelude.{◌≡◌, ◌<◌, if◌then◌else◌, Ok, Err};
-ghost use Rattle.cap_bounds.specs.CapValue.{is_tagged, is_sealed};
-ghost use Rattle.base.specs.Fault.{cheri};
-ghost use Rattle.base.specs.declared.cause.CheriCause.TheVariants as forbids;
+ghost use Rattle.std.specs.Prelude.{◌≡◌, if◌then◌else◌, Ok, Err};
+ghost use Rattle.cap_bounds.specs.CapValue.{is_sealed};
 ghost use Rattle.cap_checks.specs.FirstFault as spec;
-ghost use Rattle.cap_rights.specs.Permission.{permits};
+ghost use Rattle.cap_checks.specs.Question.{fault_of, HasRegister};
 
-use base::{CheriCause, Fault, otype};
+use crate::question::Question;
+use base::{Fault, otype};
 use cap_bounds::CapRep;
-use cap_rights::{Permission, permits};
 
-/// Reports the fault unless the condition holds.
-#[inline(always)]
-pub(crate) fn check(condition: bool, fault: Fault) -> Result<(), Fault>
-    ensures { result ≡ if condition then Ok tt else Err fault }
-{
-    if condition { Ok(()) } else { Err(fault) }
+/// The conditions of a check, in order.
+macro_rules! listed {
+    ($($question:expr => $holds:expr;)*) => {
+        [$($crate::question::Condition { question: $question, holds: $holds }),*]
+    };
 }
 
-/// Reports a tag violation unless the value is a capability.
-#[inline(always)]
-pub(crate) fn check_tag<C: CapRep>(c: C, register: u64) -> Result<(), Fault>
-    requires { register < 64 }
-    ensures { result ≡ if is_tagged (C.value c) then Ok tt else Err (cheri register forbids.Tag) }
-{
-    check(c.tag(), Fault::cheri(register, CheriCause::Tag))
+/// Reports the fault of the first condition of a check that is false.
+macro_rules! checked {
+    ($($question:expr => $holds:expr;)*) => {
+        { $($crate::conditions::check($question, $holds)?;)* }
+    };
 }
 
-/// Reports a CHERI cause unless the value has the permission.
-#[inline(always)]
-pub(crate) fn check_permission<C: CapRep>(
-    c: C,
-    register: u64,
-    permission: Permission,
-    cause: CheriCause,
-) -> Result<(), Fault>
-    requires { register < 64 }
-    ensures { result ≡ if permits (C.value c) permission then Ok tt else Err (cheri register cause) }
-{
-    check(permits(c, permission), Fault::cheri(register, cause))
-}
+pub(crate) use checked;
+pub(crate) use listed;
 
-/// Reports a length violation unless the `size` bytes from an address lie in the value's bounds.
+/// Reports a question's fault unless its answer is yes.
 #[inline(always)]
-#[tactic(auto, unfolding(crate::specs::FirstFault::holds))]
-pub(crate) fn check_bounds<C: CapRep>(
-    c: C,
-    register: u64,
-    address: u64,
-    size: u64,
-) -> Result<(), Fault>
-    requires { register < 64 }
-    ensures { result ≡ if spec.holds (C.value c) address size then Ok tt else Err (cheri register forbids.Length) }
+pub(crate) fn check(question: Question, holds: bool) -> Result<(), Fault>
+    requires { HasRegister question }
+    ensures { result ≡ if holds then Ok tt else Err (fault_of question) }
 {
-    check(
-        c.holds(address, size),
-        Fault::cheri(register, CheriCause::Length),
-    )
+    if holds { Ok(()) } else { Err(question.fault()) }
 }
 
 /// Tells whether the value, tagged or not, has another type than what is unsealed.
@@ -67,4 +43,13 @@ pub(crate) fn is_sealed<C: CapRep>(c: C) -> bool
     ensures { result ≡ is_sealed (C.value c) }
 {
     c.otype() != otype::UNSEALED
+}
+
+/// Tells whether the `size` bytes from an address lie in the value's bounds.
+#[inline(always)]
+#[tactic(auto, unfolding(crate::specs::FirstFault::holds))]
+pub(crate) fn holds<C: CapRep>(c: C, address: u64, size: u64) -> bool
+    ensures { result ≡ spec.holds (C.value c) address size }
+{
+    c.holds(address, size)
 }

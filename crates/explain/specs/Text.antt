@@ -1,15 +1,16 @@
 -- What the next step will do, and why, as a text: the instruction's line, its stages with the conditions up to the first false one, and
 -- its effect.
-use Rattle.std.specs.Prelude.{ℕ, ◌/◌, ◌%◌, Bool, true, not, ◌&&◌, ◌||◌, ◌==◌, if◌then◌else◌, List, [], ◌∷◌, ◌++◌, flat_map, Option}
+use Rattle.std.specs.Prelude.{ℕ, Bool, true, ◌&&◌, if◌then◌else◌, List, [], ◌∷◌, ◌++◌, flat_map, Option}
 use Rattle.std.specs.Prelude.{Some, None, codes, decimal}
-use Rattle.base.specs.declared.fault.Fault.{Fault}
-use Rattle.base.specs.declared.cause.Cause.TheVariants as cause
 use Rattle.base.specs.declared.cause.CheriCause.{CheriCause}
 use Rattle.base.specs.declared.cause.CheriCause.TheVariants as forbids
-use Rattle.base.specs.Fault.{number_of, cheri_number_of}
+use Rattle.base.specs.Fault.{cheri_number_of}
 use Rattle.base.specs.declared.size.Size.{Size}
 use Rattle.cap_bounds.specs.CapValue.{CapValue, value_base, value_top, value_flag}
-use Rattle.cap_checks.specs.Access.{width_of, stores_capability, stores_local, misaligned}
+use Rattle.cap_checks.specs.Access.{stores_capability, stores_local}
+use Rattle.cap_checks.specs.declared.question.Condition.{Condition}
+use Rattle.cap_checks.specs.declared.question.Question.{Question}
+use Rattle.cap_checks.specs.declared.question.Question.TheVariants.{Right, Bounds, Multiple, Ram, RamOrDevice, Instruction, SystemRegister}
 use Rattle.cap_checks.specs.declared.access.Access.{Access as Asked}
 use Rattle.cap_checks.specs.declared.access.Access.TheVariants as access
 use Rattle.tagged_memory.specs.Memory.{is_in_ram, number_at}
@@ -52,81 +53,47 @@ register_text register = name_or [] (register_at_fault register)
 
 -- ---- conditions
 
--- how many bytes a check asks bounds of
-abbrev pub size_of_check : Check → ℕ
-size_of_check (Access asked) = width_of asked
-size_of_check _ = 4
-
--- a CHERI fault for this cause
-abbrev pub is_for : CheriCause → Fault → Bool
-is_for what f = (f.mcause == number_of cause.Cheri) && (f.mtval % 32 == cheri_number_of what)
-
 -- An access that stores no capability doesn't ask for the permissions to store one. The conditions on them are true of it, and not shown.
-abbrev pub is_asked : Check → Fault → Bool
-is_asked (Access asked) f =
-    (stores_capability asked || not (is_for forbids.StoreCapability f))
-    && (stores_local asked || not (is_for forbids.StoreLocalCapability f))
-is_asked _ f = true
+abbrev pub is_asked : Check → Question → Bool
+is_asked (Access asked) (Right register forbids.StoreCapability) = stores_capability asked
+is_asked (Access asked) (Right register forbids.StoreLocalCapability) = stores_local asked
+is_asked _ _ = true
+
+-- what a capability must allow, and the register that holds it
+abbrev pub name_text : ℕ → CheriCause → List ℕ
+name_text register what = name_or [] (cheri_asked_name (cheri_number_of what)) ++ codes " of " ++ register_text register
 
 -- the bytes that are asked for, and the bounds
 abbrev pub bounds_text : ℕ → ℕ → ℕ → ℕ → List ℕ
 bounds_text address size base top =
     codes ": " ++ hex_of 16 address ++ codes " + " ++ decimal size ++ codes " in " ++ hex_of 16 base ++ codes " to " ++ hex_of 17 top
 
--- what a capability must allow, and the register that holds it
-abbrev pub name_text : ℕ → List ℕ
-name_text mtval = name_or [] (cheri_asked_name (mtval % 32)) ++ codes " of " ++ register_text (mtval / 32)
-
--- of bounds the numbers too
-abbrev pub right_text : Check → ℕ → ℕ → ℕ → Fault → List ℕ
-right_text check address base top f =
-    name_text f.mtval ++ (if is_for forbids.Length f then bounds_text address (size_of_check check) base top else [])
-
-abbrev pub multiple_text : ℕ → ℕ → List ℕ
-multiple_text size address = codes "a multiple of " ++ decimal size ++ codes ": " ++ hex_of 16 address
-
--- where capabilities may lie, and where data may
-abbrev pub map_text : Asked → List ℕ
-map_text (access.Load size) = codes "RAM or a device"
-map_text (access.Store size) = codes "RAM or a device"
-map_text access.LoadCapability = codes "RAM"
-map_text (access.StoreCapability what) = codes "RAM"
-
--- what is asked of an access's place: its alignment, or what answers there
-abbrev pub access_place_text : Asked → ℕ → ℕ → List ℕ
-access_place_text asked address mcause =
-    if mcause == number_of (misaligned asked) then multiple_text (width_of asked) address
-    else (map_text asked ++ codes " at " ++ hex_of 16 address)
-
--- what is asked of no capability
-abbrev pub place_text : Check → ℕ → ℕ → List ℕ
-place_text Fetch address mcause = codes "RAM" ++ codes " at " ++ hex_of 16 address
-place_text Decode address mcause = codes "the word is an instruction"
-place_text (Access asked) address mcause = access_place_text asked address mcause
-place_text SystemRegister address mcause = codes "there is such a register, and it may be written where it is"
-place_text Jump address mcause = multiple_text 4 address
-place_text Invocation address mcause = multiple_text 4 address
-
-unfoldable pub condition_text : Check → ℕ → ℕ → ℕ → Fault → List ℕ
-condition_text check address base top f =
-    if f.mcause == number_of cause.Cheri then right_text check address base top f else place_text check address f.mcause
+-- what a condition asks, where the capability that is asked has these bounds
+unfoldable pub question_text : ℕ → ℕ → Question → List ℕ
+question_text base top (Right register what) = name_text register what
+question_text base top (Bounds register address size) = name_text register forbids.Length ++ bounds_text address size base top
+question_text base top (Multiple otherwise address size) = codes "a multiple of " ++ decimal size ++ codes ": " ++ hex_of 16 address
+question_text base top (Ram otherwise address) = codes "RAM at " ++ hex_of 16 address
+question_text base top (RamOrDevice otherwise address) = codes "RAM or a device at " ++ hex_of 16 address
+question_text base top (Instruction word) = codes "the word is an instruction"
+question_text base top (SystemRegister word) = codes "there is such a register, and it may be written where it is"
 
 abbrev pub mark : Bool → List ℕ
 mark holds = if holds then codes "  ok " else codes "  no "
 
-unfoldable pub condition_line : Check → ℕ → ℕ → ℕ → Bool × Fault → List ℕ
-condition_line check address base top c =
-    if is_asked check c.1 then mark c.0 ++ condition_text check address base top c.1 ++ codes "\n" else []
+unfoldable pub condition_line : Check → ℕ → ℕ → Condition → List ℕ
+condition_line check base top c =
+    if is_asked check c.question then mark c.holds ++ question_text base top c.question ++ codes "\n" else []
 
 -- conditions in order, up to the first that is false and with it
-abbrev pub condition_lines : Check → ℕ → ℕ → ℕ → List (Bool × Fault) → List ℕ
-condition_lines check address base top [] = []
-condition_lines check address base top (c ∷ cs) =
-    condition_line check address base top c ++ (if c.0 then condition_lines check address base top cs else [])
+abbrev pub condition_lines : Check → ℕ → ℕ → List Condition → List ℕ
+condition_lines check base top [] = []
+condition_lines check base top (c ∷ cs) =
+    condition_line check base top c ++ (if c.holds then condition_lines check base top cs else [])
 
-abbrev pub all_hold : List (Bool × Fault) → Bool
+abbrev pub all_hold : List Condition → Bool
 all_hold [] = true
-all_hold (c ∷ cs) = c.0 && all_hold cs
+all_hold (c ∷ cs) = c.holds && all_hold cs
 
 -- ---- stages
 
@@ -139,8 +106,8 @@ held_lines held = flat_map (λ h. held_line h.0 h.1) held
 
 -- the lines of conditions by the bounds of the first capability, where there is one
 abbrev pub condition_lines_by : Stage → List (ℕ × CapValue) → List ℕ
-condition_lines_by stage [] = condition_lines stage.check stage.address 0 0 stage.conditions
-condition_lines_by stage (h ∷ hs) = condition_lines stage.check stage.address (value_base h.1) (value_top h.1) stage.conditions
+condition_lines_by stage [] = condition_lines stage.check 0 0 stage.conditions
+condition_lines_by stage (h ∷ hs) = condition_lines stage.check (value_base h.1) (value_top h.1) stage.conditions
 
 unfoldable pub stage_text : Stage → List ℕ
 stage_text stage = heading stage.check stage.address ++ held_lines stage.held ++ condition_lines_by stage stage.held

@@ -6,34 +6,30 @@ ghost use Rattle.isa_rows.specs.Decoded.{insn_of};
 ghost use Rattle.isa_rows.specs.Kind.{kind_of};
 ghost use Rattle.isa_rows.specs.declared.kinds.Kind.TheVariants as kind;
 ghost use Rattle.hart.specs.Looks.{HasRegisters};
+ghost use Rattle.hart.specs.MemoryRows.{access_asked};
 ghost use Rattle.hart.specs.Registers.{register};
+ghost use Rattle.hart.specs.SystemRows.{csr_asked, special_asked, return_asked};
 ghost use Rattle.explain.specs.Stages.{stage, access_stage, branch_stages, decode_stage, decoded_stages, fetch_stage, invoke_stage};
 ghost use Rattle.explain.specs.Stages.{jalr_stage, jump_stage, kind_stages, target_stage};
 ghost use Rattle.explain.specs.Stages as spec;
 ghost use Rattle.explain.specs.Text.{stage_text, stages_text};
 
 use crate::check::Check;
-use crate::conditions::{Question, put_both};
+use crate::conditions::{Bounded, put_both};
 use crate::headings::{put_heading, put_held};
 use crate::interrupts::is_interrupted;
 use crate::text::put;
 use alu::branch_taken;
-use base::{
-    CAPABILITY_BYTES, Cause, CheriCause, FIRST_SPECIAL, Fault, INSTRUCTION_BYTES, PCC_REGISTER,
-    Size,
-};
+use base::{Cause, FIRST_SPECIAL, PCC_REGISTER};
 use cap_bounds::CapRep;
 use cap_checks::{
-    Access, Condition, Stored, access_conditions, fetch_conditions, invoke_conditions,
+    Access, Condition, Question, Stored, access_conditions, fetch_conditions, invoke_conditions,
     jump_conditions, jump_target, target_conditions,
 };
-use devices::Devices;
-use hart::{Hart, csr_number, csr_writes, size_of};
+use hart::{Hart, asked_of_register, csr_number, csr_writes, size_of};
 use isa_rows::{Insn, Kind};
 use isa_table::decode;
-use special_regs::{
-    Condition as SystemCondition, SpecialFault, csr_conditions, return_conditions, scr_conditions,
-};
+use special_regs::{csr_conditions, return_conditions, scr_conditions};
 use std::alloc::AllocError;
 
 /// A capability that conditions ask, and its register as mtval counts it.
@@ -69,13 +65,11 @@ fn put_stage<C: CapRep>(
 {
     put_heading(text, check, address)?;
     put_held(text, held.register, held.value)?;
-    let question = Question {
-        check,
-        address,
+    let bounded = Bounded {
         base: held.value.base(),
         top: held.value.top(),
     };
-    put_both(text, question, first, last)
+    put_both(text, check, bounded, first, last)
 }
 
 /// Puts a stage behind a text that asks no capability.
@@ -89,13 +83,7 @@ fn put_bare_stage(
     ensures { OnOk result (string_bytes text.new ≡ string_bytes text.old ++ stage_text (stage check address [] conditions.now)) }
 {
     put_heading(text, check, address)?;
-    let question = Question {
-        check,
-        address,
-        base: 0,
-        top: 0,
-    };
-    put_both(text, question, conditions, &[])
+    put_both(text, check, Bounded { base: 0, top: 0 }, conditions, &[])
 }
 
 /// Puts a stage behind a text that asks two capabilities.
@@ -114,13 +102,11 @@ fn put_stage_of_two<C: CapRep>(
     put_heading(text, check, address)?;
     put_held(text, first.register, first.value)?;
     put_held(text, second.register, second.value)?;
-    let question = Question {
-        check,
-        address,
+    let bounded = Bounded {
         base: first.value.base(),
         top: first.value.top(),
     };
-    put_both(text, question, conditions, &[])
+    put_both(text, check, bounded, conditions, &[])
 }
 
 /// Puts the fetch behind a text.
@@ -129,16 +115,13 @@ fn put_fetch<C: CapRep>(text: &mut String, hart: &Hart<C>) -> Result<(), AllocEr
     ensures { OnOk result (string_bytes text.new ≡ string_bytes text.old ++ stage_text (fetch_stage hart.now)) }
 {
     let pcc = hart.scrs().pcc();
-    let address = pcc.address();
-    let in_ram = hart.memory().is_in_ram(address, INSTRUCTION_BYTES);
-    let ram = [(in_ram, Fault::of(Cause::FetchAccess, address))];
     put_stage(
         text,
         Check::Fetch,
-        address,
+        pcc.address(),
         held_pcc(hart),
         &fetch_conditions(pcc),
-        &ram,
+        &[hart.fetches_from()],
     )
 }
 
@@ -153,9 +136,19 @@ fn put_decoding<C: CapRep>(
     ensures { OnOk result (string_bytes text.new ≡ string_bytes text.old
         ++ stage_text (decode_stage is_instruction word hart.now)) }
 {
-    let address = hart.scrs().pcc().address();
-    let fault = Fault::of(Cause::IllegalInstruction, u64::from(word));
-    put_bare_stage(text, Check::Decode, address, &[(is_instruction, fault)])
+    let question = Question::Instruction {
+        word: u64::from(word),
+    };
+    let condition = Condition {
+        question,
+        holds: is_instruction,
+    };
+    put_bare_stage(
+        text,
+        Check::Decode,
+        hart.scrs().pcc().address(),
+        &[condition],
+    )
 }
 
 /// Puts a jump within PCC behind a text.
@@ -224,19 +217,6 @@ fn put_jalr<C: CapRep>(text: &mut String, hart: &Hart<C>, insn: Insn) -> Result<
     }
 }
 
-/// Puts the invocation of a pair behind a text.
-#[tactic(auto, unfolding(crate::specs::Stages::pair_stage))]
-fn put_pair<C: CapRep>(text: &mut String, code: Held<C>, paired: Held<C>) -> Result<(), AllocError>
-    requires code { code.register < 64 }
-    requires paired { paired.register < 64 }
-    ensures { OnOk result (string_bytes text.new ≡ string_bytes text.old
-        ++ stage_text (spec.pair_stage code.register (C.value code.value) paired.register (C.value paired.value))) }
-{
-    let conditions = invoke_conditions(code.value, code.register, paired.value, paired.register);
-    let target = jump_target(code.value.address(), 0);
-    put_stage_of_two(text, Check::Invocation, target, code, paired, &conditions)
-}
-
 /// A general register that conditions ask.
 fn held_in<C: CapRep>(hart: &Hart<C>, n: u8) -> Held<C>
     requires { n < 32 }
@@ -255,7 +235,11 @@ fn put_invoke<C: CapRep>(text: &mut String, hart: &Hart<C>, insn: Insn) -> Resul
     requires registers { HasRegisters insn }
     ensures { OnOk result (string_bytes text.new ≡ string_bytes text.old ++ stage_text (invoke_stage insn hart.now)) }
 {
-    put_pair(text, held_in(hart, insn.rs1), held_in(hart, insn.rs2))
+    let code = held_in(hart, insn.rs1);
+    let paired = held_in(hart, insn.rs2);
+    let conditions = invoke_conditions(code.value, code.register, paired.value, paired.register);
+    let target = jump_target(code.value.address(), 0);
+    put_stage_of_two(text, Check::Invocation, target, code, paired, &conditions)
 }
 
 /// Puts an access behind a text: its authority's conditions, and then the map's.
@@ -268,7 +252,7 @@ fn put_access<C: CapRep>(
     mapped: Condition,
 ) -> Result<(), AllocError>
     requires registers { HasRegisters insn }
-    ensures { OnOk result (string_bytes text.new ≡ string_bytes text.old ++ stage_text (access_stage access mapped insn hart.now)) }
+    ensures { OnOk result (string_bytes text.new ≡ string_bytes text.old ++ stage_text (access_stage access (access_asked access mapped insn hart.now) insn hart.now)) }
 {
     let through = hart.authority(insn);
     let register = through.register;
@@ -283,48 +267,6 @@ fn put_access<C: CapRep>(
         &conditions,
         &[mapped],
     )
-}
-
-/// What the map asks of a load of data.
-fn load_condition<C: CapRep>(hart: &Hart<C>, address: u64, size: Size) -> Condition
-    ensures { result ≡ spec.load_condition address size hart.now }
-{
-    let answers = hart.memory().is_in_ram(address, size.bytes()) || Devices::gives(address, size);
-    (answers, Fault::of(Cause::LoadAccess, address))
-}
-
-/// What the map asks of a store of data.
-fn store_condition<C: CapRep>(hart: &Hart<C>, address: u64, size: Size) -> Condition
-    ensures { result ≡ spec.store_condition address size hart.now }
-{
-    let answers = hart.memory().is_in_ram(address, size.bytes()) || Devices::takes(address, size);
-    (answers, Fault::of(Cause::StoreAccess, address))
-}
-
-/// Whether a capability may lie at an address.
-fn capability_in_ram<C: CapRep>(hart: &Hart<C>, address: u64) -> bool
-    ensures { result ≡ spec.capability_in_ram address hart.now }
-{
-    hart.memory().is_in_ram(address, CAPABILITY_BYTES)
-}
-
-/// The fault where a system register is refused, whose number as mtval counts it is below 64.
-fn refusal_fault(refusal: SpecialFault, register: u64, word: u32) -> Fault
-    requires { register < 64 }
-    ensures { result ≡ spec.refusal_fault refusal register word }
-{
-    match refusal {
-        SpecialFault::S1 => Fault::of(Cause::IllegalInstruction, u64::from(word)),
-        SpecialFault::S2 => Fault::cheri(register, CheriCause::AccessSystemRegisters),
-    }
-}
-
-/// A condition on a system register, with its fault.
-fn refusal(condition: SystemCondition, register: u64, word: u32) -> Condition
-    requires { register < 64 }
-    ensures { result ≡ spec.refusal_condition register word condition }
-{
-    (condition.0, refusal_fault(condition.1, register, word))
 }
 
 /// Puts the use of a system register behind a text.
@@ -348,14 +290,13 @@ fn put_system<C: CapRep>(
 }
 
 /// Puts a CSR row behind a text.
-#[tactic(auto, unfolding(crate::specs::Stages::csr_stage))]
 fn put_csr<C: CapRep>(
     text: &mut String,
     hart: &Hart<C>,
     word: u32,
     insn: Insn,
 ) -> Result<(), AllocError>
-    ensures { OnOk result (string_bytes text.new ≡ string_bytes text.old ++ stage_text (spec.csr_stage word insn hart.now)) }
+    ensures { OnOk result (string_bytes text.new ≡ string_bytes text.old ++ stage_text (spec.system_stage (csr_asked word insn hart.now) hart.now)) }
 {
     let [first, last] = csr_conditions(
         hart.scrs(),
@@ -365,13 +306,12 @@ fn put_csr<C: CapRep>(
     put_system(
         text,
         hart,
-        &[refusal(first, PCC_REGISTER, word)],
-        &[refusal(last, PCC_REGISTER, word)],
+        &[asked_of_register(first, PCC_REGISTER, word)],
+        &[asked_of_register(last, PCC_REGISTER, word)],
     )
 }
 
 /// Puts CSpecialRW behind a text.
-#[tactic(auto, unfolding(crate::specs::Stages::special_stage))]
 fn put_special<C: CapRep>(
     text: &mut String,
     hart: &Hart<C>,
@@ -379,51 +319,52 @@ fn put_special<C: CapRep>(
     insn: Insn,
 ) -> Result<(), AllocError>
     requires registers { HasRegisters insn }
-    ensures { OnOk result (string_bytes text.new ≡ string_bytes text.old ++ stage_text (spec.special_stage word insn hart.now)) }
+    ensures { OnOk result (string_bytes text.new ≡ string_bytes text.old ++ stage_text (spec.system_stage (special_asked word insn hart.now) hart.now)) }
 {
     let register = FIRST_SPECIAL + u64::from(insn.rs2);
     let [first, last] = scr_conditions(hart.scrs(), insn.rs2, insn.rs1 != 0);
     put_system(
         text,
         hart,
-        &[refusal(first, register, word)],
-        &[refusal(last, register, word)],
+        &[asked_of_register(first, register, word)],
+        &[asked_of_register(last, register, word)],
     )
 }
 
 /// Puts MRET behind a text.
-#[tactic(auto, unfolding(crate::specs::Stages::return_stage))]
 fn put_return<C: CapRep>(text: &mut String, hart: &Hart<C>, word: u32) -> Result<(), AllocError>
-    ensures { OnOk result (string_bytes text.new ≡ string_bytes text.old ++ stage_text (spec.return_stage word hart.now)) }
+    ensures { OnOk result (string_bytes text.new ≡ string_bytes text.old ++ stage_text (spec.system_stage (return_asked word hart.now) hart.now)) }
 {
     let [only] = return_conditions(hart.scrs());
-    put_system(text, hart, &[refusal(only, PCC_REGISTER, word)], &[])
+    put_system(
+        text,
+        hart,
+        &[asked_of_register(only, PCC_REGISTER, word)],
+        &[],
+    )
 }
 
 /// Puts a load of data behind a text.
-#[tactic(auto, unfolding(crate::specs::Stages::load_stage))]
 fn put_load<C: CapRep>(text: &mut String, hart: &Hart<C>, insn: Insn) -> Result<(), AllocError>
     requires registers { HasRegisters insn }
     ensures { OnOk result (string_bytes text.new ≡ string_bytes text.old ++ stage_text (spec.load_stage insn hart.now)) }
 {
     let size = size_of(insn.row);
-    let mapped = load_condition(hart, hart.place(insn), size);
+    let mapped = hart.loads_from(hart.place(insn), size);
     put_access(text, hart, insn, Access::Load(size), mapped)
 }
 
 /// Puts a store of data behind a text.
-#[tactic(auto, unfolding(crate::specs::Stages::store_stage))]
 fn put_store<C: CapRep>(text: &mut String, hart: &Hart<C>, insn: Insn) -> Result<(), AllocError>
     requires registers { HasRegisters insn }
     ensures { OnOk result (string_bytes text.new ≡ string_bytes text.old ++ stage_text (spec.store_stage insn hart.now)) }
 {
     let size = size_of(insn.row);
-    let mapped = store_condition(hart, hart.place(insn), size);
+    let mapped = hart.stores_to(hart.place(insn), size);
     put_access(text, hart, insn, Access::Store(size), mapped)
 }
 
 /// Puts a load of a capability behind a text.
-#[tactic(auto, unfolding(crate::specs::Stages::capability_load_stage))]
 fn put_capability_load<C: CapRep>(
     text: &mut String,
     hart: &Hart<C>,
@@ -432,16 +373,11 @@ fn put_capability_load<C: CapRep>(
     requires registers { HasRegisters insn }
     ensures { OnOk result (string_bytes text.new ≡ string_bytes text.old ++ stage_text (spec.capability_load_stage insn hart.now)) }
 {
-    let place = hart.place(insn);
-    let mapped = (
-        capability_in_ram(hart, place),
-        Fault::of(Cause::LoadAccess, place),
-    );
+    let mapped = hart.capability_at(Cause::LoadAccess, hart.place(insn));
     put_access(text, hart, insn, Access::LoadCapability, mapped)
 }
 
 /// Puts a store of a capability behind a text.
-#[tactic(auto, unfolding(crate::specs::Stages::capability_store_stage))]
 fn put_capability_store<C: CapRep>(
     text: &mut String,
     hart: &Hart<C>,
@@ -450,11 +386,7 @@ fn put_capability_store<C: CapRep>(
     requires registers { HasRegisters insn }
     ensures { OnOk result (string_bytes text.new ≡ string_bytes text.old ++ stage_text (spec.capability_store_stage insn hart.now)) }
 {
-    let place = hart.place(insn);
-    let mapped = (
-        capability_in_ram(hart, place),
-        Fault::of(Cause::StoreAccess, place),
-    );
+    let mapped = hart.capability_at(Cause::StoreAccess, hart.place(insn));
     let stored = Stored::of(hart.reg(insn.rs2));
     put_access(text, hart, insn, Access::StoreCapability(stored), mapped)
 }

@@ -19,6 +19,7 @@ pub mod Steps
 pub mod Setting
 -- Laws
 pub mod StateLaws
+pub mod AskedLaws
 pub mod OpeningLaws
 pub mod AppliedLaws
 pub mod PlannedLaws

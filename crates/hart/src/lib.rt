@@ -4,6 +4,7 @@
 mod accesses;
 mod advance;
 mod apply;
+mod asked;
 mod compute;
 mod effect;
 mod ends;
@@ -30,6 +31,7 @@ mod values;
 
 pub use accesses::size_of;
 pub use advance::Advance;
+pub use asked::{asked_of_register, question_of};
 pub use effect::{
     CsrWrite, DeviceLoad, Effect, Enter, Link, SpecialWrite, Store, StoreCapability, Write,
 };

@@ -1,12 +1,17 @@
 //! What the hart looks at to decide an instruction's effect.
 
 ghost use Rattle.std.specs.Prelude.{◌≡◌, ◌<◌};
-ghost use Rattle.hart.specs.Applying.{meant};
-ghost use Rattle.hart.specs.Looks.{number_in, next_of, illegal, refused};
+ghost use Rattle.hart.specs.Applying.{meant, CanApply};
+ghost use Rattle.cap_checks.specs.Question.{fault_of};
+ghost use Rattle.hart.specs.declared.effect.Effect.TheVariants.{Trap};
+ghost use Rattle.hart.specs.Looks.{number_in, next_of, illegal};
+ghost use Rattle.hart.specs.State.{State};
+ghost use Rattle.hart.specs.SystemRows.{question_of};
 
+use crate::asked::question_of;
 use crate::effect::Effect;
 use crate::hart::Hart;
-use base::{Cause, CheriCause, Fault};
+use base::{Cause, Fault};
 use cap_bounds::CapRep;
 use special_regs::SpecialFault;
 
@@ -18,18 +23,17 @@ pub(crate) fn illegal_effect<C: CapRep>(word: u32) -> Effect<C>
 }
 
 /// The trap where a system register is refused. A refusal for lack of access names a register, below 64.
+#[tactic(auto, unfolding(crate::specs::Applying::CanApply))]
 pub(crate) fn refused_effect<C: CapRep>(
     refusal: SpecialFault,
     register: u64,
     word: u32,
 ) -> Effect<C>
     requires { register < 64 }
-    ensures { meant C.value result ≡ refused refusal register word }
+    ensures effect { meant C.value result ≡ Trap (fault_of (question_of refusal register word)) }
+    ensures can { (s : State) → CanApply result s }
 {
-    match refusal {
-        SpecialFault::S1 => illegal_effect(word),
-        SpecialFault::S2 => Effect::Trap(Fault::cheri(register, CheriCause::AccessSystemRegisters)),
-    }
+    Effect::Trap(question_of(refusal, register, word).fault())
 }
 
 impl<C: CapRep> Hart<C> {

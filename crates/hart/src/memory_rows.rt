@@ -1,16 +1,18 @@
 //! Loads and stores of data and of capabilities: the authority's checks, then the map, then the effect.
 
-ghost use Rattle.std.specs.Prelude.{◌≡◌, ◌<◌, ◌%◌, ◌&&◌, true, None, IsTrue};
+ghost use Rattle.std.specs.Prelude.{◌≡◌, ◌<◌, ◌%◌, ◌&&◌, true, None, IsTrue, [], ◌∷◌};
+ghost use Rattle.base.specs.declared.cause.Cause.TheVariants as cause;
 ghost use Rattle.cap_bounds.specs.CapValue.{value_of};
 ghost use Rattle.cap_bounds.specs.Record.{IsWordWellFormed};
 ghost use Rattle.tagged_memory.specs.Memory.{is_in_ram, place_fault};
 ghost use Rattle.base.specs.Size.{bytes_of};
 ghost use Rattle.hart.specs.Accesses.{size_of};
 ghost use Rattle.hart.specs.Applying.{meant, CanApply};
-ghost use Rattle.hart.specs.Looks.{HasRegisters};
+ghost use Rattle.hart.specs.Looks.{HasRegisters, where_all};
 ghost use Rattle.hart.specs.MemoryRows as spec;
-ghost use Rattle.hart.specs.MemoryRows.{place_of, authority_of, authority_number_of, mapped_load, load_effect, mapped_store, store_effect};
-ghost use Rattle.hart.specs.MemoryRows.{mapped_capability_load, load_capability_effect, mapped_capability_store, store_capability_effect};
+ghost use Rattle.hart.specs.MemoryRows.{place_of, authority_of, authority_number_of, loads_from, stores_to, capability_at};
+ghost use Rattle.hart.specs.MemoryRows.{load_done, load_effect, store_done, store_effect, load_capability_done, load_capability_effect};
+ghost use Rattle.hart.specs.MemoryRows.{store_capability_done, store_capability_effect};
 
 use crate::accesses::{loaded, size_of, through_rs1};
 use crate::effect::{DeviceLoad, Effect, Store, StoreCapability, Write};
@@ -101,11 +103,12 @@ impl<C: CapRep> Hart<C> {
 
     /// A load that its authority allows: from RAM, or from a device register that can be loaded.
     #[inline(always)]
-    #[tactic(auto, unfolding(crate::specs::MemoryRows::mapped_load, crate::specs::Applying::CanApply))]
+    #[tactic(auto, unfolding(crate::specs::MemoryRows::load_done, crate::specs::Applying::CanApply))]
     fn plan_mapped_load(&self, insn: Insn, address: u64, size: Size) -> Effect<C>
         requires registers { HasRegisters insn }
         requires aligned { address % bytes_of size ≡ 0 }
-        ensures effect { meant C.value result ≡ mapped_load insn address size self.now }
+        ensures effect { meant C.value result
+            ≡ where_all (loads_from address size self.now ∷ []) (load_done insn address size self.now) }
         ensures can { CanApply result self.now }
     {
         let rd = insn.rd;
@@ -151,10 +154,11 @@ impl<C: CapRep> Hart<C> {
 
     /// A store that its authority allows: into RAM, or into a device register that takes it.
     #[inline(always)]
-    #[tactic(auto, unfolding(crate::specs::MemoryRows::mapped_store, crate::specs::Applying::CanApply))]
+    #[tactic(auto, unfolding(crate::specs::MemoryRows::store_done, crate::specs::Applying::CanApply))]
     fn plan_mapped_store(&self, address: u64, size: Size, number: u64) -> Effect<C>
         requires { address % bytes_of size ≡ 0 }
-        ensures effect { meant C.value result ≡ mapped_store address size number self.now }
+        ensures effect { meant C.value result
+            ≡ where_all (stores_to address size self.now ∷ []) (store_done address size number self.now) }
         ensures can { CanApply result self.now }
     {
         let store = Store {
@@ -207,11 +211,12 @@ impl<C: CapRep> Hart<C> {
 
     /// A load of a capability that its authority allows: from RAM alone, without its tag where the authority lacks Load_Capability.
     #[inline(always)]
-    #[tactic(auto, unfolding(crate::specs::MemoryRows::mapped_capability_load, crate::specs::Applying::CanApply))]
+    #[tactic(auto, unfolding(crate::specs::MemoryRows::load_capability_done, crate::specs::Applying::CanApply))]
     fn plan_mapped_capability_load(&self, authority: C, rd: u8, address: u64) -> Effect<C>
         requires register { rd < 32 }
         requires aligned { address % 16 ≡ 0 }
-        ensures effect { meant C.value result ≡ mapped_capability_load (C.value authority) rd address self.now }
+        ensures effect { meant C.value result
+            ≡ where_all (capability_at cause.LoadAccess address self.now ∷ []) (load_capability_done (C.value authority) rd address self.now) }
         ensures can { CanApply result self.now }
     {
         if !self.holds_granule(address) {
@@ -246,10 +251,11 @@ impl<C: CapRep> Hart<C> {
 
     /// A store of a capability that its authority allows: into RAM alone.
     #[inline(always)]
-    #[tactic(auto, unfolding(crate::specs::MemoryRows::mapped_capability_store, crate::specs::Applying::CanApply))]
+    #[tactic(auto, unfolding(crate::specs::MemoryRows::store_capability_done, crate::specs::Applying::CanApply))]
     fn plan_mapped_capability_store(&self, address: u64, value: C) -> Effect<C>
         requires { address % 16 ≡ 0 }
-        ensures effect { meant C.value result ≡ mapped_capability_store address (C.value value) self.now }
+        ensures effect { meant C.value result
+            ≡ where_all (capability_at cause.StoreAccess address self.now ∷ []) (store_capability_done address (C.value value)) }
         ensures can { CanApply result self.now }
     {
         if self.holds_granule(address) {

@@ -1,6 +1,6 @@
 //! Control and status registers, special capability registers, and the return from a trap.
 
-ghost use Rattle.std.specs.Prelude.{◌≡◌, ◌<◌, ◌%◌, ◌==◌, not, Some, None};
+ghost use Rattle.std.specs.Prelude.{◌≡◌, ◌<◌, ◌%◌, ◌==◌, not, None};
 ghost use Rattle.special_regs.specs.Refusals.{scr_fault};
 ghost use Rattle.hart.specs.Applying.{meant, CanApply};
 ghost use Rattle.hart.specs.Looks.{HasRegisters};
@@ -88,10 +88,10 @@ impl<C: CapRep> Hart<C> {
 
     /// What CSpecialRW does where it isn't refused: what the special register held goes to rd, and rs1 into it unless it is register 0.
     #[tactic(auto, unfolding(crate::specs::SystemRows::special_done, crate::specs::Applying::CanApply))]
-    fn special_done(&self, old: C, word: u32, insn: Insn) -> Effect<C>
+    fn special_done(&self, old: C, insn: Insn) -> Effect<C>
         requires registers { HasRegisters insn }
         requires allowed { scr_fault self.now.scrs insn.rs2 (not (insn.rs1 == 0)) ≡ None }
-        ensures effect { meant C.value result ≡ spec.special_done (Some (C.value old)) word insn self.now }
+        ensures effect { meant C.value result ≡ spec.special_done (C.value old) insn self.now }
         ensures can { CanApply result self.now }
     {
         if insn.rs1 == 0 {
@@ -116,7 +116,7 @@ impl<C: CapRep> Hart<C> {
         ensures can { CanApply result self.now }
     {
         match check_scr(&self.scrs, insn.rs2, insn.rs1 != 0) {
-            Ok(old) => self.special_done(old, word, insn),
+            Ok(old) => self.special_done(old, insn),
             Err(refusal) => refused_effect(refusal, FIRST_SPECIAL + u64::from(insn.rs2), word),
         }
     }

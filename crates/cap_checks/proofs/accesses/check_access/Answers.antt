@@ -10,19 +10,14 @@ passed : (condition : Bool) (fault : Fault) (result : Result (Unit {0}) Fault) (
 passed true fault result unit is was = refl
 passed false fault result unit is was = cc
 
--- src/accesses.rt:16:1
 pub returns-clause-allowed : goal.returns-clause-allowed
 unfolding access_fault
 returns-clause-allowed g c =
-    let tagged = passed _ _ _ _ (c.check_tag.ensures) (c.in_ok-check_tag.was) in
-    let unsealed = passed _ _ _ _ (c.check.ensures) (c.in_ok-check.was) in
-    let permitted = passed _ _ _ _ (c.check_permission.ensures) (c.in_ok-check_permission.was) in
-    let storing = passed _ _ _ _ (c.check-2.ensures) (c.in_ok-check-2.was) in
-    let local = passed _ _ _ _ (c.check-3.ensures) (c.in_ok-check-3.was) in
-    let bounded = passed _ _ _ _ (c.check_bounds.ensures) (c.in_ok-check_bounds.was) in
-    let aligned = passed _ _ _ _ (c.check-4.ensures) (c.in_ok-check-4.was) in
+    let tagged = passed _ _ _ _ (c.check.ensures) (c.in_ok-check.was) in
+    let unsealed = passed _ _ _ _ (c.check-2.ensures) (c.in_ok-check-2.was) in
+    let permitted = passed _ _ _ _ (c.check-3.ensures) (c.in_ok-check-3.was) in
+    let storing = passed _ _ _ _ (c.check-4.ensures) (c.in_ok-check-4.was) in
+    let local = passed _ _ _ _ (c.check-5.ensures) (c.in_ok-check-5.was) in
+    let bounded = passed _ _ _ _ (c.check-6.ensures) (c.in_ok-check-6.was) in
+    let aligned = passed _ _ _ _ (c.check-7.ensures) (c.in_ok-check-7.was) in
     search rules
-
-pub returns-in_err-check-4-clause-refused : goal.returns-in_err-check-4-clause-refused
-unfolding access_fault
-returns-in_err-check-4-clause-refused g c = search rules

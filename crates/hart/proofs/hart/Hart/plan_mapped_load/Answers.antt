@@ -8,7 +8,7 @@ use Rattle.hart.specs.Accesses.{loaded}
 use Rattle.hart.specs.Applying.{CanApply}
 use Rattle.hart.specs.State.{State}
 use Rattle.hart.specs.declared.effect.Effect.TheVariants.{Trap, Write, DeviceLoad}
-use Rattle.hart.proofs.Loads.{mapped_load-ram, mapped_load-device, mapped_load-refused}
+use Rattle.hart.proofs.Loads.{load-ram, load-device, load-refused}
 use Rattle.hart.proofs.hart.Hart.plan_mapped_load.Goals as goal
 
 pub returns-then-gives-clause-effect : goal.returns-then-gives-clause-effect
@@ -18,13 +18,13 @@ returns-then-gives-clause-effect g c =
     let value = c.integer-then-gives.ensures ∙ ap integer
     (c.value_at.ensures ∙ ap (λ s. value_at c.args.address s.devices) c.self.view_is) in
     ap (λ v. DeviceLoad (record { rd = c.args.insn.rd; value = v; address = c.args.address; size = c.args.size })) value
-    ∙ sym (mapped_load-device c.args.insn c.args.address c.args.size now outside (c.gives.ensures.0 c.if-gives.true))
+    ∙ sym (load-device c.args.insn c.args.address c.args.size now outside (c.gives.ensures.0 c.if-gives.true))
 
 pub returns-else-gives-clause-effect : goal.returns-else-gives-clause-effect
 returns-else-gives-clause-effect g c =
     let now : State = c.args.self.now in
     let outside : is_in_ram now.memory c.args.address (bytes_of c.args.size) ≡ false = sym c.holds.ensures.value ∙ c.if-holds.false in
-    ap Trap c.of.ensures ∙ sym (mapped_load-refused c.args.insn c.args.address c.args.size now outside
+    ap Trap c.of.ensures ∙ sym (load-refused c.args.insn c.args.address c.args.size now outside
     (λ none. false≢true (sym c.if-gives.false ∙ c.gives.ensures.1 none)))
 
 pub returns-then-holds-clause-effect : goal.returns-then-holds-clause-effect
@@ -33,7 +33,7 @@ returns-then-holds-clause-effect g c =
     ap (λ (v : CapValue). Write (record { rd = insn.rd; value = v }))
     (c.integer.ensures ∙ ap integer (c.loaded.ensures ∙ ap (loaded insn.row c.args.size)
     (c.load-number.ensures.value ∙ ap (λ (s : State). number_at s.memory c.args.address (bytes_of c.args.size)) c.self.view_is)))
-    ∙ sym (mapped_load-ram insn c.args.address c.args.size c.args.self.now (sym c.holds.ensures.value ∙ c.if-holds.true))
+    ∙ sym (load-ram insn c.args.address c.args.size c.args.self.now (sym c.holds.ensures.value ∙ c.if-holds.true))
 
 pub returns-then-holds-clause-can : goal.returns-then-holds-clause-can
 unfolding CanApply

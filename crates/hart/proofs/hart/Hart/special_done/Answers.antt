@@ -11,7 +11,7 @@ use Rattle.hart.proofs.hart.Hart.special_done.Goals as goal
 
 pub returns-then-insn-eq0-clause-effect : goal.returns-then-insn-eq0-clause-effect
 returns-then-insn-eq0-clause-effect g c =
-    special_done-read (g.C.CapRep.value c.args.old) c.args.word c.args.insn c.args.self.now c.if-insn-eq0.true
+    special_done-read (g.C.CapRep.value c.args.old) c.args.insn c.args.self.now c.if-insn-eq0.true
 
 pub returns-then-insn-eq0-clause-can : goal.returns-then-insn-eq0-clause-can
 unfolding CanApply
@@ -22,7 +22,7 @@ returns-clause-effect g c =
     let insn = c.args.insn in
     ap (λ (v : CapValue). Special (record { rd = insn.rd; old = g.C.CapRep.value c.args.old; number = insn.rs2; value = v }))
     (c.get.ensures.value ∙ ap (λ (s : State). register s.registers insn.rs1) c.self.view_is)
-    ∙ special_done-write (g.C.CapRep.value c.args.old) c.args.word insn c.args.self.now c.if-insn-eq0.false
+    ∙ special_done-write (g.C.CapRep.value c.args.old) insn c.args.self.now c.if-insn-eq0.false
 
 pub returns-clause-can : goal.returns-clause-can
 unfolding CanApply

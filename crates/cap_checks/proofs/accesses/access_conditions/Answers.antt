@@ -1,5 +1,5 @@
 use Rattle.std.proofs.Common.{rules}
-use Rattle.cap_checks.proofs.lists.fetch_conditions.Goals as goal
+use Rattle.cap_checks.proofs.accesses.access_conditions.Goals as goal
 
 pub returns : goal.returns
 returns g c = search rules
