@@ -48,7 +48,6 @@ fn put_registers_from<C: CapRep>(
 }
 
 /// Puts the line of a special capability register behind a text.
-#[tactic(auto, unfolding(special_regs::specs::Scrs::scr_value))]
 fn put_scr<C: CapRep>(text: &mut String, machine: &Machine<C>, n: u8) -> Result<(), AllocError>
     requires { IsTrue (is_scr n) }
     ensures { OnOk result (string_bytes text.new ≡ string_bytes text.old ++ scr_line machine.now.scrs n) }
