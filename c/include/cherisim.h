@@ -1,12 +1,14 @@
 /* libcherisim: the proved CHERI-RISC-V machine (RV64IM in machine mode, 128-bit capabilities, timer, console, halt).
  *
  * A machine is held by a handle. Each function below has a contract that the library's code is proved to meet; it stands here in words.
- * Every call is total, returns, and answers a status; what it writes it writes whole, or not at all where the status isn't CHERISIM_OK.
+ * Every call is total and returns. All but cherisim_free, cherisim_version and cherisim_disassemble answer a status; what such a call
+ * writes it writes whole, or not at all where the status isn't CHERISIM_OK, but for the line of a faulty text, and the length that
+ * cherisim_why would have needed.
  *
  * What C owes: a pointer points to what its type says and to nothing else that the call is given, and none is null, be its length 0; a
- * handle begins as CHERISIM_NONE and is never copied; it is used by one call at a time, and by the thread that made it; a tagged cherisim_cap_t comes
- * from this library or from cheri_cap() of cheri_caps.h. A handle without a machine is a value that every call answers
- * (CHERISIM_NO_MACHINE), so that a machine may be freed twice. */
+ * handle begins as CHERISIM_NONE and is never copied; it is used by one call at a time, and by the thread that made it; a tagged
+ * cherisim_cap_t comes from this library or from cheri_cap() of cheri_caps.h. Every call on a machine answers CHERISIM_NO_MACHINE where
+ * the handle has none, so that a machine may be freed twice. */
 #ifndef CHERISIM_H
 #define CHERISIM_H
 #include <stdbool.h>
@@ -24,7 +26,8 @@ typedef struct { void *at; } cherisim_t;
 /* A capability, or 128 bits of data. */
 typedef cheri_cap_t cherisim_cap_t;
 
-/* What a call answers: 1 to 15 are the faults L1 to L15 of an image, 33 to 43 the faults A1 to A11 of a text. */
+/* What a call answers: 1 to 15 are the faults L1 to L15 of an image, 33 to 43 the faults A1 to A11 of a text; but that there is no memory
+ * for it (L11, A10) is CHERISIM_NO_MEMORY, and bytes never fail to be read (L10), which no contract says. */
 typedef uint32_t cherisim_status;
 enum {
     CHERISIM_OK = 0,

@@ -124,8 +124,8 @@ def commands(drawn, steps):
         event = drawn.random()
         if event < 0.06:
             yield "tick 1" if event < 0.04 else f"byte {drawn.randrange(256)}"
-        yield from ("step 1", "regs", "scr")
-    yield from ("csr", "caps", f"mem {RAM} {PAGE}", f"mem {RAM + PAGE} {PAGE}")
+        yield from ("step 1", "regs", "scr", "csr")
+    yield from ("caps", f"mem {RAM} {PAGE}", f"mem {RAM + PAGE} {PAGE}")
 
 
 class Shown:

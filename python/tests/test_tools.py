@@ -167,6 +167,13 @@ class Installed(unittest.TestCase):
                                  encoding="utf-8")
             self.assertEqual(out.stdout.split(), [os.path.join(room, "site", "cherisim", "__init__.py"), "1"])
 
+    @unittest.skipUnless(importlib.util.find_spec("pip"), "pip is not installed")
+    def test_pip(self):
+        words = ["install", "-q", "--no-index", "--no-deps", "--disable-pip-version-check", "--root-user-action=ignore"]
+        with tempfile.TemporaryDirectory() as site:
+            subprocess.run([sys.executable, "-m", "pip", *words, "--target", site, os.path.join(support.TOP, "python")], check=True)
+            self.assertTrue(os.path.exists(os.path.join(site, "cherisim", "__init__.py")))
+
 
 if __name__ == "__main__":
     unittest.main()

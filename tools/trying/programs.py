@@ -1,4 +1,6 @@
 """Programs that run on the whole machine, and what is seen of it between their events and after them."""
+from itertools import groupby
+
 from .machines import BUFFER, ENDS, SEALED_JUMP, TRAP, UNSEAL, Machine
 from .reading import bytes_of, spaced
 from .seen import seen
@@ -148,14 +150,8 @@ class Outcome:
 
 
 def grouped(letters):
-    """Letters in groups of one."""
-    groups = []
-    for letter in letters:
-        if groups and groups[-1][0] == letter:
-            groups[-1] += letter
-        else:
-            groups.append(letter)
-    return groups
+    """Letters in groups, of one letter each."""
+    return ["".join(run) for _, run in groupby(letters)]
 
 
 def program(bench, case):

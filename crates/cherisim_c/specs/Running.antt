@@ -68,9 +68,10 @@ steps_in (Step ∷ es) = suc (steps_in es)
 steps_in (Tick ∷ es) = steps_in es
 steps_in (Byte b ∷ es) = steps_in es
 
--- the byte that a step sent, if it sent one, as C gets it
-abbrev pub sent_of : Sent → List ℕ
-sent_of s = if s.sends then s.byte ∷ [] else []
+-- the byte that a step sent, if it sent one, as C gets it; else 0
+abbrev pub sent_of : Option ℕ → Sent
+sent_of None = record { sends = false; byte = 0 }
+sent_of (Some byte) = record { sends = true; byte = byte }
 
 -- whether a machine is halted, as C gets it
 abbrev pub halted_of : Option ℕ → Halted

@@ -21,7 +21,7 @@ pub extern "C" fn cherisim_step(alloc: Global, machine: &mut Handle, sent: &mut 
     ensures closed { machine.old.machine ≡ None → result ≡ no_machine }
     ensures same { machine.old.machine ≡ None → sent.new ≡ sent.old }
     ensures ok { IfSome machine.old.machine (λ s. result ≡ 0) }
-    ensures byte { IfSome machine.old.machine (λ s. sent_of sent.new ≡ option_to_list (sent_at Step s)) }
+    ensures byte { IfSome machine.old.machine (λ s. sent.new ≡ sent_of (sent_at Step s)) }
 {
     match machine.take(alloc) {
         Some(mut inside) => {

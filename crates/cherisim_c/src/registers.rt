@@ -187,7 +187,7 @@ pub extern "C" fn cherisim_set_scr(
     ensures range { IfSome machine.old.machine (λ s. 1 ≤ result → result ≡ out_of_range) }
     ensures ok { IfSome machine.old.machine (λ s. IsTrue (is_scr n) → (n ≡ PCC → IsAligned (meant value)) → result ≡ 0) }
     ensures state { IfSome machine.old.machine (λ s. result ≡ 0
-        → IsTrue (is_scr n) × (machine.new.machine ≡ Some (scr_set n (meant value) s))) }
+        → IsTrue (is_scr n) × (n ≡ PCC → IsAligned (meant value)) × (machine.new.machine ≡ Some (scr_set n (meant value) s))) }
     ensures same { 1 ≤ result → machine.new.machine ≡ machine.old.machine }
 {
     match machine.take(alloc) {
