@@ -1,5 +1,5 @@
 //! What a statement is written with, by its mnemonic.
-ghost use Rattle.std.specs.Prelude.{◌≡◌, ◌++◌, codes, if◌then◌else◌, map, option_map, IfOk, OnOk};
+ghost use Rattle.std.specs.Prelude.{◌≡◌, ◌++◌, codes, drop, if◌then◌else◌, map, option_map, IfOk, OnOk};
 ghost use Rattle.fault_details.specs.Forms.{form, form_in, forms, later_names, ranges_read, slot_name, slots_read, slots_text};
 ghost use Rattle.fault_details.specs.Forms.{is_capability, takes_text, stands_text, written_text};
 ghost use Rattle.fault_details.specs.SeenForm.{seen_form};
@@ -88,6 +88,33 @@ fn values_form(ranges: &'static [Range]) -> Form
     }
 }
 
+/// What a directive with values or a text is written with.
+fn values_named(word: &[u8]) -> Option<Form>
+    ensures { option_map seen_form result ≡ form_in (drop 8 forms) word.now }
+{
+    if is_word(word, ".byte") {
+        Some(values_form(BYTE))
+    } else if is_word(word, ".half") {
+        Some(values_form(HALF))
+    } else if is_word(word, ".word") {
+        Some(values_form(WORD))
+    } else if is_word(word, ".dword") {
+        Some(values_form(EXPRESSION))
+    } else if is_word(word, ".ascii") {
+        Some(Form {
+            takes: "a text in quotes",
+            ranges: &[],
+        })
+    } else if is_word(word, ".cap") {
+        Some(Form {
+            takes: "base, length, permissions, flag",
+            ranges: CAPABILITY,
+        })
+    } else {
+        None
+    }
+}
+
 /// What a mnemonic that is no row is written with.
 fn form_named(word: &[u8]) -> Option<Form>
     ensures { option_map seen_form result ≡ form_in forms word.now }
@@ -117,26 +144,8 @@ fn form_named(word: &[u8]) -> Option<Form>
         Some(number_form(ALIGNMENT))
     } else if is_word(word, ".zero") {
         Some(number_form(ZEROS))
-    } else if is_word(word, ".byte") {
-        Some(values_form(BYTE))
-    } else if is_word(word, ".half") {
-        Some(values_form(HALF))
-    } else if is_word(word, ".word") {
-        Some(values_form(WORD))
-    } else if is_word(word, ".dword") {
-        Some(values_form(EXPRESSION))
-    } else if is_word(word, ".ascii") {
-        Some(Form {
-            takes: "a text in quotes",
-            ranges: &[],
-        })
-    } else if is_word(word, ".cap") {
-        Some(Form {
-            takes: "base, length, permissions, flag",
-            ranges: CAPABILITY,
-        })
     } else {
-        None
+        values_named(word)
     }
 }
 

@@ -15,7 +15,7 @@ use crate::reasons::{
 };
 use crate::text::{first_word, line_at, up_to};
 use asm_lines::{Class, LineFault, parse_line, run_length, trimmed_start};
-use assembler::{AsmCode, AsmFault, standing_before_fault};
+use assembler::{AsmCode, AsmFault, Standing, standing_before_fault};
 use disassembler::hex_digits;
 use itoa::Buffer;
 use std::alloc::{AllocError, Global};
@@ -78,15 +78,28 @@ fn label_read(line: &[u8]) -> &[u8]
     }
 }
 
+/// The first operand whose value is out of its range, where the text stands at its line.
+fn value_beyond_at(
+    alloc: Global,
+    standing: &Standing,
+    statement: &[u8],
+) -> Result<Vec<u8>, AllocError>
+    ensures { IfOk result (λ detail. detail.items ≡ value_beyond_read standing.now statement.now) }
+{
+    let ranges = ranges_read(alloc, first_word(statement))?;
+    let mut detail = Vec::new(alloc);
+    push_value_beyond(&mut detail, standing, &ranges, operands_read(statement))?;
+    Ok(detail)
+}
+
 /// The first operand whose value is out of its range, its value and that range.
 fn value_beyond_read(alloc: Global, text: &[u8], statement: &[u8]) -> Result<Vec<u8>, AllocError>
     ensures { IfOk result (λ detail. detail.items ≡ value_beyond_read (standing_of text.now) statement.now) }
 {
     let standing = standing_before_fault(alloc, text)?;
-    let ranges = ranges_read(alloc, first_word(statement))?;
-    let mut detail = Vec::new(alloc);
-    push_value_beyond(&mut detail, &standing, &ranges, operands_read(statement))?;
-    Ok(detail)
+    let detail = value_beyond_at(alloc, &standing, statement);
+    drop(standing);
+    detail
 }
 
 /// Whether a number of a line is out of range.
@@ -112,10 +125,21 @@ fn unknown_read(alloc: Global, text: &[u8], line: &[u8]) -> Result<Vec<u8>, Allo
     ensures { IfOk result (λ detail. detail.items ≡ name_of_statement (standing_of text.now) (line_meaning line.now).statement) }
 {
     let standing = standing_before_fault(alloc, text)?;
-    Vec::from_slice(
+    let name = Vec::from_slice(
         alloc,
         name_of_statement(&standing, &parse_line(line).statement),
-    )
+    );
+    drop(standing);
+    name
+}
+
+/// How far a line's target is, where the text stands at the line.
+fn far_at(alloc: Global, standing: &Standing, line: &[u8]) -> Result<Vec<u8>, AllocError>
+    ensures { IfOk result (λ detail. detail.items ≡ far_text standing.now (line_meaning line.now).statement) }
+{
+    let mut detail = Vec::new(alloc);
+    push_far(&mut detail, standing, &parse_line(line).statement)?;
+    Ok(detail)
 }
 
 /// How far a line's target is.
@@ -123,8 +147,22 @@ fn far_read(alloc: Global, text: &[u8], line: &[u8]) -> Result<Vec<u8>, AllocErr
     ensures { IfOk result (λ detail. detail.items ≡ far_text (standing_of text.now) (line_meaning line.now).statement) }
 {
     let standing = standing_before_fault(alloc, text)?;
+    let detail = far_at(alloc, &standing, line);
+    drop(standing);
+    detail
+}
+
+/// Why the place of a line's statement is none, where the text stands at the line.
+fn misplaced_at(alloc: Global, standing: &Standing, line: &[u8]) -> Result<Vec<u8>, AllocError>
+    ensures { IfOk result (λ detail. detail.items ≡ misplaced_read standing.now line.now) }
+{
     let mut detail = Vec::new(alloc);
-    push_far(&mut detail, &standing, &parse_line(line).statement)?;
+    push_misplaced(
+        &mut detail,
+        standing.place(),
+        standing.page_count(),
+        standing.misplaced(line),
+    )?;
     Ok(detail)
 }
 
@@ -133,14 +171,17 @@ fn misplaced_read(alloc: Global, text: &[u8], line: &[u8]) -> Result<Vec<u8>, Al
     ensures { IfOk result (λ detail. detail.items ≡ misplaced_read (standing_of text.now) line.now) }
 {
     let standing = standing_before_fault(alloc, text)?;
+    let detail = misplaced_at(alloc, &standing, line);
+    drop(standing);
+    detail
+}
+
+/// The range of a line's capability, where the text stands at the line.
+fn inexact_at(alloc: Global, standing: &Standing, line: &[u8]) -> Result<Vec<u8>, AllocError>
+    ensures { IfOk result (λ detail. detail.items ≡ inexact_text standing.now (line_meaning line.now).statement) }
+{
     let mut detail = Vec::new(alloc);
-    let misplaced = standing.misplaced(line);
-    push_misplaced(
-        &mut detail,
-        standing.place(),
-        standing.page_count(),
-        misplaced,
-    )?;
+    push_inexact(&mut detail, standing, &parse_line(line).statement)?;
     Ok(detail)
 }
 
@@ -149,9 +190,9 @@ fn inexact_read(alloc: Global, text: &[u8], line: &[u8]) -> Result<Vec<u8>, Allo
     ensures { IfOk result (λ detail. detail.items ≡ inexact_text (standing_of text.now) (line_meaning line.now).statement) }
 {
     let standing = standing_before_fault(alloc, text)?;
-    let mut detail = Vec::new(alloc);
-    push_inexact(&mut detail, &standing, &parse_line(line).statement)?;
-    Ok(detail)
+    let detail = inexact_at(alloc, &standing, line);
+    drop(standing);
+    detail
 }
 
 /// The first byte of a line that is no part of a text, and its column.
