@@ -55,7 +55,10 @@ pub(crate) fn labels_of(alloc: Global, text: &[u8]) -> Result<Labels, AllocError
     let mut rest = Some(text);
     while let Some(left) = rest {
         let (line, after) = next_line(left);
-        places.pass(alloc, &line)?;
+        if let Err(error) = places.pass(alloc, &line) {
+            drop(places);
+            return Err(error);
+        }
         rest = after;
     }
     Ok(places.into_labels())
@@ -75,9 +78,16 @@ fn built(alloc: Global, labels: &Labels, text: &[u8]) -> Result<Builder, AsmFaul
     while let Some(left) = rest {
         let (line, after) = next_line(left);
         if let Some(code) = builder.line_fault(labels, &line) {
+            drop(builder);
             return Err(AsmFault { line: number, code });
         }
-        builder.pass(alloc, labels, &line)?;
+        match builder.pass(alloc, labels, &line) {
+            Ok(()) => {}
+            Err(error) => {
+                drop(builder);
+                return Err(AsmFault::from(error));
+            }
+        }
         number += 1;
         rest = after;
     }

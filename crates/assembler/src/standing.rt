@@ -45,7 +45,13 @@ fn before_fault(alloc: Global, labels: &Labels, text: &[u8]) -> Result<Builder, 
         if let Some(_) = builder.line_fault(labels, &line) {
             return Ok(builder);
         }
-        builder.pass(alloc, labels, &line)?;
+        match builder.pass(alloc, labels, &line) {
+            Ok(()) => {}
+            Err(error) => {
+                drop(builder);
+                return Err(error);
+            }
+        }
         rest = after;
     }
     Ok(builder)

@@ -6,7 +6,7 @@ pub loop-rest-preserved : goal.loop-rest-preserved
 loop-rest-preserved c = record {
   fault = search rules;
   built = search rules;
-  buildable = kept_buildable _ _ _ _ c.in_ok-pass.ensures.value c.loop-rest.invariant.buildable (cc) c.next_line.ensures.paged;
+  buildable = kept_buildable _ _ _ _ c.in-Ok.ensures.value c.loop-rest.invariant.buildable (cc) c.next_line.ensures.paged;
   start = omega arith;
   lines = search rules;
   room = search rules;

@@ -20,9 +20,9 @@ loop-rest-preserved c =
           so_far.before
           ∙ ap (λ rest. before_fault symbols s (lines_left rest)) c.in-Some.is
           ∙ ap (before_fault symbols s) c.next_line.ensures.lines
-          ∙ before-step _ _ _ _ _ none c.in_ok-pass.ensures.value;
+          ∙ before-step _ _ _ _ _ none c.in-Ok.ensures.value;
       buildable =
-          kept_buildable _ _ _ _ c.in_ok-pass.ensures.value so_far.buildable none c.next_line.ensures.paged;
+          kept_buildable _ _ _ _ c.in-Ok.ensures.value so_far.buildable none c.next_line.ensures.paged;
       lines = omega arith;
-      room = room-behind _ _ _ _ _ c.in_ok-pass.ensures.near (omega arith) so_far.lines so_far.room;
+      room = room-behind _ _ _ _ _ c.in-Ok.ensures.near (omega arith) so_far.lines so_far.room;
     }
