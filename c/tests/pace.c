@@ -142,8 +142,33 @@ static uint64_t plain_length(uint64_t length) {
     return (uint64_t)(whole(length, granule) * granule);
 }
 
+/* a word's fields, and the word of these */
+static uint64_t compressed(cheri_word_t w) {
+    cheri_fields_t f;
+    cheri_cap_t cap;
+    cheri_decompress(w, &f);
+    return cheri_compress(&f, &cap) ? cap.upper : 0;
+}
+static uint64_t remembered(cheri_word_t w) {
+    uint8_t bytes[16];
+    cheri_to_memory(w, bytes);
+    return cheri_from_memory(bytes).upper;
+}
+/* add, of drawn registers */
+static uint64_t encoded(cheri_word_t w) {
+    cheri_insn_t insn;
+    uint32_t word = 0;
+    return cheri_decode(0x33 | (uint32_t)(w.address & 0x01ff8f80), &insn) && cheri_encode(&insn, &word) ? word : 0;
+}
+/* cincoffset ca0, ca1, a2 */
+static uint64_t executed(cheri_word_t w) {
+    cheri_cap_t value, by = {w.upper >> 40, 0, false};
+    return cheri_execute(0x22c5855b, (cheri_cap_t){w.address, w.upper, false}, by, by, &value) ? value.address : 0;
+}
+
 static void arithmetic(void) {
     uint64_t sum = 0;
+    double fields, memory, insn, row;
     draw();
     BESIDE("base and top", bounds_summed(w), plain_bounds_summed(w));
     BESIDE("set bounds", set_bounds_summed(w), plain_set_bounds_summed(w));
@@ -154,6 +179,12 @@ static void arithmetic(void) {
     NANOSECONDS(address, cheri_set_address((cheri_cap_t){w.address, w.upper, false}, w.address + 8).address);
     NANOSECONDS(mask, cheri_alignment_mask(w.upper >> 12));
     printf("is representable, set address, alignment mask: %.1f, %.1f, %.1f ns\n", keeps, address, mask);
+    NANOSECONDS(fields, compressed(w));
+    NANOSECONDS(memory, remembered(w));
+    NANOSECONDS(insn, encoded(w));
+    NANOSECONDS(row, executed(w));
+    printf("a word's fields and their word, to memory and back, decode and encode, a row over capabilities: %.1f, %.1f, %.1f, %.1f ns\n",
+           fields, memory, insn, row);
     if (!sum) printf("no sum\n");
 }
 
