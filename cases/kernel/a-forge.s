@@ -10,13 +10,3 @@ a_start: csc    cgp, 16(cgp)
         csb     zero, 16(cgp)           # the byte that stood there
         clc     ct0, 16(cgp)
         csb     zero, 0(ct0)
-
-# only if that was allowed
-        li      a7, 1                   # send
-        li      a0, 120                 # 'x'
-        ecall
-        li      a7, 0                   # end
-        ecall
-
-        .align  12
-a_data: .dword  0

@@ -10,13 +10,3 @@ a_start: cspecialrw ct0, pcc, cnull
         lui     t1, 1                   # a page
         cincoffset ct0, ct0, t1
         cjalr   cnull, 0(ct0)
-
-# only if that was allowed
-        li      a7, 1                   # send
-        li      a0, 120                 # 'x'
-        ecall
-        li      a7, 0                   # end
-        ecall
-
-        .align  12
-a_data: .dword  0
