@@ -48,18 +48,20 @@ use Rattle.hart.specs.Accesses.{size_of, through_rs1}
 use Rattle.hart.specs.ComputeRows.{integer_effect, mul_div_effect, written_by, capability_effect, auipc_effect}
 use Rattle.hart.specs.IsState.{IsState}
 use Rattle.hart.specs.AskedLaws.{access_asked-none, register-none}
-use Rattle.hart.specs.JumpRows.{branch_effect, sentry_link, link_of, link_asked, link_done, link_effect, jal_target, enter_asked, enter_done}
-use Rattle.hart.specs.JumpRows.{enter_effect, jalr_target, jalr_effect, invoke_asked, invoke_done, invoke_effect}
+use Rattle.hart.specs.JumpRows.{sentry_link, link_of, link_asked, link_done, jal_target, enter_asked, enter_done}
+use Rattle.hart.specs.JumpRows.{jalr_target, invoke_asked, invoke_done}
 use Rattle.hart.specs.Looks.{number_in, in_capability_mode, next_of, unless_fault, where_all}
 use Rattle.hart.specs.MemoryRows.{place_of, authority_through, authority_of, authority_number_of, access_asked, load_asked, load_done}
-use Rattle.hart.specs.MemoryRows.{load_effect, stored_number, stores_to, store_asked, store_done, store_effect, loaded_capability}
-use Rattle.hart.specs.MemoryRows.{capability_at, load_capability_asked, load_capability_done, load_capability_effect}
-use Rattle.hart.specs.MemoryRows.{store_capability_asked, store_capability_done, store_capability_effect}
+use Rattle.hart.specs.MemoryRows.{stored_number, stores_to, store_asked, store_done, loaded_capability}
+use Rattle.hart.specs.MemoryRows.{capability_at, load_capability_asked, load_capability_done}
+use Rattle.hart.specs.MemoryRows.{store_capability_asked, store_capability_done}
 use Rattle.hart.specs.Registers.{register}
 use Rattle.hart.specs.State.{State, pc_of}
 use Rattle.hart.specs.Step.{asked, does, kind_effect}
-use Rattle.hart.specs.SystemRows.{asked_of_register, csr_number, csr_writes, csr_held, csr_done, csr_effect, special_held, special_done}
-use Rattle.hart.specs.SystemRows.{special_effect, return_done, return_effect}
+use Rattle.hart.specs.SystemRows.{asked_of_register, csr_number, csr_writes, csr_held, csr_done, special_held, special_done}
+use Rattle.hart.specs.SystemRows.{return_done}
+use Rattle.hart.specs.RowEffects.{branch_effect, link_effect, enter_effect, jalr_effect, invoke_effect, load_effect, store_effect}
+use Rattle.hart.specs.RowEffects.{load_capability_effect, store_capability_effect, csr_effect, special_effect, return_effect}
 use Rattle.authority.specs.Reachable.{IsSpecial, IsRoot, in_register, in_pcc, in_ddc, in_mtcc, in_mtdc, in_mscratchc, in_mepcc, IsReachable}
 use Rattle.authority.specs.Reachable.{from_root}
 use Rattle.authority.specs.Reachable.{from_granule}
@@ -437,7 +439,8 @@ module _ (s : State) (is : IsState s) (insn : Insn) where
   mul_div_effect-derives = λ tagged. cc
 
   pub kind_effect-derives : (k : Kind) (word : ℕ) → IsFetched s → Derives (kind_effect k word insn s) s
-  unfolding kind_effect asked does branch_effect link_effect jalr_effect enter_effect invoke_effect load_effect store_effect load_capability_effect store_capability_effect csr_effect special_effect return_effect
+  unfolding kind_effect asked does branch_effect link_effect jalr_effect enter_effect invoke_effect load_effect store_effect
+      load_capability_effect store_capability_effect csr_effect special_effect return_effect
   kind_effect-derives kind.Integer word fetched = integer_effect-derives
   kind_effect-derives kind.MulDiv word fetched = mul_div_effect-derives
   kind_effect-derives kind.Capability word fetched = capability_effect-derives

@@ -43,16 +43,18 @@ use Rattle.tagged_memory.specs.Memory.{Memory, is_in_ram, has_tag, number_at, wo
 use Rattle.hart.specs.Accesses.{size_of, loaded}
 use Rattle.hart.specs.ComputeRows.{integer_effect, mul_div_effect, capability_effect, auipc_effect}
 use Rattle.hart.specs.AskedLaws.{access_asked-none, register-none}
-use Rattle.hart.specs.JumpRows.{branch_effect, link_of, link_effect, jal_target, enter_effect, jalr_effect, invoke_effect}
+use Rattle.hart.specs.JumpRows.{link_of, jal_target}
 use Rattle.hart.specs.Looks.{number_in, unless_fault, where_all}
-use Rattle.hart.specs.MemoryRows.{place_of, authority_of, access_asked, loads_from, load_asked, load_done, load_effect, stored_number}
-use Rattle.hart.specs.MemoryRows.{stores_to, store_asked, store_done, store_effect, loaded_capability, capability_at, load_capability_asked}
-use Rattle.hart.specs.MemoryRows.{load_capability_done, load_capability_effect, store_capability_done, store_capability_effect}
+use Rattle.hart.specs.MemoryRows.{place_of, authority_of, access_asked, loads_from, load_asked, load_done, stored_number}
+use Rattle.hart.specs.MemoryRows.{stores_to, store_asked, store_done, loaded_capability, capability_at, load_capability_asked}
+use Rattle.hart.specs.MemoryRows.{load_capability_done, store_capability_done}
 use Rattle.hart.specs.Registers.{register}
 use Rattle.hart.specs.State.{State, pc_of}
 use Rattle.hart.specs.Step.{asked, does, kind_effect, fetched, decoded_effect, fetched_effect, decided, step_effect}
-use Rattle.hart.specs.SystemRows.{asked_of_register, csr_number, csr_source, csr_writes, csr_new, csr_held, csr_done, csr_effect}
-use Rattle.hart.specs.SystemRows.{special_held, special_done, special_effect, return_effect}
+use Rattle.hart.specs.SystemRows.{asked_of_register, csr_number, csr_source, csr_writes, csr_new, csr_held, csr_done}
+use Rattle.hart.specs.SystemRows.{special_held, special_done}
+use Rattle.hart.specs.RowEffects.{branch_effect, link_effect, enter_effect, jalr_effect, invoke_effect, load_effect, store_effect}
+use Rattle.hart.specs.RowEffects.{load_capability_effect, store_capability_effect, csr_effect, special_effect, return_effect}
 use Rattle.hart.specs.declared.effect.Effect.{Effect}
 use Rattle.hart.specs.declared.effect.Effect.TheVariants.{Write, Store, DeviceLoad, DeviceStore, Csr, Return}
 use Rattle.authority.specs.Authority.{SameScrs}
@@ -334,7 +336,8 @@ module _ (s : State) (m : Memory) (x : Scrs) (looks : SameLooks s (elsewise s m 
   -- all rows, by kind
   kind_effect-same : (k : Kind) (word : ℕ) → kind_of insn.row ≡ k → IsNext s insn
       → kind_effect k word insn (elsewise s m x) ≡ kind_effect k word insn s
-  unfolding kind_effect asked does branch_effect link_effect jalr_effect enter_effect invoke_effect load_effect store_effect load_capability_effect store_capability_effect csr_effect special_effect return_effect
+  unfolding kind_effect asked does branch_effect link_effect jalr_effect enter_effect invoke_effect load_effect store_effect
+      load_capability_effect store_capability_effect csr_effect special_effect return_effect
   kind_effect-same kind.Integer word row next = integer_effect-same
   kind_effect-same kind.MulDiv word row next = mul_div_effect-same
   kind_effect-same kind.Capability word row next = capability_effect-same

@@ -1,12 +1,12 @@
 //! The events that a command gives, and the line that tells of them.
 ghost use Rattle.std.specs.Prelude.{◌≡◌, ◌+◌, ◌-◌, ◌*◌, ◌<◌, ◌≤◌, ◌++◌, IfOk, IfErr, OnOk, OnErr, replicate, length, vec_len, vec_capacity};
-ghost use Rattle.std.specs.Prelude.{string_bytes, string_len, string_capacity};
+ghost use Rattle.std.specs.Prelude.{string_bytes, string_len, string_capacity, true, false, IfSome, IfNone, OnSome, None};
 ghost use Rattle.std.specs.List.{flat_map};
 ghost use Rattle.special_regs.specs.Scrs.{scr_value};
 ghost use Rattle.hart.specs.declared.event.Event.TheVariants.{Step};
 ghost use Rattle.hart.specs.State.{pc_of};
-ghost use Rattle.hart.specs.Outcome.{is_trap};
-ghost use Rattle.hart.specs.Step.{step_outcome};
+ghost use Rattle.hart.specs.Applying.{meant, IsPlanned};
+ghost use Rattle.hart.specs.Outcome.{is_trap, outcome_of};
 ghost use Rattle.machine.specs.Run.{run_after, run_sent};
 ghost use Rattle.disassembler.specs.Hex.{hex_of};
 ghost use Rattle.debugger.specs.Reply.{is_stop, steps_until as until_steps, events_of, events_line, shown_sent, shown_end};
@@ -16,7 +16,8 @@ ghost use Rattle.debug_commands.specs.Seen.{seen_command, most_of, IsWithinLimit
 use crate::text::{put, put_decimal, put_hex};
 use cap_bounds::CapRep;
 use debug_commands::{Command, DebugFault, Stop};
-use machine::{Event, Machine, Why, emit};
+use hart::Effect;
+use machine::{Event, Machine, Planned, emit};
 use std::alloc::{AllocError, Global};
 
 /// The number of PCC.
@@ -63,28 +64,43 @@ fn steps<C: CapRep>(machine: &mut Machine<C>, times: u64, sent: &mut Vec<u8>)
     }
 }
 
-/// Whether the next step would trap.
-fn traps_next<C: CapRep>(machine: &Machine<C>) -> bool
-    ensures { result ≡ is_trap (step_outcome machine.now) }
+/// Whether an effect is a trap.
+#[tactic(auto, unfolding(hart::specs::Outcome::outcome_of))]
+fn is_trap_effect<C: CapRep>(effect: &Effect<C>) -> bool
+    ensures { result ≡ is_trap (outcome_of (meant C.value effect.now)) }
 {
-    matches!(machine.next_ends(Event::Step), Some(Why::Trap))
+    matches!(effect, Effect::Trap(_))
 }
 
-/// Whether the machine is where steps stop.
-fn is_stop<C: CapRep>(machine: &Machine<C>, stop: Stop) -> bool
+/// Whether a machine that isn't halted, and whose next step was planned, is where steps stop.
+#[tactic(auto, unfolding(hart::specs::Step::step_outcome))]
+fn is_stop<C: CapRep>(machine: &Machine<C>, stop: Stop, planned: &Planned<C>) -> bool
+    requires planned { IsPlanned C.value planned.now.effect machine.now }
+    requires running { machine.now.devices.halted ≡ None }
     ensures { result ≡ is_stop stop machine.now }
 {
     match stop {
         Stop::Address(address) => pc(machine) == address,
-        Stop::Trap => traps_next(machine),
+        Stop::Trap => is_trap_effect(&planned.effect),
     }
 }
 
-/// Whether one more step is given: fewer than the most were, the machine isn't where they stop, and it isn't halted.
-fn goes_on<C: CapRep>(machine: &Machine<C>, stop: Stop, left: u64) -> bool
-    ensures { result ≡ goes_on stop left machine.now }
+/// The next step that is given, planned: there is one while fewer than the most were, the machine isn't halted, and it isn't where steps
+/// stop.
+fn next_given<C: CapRep>(machine: &Machine<C>, stop: Stop, left: u64) -> Option<Planned<C>>
+    ensures planned { IfSome result (λ planned. IsPlanned C.value planned.effect machine.now) }
+    ensures given { OnSome result (goes_on stop left machine.now ≡ true) }
+    ensures stopped { IfNone result (goes_on stop left machine.now ≡ false) }
+    ensures few { OnSome result (0 < left) }
 {
-    left > 0 && !(is_stop(machine, stop) || machine.halted().is_some())
+    if left == 0 || machine.halted().is_some() {
+        return None;
+    }
+    let planned = machine.next();
+    if is_stop(machine, stop, &planned) {
+        return None;
+    }
+    Some(planned)
 }
 
 /// Gives steps of one run while they don't stop, at most so many, and answers how many there were. They send nothing.
@@ -113,8 +129,8 @@ fn steps_until<C: CapRep>(
     ensures len { vec_len sent.new ≤ vec_len sent.old + most }
 {
     let mut left = most;
-    while goes_on(machine, stop, left) {
-        let out = machine.event(Event::Step);
+    while let Some(planned) = next_given(machine, stop, left) {
+        let out = machine.apply(planned);
         emit(sent, out.byte);
         left -= 1;
         left -= run_towards(machine, stop, left);

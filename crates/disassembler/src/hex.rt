@@ -6,16 +6,26 @@ ghost use Rattle.disassembler.specs.Hex.{hex_of};
 use arrayvec::ArrayString;
 
 /// The lowest `width` digits of `n`, at most 17, in lower-case hexadecimal with leading zeros.
-#[tactic(auto, unfolding(crate::specs::Hex::hex_of))]
 pub fn hex_digits(n: u128, width: usize) -> ArrayString<17>
     requires { width ≤ 17 }
     ensures text { result.bytes ≡ hex_of width n }
     ensures length { array_string_len result ≡ width }
 {
-    if width == 0 {
-        ArrayString::new()
-    } else {
-        extended(hex_digits(n / 16, width - 1), (n % 16) as u8)
+    let mut text = ArrayString::new();
+    push_hex(&mut text, n, width);
+    text
+}
+
+/// Appends the lowest `width` digits of `n`.
+#[tactic(auto, unfolding(crate::specs::Hex::hex_of))]
+fn push_hex(text: &mut ArrayString<17>, n: u128, width: usize)
+    requires { array_string_len text.old + width ≤ 17 }
+    ensures text { text.new.bytes ≡ text.old.bytes ++ hex_of width n }
+    ensures length { array_string_len text.new ≡ array_string_len text.old + width }
+{
+    if width > 0 {
+        push_hex(text, n / 16, width - 1);
+        text.push(glyph((n % 16) as u8));
     }
 }
 

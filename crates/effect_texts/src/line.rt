@@ -1,7 +1,7 @@
 //! A line of a trace.
 ghost use Rattle.std.specs.Prelude.{◌≡◌, ◌+◌, ◌<◌, ◌≤◌, ◌++◌};
 ghost use Rattle.arrayvec.specs.ArrayString.{array_string_len};
-ghost use Rattle.hart.specs.Applying.{meant};
+ghost use Rattle.hart.specs.Applying.{meant, IsPlanned};
 ghost use Rattle.hart.specs.Step.{step_effect};
 ghost use Rattle.effect_texts.specs.TraceLine as spec;
 
@@ -10,7 +10,7 @@ use arrayvec::ArrayString;
 use base::interrupt;
 use cap_bounds::CapRep;
 use disassembler::{disassemble, hex_digits};
-use hart::{Effect, Hart};
+use hart::{Effect, Hart, Planned};
 use itoa::Buffer;
 
 /// The text of a line.
@@ -48,21 +48,21 @@ fn put_word<C: CapRep>(line: &mut Line, hart: &Hart<C>, effect: &Effect<C>)
     }
 }
 
-/// The line of a trace for the next step of a machine that is not halted, with the step's number: PCC's address, the word of the
-/// instruction there and its text in PCC's mode, and what the step comes to. Where nothing is fetched, as where an interrupt is taken,
-/// `-` stands for the word. It takes no memory, and changes nothing.
-pub fn trace_line<C: CapRep>(number: u64, hart: &Hart<C>) -> Line
+/// The line of a trace for the next step, which was planned, of a machine that is not halted, with the step's number: PCC's address, the
+/// word of the instruction there and its text in PCC's mode, and what the step comes to. Where nothing is fetched, as where an interrupt
+/// is taken, `-` stands for the word. It takes no memory, and changes nothing.
+pub fn trace_line<C: CapRep>(number: u64, hart: &Hart<C>, planned: &Planned<C>) -> Line
+    requires { IsPlanned C.value planned.now.effect hart.now }
     ensures { result.bytes ≡ spec.trace_line number hart.now }
 {
-    let effect = hart.next_effect();
     let mut line = Line::new();
     line.push_str(Buffer::new().format(number));
     line.push_str(" ");
     line.push_str(hex_digits(u128::from(hart.scrs().pcc().address()), 16).as_str());
     line.push_str(" ");
-    put_word(&mut line, hart, &effect);
+    put_word(&mut line, hart, &planned.effect);
     line.push_str(": ");
-    line.push_str(effect_text(&effect).as_str());
+    line.push_str(effect_text(&planned.effect).as_str());
     line.push_str("\n");
     line
 }

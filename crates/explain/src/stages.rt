@@ -252,7 +252,8 @@ fn put_access<C: CapRep>(
     mapped: Condition,
 ) -> Result<(), AllocError>
     requires registers { HasRegisters insn }
-    ensures { OnOk result (string_bytes text.new ≡ string_bytes text.old ++ stage_text (access_stage access (access_asked access mapped insn hart.now) insn hart.now)) }
+    ensures { OnOk result (string_bytes text.new ≡ string_bytes text.old
+        ++ stage_text (access_stage access (access_asked access mapped insn hart.now) insn hart.now)) }
 {
     let through = hart.authority(insn);
     let register = through.register;
@@ -296,7 +297,8 @@ fn put_csr<C: CapRep>(
     word: u32,
     insn: Insn,
 ) -> Result<(), AllocError>
-    ensures { OnOk result (string_bytes text.new ≡ string_bytes text.old ++ stage_text (spec.system_stage (csr_asked word insn hart.now) hart.now)) }
+    ensures { OnOk result (string_bytes text.new ≡ string_bytes text.old
+        ++ stage_text (spec.system_stage (csr_asked word insn hart.now) hart.now)) }
 {
     let [first, last] = csr_conditions(
         hart.scrs(),
@@ -319,7 +321,8 @@ fn put_special<C: CapRep>(
     insn: Insn,
 ) -> Result<(), AllocError>
     requires registers { HasRegisters insn }
-    ensures { OnOk result (string_bytes text.new ≡ string_bytes text.old ++ stage_text (spec.system_stage (special_asked word insn hart.now) hart.now)) }
+    ensures { OnOk result (string_bytes text.new ≡ string_bytes text.old
+        ++ stage_text (spec.system_stage (special_asked word insn hart.now) hart.now)) }
 {
     let register = FIRST_SPECIAL + u64::from(insn.rs2);
     let [first, last] = scr_conditions(hart.scrs(), insn.rs2, insn.rs1 != 0);
@@ -333,7 +336,8 @@ fn put_special<C: CapRep>(
 
 /// Puts MRET behind a text.
 fn put_return<C: CapRep>(text: &mut String, hart: &Hart<C>, word: u32) -> Result<(), AllocError>
-    ensures { OnOk result (string_bytes text.new ≡ string_bytes text.old ++ stage_text (spec.system_stage (return_asked word hart.now) hart.now)) }
+    ensures { OnOk result (string_bytes text.new ≡ string_bytes text.old
+        ++ stage_text (spec.system_stage (return_asked word hart.now) hart.now)) }
 {
     let [only] = return_conditions(hart.scrs());
     put_system(

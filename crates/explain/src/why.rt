@@ -45,7 +45,7 @@ fn put_running<C: CapRep>(text: &mut String, hart: &Hart<C>) -> Result<(), Alloc
     put_instruction(text, hart)?;
     put_stages(text, hart)?;
     put(text, "effect: ")?;
-    put(text, effect_text(&hart.next_effect()).as_str())?;
+    put(text, effect_text(&hart.next().effect).as_str())?;
     put(text, "\n")
 }
 

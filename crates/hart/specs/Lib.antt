@@ -27,4 +27,5 @@ pub mod EventLaws
 pub mod OpeningStateLaws
 -- Inner words
 pub mod Applying
+pub mod RowEffects
 pub mod PlainRun

@@ -221,7 +221,7 @@ impl<C: CapRep> Hart<C> {
     /// Applies an effect. A trap changes nothing but what trap entry says.
     #[inline(always)]
     #[tactic(auto, unfolding(crate::specs::Effect::applied, crate::specs::Applying::CanApply))]
-    pub(crate) fn apply(&mut self, effect: Effect<C>)
+    pub(crate) fn apply_effect(&mut self, effect: Effect<C>)
         requires { CanApply effect self.old }
         ensures { self.new ≡ applied (meant C.value effect) self.old }
     {

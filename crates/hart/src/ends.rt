@@ -1,16 +1,18 @@
 //! Whether an event would end a stretch of plain events.
 
-ghost use Rattle.std.specs.Prelude.{◌≡◌};
-ghost use Rattle.hart.specs.Applying.{meant};
+ghost use Rattle.std.specs.Prelude.{◌≡◌, None, Some, IfErr, IfOk, OnErr, OnOk};
+ghost use Rattle.hart.specs.Applying.{meant, IsPlanned};
 ghost use Rattle.hart.specs.Ends.{why_of};
-ghost use Rattle.hart.specs.Event.{outcome};
+ghost use Rattle.hart.specs.Event.{after, outcome, sent};
 ghost use Rattle.hart.specs.IsState.{IsState};
 ghost use Rattle.hart.specs.Outcome.{outcome_of};
 ghost use Rattle.hart.specs.Step.{step_outcome};
+ghost use Rattle.hart.specs.declared.event.Event.TheVariants.{Step};
 
 use crate::effect::Effect;
-use crate::event::Event;
+use crate::event::{Event, Out};
 use crate::hart::Hart;
+use crate::planned::Planned;
 use cap_bounds::CapRep;
 
 /// Why a stretch of plain events ends.
@@ -33,21 +35,58 @@ impl<C: CapRep> Hart<C> {
     {
         self.is_state();
         match event {
-            Event::Step => self.step_ends(),
+            Event::Step => self.step_ends(&self.next()),
             Event::Tick | Event::Byte(_) => None,
         }
     }
 
-    /// The same of a step: the outcome of the effect that it would apply.
+    /// The same of a step that was planned: the outcome of its effect.
     #[inline]
     #[tactic(auto, unfolding(crate::specs::Step::step_outcome))]
-    fn step_ends(&self) -> Option<Why>
+    fn step_ends(&self, planned: &Planned<C>) -> Option<Why>
+        requires { IsPlanned C.value planned.now.effect self.now }
         ensures { result ≡ why_of (step_outcome self.now) }
     {
         if self.devices.halted().is_some() {
             return None;
         }
-        self.next_effect().ends()
+        planned.effect.ends()
+    }
+
+    /// Meets an event unless it would end a stretch, and then says why. A step is planned once.
+    pub fn meet_plain(&mut self, event: Event) -> Result<Out, Why>
+        ensures plain { OnOk result (why_of (outcome event self.old) ≡ None) }
+        ensures state { OnOk result (self.new ≡ after event self.old) }
+        ensures byte { IfOk result (λ out. out.byte ≡ sent event self.old) }
+        ensures why { IfErr result (λ why. why_of (outcome event self.old) ≡ Some why) }
+        ensures same { OnErr result (self.new ≡ self.old) }
+        ensures was_state { IsState self.old }
+        ensures is_state { IsState self.new }
+    {
+        self.is_state();
+        match event {
+            Event::Step => self.step_plainly(),
+            Event::Tick | Event::Byte(_) => Ok(self.event(event)),
+        }
+    }
+
+    /// The same of a step.
+    fn step_plainly(&mut self) -> Result<Out, Why>
+        ensures plain { OnOk result (why_of (step_outcome self.old) ≡ None) }
+        ensures state { OnOk result (self.new ≡ after Step self.old) }
+        ensures byte { IfOk result (λ out. out.byte ≡ sent Step self.old) }
+        ensures why { IfErr result (λ why. why_of (step_outcome self.old) ≡ Some why) }
+        ensures same { OnErr result (self.new ≡ self.old) }
+        ensures is_state { IsState self.new }
+    {
+        let planned = self.next();
+        match self.step_ends(&planned) {
+            Some(why) => {
+                self.is_state();
+                Err(why)
+            }
+            None => Ok(self.apply(planned)),
+        }
     }
 }
 

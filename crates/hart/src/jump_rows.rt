@@ -5,8 +5,8 @@ ghost use Rattle.isa_rows.specs.Kind.{kind_of};
 ghost use Rattle.isa_rows.specs.declared.kinds.Kind.TheVariants as kind;
 ghost use Rattle.hart.specs.Applying.{meant, CanApply};
 ghost use Rattle.hart.specs.Looks.{HasRegisters};
-ghost use Rattle.hart.specs.JumpRows.{sentry_link, link_of, branch_effect, link_effect, jal_target, enter_effect, jalr_effect};
-ghost use Rattle.hart.specs.JumpRows.{invoke_effect};
+ghost use Rattle.hart.specs.JumpRows.{sentry_link, link_of, jal_target};
+ghost use Rattle.hart.specs.RowEffects.{branch_effect, link_effect, enter_effect, jalr_effect, invoke_effect};
 
 use crate::effect::{Effect, Enter, Link};
 use crate::hart::Hart;
@@ -23,7 +23,7 @@ const INVOKED_DATA: u8 = 31;
 impl<C: CapRep> Hart<C> {
     /// A branch: where it is taken, its target is checked against PCC.
     #[inline]
-    #[tactic(auto, unfolding(crate::specs::JumpRows::branch_effect, cap_checks::specs::FirstFault::target_fault, crate::specs::Applying::CanApply))]
+    #[tactic(auto, unfolding(crate::specs::RowEffects::branch_effect, cap_checks::specs::FirstFault::target_fault, crate::specs::Applying::CanApply))]
     pub(crate) fn plan_branch(&self, insn: Insn) -> Effect<C>
         requires kind { kind_of insn.row ≡ kind.Branch }
         requires registers { HasRegisters insn }
@@ -62,7 +62,7 @@ impl<C: CapRep> Hart<C> {
 
     /// A jump within PCC with a link.
     #[inline]
-    #[tactic(auto, unfolding(crate::specs::JumpRows::link_effect, cap_checks::specs::FirstFault::target_fault, crate::specs::Applying::CanApply))]
+    #[tactic(auto, unfolding(crate::specs::RowEffects::link_effect, cap_checks::specs::FirstFault::target_fault, crate::specs::Applying::CanApply))]
     fn plan_link(&self, rd: u8, target: u64) -> Effect<C>
         requires { rd < 32 }
         ensures effect { meant C.value result ≡ link_effect rd target self.now }
@@ -90,7 +90,7 @@ impl<C: CapRep> Hart<C> {
 
     /// A jump to the capability in rs1, whose seal, if it has one, is opened: JALR in capability mode, and JALR.CAP.
     #[inline(always)]
-    #[tactic(auto, unfolding(crate::specs::JumpRows::enter_effect, cap_checks::specs::FirstFault::jump_fault, crate::specs::Applying::CanApply))]
+    #[tactic(auto, unfolding(crate::specs::RowEffects::enter_effect, cap_checks::specs::FirstFault::jump_fault, crate::specs::Applying::CanApply))]
     pub(crate) fn plan_enter(&self, insn: Insn) -> Effect<C>
         requires registers { HasRegisters insn }
         ensures effect { meant C.value result ≡ enter_effect insn self.now }
@@ -111,7 +111,7 @@ impl<C: CapRep> Hart<C> {
 
     /// JALR, by the mode.
     #[inline(always)]
-    #[tactic(auto, unfolding(crate::specs::JumpRows::jalr_effect, crate::specs::JumpRows::enter_effect, crate::specs::JumpRows::link_effect))]
+    #[tactic(auto, unfolding(crate::specs::RowEffects::jalr_effect, crate::specs::RowEffects::enter_effect, crate::specs::RowEffects::link_effect))]
     pub(crate) fn plan_jalr(&self, insn: Insn) -> Effect<C>
         requires registers { HasRegisters insn }
         ensures effect { meant C.value result ≡ jalr_effect insn self.now }
@@ -125,7 +125,7 @@ impl<C: CapRep> Hart<C> {
     }
 
     /// CInvoke: PCC is the code unsealed, and register 31 is the data unsealed.
-    #[tactic(auto, unfolding(crate::specs::JumpRows::invoke_effect, cap_checks::specs::FirstFault::invoke_fault, crate::specs::Applying::CanApply))]
+    #[tactic(auto, unfolding(crate::specs::RowEffects::invoke_effect, cap_checks::specs::FirstFault::invoke_fault, crate::specs::Applying::CanApply))]
     pub(crate) fn plan_invoke(&self, insn: Insn) -> Effect<C>
         requires registers { HasRegisters insn }
         ensures effect { meant C.value result ≡ invoke_effect insn self.now }

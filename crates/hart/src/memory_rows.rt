@@ -11,8 +11,9 @@ ghost use Rattle.hart.specs.Applying.{meant, CanApply};
 ghost use Rattle.hart.specs.Looks.{HasRegisters, where_all};
 ghost use Rattle.hart.specs.MemoryRows as spec;
 ghost use Rattle.hart.specs.MemoryRows.{place_of, authority_of, authority_number_of, loads_from, stores_to, capability_at};
-ghost use Rattle.hart.specs.MemoryRows.{load_done, load_effect, store_done, store_effect, load_capability_done, load_capability_effect};
-ghost use Rattle.hart.specs.MemoryRows.{store_capability_done, store_capability_effect};
+ghost use Rattle.hart.specs.MemoryRows.{load_done, store_done, load_capability_done};
+ghost use Rattle.hart.specs.MemoryRows.{store_capability_done};
+ghost use Rattle.hart.specs.RowEffects.{load_effect, store_effect, load_capability_effect, store_capability_effect};
 
 use crate::accesses::{loaded, size_of, through_rs1};
 use crate::effect::{DeviceLoad, Effect, Store, StoreCapability, Write};
@@ -132,7 +133,7 @@ impl<C: CapRep> Hart<C> {
 
     /// A load of data.
     #[inline(always)]
-    #[tactic(auto, unfolding(crate::specs::MemoryRows::load_effect, crate::specs::Applying::CanApply))]
+    #[tactic(auto, unfolding(crate::specs::RowEffects::load_effect, crate::specs::Applying::CanApply))]
     pub(crate) fn plan_load(&self, insn: Insn) -> Effect<C>
         requires registers { HasRegisters insn }
         ensures effect { meant C.value result ≡ load_effect insn self.now }
@@ -177,7 +178,7 @@ impl<C: CapRep> Hart<C> {
 
     /// A store of data.
     #[inline(always)]
-    #[tactic(auto, unfolding(crate::specs::MemoryRows::store_effect, crate::specs::Applying::CanApply))]
+    #[tactic(auto, unfolding(crate::specs::RowEffects::store_effect, crate::specs::Applying::CanApply))]
     pub(crate) fn plan_store(&self, insn: Insn) -> Effect<C>
         requires registers { HasRegisters insn }
         ensures effect { meant C.value result ≡ store_effect insn self.now }
@@ -216,7 +217,8 @@ impl<C: CapRep> Hart<C> {
         requires register { rd < 32 }
         requires aligned { address % 16 ≡ 0 }
         ensures effect { meant C.value result
-            ≡ where_all (capability_at cause.LoadAccess address self.now ∷ []) (load_capability_done (C.value authority) rd address self.now) }
+            ≡ where_all (capability_at cause.LoadAccess address self.now ∷ [])
+            (load_capability_done (C.value authority) rd address self.now) }
         ensures can { CanApply result self.now }
     {
         if !self.holds_granule(address) {
@@ -230,7 +232,7 @@ impl<C: CapRep> Hart<C> {
 
     /// A load of a capability.
     #[inline(always)]
-    #[tactic(auto, unfolding(crate::specs::MemoryRows::load_capability_effect, crate::specs::Applying::CanApply))]
+    #[tactic(auto, unfolding(crate::specs::RowEffects::load_capability_effect, crate::specs::Applying::CanApply))]
     pub(crate) fn plan_load_capability(&self, insn: Insn) -> Effect<C>
         requires registers { HasRegisters insn }
         ensures effect { meant C.value result ≡ load_capability_effect insn self.now }
@@ -267,7 +269,7 @@ impl<C: CapRep> Hart<C> {
 
     /// A store of a capability, or of 128 bits without a tag.
     #[inline(always)]
-    #[tactic(auto, unfolding(crate::specs::MemoryRows::store_capability_effect, crate::specs::Applying::CanApply))]
+    #[tactic(auto, unfolding(crate::specs::RowEffects::store_capability_effect, crate::specs::Applying::CanApply))]
     pub(crate) fn plan_store_capability(&self, insn: Insn) -> Effect<C>
         requires registers { HasRegisters insn }
         ensures effect { meant C.value result ≡ store_capability_effect insn self.now }

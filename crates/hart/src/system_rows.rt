@@ -4,6 +4,7 @@ ghost use Rattle.std.specs.Prelude.{◌≡◌, ◌<◌, ◌%◌, ◌==◌, not, 
 ghost use Rattle.special_regs.specs.Refusals.{scr_fault};
 ghost use Rattle.hart.specs.Applying.{meant, CanApply};
 ghost use Rattle.hart.specs.Looks.{HasRegisters};
+ghost use Rattle.hart.specs.RowEffects.{csr_effect, special_effect, return_effect};
 ghost use Rattle.hart.specs.SystemRows as spec;
 
 use crate::effect::{CsrWrite, Effect, SpecialWrite, Write};
@@ -60,10 +61,10 @@ impl<C: CapRep> Hart<C> {
 
     /// A CSR row: its old number goes to rd, and its new one into the register.
     #[inline(always)]
-    #[tactic(auto, unfolding(crate::specs::SystemRows::csr_effect, crate::specs::SystemRows::csr_done, crate::specs::Applying::CanApply))]
+    #[tactic(auto, unfolding(crate::specs::RowEffects::csr_effect, crate::specs::SystemRows::csr_done, crate::specs::Applying::CanApply))]
     pub(crate) fn plan_csr(&self, word: u32, insn: Insn) -> Effect<C>
         requires registers { HasRegisters insn }
-        ensures effect { meant C.value result ≡ spec.csr_effect word insn self.now }
+        ensures effect { meant C.value result ≡ csr_effect word insn self.now }
         ensures can { CanApply result self.now }
     {
         let number = csr_number(insn);
@@ -109,10 +110,10 @@ impl<C: CapRep> Hart<C> {
     }
 
     /// CSpecialRW.
-    #[tactic(auto, unfolding(crate::specs::SystemRows::special_effect, crate::specs::Applying::CanApply))]
+    #[tactic(auto, unfolding(crate::specs::RowEffects::special_effect, crate::specs::Applying::CanApply))]
     pub(crate) fn plan_special(&self, word: u32, insn: Insn) -> Effect<C>
         requires registers { HasRegisters insn }
-        ensures effect { meant C.value result ≡ spec.special_effect word insn self.now }
+        ensures effect { meant C.value result ≡ special_effect word insn self.now }
         ensures can { CanApply result self.now }
     {
         match check_scr(&self.scrs, insn.rs2, insn.rs1 != 0) {
@@ -123,9 +124,9 @@ impl<C: CapRep> Hart<C> {
 
     /// MRET.
     #[inline(always)]
-    #[tactic(auto, unfolding(crate::specs::SystemRows::return_effect, crate::specs::Applying::CanApply))]
+    #[tactic(auto, unfolding(crate::specs::RowEffects::return_effect, crate::specs::Applying::CanApply))]
     pub(crate) fn plan_return(&self, word: u32) -> Effect<C>
-        ensures effect { meant C.value result ≡ spec.return_effect word self.now }
+        ensures effect { meant C.value result ≡ return_effect word self.now }
         ensures can { CanApply result self.now }
     {
         match check_return(&self.scrs) {

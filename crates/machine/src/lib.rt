@@ -11,7 +11,7 @@ mod worlds;
 
 pub use end::End;
 pub use fault::MachineFault;
-pub use hart::{Advance, Event, Hart, Out, Why};
+pub use hart::{Advance, Event, Hart, Out, Planned, Why};
 pub use machine::{Machine, emit};
 pub use stretch::Stretch;
 pub use worlds::{Both, events_make_one_stretch, run_both};

@@ -9,7 +9,9 @@ ghost use Rattle.special_regs.specs.CsrValues.{csr_value};
 ghost use Rattle.hart.specs.Registers.{register};
 ghost use Rattle.hart.specs.State.{HoldsCapabilities};
 ghost use Rattle.hart.specs.IsState.{IsState};
+ghost use Rattle.hart.specs.Applying.{IsPlanned};
 ghost use Rattle.hart.specs.Event.{after, sent};
+ghost use Rattle.hart.specs.declared.event.Event.TheVariants.{Step};
 ghost use Rattle.hart.specs.Opening.{opening};
 ghost use Rattle.machine.specs.Run.{run_after, run_sent, end_of};
 
@@ -18,7 +20,7 @@ use crate::end::End;
 use crate::fault::MachineFault;
 use cap_bounds::CapRep;
 use devices::Devices;
-use hart::{Event, Hart, Out};
+use hart::{Event, Hart, Out, Planned};
 use image::Image;
 use std::alloc::Global;
 use std::marker::Model;
@@ -75,6 +77,25 @@ impl<C: CapRep> Machine<C> {
         ensures is_state { IsState self.new }
     {
         self.hart.event(event)
+    }
+
+    /// Plans the next step. Nothing is changed.
+    #[inline]
+    pub fn next(&self) -> Planned<C>
+        ensures { IsPlanned C.value result.effect self.now }
+    {
+        self.hart.next()
+    }
+
+    /// Does the next step, which was planned of this state, and answers the byte that is sent. A machine that is halted ignores it.
+    #[inline]
+    pub fn apply(&mut self, planned: Planned<C>) -> Out
+        requires { IsPlanned C.value planned.effect self.old }
+        ensures state { self.new ≡ after Step self.old }
+        ensures byte { result.byte ≡ sent Step self.old }
+        ensures is_state { IsState self.new }
+    {
+        self.hart.apply(planned)
     }
 
     /// Meets events in order and appends the sent bytes to `out`.

@@ -1,8 +1,9 @@
 //! Stretches: runs up to the first event that traps, unseals or jumps through a seal.
 
 ghost use Rattle.std.specs.Prelude.{◌≡◌, ℕ, ◌+◌, ◌≤◌, ◌++◌, length, take, drop, vec_len, vec_capacity, IsOk, IfOk, IfErr, OnErr};
+ghost use Rattle.std.specs.Prelude.{None, Some, OnOk};
 ghost use Rattle.hart.specs.Ends.{why_of};
-ghost use Rattle.hart.specs.Event.{outcome};
+ghost use Rattle.hart.specs.Event.{after, outcome, sent};
 ghost use Rattle.hart.specs.IsState.{IsState};
 ghost use Rattle.machine.specs.Run.{run_after, run_sent};
 ghost use Rattle.machine.specs.Stretch.{ArePlain, EndsBefore, IsSameStretch};
@@ -13,7 +14,7 @@ ghost use Rattle.authority.specs.Worlds.{Agree};
 use crate::fault::MachineFault;
 use crate::machine::{Machine, emit};
 use cap_bounds::CapRep;
-use hart::{Event, Why};
+use hart::{Event, Out, Why};
 
 /// How far a stretch went.
 #[derive(Clone, Copy, Debug, PartialEq, Eq)]
@@ -32,6 +33,20 @@ impl<C: CapRep> Machine<C> {
         ensures state { IsState self.now }
     {
         self.hart.next_ends(event)
+    }
+
+    /// Meets an event unless it would end a stretch, and then says why. A step is planned once.
+    #[inline]
+    fn meet_plain(&mut self, event: Event) -> Result<Out, Why>
+        ensures plain { OnOk result (why_of (outcome event self.old) ≡ None) }
+        ensures state { OnOk result (self.new ≡ after event self.old) }
+        ensures byte { IfOk result (λ out. out.byte ≡ sent event self.old) }
+        ensures why { IfErr result (λ why. why_of (outcome event self.old) ≡ Some why) }
+        ensures same { OnErr result (self.new ≡ self.old) }
+        ensures was_state { IsState self.old }
+        ensures is_state { IsState self.new }
+    {
+        self.hart.meet_plain(event)
     }
 
     /// Meets events in order up to the first that would end the stretch, and appends the sent bytes to `out`.
@@ -70,12 +85,13 @@ impl<C: CapRep> Machine<C> {
         }
         let mut done = 0;
         for event in events {
-            let why = self.next_ends(*event);
-            if why.is_some() {
-                return Ok(Stretch { done, why });
+            match self.meet_plain(*event) {
+                Ok(sent) => emit(out, sent.byte),
+                Err(why) => {
+                    let why = Some(why);
+                    return Ok(Stretch { done, why });
+                }
             }
-            let sent = self.event(*event);
-            emit(out, sent.byte);
             done += 1;
         }
         self.hart.is_state();

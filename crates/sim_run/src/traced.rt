@@ -14,7 +14,7 @@ use crate::schedule::Schedule;
 use cap_bounds::CapRep;
 use effect_texts::trace_line;
 use image::{Sink, write_all};
-use machine::{End, Event, Machine};
+use machine::{End, Machine};
 
 /// Which sink of a traced run failed.
 #[derive(Clone, Copy, Debug, PartialEq, Eq)]
@@ -42,12 +42,13 @@ fn meet_step<C: CapRep, W: Sink, T: Sink>(
         (T.held trace.old) (T.held trace.new)) }
     ensures count { CountsTraced result (W.failed sink.old) (W.failed sink.new) (T.failed trace.old) (T.failed trace.new) }
 {
-    let line = trace_line(before + 1, machine.hart());
+    let planned = machine.next();
+    let line = trace_line(before + 1, machine.hart(), &planned);
     match write_all(trace, line.as_bytes()) {
         Ok(()) => {}
         Err(_) => return Err(TraceFault::Trace),
     }
-    let out = machine.event(Event::Step);
+    let out = machine.apply(planned);
     match write_sent(out.byte, sink) {
         Ok(()) => Ok(()),
         Err(_) => Err(TraceFault::Output),

@@ -4,8 +4,8 @@ use Rattle.debugger.specs.Reply.{steps_until}
 use Rattle.debugger.proofs.run.steps_until.Given as goal
 
 -- what is still to come after the steps so far is what comes after all of them
-abbrev pub invariant-loop-stop : goal.invariant-loop-stop
-invariant-loop-stop g l = record {
+abbrev pub invariant-loop-planned : goal.invariant-loop-planned
+invariant-loop-planned g l = record {
   state : run_after (steps_until l.stop l.left l.machine) l.machine ≡ run_after (steps_until l.stop l.most l.fn.machine) l.fn.machine;
   bytes : l.sent.items ++ run_sent (steps_until l.stop l.left l.machine) l.machine ≡ l.fn.sent.items
       ++ run_sent (steps_until l.stop l.most l.fn.machine) l.fn.machine;
@@ -15,5 +15,5 @@ invariant-loop-stop g l = record {
   room : vec_len l.sent + l.left ≤ vec_capacity l.sent;
 }
 
-abbrev pub decreases-loop-stop : goal.decreases-loop-stop
-decreases-loop-stop g l = l.left
+abbrev pub decreases-loop-planned : goal.decreases-loop-planned
+decreases-loop-planned g l = l.left

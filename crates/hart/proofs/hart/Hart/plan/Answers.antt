@@ -1,8 +1,7 @@
 use Rattle.std.proofs.Common.{rules, sym, ap, ◌∙◌}
-use Rattle.hart.specs.JumpRows.{branch_effect, link_effect, jalr_effect, enter_effect, invoke_effect}
-use Rattle.hart.specs.MemoryRows.{load_effect, store_effect, load_capability_effect, store_capability_effect}
 use Rattle.hart.specs.Step.{asked, does, kind_effect}
-use Rattle.hart.specs.SystemRows.{csr_effect, special_effect, return_effect}
+use Rattle.hart.specs.RowEffects.{branch_effect, link_effect, enter_effect, jalr_effect, invoke_effect, load_effect, store_effect}
+use Rattle.hart.specs.RowEffects.{load_capability_effect, store_capability_effect, csr_effect, special_effect, return_effect}
 use Rattle.hart.proofs.hart.Hart.plan.Goals as goal
 
 pub plan_integer-requires : goal.plan_integer-requires
@@ -15,85 +14,101 @@ pub plan_capability-requires : goal.plan_capability-requires
 plan_capability-requires g c = (search rules, (sym c.kind.ensures ∙ c.in-Capability.is, c.requires.registers))
 
 pub returns-in-Integer-clause-effect : goal.returns-in-Integer-clause-effect
-unfolding kind_effect asked does branch_effect link_effect jalr_effect enter_effect invoke_effect load_effect store_effect load_capability_effect store_capability_effect csr_effect special_effect return_effect
+unfolding kind_effect asked does branch_effect link_effect jalr_effect enter_effect invoke_effect load_effect store_effect
+    load_capability_effect store_capability_effect csr_effect special_effect return_effect
 returns-in-Integer-clause-effect g c =
     c.plan_integer.ensures.effect ∙ ap (λ k. kind_effect k c.args.word c.args.insn c.args.self.now) (sym c.in-Integer.is ∙ c.kind.ensures)
 
 pub returns-in-MulDiv-clause-effect : goal.returns-in-MulDiv-clause-effect
-unfolding kind_effect asked does branch_effect link_effect jalr_effect enter_effect invoke_effect load_effect store_effect load_capability_effect store_capability_effect csr_effect special_effect return_effect
+unfolding kind_effect asked does branch_effect link_effect jalr_effect enter_effect invoke_effect load_effect store_effect
+    load_capability_effect store_capability_effect csr_effect special_effect return_effect
 returns-in-MulDiv-clause-effect g c =
     c.plan_mul_div.ensures.effect ∙ ap (λ k. kind_effect k c.args.word c.args.insn c.args.self.now) (sym c.in-MulDiv.is ∙ c.kind.ensures)
 
 pub returns-in-Capability-clause-effect : goal.returns-in-Capability-clause-effect
-unfolding kind_effect asked does branch_effect link_effect jalr_effect enter_effect invoke_effect load_effect store_effect load_capability_effect store_capability_effect csr_effect special_effect return_effect
+unfolding kind_effect asked does branch_effect link_effect jalr_effect enter_effect invoke_effect load_effect store_effect
+    load_capability_effect store_capability_effect csr_effect special_effect return_effect
 returns-in-Capability-clause-effect g c =
     c.plan_capability.ensures.effect
     ∙ ap (λ k. kind_effect k c.args.word c.args.insn c.args.self.now) (sym c.in-Capability.is ∙ c.kind.ensures)
 
 pub returns-in-Auipc-clause-effect : goal.returns-in-Auipc-clause-effect
-unfolding kind_effect asked does branch_effect link_effect jalr_effect enter_effect invoke_effect load_effect store_effect load_capability_effect store_capability_effect csr_effect special_effect return_effect
+unfolding kind_effect asked does branch_effect link_effect jalr_effect enter_effect invoke_effect load_effect store_effect
+    load_capability_effect store_capability_effect csr_effect special_effect return_effect
 returns-in-Auipc-clause-effect g c =
     c.plan_auipc.ensures.effect ∙ ap (λ k. kind_effect k c.args.word c.args.insn c.args.self.now) (sym c.in-Auipc.is ∙ c.kind.ensures)
 
 pub returns-in-Branch-clause-effect : goal.returns-in-Branch-clause-effect
-unfolding kind_effect asked does branch_effect link_effect jalr_effect enter_effect invoke_effect load_effect store_effect load_capability_effect store_capability_effect csr_effect special_effect return_effect
+unfolding kind_effect asked does branch_effect link_effect jalr_effect enter_effect invoke_effect load_effect store_effect
+    load_capability_effect store_capability_effect csr_effect special_effect return_effect
 returns-in-Branch-clause-effect g c =
     c.plan_branch.ensures.effect ∙ ap (λ k. kind_effect k c.args.word c.args.insn c.args.self.now) (sym c.in-Branch.is ∙ c.kind.ensures)
 
 pub returns-in-Jal-clause-effect : goal.returns-in-Jal-clause-effect
-unfolding kind_effect asked does branch_effect link_effect jalr_effect enter_effect invoke_effect load_effect store_effect load_capability_effect store_capability_effect csr_effect special_effect return_effect
+unfolding kind_effect asked does branch_effect link_effect jalr_effect enter_effect invoke_effect load_effect store_effect
+    load_capability_effect store_capability_effect csr_effect special_effect return_effect
 returns-in-Jal-clause-effect g c =
     c.plan_jal.ensures.effect ∙ ap (λ k. kind_effect k c.args.word c.args.insn c.args.self.now) (sym c.in-Jal.is ∙ c.kind.ensures)
 
 pub returns-in-Jalr-clause-effect : goal.returns-in-Jalr-clause-effect
-unfolding kind_effect asked does branch_effect link_effect jalr_effect enter_effect invoke_effect load_effect store_effect load_capability_effect store_capability_effect csr_effect special_effect return_effect
+unfolding kind_effect asked does branch_effect link_effect jalr_effect enter_effect invoke_effect load_effect store_effect
+    load_capability_effect store_capability_effect csr_effect special_effect return_effect
 returns-in-Jalr-clause-effect g c =
     c.plan_jalr.ensures.effect ∙ ap (λ k. kind_effect k c.args.word c.args.insn c.args.self.now) (sym c.in-Jalr.is ∙ c.kind.ensures)
 
 pub returns-in-JalrCap-clause-effect : goal.returns-in-JalrCap-clause-effect
-unfolding kind_effect asked does branch_effect link_effect jalr_effect enter_effect invoke_effect load_effect store_effect load_capability_effect store_capability_effect csr_effect special_effect return_effect
+unfolding kind_effect asked does branch_effect link_effect jalr_effect enter_effect invoke_effect load_effect store_effect
+    load_capability_effect store_capability_effect csr_effect special_effect return_effect
 returns-in-JalrCap-clause-effect g c =
     c.plan_enter.ensures.effect ∙ ap (λ k. kind_effect k c.args.word c.args.insn c.args.self.now) (sym c.in-JalrCap.is ∙ c.kind.ensures)
 
 pub returns-in-Invoke-clause-effect : goal.returns-in-Invoke-clause-effect
-unfolding kind_effect asked does branch_effect link_effect jalr_effect enter_effect invoke_effect load_effect store_effect load_capability_effect store_capability_effect csr_effect special_effect return_effect
+unfolding kind_effect asked does branch_effect link_effect jalr_effect enter_effect invoke_effect load_effect store_effect
+    load_capability_effect store_capability_effect csr_effect special_effect return_effect
 returns-in-Invoke-clause-effect g c =
     c.plan_invoke.ensures.effect ∙ ap (λ k. kind_effect k c.args.word c.args.insn c.args.self.now) (sym c.in-Invoke.is ∙ c.kind.ensures)
 
 pub returns-in-Load-clause-effect : goal.returns-in-Load-clause-effect
-unfolding kind_effect asked does branch_effect link_effect jalr_effect enter_effect invoke_effect load_effect store_effect load_capability_effect store_capability_effect csr_effect special_effect return_effect
+unfolding kind_effect asked does branch_effect link_effect jalr_effect enter_effect invoke_effect load_effect store_effect
+    load_capability_effect store_capability_effect csr_effect special_effect return_effect
 returns-in-Load-clause-effect g c =
     c.plan_load.ensures.effect ∙ ap (λ k. kind_effect k c.args.word c.args.insn c.args.self.now) (sym c.in-Load.is ∙ c.kind.ensures)
 
 pub returns-in-Store-clause-effect : goal.returns-in-Store-clause-effect
-unfolding kind_effect asked does branch_effect link_effect jalr_effect enter_effect invoke_effect load_effect store_effect load_capability_effect store_capability_effect csr_effect special_effect return_effect
+unfolding kind_effect asked does branch_effect link_effect jalr_effect enter_effect invoke_effect load_effect store_effect
+    load_capability_effect store_capability_effect csr_effect special_effect return_effect
 returns-in-Store-clause-effect g c =
     c.plan_store.ensures.effect ∙ ap (λ k. kind_effect k c.args.word c.args.insn c.args.self.now) (sym c.in-Store.is ∙ c.kind.ensures)
 
 pub returns-in-LoadCapability-clause-effect : goal.returns-in-LoadCapability-clause-effect
-unfolding kind_effect asked does branch_effect link_effect jalr_effect enter_effect invoke_effect load_effect store_effect load_capability_effect store_capability_effect csr_effect special_effect return_effect
+unfolding kind_effect asked does branch_effect link_effect jalr_effect enter_effect invoke_effect load_effect store_effect
+    load_capability_effect store_capability_effect csr_effect special_effect return_effect
 returns-in-LoadCapability-clause-effect g c =
     c.plan_load_capability.ensures.effect
     ∙ ap (λ k. kind_effect k c.args.word c.args.insn c.args.self.now) (sym c.in-LoadCapability.is ∙ c.kind.ensures)
 
 pub returns-in-StoreCapability-clause-effect : goal.returns-in-StoreCapability-clause-effect
-unfolding kind_effect asked does branch_effect link_effect jalr_effect enter_effect invoke_effect load_effect store_effect load_capability_effect store_capability_effect csr_effect special_effect return_effect
+unfolding kind_effect asked does branch_effect link_effect jalr_effect enter_effect invoke_effect load_effect store_effect
+    load_capability_effect store_capability_effect csr_effect special_effect return_effect
 returns-in-StoreCapability-clause-effect g c =
     c.plan_store_capability.ensures.effect
     ∙ ap (λ k. kind_effect k c.args.word c.args.insn c.args.self.now) (sym c.in-StoreCapability.is ∙ c.kind.ensures)
 
 pub returns-in-Csr-clause-effect : goal.returns-in-Csr-clause-effect
-unfolding kind_effect asked does branch_effect link_effect jalr_effect enter_effect invoke_effect load_effect store_effect load_capability_effect store_capability_effect csr_effect special_effect return_effect
+unfolding kind_effect asked does branch_effect link_effect jalr_effect enter_effect invoke_effect load_effect store_effect
+    load_capability_effect store_capability_effect csr_effect special_effect return_effect
 returns-in-Csr-clause-effect g c =
     c.plan_csr.ensures.effect ∙ ap (λ k. kind_effect k c.args.word c.args.insn c.args.self.now) (sym c.in-Csr.is ∙ c.kind.ensures)
 
 pub returns-in-SpecialRw-clause-effect : goal.returns-in-SpecialRw-clause-effect
-unfolding kind_effect asked does branch_effect link_effect jalr_effect enter_effect invoke_effect load_effect store_effect load_capability_effect store_capability_effect csr_effect special_effect return_effect
+unfolding kind_effect asked does branch_effect link_effect jalr_effect enter_effect invoke_effect load_effect store_effect
+    load_capability_effect store_capability_effect csr_effect special_effect return_effect
 returns-in-SpecialRw-clause-effect g c =
     c.plan_special.ensures.effect ∙ ap (λ k. kind_effect k c.args.word c.args.insn c.args.self.now) (sym c.in-SpecialRw.is ∙ c.kind.ensures)
 
 pub returns-in-Mret-clause-effect : goal.returns-in-Mret-clause-effect
-unfolding kind_effect asked does branch_effect link_effect jalr_effect enter_effect invoke_effect load_effect store_effect load_capability_effect store_capability_effect csr_effect special_effect return_effect
+unfolding kind_effect asked does branch_effect link_effect jalr_effect enter_effect invoke_effect load_effect store_effect
+    load_capability_effect store_capability_effect csr_effect special_effect return_effect
 returns-in-Mret-clause-effect g c =
     c.plan_return.ensures.effect ∙ ap (λ k. kind_effect k c.args.word c.args.insn c.args.self.now) (sym c.in-Mret.is ∙ c.kind.ensures)
 

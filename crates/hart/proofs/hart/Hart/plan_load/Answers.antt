@@ -1,5 +1,6 @@
 use Rattle.std.proofs.Common.{◌≡◌, None, Some, ◌∙◌}
-use Rattle.hart.specs.MemoryRows.{place_of, authority_of, authority_number_of, loads_from, load_done, load_effect}
+use Rattle.hart.specs.MemoryRows.{place_of, authority_of, authority_number_of, loads_from, load_done}
+use Rattle.hart.specs.RowEffects.{load_effect}
 use Rattle.hart.specs.Accesses.{size_of}
 use Rattle.cap_checks.specs.FirstFault.{access_fault}
 use Rattle.cap_checks.specs.declared.access.Access.{Access}
@@ -19,7 +20,8 @@ returns-in-Ok-clause-effect g c =
     at c.in-Ok.ensures.allowed in
     c.plan_mapped_load.ensures.effect
     ∙ rw (c.in-Ok.ensures.value, c.place.ensures, c.size_of-size.ensures)
-    (access_asked-allowed a (loads_from (place_of insn s) (size_of insn.row) s) insn s (load_done insn (place_of insn s) (size_of insn.row) s) none)
+    (access_asked-allowed a (loads_from (place_of insn s) (size_of insn.row) s)
+    insn s (load_done insn (place_of insn s) (size_of insn.row) s) none)
 
 pub returns-in-Err-clause-effect : goal.returns-in-Err-clause-effect
 unfolding load_effect
@@ -30,4 +32,5 @@ returns-in-Err-clause-effect g c =
     let some : access_fault (authority_of insn s) (authority_number_of insn s) a (place_of insn s) ≡ Some c.in-Err.fault =
     rw (c.size_of-size.ensures, c.authority-through.ensures.capability, c.authority-through.ensures.register, c.place.ensures)
     at c.in-Err.ensures.refused in
-    access_asked-refused a (loads_from (place_of insn s) (size_of insn.row) s) insn s (load_done insn (place_of insn s) (size_of insn.row) s) c.in-Err.fault some
+    access_asked-refused a (loads_from (place_of insn s) (size_of insn.row) s)
+    insn s (load_done insn (place_of insn s) (size_of insn.row) s) c.in-Err.fault some

@@ -5,7 +5,8 @@ use Rattle.special_regs.specs.Traps.{is_sentry}
 use Rattle.hart.specs.Applying.{CanApply}
 use Rattle.hart.specs.AskedLaws.{register-allowed, register-refused}
 use Rattle.hart.specs.State.{State}
-use Rattle.hart.specs.SystemRows.{return_done, return_effect}
+use Rattle.hart.specs.SystemRows.{return_done}
+use Rattle.hart.specs.RowEffects.{return_effect}
 use Rattle.hart.specs.declared.effect.Effect.TheVariants.{Return}
 use Rattle.hart.proofs.hart.Hart.plan_return.Goals as goal
 

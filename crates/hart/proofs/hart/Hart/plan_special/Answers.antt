@@ -7,7 +7,8 @@ use Rattle.special_regs.specs.Refusals.{scr_checks, scr_fault}
 use Rattle.special_regs.specs.Scrs.{scr_value}
 use Rattle.hart.specs.AskedLaws.{register-allowed, register-refused}
 use Rattle.hart.specs.State.{State}
-use Rattle.hart.specs.SystemRows.{question_of, special_held, special_done, special_effect}
+use Rattle.hart.specs.SystemRows.{question_of, special_held, special_done}
+use Rattle.hart.specs.RowEffects.{special_effect}
 use Rattle.hart.specs.declared.effect.Effect.TheVariants.{Trap}
 use Rattle.hart.proofs.hart.Hart.plan_special.Goals as goal
 
@@ -41,7 +42,8 @@ returns-in-Err-clause-effect g c =
     let insn = c.args.insn in
     let s = c.args.self.now in
     let some = ap (λ (k : State). scr_fault k.scrs insn.rs2 (not (eqb insn.rs1 0))) (sym c.self.view_is) ∙ c.in-Err.ensures.refused in
-    c.refused_effect.ensures.effect ∙ ap (λ n. Trap (fault_of (question_of c.in-Err.refusal (special_register n) c.args.word))) c.from.ensures
+    c.refused_effect.ensures.effect
+    ∙ ap (λ n. Trap (fault_of (question_of c.in-Err.refusal (special_register n) c.args.word))) c.from.ensures
     ∙ register-refused (special_register insn.rs2) c.args.word (scr_checks s.scrs insn.rs2 (not (eqb insn.rs1 0)))
     (special_done (special_held insn s) insn s) c.in-Err.refusal some
 

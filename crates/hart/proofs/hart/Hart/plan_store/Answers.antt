@@ -1,5 +1,6 @@
 use Rattle.std.proofs.Common.{◌≡◌, None, Some, ◌∙◌}
-use Rattle.hart.specs.MemoryRows.{place_of, authority_of, authority_number_of, stores_to, store_done, store_effect}
+use Rattle.hart.specs.MemoryRows.{place_of, authority_of, authority_number_of, stores_to, store_done}
+use Rattle.hart.specs.RowEffects.{store_effect}
 use Rattle.hart.specs.Accesses.{size_of}
 use Rattle.hart.specs.Looks.{number_in}
 use Rattle.cap_checks.specs.FirstFault.{access_fault}
@@ -20,7 +21,8 @@ returns-in-Ok-clause-effect g c =
     at c.in-Ok.ensures.allowed in
     c.plan_mapped_store.ensures.effect
     ∙ rw (c.in-Ok.ensures.value, c.place.ensures, c.size_of-size.ensures, c.number.ensures)
-    (access_asked-allowed a (stores_to (place_of insn s) (size_of insn.row) s) insn s (store_done (place_of insn s) (size_of insn.row) (number_in s insn.rs2) s) none)
+    (access_asked-allowed a (stores_to (place_of insn s) (size_of insn.row) s)
+    insn s (store_done (place_of insn s) (size_of insn.row) (number_in s insn.rs2) s) none)
 
 pub returns-in-Err-clause-effect : goal.returns-in-Err-clause-effect
 unfolding store_effect
@@ -31,4 +33,5 @@ returns-in-Err-clause-effect g c =
     let some : access_fault (authority_of insn s) (authority_number_of insn s) a (place_of insn s) ≡ Some c.in-Err.fault =
     rw (c.size_of-size.ensures, c.authority-through.ensures.capability, c.authority-through.ensures.register, c.place.ensures)
     at c.in-Err.ensures.refused in
-    access_asked-refused a (stores_to (place_of insn s) (size_of insn.row) s) insn s (store_done (place_of insn s) (size_of insn.row) (number_in s insn.rs2) s) c.in-Err.fault some
+    access_asked-refused a (stores_to (place_of insn s) (size_of insn.row) s)
+    insn s (store_done (place_of insn s) (size_of insn.row) (number_in s insn.rs2) s) c.in-Err.fault some

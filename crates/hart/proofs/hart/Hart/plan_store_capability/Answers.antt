@@ -1,5 +1,6 @@
 use Rattle.std.proofs.Common.{◌≡◌, None, Some, ◌∙◌, ap}
-use Rattle.hart.specs.MemoryRows.{place_of, authority_of, authority_number_of, capability_at, store_capability_done, store_capability_effect}
+use Rattle.hart.specs.MemoryRows.{place_of, authority_of, authority_number_of, capability_at, store_capability_done}
+use Rattle.hart.specs.RowEffects.{store_capability_effect}
 use Rattle.base.specs.declared.cause.Cause.TheVariants as cause
 use Rattle.cap_checks.specs.Access.{stored_of}
 use Rattle.hart.specs.Registers.{register}
@@ -22,7 +23,8 @@ returns-in-Ok-clause-effect g c =
     at c.in-Ok.ensures.allowed in
     c.plan_mapped_capability_store.ensures.effect
     ∙ rw (c.in-Ok.ensures.value, c.place.ensures, value)
-    (access_asked-allowed a (capability_at cause.StoreAccess (place_of insn s) s) insn s (store_capability_done (place_of insn s) (register s.registers insn.rs2)) none)
+    (access_asked-allowed a (capability_at cause.StoreAccess (place_of insn s) s)
+    insn s (store_capability_done (place_of insn s) (register s.registers insn.rs2)) none)
 
 pub returns-in-Err-clause-effect : goal.returns-in-Err-clause-effect
 unfolding store_capability_effect
@@ -34,4 +36,5 @@ returns-in-Err-clause-effect g c =
     let some : access_fault (authority_of insn s) (authority_number_of insn s) a (place_of insn s) ≡ Some c.in-Err.fault =
     rw (c.of.ensures, value, c.authority-through.ensures.capability, c.authority-through.ensures.register, c.place.ensures)
     at c.in-Err.ensures.refused in
-    access_asked-refused a (capability_at cause.StoreAccess (place_of insn s) s) insn s (store_capability_done (place_of insn s) (register s.registers insn.rs2)) c.in-Err.fault some
+    access_asked-refused a (capability_at cause.StoreAccess (place_of insn s) s)
+    insn s (store_capability_done (place_of insn s) (register s.registers insn.rs2)) c.in-Err.fault some

@@ -1,7 +1,7 @@
 use Rattle.std.proofs.Common.{rules, sym, ap, subst, ◌∙◌}
 use Rattle.hart.specs.Applying.{meant, CanApply}
 use Rattle.hart.specs.Effect.{applied}
-use Rattle.hart.proofs.hart.Hart.apply.Goals as goal
+use Rattle.hart.proofs.hart.Hart.apply_effect.Goals as goal
 
 pub write-requires : goal.write-requires
 unfolding CanApply

@@ -3,7 +3,7 @@ use Rattle.std.specs.Prelude.{is_some}
 use Rattle.hart.specs.Effect.{applied, sent_by}
 use Rattle.hart.specs.State.{State}
 use Rattle.hart.specs.Step.{stepped, stepped_unless, step_sent, step_sent_unless}
-use Rattle.hart.proofs.hart.Hart.step.Goals as goal
+use Rattle.hart.proofs.hart.Hart.do_planned.Goals as goal
 
 none-of : (o : Option ℕ) → is_some o ≡ false → o ≡ None
 none-of None none = refl
@@ -18,8 +18,8 @@ is-silent : (o : Option ℕ) (s : State) → is_some o ≡ true → None ≡ ste
 is-silent None s some = absurd (cc)
 is-silent (Some n) s some = refl
 
-pub apply-requires : goal.apply-requires
-apply-requires g c = (search rules, c.next_effect-effect.ensures.can)
+pub apply_effect-requires : goal.apply_effect-requires
+apply_effect-requires g c = (search rules, c.requires.1)
 
 pub returns-then-is_some-clause-state : goal.returns-then-is_some-clause-state
 unfolding stepped
@@ -37,7 +37,7 @@ pub returns-clause-state : goal.returns-clause-state
 unfolding stepped
 returns-clause-state g c =
     let none : c.halted.result ≡ None = none-of c.halted.result (sym c.is_some.ensures ∙ c.if-is_some.false) in
-    c.apply.ensures ∙ ap (λ e. applied e c.args.self.now) c.next_effect-effect.ensures.effect
+    c.apply_effect.ensures ∙ ap (λ e. applied e c.args.self.now) c.requires.0
     ∙ ap (λ halted. stepped_unless halted c.args.self.now)
     (sym none ∙ c.halted.ensures ∙ ap (λ (s : State). s.devices.halted) c.self.view_is)
 
@@ -45,6 +45,6 @@ pub returns-clause-byte : goal.returns-clause-byte
 unfolding step_sent
 returns-clause-byte g c =
     let none : c.halted.result ≡ None = none-of c.halted.result (sym c.is_some.ensures ∙ c.if-is_some.false) in
-    c.byte-byte.ensures ∙ ap sent_by c.next_effect-effect.ensures.effect
+    c.byte-byte.ensures ∙ ap sent_by c.requires.0
     ∙ ap (λ halted. step_sent_unless halted c.args.self.now)
     (sym none ∙ c.halted.ensures ∙ ap (λ (s : State). s.devices.halted) c.self.view_is)
