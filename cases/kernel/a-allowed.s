@@ -4,6 +4,3 @@
         ecall
         li      a7, 0                   # end
         ecall
-
-        .align  12
-a_data: .dword  0
