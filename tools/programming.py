@@ -193,9 +193,28 @@ def checks(conditions, behind=()):
     return table(["", "Must hold", "Else"], [[str(number), *row] for number, row in enumerate([*rows, *behind], 1)])
 
 
+def entries(text):
+    """The entries of a list, parts of which may be put together by `++`: each of these but the last is one entry."""
+    first, *others = split(bare(text), "++")
+    if others:
+        return [first, *entries(" ++ ".join(others))]
+    *listed, end = split(first, "∷")
+    return listed if end == "[]" else [*listed, *entries(end)]
+
+
+def asked_in_some_cases(entry):
+    """The fault and the truth of a condition that is asked in some cases alone, and of any other."""
+    name, *arguments = split(bare(entry), " ")
+    if name != "asked_if":
+        return condition_of(FIRST_FAULT, entry)
+    matched(r"if is_asked then c ∷ \[\] else \[\]", FIRST_FAULT.body("asked_if"))
+    otherwise, holds = condition_of(FIRST_FAULT, arguments[1])
+    return otherwise, f"{holds}, if {bare(arguments[0])}"
+
+
 def listed_checks(name):
     """The conditions of a list of cap_checks."""
-    return [condition_of(FIRST_FAULT, entry) for entry in items(FIRST_FAULT.body(name))]
+    return [asked_in_some_cases(entry) for entry in entries(FIRST_FAULT.body(name))]
 
 
 def asked_of_register(name):
@@ -510,13 +529,22 @@ def tag_kept(body):
     return {"integer": "", "without_tag": "never", "cs1": "it is tagged"}[maker]
 
 
+def capability_rows():
+    """The rows of the kind Capability, in the table's order."""
+    return [pattern.removeprefix("row.") for pattern, body in Definitions("isa_rows/specs/Line").cases("line_of")
+            if " kind.Capability " in body]
+
+
 def results_table():
-    names = row_names()
+    names, left = row_names(), capability_rows()
     rows = []
     for patterns, body in Definitions("cap_insns/specs/CapabilityRows").cases("row_value"):
         row = patterns.split()[0].removeprefix("row.")
-        if row != "_":
-            rows.append([f"`{names[row]}`", said("GIVES", body), tag_kept(body)])
+        if row == "_":
+            # what is given for the last row is given for whatever else
+            row, = left
+        left.remove(row)
+        rows.append([f"`{names[row]}`", said("GIVES", body), tag_kept(body)])
     return table(["Instruction", "Gives", "Tagged if"], rows)
 
 
@@ -583,7 +611,7 @@ def step_list():
     return steps([
         defined(step, "stepped_unless"),
         f"{asked}. {defined(step, 'decided')}: {pending_order()}",
-        together(step, "fetched_effect", "fetch", "fetched"),
+        together(step, "fetched_effect", "fetch", "fetch_asked", "word_unless"),
         defined(step, "decoded_effect"),
         f"{defined(step, 'kind_effect')}. {defined('hart/specs/Looks', 'where_all')}",
         f"{defined('hart/specs/Effect', 'done_at')}; {defined('hart/specs/Effect', 'counted')}",
@@ -663,8 +691,8 @@ def made_of_rows():
 def made_of_checks():
     memory, jumps, tags = "hart/specs/MemoryRows", "hart/specs/JumpRows", "tagged_memory/specs/Memory"
     first_fault = "cap_checks/specs/FirstFault"
-    data = f"{together(memory, 'load_asked', 'load_done')}. {together(memory, 'store_asked', 'store_done', 'stored_number')}"
-    capabilities = f"{together(memory, 'load_capability_asked', 'capability_at')}, {defined(memory, 'store_capability_asked')}"
+    data = f"{defined(memory, 'load_done')}. {together(memory, 'store_done', 'stored_number')}"
+    capabilities = together(memory, "memory_asked", "mapped_for", "capability_at")
     return {
         "step": step_list(),
         "order": together("cap_checks/specs/Question", "first_false", "judged", "asks"),

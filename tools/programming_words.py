@@ -8,9 +8,9 @@ definition says here, in words, what it says now; and an entry that nothing asks
 CONDITIONS = {
     "is_tagged authority": "the authority has its tag",
     "not (is_sealed authority)": "it isn't sealed",
-    "not (stores_capability access) || permits authority permission.StoreCapability":
+    "permits authority permission.StoreCapability, if stores_capability access":
         "it has Store_Capability, where a value with its tag is stored",
-    "not (stores_local access) || permits authority permission.StoreLocalCapability":
+    "permits authority permission.StoreLocalCapability, if stores_local access":
         "it has Store_Local_Capability, where a capability that isn't Global is stored",
     "holds authority address (width_of access)": "all bytes of the access lie in its bounds",
     "address % (width_of access) == 0": "the address is a multiple of the bytes that are moved",
@@ -63,7 +63,6 @@ MTVAL = {
     "address": "the address",
     "target": "the target",
     "pc_of s": "the instruction's address",
-    "place_of insn s": "the address",
     "jump_target (value_address v) offset": "the target",
     "invoke_target code": "the target",
     "32 * register + cheri_number_of what": "32 × register + CHERI cause",
@@ -182,24 +181,20 @@ DEFINITIONS = {
         "a fault names that register",
     "hart/specs/Accesses is_rs1: capability_mode | false | true":
         "it is rs1 in capability mode and in the `.cap` forms, and DDC in integer mode and in the `.ddc` forms",
-    "hart/specs/MemoryRows load_asked: access_asked (access.Load (size_of insn.row)) (loads_from (place_of insn s) (size_of insn.row) s) "
-    "insn s; load_done: if is_in_ram s.memory address (bytes_of size) then Write (record {rd = insn.rd; value = integer (loaded insn.row "
+    "hart/specs/MemoryRows load_done: if is_in_ram s.memory address (bytes_of size) then Write (record {rd = insn.rd; value = integer (loaded insn.row "
     "size (number_at s.memory address (bytes_of size)))}) else DeviceLoad (record {rd = insn.rd; value = integer (value_at address "
     "s.devices); address = address; size = size})":
         "A load that its authority allows reads RAM if all its bytes lie there, or else a device register",
-    "hart/specs/MemoryRows store_asked: access_asked (access.Store (size_of insn.row)) (stores_to (place_of insn s) (size_of insn.row) s) "
-    "insn s; store_done: if is_in_ram s.memory address (bytes_of size) then Store (stored_number address size number) else DeviceStore "
+    "hart/specs/MemoryRows store_done: if is_in_ram s.memory address (bytes_of size) then Store (stored_number address size number) else DeviceStore "
     "(stored_number address size number); stored_number: record {address = address; size = size; number = number}":
         "A store writes RAM if all its bytes lie there, or else a device register",
-    "hart/specs/MemoryRows load_capability_asked: access_asked access.LoadCapability (capability_at cause.LoadAccess (place_of insn s) s) "
-    "insn s; capability_at: asks (Ram otherwise address) (is_in_ram s.memory address 16)":
-        "A capability is loaded from RAM alone",
+    "hart/specs/MemoryRows memory_asked: access_asked a (mapped_for a (place_of insn s) s) insn s; mapped_for: loads_from address size s | "
+    "stores_to address size s | capability_at cause.LoadAccess address s | capability_at cause.StoreAccess address s; capability_at: asks "
+    "(Ram otherwise address) (is_in_ram s.memory address 16)":
+        "A capability is loaded from RAM alone, and stored into RAM alone",
     "hart/specs/MemoryRows load_capability_done: Write (record {rd = rd; value = loaded_capability authority address s.memory}); "
     "loaded_capability: value_of (word_at m address) (has_tag m address && permits authority permission.LoadCapability)":
         "A capability that is loaded has the granule's tag if the authority has Load_Capability, and else none; it is no fault",
-    "hart/specs/MemoryRows store_capability_asked: access_asked (access.StoreCapability (stored_of (register s.registers insn.rs2))) "
-    "(capability_at cause.StoreAccess (place_of insn s) s) insn s":
-        "and stored into RAM alone",
     "tagged_memory/specs/Memory data_written: record {bytes = replaced_at m address new; tags = set.retain m.tags (λ granule. not "
     "(touches address (length new) granule));}":
         "A store of data clears the tag of the granule (16 bytes at a multiple of 16) that it touches",
@@ -209,8 +204,8 @@ DEFINITIONS = {
     "hart/specs/Step stepped_unless: applied (step_effect s) s | s": "a machine that is halted ignores the step",
     "hart/specs/Step decided: Trap (cause_of interrupt) | fetched_effect (fetch s) s":
         "An interrupt that is pending is taken, and is the whole step",
-    "hart/specs/Step fetched_effect: decoded_effect (insn_of word) word s | Trap f; fetch: fetched (fetch_fault s.scrs.pcc) s; fetched: "
-    "Err f | if (fetches_from s).holds then Ok (number_at s.memory (pc_of s) 4) else Err (fault_of ((fetches_from s).question))":
+    "hart/specs/Step fetched_effect: decoded_effect (insn_of word) word s | Trap f; fetch: word_unless (first_false (fetch_asked "
+    "s)) s; fetch_asked: fetch_checks s.scrs.pcc ++ fetches_from s ∷ []; word_unless: Err f | Ok (number_at s.memory (pc_of s) 4)":
         "the instruction is fetched; a fetch that fails is the trap",
     "hart/specs/Step decoded_effect: kind_effect (kind_of insn.row) word insn s | illegal word":
         "The word is decoded; one that is no row is an illegal instruction",

@@ -4,7 +4,7 @@
     python3 tools/reading_order.py            prints the tables
     python3 tools/reading_order.py --check    says whether they stand in docs/MODEL.md, and ends with 1 if not
 
-The twelve pages of the step have to be all files that hart/specs/Step names, directly or not, each behind those that it names; what
+The thirteen pages of the step have to be all files that hart/specs/Step names, directly or not, each behind those that it names; what
 is missing, too much or too early is printed.
 """
 import os
@@ -27,11 +27,12 @@ STEP = [
     ("special registers and traps",
      "special_regs/specs/Scrs, Csrs, Numbered, Mtvec, CsrValues, Writes, Refusals, Interrupts, Traps"),
     ("devices", "devices/specs/Devices"),
-    ("the step", "hart/specs/State, Registers, Looks, Accesses, ComputeRows, MemoryRows, JumpRows, SystemRows, Effect, Outcome, Step"),
+    ("a state, and what an effect makes of it", "hart/specs/State, Registers, Effect"),
+    ("the step: what each row asks, and what it does", "hart/specs/Looks, Accesses, ComputeRows, MemoryRows, JumpRows, SystemRows, Step"),
 ]
 REST = [
     ("runs: the opening state, events, *machine run*, what is set from outside",
-     "image/specs/Image; hart/specs/Opening, Event, Setting; machine/specs/Run"),
+     "image/specs/Image; hart/specs/Opening, Outcome, Event, Setting; machine/specs/Run"),
     ("image files", "image/specs/Grammar, Reads"),
     ("a text: its lines",
      "asm_names/specs/Mnemonic, Registers, SpecialNames, Slots; asm_lines/specs/Text, Number, Operand, Statement, Line"),
@@ -39,7 +40,7 @@ REST = [
     ("shown texts", "disassembler/specs/Hex, Shown"),
     ("what setting bounds gives, as a text", "bounds_text/specs/WindowEnds, Picture, BoundsText"),
     ("what a step comes to, as text", "trap_texts/specs/Names, Text; effect_texts/specs/ValueText, EffectText, TraceLine"),
-    ("what the next step asks for, and why", "explain/specs/Stages, Text"),
+    ("what the next step asks, and why", "explain/specs/Asked, Text"),
     ("names: tables of symbols, listings with names", "symbols/specs/Symbols; image_listing/specs/Named"),
     ("sessions", "debug_commands/specs/Command; debugger/specs/SessionState, Reply, Answers, Conversation, Talk"),
     ("the command line and runs on a schedule",

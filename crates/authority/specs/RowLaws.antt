@@ -26,7 +26,8 @@ use Rattle.cap_checks.specs.declared.access.Access.{Access}
 use Rattle.cap_checks.specs.declared.access.Access.TheVariants as access
 use Rattle.cap_checks.specs.declared.question.Condition.{Condition}
 use Rattle.cap_checks.specs.Question.{judged, first_false}
-use Rattle.cap_checks.specs.FirstFault.{holds, access_checks, access_fault, fetch_checks, fetch_fault, target_checks, jump_target}
+use Rattle.cap_checks.specs.FaultLaws.{access_fault-holds}
+use Rattle.cap_checks.specs.FirstFault.{holds, access_fault, fetch_checks, fetch_fault, target_checks, jump_target}
 use Rattle.tagged_memory.specs.Memory.{is_in_ram, has_tag, word_at}
 use Rattle.special_regs.specs.Numbered.{value_at}
 use Rattle.special_regs.specs.Refusals.{has_system_access, csr_checks, csr_fault, scr_checks, scr_fault, return_checks, return_fault}
@@ -51,10 +52,10 @@ use Rattle.hart.specs.AskedLaws.{access_asked-none, register-none}
 use Rattle.hart.specs.JumpRows.{sentry_link, link_of, link_asked, link_done, jal_target, enter_asked, enter_done}
 use Rattle.hart.specs.JumpRows.{jalr_target, invoke_asked, invoke_done}
 use Rattle.hart.specs.Looks.{number_in, in_capability_mode, next_of, unless_fault, where_all}
-use Rattle.hart.specs.MemoryRows.{place_of, authority_through, authority_of, authority_number_of, access_asked, load_asked, load_done}
-use Rattle.hart.specs.MemoryRows.{stored_number, stores_to, store_asked, store_done, loaded_capability}
-use Rattle.hart.specs.MemoryRows.{capability_at, load_capability_asked, load_capability_done}
-use Rattle.hart.specs.MemoryRows.{store_capability_asked, store_capability_done}
+use Rattle.hart.specs.MemoryRows.{place_of, authority_through, authority_of, authority_number_of, access_asked, memory_asked, load_done}
+use Rattle.hart.specs.MemoryRows.{stored_number, stores_to, store_done, loaded_capability}
+use Rattle.hart.specs.MemoryRows.{capability_at, load_capability_done}
+use Rattle.hart.specs.MemoryRows.{store_capability_done}
 use Rattle.hart.specs.Registers.{register}
 use Rattle.hart.specs.State.{State, pc_of}
 use Rattle.hart.specs.Step.{asked, does, kind_effect}
@@ -96,15 +97,15 @@ pub record IsAllowed (c : CapValue) (p : Permission) (address size : ℕ) : Type
 
 pub allowed : (authority : CapValue) (number : ℕ) (a : Access) (address : ℕ) → access_fault authority number a address ≡ None
     → IsAllowed authority (needed a) address (width_of a)
-unfolding access_fault holds
+unfolding holds
 allowed authority number a address none =
-    let all : EachHolds (judged (access_checks authority number a address)) = first_fault-none (judged (access_checks authority number a address)) none in
+    let holding = access_fault-holds authority number a address none in
     let bounds =
-    and_parts (leb (value_base authority) address) (leb (address + width_of a) (value_top authority)) all.1.1.1.1.1.0 in
+    and_parts (leb (value_base authority) address) (leb (address + width_of a) (value_top authority)) holding.1.0 in
     record {
-      tagged = all.0;
-      unsealed = not-true _ all.1.0;
-      permitted = all.1.1.0;
+      tagged = holding.0.0;
+      unsealed = not-true _ holding.0.1.0;
+      permitted = holding.0.1.1;
       base = leb-true _ _ bounds.0;
       top = leb-true _ _ bounds.1;
     }
@@ -318,7 +319,8 @@ module _ (s : State) (is : IsState s) (insn : Insn) where
   load_effect-derives : Derives (load_effect insn s) s
   unfolding load_effect
   load_effect-derives =
-      unless_fault-derives (first_false (load_asked insn s)) _ s (λ _. load_done-derives (place_of insn s) (size_of insn.row))
+      unless_fault-derives (first_false (memory_asked (access.Load (size_of insn.row)) insn s)) _ s
+      (λ _. load_done-derives (place_of insn s) (size_of insn.row))
 
   some_byte : (address : ℕ) (size : Size) → address < address + bytes_of size
   some_byte address Byte = omega arith
@@ -345,7 +347,7 @@ module _ (s : State) (is : IsState s) (insn : Insn) where
   store_effect-derives =
       let size : Size = size_of insn.row in
       let place : ℕ = place_of insn s in
-      unless_fault-derives (first_false (store_asked insn s)) _ s
+      unless_fault-derives (first_false (memory_asked (access.Store (size_of insn.row)) insn s)) _ s
       (λ none. store_done-derives place size (number_in s insn.rs2)
       (may_write place (bytes_of size) (access-allowed (access.Store size) (stores_to place size s) none)))
 
@@ -371,7 +373,7 @@ module _ (s : State) (is : IsState s) (insn : Insn) where
   load_capability_effect-derives : Derives (load_capability_effect insn s) s
   unfolding load_capability_effect load_capability_done
   load_capability_effect-derives =
-      unless_fault-derives (first_false (load_capability_asked insn s)) _ s
+      unless_fault-derives (first_false (memory_asked access.LoadCapability insn s)) _ s
       (λ none. grounded-loaded (place_of insn s)
       (access-allowed access.LoadCapability (capability_at cause.LoadAccess (place_of insn s) s) none))
 
@@ -379,7 +381,7 @@ module _ (s : State) (is : IsState s) (insn : Insn) where
   unfolding store_capability_effect store_capability_done
   store_capability_effect-derives =
       let a : Access = access.StoreCapability (stored_of (register s.registers insn.rs2)) in
-      unless_fault-derives (first_false (store_capability_asked insn s)) _ s
+      unless_fault-derives (first_false (memory_asked (access.StoreCapability (stored_of (register s.registers insn.rs2))) insn s)) _ s
       (λ none. (
         may_write (place_of insn s) 16 (access-allowed a (capability_at cause.StoreAccess (place_of insn s) s) none),
         grounded-register s insn.rs2,

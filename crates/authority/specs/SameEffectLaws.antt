@@ -1,6 +1,7 @@
 -- The effect of a step is a function of its looks: one line a kind of row.
 use Rattle.std.proofs.Common.{◌≡◌, ℕ, ◌+◌, ◌≤◌, Bool, true, false, eqb, leb, not, ◌&&◌, cond, length, refl, ap, subst, ◌∙◌}
 use Rattle.std.proofs.Common.{Option, None, Some, Ok, Err, lit≤}
+use Rattle.std.proofs.Common.{sym}
 use Rattle.std.proofs.lemmas.Bool.{cond_both, eqb-true}
 use Rattle.base.specs.Fault.{fault}
 use Rattle.base.specs.Ram.{ram_base}
@@ -45,12 +46,14 @@ use Rattle.hart.specs.ComputeRows.{integer_effect, mul_div_effect, capability_ef
 use Rattle.hart.specs.AskedLaws.{access_asked-none, register-none}
 use Rattle.hart.specs.JumpRows.{link_of, jal_target}
 use Rattle.hart.specs.Looks.{number_in, unless_fault, where_all}
-use Rattle.hart.specs.MemoryRows.{place_of, authority_of, access_asked, loads_from, load_asked, load_done, stored_number}
-use Rattle.hart.specs.MemoryRows.{stores_to, store_asked, store_done, loaded_capability, capability_at, load_capability_asked}
+use Rattle.hart.specs.MemoryRows.{place_of, authority_of, access_asked, loads_from, memory_asked, load_done, stored_number}
+use Rattle.hart.specs.MemoryRows.{stores_to, store_done, loaded_capability, capability_at}
 use Rattle.hart.specs.MemoryRows.{load_capability_done, store_capability_done}
 use Rattle.hart.specs.Registers.{register}
 use Rattle.hart.specs.State.{State, pc_of}
-use Rattle.hart.specs.Step.{asked, does, kind_effect, fetched, decoded_effect, fetched_effect, decided, step_effect}
+use Rattle.hart.specs.AskedLaws.{fetch-fetched}
+use Rattle.hart.specs.RowEffects.{fetched}
+use Rattle.hart.specs.Step.{asked, does, kind_effect, decoded_effect, fetched_effect, decided, step_effect}
 use Rattle.hart.specs.SystemRows.{asked_of_register, csr_number, csr_source, csr_writes, csr_new, csr_held, csr_done}
 use Rattle.hart.specs.SystemRows.{special_held, special_done}
 use Rattle.hart.specs.RowEffects.{branch_effect, link_effect, enter_effect, jalr_effect, invoke_effect, load_effect, store_effect}
@@ -181,15 +184,16 @@ module _ (s : State) (m : Memory) (x : Scrs) (looks : SameLooks s (elsewise s m 
   -- the map's conditions
   loads_from-same : (address : ℕ) (size : Size) → loads_from address size (elsewise s m x) ≡ loads_from address size s
   loads_from-same address size =
-      ap (λ inside. asks (RamOrDevice cause.LoadAccess address) (inside || is_none (read_fault address (bytes_of size))))
+      ap (λ inside. asks (RamOrDevice cause.LoadAccess address size) (inside || is_none (read_fault address (bytes_of size))))
       (in_ram address (bytes_of size))
 
   stores_to-same : (address : ℕ) (size : Size) → stores_to address size (elsewise s m x) ≡ stores_to address size s
   stores_to-same address size =
-      ap (λ inside. asks (RamOrDevice cause.StoreAccess address) (inside || is_none (write_fault address (bytes_of size))))
+      ap (λ inside. asks (RamOrDevice cause.StoreAccess address size) (inside || is_none (write_fault address (bytes_of size))))
       (in_ram address (bytes_of size))
 
-  capability_at-same : (otherwise : Cause) (address : ℕ) → capability_at otherwise address (elsewise s m x) ≡ capability_at otherwise address s
+  capability_at-same : (otherwise : Cause) (address : ℕ)
+      → capability_at otherwise address (elsewise s m x) ≡ capability_at otherwise address s
   capability_at-same otherwise address = ap (asks (Ram otherwise address)) (in_ram address 16)
 
   load_done-same : (address : ℕ) (size : Size)
@@ -213,7 +217,8 @@ module _ (s : State) (m : Memory) (x : Scrs) (looks : SameLooks s (elsewise s m 
       let size : Size = size_of insn.row in
       let a : Access = access.Load size in
       ap (λ mapped. where_all (access_asked a mapped insn s) (load_done insn place size (elsewise s m x))) (loads_from-same place size)
-      ∙ where_all-same (load_asked insn s) (load_done insn place size s) (load_done insn place size (elsewise s m x))
+      ∙ where_all-same (memory_asked (access.Load (size_of insn.row)) insn s) (load_done insn place size s)
+      (load_done insn place size (elsewise s m x))
       (λ none. load_done-same place size (λ inside. looks.number insn (record {
         next = next;
         row = row;
@@ -233,9 +238,10 @@ module _ (s : State) (m : Memory) (x : Scrs) (looks : SameLooks s (elsewise s m 
   store_effect-same =
       let place : ℕ = place_of insn s in
       let size : Size = size_of insn.row in
-      ap (λ mapped. where_all (access_asked (access.Store size) mapped insn s) (store_done place size (number_in s insn.rs2) (elsewise s m x)))
+      ap
+      (λ mapped. where_all (access_asked (access.Store size) mapped insn s) (store_done place size (number_in s insn.rs2) (elsewise s m x)))
       (stores_to-same place size)
-      ∙ ap (where_all (store_asked insn s)) (store_done-same place size (number_in s insn.rs2))
+      ∙ ap (where_all (memory_asked (access.Store (size_of insn.row)) insn s)) (store_done-same place size (number_in s insn.rs2))
 
   -- loads and stores of capabilities
   loaded_capability-same : LoadsCapability s insn
@@ -257,7 +263,7 @@ module _ (s : State) (m : Memory) (x : Scrs) (looks : SameLooks s (elsewise s m 
       let mapped : Condition = capability_at cause.LoadAccess place s in
       let write : Memory → Effect CapValue = λ k. Write (record { rd = insn.rd; value = loaded_capability authority place k }) in
       ap (λ c. where_all (access_asked access.LoadCapability c insn s) (write m)) (capability_at-same cause.LoadAccess place)
-      ∙ where_all-same (load_capability_asked insn s) (write s.memory) (write m)
+      ∙ where_all-same (memory_asked access.LoadCapability insn s) (write s.memory) (write m)
       (λ none.
       let both = access_asked-none access.LoadCapability mapped insn s none in
       ap (λ v. Write (record { rd = insn.rd; value = v }))
@@ -392,8 +398,8 @@ module _ (s : State) (m : Memory) (x : Scrs) (looks : SameLooks s (elsewise s m 
   decided-same : (o : Option Interrupt) → decided o (elsewise s m x) ≡ decided o s
   decided-same (Some interrupt) = refl
   decided-same None =
-      ap (λ r. fetched_effect r (elsewise s m x)) (fetched-same (fetch_fault s.scrs.pcc) refl)
-      ∙ fetched_effect-same (fetch_fault s.scrs.pcc) refl
+      ap (λ r. fetched_effect r (elsewise s m x)) (fetch-fetched (elsewise s m x) ∙ fetched-same (fetch_fault s.scrs.pcc) refl)
+      ∙ fetched_effect-same (fetch_fault s.scrs.pcc) refl ∙ ap (λ r. fetched_effect r s) (sym (fetch-fetched s))
 
   pub elsewise-same : step_effect (elsewise s m x) ≡ step_effect s
   unfolding step_effect

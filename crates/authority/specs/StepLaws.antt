@@ -1,5 +1,5 @@
 -- Authority doesn't grow at a plain event, which leaves alone what it may not change.
-use Rattle.std.proofs.Common.{◌≡◌, ℕ, Option, None, Some, Result, Ok, Err, refl}
+use Rattle.std.proofs.Common.{◌≡◌, ℕ, Option, None, Some, Result, Ok, Err, refl, sym, subst}
 use Rattle.std.specs.Prelude.{OnOk}
 use Rattle.std.proofs.lemmas.Bool.{cond_both}
 use Rattle.base.specs.declared.fault.Fault.{Fault}
@@ -21,8 +21,11 @@ use Rattle.hart.specs.EventLaws.{step_effect-sound}
 use Rattle.hart.specs.IsState.{IsState}
 use Rattle.hart.specs.Outcome.{Plain}
 use Rattle.hart.specs.State.{State, pc_of}
-use Rattle.hart.specs.Step.{fetched, fetch, decoded_effect, fetched_effect, decided, step_effect, stepped_unless, stepped, step_sent_unless}
-use Rattle.hart.specs.Step.{step_sent, step_outcome_unless, step_outcome}
+use Rattle.hart.specs.AskedLaws.{fetch-fetched}
+use Rattle.hart.specs.RowEffects.{fetched}
+use Rattle.hart.specs.Step.{fetch, decoded_effect, fetched_effect, decided, step_effect, stepped_unless, stepped, step_sent_unless}
+use Rattle.hart.specs.Step.{step_sent}
+use Rattle.hart.specs.Outcome.{step_outcome_unless, step_outcome}
 use Rattle.authority.specs.Authority.{Not, IsWritable, LeavesDevices, LeavesAlone}
 use Rattle.authority.specs.Grounded.{GrowsNot, IsFramed}
 use Rattle.authority.specs.GroundedLaws.{GrowsNot-framed, GrowsNot-refl, LeavesAlone-refl}
@@ -52,7 +55,9 @@ module _ (s : State) (is : IsState s) where
 
   decided-derives : (o : Option Interrupt) → Derives (decided o s) s
   decided-derives (Some interrupt) = tt
-  decided-derives None = fetched_effect-derives (fetch s) (fetched-checked (fetch_fault s.scrs.pcc) refl)
+  decided-derives None =
+      fetched_effect-derives (fetch s)
+      (subst (λ r. OnOk r (IsFetched s)) (sym (fetch-fetched s)) (fetched-checked (fetch_fault s.scrs.pcc) refl))
 
   pub step_effect-derives : Derives (step_effect s) s
   unfolding step_effect

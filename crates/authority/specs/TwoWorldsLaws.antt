@@ -23,7 +23,8 @@ use Rattle.hart.specs.EventLaws.{step_effect-sound}
 use Rattle.hart.specs.IsState.{IsState}
 use Rattle.hart.specs.Outcome.{Plain, outcome_of}
 use Rattle.hart.specs.State.{State, pc_of}
-use Rattle.hart.specs.Step.{step_effect, stepped_unless, stepped, step_sent_unless, step_sent, step_outcome_unless, step_outcome}
+use Rattle.hart.specs.Step.{step_effect, stepped_unless, stepped, step_sent_unless, step_sent}
+use Rattle.hart.specs.Outcome.{step_outcome_unless, step_outcome}
 use Rattle.hart.specs.declared.effect.Effect.{Effect}
 use Rattle.hart.specs.declared.effect.Effect.TheVariants as effect
 use Rattle.hart.specs.declared.event.Event.{Event}

@@ -1,6 +1,6 @@
 -- The faults of checks have numbers of 64 bits, and a jump that passes its checks goes to a multiple of 4.
-use Rattle.std.proofs.Common.{◌≡◌, ℕ, ◌%◌, ◌^◌, ◌<◌, None, arith, lit<}
-use Rattle.std.specs.Prelude.{IfSome}
+use Rattle.std.proofs.Common.{◌≡◌, ℕ, true, ◌%◌, ◌^◌, ◌<◌, None, arith, lit<}
+use Rattle.std.specs.Prelude.{IfSome, not, ◌==◌}
 use Rattle.std.proofs.lemmas.Bool.{eqb-true}
 use Rattle.base.specs.declared.cause.Cause.TheVariants as cause
 use Rattle.base.specs.declared.cause.CheriCause.{CheriCause}
@@ -8,11 +8,14 @@ use Rattle.base.specs.declared.cause.CheriCause.TheVariants as forbids
 use Rattle.base.specs.FaultLaws.{IsInRange, IsInRange-fault, IsInRange-cheri}
 use Rattle.base.specs.FirstFaultLaws.{EachHolds, first_fault-each, first_fault-none}
 use Rattle.base.specs.Registers.{pcc_register}
-use Rattle.cap_bounds.specs.CapValue.{CapValue, value_address}
+use Rattle.cap_bounds.specs.CapValue.{CapValue, is_tagged, is_sealed, value_address}
+use Rattle.cap_rights.specs.Permission.{permits}
 use Rattle.cap_checks.specs.declared.access.Access.{Access}
-use Rattle.cap_checks.specs.Access.{width_of, lacking, misaligned}
+use Rattle.cap_checks.specs.Access.{width_of, needed, lacking, stores_capability, stores_local, misaligned}
 use Rattle.cap_checks.specs.Question.{judged}
-use Rattle.cap_checks.specs.FirstFault.{access_checks, access_fault, fetch_checks, fetch_fault, jump_target, target_checks, target_fault}
+use Rattle.cap_checks.specs.QuestionLaws.{others-hold, each-asked}
+use Rattle.cap_checks.specs.FirstFault.{holds, access_checks, access_fault, fetch_checks, fetch_fault, jump_target, target_checks}
+use Rattle.cap_checks.specs.FirstFault.{target_fault}
 use Rattle.cap_checks.specs.FirstFault.{jump_checks, jump_fault, invoke_target, invoke_checks, invoke_fault}
 
 -- a target has 64 bits
@@ -31,33 +34,36 @@ access_fault-range authority register access address exists fits =
         at forbids.Seal,
         (
           at (lacking access),
-          (
-            at forbids.StoreCapability,
-            (
-              at forbids.StoreLocalCapability,
+          each-asked (stores_capability access) _ _ IsInRange (at forbids.StoreCapability)
               (
-                at forbids.Length,
-                (IsInRange-fault (misaligned access) address fits, tt),
+              each-asked (stores_local access) _ _ IsInRange (at forbids.StoreLocalCapability)
+              (at forbids.Length, (IsInRange-fault (misaligned access) address fits, tt))
               ),
-            ),
-          ),
         ),
       ),
     )
 
-pub access_fault-aligned : (authority : CapValue) (register : ℕ) (access : Access) (address : ℕ)
-    → access_fault authority register access address ≡ None → address % width_of access ≡ 0
-unfolding access_fault
-access_fault-aligned authority register access address none =
-    let all : EachHolds (judged (access_checks authority register access address)) = first_fault-none
-    (judged (access_checks authority register access address)) none in
-    eqb-true (address % width_of access) 0 all.1.1.1.1.1.1.0
+module _ (authority : CapValue) (register : ℕ) (access : Access) (address : ℕ) where
+  -- the first three conditions, and the last two
+  pub access_fault-holds : access_fault authority register access address ≡ None
+      → ((is_tagged authority ≡ true) × ((not (is_sealed authority) ≡ true) × (permits authority (needed access) ≡ true)))
+      × ((holds authority address (width_of access) ≡ true) × ((address % width_of access == 0) ≡ true))
+  unfolding access_fault
+  access_fault-holds none =
+      let all : EachHolds (judged (access_checks authority register access address)) =
+      first_fault-none (judged (access_checks authority register access address)) none in
+      let last = others-hold (stores_local access) _ _ (others-hold (stores_capability access) _ _ all.1.1.1) in
+      ((all.0, (all.1.0, all.1.1.0)), (last.0, last.1.0))
+
+  pub access_fault-aligned : access_fault authority register access address ≡ None → address % width_of access ≡ 0
+  access_fault-aligned none = eqb-true (address % width_of access) 0 (access_fault-holds none).1.1
 
 pub fetch_fault-range : (pcc : CapValue) → IfSome (fetch_fault pcc) IsInRange
 unfolding fetch_fault
 fetch_fault-range pcc =
     let at = λ (what : CheriCause). IsInRange-cheri pcc_register what (lit< tt) in
-    first_fault-each IsInRange (judged (fetch_checks pcc)) (at forbids.Tag, (at forbids.Seal, (at forbids.Execute, (at forbids.Length, tt))))
+    first_fault-each IsInRange (judged (fetch_checks pcc))
+    (at forbids.Tag, (at forbids.Seal, (at forbids.Execute, (at forbids.Length, tt))))
 
 -- ---- jumps
 

@@ -1,6 +1,6 @@
 -- The ordered lists of conditions of each check. The fault is that of the first condition that is false.
 -- (UCAM-CL-TR-987, CHERI-RISC-V memory access and jump checks; the order is this profile's.)
-use Rattle.std.specs.Prelude.{ℕ, ◌+◌, ◌*◌, ◌/◌, ◌%◌, ◌^◌, Bool, not, ◌&&◌, ◌||◌, ◌==◌, nat_le, List, [], ◌∷◌, Option}
+use Rattle.std.specs.Prelude.{ℕ, ◌+◌, ◌*◌, ◌/◌, ◌%◌, ◌^◌, Bool, not, ◌&&◌, ◌||◌, ◌==◌, nat_le, if◌then◌else◌, List, [], ◌∷◌, ◌++◌, Option}
 use Rattle.base.specs.ObjectType.{sentry_type}
 use Rattle.cap_bounds.specs.CapValue.{CapValue, is_tagged, is_sealed, value_base, value_top, value_address, value_otype}
 use Rattle.cap_rights.specs.Permission.{permits}
@@ -29,17 +29,23 @@ within register v address size = asks (Bounds register address size) (holds v ad
 abbrev pub aligned : Cause → ℕ → ℕ → Condition
 aligned otherwise address size = asks (Multiple otherwise address size) (address % size == 0)
 
+-- a condition that is asked for in some cases alone
+abbrev pub asked_if : Bool → Condition → List Condition
+asked_if is_asked c = if is_asked then c ∷ [] else []
+
 -- An access of memory through an authority, which a register holds.
 abbrev pub access_checks : CapValue → ℕ → Access → ℕ → List Condition
 access_checks authority register access address =
     asks (Right register forbids.Tag) (is_tagged authority)
     ∷ asks (Right register forbids.Seal) (not (is_sealed authority))
     ∷ asks (Right register (lacking access)) (permits authority (needed access))
-    ∷ asks (Right register forbids.StoreCapability) (not (stores_capability access) || permits authority permission.StoreCapability)
-    ∷ asks (Right register forbids.StoreLocalCapability) (not (stores_local access) || permits authority permission.StoreLocalCapability)
-    ∷ within register authority address (width_of access)
-    ∷ aligned (misaligned access) address (width_of access)
-    ∷ []
+    ∷ (
+    asked_if (stores_capability access) (asks (Right register forbids.StoreCapability) (permits authority permission.StoreCapability))
+    ++ (
+    asked_if (stores_local access) (asks (Right register forbids.StoreLocalCapability) (permits authority permission.StoreLocalCapability))
+    ++ within register authority address (width_of access) ∷ aligned (misaligned access) address (width_of access) ∷ []
+    )
+    )
 
 unfoldable pub access_fault : CapValue → ℕ → Access → ℕ → Option Fault
 access_fault authority register access address = first_false (access_checks authority register access address)

@@ -19,7 +19,7 @@ fault_of (Right register what) = cheri register what
 fault_of (Bounds register address size) = cheri register forbids.Length
 fault_of (Multiple otherwise address size) = fault otherwise address
 fault_of (Ram otherwise address) = fault otherwise address
-fault_of (RamOrDevice otherwise address) = fault otherwise address
+fault_of (RamOrDevice otherwise address size) = fault otherwise address
 fault_of (Instruction word) = fault cause.IllegalInstruction word
 fault_of (SystemRegister word) = fault cause.IllegalInstruction word
 

@@ -18,6 +18,13 @@ macro_rules! listed {
     };
 }
 
+/// Appends a condition to a list.
+macro_rules! push {
+    ($list:ident: $question:expr => $holds:expr) => {
+        $list.push($crate::question::Condition { question: $question, holds: $holds })?;
+    };
+}
+
 /// Reports the fault of the first condition of a check that is false.
 macro_rules! checked {
     ($($question:expr => $holds:expr;)*) => {
@@ -25,8 +32,17 @@ macro_rules! checked {
     };
 }
 
+/// Reports the fault of a condition that is false; there is no list.
+macro_rules! report {
+    ($list:ident: $question:expr => $holds:expr) => {
+        $crate::conditions::check($question, $holds)?;
+    };
+}
+
 pub(crate) use checked;
 pub(crate) use listed;
+pub(crate) use push;
+pub(crate) use report;
 
 /// Reports a question's fault unless its answer is yes.
 #[inline(always)]

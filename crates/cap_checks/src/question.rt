@@ -1,4 +1,4 @@
-use base::{Cause, CheriCause, Fault};
+use base::{Cause, CheriCause, Fault, Size};
 
 /// What a condition of a step asks. Registers are numbered as mtval counts them: a general one by its number, a special one by 32 and
 /// its number.
@@ -36,12 +36,14 @@ pub enum Question {
         /// The address.
         address: u64,
     },
-    /// Whether RAM or a register of a device answers at an address.
+    /// Whether RAM or a register of a device answers an access of a size at an address.
     RamOrDevice {
         /// The exception where neither does.
         cause: Cause,
         /// The address.
         address: u64,
+        /// How many bytes.
+        size: Size,
     },
     /// Whether a word is an instruction.
     Instruction {
@@ -70,7 +72,7 @@ impl Question {
             Question::Bounds { register, .. } => Fault::cheri(register, CheriCause::Length),
             Question::Multiple { cause, address, .. }
             | Question::Ram { cause, address }
-            | Question::RamOrDevice { cause, address } => Fault::of(cause, address),
+            | Question::RamOrDevice { cause, address, .. } => Fault::of(cause, address),
             Question::Instruction { word } | Question::SystemRegister { word } => {
                 Fault::of(Cause::IllegalInstruction, word)
             }

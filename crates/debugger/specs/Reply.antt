@@ -13,7 +13,7 @@ use Rattle.hart.specs.declared.event.Event.TheVariants.{Step, Tick, Byte}
 use Rattle.hart.specs.State.{State, pc_of}
 use Rattle.hart.specs.Registers.{register}
 use Rattle.hart.specs.Event.{after}
-use Rattle.hart.specs.Step.{step_outcome}
+use Rattle.hart.specs.Outcome.{step_outcome}
 use Rattle.hart.specs.Outcome.{is_trap}
 use Rattle.machine.specs.Run.{run_after, run_sent}
 use Rattle.explain.specs.Text.{why_text}

@@ -11,7 +11,6 @@ mod session;
 mod shown;
 mod state;
 mod talking;
-mod text;
 
 pub use debug_commands::{DebugFault, laws};
 pub use disassembler::disassemble;

@@ -8,9 +8,9 @@ ghost use Rattle.disassembler.specs.Shown.{word_line as word_line_of};
 ghost use Rattle.debugger.specs.Reply.{byte_line, byte_lines, word_lines};
 ghost use Rattle.debugger.specs.Lines.{spaced};
 
-use crate::text::{put, put_hex};
 use base::Size;
 use disassembler::word_line;
+use effect_texts::{put, put_hex};
 use std::alloc::{AllocError, Global};
 use tagged_memory::Memory;
 

@@ -13,9 +13,9 @@ ghost use Rattle.debugger.specs.Reply.{is_stop, steps_until as until_steps, even
 ghost use Rattle.debugger.specs.Lines.{given_part, place_part, goes_on};
 ghost use Rattle.debug_commands.specs.Seen.{seen_command, most_of, IsWithinLimits};
 
-use crate::text::{put, put_decimal, put_hex};
 use cap_bounds::CapRep;
 use debug_commands::{Command, DebugFault, Stop};
+use effect_texts::{put, put_decimal, put_hex};
 use hart::Effect;
 use machine::{Event, Machine, Planned, emit};
 use std::alloc::{AllocError, Global};
@@ -73,7 +73,7 @@ fn is_trap_effect<C: CapRep>(effect: &Effect<C>) -> bool
 }
 
 /// Whether a machine that isn't halted, and whose next step was planned, is where steps stop.
-#[tactic(auto, unfolding(hart::specs::Step::step_outcome))]
+#[tactic(auto, unfolding(hart::specs::Outcome::step_outcome))]
 fn is_stop<C: CapRep>(machine: &Machine<C>, stop: Stop, planned: &Planned<C>) -> bool
     requires planned { IsPlanned C.value planned.now.effect machine.now }
     requires running { machine.now.devices.halted ≡ None }

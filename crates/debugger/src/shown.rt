@@ -2,9 +2,8 @@
 ghost use Rattle.std.specs.Prelude.{◌≡◌, ◌++◌, OnOk, string_bytes};
 ghost use Rattle.effect_texts.specs.ValueText.{value_line};
 
-use crate::text::put;
 use cap_bounds::CapRep;
-use effect_texts::value_text;
+use effect_texts::{put, value_text};
 use std::alloc::AllocError;
 
 /// Puts a line behind a text: a name and a value.

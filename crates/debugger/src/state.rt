@@ -11,10 +11,10 @@ ghost use Rattle.debugger.specs.Reply.{register_lines, scr_lines, csr_lines};
 ghost use Rattle.debugger.specs.Lines.{register_line, scr_line, csr_line, number_line};
 
 use crate::shown::put_value_line;
-use crate::text::{put, put_hex};
 use asm_names::{csr_name, register_name, scr_name};
 use base::{CSRS, SPECIAL_REGISTERS};
 use cap_bounds::CapRep;
+use effect_texts::{put, put_hex};
 use machine::Machine;
 use std::alloc::AllocError;
 

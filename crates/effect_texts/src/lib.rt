@@ -1,13 +1,15 @@
-//! What a step's effect comes to, as a line of text, and the text of a register's value.
+//! What a step's effect comes to, as a line of text, the text of a register's value, and what is put behind a string.
 #![tactic(auto)]
 
 mod effect;
 mod line;
+mod strings;
 mod text;
 mod trap;
 mod value;
 
 pub use effect::{effect_text, size_text};
 pub use line::{Line, trace_line};
+pub use strings::{put, put_decimal, put_hex};
 pub use text::Text;
 pub use value::value_text;

@@ -1,1 +1,2 @@
+pub mod NoRegister
 pub mod StageTexts

@@ -1,14 +1,92 @@
--- The texts of stages, one after another.
-use Rattle.std.proofs.Common.{◌≡◌, ℕ, List, [], ◌∷◌, ◌++◌, ap, sym, ◌∙◌, append_assoc, append-nil}
+-- Texts of stages, one after another.
+use Rattle.std.proofs.Common.{◌≡◌, ℕ, Bool, true, false, List, [], ◌∷◌, ◌++◌, Option, Some, None, Ok, Err, refl, ap, sym, ◌∙◌, append_assoc}
+use Rattle.std.proofs.Common.{append-nil}
+use Rattle.std.specs.Prelude.{is_some, codes}
 use Rattle.std.specs.List.{flat_map}
-use Rattle.explain.specs.Stages.{Stage}
-use Rattle.explain.specs.Text.{stage_text}
+use Rattle.base.specs.declared.fault.Fault.{Fault}
+use Rattle.base.specs.declared.cause.Cause.{Cause}
+use Rattle.base.specs.declared.size.Size.{Size}
+use Rattle.cap_checks.specs.declared.question.Condition.{Condition}
+use Rattle.cap_checks.specs.declared.question.Question.{Question}
+use Rattle.cap_checks.specs.declared.question.Question.TheVariants.{Right, Bounds, Multiple, Ram, RamOrDevice, Instruction, SystemRegister}
+use Rattle.disassembler.specs.Hex.{hex_of}
+use Rattle.devices.specs.Devices.{interrupts_of}
+use Rattle.special_regs.specs.Interrupts.{pending}
+use Rattle.isa_rows.specs.declared.operands.Insn.{Insn}
+use Rattle.isa_rows.specs.Kind.{kind_of}
+use Rattle.isa_rows.specs.Decoded.{insn_of}
+use Rattle.hart.specs.State.{State, pc_of}
+use Rattle.hart.specs.Step.{asked, fetch_asked, fetch}
+use Rattle.explain.specs.Asked.{decoding, word_stages, stages_of}
+use Rattle.explain.specs.Text.{place_text, stage_text, stages_text}
 
-pub one_stage : (old new : List ℕ) (first : Stage) → new ≡ old ++ stage_text first → new ≡ old ++ flat_map stage_text (first ∷ [])
-one_stage old new first e = e ∙ ap (λ text. old ++ text) (sym (append-nil (stage_text first)))
+module _ {T : Type 0} (text_of : T → List ℕ) (old : List ℕ) (first : T) where
+  pub one_text : (new : List ℕ) → new ≡ old ++ text_of first → new ≡ old ++ flat_map text_of (first ∷ [])
+  one_text new e = e ∙ ap (λ text. old ++ text) (sym (append-nil (text_of first)))
 
-pub stage_more : (old between new : List ℕ) (first : Stage) (others : List Stage) → between ≡ old ++ stage_text first
-    → new ≡ between ++ flat_map stage_text others
-    → new ≡ old ++ flat_map stage_text (first ∷ others)
-stage_more old between new first others e f =
-    f ∙ ap (λ text. text ++ flat_map stage_text others) e ∙ append_assoc old (stage_text first) (flat_map stage_text others)
+  pub text_more : (between new : List ℕ) (others : List T) → between ≡ old ++ text_of first
+      → new ≡ between ++ flat_map text_of others
+      → new ≡ old ++ flat_map text_of (first ∷ others)
+  text_more between new others e f =
+      f ∙ ap (λ text. text ++ flat_map text_of others) e ∙ append_assoc old (text_of first) (flat_map text_of others)
+
+  pub two_texts : (between new : List ℕ) (last : T) → between ≡ old ++ text_of first → new ≡ between ++ text_of last
+      → new ≡ old ++ flat_map text_of (first ∷ last ∷ [])
+  two_texts between new last e f =
+      text_more between new (last ∷ []) e (f ∙ ap (λ text. between ++ text) (sym (append-nil (text_of last))))
+
+none-is : {T : Type 0} (o : Option T) → is_some o ≡ false → o ≡ None
+none-is None e = refl
+none-is (Some x) e = cc
+
+module _ (word : ℕ) (s : State) (old between new : List ℕ) (found : Option Insn) (holds : Bool) (same : found ≡ insn_of word)
+    (is : holds ≡ is_some found) (first : between ≡ old ++ stage_text s (decoding holds word)) where
+  pub shown-insn : (insn : Insn) (conditions : List Condition) → found ≡ Some insn
+      → conditions ≡ asked (kind_of insn.row) word insn s → new ≡ between ++ stage_text s conditions
+      → new ≡ old ++ flat_map (stage_text s) (word_stages (insn_of word) word s)
+  shown-insn insn conditions some lists last =
+      let here : insn_of word ≡ Some insn = sym same ∙ some in
+      rw here
+      (two_texts (stage_text s) old (decoding true word) between new (asked (kind_of insn.row) word insn s)
+      (first ∙ ap (λ b. old ++ stage_text s (decoding b word)) (is ∙ ap is_some some))
+      (last ∙ ap (λ l. between ++ stage_text s l) lists))
+
+  pub shown-word : found ≡ None → new ≡ between ++ [] → new ≡ old ++ flat_map (stage_text s) (word_stages (insn_of word) word s)
+  shown-word none last =
+      let here : insn_of word ≡ None = sym same ∙ none in
+      rw here
+      (one_text (stage_text s) old (decoding false word) new
+      (last ∙ append-nil between ∙ first ∙ ap (λ b. old ++ stage_text s (decoding b word)) (is ∙ ap is_some none)))
+
+module _ (s : State) (old between new : List ℕ) (conditions : List Condition)
+    (running : is_some (pending s.csrs (interrupts_of s.devices)) ≡ false)
+    (lists : conditions ≡ fetch_asked s) (first : between ≡ old ++ stage_text s conditions) where
+  fetch-shown : between ≡ old ++ stage_text s (fetch_asked s)
+  fetch-shown = first ∙ ap (λ l. old ++ stage_text s l) lists
+
+  pub stages-shown : (word : ℕ) → fetch s ≡ Ok word → new ≡ between ++ flat_map (stage_text s) (word_stages (insn_of word) word s)
+      → new ≡ old ++ stages_text s
+  unfolding stages_text stages_of
+  stages-shown word fetched last =
+      rw (none-is (pending s.csrs (interrupts_of s.devices)) running, fetched)
+      (text_more (stage_text s) old (fetch_asked s) between new (word_stages (insn_of word) word s) fetch-shown last)
+
+  pub fetch-alone : (fault : Fault) → fetch s ≡ Err fault → new ≡ between ++ [] → new ≡ old ++ stages_text s
+  unfolding stages_text stages_of
+  fetch-alone fault refused last =
+      rw (none-is (pending s.csrs (interrupts_of s.devices)) running, refused)
+      (one_text (stage_text s) old (fetch_asked s) new (last ∙ append-nil between ∙ fetch-shown))
+
+pub other-place : (invokes : Bool) (last : Question) (s : State)
+    → ((otherwise : Cause) (address size : ℕ) → last ≡ Multiple otherwise address size → ⊥)
+    → ((otherwise : Cause) (address : ℕ) → last ≡ Ram otherwise address → ⊥)
+    → ((otherwise : Cause) (address : ℕ) (size : Size) → last ≡ RamOrDevice otherwise address size → ⊥)
+    → ((word : ℕ) → last ≡ Instruction word → ⊥)
+    → codes "system register at " ++ hex_of 16 (pc_of s) ≡ place_text invokes last s
+other-place invokes (Right register what) s a b c d = refl
+other-place invokes (Bounds register address size) s a b c d = refl
+other-place invokes (Multiple otherwise address size) s a b c d = absurd (a otherwise address size refl)
+other-place invokes (Ram otherwise address) s a b c d = absurd (b otherwise address refl)
+other-place invokes (RamOrDevice otherwise address size) s a b c d = absurd (c otherwise address size refl)
+other-place invokes (Instruction word) s a b c d = absurd (d word refl)
+other-place invokes (SystemRegister word) s a b c d = refl

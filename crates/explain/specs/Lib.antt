@@ -1,6 +1,5 @@
 -- What to read
-pub mod Stages
+pub mod Asked
 pub mod Text
 -- Laws
-pub mod StageLaws
-pub mod TextLaws
+pub mod AskedLaws

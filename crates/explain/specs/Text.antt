@@ -1,116 +1,136 @@
--- What the next step will do, and why, as a text: the instruction's line, its stages with the conditions up to the first false one, and
--- its effect.
-use Rattle.std.specs.Prelude.{ℕ, Bool, true, ◌&&◌, if◌then◌else◌, List, [], ◌∷◌, ◌++◌, flat_map, Option}
+-- What the next step will do, and why, as a text: the instruction's line, the stages of the step with their conditions up to the first
+-- false one, and its effect.
+use Rattle.std.specs.Prelude.{ℕ, ◌-◌, Bool, true, false, nat_lt, if◌then◌else◌, List, [], ◌∷◌, ◌++◌, length, flat_map, slice_get, Option}
 use Rattle.std.specs.Prelude.{Some, None, codes, decimal}
+use Rattle.std.specs.List.{list_any}
+use Rattle.std.specs.Option.{unwrap_or}
+use Rattle.base.specs.declared.cause.Cause.{Cause}
+use Rattle.base.specs.declared.cause.Cause.TheVariants as cause
 use Rattle.base.specs.declared.cause.CheriCause.{CheriCause}
 use Rattle.base.specs.declared.cause.CheriCause.TheVariants as forbids
 use Rattle.base.specs.Fault.{cheri_number_of}
 use Rattle.base.specs.declared.size.Size.{Size}
-use Rattle.cap_bounds.specs.CapValue.{CapValue, value_base, value_top, value_flag}
-use Rattle.cap_checks.specs.Access.{stores_capability, stores_local}
+use Rattle.base.specs.Registers.{pcc_register}
+use Rattle.cap_bounds.specs.CapValue.{CapValue, value_base, value_top, value_flag, integer}
 use Rattle.cap_checks.specs.declared.question.Condition.{Condition}
 use Rattle.cap_checks.specs.declared.question.Question.{Question}
 use Rattle.cap_checks.specs.declared.question.Question.TheVariants.{Right, Bounds, Multiple, Ram, RamOrDevice, Instruction, SystemRegister}
-use Rattle.cap_checks.specs.declared.access.Access.{Access as Asked}
-use Rattle.cap_checks.specs.declared.access.Access.TheVariants as access
 use Rattle.tagged_memory.specs.Memory.{is_in_ram, number_at}
+use Rattle.special_regs.specs.Scrs.{scr_value}
 use Rattle.disassembler.specs.Hex.{hex_of}
 use Rattle.disassembler.specs.Shown.{name_or, word_line}
 use Rattle.trap_texts.specs.Names.{cheri_asked_name, register_at_fault}
+use Rattle.hart.specs.Registers.{register}
 use Rattle.hart.specs.State.{State, pc_of}
 use Rattle.hart.specs.Step.{step_effect}
 use Rattle.effect_texts.specs.ValueText.{value_line}
 use Rattle.effect_texts.specs.EffectText.{effect_text, shown_size}
-use Rattle.explain.specs.declared.check.Check.{Check}
-use Rattle.explain.specs.declared.check.Check.TheVariants.{Fetch, Decode, Jump, Invocation, Access, SystemRegister}
-use Rattle.explain.specs.Stages.{Stage, stages_of}
+use Rattle.explain.specs.Asked.{stages_of}
 
--- ---- a stage's first line
+-- ---- registers as mtval counts them
 
-abbrev pub sized_text : List ℕ → Size → List ℕ
-sized_text name size = name ++ shown_size size ++ codes " at "
-
-abbrev pub access_text : Asked → List ℕ
-access_text (access.Load size) = sized_text (codes "load of ") size
-access_text (access.Store size) = sized_text (codes "store of ") size
-access_text access.LoadCapability = codes "load of a capability at "
-access_text (access.StoreCapability what) = codes "store of a capability at "
-
-abbrev pub check_text : Check → List ℕ
-check_text Fetch = codes "fetch at "
-check_text Decode = codes "decoding at "
-check_text Jump = codes "jump to "
-check_text Invocation = codes "invocation of "
-check_text (Access asked) = access_text asked
-check_text SystemRegister = codes "system register at "
-
-abbrev pub heading : Check → ℕ → List ℕ
-heading check address = check_text check ++ hex_of 16 address ++ codes "\n"
-
--- a register as mtval counts it
 abbrev pub register_text : ℕ → List ℕ
-register_text register = name_or [] (register_at_fault register)
+register_text n = name_or [] (register_at_fault n)
+
+-- the capability in a register: 0 to 31 general, 32 + n special
+abbrev pub capability_in : State → ℕ → CapValue
+capability_in s n = if nat_lt n 32 then register s.registers n else unwrap_or (scr_value s.scrs (n - 32)) (integer 0)
+
+abbrev pub capability_line : State → ℕ → List ℕ
+capability_line s n = codes "  " ++ value_line (register_text n) (capability_in s n)
+
+-- ---- a stage's first line: what is asked and where, as its last condition says it
+
+-- RAM alone is asked at a fetch, and for capabilities
+abbrev pub ram_name : Cause → List ℕ
+ram_name cause.FetchAccess = codes "fetch at "
+ram_name cause.LoadAccess = codes "load of a capability at "
+ram_name other = codes "store of a capability at "
+
+abbrev pub moved_name : Cause → List ℕ
+moved_name cause.LoadAccess = codes "load of "
+moved_name other = codes "store of "
+
+abbrev pub sized_place : List ℕ → Size → ℕ → List ℕ
+sized_place name size address = name ++ shown_size size ++ codes " at " ++ hex_of 16 address
+
+abbrev pub place_text : Bool → Question → State → List ℕ
+place_text invokes (Multiple otherwise address size) s =
+    (if invokes then codes "invocation of " else codes "jump to ") ++ hex_of 16 address
+place_text invokes (Ram otherwise address) s = ram_name otherwise ++ hex_of 16 address
+place_text invokes (RamOrDevice otherwise address size) s = sized_place (moved_name otherwise) size address
+place_text invokes (Instruction word) s = codes "decoding at " ++ hex_of 16 (pc_of s)
+place_text invokes other s = codes "system register at " ++ hex_of 16 (pc_of s)
+
+-- a jump that asks for the permission CInvoke is an invocation
+abbrev pub asks_for_cinvoke : Question → Bool
+asks_for_cinvoke (Right register forbids.CInvoke) = true
+asks_for_cinvoke other = false
+
+abbrev pub is_invocation : List Condition → Bool
+is_invocation conditions = list_any (λ c. asks_for_cinvoke c.question) conditions
+
+-- ---- the capabilities that a stage asks: those whose tag is asked; else PCC, but for the decoding, which asks none
+
+abbrev pub tag_line : State → Question → List ℕ
+tag_line s (Right register forbids.Tag) = capability_line s register
+tag_line s other = []
+
+abbrev pub tag_lines : State → List Condition → List ℕ
+tag_lines s [] = []
+tag_lines s (c ∷ cs) = tag_line s c.question ++ tag_lines s cs
+
+abbrev pub capability_lines : Question → List Condition → State → List ℕ
+capability_lines (Right register forbids.Tag) conditions s = tag_lines s conditions
+capability_lines (Instruction word) conditions s = []
+capability_lines other conditions s = capability_line s pcc_register
 
 -- ---- conditions
-
--- An access that stores no capability doesn't ask for the permissions to store one. The conditions on them are true of it, and not shown.
-abbrev pub is_asked : Check → Question → Bool
-is_asked (Access asked) (Right register forbids.StoreCapability) = stores_capability asked
-is_asked (Access asked) (Right register forbids.StoreLocalCapability) = stores_local asked
-is_asked _ _ = true
 
 -- what a capability must allow, and the register that holds it
 abbrev pub name_text : ℕ → CheriCause → List ℕ
 name_text register what = name_or [] (cheri_asked_name (cheri_number_of what)) ++ codes " of " ++ register_text register
 
--- the bytes that are asked for, and the bounds
-abbrev pub bounds_text : ℕ → ℕ → ℕ → ℕ → List ℕ
-bounds_text address size base top =
-    codes ": " ++ hex_of 16 address ++ codes " + " ++ decimal size ++ codes " in " ++ hex_of 16 base ++ codes " to " ++ hex_of 17 top
+-- the bytes that are asked for, and the capability's bounds
+abbrev pub bounds_text : ℕ → ℕ → CapValue → List ℕ
+bounds_text address size v =
+    codes ": " ++ hex_of 16 address ++ codes " + " ++ decimal size ++ codes " in " ++ hex_of 16 (value_base v) ++ codes " to "
+    ++ hex_of 17 (value_top v)
 
--- what a condition asks, where the capability that is asked has these bounds
-unfoldable pub question_text : ℕ → ℕ → Question → List ℕ
-question_text base top (Right register what) = name_text register what
-question_text base top (Bounds register address size) = name_text register forbids.Length ++ bounds_text address size base top
-question_text base top (Multiple otherwise address size) = codes "a multiple of " ++ decimal size ++ codes ": " ++ hex_of 16 address
-question_text base top (Ram otherwise address) = codes "RAM at " ++ hex_of 16 address
-question_text base top (RamOrDevice otherwise address) = codes "RAM or a device at " ++ hex_of 16 address
-question_text base top (Instruction word) = codes "the word is an instruction"
-question_text base top (SystemRegister word) = codes "there is such a register, and it may be written where it is"
+abbrev pub multiple_text : ℕ → ℕ → List ℕ
+multiple_text size address = codes "a multiple of " ++ decimal size ++ codes ": " ++ hex_of 16 address
+
+unfoldable pub question_text : State → Question → List ℕ
+question_text s (Right register what) = name_text register what
+question_text s (Bounds register address size) = name_text register forbids.Length ++ bounds_text address size (capability_in s register)
+question_text s (Multiple otherwise address size) = multiple_text size address
+question_text s (Ram otherwise address) = codes "RAM at " ++ hex_of 16 address
+question_text s (RamOrDevice otherwise address size) = codes "RAM or a device at " ++ hex_of 16 address
+question_text s (Instruction word) = codes "the word is an instruction"
+question_text s (SystemRegister word) = codes "there is such a register, and it may be written where it is"
 
 abbrev pub mark : Bool → List ℕ
 mark holds = if holds then codes "  ok " else codes "  no "
 
-unfoldable pub condition_line : Check → ℕ → ℕ → Condition → List ℕ
-condition_line check base top c =
-    if is_asked check c.question then mark c.holds ++ question_text base top c.question ++ codes "\n" else []
+unfoldable pub condition_line : State → Condition → List ℕ
+condition_line s c = mark c.holds ++ question_text s c.question ++ codes "\n"
 
 -- conditions in order, up to the first that is false and with it
-abbrev pub condition_lines : Check → ℕ → ℕ → List Condition → List ℕ
-condition_lines check base top [] = []
-condition_lines check base top (c ∷ cs) =
-    condition_line check base top c ++ (if c.holds then condition_lines check base top cs else [])
-
-abbrev pub all_hold : List Condition → Bool
-all_hold [] = true
-all_hold (c ∷ cs) = c.holds && all_hold cs
+abbrev pub condition_lines : State → List Condition → List ℕ
+condition_lines s [] = []
+condition_lines s (c ∷ cs) = condition_line s c ++ (if c.holds then condition_lines s cs else [])
 
 -- ---- stages
 
--- the line of a capability that is asked
-abbrev pub held_line : ℕ → CapValue → List ℕ
-held_line register v = codes "  " ++ value_line (register_text register) v
+-- a stage that asks nothing is not shown
+abbrev pub stage_between : Option Condition → Option Condition → List Condition → State → List ℕ
+stage_between (Some first) (Some last) conditions s =
+    place_text (is_invocation conditions) last.question s ++ codes "\n" ++ capability_lines first.question conditions s
+    ++ condition_lines s conditions
+stage_between first last conditions s = []
 
-abbrev pub held_lines : List (ℕ × CapValue) → List ℕ
-held_lines held = flat_map (λ h. held_line h.0 h.1) held
-
--- the lines of conditions by the bounds of the first capability, where there is one
-abbrev pub condition_lines_by : Stage → List (ℕ × CapValue) → List ℕ
-condition_lines_by stage [] = condition_lines stage.check 0 0 stage.conditions
-condition_lines_by stage (h ∷ hs) = condition_lines stage.check (value_base h.1) (value_top h.1) stage.conditions
-
-unfoldable pub stage_text : Stage → List ℕ
-stage_text stage = heading stage.check stage.address ++ held_lines stage.held ++ condition_lines_by stage stage.held
+unfoldable pub stage_text : State → List Condition → List ℕ
+stage_text s conditions = stage_between (slice_get conditions 0) (slice_get conditions (length conditions - 1)) conditions s
 
 -- ---- the whole text
 
@@ -120,7 +140,7 @@ instruction_text s =
     if is_in_ram s.memory (pc_of s) 4 then word_line (value_flag s.scrs.pcc) (pc_of s) (number_at s.memory (pc_of s) 4) else []
 
 unfoldable pub stages_text : State → List ℕ
-stages_text s = flat_map stage_text (stages_of s)
+stages_text s = flat_map (stage_text s) (stages_of s)
 
 abbrev pub running_text : State → List ℕ
 running_text s = instruction_text s ++ stages_text s ++ codes "effect: " ++ effect_text (step_effect s) ++ codes "\n"

@@ -1,9 +1,9 @@
 //! What holds of every state: each function's contract is a law, and its body is empty.
 
-ghost use Rattle.explain.specs.Stages.{TrapsByItsStages};
+ghost use Rattle.explain.specs.Asked.{TrapsByItsStages};
 
-/// The next step traps exactly by the first false condition of its stages, unless an interrupt is taken, and but for the traps that
-/// ECALL and EBREAK ask for.
+/// Unless an interrupt is taken, the next step is the trap by the first false condition of its stages; where all hold, it is what the
+/// instruction does.
 pub fn step_traps_by_its_stages()
     ensures { TrapsByItsStages }
 {}

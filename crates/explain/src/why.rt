@@ -4,11 +4,10 @@ ghost use Rattle.tagged_memory.specs.Memory.{is_in_ram, number_at};
 ghost use Rattle.explain.specs.Text.{instruction_text, running_text, why_text};
 
 use crate::stages::put_stages;
-use crate::text::{put, put_decimal};
 use base::{INSTRUCTION_BYTES, Size};
 use cap_bounds::CapRep;
 use disassembler::word_line;
-use effect_texts::effect_text;
+use effect_texts::{effect_text, put, put_decimal};
 use hart::Hart;
 use std::alloc::AllocError;
 use tagged_memory::Memory;

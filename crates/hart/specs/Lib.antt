@@ -8,8 +8,8 @@ pub mod MemoryRows
 pub mod JumpRows
 pub mod ComputeRows
 pub mod SystemRows
-pub mod Outcome
 pub mod Step
+pub mod Outcome
 pub mod Event
 pub mod Ends
 pub mod Opening

@@ -10,7 +10,7 @@ use isa_rows::{Row, Through, Transfer, Width};
 /// How many bytes a load or store of data moves.
 #[inline(always)]
 #[tactic(auto, unfolding(crate::specs::Accesses::size_of))]
-pub fn size_of(row: Row) -> Size
+pub(crate) fn size_of(row: Row) -> Size
     ensures { result ≡ spec.size_of row }
 {
     match row.transfer() {

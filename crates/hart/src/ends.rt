@@ -6,7 +6,7 @@ ghost use Rattle.hart.specs.Ends.{why_of};
 ghost use Rattle.hart.specs.Event.{after, outcome, sent};
 ghost use Rattle.hart.specs.IsState.{IsState};
 ghost use Rattle.hart.specs.Outcome.{outcome_of};
-ghost use Rattle.hart.specs.Step.{step_outcome};
+ghost use Rattle.hart.specs.Outcome.{step_outcome};
 ghost use Rattle.hart.specs.declared.event.Event.TheVariants.{Step};
 
 use crate::effect::Effect;
@@ -42,7 +42,7 @@ impl<C: CapRep> Hart<C> {
 
     /// The same of a step that was planned: the outcome of its effect.
     #[inline]
-    #[tactic(auto, unfolding(crate::specs::Step::step_outcome))]
+    #[tactic(auto, unfolding(crate::specs::Outcome::step_outcome))]
     fn step_ends(&self, planned: &Planned<C>) -> Option<Why>
         requires { IsPlanned C.value planned.now.effect self.now }
         ensures { result ≡ why_of (step_outcome self.now) }

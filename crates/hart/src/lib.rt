@@ -30,15 +30,11 @@ mod step;
 mod system_rows;
 mod values;
 
-pub use accesses::size_of;
 pub use advance::Advance;
-pub use asked::{asked_of_register, question_of};
 pub use effect::{
     CsrWrite, DeviceLoad, Effect, Enter, Link, SpecialWrite, Store, StoreCapability, Write,
 };
 pub use ends::Why;
 pub use event::{Event, Out};
 pub use hart::Hart;
-pub use memory_rows::Authority;
 pub use planned::Planned;
-pub use system_rows::{csr_number, csr_writes};

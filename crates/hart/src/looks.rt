@@ -11,15 +11,16 @@ ghost use Rattle.hart.specs.SystemRows.{question_of};
 use crate::asked::question_of;
 use crate::effect::Effect;
 use crate::hart::Hart;
-use base::{Cause, Fault};
 use cap_bounds::CapRep;
+use cap_checks::Question;
 use special_regs::SpecialFault;
 
 /// The trap of a word that is no instruction that may be done.
 pub(crate) fn illegal_effect<C: CapRep>(word: u32) -> Effect<C>
     ensures { meant C.value result ≡ illegal word }
 {
-    Effect::Trap(Fault::of(Cause::IllegalInstruction, u64::from(word)))
+    let word = u64::from(word);
+    Effect::Trap(Question::Instruction { word }.fault())
 }
 
 /// The trap where a system register is refused. A refusal for lack of access names a register, below 64.

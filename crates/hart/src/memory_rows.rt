@@ -16,9 +16,10 @@ ghost use Rattle.hart.specs.MemoryRows.{store_capability_done};
 ghost use Rattle.hart.specs.RowEffects.{load_effect, store_effect, load_capability_effect, store_capability_effect};
 
 use crate::accesses::{loaded, size_of, through_rs1};
+use crate::asked::{load_question, ram_question, store_question};
 use crate::effect::{DeviceLoad, Effect, Store, StoreCapability, Write};
 use crate::hart::Hart;
-use base::{Cause, DDC_REGISTER, Fault, Size};
+use base::{Cause, DDC_REGISTER, Size};
 use cap_bounds::CapRep;
 use cap_checks::{Access, Stored, check_access};
 use cap_format::CapWord;
@@ -29,11 +30,11 @@ use isa_rows::Insn;
 
 /// The authority of an access, and the number of its register.
 #[derive(Clone, Copy)]
-pub struct Authority<C> {
+pub(crate) struct Authority<C> {
     /// The capability.
-    pub capability: C,
+    pub(crate) capability: C,
     /// Its register as mtval counts them: a general one by its number, a special one by 32 and its number.
-    pub register: u64,
+    pub(crate) register: u64,
 }
 
 /// What a word and its tag mean where the tag may be kept, and what the word alone means where it may not.
@@ -52,7 +53,7 @@ fn kept_if<C: CapRep>(keeps: bool, word: CapWord, tag: bool) -> C
 impl<C: CapRep> Hart<C> {
     /// Where an access is made: rs1's number and the immediate.
     #[inline(always)]
-    pub fn place(&self, insn: Insn) -> u64
+    pub(crate) fn place(&self, insn: Insn) -> u64
         requires registers { HasRegisters insn }
         ensures { result ≡ place_of insn self.now }
     {
@@ -61,7 +62,7 @@ impl<C: CapRep> Hart<C> {
 
     /// The authority: the capability in rs1, or the default data capability.
     #[inline(always)]
-    pub fn authority(&self, insn: Insn) -> Authority<C>
+    pub(crate) fn authority(&self, insn: Insn) -> Authority<C>
         requires registers { HasRegisters insn }
         ensures capability { C.value result.capability ≡ authority_of insn self.now }
         ensures register { result.register ≡ authority_number_of insn self.now }
@@ -127,7 +128,7 @@ impl<C: CapRep> Hart<C> {
                 size,
             })
         } else {
-            Effect::Trap(Fault::of(Cause::LoadAccess, address))
+            Effect::Trap(load_question(address, size).fault())
         }
     }
 
@@ -172,7 +173,7 @@ impl<C: CapRep> Hart<C> {
         } else if Devices::takes(address, size) {
             Effect::DeviceStore(store)
         } else {
-            Effect::Trap(Fault::of(Cause::StoreAccess, address))
+            Effect::Trap(store_question(address, size).fault())
         }
     }
 
@@ -222,7 +223,7 @@ impl<C: CapRep> Hart<C> {
         ensures can { CanApply result self.now }
     {
         if !self.holds_granule(address) {
-            return Effect::Trap(Fault::of(Cause::LoadAccess, address));
+            return Effect::Trap(ram_question(Cause::LoadAccess, address).fault());
         }
         Effect::Write(Write {
             rd,
@@ -263,7 +264,7 @@ impl<C: CapRep> Hart<C> {
         if self.holds_granule(address) {
             Effect::StoreCapability(StoreCapability { address, value })
         } else {
-            Effect::Trap(Fault::of(Cause::StoreAccess, address))
+            Effect::Trap(ram_question(Cause::StoreAccess, address).fault())
         }
     }
 

@@ -18,7 +18,7 @@ use special_regs::{check_csr, check_return, check_scr, held_csr};
 
 /// Whether a CSR row writes: the set and clear forms don't where their field is 0.
 #[tactic(auto, unfolding(crate::specs::SystemRows::csr_writes))]
-pub fn csr_writes(row: Row, field: u8) -> bool
+pub(crate) fn csr_writes(row: Row, field: u8) -> bool
     ensures { result ≡ spec.csr_writes row field }
 {
     match row {
@@ -40,7 +40,7 @@ fn csr_new(row: Row, old: u64, source: u64) -> u64
 }
 
 /// The number of the register that a CSR row names.
-pub fn csr_number(insn: Insn) -> u16
+pub(crate) fn csr_number(insn: Insn) -> u16
     ensures value { result ≡ spec.csr_number insn }
 {
     (insn.imm % 0x1000) as u16

@@ -4,7 +4,7 @@ ghost use Rattle.special_regs.specs.Scrs.{IsAligned};
 ghost use Rattle.special_regs.specs.Traps.{sentry_opened, aligned, trapped_scrs, trapped_csrs, returned_scrs, returned_csrs};
 ghost use Rattle.special_regs.specs.Traps as spec;
 
-use crate::access::has_system_access;
+use crate::access::check_access;
 use crate::bits::has_bit;
 use crate::csrs::Csrs;
 use crate::mtvec::is_vectored;
@@ -108,17 +108,13 @@ pub fn enter_trap<C: CapRep>(scrs: &mut Scrs<C>, csrs: &mut Csrs, fault: Fault)
 }
 
 /// Returns whether a return would unseal a sentry in MEPCC. S2 without access.
-#[tactic(auto, unfolding(crate::specs::Refusals::return_fault))]
 pub fn check_return<C: CapRep>(scrs: &Scrs<C>) -> Result<bool, SpecialFault>
     ensures sentry { IfOk result (λ sealed. sealed ≡ spec.is_sentry scrs.now.mepcc) }
     ensures allowed { OnOk result (return_fault scrs.now ≡ None) }
     ensures refused { IfErr result (λ fault. return_fault scrs.now ≡ Some fault) }
 {
-    if has_system_access(scrs) {
-        Ok(is_sentry(scrs.mepcc()))
-    } else {
-        Err(SpecialFault::S2)
-    }
+    check_access(scrs)?;
+    Ok(is_sentry(scrs.mepcc()))
 }
 
 /// Leaves a trap: PCC becomes MEPCC's target, and interrupts are on if they were before the trap. S2 without access, and then nothing

@@ -10,7 +10,8 @@ returns-in_err-put-clause-full g c =
 
 pub returns-in_err-put_hex-clause-full : goal.returns-in_err-put_hex-clause-full
 returns-in_err-put_hex-clause-full g c =
-    on_err {P = string_capacity c.args.text.now < string_len c.args.text.now + 80} _ (omega (arith, c.in_ok-put.ensures.len, c.in_ok-put.ensures.capacity, c.in_err-put_hex.ensures.full))
+    on_err {P = string_capacity c.args.text.now < string_len c.args.text.now + 80} _
+    (omega (arith, c.in_ok-put.ensures.len, c.in_ok-put.ensures.capacity, c.in_err-put_hex.ensures.full))
 
 pub returns-in_err-put-2-clause-full : goal.returns-in_err-put-2-clause-full
 returns-in_err-put-2-clause-full g c =

@@ -1,4 +1,4 @@
-use Rattle.explain.specs.StageLaws.{traps-by_its_stages}
+use Rattle.explain.specs.AskedLaws.{traps-by_its_stages}
 use Rattle.explain.proofs.laws.step_traps_by_its_stages.Goals as goal
 
 pub returns : goal.returns

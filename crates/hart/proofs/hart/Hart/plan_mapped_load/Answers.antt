@@ -4,6 +4,7 @@ use Rattle.cap_bounds.specs.CapValue.{CapValue, integer}
 use Rattle.devices.specs.Devices.{value_at}
 use Rattle.tagged_memory.specs.Memory.{is_in_ram, number_at}
 use Rattle.base.specs.Size.{bytes_of}
+use Rattle.cap_checks.specs.Question.{fault_of}
 use Rattle.hart.specs.Accesses.{loaded}
 use Rattle.hart.specs.Applying.{CanApply}
 use Rattle.hart.specs.State.{State}
@@ -24,7 +25,7 @@ pub returns-else-gives-clause-effect : goal.returns-else-gives-clause-effect
 returns-else-gives-clause-effect g c =
     let now : State = c.args.self.now in
     let outside : is_in_ram now.memory c.args.address (bytes_of c.args.size) ≡ false = sym c.holds.ensures.value ∙ c.if-holds.false in
-    ap Trap c.of.ensures ∙ sym (load-refused c.args.insn c.args.address c.args.size now outside
+    ap Trap (c.fault.ensures ∙ ap fault_of c.load_question.ensures) ∙ sym (load-refused c.args.insn c.args.address c.args.size now outside
     (λ none. false≢true (sym c.if-gives.false ∙ c.gives.ensures.1 none)))
 
 pub returns-then-holds-clause-effect : goal.returns-then-holds-clause-effect

@@ -1,5 +1,6 @@
 use Rattle.std.proofs.Common.{rules, sym, ap, ◌∙◌}
 use Rattle.std.proofs.lemmas.Bool.{false≢true}
+use Rattle.cap_checks.specs.Question.{fault_of}
 use Rattle.hart.specs.Applying.{CanApply}
 use Rattle.hart.specs.declared.effect.Effect.TheVariants.{Trap}
 use Rattle.hart.proofs.Loads.{store-ram, store-device, store-refused}
@@ -28,5 +29,6 @@ returns-then-takes-clause-can g c = c.takes.ensures.0 c.if-takes.true
 pub returns-else-takes-clause-effect : goal.returns-else-takes-clause-effect
 returns-else-takes-clause-effect g c =
     let outside = sym c.holds.ensures.value ∙ c.if-holds.false in
-    ap Trap c.of.ensures ∙ sym (store-refused c.args.address c.args.size c.args.number c.args.self.now outside
+    ap Trap (c.fault.ensures ∙ ap fault_of c.store_question.ensures)
+    ∙ sym (store-refused c.args.address c.args.size c.args.number c.args.self.now outside
     (λ none. false≢true (sym c.if-takes.false ∙ c.takes.ensures.1 none)))

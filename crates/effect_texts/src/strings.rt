@@ -1,4 +1,4 @@
-//! Numbers put behind a text.
+//! Texts and numbers put behind a string.
 ghost use Rattle.std.specs.Prelude.{◌≡◌, ◌+◌, ◌<◌, ◌≤◌, ◌++◌, length, OnOk, OnErr, string_bytes, string_len, string_capacity, decimal};
 ghost use Rattle.disassembler.specs.Hex.{hex_of};
 
@@ -6,9 +6,13 @@ use disassembler::hex_digits;
 use itoa::Buffer;
 use std::alloc::AllocError;
 
-/// Puts the lowest `width` hexadecimal digits of a number, at most 17, behind a text.
+/// Puts the lowest `width` hexadecimal digits of a number, at most 17, behind a string.
+///
+/// # Errors
+///
+/// Out of memory.
 #[tactic(auto, using(crate::proofs::Lengths::length_hex_of))]
-pub(crate) fn put_hex(text: &mut String, width: usize, n: u128) -> Result<(), AllocError>
+pub fn put_hex(text: &mut String, width: usize, n: u128) -> Result<(), AllocError>
     requires { width ≤ 17 }
     ensures bytes { OnOk result (string_bytes text.new ≡ string_bytes text.old ++ hex_of width n) }
     ensures len { OnOk result (string_len text.new ≡ string_len text.old + width) }
@@ -18,8 +22,12 @@ pub(crate) fn put_hex(text: &mut String, width: usize, n: u128) -> Result<(), Al
     text.push_str(hex_digits(n, width).as_str())
 }
 
-/// Puts a number in decimal behind a text: 40 digits at most.
-pub(crate) fn put_decimal(text: &mut String, n: u64) -> Result<(), AllocError>
+/// Puts a number in decimal behind a string: 40 digits at most.
+///
+/// # Errors
+///
+/// Out of memory.
+pub fn put_decimal(text: &mut String, n: u64) -> Result<(), AllocError>
     ensures bytes { OnOk result (string_bytes text.new ≡ string_bytes text.old ++ decimal n) }
     ensures len { OnOk result (string_len text.new ≤ string_len text.old + 40) }
     ensures capacity { string_capacity text.old ≤ string_capacity text.new }
@@ -29,8 +37,12 @@ pub(crate) fn put_decimal(text: &mut String, n: u64) -> Result<(), AllocError>
     text.push_str(buffer.format(n))
 }
 
-/// Puts a text behind another.
-pub(crate) fn put(text: &mut String, more: &str) -> Result<(), AllocError>
+/// Puts a text behind a string.
+///
+/// # Errors
+///
+/// Out of memory.
+pub fn put(text: &mut String, more: &str) -> Result<(), AllocError>
     ensures bytes { OnOk result (string_bytes text.new ≡ string_bytes text.old ++ more.now) }
     ensures len { OnOk result (string_len text.new ≡ string_len text.old + length more.now) }
     ensures capacity { string_capacity text.old ≤ string_capacity text.new }

@@ -1,0 +1,46 @@
+//! Registers as mtval counts them, and their capabilities.
+ghost use Rattle.std.specs.Prelude.{◌≡◌, ◌++◌, OnOk, string_bytes};
+ghost use Rattle.explain.specs.Text.{register_text, capability_in, capability_line};
+
+use base::FIRST_SPECIAL;
+use cap_bounds::CapRep;
+use cap_insns::integer;
+use effect_texts::{put, value_text};
+use hart::Hart;
+use std::alloc::AllocError;
+use trap_texts::register_at_fault;
+
+/// The capability in a register: 0 to 31 general, 32 and its number special. Null where there is no such register.
+pub(crate) fn capability_in<C: CapRep>(hart: &Hart<C>, register: u64) -> C
+    ensures { C.value result ≡ capability_in hart.now register }
+{
+    if register < FIRST_SPECIAL {
+        return hart.reg(register as u8);
+    }
+    match u8::try_from(register - FIRST_SPECIAL) {
+        Ok(number) => hart.scrs().get(number).unwrap_or(integer(0)),
+        Err(_) => integer(0),
+    }
+}
+
+/// Puts the name of a register behind a text.
+pub(crate) fn put_register(text: &mut String, register: u64) -> Result<(), AllocError>
+    ensures { OnOk result (string_bytes text.new ≡ string_bytes text.old ++ register_text register) }
+{
+    put(text, register_at_fault(register).unwrap_or(""))
+}
+
+/// Puts the line of the capability in a register behind a text.
+pub(crate) fn put_capability<C: CapRep>(
+    text: &mut String,
+    hart: &Hart<C>,
+    register: u64,
+) -> Result<(), AllocError>
+    ensures { OnOk result (string_bytes text.new ≡ string_bytes text.old ++ capability_line hart.now register) }
+{
+    put(text, "  ")?;
+    put_register(text, register)?;
+    put(text, " ")?;
+    put(text, value_text(capability_in(hart, register)).as_str())?;
+    put(text, "\n")
+}
