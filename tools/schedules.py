@@ -189,8 +189,8 @@ def program(draw, mode):
     return [*drawn.lines, f".org {0x80000000 + HANDLER}", *handler, f".org {0x80000000 + DATA + 0x80}", *words]
 
 
-def over_the_same_slot():
-    """Instructions 16 KiB apart, which a memo of 4096 decoded instructions keeps in one place, done in turns; and a store over one."""
+def far_apart():
+    """Instructions 16 KiB apart, done in turns; and a store over one."""
     far = 0x4000
     body = [".pages 5", "auipc s1, 0", f"lui s2, {far >> 12}", "add s2, s2, s1", "addi s3, zero, 6",
             "turn: addi a0, a0, 1", "addi s4, s1, 48", "jalr ra, 20(s2)", "back: addi s3, s3, -1", "bne s3, zero, turn",
@@ -201,14 +201,68 @@ def over_the_same_slot():
     return [[*body, *tail] for tail in (plain, stores, over)]
 
 
+# What a program writes over its own instructions, one for each of its turns.
+TURNS = 3
+HALTED = {0: ["lui s7, 0x100", "sd a0, 0(s7)"], 1: ["lui s7, 0x100", "sd.ddc a0, (s7)"]}
+
+
+def added(numbers):
+    """Instructions that add numbers to a0."""
+    return [f"addi a0, a0, {number}" for number in numbers]
+
+
+def in_turns(mode, before, at_turn, step, each):
+    """Three turns: each takes what stands next in a table behind the program, moves on by `step` bytes, and does `at_turn`.
+
+    In these statements OWN is the place of the statement that is marked so, and TABLE that of the table, from the program's beginning.
+    """
+    on = f"addi s5, s5, {step}" if mode == 0 else f"cincoffsetimm cs5, cs5, {step}"
+    statements = [*before, f"addi s3, zero, {TURNS}", *at_turn, on, "addi s3, s3, -1", "bne s3, zero, turn", *HALTED[mode]]
+    while 4 * len(statements) % step:
+        statements.append("addi zero, zero, 0")
+    own = next(4 * place for place, statement in enumerate(statements) if statement.startswith("own:"))
+    placed = [statement.replace("OWN", str(own)).replace("TABLE", str(4 * len(statements))) for statement in statements]
+    return mode, [*placed, *each]
+
+
+def over_own_code():
+    """Programs that write over instructions that they have done, and do them again: each with its mode."""
+    addressed = ["cspecialrw cs1, ddc, cnull", "cspecialrw cs2, pcc, cnull", "cgetaddr s2, cs2", "addi s2, s2, -4", "csetaddr cs1, cs1, s2",
+                 "cincoffsetimm cs5, cs1, TABLE"]
+    numbered = ["auipc s1, 0", "addi s5, s1, TABLE"]
+    # the next instruction, through the default data capability and through a register
+    yield in_turns(0, numbered, ["turn: lw t0, 0(s5)", "sw t0, OWN(s1)", "own: addi a0, a0, 1"], 4, added((16, 32, 64)))
+    yield in_turns(1, addressed, ["turn: lw t0, 0(cs5)", "sw t0, OWN(cs1)", "own: addi a0, a0, 1"], 4, added((16, 32, 64)))
+    # its last byte alone
+    yield in_turns(0, numbered, ["turn: lb t0, 3(s5)", "addi s6, s1, OWN", "sb t0, 3(s6)", "own: addi a0, a0, 1"], 4, added((17, 33, 65)))
+    # two words by one store, the second behind the next instruction
+    pairs = added((16, 256, 32, 512, 64, 1024))
+    yield in_turns(0, [*numbered, "addi zero, zero, 0"], ["turn: ld t0, 0(s5)", "addi zero, zero, 0", "addi zero, zero, 0", "sd t0, OWN(s1)",
+                                                          "own: addi a0, a0, 1", "addi a0, a0, 2"], 8, pairs)
+    yield in_turns(1, addressed, ["turn: ld t0, 0(cs5)", "addi zero, zero, 0", "sd t0, OWN(cs1)", "own: addi a0, a0, 1", "addi a0, a0, 2"],
+                   8, pairs)
+    # four words by a store of a capability, or of 128 bits without a tag
+    fours = [statement for turn in range(TURNS) for statement in added(1 << turn << shift for shift in (1, 4, 7, 8))]
+    yield in_turns(1, addressed, ["turn: clc ct0, 0(cs5)", "addi zero, zero, 0", "addi zero, zero, 0", "addi zero, zero, 0",
+                                  "csc ct0, OWN(cs1)", "own: addi a0, a0, 1", "addi a0, a0, 2", "addi a0, a0, 3", "addi a0, a0, 4"], 16, fours)
+    # the last word of RAM
+    last = [".org 0x80000ffc", "jalr zero, 0(ra)"]
+    mode, statements = in_turns(0, [*numbered, "lui s2, 1", "add s2, s2, s1"],
+                                ["turn: lw t0, 0(s5)", "sw t0, -4(s2)", "own: jalr ra, -4(s2)", "addi a0, a0, 1", "addi a0, a0, 2"], 4,
+                                ["jalr zero, 0(ra)", "jalr zero, 4(ra)", "jalr zero, 0(ra)"])
+    yield mode, [".pages 1", *statements, *last]
+
+
 def lines():
     yield HEAD
     draw = random.Random(SEED)
     for n in range(PROGRAMS):
         mode = n % 2
         yield f"{mode} | {'; '.join(program(draw, mode))} => same"
-    for statements in over_the_same_slot():
+    for statements in far_apart():
         yield f"0 | {'; '.join(statements)} => same"
+    for mode, statements in over_own_code():
+        yield f"{mode} | {'; '.join(statements)} => same"
     # the store over the next instruction alone, as short as it can be
     yield "0 | auipc s1, 0; lw t0, 16(s1); sw t0, 12(s1); addi a0, a0, 1; addi a0, a0, 2 => same"
 

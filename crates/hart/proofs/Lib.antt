@@ -6,4 +6,6 @@ pub mod PlainRun
 pub mod PlainSteps
 pub mod Plans
 pub mod Quiet
+pub mod SplitRegisters
+pub mod Words
 pub mod Written

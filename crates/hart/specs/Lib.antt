@@ -26,6 +26,8 @@ pub mod PlannedLaws
 pub mod EventLaws
 pub mod OpeningStateLaws
 -- Inner words
+pub mod KeptRegisters
 pub mod Applying
 pub mod RowEffects
 pub mod PlainRun
+pub mod Hops

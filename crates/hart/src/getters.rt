@@ -88,7 +88,7 @@ impl<C: CapRep> Hart<C> {
         ensures state { IsState self.now }
     {
         self.is_state();
-        &self.memory
+        self.memory.memory()
     }
 
     /// The devices.

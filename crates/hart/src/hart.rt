@@ -1,12 +1,11 @@
 ghost use Rattle.std.specs.Prelude.{◌<◌};
 
-use crate::memo::Memo;
 use crate::registers::Registers;
 use cap_bounds::CapRep;
+use code_memory::CodeMemory;
 use devices::Devices;
 use special_regs::{Csrs, Scrs};
 use std::marker::Model;
-use tagged_memory::Memory;
 
 /// A hart with its memory and devices. The words that it has decoded are no part of its value.
 #[derive(Drop)]
@@ -14,9 +13,8 @@ pub struct Hart<C: CapRep> {
     pub(crate) registers: Registers<C>,
     pub(crate) scrs: Scrs<C>,
     pub(crate) csrs: Csrs,
-    pub(crate) memory: Memory,
+    pub(crate) memory: CodeMemory,
     pub(crate) devices: Devices,
-    pub(crate) memo: Memo,
 }
 
 impl<C: CapRep> Model for Hart<C> {

@@ -44,7 +44,7 @@ impl<C: CapRep> Hart<C> {
         requires { n < 32 }
         ensures { result ≡ number_in self.now n }
     {
-        self.registers.get(n).address()
+        self.registers.number(n)
     }
 
     /// The address of the instruction after this one.

@@ -95,7 +95,7 @@ impl<C: CapRep> Hart<C> {
     /// Whether RAM holds a granule.
     #[inline(always)]
     #[tactic(auto, unfolding(tagged_memory::specs::Memory::place_fault))]
-    fn holds_granule(&self, address: u64) -> bool
+    pub(crate) fn holds_granule(&self, address: u64) -> bool
         requires { address % 16 ≡ 0 }
         ensures value { result ≡ is_in_ram self.now.memory address 16 }
         ensures allowed { IsTrue result → place_fault self.now.memory address 16 ≡ None }
@@ -202,7 +202,7 @@ impl<C: CapRep> Hart<C> {
     /// The word of a granule in RAM, with its tag if the authority has Load_Capability.
     #[inline(always)]
     #[tactic(auto, unfolding(tagged_memory::specs::Memory::place_fault))]
-    fn loaded_capability(&self, authority: C, address: u64) -> C
+    pub(crate) fn loaded_capability(&self, authority: C, address: u64) -> C
         requires aligned { address % 16 ≡ 0 }
         requires inside { is_in_ram self.now.memory address 16 ≡ true }
         ensures { C.value result ≡ spec.loaded_capability (C.value authority) address self.now.memory }

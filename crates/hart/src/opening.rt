@@ -7,12 +7,12 @@ ghost use Rattle.hart.specs.State.{HoldsCapabilities};
 ghost use Rattle.hart.specs.Opening.{opening, opening_memory, loaded_memory, entry_record};
 
 use crate::hart::Hart;
-use crate::memo::Memo;
 use crate::registers::Registers;
 use crate::values::root_value;
 use cap_bounds::CapRep;
 use cap_format::CapWord;
 use cap_insns::integer;
+use code_memory::CodeMemory;
 use devices::Devices;
 use image::{CapEntry, Image};
 use special_regs::{Csrs, Scrs};
@@ -72,9 +72,8 @@ impl<C: CapRep> Hart<C> {
                 null,
             ),
             csrs: Csrs::new(),
-            memory,
+            memory: CodeMemory::new(alloc, memory)?,
             devices: Devices::new(),
-            memo: Memo::new(alloc)?,
         };
         hart.is_state();
         Ok(hart)

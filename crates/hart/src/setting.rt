@@ -11,7 +11,6 @@ ghost use Rattle.hart.specs.IsState.{IsState};
 ghost use Rattle.hart.specs.Setting.{scr_set, csr_set, bytes_set, cap_set};
 
 use crate::hart::Hart;
-use crate::memo::Memo;
 use base::scr;
 use cap_bounds::CapRep;
 use special_regs::set_csr;
@@ -88,14 +87,12 @@ impl<C: CapRep> Hart<C> {
         ensures { IfOk result (λ hart. hart ≡ self.now) }
     {
         let memory = self.memory.try_clone(alloc)?;
-        let memo = Memo::new(alloc)?;
         Ok(Hart {
             registers: self.registers.copied(),
             scrs: self.scrs.copied(),
             csrs: self.csrs,
             memory,
             devices: self.devices.copied(),
-            memo,
         })
     }
 }

@@ -1,4 +1,5 @@
-use Rattle.std.proofs.Common.{◌%◌, ap, ◌∙◌}
+use Rattle.std.proofs.Common.{◌%◌, ap, sym, subst, ◌∙◌}
+use Rattle.hart.specs.State.{HoldsCapabilities}
 use Rattle.cap_bounds.specs.CapValue.{value_address}
 use Rattle.image.specs.ImageLaws.{entry_aligned}
 use Rattle.hart.proofs.hart.Hart.new.Goals as goal
@@ -9,4 +10,4 @@ new-requires-2 g c =
     ∙ entry_aligned c.args.image.now c.entry.ensures.valid
 
 pub invariant_of-hart : goal.invariant_of-hart
-invariant_of-hart g c = c.in_ok-memory.ensures.capabilities
+invariant_of-hart g c = subst HoldsCapabilities (sym c.in_ok-new.ensures) c.in_ok-memory.ensures.capabilities

@@ -1,0 +1,9 @@
+use Rattle.std.proofs.Common.{ap, ◌∙◌}
+use Rattle.hart.specs.Registers.{register}
+use Rattle.hart.specs.State.{State}
+use Rattle.hart.proofs.hart.Hart.jump_asked.Goals as goal
+
+pub returns : goal.returns
+returns g c =
+    let entry = c.get-entry.ensures.value ∙ ap (λ (s : State). register s.registers c.args.insn.rs1) c.self.view_is in
+    rw (c.jump_conditions.ensures, entry, c.from.ensures) at c.from_slice.ensures.items
