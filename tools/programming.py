@@ -556,7 +556,7 @@ def opening_list():
     if state != {"registers": "null_registers", "scrs": "opening_scrs i", "csrs": "zero_csrs", "memory": "opening_memory i",
                  "devices": "idle"}:
         raise NotUnderstood(f"{OPENING.file}: opening")
-    lines = [f"The general registers: {defined('hart/specs/Registers', 'null_registers')}."]
+    lines = [f"The general registers: {defined('registers/specs/Registers', 'null_registers')}."]
     lines += [f"{name.upper() if name != 'mscratchc' else 'MScratchC'}: {said('OPENING', text)}."
               for name, text in fields(OPENING.body("opening_scrs"))]
     csrs = [(name.replace("mstatus_", "").upper() if "mstatus" in name else name, said("OPENING", text))
@@ -640,7 +640,7 @@ def made_of_devices():
 def made_of_registers():
     system = "hart/specs/SystemRows"
     return {
-        "number": f"{defined('cap_bounds/specs/CapValue', 'integer')}; {defined('hart/specs/Registers', 'with_register')}",
+        "number": f"{defined('cap_bounds/specs/CapValue', 'integer')}; {defined('registers/specs/Registers', 'with_register')}",
         "general": general_table(),
         "mode": defined("hart/specs/Looks", "in_capability_mode"),
         "csrs": csr_table(),

@@ -248,7 +248,7 @@ DEFINITIONS = {
         "mcycle is one more; minstret stays, and so does everything else",
     "hart/specs/Effect applied (Return sealed) s: record s {scrs = returned_scrs s.scrs; csrs = counted (returned_csrs s.csrs)}":
         "mcycle and minstret are one more",
-    "hart/specs/Registers null_registers: replicate 32 null": "all 32 null",
+    "registers/specs/Registers null_registers: replicate 32 null": "all 32 null",
     "hart/specs/Opening loaded_memory: with_sections i.sections (zeroed i.pages)": "the image's sections, and zeros",
     "hart/specs/Opening opening_memory: with_capabilities i.capabilities (loaded_memory i)":
         "over them the image's capabilities; no other granule has a tag",
@@ -276,7 +276,7 @@ DEFINITIONS = {
         "a sentry link is PCC at the next instruction, sealed as an entry",
     "hart/specs/JumpRows link_of: if in_capability_mode s then sentry_link s else integer (next_of s)":
         "The link in rd is the next instruction's address in integer mode, and a sentry link in capability mode",
-    "hart/specs/Registers with_register: if n == 0 then registers else slice_set registers n v":
+    "registers/specs/Registers with_register: if n == 0 then registers else slice_set registers n v":
         "a write to register 0 is lost",
     "cap_bounds/specs/CapValue integer: Data (with_address_of null_word n)":
         "A number in a register is null with that number as its address",

@@ -27,7 +27,7 @@ STEP = [
     ("special registers and traps",
      "special_regs/specs/Scrs, Csrs, Numbered, Mtvec, CsrValues, Writes, Refusals, Interrupts, Traps"),
     ("devices", "devices/specs/Devices"),
-    ("a state, and what an effect makes of it", "hart/specs/State, Registers, Effect"),
+    ("a state, and what an effect makes of it", "registers/specs/Registers; hart/specs/State, Effect"),
     ("the step: what each row asks, and what it does", "hart/specs/Looks, Accesses, ComputeRows, MemoryRows, JumpRows, SystemRows, Step"),
 ]
 REST = [

@@ -56,7 +56,7 @@ use Rattle.hart.specs.MemoryRows.{place_of, authority_through, authority_of, aut
 use Rattle.hart.specs.MemoryRows.{stored_number, stores_to, store_done, loaded_capability}
 use Rattle.hart.specs.MemoryRows.{capability_at, load_capability_done}
 use Rattle.hart.specs.MemoryRows.{store_capability_done}
-use Rattle.hart.specs.Registers.{register}
+use Rattle.registers.specs.Registers.{register}
 use Rattle.hart.specs.State.{State, pc_of}
 use Rattle.hart.specs.Step.{asked, does, kind_effect}
 use Rattle.hart.specs.SystemRows.{asked_of_register, csr_number, csr_writes, csr_held, csr_done, special_held, special_done}

@@ -49,7 +49,7 @@ use Rattle.hart.specs.Looks.{number_in, unless_fault, where_all}
 use Rattle.hart.specs.MemoryRows.{place_of, authority_of, access_asked, loads_from, memory_asked, load_done, stored_number}
 use Rattle.hart.specs.MemoryRows.{stores_to, store_done, loaded_capability, capability_at}
 use Rattle.hart.specs.MemoryRows.{load_capability_done, store_capability_done}
-use Rattle.hart.specs.Registers.{register}
+use Rattle.registers.specs.Registers.{register}
 use Rattle.hart.specs.State.{State, pc_of}
 use Rattle.hart.specs.AskedLaws.{fetch-fetched}
 use Rattle.hart.specs.RowEffects.{fetched}

@@ -3,7 +3,7 @@ use Rattle.std.proofs.Common.{◌≡◌, ℕ, ◌+◌, ◌<◌, List, [], ◌∷
 use Rattle.std.specs.Prelude.{true}
 use Rattle.std.proofs.lemmas.Option.{slice_get-get_or}
 use Rattle.hart.specs.State.{State}
-use Rattle.hart.specs.Registers.{register}
+use Rattle.registers.specs.Registers.{register}
 use Rattle.asm_names.specs.Registers.{capability_names, register_name}
 use Rattle.disassembler.specs.Shown.{name_or}
 use Rattle.effect_texts.specs.ValueText.{value_line}

@@ -6,7 +6,7 @@ use Rattle.special_regs.specs.Scrs.{Scrs, scr_value}
 use Rattle.special_regs.specs.CsrValues.{csr_value}
 use Rattle.hart.specs.State.{State, pc_of}
 use Rattle.debug_commands.specs.declared.command.Stop.{Stop}
-use Rattle.hart.specs.Registers.{register}
+use Rattle.registers.specs.Registers.{register}
 use Rattle.asm_names.specs.Registers.{register_name}
 use Rattle.asm_names.specs.SpecialNames.{csr_name, scr_name}
 use Rattle.disassembler.specs.Hex.{hex_of}

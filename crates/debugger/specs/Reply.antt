@@ -11,7 +11,7 @@ use Rattle.devices.specs.Devices.{interrupts_of}
 use Rattle.hart.specs.declared.event.Event.{Event}
 use Rattle.hart.specs.declared.event.Event.TheVariants.{Step, Tick, Byte}
 use Rattle.hart.specs.State.{State, pc_of}
-use Rattle.hart.specs.Registers.{register}
+use Rattle.registers.specs.Registers.{register}
 use Rattle.hart.specs.Event.{after}
 use Rattle.hart.specs.Outcome.{step_outcome}
 use Rattle.hart.specs.Outcome.{is_trap}

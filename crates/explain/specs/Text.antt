@@ -20,7 +20,7 @@ use Rattle.special_regs.specs.Scrs.{scr_value}
 use Rattle.disassembler.specs.Hex.{hex_of}
 use Rattle.disassembler.specs.Shown.{name_or, word_line}
 use Rattle.trap_texts.specs.Names.{cheri_asked_name, register_at_fault}
-use Rattle.hart.specs.Registers.{register}
+use Rattle.registers.specs.Registers.{register}
 use Rattle.hart.specs.State.{State, pc_of}
 use Rattle.hart.specs.Step.{step_effect}
 use Rattle.effect_texts.specs.ValueText.{value_line}

@@ -6,6 +6,5 @@ pub mod PlainRun
 pub mod PlainSteps
 pub mod Plans
 pub mod Quiet
-pub mod SplitRegisters
 pub mod Words
 pub mod Written

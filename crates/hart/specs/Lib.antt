@@ -1,5 +1,4 @@
 -- What to read
-pub mod Registers
 pub mod State
 pub mod Effect
 pub mod Looks
@@ -26,7 +25,6 @@ pub mod PlannedLaws
 pub mod EventLaws
 pub mod OpeningStateLaws
 -- Inner words
-pub mod KeptRegisters
 pub mod Applying
 pub mod RowEffects
 pub mod PlainRun

@@ -16,7 +16,7 @@ use Rattle.special_regs.specs.SoundLaws.{AreInRange-zero}
 use Rattle.image.specs.Image.{Image, Section, IsImage, is_good_header, mode_number}
 use Rattle.image.specs.ImageLaws.{AllInRam, AllInRam-image, AreGoodCapabilities-image, image_parts, entry_aligned, header_ranges}
 use Rattle.image.specs.ImageLaws.{pages_some}
-use Rattle.hart.specs.Registers.{null, register}
+use Rattle.registers.specs.Registers.{null, register}
 use Rattle.hart.specs.State.{HoldsCapabilities}
 use Rattle.hart.specs.Opening.{with_sections, loaded_memory, opening_memory, opening_scrs, opening}
 use Rattle.hart.specs.OpeningLaws.{HoldsCapabilities-loaded, capabilities-put}

@@ -1,9 +1,9 @@
 ghost use Rattle.std.specs.Prelude.{◌<◌};
 
-use crate::registers::Registers;
 use cap_bounds::CapRep;
 use code_memory::CodeMemory;
 use devices::Devices;
+use registers::Registers;
 use special_regs::{Csrs, Scrs};
 use std::marker::Model;
 

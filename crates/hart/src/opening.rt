@@ -7,7 +7,6 @@ ghost use Rattle.hart.specs.State.{HoldsCapabilities};
 ghost use Rattle.hart.specs.Opening.{opening, opening_memory, loaded_memory, entry_record};
 
 use crate::hart::Hart;
-use crate::registers::Registers;
 use crate::values::root_value;
 use cap_bounds::CapRep;
 use cap_format::CapWord;
@@ -15,6 +14,7 @@ use cap_insns::integer;
 use code_memory::CodeMemory;
 use devices::Devices;
 use image::{CapEntry, Image};
+use registers::Registers;
 use special_regs::{Csrs, Scrs};
 use std::alloc::{AllocError, Global};
 use tagged_memory::Memory;

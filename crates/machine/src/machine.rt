@@ -6,7 +6,7 @@ ghost use Rattle.base.specs.Registers.{is_scr};
 ghost use Rattle.special_regs.specs.Scrs.{IsAligned, scr_value};
 ghost use Rattle.base.specs.Registers.{is_csr};
 ghost use Rattle.special_regs.specs.CsrValues.{csr_value};
-ghost use Rattle.hart.specs.Registers.{register};
+ghost use Rattle.registers.specs.Registers.{register};
 ghost use Rattle.hart.specs.State.{HoldsCapabilities};
 ghost use Rattle.hart.specs.IsState.{IsState};
 ghost use Rattle.hart.specs.Applying.{IsPlanned};

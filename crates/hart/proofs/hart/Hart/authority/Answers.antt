@@ -3,7 +3,7 @@ use Rattle.cap_bounds.specs.CapValue.{CapValue, value_flag}
 use Rattle.isa_rows.specs.declared.rows.Row.{Row}
 use Rattle.hart.specs.Accesses.{through_rs1}
 use Rattle.hart.specs.MemoryRows.{authority_through, number_through}
-use Rattle.hart.specs.Registers.{register}
+use Rattle.registers.specs.Registers.{register}
 use Rattle.hart.specs.State.{State}
 use Rattle.hart.proofs.hart.Hart.authority.Goals as goal
 

@@ -1,5 +1,5 @@
 use Rattle.std.proofs.Common.{ap, ◌∙◌}
-use Rattle.hart.specs.Registers.{register}
+use Rattle.registers.specs.Registers.{register}
 use Rattle.hart.specs.State.{State}
 use Rattle.hart.proofs.hart.Hart.jump_asked.Goals as goal
 

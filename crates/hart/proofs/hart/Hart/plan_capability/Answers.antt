@@ -4,7 +4,7 @@ use Rattle.cap_insns.specs.CapabilityRows.{row_value}
 use Rattle.isa_rows.specs.declared.operands.Insn.{Insn}
 use Rattle.hart.specs.Applying.{CanApply}
 use Rattle.hart.specs.ComputeRows.{written_by, capability_effect}
-use Rattle.hart.specs.Registers.{register}
+use Rattle.registers.specs.Registers.{register}
 use Rattle.hart.specs.State.{State}
 use Rattle.hart.specs.declared.effect.Effect.TheVariants.{Write, Unseal}
 use Rattle.hart.proofs.Plans.{written_by-other}

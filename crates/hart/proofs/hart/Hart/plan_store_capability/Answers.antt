@@ -3,7 +3,7 @@ use Rattle.hart.specs.MemoryRows.{place_of, authority_of, authority_number_of, c
 use Rattle.hart.specs.RowEffects.{store_capability_effect}
 use Rattle.base.specs.declared.cause.Cause.TheVariants as cause
 use Rattle.cap_checks.specs.Access.{stored_of}
-use Rattle.hart.specs.Registers.{register}
+use Rattle.registers.specs.Registers.{register}
 use Rattle.cap_checks.specs.FirstFault.{access_fault}
 use Rattle.cap_checks.specs.declared.access.Access.{Access}
 use Rattle.cap_checks.specs.declared.access.Access.TheVariants as access

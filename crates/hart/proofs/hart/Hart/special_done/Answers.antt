@@ -3,7 +3,7 @@ use Rattle.std.proofs.lemmas.Bool.{ne_eqb}
 use Rattle.cap_bounds.specs.CapValue.{CapValue}
 use Rattle.special_regs.specs.Refusals.{scr_fault}
 use Rattle.hart.specs.Applying.{CanApply}
-use Rattle.hart.specs.Registers.{register}
+use Rattle.registers.specs.Registers.{register}
 use Rattle.hart.specs.State.{State}
 use Rattle.hart.specs.declared.effect.Effect.TheVariants.{Special}
 use Rattle.hart.proofs.Plans.{special_done-read, special_done-write}

@@ -1,0 +1,4 @@
+pub mod Registers
+-- Inner words
+pub mod KeptRegisters
+pub mod Extents
