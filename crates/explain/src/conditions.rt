@@ -3,7 +3,7 @@ ghost use Rattle.std.specs.Prelude.{◌≡◌, ◌++◌, OnOk, string_bytes};
 ghost use Rattle.disassembler.specs.Hex.{hex_of};
 ghost use Rattle.explain.specs.Text.{name_text, question_text, bounds_text, multiple_text, mark, condition_line, condition_lines};
 
-use crate::registers::{capability_in, put_register};
+use crate::fault_registers::{capability_in, put_register};
 use base::CheriCause;
 use cap_bounds::CapRep;
 use cap_checks::{Condition, Question};

@@ -2,8 +2,8 @@
 #![tactic(auto)]
 
 mod conditions;
+mod fault_registers;
 pub mod laws;
-mod registers;
 mod stages;
 mod why;
 

@@ -9,7 +9,7 @@ ghost use Rattle.explain.specs.Text as spec;
 ghost use Rattle.explain.specs.Text.{ram_name, moved_name, sized_place, place_text, tag_lines, capability_lines, stage_text, stages_text};
 
 use crate::conditions::{put_at, put_conditions};
-use crate::registers::put_capability;
+use crate::fault_registers::put_capability;
 use base::CheriCause::{CInvoke, Tag};
 use base::{Cause, PCC_REGISTER, Size};
 use cap_bounds::CapRep;

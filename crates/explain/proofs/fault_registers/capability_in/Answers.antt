@@ -1,6 +1,6 @@
 use Rattle.std.proofs.Common.{◌-◌, ◌≤◌, ◌<◌, ◌∙◌, arith}
 use Rattle.explain.proofs.NoRegister.{no_register}
-use Rattle.explain.proofs.registers.capability_in.Goals as goal
+use Rattle.explain.proofs.fault_registers.capability_in.Goals as goal
 
 pub returns-in-Err : goal.returns-in-Err
 returns-in-Err g c =

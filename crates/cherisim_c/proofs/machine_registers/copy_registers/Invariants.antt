@@ -2,7 +2,7 @@ use Rattle.std.proofs.Common.{◌≡◌, ℕ, ◌<◌, slice_index_or}
 use Rattle.c_types.specs.declared.types.CheriCap.{CheriCap}
 use Rattle.c_types.specs.Words.{meant}
 use Rattle.registers.specs.Registers.{register}
-use Rattle.cherisim_c.proofs.registers.copy_registers.Given as goal
+use Rattle.cherisim_c.proofs.machine_registers.copy_registers.Given as goal
 
 -- the registers so far
 abbrev pub invariant-loop-n : goal.invariant-loop-n
