@@ -4,7 +4,9 @@ use Rattle.std.proofs.Common.{append-nil}
 use Rattle.std.specs.Prelude.{is_some, codes}
 use Rattle.std.specs.List.{flat_map}
 use Rattle.base.specs.declared.fault.Fault.{Fault}
+use Rattle.base.specs.Registers.{pcc_register}
 use Rattle.base.specs.declared.cause.Cause.{Cause}
+use Rattle.base.specs.declared.cause.CheriCause.{CheriCause}
 use Rattle.base.specs.declared.size.Size.{Size}
 use Rattle.cap_checks.specs.declared.question.Condition.{Condition}
 use Rattle.cap_checks.specs.declared.question.Question.{Question}
@@ -18,7 +20,7 @@ use Rattle.isa_rows.specs.Decoded.{insn_of}
 use Rattle.hart.specs.State.{State, pc_of}
 use Rattle.hart.specs.Step.{asked, fetch_asked, fetch}
 use Rattle.explain.specs.Asked.{decoding, word_stages, stages_of}
-use Rattle.explain.specs.Text.{place_text, stage_text, stages_text}
+use Rattle.explain.specs.Text.{place_text, stage_text, stages_text, capability_line, capability_lines}
 
 module _ {T : Type 0} (text_of : T → List ℕ) (old : List ℕ) (first : T) where
   pub one_text : (new : List ℕ) → new ≡ old ++ text_of first → new ≡ old ++ flat_map text_of (first ∷ [])
@@ -34,6 +36,18 @@ module _ {T : Type 0} (text_of : T → List ℕ) (old : List ℕ) (first : T) wh
       → new ≡ old ++ flat_map text_of (first ∷ last ∷ [])
   two_texts between new last e f =
       text_more between new (last ∷ []) e (f ∙ ap (λ text. between ++ text) (sym (append-nil (text_of last))))
+
+-- one text after another
+pub text_on : (old between new a b : List ℕ) → between ≡ old ++ a → new ≡ between ++ b → new ≡ old ++ (a ++ b)
+text_on old between new a b e f = f ∙ ap (λ k. k ++ b) e ∙ append_assoc old a b
+
+-- a stage that asks neither a right nor an instruction shows PCC
+pub lines-other : (first : Question) → ((n : ℕ) (cause : CheriCause) → first ≡ Right n cause → ⊥)
+    → ((word : ℕ) → first ≡ Instruction word → ⊥) → (cs : List Condition) (s : State)
+    → capability_lines first cs s ≡ capability_line s pcc_register
+lines-other (Right n cause) right word cs s = absurd (right n cause refl)
+lines-other (Instruction n) right word cs s = absurd (word n refl)
+lines-other _ right word cs s = refl
 
 none-is : {T : Type 0} (o : Option T) → is_some o ≡ false → o ≡ None
 none-is None e = refl

@@ -120,7 +120,10 @@ fn put_capabilities<C: CapRep>(
     ensures { OnOk result (string_bytes text.new ≡ string_bytes text.old ++ capability_lines first conditions.now hart.now) }
 {
     match first {
-        Question::Right { cause: Tag, .. } => put_tag_lines(text, hart, conditions),
+        Question::Right { cause, .. } => match cause {
+            Tag => put_tag_lines(text, hart, conditions),
+            _ => put_capability(text, hart, PCC_REGISTER),
+        },
         Question::Instruction { .. } => put(text, ""),
         _ => put_capability(text, hart, PCC_REGISTER),
     }

@@ -48,8 +48,7 @@ fn put_running<C: CapRep>(text: &mut String, hart: &Hart<C>) -> Result<(), Alloc
     put(text, "\n")
 }
 
-/// Puts what the next step will do, and why, behind a text: the instruction at PCC; each stage of the step with the capabilities that it
-/// asks and its conditions, up to the first that is false; and the effect. Of a machine that is halted it says so.
+/// Puts what the next step will do, and why, behind a text: PCC's instruction, the stages that it asks, and the effect; or *halted*.
 ///
 /// # Errors
 ///
