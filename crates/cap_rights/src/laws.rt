@@ -5,6 +5,7 @@ ghost use Rattle.cap_bounds.specs.CapValue.{CapValue, IsSound, is_tagged};
 ghost use Rattle.cap_bounds.specs.CapValue.{is_sealed};
 ghost use Rattle.cap_bounds.specs.SetAddress.{at_address};
 ghost use Rattle.cap_bounds.specs.SetBounds.{with_bounds};
+ghost use Rattle.cap_rights.specs.Permission.{bit_of};
 ghost use Rattle.cap_rights.specs.Opened.{opened};
 ghost use Rattle.cap_rights.specs.Derivations.{and_perms, set_flags, seal, unseal, seal_entry, subset};
 ghost use Rattle.cap_rights.specs.Within.{IsWithin, IsWithinIfTagged};
@@ -42,6 +43,22 @@ pub fn subset_is_within()
 /// A capability has a permission exactly if the set of its permissions has it.
 pub fn permitted_is_among_the_permissions()
     ensures { PermittedIsAmongThePermissions }
+{}
+
+/// The permissions by their bits (UCAM-CL-TR-987, capability permissions).
+pub fn bits_of_permissions()
+    ensures global { bit_of permission.Global ≡ 0 }
+    ensures execute { bit_of permission.Execute ≡ 1 }
+    ensures load { bit_of permission.Load ≡ 2 }
+    ensures store { bit_of permission.Store ≡ 3 }
+    ensures load_capability { bit_of permission.LoadCapability ≡ 4 }
+    ensures store_capability { bit_of permission.StoreCapability ≡ 5 }
+    ensures store_local_capability { bit_of permission.StoreLocalCapability ≡ 6 }
+    ensures seal { bit_of permission.Seal ≡ 7 }
+    ensures cinvoke { bit_of permission.CInvoke ≡ 8 }
+    ensures unseal { bit_of permission.Unseal ≡ 9 }
+    ensures access_system_registers { bit_of permission.AccessSystemRegisters ≡ 10 }
+    ensures set_cid { bit_of permission.SetCid ≡ 11 }
 {}
 
 /// Each constant is the set of the permission that its name says, and the user permissions follow the hardware permissions.

@@ -5,6 +5,7 @@ mod console;
 mod devices;
 mod fault;
 mod interrupts;
+pub mod laws;
 mod loads;
 mod map;
 mod sound;

@@ -1,6 +1,7 @@
 //! The texts of traps: what mcause and mtval say, in words.
 #![tactic(auto)]
 
+pub mod laws;
 mod names;
 mod text;
 
