@@ -13,6 +13,7 @@ use Rattle.hart.specs.Outcome.{Plain, Unseal, SealedJump, outcome_of}
 use Rattle.hart.specs.AppliedLaws.{IsSoundEffect}
 use Rattle.hart.specs.State.{State}
 use Rattle.authority.specs.Grounded.{IsGroundedIfTagged, IsFramed}
+use Rattle.authority.specs.RowLaws.{system-used}
 use Rattle.authority.specs.Derives.{Derives}
 use Rattle.authority.specs.FrameLaws.{FramesMemory, framed-by, registers-same, registers-written, scrs-same, scrs-moved, scrs-entered}
 use Rattle.authority.specs.FrameLaws.{scrs-replaced, scrs-views, scrs-returned, memory-same, memory-stored, memory-value_stored}
@@ -69,6 +70,6 @@ effect-framed (effect.Special w) s memory sound derives plain =
     (scrs-moved s (scr_written w.number w.value s.scrs) _ (scrs-replaced s w.number w.value derives.1)) (memory-same s)
 effect-framed (effect.Csr w) s memory sound derives plain =
     framed-by s _ (registers-written s w.rd w.old derives.0)
-    (scrs-moved s (views_written w.number w.value s.scrs) _ (scrs-views s w.number w.value derives.1)) (memory-same s)
+    (scrs-moved s (views_written w.number w.value s.scrs) _ (scrs-views s w.number w.value (system-used s derives.1))) (memory-same s)
 effect-framed (effect.Return closed) s memory sound derives plain =
-    framed-by s _ (registers-same s) (scrs-returned s derives.0 (sym derives.1 ∙ jump-plain closed plain)) (memory-same s)
+    framed-by s _ (registers-same s) (scrs-returned s (system-used s derives.0) (sym derives.1 ∙ jump-plain closed plain)) (memory-same s)

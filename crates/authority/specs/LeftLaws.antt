@@ -24,6 +24,7 @@ use Rattle.hart.specs.Outcome.{Plain, outcome_of}
 use Rattle.hart.specs.AppliedLaws.{IsSoundEffect}
 use Rattle.hart.specs.State.{State}
 use Rattle.authority.specs.Authority.{Not, IsWritable, HasSystem, LeavesMemory, LeavesDevices, SameScrs, SameCsrs, LeavesAlone}
+use Rattle.authority.specs.RowLaws.{system-used}
 use Rattle.authority.specs.Derives.{MayWrite, Derives}
 
 -- ---- parts that stay
@@ -191,12 +192,14 @@ effect-leaves (effect.Enter e) s sound derives plain =
 effect-leaves (effect.Special w) s sound derives plain =
     left s _ (memory-left s) (devices-left s)
     (λ none. scrs-moved s.scrs (scr_written w.number w.value s.scrs) _
-    (scrs-replaced w.number w.value s.scrs (λ high. none (derives.2 high))))
+    (scrs-replaced w.number w.value s.scrs (λ high. none (system-used s (derives.2 high)))))
     (λ _. csrs-left s.csrs _ _)
 effect-leaves (effect.Csr w) s sound derives plain =
-    left s _ (memory-left s) (devices-left s) (λ none. absurd (none derives.1)) (λ none. absurd (none derives.1))
+    left s _ (memory-left s) (devices-left s) (λ none. absurd (none (system-used s derives.1)))
+    (λ none. absurd (none (system-used s derives.1)))
 effect-leaves (effect.Return closed) s sound derives plain =
-    left s _ (memory-left s) (devices-left s) (λ none. absurd (none derives.0)) (λ none. absurd (none derives.0))
+    left s _ (memory-left s) (devices-left s) (λ none. absurd (none (system-used s derives.0)))
+    (λ none. absurd (none (system-used s derives.0)))
 
 pub effect-silent : (e : Effect CapValue) (s : State) → Derives e s → Not (IsWritable s transmit) → sent_by e ≡ None
 unfolding sent_by

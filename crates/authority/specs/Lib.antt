@@ -3,6 +3,8 @@ pub mod Reachable
 pub mod Authority
 pub mod Worlds
 pub mod WorldLooks
+pub mod Changes
+pub mod Confined
 -- Laws
 pub mod GroundedLaws
 pub mod FrameLaws
@@ -14,6 +16,8 @@ pub mod SameBytesLaws
 pub mod SameEffectLaws
 pub mod AgreeLaws
 pub mod TwoWorldsLaws
+pub mod ChangesLaws
+pub mod ConfinedLaws
 -- Inner words
 pub mod Grounded
 pub mod Derives

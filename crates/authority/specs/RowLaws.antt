@@ -70,7 +70,7 @@ use Rattle.authority.specs.Authority.{HasSystem}
 use Rattle.authority.specs.Grounded.{IsGrounded, IsGroundedIfTagged}
 use Rattle.authority.specs.GroundedLaws.{grounded-reachable, grounded-derived, grounded-made}
 use Rattle.authority.specs.FrameLaws.{grounded-register, grounded-pcc, grounded-ddc, grounded-special}
-use Rattle.authority.specs.Derives.{MayWrite, Derives}
+use Rattle.authority.specs.Derives.{MayWrite, UsesSystem, Derives}
 
 -- ---- faults
 
@@ -139,6 +139,9 @@ system-pcc s fetched access = record {
   reachable = from_root fetched.tagged (in_pcc refl);
   opens = record { unsealed = fetched.unsealed; executes = fetched.executes; system = access };
 }
+
+pub system-used : (s : State) → UsesSystem s → HasSystem s
+system-used s uses = system-pcc s (fetched-pcc s uses.passes) uses.access
 
 -- the authority of a load or store is a root
 module _ (s : State) (insn : Insn) where
@@ -389,20 +392,21 @@ module _ (s : State) (is : IsState s) (insn : Insn) where
 
   -- ---- system registers
 
-  csr_done-derives : (old : ℕ) → HasSystem s → Derives (csr_done old insn s) s
+  csr_done-derives : (old : ℕ) → UsesSystem s → Derives (csr_done old insn s) s
   unfolding csr_done
-  csr_done-derives old has =
+  csr_done-derives old uses =
       cond_both (csr_writes insn.row insn.rs1) _ (Write (record { rd = insn.rd; value = integer old })) (λ e. Derives e s)
-      (λ _. (grounded-integer s old, has)) (λ _. grounded-integer s old)
+      (λ _. (grounded-integer s old, uses)) (λ _. grounded-integer s old)
 
-  csr_effect-derives : (word : ℕ) → IsFetched s → Derives (csr_effect word insn s) s
+  csr_effect-derives : (word : ℕ) → fetch_fault s.scrs.pcc ≡ None → Derives (csr_effect word insn s) s
   unfolding csr_effect csr_fault
-  csr_effect-derives word fetched =
+  csr_effect-derives word passes =
       let writes : Bool = csr_writes insn.row insn.rs1 in
       register-derives pcc_register word (csr_checks s.scrs (csr_number insn) writes) _ s
-      (λ none. csr_done-derives (csr_held insn s) (system-pcc s fetched (csr-access s (csr_number insn) writes none)))
+      (λ none. csr_done-derives (csr_held insn s)
+      (record { passes = passes; access = csr-access s (csr_number insn) writes none }))
 
-  special_done-derives : (old : CapValue) → (MTCC ≤ insn.rs2 → HasSystem s) → IsGroundedIfTagged s old → Derives (special_done old insn s) s
+  special_done-derives : (old : CapValue) → (MTCC ≤ insn.rs2 → UsesSystem s) → IsGroundedIfTagged s old → Derives (special_done old insn s) s
   unfolding special_done
   special_done-derives old system earned =
       cond_both (eqb insn.rs1 0) (Write (record { rd = insn.rd; value = old }))
@@ -414,21 +418,22 @@ module _ (s : State) (is : IsState s) (insn : Insn) where
   grounded-held None each = grounded-integer s 0
   grounded-held (Some v) each = each
 
-  special_effect-derives : (word : ℕ) → IsFetched s → Derives (special_effect word insn s) s
+  special_effect-derives : (word : ℕ) → fetch_fault s.scrs.pcc ≡ None → Derives (special_effect word insn s) s
   unfolding special_effect scr_fault
-  special_effect-derives word fetched =
+  special_effect-derives word passes =
       let writes : Bool = not (eqb insn.rs1 0) in
       register-derives (special_register insn.rs2) word (scr_checks s.scrs insn.rs2 writes) _ s
       (λ none.
-      let system : MTCC ≤ insn.rs2 → HasSystem s = λ high. system-pcc s fetched (scr-access s insn.rs2 writes none high) in
+      let system : MTCC ≤ insn.rs2 → UsesSystem s =
+      λ high. record { passes = passes; access = scr-access s insn.rs2 writes none high } in
       special_done-derives (special_held insn s) system
-      (grounded-held (scr_value s.scrs insn.rs2) (grounded-scr_value s insn.rs2 system)))
+      (grounded-held (scr_value s.scrs insn.rs2) (grounded-scr_value s insn.rs2 (λ high. system-used s (system high)))))
 
-  return_effect-derives : (word : ℕ) → IsFetched s → Derives (return_effect word s) s
+  return_effect-derives : (word : ℕ) → fetch_fault s.scrs.pcc ≡ None → Derives (return_effect word s) s
   unfolding return_effect return_fault
-  return_effect-derives word fetched =
+  return_effect-derives word passes =
       register-derives pcc_register word (return_checks s.scrs) (return_done s) s
-      (λ none. (system-pcc s fetched (return-access s none), refl))
+      (λ none. (record { passes = passes; access = return-access s none }, refl))
 
   -- ---- all rows, by kind
 
@@ -440,25 +445,25 @@ module _ (s : State) (is : IsState s) (insn : Insn) where
   unfolding mul_div_effect
   mul_div_effect-derives = λ tagged. cc
 
-  pub kind_effect-derives : (k : Kind) (word : ℕ) → IsFetched s → Derives (kind_effect k word insn s) s
+  pub kind_effect-derives : (k : Kind) (word : ℕ) → fetch_fault s.scrs.pcc ≡ None → Derives (kind_effect k word insn s) s
   unfolding kind_effect asked does branch_effect link_effect jalr_effect enter_effect invoke_effect load_effect store_effect
       load_capability_effect store_capability_effect csr_effect special_effect return_effect
-  kind_effect-derives kind.Integer word fetched = integer_effect-derives
-  kind_effect-derives kind.MulDiv word fetched = mul_div_effect-derives
-  kind_effect-derives kind.Capability word fetched = capability_effect-derives
-  kind_effect-derives kind.Auipc word fetched = auipc_effect-derives
-  kind_effect-derives kind.Branch word fetched = branch_effect-derives
-  kind_effect-derives kind.Jal word fetched = link_effect-derives insn.rd (jal_target insn s)
-  kind_effect-derives kind.Jalr word fetched = jalr_effect-derives
-  kind_effect-derives kind.JalrCap word fetched = enter_effect-derives
-  kind_effect-derives kind.Invoke word fetched = invoke_effect-derives
-  kind_effect-derives kind.Load word fetched = load_effect-derives
-  kind_effect-derives kind.Store word fetched = store_effect-derives
-  kind_effect-derives kind.LoadCapability word fetched = load_capability_effect-derives
-  kind_effect-derives kind.StoreCapability word fetched = store_capability_effect-derives
-  kind_effect-derives kind.Csr word fetched = csr_effect-derives word fetched
-  kind_effect-derives kind.SpecialRw word fetched = special_effect-derives word fetched
-  kind_effect-derives kind.Mret word fetched = return_effect-derives word fetched
-  kind_effect-derives kind.Fence word fetched = tt
-  kind_effect-derives kind.Ecall word fetched = tt
-  kind_effect-derives kind.Ebreak word fetched = tt
+  kind_effect-derives kind.Integer word passes = integer_effect-derives
+  kind_effect-derives kind.MulDiv word passes = mul_div_effect-derives
+  kind_effect-derives kind.Capability word passes = capability_effect-derives
+  kind_effect-derives kind.Auipc word passes = auipc_effect-derives
+  kind_effect-derives kind.Branch word passes = branch_effect-derives
+  kind_effect-derives kind.Jal word passes = link_effect-derives insn.rd (jal_target insn s)
+  kind_effect-derives kind.Jalr word passes = jalr_effect-derives
+  kind_effect-derives kind.JalrCap word passes = enter_effect-derives
+  kind_effect-derives kind.Invoke word passes = invoke_effect-derives
+  kind_effect-derives kind.Load word passes = load_effect-derives
+  kind_effect-derives kind.Store word passes = store_effect-derives
+  kind_effect-derives kind.LoadCapability word passes = load_capability_effect-derives
+  kind_effect-derives kind.StoreCapability word passes = store_capability_effect-derives
+  kind_effect-derives kind.Csr word passes = csr_effect-derives word passes
+  kind_effect-derives kind.SpecialRw word passes = special_effect-derives word passes
+  kind_effect-derives kind.Mret word passes = return_effect-derives word passes
+  kind_effect-derives kind.Fence word passes = tt
+  kind_effect-derives kind.Ecall word passes = tt
+  kind_effect-derives kind.Ebreak word passes = tt

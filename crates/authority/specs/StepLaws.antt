@@ -33,31 +33,31 @@ use Rattle.authority.specs.FrameLaws.{framed-by, registers-same, scrs-same, memo
 use Rattle.authority.specs.Derives.{Derives}
 use Rattle.authority.specs.EffectLaws.{effect-framed}
 use Rattle.authority.specs.LeftLaws.{effect-leaves, effect-silent}
-use Rattle.authority.specs.RowLaws.{IsFetched, fetched-pcc, kind_effect-derives}
+use Rattle.authority.specs.RowLaws.{kind_effect-derives}
 
 -- ---- the effect of a step
 
 module _ (s : State) (is : IsState s) where
-  decoded_effect-derives : (o : Option Insn) (word : ℕ) → IsFetched s → Derives (decoded_effect o word s) s
-  decoded_effect-derives (Some insn) word fetched = kind_effect-derives s is insn (kind_of insn.row) word fetched
-  decoded_effect-derives None word fetched = tt
+  decoded_effect-derives : (o : Option Insn) (word : ℕ) → fetch_fault s.scrs.pcc ≡ None → Derives (decoded_effect o word s) s
+  decoded_effect-derives (Some insn) word passes = kind_effect-derives s is insn (kind_of insn.row) word passes
+  decoded_effect-derives None word passes = tt
 
-  fetched_effect-derives : (r : Result ℕ Fault) → OnOk r (IsFetched s) → Derives (fetched_effect r s) s
-  fetched_effect-derives (Ok word) fetched = decoded_effect-derives (insn_of word) word fetched
-  fetched_effect-derives (Err f) fetched = tt
+  fetched_effect-derives : (r : Result ℕ Fault) → OnOk r (fetch_fault s.scrs.pcc ≡ None) → Derives (fetched_effect r s) s
+  fetched_effect-derives (Ok word) passes = decoded_effect-derives (insn_of word) word passes
+  fetched_effect-derives (Err f) passes = tt
 
-  fetched-checked : (f : Option Fault) → fetch_fault s.scrs.pcc ≡ f → OnOk (fetched f s) (IsFetched s)
+  fetched-checked : (f : Option Fault) → fetch_fault s.scrs.pcc ≡ f → OnOk (fetched f s) (fetch_fault s.scrs.pcc ≡ None)
   unfolding fetched
   fetched-checked (Some f) same = tt
   fetched-checked None same =
       cond_both (is_in_ram s.memory (pc_of s) 4) (Ok (number_at s.memory (pc_of s) 4)) (Err (fault cause.FetchAccess (pc_of s)))
-      (λ r. OnOk r (IsFetched s)) (λ _. fetched-pcc s same) (λ _. tt)
+      (λ r. OnOk r (fetch_fault s.scrs.pcc ≡ None)) (λ _. same) (λ _. tt)
 
   decided-derives : (o : Option Interrupt) → Derives (decided o s) s
   decided-derives (Some interrupt) = tt
   decided-derives None =
       fetched_effect-derives (fetch s)
-      (subst (λ r. OnOk r (IsFetched s)) (sym (fetch-fetched s)) (fetched-checked (fetch_fault s.scrs.pcc) refl))
+      (subst (λ r. OnOk r (fetch_fault s.scrs.pcc ≡ None)) (sym (fetch-fetched s)) (fetched-checked (fetch_fault s.scrs.pcc) refl))
 
   pub step_effect-derives : Derives (step_effect s) s
   unfolding step_effect

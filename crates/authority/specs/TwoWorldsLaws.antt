@@ -35,6 +35,7 @@ use Rattle.authority.specs.Derives.{Derives}
 use Rattle.authority.specs.Grounded.{GrowsNot}
 use Rattle.authority.specs.GroundedLaws.{HasSystem-before}
 use Rattle.authority.specs.SameEffectLaws.{joined, elsewise, is_elsewise, same-joined, in_ram-same, step_effect-same}
+use Rattle.authority.specs.RowLaws.{system-used}
 use Rattle.authority.specs.StepLaws.{event-grows_not, step_effect-derives}
 use Rattle.authority.specs.Worlds.{IsReadable, IsTagReadable, AgreesInMemory, Agree}
 
@@ -220,7 +221,7 @@ module _ (s : State) (is : IsState s) (m : Memory) (x : Scrs) (agree : Agree s (
   effect-agrees (effect.Csr w) sound derives plain grows =
       agree-applied (effect.Csr w) grows refl refl refl refl refl memory (scrs-by (λ y. moved next (views_written w.number w.value y)))
   effect-agrees (effect.Return closed) sound derives plain grows =
-      agree-applied (effect.Return closed) grows refl (ap target (agree.scrs derives.0).mepcc) refl refl refl memory (scrs-by returned_scrs)
+      agree-applied (effect.Return closed) grows refl (ap target (agree.scrs (system-used s derives.0)).mepcc) refl refl refl memory (scrs-by returned_scrs)
 
   -- ---- steps and events
 

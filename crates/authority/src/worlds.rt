@@ -1,7 +1,7 @@
 //! What holds of two worlds, states that agree in all that reachable capabilities open: each function's contract is a law over the
 //! definitions alone, and its body is empty.
 
-ghost use Rattle.std.specs.Prelude.{◌≡◌, ℕ, ◌+◌, ◌%◌, true, length, slice_set};
+ghost use Rattle.std.specs.Prelude.{◌≡◌, ℕ, ◌+◌, ◌%◌, true, false, length, slice_set};
 ghost use Rattle.base.specs.Ram.{ram_base};
 ghost use Rattle.cap_bounds.specs.CapValue.{CapValue};
 ghost use Rattle.tagged_memory.specs.Memory.{Memory, IsMemory, is_in_ram, has_tag};
@@ -9,18 +9,21 @@ ghost use Rattle.special_regs.specs.Scrs.{Scrs};
 ghost use Rattle.hart.specs.declared.event.Event.{Event};
 ghost use Rattle.hart.specs.Event.{after, sent, outcome};
 ghost use Rattle.hart.specs.IsState.{IsState};
-ghost use Rattle.hart.specs.Outcome.{Plain};
+ghost use Rattle.hart.specs.Outcome.{Plain, is_trap, step_outcome};
 ghost use Rattle.hart.specs.State.{State};
-ghost use Rattle.hart.specs.Step.{step_effect};
+ghost use Rattle.hart.specs.Step.{step_effect, stepped, step_sent};
 ghost use Rattle.authority.specs.Authority.{Not, HasSystem};
+ghost use Rattle.authority.specs.Changes.{ChangesAlike};
 ghost use Rattle.authority.specs.Reachable.{IsReachable};
 ghost use Rattle.authority.specs.WorldLooks.{SameLooks};
 ghost use Rattle.authority.specs.Worlds.{IsReadable, IsTagReadable, Agree};
 
-/// The effect of a step is a function of its looks, agreeing states have the same looks, so each event has the same outcome and sends
-/// the same byte in both; and behind a plain event they agree again.
+/// A step is a function of its looks: its effect, the byte that it sends, and, where it isn't a trap, what it changes. Agreeing states
+/// have the same looks, so each event has the same outcome and sends the same byte in both; and after a plain event they agree again.
 pub fn agreeing_states_step_alike()
     ensures effect { (s t : State) → SameLooks s t → step_effect t ≡ step_effect s }
+    ensures sent { (s t : State) → SameLooks s t → step_sent t ≡ step_sent s }
+    ensures changes { (s t : State) → IsState s → SameLooks s t → is_trap (step_outcome s) ≡ false → ChangesAlike s (stepped s) t (stepped t) }
     ensures looks { (s t : State) → Agree s t → SameLooks s t }
     ensures outcome { (e : Event) (s t : State) → Agree s t → outcome e t ≡ outcome e s }
     ensures byte { (e : Event) (s t : State) → Agree s t → sent e t ≡ sent e s }

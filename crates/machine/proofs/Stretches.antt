@@ -73,7 +73,7 @@ pub record KeepsAuthority (s later : State) (bytes : List ℕ) : Type 0 where
   pub leaves_alone : LeavesAlone s later
   pub silent : IsSilent s bytes
 
-KeepsAuthority-none : (s : State) → KeepsAuthority s s []
+pub KeepsAuthority-none : (s : State) → KeepsAuthority s s []
 KeepsAuthority-none s = record { grows_not = GrowsNot-refl s; leaves_alone = LeavesAlone-refl s; silent = λ none. refl }
 
 silent-after : (s t : State) (bytes : List ℕ) (e : Event) → KeepsAuthority s t bytes → IsState t

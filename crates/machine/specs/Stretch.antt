@@ -4,6 +4,8 @@ use Rattle.hart.specs.declared.ends.Why.{Why}
 use Rattle.hart.specs.declared.event.Event.{Event}
 use Rattle.hart.specs.Ends.{why_of}
 use Rattle.hart.specs.Event.{after, outcome}
+use Rattle.hart.specs.IsEvent.{IsEvent}
+use Rattle.hart.specs.IsState.{IsState}
 use Rattle.hart.specs.Outcome.{Plain}
 use Rattle.hart.specs.State.{State}
 use Rattle.authority.specs.Worlds.{Agree}
@@ -13,6 +15,17 @@ use Rattle.machine.specs.Run.{run_after, run_sent}
 abbrev pub ArePlain : List Event → State → Type 0
 ArePlain [] s = Unit {0}
 ArePlain (e ∷ es) s = (outcome e s ≡ Plain) × ArePlain es (after e s)
+
+-- each is an event
+abbrev pub AreEvents : List Event → Type 0
+AreEvents [] = Unit {0}
+AreEvents (e ∷ es) = IsEvent e × AreEvents es
+
+-- A plain run: from a state, over events each of which is plain in its turn.
+pub record IsPlainRun (events : List Event) (s : State) : Type 0 where
+  pub state : IsState s
+  pub are_events : AreEvents events
+  pub are_plain : ArePlain events s
 
 -- A stretch ends with its list, or before an event whose outcome is not plain, and says why.
 abbrev pub EndsBefore : Option Why → List Event → State → Type 0

@@ -4,6 +4,7 @@
 mod advance;
 mod end;
 mod fault;
+pub mod laws;
 mod machine;
 mod setting;
 mod stretch;

@@ -5,6 +5,7 @@ mod access;
 mod bits;
 mod csrs;
 mod interrupts;
+pub mod laws;
 mod mtvec;
 mod reads;
 mod refusal;
