@@ -1,9 +1,9 @@
 -- A plain run keeps authority, and is the same in both worlds: by each of its events in turn.
-use Rattle.std.proofs.Common.{◌≡◌, ℕ, zero, suc, ◌+◌, List, [], ◌∷◌, ◌++◌, take, refl, sym, ap, subst, ◌∙◌, append_assoc}
+use Rattle.std.proofs.Common.{ℕ, zero, suc, List, [], ◌∷◌, ◌++◌, take, refl, sym, ap, subst, ◌∙◌, append_assoc}
 use Rattle.std.proofs.lemmas.List.{append-nil}
 use Rattle.std.specs.Prelude.{option_to_list}
 use Rattle.hart.specs.declared.event.Event.{Event}
-use Rattle.hart.specs.Event.{after, sent, outcome}
+use Rattle.hart.specs.Event.{after, sent}
 use Rattle.hart.specs.EventLaws.{IsState-after}
 use Rattle.hart.specs.IsState.{IsState}
 use Rattle.hart.specs.State.{State}
