@@ -188,7 +188,7 @@ def condition(text):
 
 
 def checks(conditions, behind=()):
-    """The table of a list of conditions, with what is asked behind it."""
+    """The table of a list of conditions, with what is asked after it."""
     rows = [(condition(holds), fault(otherwise)) for otherwise, holds in conditions]
     return table(["", "Must hold", "Else"], [[str(number), *row] for number, row in enumerate([*rows, *behind], 1)])
 
@@ -361,7 +361,8 @@ def csr_written():
 
 def csr_table():
     reads = dict(map(pair, items(Definitions("special_regs/specs/CsrValues").body("csr_values"))))
-    read_only = items(bare(REFUSALS.body("is_read_only").removeprefix("list_any (λ k. n == k) ")))
+    bits, _, ones = REFUSALS.body("is_read_only").partition(" == ")
+    read_only = [constant for constant, _ in listed("CSRS") if worth(bits, {"n": REGISTERS[constant][0]}) == worth(ones, {})]
     written = csr_written()
     rows = []
     for constant, name in listed("CSRS"):
@@ -584,9 +585,9 @@ def pending_order():
 
 
 def vectors():
-    """How far behind the base the entries of interrupts stand in vectored mode."""
+    """How far past the base the entries of interrupts stand in vectored mode."""
     numbers = sorted((NUMBERS[constant], name) for name, constant in INTERRUPTS.cases("bit_of"))
-    return " and ".join(f"the {name.lower()} interrupt's entry is {4 * number} bytes behind the base" for number, name in numbers)
+    return " and ".join(f"the {name.lower()} interrupt's entry is {4 * number} bytes past the base" for number, name in numbers)
 
 
 def traps(*names):

@@ -1,11 +1,9 @@
 -- Who may use the system registers (UCAM-CL-TR-987, Access_System_Registers; that every listed register asks for it is profile).
-use Rattle.std.specs.Prelude.{ℕ, Bool, not, ◌&&◌, ◌||◌, ◌==◌, nat_le, List, [], ◌∷◌, Option}
-use Rattle.std.specs.List.{list_any}
+use Rattle.std.specs.Prelude.{ℕ, ◌/◌, ◌%◌, ◌^◌, Bool, not, ◌&&◌, ◌||◌, ◌==◌, nat_le, List, [], ◌∷◌, Option}
 use Rattle.cap_rights.specs.Permission.{permits}
 use Rattle.cap_rights.specs.declared.permission.Permission.TheVariants as permission
 use Rattle.base.specs.FirstFault.{first_fault}
 use Rattle.base.specs.Registers.{is_csr, is_scr}
-use Rattle.base.specs.declared.registers.csr.TheConstants.{MVENDORID, MARCHID, MIMPID, MHARTID}
 use Rattle.base.specs.declared.registers.scr.TheConstants.{PCC, MTCC}
 use Rattle.special_regs.specs.Scrs.{Scrs}
 use Rattle.special_regs.specs.declared.refusal.SpecialFault.{SpecialFault}
@@ -15,9 +13,9 @@ use Rattle.special_regs.specs.declared.refusal.SpecialFault.TheVariants.{S1, S2}
 abbrev pub has_system_access : Scrs → Bool
 has_system_access s = permits s.pcc permission.AccessSystemRegisters
 
--- mvendorid, marchid, mimpid and mhartid are only read
+-- a register is only read where bits 11 and 10 of its number are 1 (RISC-V privileged manual, CSR address mapping conventions)
 abbrev pub is_read_only : ℕ → Bool
-is_read_only n = list_any (λ k. n == k) (MVENDORID ∷ MARCHID ∷ MIMPID ∷ MHARTID ∷ [])
+is_read_only n = n / 2 ^ 10 % 4 == 3
 
 -- What a read or, where `writes` is true, a write of control and status register n asks for, in order: there is such a register, and it
 -- isn't one that is only read; then access.

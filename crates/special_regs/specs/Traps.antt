@@ -31,7 +31,7 @@ target v = aligned (sentry_opened v)
 abbrev pub vector_of : Fault → ℕ
 vector_of f = if has_bit f.mcause 63 then f.mcause % 2 ^ 63 else 0
 
--- the address at which a trap begins: mtvec's base, and for a vectored interrupt four bytes a number behind it
+-- the address at which a trap begins: mtvec's base, and for a vectored interrupt four bytes a number after it
 unfoldable pub entry_address : Fault → ℕ → ℕ
 entry_address f mtvec = (mtvec / 4 * 4 + (if is_vectored mtvec then 4 * vector_of f else 0)) % 2 ^ 64
 

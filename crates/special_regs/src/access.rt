@@ -8,7 +8,7 @@ ghost use Rattle.special_regs.specs.Scrs.{scr_value};
 
 use crate::refusal::SpecialFault;
 use crate::scrs::Scrs;
-use base::{csr, is_csr, is_scr, scr};
+use base::{is_csr, is_scr, scr};
 use cap_bounds::CapRep;
 use cap_rights::{Permission, permits};
 
@@ -19,14 +19,11 @@ pub(crate) fn has_system_access<C: CapRep>(scrs: &Scrs<C>) -> bool
     permits(scrs.pcc(), Permission::AccessSystemRegisters)
 }
 
-/// Returns whether a write of control and status register `number` is a fault.
+/// Returns whether control and status register `number` is one that is only read: bits 11 and 10 of the number are 1.
 fn is_read_only(number: u16) -> bool
     ensures { result ≡ spec.is_read_only number }
 {
-    match number {
-        csr::MVENDORID | csr::MARCHID | csr::MIMPID | csr::MHARTID => true,
-        _ => false,
-    }
+    number / (1 << 10) % 4 == 3
 }
 
 /// A condition, and the refusal where it is false.
