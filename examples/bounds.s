@@ -21,7 +21,7 @@
         csetaddr ca0, ca0, t1
         csetboundsimm ca0, ca0, 16
 
-# every byte of the table takes a store; the one behind it doesn't
+# every byte of the table takes a store; the one after it doesn't
         li      a2, 0x2a
         li      a3, 17                  # one too many
 fill:   sb.cap  a2, (ca0)

@@ -6,7 +6,7 @@
 # A calls B by a sealed pair, B has the kernel send 'c' and comes back by A's, A sends 'a' and ends, and B sends 'b' three times.
 # docs/COMPARTMENTS.md walks through it; cases/kernel has other compartments for this kernel.
 #
-# Behind the kernel stand B and A, which place a page of code (b_code, a_code) and a page of data (b_data, a_data) each. The
+# After the kernel stand B and A, which place a page of code (b_code, a_code) and a page of data (b_data, a_data) each. The
 # first word of a page of code is where the compartment starts. The second is its door: there, and nowhere else, the other
 # compartment comes in, by CInvoke of the pair that the kernel sealed.
 #
@@ -35,7 +35,7 @@ start:  cmove   ct0, cnull
         csetboundsexact ct0, ct0, t1
         li      t1, 0x402               # Execute, Access_System_Registers
         candperm ct0, ct0, t1
-        cincoffsetimm ct0, ct0, 1       # vectored: an interrupt goes 4 bytes a number behind the page's beginning
+        cincoffsetimm ct0, ct0, 1       # vectored: an interrupt goes 4 bytes a number past the page's beginning
         cspecialrw cnull, mtcc, ct0
 
 # the devices, 8 bytes each: a capability to each in a table that only MTDC leads to
@@ -176,7 +176,7 @@ save:   csc     c2, 32(c31)
         csc     c2, 0(c31)
         cjalr   cnull, 0(cra)
 
-# An exception. MScratchC leads to the frame of the compartment that runs; behind `save` so does c31, and a0 and a7 are still the
+# An exception. MScratchC leads to the frame of the compartment that runs; after `save` so does c31, and a0 and a7 are still the
 # compartment's own.
 exception:
         cspecialrw c31, mscratchc, c31  # register 31 and the frame change places
@@ -187,7 +187,7 @@ exception:
         beq     t0, t1, system_call
         j       fault
 
-# A system call: go on behind the ECALL, unless it ends the compartment.
+# A system call: go on after the ECALL, unless it ends the compartment.
 system_call:
         clc     ct0, 0(c31)
         cincoffsetimm ct0, ct0, 4

@@ -210,7 +210,7 @@ def cases():
     yield from (f"label {quoted(line)} => {label or '-'}" for line, label in LABELS)
     yield "# expression TEXT => name and number, or fault"
     yield from (f"expression {quoted(text)} => {told}" for text, told in EXPRESSIONS + [(255 * "9", "A3")])
-    yield "# piece TEXT => what stands before the first comma, and what behind it"
+    yield "# piece TEXT => what stands before the first comma, and what after it"
     yield f"piece {quoted(' a b ,, c')} => {quoted('a b')} {quoted(', c')}"
     yield f"piece {quoted(' c' + chr(9))} => {quoted('c')} -"
 

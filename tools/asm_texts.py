@@ -122,7 +122,7 @@ PAIRS = [
     (".byte 1\nx:\nx: nop", "A4"),
     # An unknown mnemonic.
     (".byte 1\nfoo", "A1"),
-    # Operands of another form, before and behind what else is wrong.
+    # Operands of another form, before and after what else is wrong.
     ("addi 5, a0, 5000", "A2"),
     ("lw a0, 5000(5)", "A2"),
     (".byte 256, +", "A2"),
@@ -146,7 +146,7 @@ PAIRS = [
     (".byte 1\nj .+1", "A6"),
 ]
 
-# Statements with each fault but A8, behind lines that it needs.
+# Statements with each fault but A8, after lines that it needs.
 FAULTY = [
     ("", "foo"),
     ("", "addi a0"),
@@ -183,7 +183,7 @@ CAPABILITIES = [
     (".org 0xfffffffffffffff0\n.cap 0, 0, 0, 0", 2, "A7"),
     ("j nowhere\n.cap 0, 0, 0, 0", 1, "A5"),
     (".byte 1\n.cap nowhere, 0, 0, 0", 2, "A5"),
-    # Bounds that are not exact, or end above 2^64, behind all other faults.
+    # Bounds that are not exact, or end above 2^64, after all other faults.
     (".cap 0x80001001, 4096, 0, 0", 1, "A11"),
     (".cap 1, 8191, 0, 0", 1, "A11"),
     (".cap 0xffffffffffffffff, 2, 0, 0", 1, "A11"),
@@ -333,7 +333,7 @@ ITS_FILE = ("4348455249494d47" "02000000" "01000000" "0000008000000000" "0100000
 
 
 def image_files():
-    yield "# a text, and how many bytes of its image's file are read, with zeros behind its end => the file of what is read, or a fault"
+    yield "# a text, and how many bytes of its image's file are read, with zeros after its end => the file of what is read, or a fault"
     for text, words in [(FIRST, [0x1000_05b7, 0x0410_0513, 0x00a5_8023, 0x0010_05b7, 0x0005_b023]), (ONE, [0x22b5_055b])]:
         file = image_file(words)
         yield f"{quoted(text)} {len(file)} => {file.hex()}"

@@ -1,7 +1,7 @@
 """Worked rows over capabilities, written by hand: what each row is to give.
 
 A value is a number, or a name for bits 127..64 of its word, an address and a tag. What is in the second parentheses is the value in
-rs2, or the immediate; behind it may stand the number of rs1 and the value in DDC. The names that every group has are in NAMES.
+rs2, or the immediate; after it may stand the number of rs1 and the value in DDC. The names that every group has are in NAMES.
 """
 
 NAMES = {

@@ -147,7 +147,7 @@ def listings():
 
 
 def scheduled(program, steps, gap, tick, keys, *seen):
-    """A run of so many steps, with a byte of the keys each so many steps, and ticks. Behind the keys the byte that can't be sent."""
+    """A run of so many steps, with a byte of the keys each so many steps, and ticks. After the keys the byte that can't be sent."""
     return line(0, program, [f"scheduled {steps} {gap} {tick} {keys or '-'}", *seen])
 
 

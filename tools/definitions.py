@@ -157,7 +157,7 @@ class Definitions:
 
 
 def statements(text):
-    """The statements of a file: lines that begin at its edge, each with the lines that are set in behind it; no comments."""
+    """The statements of a file: lines that begin at its edge, each with the lines that are set in after it; no comments."""
     gathered = []
     for line in text.split("\n"):
         if not line.strip() or line.lstrip().startswith("--"):

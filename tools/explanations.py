@@ -94,7 +94,7 @@ def sealed(name, address, otype):
 CONVERSATIONS = [
     ("Why an ordinary sum is done, and what it changes; asking changes nothing", "add a0, a1, a2",
      step_and_ask(0, begun(RAM, "00c58533 add a0, a1, a2"), f"effect: {number('ca0 =', 0)}") + "> csr\n! csr"),
-    ("Why a load behind its authority's bounds traps", BOUNDED + "cincoffsetimm ca0, ca0, 16; ld.cap a2, (ca0)",
+    ("Why a load past its authority's bounds traps", BOUNDED + "cincoffsetimm ca0, ca0, 16; ld.cap a2, (ca0)",
      step_and_ask(6, begun(RAM + 24, "fab5065b ld.cap a2, (ca0)"),
                   access("load of 8 bytes", value("ca0", 1, HIGH, LOW, HIGH, 0x78fff, 0, 0x3ffff), "ca0", "load", HIGH, 8, LOW, HIGH, True),
                   trapped(28, "CHERI exception, length violation at ca0", 32 * 10 + 1))),

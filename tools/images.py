@@ -26,7 +26,7 @@ ONE_INSN = bytes.fromhex(
     "4348455249494d47" "01000000" "01000000" "0000008000000000" "01000000" "00000000" "0000008000000000" "0400000000000000" "5b05b522")
 # 4096 pages, and no section
 NO_SECTION = bytes.fromhex("4348455249494d47" "01000000" "00100000" "fcffff8000000000" "00000000" "00000000")
-# two sections of four bytes, one right behind the other
+# two sections of four bytes, one right after the other
 TWO = bytes.fromhex(
     "4348455249494d47" "01000000" "02000000" "0400008000000000" "02000000" "01000000"
     "1000008000000000" "0400000000000000" "01020304" "1400008000000000" "0400000000000000" "05060708")
@@ -107,7 +107,7 @@ def first_faults():
     yield build(1, END, 0, [outside] * 65, "L4")
     yield build(1, RAM, 2, [outside] * 65, "L4")
     yield build(1, RAM, 0, [outside] * 65, "L5")
-    yield "# of one section outside RAM before behind the one before it; of two the first"
+    yield "# of one section outside RAM before after the one before it; of two the first"
     yield build(1, RAM, 0, [good, outside], "L6")
     yield build(1, RAM, 0, [good, before, outside], "L7")
     yield build(1, RAM, 0, [good, outside, before], "L6")
@@ -145,7 +145,7 @@ def cut_short():
     for length, fault in ((0, "L1"), (31, "L1"), (32, "L8"), (47, "L8"), (48, "L8"), (51, "L8"), (52, None)):
         yield f"read {text(ONE_INSN[:length])} => {fault or '1 80000000 0 80000000:5b05b522'}"
     yield f"read {text(ONE_INSN + bytes(1))} => L9"
-    yield "# the image of five instructions, cut behind each of its bytes"
+    yield "# the image of five instructions, cut after each of its bytes"
     assert len(FIRST) == 68
     yield from (f"read {text(FIRST[:length])} => {'L1' if length < 32 else 'L8'}" for length in range(68))
 
@@ -178,7 +178,7 @@ def faults():
             ({0: 0}, 31, "L1"), ({0: 0, 8: 3}, 72, "L2"), ({8: 3, 12: 0}, 72, "L3"), ({28: 2, 24: 65}, 72, "L4"),
             ({24: 65, 35: 0x7F}, 72, "L5"),
             ({24: 65}, 40, "L5"),
-            # of one section: its 16 bytes, outside RAM, behind the one before it, its bytes
+            # of one section: its 16 bytes, outside RAM, after the one before it, its bytes
             ({35: 0x7F}, 47, "L8"), ({35: 0x7F}, 49, "L6"), ({55: 0x7F}, 72, "L6"), ({52: 0x13}, 72, "L7"), ({52: 0x13}, 70, "L7"),
             ({52: 0x13}, 67, "L8"),
             # of two sections the first
@@ -235,7 +235,7 @@ def granted(place=RAM + 0x100, base=0x80001000, length=4095, perms=0xFFFF, flag=
 
 
 def over_zeros():
-    """Images that a text makes: capabilities over zeros of sections, before, between and behind other bytes; none, and more pages than
+    """Images that a text makes: capabilities over zeros of sections, before, between and after other bytes; none, and more pages than
     version 1 has."""
     yield "# version 2: capabilities over zeros of sections, built, written, and written back the same"
     around = b"\1" * 16 + bytes(16) + b"\2" * 16 + bytes(32) + b"\3"
@@ -341,7 +341,7 @@ WRONG = {"L12": PLACES, "L13": RANGES, "L14": RIGHTS}
 def pairs():
     """Two faults, and which is told: of one entry by the order of its checks, of two by the order of the entries, and what is asked of the
     header, the sections and the count before any entry."""
-    yield "# the first fault of two of one capability, behind a sound one"
+    yield "# the first fault of two of one capability, after a sound one"
     sound = granted(RAM)
     for first, second in (("L12", "L13"), ("L12", "L14"), ("L13", "L14")):
         for one in WRONG[first]:
@@ -365,7 +365,7 @@ def pairs():
         file = file_v2(**{"pages": 1, "entry": RAM, "mode": 0, "capabilities": [], **others})
         yield f"read {text(file[:-4] + number(1025, 4))} => {fault}"
     yield asked_v2("build2", MOST + 1, RAM, 0, [granted(0)] * 1025, (), "L4")
-    yield "# a capability that is cut short is that before it is anything else, a sound one is read before what is behind the last"
+    yield "# a capability that is cut short is that before it is anything else, a sound one is read before what is after the last"
     for some in WRONG.values():
         for fault, wrong in ((fault, one) for fault, ones in WRONG.items() for one in ones):
             file = file_v2(1, RAM, 0, [sound, granted(**wrong), granted(**{"place": RAM + 0x200, **some[0]})])

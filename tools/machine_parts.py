@@ -7,7 +7,7 @@ RECEIVE, STATUS, CONTROL = 0x10000008, 0x10000010, 0x10000018
 ONES = SPACE - 1
 # each register, and what a load gives at the beginning
 REGISTERS = {HALT: 0, TIMER_COMPARE: ONES, TIMER: 0, TRANSMIT: 0, RECEIVE: 0, STATUS: 0, CONTROL: 0}
-# addresses at which no register begins: inside and behind them, in RAM and at both ends of the address space
+# addresses at which no register begins: inside and after them, in RAM and at both ends of the address space
 NOWHERE = (0, HALT + 4, HALT + 8, TIMER_COMPARE + 8, TIMER + 4, TRANSMIT - 8, TRANSMIT + 1, TRANSMIT + 4, CONTROL + 8, 0x80000000, ONES)
 # mtime, mtimecmp, the bytes that wait, overrun, control and halt, as they begin
 BEGINNING = "0 ffffffffffffffff - 0 0 -"

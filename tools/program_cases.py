@@ -207,7 +207,7 @@ INTERRUPTED = traced(
 
 
 def traces():
-    yield "# a trace: a line for each step that is done, in a file that is made behind what is read"
+    yield "# a trace: a line for each step that is done, in a file that is made after what is read"
     opened = "open first.img, make t"
     for steps in (5, 9):
         yield case(f"run first.img {steps} --trace t", [FILE], 0, opened, b"A", made=TRACE.encode())
@@ -259,7 +259,7 @@ def images():
                 ("--at 18446744073709551615 --entry 0x80000000", "L6 section outside RAM")]
     for options, text in refusals:
         yield case(f"image flat out.img {options}", [file], 3, "open flat", told=f"cherisim: flat: {text}\n")
-    yield "# of a file that is larger than RAM one byte more than RAM has room for is read: the call behind it, which fails, isn't made"
+    yield "# of a file that is larger than RAM one byte more than RAM has room for is read: the call after it, which fails, isn't made"
     large = bytes(4098)
     yield case("image flat out.img --pages 1", [f"flat 4097 {quoted(large)}"], 3, "open flat",
                told="cherisim: flat: L6 section outside RAM\n")
@@ -297,7 +297,7 @@ def debugged(table):
     yield session("mem start 1\nmem 0x80000000 1", "fault B2\n0000000080000000: b7\n", 't ""')
     yield case("debug first.img", [FILE, table, 'input "mem start 1\\nmem 0x80000000 1"'], 0, "open first.img",
                "fault B2\n0000000080000000: b7\n")
-    yield "# the table is read behind the image, and refused as that of a listing"
+    yield "# the table is read after the image, and refused as that of a listing"
     for wrong, line in ((table.replace(" halt", "  halt"), 2), (table.replace(" start", " 80000000"), 1),
                         (table.replace("C halt", "C h:"), 2),
                         ('t "start 0000000080000000"', 1), ('t "\\n"', 1)):
@@ -314,7 +314,7 @@ def debugged(table):
 
 
 def named():
-    yield "# labels: those of a text are written behind its image, and a listing shows those of a table"
+    yield "# labels: those of a text are written after its image, and a listing shows those of a table"
     yield case("asm a.s out.img --symbols a.sym", [TEXT], 3, "open a.s, make out.img, make a.sym",
                told="cherisim: file a.sym: entity not found\n", made=FIRST)
     table = 't "0000000080000000 start\\n000000008000000C halt\\n"'
@@ -332,7 +332,7 @@ def named():
     yield case("bounds 0x80000000 4097 --address 2147487744", [], 0, sent=shown(0x80000000, 4097, 0x80001000))
     yield case("bounds 18446744073709551615 2", [], 0, sent=shown(2**64 - 1, 2, None))
     yield case("bounds 0 1", ["output 0"], 3, told="cherisim: write failed\n")
-    yield "# what was read of a faulty line stands behind the fault's words"
+    yield "# what was read of a faulty line stands after the fault's words"
     for line, told in (("addi a0, a0, 4096", "A3 immediate out of range: 4096 (-2048 to 2047)"), ("j lop", "A5 label unknown: lop"),
                        ("x: nop\\nx: nop", "A4 label twice: x"), ("addi a0", "A2 operands: addi takes rd, rs1, imm"),
                         ("nop\\x01", "A8 byte not ASCII: 0x01 at column 4")):

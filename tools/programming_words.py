@@ -254,7 +254,7 @@ DEFINITIONS = {
         "over them the image's capabilities; no other granule has a tag",
     "devices/specs/Devices received: let full : Bool = not (nat_lt (length d.queue) queue_limit) in record d {queue = if full then "
     "d.queue else d.queue ++ (b ∷ []); overrun = if full then true else d.overrun;}":
-        "A byte that comes on the line waits behind the others; where the queue is full, it is lost, and bit 1 of status becomes 1",
+        "A byte that comes on the line waits after the others; where the queue is full, it is lost, and bit 1 of status becomes 1",
     "devices/specs/Devices ticked: record d {mtime = (d.mtime + 1) % 2 ^ 64}": "A tick adds 1 to mtime, modulo 2^64",
     "devices/specs/Devices interrupts_of: bit (nat_le d.mtimecmp d.mtime) * 2 ^ TIMER + bit (d.control && waits d.queue) * 2 ^ EXTERNAL":
         "The timer asks while mtime is mtimecmp or more, and the console while bit 0 of control is 1 and a byte waits",

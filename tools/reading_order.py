@@ -4,7 +4,7 @@
     python3 tools/reading_order.py            prints the tables
     python3 tools/reading_order.py --check    says whether they stand in docs/MODEL.md, and ends with 1 if not
 
-The thirteen pages of the step have to be all files that hart/specs/Step names, directly or not, each behind those that it names; what
+The thirteen pages of the step have to be all files that hart/specs/Step names, directly or not, each after those that it names; what
 is missing, too much or too early is printed.
 """
 import os

@@ -212,7 +212,7 @@ def added(numbers):
 
 
 def in_turns(mode, before, at_turn, step, each):
-    """Three turns: each takes what stands next in a table behind the program, moves on by `step` bytes, and does `at_turn`.
+    """Three turns: each takes what stands next in a table after the program, moves on by `step` bytes, and does `at_turn`.
 
     In these statements OWN is the place of the statement that is marked so, and TABLE that of the table, from the program's beginning.
     """
@@ -235,7 +235,7 @@ def over_own_code():
     yield in_turns(1, addressed, ["turn: lw t0, 0(cs5)", "sw t0, OWN(cs1)", "own: addi a0, a0, 1"], 4, added((16, 32, 64)))
     # its last byte alone
     yield in_turns(0, numbered, ["turn: lb t0, 3(s5)", "addi s6, s1, OWN", "sb t0, 3(s6)", "own: addi a0, a0, 1"], 4, added((17, 33, 65)))
-    # two words by one store, the second behind the next instruction
+    # two words by one store, the second after the next instruction
     pairs = added((16, 256, 32, 512, 64, 1024))
     yield in_turns(0, [*numbered, "addi zero, zero, 0"], ["turn: ld t0, 0(s5)", "addi zero, zero, 0", "addi zero, zero, 0", "sd t0, OWN(s1)",
                                                           "own: addi a0, a0, 1", "addi a0, a0, 2"], 8, pairs)

@@ -1,6 +1,6 @@
 """Conversations of the debugger, with what is answered by the rules of its commands.
 
-A conversation stands behind its machine's program, `@` and statements: a line that begins with `> ` is typed behind that, with escapes,
+A conversation stands after its machine's program, `@` and statements: a line that begins with `> ` is typed after that, with escapes,
 one that begins with `< ` is typed and left unread, and every other line is answered. An empty line ends the conversation.
 In the texts here a line that begins with `! ` stands for lines of the state.
 """
@@ -142,7 +142,7 @@ def replies(rows):
 
 
 CONVERSATIONS = [
-    ("The least and the greatest operands of `step`, `tick`, `byte` and `until`, up to the halt and behind it. What is "
+    ("The least and the greatest operands of `step`, `tick`, `byte` and `until`, up to the halt and after it. What is "
      "typed after `quit` is not answered",
      FIRST_IMAGE, """
 > tick 1
@@ -189,7 +189,7 @@ events 0 out - pc 0000000080000014 halted 0
 < step 1
 < frob
 """),
-    ("Steps are counted behind the halt too, and change nothing there", FIRST_IMAGE, """
+    ("Steps are counted after the halt too, and change nothing there", FIRST_IMAGE, """
 > step 1000000
 events 1000000 out 41 pc 0000000080000014 halted 0
 > csr
@@ -557,7 +557,7 @@ TALKS = [
     ("nothing", ""),
     ("an empty line", ">\nfault B1"),
     ("quit at once", "> quit"),
-    ("what stands behind quit is left", "> quit\n< regs"),
+    ("what stands after quit is left", "> quit\n< regs"),
     ("a step", f"> step 1\n{STEP}"),
     ("lines of each kind", f"> step 1\\r\n{STEP}\n>\nfault B1\n> frob\nfault B1\n> mem 0 1\nfault B3\n> quit now\nfault B2\n"
                            f"> byte 0x41\n{STEP}\n> \\tquit\\x20\n< regs"),
@@ -631,7 +631,7 @@ def cut_replies():
 
 
 def cut_lines():
-    """Each call of the source in turn fails, and behind the last line the one that meets the end: the replies to the lines before are
+    """Each call of the source in turn fails, and after the last line the one that meets the end: the replies to the lines before are
     written, and those are done."""
     call, answered, address, waits = 0, "", 0x8000_0000, 0
     for line, reply, after, then in PIECES:
@@ -647,7 +647,7 @@ def talks():
     yield "# bytes wait, and whether the machine is halted"
     yield from cut_replies()
     yield from cut_lines()
-    yield "# commands | statements | lines => their answers, and the same behind them; what waits in a machine that is halted shows nowhere"
+    yield "# commands | statements | lines => their answers, and the same after them; what waits in a machine that is halted shows nowhere"
     at_first, reply, ticked = (quoted(f"{told}\n") for told in (TICK, STEP, STEP.replace("events 1", "events 2")))
     yield f"commands | {TAKES} | step 1; quit; frob => {reply} quit B1 80000004 0 0"
     yield f"commands | {TAKES} | byte 0x41; step 1; byte 0x42; tick 2; mem 0 1 => {at_first} {reply} {reply} {ticked} B3 80000004 2 0"

@@ -1,6 +1,6 @@
 """Cases of control and status registers, special capability registers, traps and interrupts.
 
-A case is a script: what the registers begin with, and calls. Behind a call stands what it is to answer.
+A case is a script: what the registers begin with, and calls. After a call stands what it is to answer.
 """
 
 from bounds_vectors import SPACE, UNSEALED
@@ -219,7 +219,7 @@ def entry(cause):
 
 
 def vectored():
-    yield "# where MTCC's low bits are 1 an interrupt goes 4 bytes a number behind the base, and an exception to it"
+    yield "# where MTCC's low bits are 1 an interrupt goes 4 bytes a number past the base, and an exception to it"
     for otype in (UNSEALED, SENTRY):
         mtcc = root(0x80000101, otype)
         for cause, place in ((TIMER, 0x8000011C), (EXTERNAL, 0x8000012C), (7, 0x80000100), (11, 0x80000100), (28, 0x80000100)):

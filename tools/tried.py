@@ -4,7 +4,7 @@
     python3 tools/tried.py [PROGRAM]
 
 PROGRAM is the proved program, as the gate leaves it: crates/cherisim/out/cherisim. A block marked ```console has lines `$ COMMAND`,
-each with what the command prints behind it, on standard output and standard error. Lines `> ` directly behind a command go on with it.
+each with what the command prints after it, on standard output and standard error. Lines `> ` directly after a command go on with it.
 A page's commands run one after the other in a folder of their own, which has a copy of examples/ and the program, as `cherisim` and as
 `./cherisim`. What they print has to be what stands there, word for word; a command that prints nothing has to end with 0.
 docs/COMPILED.md needs a compiler, and is tried by tools/compiled.py.

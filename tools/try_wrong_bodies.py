@@ -88,7 +88,7 @@ class Edit:
 
 
 def impl_name(head):
-    """How a report names the methods of an impl: by the type, and by the trait with its arguments behind it."""
+    """How a report names the methods of an impl: by the type, and by the trait with its arguments after it."""
     head = re.sub(r"^(?:unsafe )?impl(?:<[^{]*?>)?(?= )", "", head).partition("{")[0].partition(" where ")[0].strip()
     trait, _, kind = head.rpartition(" for ")
     name = re.match(r"(?:\w+::)*(\w+)", kind.strip())[1]

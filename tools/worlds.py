@@ -7,7 +7,7 @@ Each program narrows PCC and DDC, jumps to code that nobody trusts, and runs it 
 
 from programs.items import BOTH, CHERI, ENTRY, EXECUTE, LOAD_CAPABILITY, UNSEALED
 
-HEAD = ("# mode | statements | what the first world has behind them | what the second has | events and queries => answers, both where they "
+HEAD = ("# mode | statements | what the first world has after them | what the second has | events and queries => answers, both where they "
         "differ")
 
 # Access_System_Registers.
@@ -23,7 +23,7 @@ LENGTH, ACCESS = 1, 0x18
 # The register of a fault at the first load or store, by mode: DDC, or a0.
 THROUGH = {0: 33, 1: 10}
 
-# Loads a byte that is shared, sends it, loads eight more, and then the byte behind DDC's bounds.
+# Loads a byte that is shared, sends it, loads eight more, and then the byte past DDC's bounds.
 LOADS = ["lbu a2, 0(a0)", "sb.cap a2, (ca1)", "ld a3, 8(a0)", "lbu a4, 16(a0)"]
 
 
@@ -67,12 +67,12 @@ def line(mode, program, one, two, deeds):
 
 
 def trapped(mode):
-    """mcause and mtval behind a load beyond the authority's bounds."""
+    """mcause and mtval after a load beyond the authority's bounds."""
     return f"{CHERI:x} {THROUGH[mode] << 5 | LENGTH:x}"
 
 
 def hidden_memory():
-    yield "# RAM that no reachable capability covers differs: the bytes behind DDC's bounds, and a place far from them"
+    yield "# RAM that no reachable capability covers differs: the bytes past DDC's bounds, and a place far from them"
     for mode in BOTH:
         one, two = (shared(".dword 0x42", ".dword 0x1122334455667788", f".dword 0x5ec4e70{n}", f".org {SHARED + 0x100:#x}", f".dword {n}")
                     for n in (1, 2))
@@ -110,13 +110,13 @@ def other_mtcc(place):
         f"addi t2, t2, {PRELUDE - ENTRY:#x}", "sw.ddc zero, (t2)", "addi t2, zero, 0"])
 
 
-# The worlds in which MTCC alone differs, behind 31 steps, and what shows it.
+# The worlds in which MTCC alone differs, after 31 steps, and what shows it.
 MTCC = (other_mtcc(0x100), other_mtcc(0x204))
 SEEN = [(f"word {PRELUDE:x}", "0"), ("address mtcc", "100 / 204")]
 
 
 def hidden_register():
-    yield "# MTCC alone differs, and nothing reachable opens it: so do PCC behind the trap that ends the stretch, and nothing before"
+    yield "# MTCC alone differs, and nothing reachable opens it: so do PCC after the trap that ends the stretch, and nothing before"
     for mode in BOTH:
         yield line(mode, entered(narrowed()) + code(LOADS), *MTCC, [
             "steps 31", *SEEN, ("stretch stsbssss", "5 trap"), ("sent", "42"), ("ends", "trap"), ("address pcc", f"{CODE + 12:x}"),

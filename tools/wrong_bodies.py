@@ -1,7 +1,7 @@
 """Wrong bodies (crates/*/must-fail/*.edit) that are as long as what they replace.
 
 The prover keeps the proof of a function whose text stands where it stood. A wrong body that is longer or shorter than the right one moves
-all that stands behind it in its file, which is then proved again beside the search that must fail: 30 seconds in place of 12. So a shorter
+all that stands after it in its file, which is then proved again beside the search that must fail: 30 seconds in place of 12. So a shorter
 one ends in blanks, and of a longer one the line is indented less, or the nearest comment gives the characters up.
 
 Without an option every wrong body is made so; with --check those are named that aren't, or whose text isn't in its file once."""
@@ -68,7 +68,7 @@ def cut(comment, surplus):
 
 
 def without_comment(text, pairs, surplus):
-    """The pairs behind one more, in which the nearest comment that is long enough, or several, give the characters up."""
+    """The pairs after one more, in which the nearest comment that is long enough, or several, give the characters up."""
     place, seen, found = text.find(pairs[0][0]), 0, []
     for line in text.split("\n"):
         if line.strip().startswith(COMMENTS) and text.count(line) == 1 and not any(old in line or line in old for old, _ in pairs):

@@ -1,6 +1,6 @@
 # The start of a C program: a stack, main, and the halt register with what main returns.
 #
-# RAM is all zeros behind the program's bytes, so nothing has to be cleared for variables that begin as 0.
+# RAM is all zeros after the program's bytes, so nothing has to be cleared for variables that begin as 0.
 
         .section .text.start
         .globl  _start

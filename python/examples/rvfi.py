@@ -62,7 +62,7 @@ def fetched(machine):
 
 
 def of_memory(machine, text, before, after):
-    """The fields of memory, behind a step that did not trap. What a load of a device register gave stands in rd."""
+    """The fields of memory, after a step that did not trap. What a load of a device register gave stands in rd."""
     fields, found = dict.fromkeys(("mem_addr", "mem_rmask", "mem_wmask", "mem_rdata", "mem_wdata"), 0), access(text, before)
     if not found:
         return fields

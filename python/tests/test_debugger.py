@@ -198,7 +198,7 @@ class AgainstTheDebugger(unittest.TestCase):
             for line in shown.answer(command):
                 came = next(lines, "nothing")
                 if came != line:
-                    self.fail(f"program {number}, behind step {steps}, {command}:\nthe debugger shows {came}\nthe library gives  {line}")
+                    self.fail(f"program {number}, after step {steps}, {command}:\nthe debugger shows {came}\nthe library gives  {line}")
         self.assertIsNone(next(lines, None))
 
 

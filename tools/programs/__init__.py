@@ -1,4 +1,4 @@
-"""Cases over programs: what the whole machine shows behind statements of assembly. Values are the architecture's, worked out by hand."""
+"""Cases over programs: what the whole machine shows after statements of assembly. Values are the architecture's, worked out by hand."""
 
 from . import derivations, integers, invocations, jumps, loads, machines, memory, opened, stretches, system, traps
 from .items import BOTH, ENTRY, NULL, at, bits, csr, line, together

@@ -8,7 +8,7 @@ functions that give one where the program's end is known.
 # Where RAM begins, and each program with it.
 ENTRY = 0x8000_0000
 
-# Where data stands, behind each program.
+# Where data stands, after each program.
 DATA = 0x8000_0800
 
 # The end of the address space.
@@ -60,7 +60,7 @@ def put(register, value):
 
 
 def shaped(register, permissions, length, offset):
-    """Makes of DDC, which is root, a capability with these permissions, of so many bytes from DATA on. Its address lies so far behind
+    """Makes of DDC, which is root, a capability with these permissions, of so many bytes from DATA on. Its address lies so far past
     its base. Uses t5."""
     c = "c" + register
     return (number("t5", DATA) + [f"cspecialrw {c}, ddc, cnull", f"csetaddr {c}, {c}, t5"]
@@ -121,7 +121,7 @@ def capability(name, base, top, address, permissions, flag, otype):
 
 
 def link(register, flag):
-    """A register holds a sentry of root behind the program's last word, with this flag."""
+    """A register holds a sentry of root after the program's last word, with this flag."""
     return lambda end: capability(register, 0, END, end, 0xffff, flag, SENTRY)
 
 
@@ -223,14 +223,14 @@ def line(mode, texts, deeds):
 
 
 def program_line(mode, items, seen):
-    """A case of a program and of what is to be seen behind it."""
+    """A case of a program and of what is to be seen after it."""
     texts, events = statements(items)
     end = ENTRY + 4 * len(texts)
     return line(mode, texts, together(events) + [pair(end) if callable(pair) else pair for pair in seen])
 
 
 class Table:
-    """Programs and what is to be seen behind them: in each mode, each line's beginning before each row."""
+    """Programs and what is to be seen after them: in each mode, each line's beginning before each row."""
 
     def __init__(self, name, modes, rows, lines):
         self.name, self.modes, self.rows, self.lines = name, modes, rows, lines

@@ -5,7 +5,7 @@ from .items import (
     came_from, capability, csr, fields, integer, link, narrowed, number, same, sealed, shaped, trap,
 )
 
-# -1 in a0, 1 in a1, and a word behind which a branch stands at 0x8000_000c.
+# -1 in a0, 1 in a1, and a word after which a branch stands at 0x8000_000c.
 ONES = ["addi a0, zero, -1", "addi a1, zero, 1", "nop"]
 
 BRANCHES = [
@@ -255,13 +255,13 @@ FETCHES = [
         ],
     ),
     Table(
-        name="the last word of RAM, and the one behind it",
+        name="the last word of RAM, and the one after it",
         modes=INTEGER,
         rows=[[number("t0", 0x8000_0ffc), "addi a0, zero, 19", "sw a0, 0(t0)", "jalr ra, 0(t0)", "@step"]],
         lines=[([], [DONE, at(0x8000_1000)])],
     ),
     Table(
-        name="behind the last word of RAM",
+        name="after the last word of RAM",
         modes=INTEGER,
         rows=[[number("t0", 0x8000_0ffc), "addi a0, zero, 19", "sw a0, 0(t0)", "jalr ra, 0(t0)", "@step", "@step"]],
         lines=[([], [trap(1, 0x8000_1000), came_from(0x8000_1000)])],

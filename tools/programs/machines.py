@@ -111,7 +111,7 @@ def programs():
                    "sltu a1, zero, a0", "sub a2, zero, a1"],
                ["step", integer("a0", 0x8000_1000), "step", integer("a0", 0x7fff_f004), "steps 7", integer("a0", 2**63 - 1),
                 integer("a1", 1), integer("a2", 2**64 - 1), *traps(0, 0, 0, 9, 9)])
-    yield "# a byte store changes one byte of RAM, behind the program"
+    yield "# a byte store changes one byte of RAM, after the program"
     yield line(0, ["auipc a1, 0x0", "addi a0, zero, 0x41", "sb a0, 16(a1)", ".word 0", ".word 0xffffffff"],
                ["steps 3", ("word 80000010", "ffffff41")])
 
@@ -131,7 +131,7 @@ def faults():
     ]:
         yield line(0, [statement], ["step", sent(b""), *traps(mcause, mtval, ENTRY, 1, 0), at(0),
                                     capability("mepcc", 0, END, ENTRY, 0xffff, False, UNSEALED), "step", *traps(1, 0, 0, 2, 0)])
-    yield "# stores into devices want their sizes: transmit, halt, transmit; then halt, and behind control"
+    yield "# stores into devices want their sizes: transmit, halt, transmit; then halt, and past control"
     for page, store, mcause, mtval in [
         (0x10000, "sd zero, 0(a1)", 0, 0),
         (0x100, "sd zero, 0(a1)", 0, 0),
@@ -157,7 +157,7 @@ def console():
     yield "# a load into register 0 takes its byte too"
     yield prepared("step", "byte 80", "byte ff", "step", integer("zero", 0), waiting(b"\xff"), "step", integer("a0", 0xff), waiting(b""),
                    program=[INTERRUPTS_OFF, "ld zero, 0(a1)", "ld a0, 0(a1)"])
-    yield "# refused accesses leave the devices: a word, misaligned, behind control, receive, status, behind control"
+    yield "# refused accesses leave the devices: a word, misaligned, past control, receive, status, past control"
     for statement, mcause, mtval in [
         ("lw a0, 0(a1)", 5, 0x1000_0008),
         ("ld a0, -4(a1)", 4, 0x1000_0004),
@@ -171,7 +171,7 @@ def console():
 
 
 def timer():
-    yield "# the time is loaded and stored: t1 lies 8 bytes behind mtime"
+    yield "# the time is loaded and stored: t1 lies 8 bytes past mtime"
     yield prepared("step", "tick", "tick", "tick", "steps 2", integer("a0", 3), "steps 2", *numbers(mtime=100), "tick", "step",
                    integer("a0", 101),
                    program=[INTERRUPTS_OFF, "lui t1, 0x200c", "ld a0, -8(t1)", "addi t2, zero, 100", "sd t2, -8(t1)", "ld a0, -8(t1)"])
@@ -226,7 +226,7 @@ def interrupts():
 
 def vectored():
     """Traps with the low bits of MTCC's address 1."""
-    yield "# in vectored mode an interrupt goes 4 bytes a number behind the base, and an exception to it"
+    yield "# in vectored mode an interrupt goes 4 bytes a number past the base, and an exception to it"
     for events, mcause, place, mip in [
         (["byte 41", "tick", "tick"], CONSOLE, HANDLER + 44, 0x880),
         (["tick", "tick"], TIMER, HANDLER + 28, 0x80),
@@ -237,7 +237,7 @@ def vectored():
     yield "# a return goes back, and the next interrupt to its own entry"
     yield prepared("byte 41", "tick", "tick", "step", at(HANDLER + 44), "steps 2", at(ENTRY), integer("a0", 0x41), "step",
                    *standing(TIMER, HANDLER + 28, 0x1880, 0x80), program=[f".org {HANDLER + 44:#x}", *TAKE_BYTE], set_up=VECTORED)
-    yield "# an entry behind the window of MTCC: no tag, and the next trap goes to the base, which is out of its bounds"
+    yield "# an entry past the window of MTCC: no tag, and the next trap goes to the base, which is out of its bounds"
     program = [*number("t0", 0x8000_1000), "cspecialrw ca0, ddc, cnull", "csetaddr ca0, ca0, t0", *number("t0", 4095),
                "csetbounds ca0, ca0, t0", *number("t0", 0x8000_47f1), "csetaddr ca0, ca0, t0", "cspecialrw cnull, mtcc, ca0"]
     yield prepared(f"steps {len(program)}", "byte 41", "step", *numbers(mcause=CONSOLE), fields("pcc", 0x8000_481c, UNSEALED, False),
@@ -272,7 +272,7 @@ def long_run():
 
 
 def sealed_values():
-    """A sealed value is stored from ca1 into the granule behind the program, and loaded into ca2."""
+    """A sealed value is stored from ca1 into the granule after the program, and loaded into ca2."""
     typed = ["cspecialrw ca0, ddc, cnull", "addi t0, zero, 5", "csetaddr ca3, ca0, t0", "cseal ca1, ca0, ca3"]
     entry = ["cspecialrw ca0, ddc, cnull", "csealentry ca1, ca0"]
     yield "# SC keeps the tag of a sealed value: of a type, and of a sentry"

@@ -60,7 +60,7 @@ def outcome(bench, words, text=WATCHES):
         with open(os.path.join(folder, name), "rb") as file:
             behind[name] = file.read()
     shutil.rmtree(folder)
-    return *came, behind
+    return *came, after
 
 
 def named(option, value):
@@ -101,7 +101,7 @@ def lines_to_compare(words, planned):
 
 
 def plan(bench, case):
-    """The words of a command line and, behind ` ? `, what the text of its refusal or its help names."""
+    """The words of a command line and, after ` ? `, what the text of its refusal or its help names."""
     line, _, name = case.inputs.partition(" ? ")
     words = line.split(" ")[1:]
     if case.expected in ("refused", "help"):

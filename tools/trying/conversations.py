@@ -70,7 +70,7 @@ def session(bench, case):
     return case.expected
 
 
-# What shows how many bytes wait, more often than bytes can wait: a step, and what is taken behind it by a program that takes bytes at
+# What shows how many bytes wait, more often than bytes can wait: a step, and what is taken after it by a program that takes bytes at
 # 0x80000004.
 TAKEN = 65 * b"step 1\nuntil 0x80000008 3\nreg a0\n"
 

@@ -1,7 +1,7 @@
 /* Devices that fail at a call, and a list of what is opened and made: a library in front of the C library's calls.
  *
  * DEVICES has a line NAME CALL for each device that fails at the call of that number, from 0: `input`, `output` and `errors`, the file that
- * is made (`made`), and files that are read, by their names behind a slash. Such a device moves a byte a call; the call that fails answers
+ * is made (`made`), and files that are read, by their names after a slash. Such a device moves a byte a call; the call that fails answers
  * EPIPE, of a file that is made it takes no byte, and the next one works again. One file can be made, and none where a line is `full`.
  * The list, ` open NAME` and ` make NAME`, goes to the descriptor in OPENED. It needs no header, as a compiler alone may have none. */
 extern void *dlsym(void *, const char *);

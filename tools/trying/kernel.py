@@ -15,7 +15,7 @@ HEADING = re.compile(r"^# ---- ([ab]-\w+): .*\n", re.MULTILINE)
 
 
 def kernel_and_pieces():
-    """The kernel, and the pieces of compartments behind it by their names: those of the example, and each other text."""
+    """The kernel, and the pieces of compartments after it by their names: those of the example, and each other text."""
     with open(KERNEL, encoding="utf-8") as example:
         kernel, *named = HEADING.split(example.read())
     pieces = dict(zip(named[::2], named[1::2]))

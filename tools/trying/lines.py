@@ -20,7 +20,7 @@ ESCAPES = {"n": "\n", "0": "\0", "\\": "\\", '"': '"'}
 AWAY = re.compile(rb"A6 target out of range: (-?\d+) bytes away")
 NOT_EXACT = re.compile(rb"A11 capability not exact: from 0x([0-9a-f]{16}) on, (\d+) bytes")
 # Lines that set what is set once, and before anything is placed or .entry is set; and a jump over another line to a place that is too far
-# behind it.
+# after it.
 SETTINGS = {"pages": b".pages 1\n", "mode": b".mode 0\n", "entry": b".entry 0x80000000\n"}
 BEFORE, FAR_BEHIND, AROUND = b"j z\n.align 4\n", b"\n.zero 1048576" + BEHIND, 16 + 1048576
 
@@ -124,7 +124,7 @@ def ascii_text(bench, line, meaning):
 
 
 def expressions(meaning):
-    """The values of the expressions that stand in quotes behind a kind."""
+    """The values of the expressions that stand in quotes after a kind."""
     return [number_of(item) for item in unquoted(meaning.partition(" ")[2])[0].decode().split(",")]
 
 
@@ -159,7 +159,7 @@ MEANINGS = {
 
 
 def left_by(bench, line, fault):
-    """What a line with a fault leaves, by faults of lines: `sets` and the first setting behind which it is A2, though its number is A3; or
+    """What a line with a fault leaves, by faults of lines: `sets` and the first setting after which it is A2, though its number is A3; or
     `takes` and how many bytes, which a jump over it tells; or `-`."""
     for name, before in SETTINGS.items():
         if fault == "A3" and fault_in(bench, before + line).code() == "A2":

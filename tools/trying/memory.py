@@ -98,7 +98,7 @@ def planes_of(machine):
 
 
 def script(bench, case):
-    """A number of pages, answered by how many there are or the fault; or that and, behind `;`, calls."""
+    """A number of pages, answered by how many there are or the fault; or that and, after `;`, calls."""
     pages, *calls = case.inputs.split(";")
     try:
         memory = Memory(bench, int(pages, 16))

@@ -29,7 +29,7 @@ draft_without (s ∷ ss) d = refl
 pub fault_without : (slots : List Slot) (i : ℕ) (z : Slot) (d : Draft) → i < length slots → filled_fault (drop i slots) [] d ≡ Some A2
 fault_without slots i z d h = rw (drop_more slots i z h) refl
 
--- an operand without a slot: there is one behind a comma, whatever it is
+-- an operand without a slot: there is one after a comma, whatever it is
 first_onto : (x : ℕ) (parts : List (List ℕ)) (d : Draft) → filled_fault [] (map trimmed (onto_first x parts)) d ≡ Some A2
 first_onto x [] d = refl
 first_onto x (part ∷ parts) d = refl

@@ -136,7 +136,7 @@ abbrev pub page_range : Result ℤ LineFault → Result ℤ LineFault
 page_range (Ok n) = if int_lt n (pos 1) || int_lt (pos most_pages) n then Err A3 else Ok n
 page_range (Err fault) = Err fault
 
--- .pages, .mode and .org, by the number behind them
+-- .pages, .mode and .org, by the number after them
 abbrev pub pages_said : Result ℤ LineFault → Said
 pages_said number = number_said (λ n. setting (pages n)) (Some (setting (pages 0))) (page_range number)
 
@@ -204,7 +204,7 @@ is_escape b = (b == 110) || ((b == 48) || ((b == 92) || (b == 34)))
 abbrev pub escaped_byte : ℕ → ℕ
 escaped_byte b = if b == 110 then 10 else (if b == 48 then 0 else b)
 
--- behind the opening quote, the first quote that is not escaped ends the text, and each escape is one that there is
+-- after the opening quote, the first quote that is not escaped ends the text, and each escape is one that there is
 abbrev pub closes_from : Bool → List ℕ → Bool
 closes_from behind [] = false
 closes_from false (b ∷ bs) = if b == 34 then length bs == 0 else (if b == 92 then closes_from true bs else closes_from false bs)

@@ -23,7 +23,7 @@ pub(crate) enum Quoting {
     Outside,
     /// Inside quotes.
     Inside,
-    /// Inside quotes and behind a backslash.
+    /// Inside quotes and after a backslash.
     Escaped,
 }
 

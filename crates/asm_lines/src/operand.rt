@@ -145,7 +145,7 @@ fn before_bracket(text: &[u8]) -> &[u8]
     trimmed(before(text, Class::Not(b'(')))
 }
 
-/// What stands behind the `(`, but for the last byte.
+/// What stands after the `(`, but for the last byte.
 fn in_brackets(text: &[u8]) -> &[u8]
     ensures { result.now ≡ in_brackets text.now }
 {

@@ -66,7 +66,7 @@ pub enum Directive {
 #[derive(Clone, Copy, Debug, PartialEq, Eq)]
 pub struct Data<'a> {
     pub directive: Directive,
-    /// The number behind `.align` (0 to 12) and `.zero` (0 to 268435456); 0 behind another directive.
+    /// The number after `.align` (0 to 12) and `.zero` (0 to 268435456); 0 after another directive.
     pub number: u64,
     /// The operands of a directive that has no number; of a text, what stands between the quotes, with its escapes.
     pub text: &'a [u8],

@@ -2,7 +2,7 @@
 ghost use Rattle.std.specs.Prelude.{◌≡◌, ◌<◌, IsTrue, false, length};
 ghost use Rattle.asm_lines.specs.Statement.{is_escape, closes_from};
 
-/// Whether a byte behind a backslash is one of the escapes `\n`, `\0`, `\\` and `\"`.
+/// Whether a byte after a backslash is one of the escapes `\n`, `\0`, `\\` and `\"`.
 fn is_escape(byte: u8) -> bool
     ensures { result ≡ is_escape byte }
 {

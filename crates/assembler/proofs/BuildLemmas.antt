@@ -110,7 +110,7 @@ good-entry count (Some v) h g = and-second _ _ (not-false (is_entry count v) g)
 
 -- ---- what a statement without a fault leaves
 
--- the place and the labels behind a line
+-- the place and the labels after a line
 abbrev at-place : Assembled → ℕ → Symbols → Assembled
 at-place s end symbols = record s { places = record { place = end; symbols = symbols } }
 
@@ -237,7 +237,7 @@ put_there symbols s (read.Data d) b f = put-data symbols s d.directive d.number 
 
 -- ---- what bytes leave
 
--- the capabilities behind a statement
+-- the capabilities after a statement
 record AreKept (s : Assembled) (bytes : List ℕ) (capabilities : List CapEntry) : Type 0 where
   ascending : AreAscending (page_count s) 0 capabilities
   held : AreHeld (closed s.done (filled s.current bytes)) capabilities

@@ -87,7 +87,7 @@ not-met p a n e = grind (arith, nat_tests)
 neither-met : (a b : Bool) → a ≡ false → b ≡ false → (a || b) ≡ false
 neither-met a b h g = cc
 
--- what stands behind the last section and in no other lies in none
+-- what stands after the last section and in no other lies in none
 pub free-behind : (p : ℕ) (done : List Section) (s : Section) → p ≡ s.address + length s.bytes → is_taken p (p + 16) done ≡ false
     → is_taken p (p + 16) (closed done s) ≡ false
 free-behind p done s e h =

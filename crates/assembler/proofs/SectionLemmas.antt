@@ -93,7 +93,7 @@ taken-joined a b c (t ∷ ts) h g f p q =
     let y = or-false _ _ q in
     false-or _ _ (joined-one a b c t.address (length t.bytes) h g f.0 x.0 y.0) (taken-joined a b c ts h g f.1 x.1 y.1)
 
--- Bytes behind those of a section, whose place is free, leave it room.
+-- Bytes after those of a section, whose place is free, leave it room.
 pub record IsFree (pages : ℕ) (done : List Section) (s : Section) (place n : ℕ) : Type 0 where
   pub above : ram_base ≤ place
   pub below : place + n ≤ ram_end pages

@@ -30,7 +30,7 @@ line_fault-new symbols s l h =
     let all : EachHolds (line_checks symbols s l) = first_fault-none (line_checks symbols s l) h in
     not-true (is_repeated s l.label) all.1.1.0
 
--- a value stays whatever labels are added behind
+-- a value stays whatever labels are added after
 value-kept : (xs ys : Symbols) (name : List ℕ) (v : ℕ) → value_in xs name ≡ Some v → value_in (xs ++ ys) name ≡ Some v
 value-kept [] ys name v h = absurd cc
 value-kept (x ∷ xs) ys name v h =
@@ -40,7 +40,7 @@ value-kept (x ∷ xs) ys name v h =
       | false ↦ λ e. value-kept xs ys name v e
     ] h
 
--- a name that has no value has that of the label behind
+-- a name that has no value has that of the label after
 value-added : (xs : Symbols) (name : List ℕ) (v : ℕ) → is_some (value_in xs name) ≡ false
     → value_in (xs ++ (name, v) ∷ []) name ≡ Some v
 value-added [] name v h = ap (λ b. if b then Some v else None) (same-name name)

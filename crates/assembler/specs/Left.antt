@@ -1,4 +1,4 @@
--- What is left of a text, behind the line feed of the line that was read last.
+-- What is left of a text, after the line feed of the line that was read last.
 use Rattle.std.specs.Prelude.{◌≡◌, ◌⊎◌, ℕ, ◌+◌, List, [], length, Option, Some, None}
 use Rattle.std.specs.Borrow.{Bor}
 use Rattle.asm_lines.specs.Line.{Line}

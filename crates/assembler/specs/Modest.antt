@@ -18,6 +18,6 @@ is_modest_or_none (Some s) = is_modest s
 abbrev pub is_modest_line : Line → Bool
 is_modest_line l = is_modest_or_none l.statement
 
--- where such a statement ends: not far behind the place where it stands, or where it says
+-- where such a statement ends: not far after the place where it stands, or where it says
 abbrev pub IsNear : ℕ → ℕ → Type 0
 IsNear place end = (end ≤ place + 2 ^ 28) ⊎ (end < 2 ^ 64)

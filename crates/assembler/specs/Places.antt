@@ -10,7 +10,7 @@ use Rattle.asm_lines.specs.declared.parsed.Directive.TheVariants.{Align, Zero, V
 use Rattle.asm_lines.specs.Statement.{Statement, instruction, setting, origin, contents, Instruction, row, load, Data, item, text_bytes}
 use Rattle.asm_lines.specs.Line.{Line, line_meaning}
 
--- the lines of a text: what stands between line feeds (behind the last one an empty line, which says nothing)
+-- the lines of a text: what stands between line feeds (after the last one an empty line, which says nothing)
 abbrev pub lines_of : List ℕ → List Line
 lines_of bytes = map line_meaning (slice_split (λ b. b == 10) bytes)
 

@@ -73,7 +73,7 @@ impl Block {
         self.bytes.len()
     }
 
-    /// Places the bytes of a statement that has no fault behind its last.
+    /// Places the bytes of a statement that has no fault after its last.
     pub(crate) fn fill(
         &mut self,
         labels: &Labels,

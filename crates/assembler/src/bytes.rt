@@ -144,7 +144,7 @@ fn upper_immediate(distance: i128) -> u64
     sign_extended(wrapped(upper_part(distance)) % 0x10_0000 * 0x1000)
 }
 
-/// The immediate of the instruction behind auipc for a distance.
+/// The immediate of the instruction after auipc for a distance.
 fn lower_immediate(distance: i128) -> u64
     requires low { neg_ℤ (pos (2 ^ 101)) <ℤ distance }
     requires high { distance <ℤ pos (2 ^ 101) }
@@ -257,7 +257,7 @@ fn push_values(
     Ok(())
 }
 
-/// The byte that stands behind a backslash for another.
+/// The byte that stands after a backslash for another.
 fn escaped(byte: u8) -> u8
     ensures { result ≡ escaped_byte byte }
 {

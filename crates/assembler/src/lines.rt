@@ -12,7 +12,7 @@ ghost use Rattle.std.specs.Option.{option_map_or};
 
 use asm_lines::{Parsed, parse_line};
 
-/// What stands before the first line feed, and what stands behind it, if there is one.
+/// What stands before the first line feed, and what stands after it, if there is one.
 fn split_line(text: &[u8]) -> (&[u8], Option<&[u8]>)
     ensures split { slice_split (λ b. b == 10) text.now ≡ result.0.now ∷ option_map_or
         (λ rest. slice_split (λ b. b == 10) rest.now) result.1 [] }
@@ -37,7 +37,7 @@ pub(crate) fn read(line: &[u8]) -> Parsed<'_>
     parse_line(line)
 }
 
-/// What the first line says, and what stands behind its line feed, if there is one.
+/// What the first line says, and what stands after its line feed, if there is one.
 pub(crate) fn next_line(text: &[u8]) -> (Parsed<'_>, Option<&[u8]>)
     ensures lines { lines_of text.now ≡ seen_line result.0 ∷ lines_left result.1 }
     ensures modest { IsTrue (is_modest_line (seen_line result.0)) }

@@ -25,8 +25,8 @@ pub record IsHeldAt (m : Memory) (granule : ℕ) (v : CapValue) : Type 0 where
   pub tagged : has_tag m granule ≡ true
   pub value : v ≡ value_of (word_at m granule) true
 
--- Reachable are the tagged roots; behind a reachable value that opens the system, the tagged special registers, since code may jump to
--- that value; and behind a reachable value that opens a granule, what the granule holds.
+-- Reachable are the tagged roots; through a reachable value that opens the system, the tagged special registers, since code may jump to
+-- that value; and through a reachable value that opens a granule, what the granule holds.
 pub data IsReachable (s : State) : CapValue → Type 0 where
   from_root : {v : CapValue} → is_tagged v ≡ true → IsRoot s v → IsReachable s v
   from_special : {c v : CapValue} → IsReachable s c → OpensSystem c → is_tagged v ≡ true → IsSpecial s v → IsReachable s v

@@ -1,4 +1,4 @@
--- Agreeing states step alike: the same outcome, the same byte, and behind a plain event they agree again. One line an effect.
+-- Agreeing states step alike: the same outcome, the same byte, and after a plain event they agree again. One line an effect.
 use Rattle.std.proofs.Common.{◌≡◌, ℕ, ◌+◌, ◌-◌, ◌%◌, ◌^◌, ◌<◌, ◌≤◌, Bool, true, eqb, not, ◌&&◌, cond, List, length}
 use Rattle.std.proofs.Common.{Option, None, Some, refl, sym, ap, subst, ◌∙◌, ◌⊎◌, inl, inr, arith}
 use Rattle.std.specs.Prelude.{slice_index}

@@ -14,7 +14,7 @@ ghost use Rattle.authority.specs.Authority.{Not, NoNewRights, NewSealsAllowed, I
 ghost use Rattle.authority.specs.Worlds.{IsReadable};
 ghost use Rattle.authority.specs.Confined.{IsConfined, Spans};
 
-/// A plain event gives no rights: what is reachable behind it is within the rights of something that was reachable before, and a seal
+/// A plain event gives no rights: what is reachable after it is within the rights of something that was reachable before, and a seal
 /// that is new there is a sentry's, or one that a reachable capability may put on.
 pub fn plain_events_give_no_rights()
     ensures rights { (s : State) → IsState s → (e : Event) → outcome e s ≡ Plain → NoNewRights s (after e s) }

@@ -79,7 +79,7 @@ pub fn numbers_of_object_types()
     ensures reserved { FIRST_RESERVED ≡ 0x3fffc }
 {}
 
-/// Where RAM lies, and how large it can be (profile).
+/// Where RAM lies, and how large it can be.
 pub fn numbers_of_ram()
     ensures base { BASE ≡ 0x80000000 }
     ensures page { PAGE_BYTES ≡ 4096 }
@@ -101,7 +101,7 @@ pub fn numbers_of_causes()
     ensures cheri { number_of cause.Cheri ≡ 0x1c }
 {}
 
-/// What a capability forbids by its number in mtval (UCAM-CL-TR-987, capability exception codes; profile).
+/// What a capability forbids by its number in mtval (UCAM-CL-TR-987, capability exception codes).
 pub fn numbers_of_cheri_causes()
     ensures length { cheri_number_of cheri_cause.Length ≡ 1 }
     ensures tag { cheri_number_of cheri_cause.Tag ≡ 2 }

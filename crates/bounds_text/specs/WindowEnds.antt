@@ -17,7 +17,7 @@ window_first e base = if nat_le 50 e then 0 else (base / step_of e * step_of e +
 unfoldable pub window_last : ℕ → ℕ → ℕ
 window_last e base = (window_first e base + window_size e - 1) % 2 ^ 64
 
--- how far an address lies behind the window's first one, going round
+-- how far an address lies past the window's first one, going round
 unfoldable pub window_place : ℕ → ℕ → ℕ → ℕ
 window_place e base address = (address + 2 ^ 64 - window_first e base) % 2 ^ 64
 

@@ -61,7 +61,7 @@ column-bounds e narrow =
     let most : e + 8 ≤ 58 = omega arith in
     (pow_mono least, pow_mono most)
 
--- the last one lies so many behind the first, less one
+-- the last one lies so many past the first, less one
 window_place-last : (e base : ℕ) → window_place e base (window_last e base) ≡ window_size e - 1
 unfolding window_place window_last
 window_place-last e base = omega (arith, window_first-below e base, window_size-some e, window_size-fits e)

@@ -19,7 +19,7 @@ use crate::text::{Text, put_hex};
 use crate::window::Window;
 use cap_bounds::CapRep;
 
-/// Puts the lines of every request behind a text.
+/// Appends the lines of every request to a text.
 #[tactic(auto, unfolding(crate::specs::BoundsText::rounding_lines))]
 fn put_rounding<C: CapRep>(
     text: &mut Text,
@@ -77,7 +77,7 @@ fn standing<C: CapRep>(
     }
 }
 
-/// Puts the line of an address behind a text, where one is asked for.
+/// Appends the line of an address to a text, where one is asked for.
 fn put_address<C: CapRep>(
     text: &mut Text,
     base: u64,
@@ -125,7 +125,7 @@ fn span(base: u64, length: u64, low: u64, top: u128, window: Window) -> Span
     }
 }
 
-/// Puts the lines of a capability's window behind a text.
+/// Appends the lines of a capability's window to a text.
 #[tactic(auto, unfolding(crate::specs::BoundsText::window_lines), using(crate::specs::SetLaws::top_whole))]
 fn put_window_lines<C: CapRep>(
     text: &mut Text,

@@ -12,7 +12,7 @@ use crate::text::{Text, put_decimal, put_hex};
 use cap_bounds::CapRep;
 use cap_format::CapWord;
 
-/// Puts a line of a name and two numbers in 16 and `width` digits behind a text.
+/// Appends a line of a name and two numbers in 16 and `width` digits to a text.
 pub(crate) fn put_pair(text: &mut Text, name: &str, first: u128, width: usize, second: u128)
     requires width { width ≤ 17 }
     requires name { length name.now ≤ 20 }
@@ -27,7 +27,7 @@ pub(crate) fn put_pair(text: &mut Text, name: &str, first: u128, width: usize, s
     text.push_str("\n");
 }
 
-/// Puts a line of a name and a number in 16 digits behind a text.
+/// Appends a line of a name and a number in 16 digits to a text.
 fn put_number(text: &mut Text, name: &str, n: u64)
     requires name { length name.now ≤ 20 }
     requires room { array_string_len text.old + 80 ≤ 1040 }

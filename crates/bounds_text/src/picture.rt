@@ -39,7 +39,7 @@ fn mark(span: Span, column: u64) -> &'static str
     }
 }
 
-/// Puts the columns behind a text.
+/// Appends the columns to a text.
 #[tactic(auto, unfolding(crate::specs::Picture::picture))]
 pub(crate) fn put_picture(text: &mut Text, span: Span)
     requires { array_string_len text.old + 64 ≤ 1040 }

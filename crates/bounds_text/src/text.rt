@@ -1,4 +1,4 @@
-//! A text of lines that takes no memory, and numbers put behind it.
+//! A text of lines that takes no memory, and numbers appended to it.
 
 ghost use Rattle.std.specs.Prelude.{◌≡◌, ◌+◌, ◌<◌, ◌≤◌, ◌++◌, length, decimal};
 ghost use Rattle.arrayvec.specs.ArrayString.{array_string_len};
@@ -11,7 +11,7 @@ use itoa::Buffer;
 /// The text: 13 lines of at most 80 bytes.
 pub type Text = ArrayString<1040>;
 
-/// Puts the lowest `width` hexadecimal digits of a number, at most 17, behind a text.
+/// Appends the lowest `width` hexadecimal digits of a number, at most 17, to a text.
 pub(crate) fn put_hex(text: &mut Text, width: usize, n: u128)
     requires width { width ≤ 17 }
     requires room { array_string_len text.old + width ≤ 1040 }
@@ -21,7 +21,7 @@ pub(crate) fn put_hex(text: &mut Text, width: usize, n: u128)
     text.push_str(hex_digits(n, width).as_str());
 }
 
-/// Puts a number in decimal behind a text: 20 digits at most.
+/// Appends a number in decimal to a text: 20 digits at most.
 pub(crate) fn put_decimal(text: &mut Text, n: u64)
     requires { array_string_len text.old + 20 ≤ 1040 }
     ensures bytes { text.new.bytes ≡ text.old.bytes ++ decimal n }

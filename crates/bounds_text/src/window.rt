@@ -58,7 +58,7 @@ impl Window {
         }
     }
 
-    /// How far an address lies behind the window's first one, going round.
+    /// How far an address lies past the window's first one, going round.
     pub fn place(self, address: u64) -> u64
         ensures { result ≡ (address + 2 ^ 64 - self.first) % 2 ^ 64 }
     {

@@ -12,7 +12,7 @@ use Rattle.cap_bounds.specs.WindowLaws.{base_at-congruent, distance_of-place, di
 use Rattle.cap_bounds.specs.WindowLaws.{start-holds_base}
 use Rattle.cap_bounds.specs.PowerLaws.{window-steps, space-windows, window_fits, mantissa-steps, rest_below_step}
 
--- how far the base of a mantissa lies behind a step
+-- how far the base of a mantissa lies past a step
 abbrev rest_of : ℕ → ℕ → ℕ
 rest_of e b = b % 2048 * 2 ^ e
 
@@ -79,7 +79,7 @@ decoded_base-below e b address =
     (λ n. n < 2 ^ 64)
     (λ _. mod-lt _ (omega arith)) (λ _. mod-lt _ (omega arith))
 
--- up to exponent 50 the top is the length behind the base
+-- up to exponent 50 the top is the length past the base
 pub decoded_top-low : (e b l address : ℕ) → e ≤ 50 → decoded_top e b l address ≡ decoded_base e b address + l * 2 ^ e
 unfolding decoded_top
 decoded_top-low e b l address low = cond-true _ _ _ (le-leb e 50 low)
@@ -117,7 +117,7 @@ is_in_window-own e b address mantissa = elim (cases_lt e 50) [
   | inr wide ↦ or_left _ _ (le-leb 50 e wide)
 ]
 
--- a base of p units lies behind step p / 2048
+-- a base of p units lies past step p / 2048
 div-step : (e p : ℕ) → p * 2 ^ e / step_of e ≡ p / 2048
 div-step e p = rw (mantissa-steps e p) (div-mul-add (p / 2048) (step_of e) (rest_of e p) (rest_below_step e p))
 

@@ -8,7 +8,7 @@ use Rattle.cap_bounds.specs.ExponentLaws.{exponent_for-holds}
 use Rattle.cap_bounds.specs.PowerLaws.{window_fits}
 use Rattle.cap_bounds.specs.RemainderLaws.{mod-is}
 
--- addresses less than half a window behind the base, round the end of the address space too
+-- addresses less than half a window past the base, round the end of the address space too
 pub is_in_window-behind : (e base address : ℕ) → base < 2 ^ 64 → address < 2 ^ 64 → (address + (2 ^ 64 - base)) % 2 ^ 64 < 2 ^ (e + 13)
     → is_in_window e base address ≡ true
 unfolding is_in_window

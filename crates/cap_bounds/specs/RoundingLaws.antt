@@ -15,7 +15,7 @@ use Rattle.cap_bounds.specs.SetBounds.{BoundsStayInsideTheAuthority}
 granules_up_to-holds : (g n : ℕ) → 0 < g → n ≤ granules_up_to g n * g
 granules_up_to-holds g n positive = omega arith
 
--- and end less than a granule behind it
+-- and end less than a granule past it
 granules_up_to-near : (g n : ℕ) → 0 < g → granules_up_to g n * g < n + g
 granules_up_to-near g n positive = omega arith
 

@@ -12,11 +12,11 @@ use Rattle.cap_bounds.specs.Mantissa.{exponent_of, base_mantissa, length_mantiss
 abbrev pub step_of : ℕ → ℕ
 step_of e = 2 ^ (e + 11)
 
--- how far an address lies behind the beginning of its window, which is b / 2 ^ 11 - 1 steps behind a multiple of eight steps
+-- how far an address lies past the beginning of its window, which is b / 2 ^ 11 - 1 steps past a multiple of eight steps
 unfoldable pub place_in_window : ℕ → ℕ → ℕ → ℕ
 place_in_window e b address = (address + step_of e + (8 - b / 2 ^ 11) * step_of e) % (8 * step_of e)
 
--- The base lies one step and the rest of b behind the beginning of the address's window.
+-- The base lies one step and the rest of b past the beginning of the address's window.
 unfoldable pub decoded_base : ℕ → ℕ → ℕ → ℕ
 decoded_base e b address =
     if nat_le e 50 then (address + 2 ^ 64 - place_in_window e b address + step_of e + b % 2 ^ 11 * 2 ^ e) % 2 ^ 64

@@ -1,18 +1,18 @@
 -- The geometry of windows over plain numbers: an address space N of M windows, each of eight steps s. A window begins one step
--- before a base rounded down to a step, h is the number of that step within eight, and q is how far the base lies behind it.
+-- before a base rounded down to a step, h is the number of that step within eight, and q is how far the base lies past it.
 use Rattle.std.proofs.Common.{◌≡◌, ℕ, ◌+◌, ◌-◌, ◌*◌, ◌/◌, ◌%◌, ◌<◌, ◌≤◌, sym, ap, ◌∙◌, arith}
 use Rattle.std.proofs.Math.Nat.{mod-lt, mod-eq_of_lt}
 use Rattle.cap_bounds.specs.RemainderLaws.{mod-apart, mod-is, multiples_apart}
 
--- how far an address lies behind the beginning of its window
+-- how far an address lies past the beginning of its window
 abbrev pub place_of : ℕ → ℕ → ℕ → ℕ
 place_of s h address = (address + s + (8 - h) * s) % (8 * s)
 
--- the base that a place gives: one step and q behind the beginning of the window
+-- the base that a place gives: one step and q past the beginning of the window
 abbrev pub base_at : ℕ → ℕ → ℕ → ℕ → ℕ → ℕ
 base_at N s q address place = (address + N - place + s + q) % N
 
--- how far an address lies behind the step before the p-th
+-- how far an address lies past the step before the p-th
 abbrev pub distance_of : ℕ → ℕ → ℕ → ℕ → ℕ
 distance_of N s p address = (address + N + s - p * s) % N
 
@@ -28,27 +28,27 @@ mul-eights p s = let e : p ≡ p / 8 * 8 + p % 8 = omega arith in omega (arith, 
 pub place_of-below : (s h address : ℕ) → 0 < s → place_of s h address < 8 * s
 place_of-below s h address positive = mod-lt (address + s + (8 - h) * s) (omega arith)
 
--- a base q behind the p-th step is found again from the distance
+-- a base q past the p-th step is found again from the distance
 pub base_at-distance : (a s p q N : ℕ) → 0 < N → p * s + q < N → base_at N s q a (distance_of N s p a) ≡ p * s + q
 base_at-distance a s p q N positive inside =
     let k : ℕ = (a + N + s - p * s) / N in
     let low : distance_of N s p a < N = mod-lt (a + N + s - p * s) positive in
     mod-is (a + N - distance_of N s p a + s + q) (p * s + q) 0 k N inside (omega arith)
 
--- a place that gives a base q behind the p-th step is the distance
+-- a place that gives a base q past the p-th step is the distance
 pub distance_of-place : (a s p q y N : ℕ) → p * s + q < N → y < N → base_at N s q a y ≡ p * s + q → distance_of N s p a ≡ y
 distance_of-place a s p q y N inside small e =
     let k : ℕ = (a + N - y + s + q) / N in
     mod-is (a + N + s - p * s) y 0 k N small (omega arith)
 
--- the window that begins a place behind an address holds the address
+-- the window that begins a place after an address holds the address
 pub start-holds_address : (a y N : ℕ) → y < N → (a + N - (a + N - y) % N) % N ≡ y
 start-holds_address a y N small =
     let k : ℕ = (a + N - y) / N in
     let low : (a + N - y) % N < N = mod-lt (a + N - y) (omega arith) in
     mod-is (a + N - (a + N - y) % N) y 0 k N small (omega arith)
 
--- it holds the base that the place gives, one step and q behind its beginning
+-- it holds the base that the place gives, one step and q past its beginning
 pub start-holds_base : (a y s q N : ℕ) → y < N → s + q < N → (base_at N s q a y + N - (a + N - y) % N) % N ≡ s + q
 start-holds_base a y s q N small behind =
     let k : ℕ = (a + N - y) / N in
@@ -57,14 +57,14 @@ start-holds_base a y s q N small behind =
     mod-is (base_at N s q a y + N - (a + N - y) % N) (s + q) m (k + 1) N behind (omega arith)
 
 module _ (s M N : ℕ) (space : N ≡ M * (8 * s)) where
-  -- an address within a window behind the step before the p-th has that distance as its place
+  -- an address within a window after the step before the p-th has that distance as its place
   pub place_of-near : (a p : ℕ) → p * s ≤ N → distance_of N s p a < 8 * s → place_of s (p % 8) a ≡ distance_of N s p a
   place_of-near a p inside near =
       let k : ℕ = (a + N + s - p * s) / N in
       mod-is (a + s + (8 - p % 8) * s) (distance_of N s p a) M (p / 8 + 1 + k * M) (8 * s) near
       (omega (arith, ap (λ n. k * n) space, mul-eights p s, mul-rest_of_eight (p % 8) s (omega arith)))
 
-  -- the base that an address's own place gives lies q behind a step
+  -- the base that an address's own place gives lies q past a step
   base_at-mod : (a h q : ℕ) → h ≤ 8 → q < s → 8 * s ≤ N → base_at N s q a (place_of s h a) % s ≡ q
   base_at-mod a h q eighth small fits =
       let y : ℕ = place_of s h a in
@@ -95,7 +95,7 @@ module _ (s M N : ℕ) (space : N ≡ M * (8 * s)) where
       mod-is (a + s + (8 - h) * s) ((a + N - start) % N) (M + i) (k * M + 1 + j) (8 * s) near
       (omega (arith, ap (λ n. k * n) space, mul-rest_of_eight h s eighth))
 
-  -- a congruent base in that window lies one step and q behind its beginning
+  -- a congruent base in that window lies one step and q past its beginning
   base-from_start : (h q base start : ℕ) → h ≤ 8 → q < s → start < N → (start + s) % (8 * s) ≡ h * s % (8 * s)
       → base % (8 * s) ≡ (h * s + q) % (8 * s) → (base + N - start) % N < 8 * s → (base + N - start) % N ≡ s + q
   base-from_start h q base start eighth small inside begins congruent near =
@@ -120,7 +120,7 @@ module _ (s M N : ℕ) (space : N ≡ M * (8 * s)) where
       let m : ℕ = (base + N - start) / N in
       mod-is (a + N - place_of s h a + s + q) base m (k + 1) N fits (omega arith)
 
-  -- the window that begins a place behind its address begins one step before a multiple of eight steps and h
+  -- the window that begins a place after its address begins one step before a multiple of eight steps and h
   pub start-mod : (a h : ℕ) → h ≤ 8 → 0 < s → 8 * s ≤ N → ((a + N - place_of s h a) % N + s) % (8 * s) ≡ h * s % (8 * s)
   start-mod a h eighth positive fits =
       let y : ℕ = place_of s h a in

@@ -85,7 +85,7 @@ pub(crate) fn length_bits(word: CapWord) -> u64
     (top_bits(word) + 16384 - base_bits(word)) % 16384
 }
 
-/// How far the address lies behind the beginning of its window.
+/// How far the address lies past the beginning of its window.
 #[tactic(auto, unfolding(crate::specs::Window::place_in_window))]
 fn place(e: u32, b: u64, address: u64) -> u128
     requires exponent { e ≤ 50 }

@@ -64,7 +64,7 @@ fn tell_target(told: &mut String, words: &mut Words) -> Result<(), AllocError> {
     }
 }
 
-/// What stands before a text's first comma, and what behind it.
+/// What stands before a text's first comma, and what after it.
 fn tell_piece(told: &mut String, text: &[u8]) -> Result<(), AllocError> {
     let (first, rest) = split_piece(text);
     put_quoted(told, first)?;
@@ -90,7 +90,7 @@ fn tell_text(told: &mut String, what: &str, text: &[u8]) -> Result<(), AllocErro
     }
 }
 
-/// The same of a text in quotes, which stands behind the first word.
+/// The same of a text in quotes, which stands after the first word.
 fn tell_quoted(alloc: Global, told: &mut String, inputs: &str) -> Result<(), CaseError> {
     let (what, quoted) = inputs.split_once(' ').ok_or(CaseError::Unreadable)?;
     let (text, _) = unquoted(alloc, quoted)?;
@@ -124,7 +124,7 @@ fn tell_halted(told: &mut String, words: &mut Words) -> Result<(), CaseError> {
     }
 }
 
-/// Tells the answer to what is asked, behind which words or a text in quotes stand.
+/// Tells the answer to what is asked, after which words or a text in quotes stand.
 pub(crate) fn tell(
     alloc: Global,
     told: &mut String,

@@ -6,7 +6,7 @@ use image::{DeviceFailed, FromRead, ImageFault, Sink, Source, ToWrite, read, wri
 use std::alloc::{AllocError, Global};
 use std::io::ErrorKind;
 
-/// Puts an answer of a call of a device: `failed` or a count; and behind it how often a call has failed.
+/// Puts an answer of a call of a device: `failed` or a count; and after it how often a call has failed.
 fn put_call(
     told: &mut String,
     answered: Result<usize, DeviceFailed>,

@@ -76,7 +76,7 @@ fn pairs_agree(c: Both, other: Both) -> bool {
         && agree(unseal(c.record, other.record), unseal(c.word, other.word))
 }
 
-/// A question about a value, and behind it another value, or a number or none: all that can be asked of these is. Others are of no value.
+/// A question about a value, and after it another value, or a number or none: all that can be asked of these is. Others are of no value.
 pub(crate) fn right(words: &mut Words) -> bool {
     match words.word() {
         "type" | "set" | "shown" | "named" | "names" | "granule" | "record" => true,

@@ -12,13 +12,13 @@ fn digit(byte: u8) -> Result<u8, CaseError> {
     }
 }
 
-/// Puts a byte and more bytes behind others.
+/// Appends a byte and more bytes to others.
 fn put(bytes: &mut Vec<u8>, byte: u8, more: &[u8]) -> Result<(), AllocError> {
     bytes.push(byte)?;
     bytes.extend_from_slice(more)
 }
 
-/// Puts what stands behind a backslash, up to the next one, behind other bytes.
+/// Puts what stands after a backslash, up to the next one, after other bytes.
 fn put_piece(bytes: &mut Vec<u8>, piece: &[u8]) -> Result<(), CaseError> {
     match piece {
         [b'n', more @ ..] => put(bytes, b'\n', more)?,
@@ -48,14 +48,14 @@ pub fn unescaped(alloc: Global, text: &str) -> Result<Vec<u8>, CaseError> {
     Ok(bytes)
 }
 
-/// The bytes of a text in quotes, and what stands behind it.
+/// The bytes of a text in quotes, and what stands after it.
 pub fn unquoted<'a>(alloc: Global, text: &'a str) -> Result<(Vec<u8>, &'a str), CaseError> {
     let opened = text.strip_prefix('"').ok_or(CaseError::Unreadable)?;
     let (inner, rest) = opened.split_once('"').ok_or(CaseError::Unreadable)?;
     Ok((unescaped(alloc, inner)?, rest))
 }
 
-/// Puts a byte with its escape behind a text.
+/// Appends a byte with its escape to a text.
 fn put_escaped(text: &mut String, byte: u8) -> Result<(), AllocError> {
     match byte {
         b'\n' => text.push_str("\\n"),
@@ -67,7 +67,7 @@ fn put_escaped(text: &mut String, byte: u8) -> Result<(), AllocError> {
     }
 }
 
-/// Puts bytes in quotes behind a text.
+/// Appends bytes in quotes to a text.
 pub fn put_quoted(text: &mut String, bytes: &[u8]) -> Result<(), AllocError> {
     text.push('"')?;
     for byte in bytes {

@@ -119,7 +119,7 @@ pub record AreDigitsOf (radix : ℕ) (digits : Text) (number : ℕ) : Type 0 whe
   pub value : number ≡ digits_value radix digits
   pub small : number < 2 ^ 64
 
--- hexadecimal digits behind `0x`, or else decimal digits; a sign is neither
+-- hexadecimal digits after `0x`, or else decimal digits; a sign is neither
 abbrev pub is_hexadecimal : Text → Bool
 is_hexadecimal text = starts_with (λ a b. a == b) text (codes "0x")
 

@@ -16,7 +16,7 @@ fn digits_number(digits: &str, radix: u32) -> Option<u64>
     u64::from_str_radix(digits, radix).ok()
 }
 
-/// The number below 2^64 that a word is: hexadecimal digits behind `0x`, or else decimal digits.
+/// The number below 2^64 that a word is: hexadecimal digits after `0x`, or else decimal digits.
 pub(crate) fn written_number(word: &str) -> Option<u64>
     ensures some { IfSome result (IsWrittenNumber word.now) }
     ensures none { IfNone result ((number : ℕ) → IsWrittenNumber word.now number → ⊥) }

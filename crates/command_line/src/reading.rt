@@ -257,7 +257,7 @@ fn fault_of(alloc: Global, error: Error) -> PlanFault
 /// Reads the words of a command line, the program's name first.
 ///
 /// A file that is written may not bear the name of another file of the command; a number of 64 bits is typed in decimal digits,
-/// or in hexadecimal digits behind `0x`. `Help` and `Refused` hold the text for whoever typed the words; `Memory` says that there
+/// or in hexadecimal digits after `0x`. `Help` and `Refused` hold the text for whoever typed the words; `Memory` says that there
 /// was none.
 pub fn plan<'a>(alloc: Global, words: &'a [&'a str]) -> Result<Plan<'a>, PlanFault>
     ensures taken { OnOk result (IsTaken (map (λ word. word.now) words.entry.now)) }

@@ -22,7 +22,7 @@ const FILE: &[u8; 68] = b"CHERIIMG\x01\0\0\0\x01\0\0\0\0\0\0\x80\0\0\0\0\x01\0\0
 const FIRST: &[u8; 20] =
     b"\xb7\x05\0\x10\x13\x05\x10\x04\x23\x80\xa5\0\xb7\x05\x10\0\x23\xb0\x05\0";
 
-/// The same instructions, behind a section that is written last, with labels.
+/// The same instructions, after a section that is written last, with labels.
 const TEXT: &[u8] =
     b".org 0x80000100\nlast: .ascii \"last\"\n.org 0x80000000\nfirst: lui a1, 0x10000\naddi a0, zero, 65\n\
     sb a0, 0(a1)\nlui a1, 0x100\nend: sd zero, 0(a1)\n.org 0x80000080\n.byte 1, 2, 3";

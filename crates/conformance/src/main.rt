@@ -10,7 +10,7 @@ mod tried;
 use std::process::ExitCode;
 use std::{env, io};
 
-/// Whether the first word behind the program's name is `growths`.
+/// Whether the first word after the program's name is `growths`.
 fn asks_for_growths(rt: &HostRuntime) -> io::Result<bool> {
     let mut words = env::args(rt)?;
     words.next();

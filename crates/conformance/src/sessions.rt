@@ -88,7 +88,7 @@ fn stage_of(told: &[u8]) -> Option<Stage> {
 }
 
 /// Holds a conversation from where it was broken off: to its end, where it tells what is left to tell and leaves the state of the other
-/// machine behind the steps that are left; or else answers where it is refused for memory.
+/// machine after the steps that are left; or else answers where it is refused for memory.
 fn held(
     session: &mut Session<WordCap>,
     other: &mut Machine<WordCap>,

@@ -43,7 +43,7 @@ abbrev pub stop_address : Stop → Option ℕ
 stop_address (Address address) = Some address
 stop_address Trap = None
 
--- what `help` answers: the commands with their operands, as lines and as a text with a line feed behind each
+-- what `help` answers: the commands with their operands, as lines and as a text with a line feed after each
 abbrev pub help_lines : List (List ℕ)
 help_lines =
     codes "step N" ∷ codes "tick N" ∷ codes "byte B" ∷ codes "until ADDR N" ∷ codes "trap N" ∷ codes "reg R" ∷ codes "regs"

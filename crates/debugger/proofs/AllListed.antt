@@ -1,4 +1,4 @@
--- What holds of all values of a list holds of the first, and of those behind it.
+-- What holds of all values of a list holds of the first, and of those after it.
 use Rattle.std.proofs.Common.{◌≡◌, ℕ, zero, suc, ◌≤◌, Bool, true, List, [], ◌∷◌, length, get_or, take, drop, refl, arith}
 use Rattle.std.proofs.lemmas.Bool.{and_parts, and_from}
 use Rattle.std.specs.List.{list_all}

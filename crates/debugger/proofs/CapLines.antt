@@ -36,7 +36,7 @@ few_tagged m from to found e =
       length-range_with_len 0 (length m.bytes / 16),
     )
 
--- of a list's first element, and of those behind it
+-- of a list's first element, and of those after it
 pub All-head : {X : Type 0} (P : X → Type 0) (x : X) (xs ys : List X) → ys ≡ x ∷ xs → All P ys → P x
 All-head P x xs ys e all = subst (All P) e all 0 x (omega arith)
 

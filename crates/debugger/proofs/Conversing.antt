@@ -1,4 +1,4 @@
--- Whole lines that do not end a conversation, and the piece behind them.
+-- Whole lines that do not end a conversation, and the piece after them.
 use Rattle.std.proofs.Common.{◌≡◌, ℕ, ◌<◌, Bool, true, false, List, [], ◌∷◌, ◌++◌, All, length, take, Result, Ok, Err, refl, sym, ap, ◌∙◌}
 use Rattle.std.proofs.Common.{append_assoc, append-nil, take_all, arith}
 use Rattle.std.specs.Prelude.{not, ◌&&◌, ◌==◌, nat_lt, if◌then◌else◌}
@@ -95,7 +95,7 @@ pub state_after_more : (lines : List (List ℕ)) (line : List ℕ) (s : SessionS
 state_after_more [] line s = refl
 state_after_more (l ∷ lines) line s = state_after_more lines line (state_after l s)
 
--- ---- pieces behind lines that go on
+-- ---- pieces after lines that go on
 
 module _ (next : List ℕ) (rest : List (List ℕ)) where
   one_reply : (line : List ℕ) (lines : List (List ℕ)) (s : SessionState)
@@ -146,7 +146,7 @@ module _ (next : List ℕ) (rest : List (List ℕ)) where
       (goes_first (is_last line s) _ h)
       ∙ unread_through lines t (goes_later (is_last line s) _ h)
 
--- ---- the piece that ends a conversation, with others behind it
+-- ---- the piece that ends a conversation, with others after it
 
 ends_reply : (line : List ℕ) (pieces : List (List ℕ)) (s : SessionState) → 0 < length pieces → is_last line s ≡ true
     → replies_to (line ∷ pieces) s ≡ reply_to line s

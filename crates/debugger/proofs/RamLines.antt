@@ -1,4 +1,4 @@
--- The lines of bytes and of words are the first line and those behind it.
+-- The lines of bytes and of words are the first line and those after it.
 use Rattle.std.proofs.Common.{◌≡◌, ℕ, zero, suc, ◌+◌, ◌-◌, ◌<◌, ◌≤◌, Bool, List, ◌++◌, length, take, drop, refl, ap, sym, ◌∙◌}
 use Rattle.std.proofs.Common.{append_assoc, arith}
 use Rattle.std.specs.Prelude.{◌==◌, false}

@@ -39,7 +39,7 @@ ends_by (Err fault) s = false
 abbrev pub is_last : List ℕ → SessionState → Bool
 is_last line s = ends_by (command_in line s) s.machine
 
--- The lines of an input: between line feeds; an empty rest behind the last line feed is no line.
+-- The lines of an input: between line feeds; an empty rest after the last line feed is no line.
 abbrev pub replies_to : List (List ℕ) → SessionState → List ℕ
 replies_to [] s = []
 replies_to (line ∷ []) s = if length line == 0 then [] else reply_to line s

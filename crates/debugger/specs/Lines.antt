@@ -32,7 +32,7 @@ number_line name None = []
 abbrev pub csr_line : Csrs → Scrs → ℕ → ℕ → List ℕ
 csr_line c s mip n = number_line (name_or [] (csr_name n)) (csr_value c s mip n)
 
--- a byte behind a space
+-- a byte after a space
 abbrev pub spaced : ℕ → List ℕ
 spaced b = codes " " ++ hex_of 2 b
 

@@ -56,7 +56,7 @@ pub record IsRead (lines : List (List ℕ)) (more : List ℕ) (old new : Standin
   pub are_lines : All IsLine lines
   pub goes_on : goes_on lines old.state ≡ true
 
--- What stands behind a line: its line feed; or nothing, where the input is at its end or as much was heard as a conversation hears.
+-- What stands after a line: its line feed; or nothing, where the input is at its end or as much was heard as a conversation hears.
 abbrev pub Ends : List (List ℕ) → List ℕ → List ℕ → Option (List ℕ) → Type 0
 Ends lines line behind left =
     (behind ≡ 10 ∷ []) ⊎ ((behind ≡ []) × (0 < length line) × ((length (fed lines ++ line) ≡ most_heard) ⊎ IsAtEnd left))

@@ -14,7 +14,7 @@ use tagged_memory::Memory;
 /// The bytes of a line: an address, a space, a capability's text and a line feed.
 const LINE_BYTES: usize = 99;
 
-/// Puts the line of a tagged granule behind a text: its address, and the capability that it holds.
+/// Appends the line of a tagged granule to a text: its address, and the capability that it holds.
 #[tactic(auto, using(crate::proofs::CapLines::no_fault))]
 fn put_cap<C: CapRep>(text: &mut String, memory: &Memory, address: u64) -> Result<(), AllocError>
     requires tagged { has_tag memory.now address ≡ true }
@@ -27,7 +27,7 @@ fn put_cap<C: CapRep>(text: &mut String, memory: &Memory, address: u64) -> Resul
     put_value_line(text, name.as_str(), C::from_word(word, tag))
 }
 
-/// Puts the lines of all tagged granules behind a text, in ascending order. Room for them is made before the first.
+/// Appends the lines of all tagged granules to a text, in ascending order. Room for them is made before the first.
 pub(crate) fn put_caps<C: CapRep>(text: &mut String, memory: &Memory) -> Result<(), AllocError>
     requires { HoldsCapabilities memory.now }
     ensures { OnOk result (string_bytes text.new ≡ string_bytes text.old ++ cap_lines memory.now) }

@@ -41,7 +41,7 @@ fn bytes_at(alloc: Global, memory: &Memory, address: u64, count: u64) -> Result<
     Ok(bytes)
 }
 
-/// Puts bytes, two digits each and a space before each, behind a text.
+/// Appends bytes, two digits each and a space before each, to a text.
 fn put_bytes(text: &mut String, bytes: &[u8]) -> Result<(), AllocError>
     ensures { OnOk result (string_bytes text.new ≡ string_bytes text.old ++ flat_map spaced bytes.now) }
 {
@@ -55,7 +55,7 @@ fn put_bytes(text: &mut String, bytes: &[u8]) -> Result<(), AllocError>
     }
 }
 
-/// Puts a line behind a text: an address and bytes.
+/// Appends a line to a text: an address and bytes.
 fn put_byte_line(text: &mut String, address: u64, bytes: &[u8]) -> Result<(), AllocError>
     ensures { OnOk result (string_bytes text.new ≡ string_bytes text.old ++ byte_line address bytes.now) }
 {
@@ -76,7 +76,7 @@ fn first_line(bytes: &[u8]) -> &[u8]
     }
 }
 
-/// The bytes behind the first 16.
+/// The bytes after the first 16.
 fn other_lines(bytes: &[u8]) -> &[u8]
     ensures { result.now ≡ drop 16 bytes.now }
 {
@@ -87,7 +87,7 @@ fn other_lines(bytes: &[u8]) -> &[u8]
     }
 }
 
-/// Puts lines of up to 16 bytes behind a text, so many at most.
+/// Appends lines of up to 16 bytes to a text, so many at most.
 fn put_byte_lines(
     text: &mut String,
     lines: u64,
@@ -106,7 +106,7 @@ fn put_byte_lines(
     Ok(())
 }
 
-/// Puts the lines of so many bytes from an address behind a text.
+/// Appends the lines of so many bytes from an address to a text.
 #[tactic(auto, unfolding(tagged_memory::specs::Memory::is_in_ram))]
 pub(crate) fn put_memory(
     text: &mut String,
@@ -134,14 +134,14 @@ fn word_at(memory: &Memory, address: u64) -> u32
     memory.load(address, Size::Word) as u32
 }
 
-/// Puts a line behind a text: an address, a word, and its text in a mode.
+/// Appends a line to a text: an address, a word, and its text in a mode.
 fn put_word_line(text: &mut String, mode: bool, address: u64, word: u32) -> Result<(), AllocError>
     ensures { OnOk result (string_bytes text.new ≡ string_bytes text.old ++ word_line_of mode address word) }
 {
     put(text, word_line(address, word, mode).as_str())
 }
 
-/// Puts the lines of so many words from an address behind a text.
+/// Appends the lines of so many words from an address to a text.
 fn put_words_from(
     text: &mut String,
     memory: &Memory,
@@ -163,7 +163,7 @@ fn put_words_from(
     Ok(())
 }
 
-/// Puts the lines of so many words from an address behind a text.
+/// Appends the lines of so many words from an address to a text.
 #[tactic(auto, unfolding(tagged_memory::specs::Memory::is_in_ram))]
 pub(crate) fn put_words(
     text: &mut String,

@@ -34,7 +34,7 @@ fn pc<C: CapRep>(machine: &Machine<C>) -> u64
     machine.scr(PCC).address()
 }
 
-/// Gives an event so many times, and puts what is sent behind the other bytes, for which there is room.
+/// Gives an event so many times, and appends what is sent to the other bytes, for which there is room.
 fn repeat<C: CapRep>(machine: &mut Machine<C>, event: Event, times: u64, sent: &mut Vec<u8>)
     requires { vec_len sent.old + times ≤ vec_capacity sent.old }
     ensures state { machine.new ≡ run_after (replicate times event) machine.old }
@@ -49,7 +49,7 @@ fn repeat<C: CapRep>(machine: &mut Machine<C>, event: Event, times: u64, sent: &
     }
 }
 
-/// Gives so many steps, and puts what they send behind the other bytes, for which there is room.
+/// Gives so many steps, and appends what they send to the other bytes, for which there is room.
 fn steps<C: CapRep>(machine: &mut Machine<C>, times: u64, sent: &mut Vec<u8>)
     requires { vec_len sent.old + times ≤ vec_capacity sent.old }
     ensures state { machine.new ≡ run_after (replicate times Step) machine.old }
@@ -152,7 +152,7 @@ fn most_events(command: Command) -> u64
     }
 }
 
-/// Gives the events of a command, puts what is sent behind the other bytes, for which there is room, and answers how many there
+/// Gives the events of a command, appends what is sent to the other bytes, for which there is room, and answers how many there
 /// were.
 #[tactic(auto, unfolding(crate::specs::Reply::events_of))]
 fn give<C: CapRep>(machine: &mut Machine<C>, command: Command, sent: &mut Vec<u8>) -> u64
@@ -180,7 +180,7 @@ fn give<C: CapRep>(machine: &mut Machine<C>, command: Command, sent: &mut Vec<u8
     }
 }
 
-/// Puts bytes, two digits each, behind a text.
+/// Appends bytes, two digits each, to a text.
 fn put_pairs(text: &mut String, bytes: &[u8]) -> Result<(), AllocError>
     ensures bytes { OnOk result (string_bytes text.new ≡ string_bytes text.old ++ flat_map (hex_of 2) bytes.now) }
     ensures len { OnOk result (string_len text.new ≡ string_len text.old + 2 * length bytes.now) }
@@ -193,7 +193,7 @@ fn put_pairs(text: &mut String, bytes: &[u8]) -> Result<(), AllocError>
     Ok(())
 }
 
-/// Puts the bytes that were sent behind a text, or `-` where there are none.
+/// Appends the bytes that were sent to a text, or `-` where there are none.
 fn put_sent(text: &mut String, bytes: &[u8]) -> Result<(), AllocError>
     ensures bytes { OnOk result (string_bytes text.new ≡ string_bytes text.old ++ shown_sent bytes.now) }
     ensures len { OnOk result (string_len text.new ≤ string_len text.old + 2 * length bytes.now + 1) }
@@ -206,7 +206,7 @@ fn put_sent(text: &mut String, bytes: &[u8]) -> Result<(), AllocError>
     }
 }
 
-/// Puts how a machine stands behind a text.
+/// Appends how a machine stands to a text.
 fn put_end(text: &mut String, halted: Option<u64>) -> Result<(), AllocError>
     ensures bytes { OnOk result (string_bytes text.new ≡ string_bytes text.old ++ shown_end halted) }
     ensures len { OnOk result (string_len text.new ≤ string_len text.old + 47) }
@@ -222,7 +222,7 @@ fn put_end(text: &mut String, halted: Option<u64>) -> Result<(), AllocError>
     }
 }
 
-/// Puts how many events there were and what they sent behind a text.
+/// Appends how many events there were and what they sent to a text.
 fn put_given(text: &mut String, count: u64, sent: &[u8]) -> Result<(), AllocError>
     ensures bytes { OnOk result (string_bytes text.new ≡ string_bytes text.old ++ given_part count sent.now) }
     ensures len { OnOk result (string_len text.new ≤ string_len text.old + 2 * length sent.now + 60) }
@@ -235,7 +235,7 @@ fn put_given(text: &mut String, count: u64, sent: &[u8]) -> Result<(), AllocErro
     put_sent(text, sent)
 }
 
-/// Puts where a machine stands behind a text.
+/// Appends where a machine stands to a text.
 fn put_place<C: CapRep>(text: &mut String, machine: &Machine<C>) -> Result<(), AllocError>
     ensures bytes { OnOk result (string_bytes text.new ≡ string_bytes text.old ++ place_part machine.now) }
     ensures full { OnErr result (string_capacity text.old < string_len text.old + 80) }
@@ -247,7 +247,7 @@ fn put_place<C: CapRep>(text: &mut String, machine: &Machine<C>) -> Result<(), A
     put(text, "\n")
 }
 
-/// Puts the line that tells of so many events and of what they sent behind a text.
+/// Appends the line that tells of so many events and of what they sent to a text.
 fn put_run_line<C: CapRep>(
     text: &mut String,
     machine: &Machine<C>,

@@ -6,7 +6,7 @@ use cap_bounds::CapRep;
 use effect_texts::{put, value_text};
 use std::alloc::AllocError;
 
-/// Puts a line behind a text: a name and a value.
+/// Appends a line to a text: a name and a value.
 pub(crate) fn put_value_line<C: CapRep>(
     text: &mut String,
     name: &str,

@@ -18,7 +18,7 @@ use effect_texts::{put, put_hex};
 use machine::Machine;
 use std::alloc::AllocError;
 
-/// Puts the line of general register `n`, below 32, behind a text.
+/// Appends the line of general register `n`, below 32, to a text.
 pub(crate) fn put_register<C: CapRep>(
     text: &mut String,
     machine: &Machine<C>,
@@ -30,7 +30,7 @@ pub(crate) fn put_register<C: CapRep>(
     put_value_line(text, register_name(n, true), machine.reg(n))
 }
 
-/// Puts the lines of the general registers from `n` on behind a text.
+/// Appends the lines of the general registers from `n` on to a text.
 fn put_registers_from<C: CapRep>(
     text: &mut String,
     machine: &Machine<C>,
@@ -47,7 +47,7 @@ fn put_registers_from<C: CapRep>(
     Ok(())
 }
 
-/// Puts the line of a special capability register behind a text.
+/// Appends the line of a special capability register to a text.
 fn put_scr<C: CapRep>(text: &mut String, machine: &Machine<C>, n: u8) -> Result<(), AllocError>
     requires { IsTrue (is_scr n) }
     ensures { OnOk result (string_bytes text.new ≡ string_bytes text.old ++ scr_line machine.now.scrs n) }
@@ -55,7 +55,7 @@ fn put_scr<C: CapRep>(text: &mut String, machine: &Machine<C>, n: u8) -> Result<
     put_value_line(text, scr_name(n).unwrap_or(""), machine.scr(n))
 }
 
-/// Puts a line behind a text: a name and 16 hexadecimal digits.
+/// Appends a line to a text: a name and 16 hexadecimal digits.
 fn put_number_line(text: &mut String, name: &str, n: u64) -> Result<(), AllocError>
     ensures { OnOk result (string_bytes text.new ≡ string_bytes text.old ++ number_line name.now (Some n)) }
 {
@@ -65,7 +65,7 @@ fn put_number_line(text: &mut String, name: &str, n: u64) -> Result<(), AllocErr
     put(text, "\n")
 }
 
-/// Puts the line of a control and status register behind a text.
+/// Appends the line of a control and status register to a text.
 fn put_csr<C: CapRep>(text: &mut String, machine: &Machine<C>, n: u16) -> Result<(), AllocError>
     requires { IsTrue (is_csr n) }
     ensures { OnOk result (string_bytes text.new ≡ string_bytes text.old
@@ -74,7 +74,7 @@ fn put_csr<C: CapRep>(text: &mut String, machine: &Machine<C>, n: u16) -> Result
     put_number_line(text, csr_name(n).unwrap_or(""), machine.csr(n))
 }
 
-/// Puts the lines of all general registers behind a text.
+/// Appends the lines of all general registers to a text.
 pub(crate) fn put_registers<C: CapRep>(
     text: &mut String,
     machine: &Machine<C>,
@@ -84,7 +84,7 @@ pub(crate) fn put_registers<C: CapRep>(
     put_registers_from(text, machine, 0)
 }
 
-/// Puts the lines of these special capability registers behind a text.
+/// Appends the lines of these special capability registers to a text.
 fn put_scrs_of<C: CapRep>(
     text: &mut String,
     machine: &Machine<C>,
@@ -103,7 +103,7 @@ fn put_scrs_of<C: CapRep>(
     }
 }
 
-/// Puts the lines of the special capability registers behind a text.
+/// Appends the lines of the special capability registers to a text.
 #[tactic(auto, unfolding(special_regs::specs::Scrs::scr_value))]
 pub(crate) fn put_scrs<C: CapRep>(text: &mut String, machine: &Machine<C>) -> Result<(), AllocError>
     ensures { OnOk result (string_bytes text.new ≡ string_bytes text.old ++ scr_lines (scr_values machine.now.scrs)) }
@@ -111,7 +111,7 @@ pub(crate) fn put_scrs<C: CapRep>(text: &mut String, machine: &Machine<C>) -> Re
     put_scrs_of(text, machine, &SPECIAL_REGISTERS)
 }
 
-/// Puts the lines of these control and status registers behind a text.
+/// Appends the lines of these control and status registers to a text.
 fn put_csrs_of<C: CapRep>(
     text: &mut String,
     machine: &Machine<C>,
@@ -130,7 +130,7 @@ fn put_csrs_of<C: CapRep>(
     }
 }
 
-/// Puts the lines of the control and status registers behind a text.
+/// Appends the lines of the control and status registers to a text.
 #[tactic(auto, unfolding(special_regs::specs::CsrValues::csr_value))]
 pub(crate) fn put_csrs<C: CapRep>(text: &mut String, machine: &Machine<C>) -> Result<(), AllocError>
     ensures { OnOk result (string_bytes text.new ≡ string_bytes text.old

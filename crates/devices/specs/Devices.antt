@@ -138,7 +138,7 @@ written d address value = record d {
 abbrev pub ticked : Devices → Devices
 ticked d = record d { mtime = (d.mtime + 1) % 2 ^ 64 }
 
--- a byte comes: it waits behind the others, or it is lost where 64 wait already
+-- a byte comes: it waits after the others, or it is lost where 64 wait already
 unfoldable pub received : ℕ → Devices → Devices
 received b d =
     let full : Bool = not (nat_lt (length d.queue) queue_limit) in

@@ -4,7 +4,7 @@ ghost use Rattle.devices.specs.Devices.{received, waits, oldest, without_oldest}
 use crate::devices::Devices;
 
 impl Devices {
-    /// Receives a byte: it waits behind the others, or it is lost where 64 wait already.
+    /// Receives a byte: it waits after the others, or it is lost where 64 wait already.
     #[tactic(auto, unfolding(crate::specs::Devices::received))]
     pub fn receive(&mut self, byte: u8)
         ensures { self.new ≡ received byte self.old }

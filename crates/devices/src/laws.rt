@@ -5,7 +5,7 @@ ghost use Rattle.devices.specs.Devices as spec;
 
 use crate::map::RECEIVE;
 
-/// Where the registers lie, as numbers (profile).
+/// Where the registers lie, as numbers.
 pub fn places_of_registers()
     ensures halt { spec.halt ≡ 0x100000 }
     ensures timer_compare { spec.timer_compare ≡ 0x2004000 }

@@ -55,7 +55,7 @@ shown_slot mode i (Address naming) = shown_signed i.imm ++ codes "(" ++ shown_re
 shown_slot mode i (Authority naming) = codes "(" ++ shown_register mode naming i.rs1 ++ codes ")"
 shown_slot mode i (Target bits) = shown_target i.imm
 
--- the operands, behind a space and with a comma and a space between
+-- the operands, after a space and with a comma and a space between
 abbrev pub shown_operands : Bool → Insn → List Slot → List ℕ
 shown_operands mode i [] = []
 shown_operands mode i (s ∷ ss) = codes " " ++ join_by (shown_slot mode i) (codes ", ") (s ∷ ss)

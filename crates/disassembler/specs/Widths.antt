@@ -26,7 +26,7 @@ slot_width (Address naming) = 27
 slot_width (Authority naming) = 7
 slot_width (Target bits) = 22
 
--- of operands that each stand behind a comma and a space, and of all operands of a row
+-- of operands that each stand after a comma and a space, and of all operands of a row
 abbrev pub rest_width : List Slot → ℕ
 rest_width [] = 0
 rest_width (s ∷ ss) = 2 + slot_width s + rest_width ss

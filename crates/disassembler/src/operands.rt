@@ -12,7 +12,7 @@ use asm_names::{Naming, Slot, csr_name, register_name, scr_name};
 use isa_rows::Insn;
 use itoa::Buffer;
 
-/// The operands, behind a space and with a comma and a space between.
+/// The operands, after a space and with a comma and a space between.
 pub fn push_operands(text: &mut ArrayString<64>, insn: &Insn, mode: bool, slots: &[Slot])
     requires registers { HasRegisters insn.now }
     requires room { array_string_len text.old + operands_width slots.now ≤ 64 }
@@ -25,7 +25,7 @@ pub fn push_operands(text: &mut ArrayString<64>, insn: &Insn, mode: bool, slots:
     }
 }
 
-/// Operands, each behind a comma and a space.
+/// Operands, each after a comma and a space.
 fn push_rest(text: &mut ArrayString<64>, insn: &Insn, mode: bool, slots: &[Slot])
     requires registers { HasRegisters insn.now }
     requires room { array_string_len text.old + rest_width slots.now ≤ 64 }

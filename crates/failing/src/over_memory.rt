@@ -62,7 +62,7 @@ pub struct Narrow<'a> {
 }
 
 impl<'a> Narrow<'a> {
-    /// Puts bytes behind those that are held, `most` a call but one at least, and fails at the call of this number, from 0.
+    /// Appends bytes to those that are held, `most` a call but one at least, and fails at the call of this number, from 0.
     pub fn new(held: &'a mut Vec<u8>, most: usize, fails_at: u64) -> Self
         ensures { ⟦<Narrow<'a> as Sink>⟧.failed result ≡ 0 }
     {

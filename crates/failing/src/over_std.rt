@@ -60,7 +60,7 @@ pub struct Writer<'a> {
 }
 
 impl<'a> Writer<'a> {
-    /// Puts bytes behind those that are held, and fails so at the call of this number, from 0.
+    /// Appends bytes to those that are held, and fails so at the call of this number, from 0.
     pub fn new(held: &'a mut Vec<u8>, fails_at: u64, failure: Failure) -> Self {
         Writer {
             held,

@@ -1,4 +1,4 @@
--- What stands behind the code and the text of an assembler's fault: what was read of the line at fault.
+-- What stands after the code and the text of an assembler's fault: what was read of the line at fault.
 use Rattle.std.specs.Prelude.{ℕ, zero, suc, ◌+◌, ◌-◌, Bool, true, false, not, if◌then◌else◌, List, [], ◌++◌, length, take, drop}
 use Rattle.std.specs.Prelude.{slice_index}
 use Rattle.std.specs.Prelude.{Option, Some, None, codes, decimal}
@@ -26,7 +26,7 @@ behind_lines (suc count) text = behind_lines count (behind 10 text)
 abbrev pub line_at : ℕ → List ℕ → List ℕ
 line_at number text = up_to 10 (behind_lines (number - 1) text)
 
--- what a line says behind its label, up to a comment, and the first word of it (A1)
+-- what a line says after its label, up to a comment, and the first word of it (A1)
 abbrev pub behind_label : Option (List ℕ) → List ℕ → List ℕ
 behind_label None text = text
 behind_label (Some name) text = trimmed_start (drop (length name + 1) text)

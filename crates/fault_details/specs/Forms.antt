@@ -110,7 +110,7 @@ ranges_in None slots = map range_of slots
 abbrev pub ranges_read : List ℕ → List Range
 ranges_read word = ranges_in (form_in forms word) (slots_read word)
 
--- a statement that stands once, or not behind others
+-- a statement that stands once, or not after others
 abbrev pub stands_text : List ℕ → List ℕ
 stands_text word = if is_word word (codes ".entry") then codes " stands once" else codes " stands once, before other statements"
 

@@ -54,7 +54,7 @@ is_beyond r piece = is_outside r (expression_of (number_in piece))
 unfoldable pub shown : ℤ → List ℕ
 shown n = signed_decimal n
 
--- a range, behind what opens the bracket
+-- a range, after what opens the bracket
 unfoldable pub to_most : ℤ → List ℕ
 to_most most = (codes " to " ++ shown most) ++ codes ")"
 
@@ -68,7 +68,7 @@ range_text r = bracketed (codes " (") r
 abbrev pub beyond_in : Range → List ℕ → List ℕ
 beyond_in r piece = number_in piece ++ range_text r
 
--- the ranges of the operands behind the first; the last range is also that of all operands behind it
+-- the ranges of the operands after the first; the last range is also that of all operands after it
 abbrev pub later : Range → List Range → List Range
 later r [] = r ∷ []
 later r (s ∷ rs) = s ∷ rs

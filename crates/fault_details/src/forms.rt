@@ -227,7 +227,7 @@ fn push_slots(text: &mut Vec<u8>, slots: &[Slot]) -> Result<(), AllocError>
     }
 }
 
-/// Writes what a mnemonic takes behind a text.
+/// Appends what a mnemonic takes to a text.
 fn push_takes(text: &mut Vec<u8>, word: &[u8]) -> Result<(), AllocError>
     ensures { OnOk result (text.new.items ≡ text.old.items ++ takes_text word.now) }
 {
@@ -262,7 +262,7 @@ pub(crate) fn written(alloc: Global, is_form: bool, word: &[u8]) -> Result<Vec<u
     Ok(text)
 }
 
-/// Puts the ranges of slots behind others.
+/// Appends the ranges of slots to others.
 fn push_ranges(ranges: &mut Vec<Range>, slots: &[Slot]) -> Result<(), AllocError>
     ensures { OnOk result (ranges.new.items ≡ ranges.old.items ++ map range_of slots.now) }
 {

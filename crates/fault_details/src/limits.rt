@@ -78,7 +78,7 @@ fn is_beyond(range: Range, piece: &[u8]) -> bool
     is_outside(range, expression(number_in(piece)))
 }
 
-/// Writes a number behind a text.
+/// Appends a number to a text.
 #[tactic(auto, unfolding(crate::specs::Limits::shown))]
 pub(crate) fn push_shown(text: &mut Vec<u8>, number: i128) -> Result<(), AllocError>
     ensures { OnOk result (text.new.items ≡ text.old.items ++ shown number) }
@@ -87,7 +87,7 @@ pub(crate) fn push_shown(text: &mut Vec<u8>, number: i128) -> Result<(), AllocEr
     text.extend_from_slice(buffer.format(number).as_bytes())
 }
 
-/// Writes the greatest number of a range behind a text.
+/// Appends the greatest number of a range to a text.
 #[tactic(auto, unfolding(crate::specs::Limits::to_most))]
 fn push_to_most(text: &mut Vec<u8>, most: i128) -> Result<(), AllocError>
     ensures { OnOk result (text.new.items ≡ text.old.items ++ to_most most) }
@@ -97,7 +97,7 @@ fn push_to_most(text: &mut Vec<u8>, most: i128) -> Result<(), AllocError>
     text.extend_from_slice(b")")
 }
 
-/// Writes a range behind a text, with what opens its bracket.
+/// Appends a range to a text, with what opens its bracket.
 #[tactic(auto, unfolding(crate::specs::Limits::bracketed))]
 pub(crate) fn push_bracketed(
     text: &mut Vec<u8>,
@@ -111,7 +111,7 @@ pub(crate) fn push_bracketed(
     push_to_most(text, range.most)
 }
 
-/// Writes a range behind a text.
+/// Appends a range to a text.
 pub(crate) fn push_range(text: &mut Vec<u8>, range: Range) -> Result<(), AllocError>
     ensures { OnOk result (text.new.items ≡ text.old.items ++ range_text range) }
 {
@@ -125,8 +125,8 @@ fn push_number(text: &mut Vec<u8>, range: Range, piece: &[u8]) -> Result<(), All
     push_range(text, range)
 }
 
-/// Writes the first operand whose number is out of its range behind a text, and that range. The last range is also that of all
-/// operands behind it.
+/// Appends the first operand whose number is out of its range to a text, and that range. The last range is also that of all
+/// operands after it.
 pub(crate) fn push_beyond(
     text: &mut Vec<u8>,
     ranges: &[Range],

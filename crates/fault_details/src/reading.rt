@@ -30,7 +30,7 @@ fn behind_label<'a>(label: Option<&[u8]>, text: &'a [u8]) -> &'a [u8]
     }
 }
 
-/// What a line says behind its label, up to a comment.
+/// What a line says after its label, up to a comment.
 #[tactic(auto, unfolding(crate::specs::Detail::statement_read))]
 fn statement_read(line: &[u8]) -> &[u8]
     ensures { result.now ≡ statement_read line.now }

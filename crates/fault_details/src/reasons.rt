@@ -36,7 +36,7 @@ fn is_value_beyond(range: Range, worth: Worth) -> bool
     }
 }
 
-/// Writes a number that is not below zero behind a text.
+/// Appends a number that is not below zero to a text.
 fn push_natural(text: &mut Vec<u8>, number: u64) -> Result<(), AllocError>
     ensures { OnOk result (text.new.items ≡ text.old.items ++ decimal number) }
 {
@@ -44,7 +44,7 @@ fn push_natural(text: &mut Vec<u8>, number: u64) -> Result<(), AllocError>
     text.extend_from_slice(buffer.format(number).as_bytes())
 }
 
-/// Writes so many hexadecimal digits behind a text.
+/// Appends so many hexadecimal digits to a text.
 fn push_hex(text: &mut Vec<u8>, number: u128, width: usize) -> Result<(), AllocError>
     requires { width ≤ 17 }
     ensures { OnOk result (text.new.items ≡ text.old.items ++ hex_of width number) }
@@ -52,7 +52,7 @@ fn push_hex(text: &mut Vec<u8>, number: u128, width: usize) -> Result<(), AllocE
     text.extend_from_slice(hex_digits(number, width).as_bytes())
 }
 
-/// Writes an operand, its value and its range behind a text.
+/// Appends an operand, its value and its range to a text.
 fn push_value_in(
     text: &mut Vec<u8>,
     range: Range,
@@ -69,7 +69,7 @@ fn push_value_in(
     push_range(text, range)
 }
 
-/// Writes the first operand whose value is out of its range behind a text, its value and the range.
+/// Appends the first operand whose value is out of its range to a text, its value and the range.
 pub(crate) fn push_value_beyond(
     text: &mut Vec<u8>,
     standing: &Standing,
@@ -181,7 +181,7 @@ const LOAD_RANGE: Range = Range {
     most: 0x7fff_f7ff,
 };
 
-/// Writes how far an expression's value is from the faulty line behind a text, and a range.
+/// Appends how far an expression's value is from the faulty line to a text, and a range.
 fn push_distance(
     text: &mut Vec<u8>,
     standing: &Standing,
@@ -212,7 +212,7 @@ fn count_word(pages: u32) -> &'static str
     }
 }
 
-/// Writes the number of pages behind a text.
+/// Appends the number of pages to a text.
 #[tactic(auto, unfolding(crate::specs::Reasons::pages_text))]
 fn push_pages(text: &mut Vec<u8>, pages: u32) -> Result<(), AllocError>
     ensures { OnOk result (text.new.items ≡ text.old.items ++ spec.pages_text pages) }
@@ -222,7 +222,7 @@ fn push_pages(text: &mut Vec<u8>, pages: u32) -> Result<(), AllocError>
     text.extend_from_slice(count_word(pages).as_bytes())
 }
 
-/// Writes an entry behind a text.
+/// Appends an entry to a text.
 #[tactic(auto, unfolding(crate::specs::Reasons::entry_number))]
 fn push_entry_number(text: &mut Vec<u8>, entry: u64) -> Result<(), AllocError>
     ensures { OnOk result (text.new.items ≡ text.old.items ++ spec.entry_number entry) }
@@ -238,7 +238,7 @@ fn no_entry_words() -> &'static str
     " is no multiple of 4 in RAM"
 }
 
-/// Writes what an entry is not behind a text.
+/// Appends what an entry is not to a text.
 fn push_no_entry(text: &mut Vec<u8>, pages: u32) -> Result<(), AllocError>
     ensures { OnOk result (text.new.items ≡ text.old.items ++ spec.no_entry pages) }
 {
@@ -246,7 +246,7 @@ fn push_no_entry(text: &mut Vec<u8>, pages: u32) -> Result<(), AllocError>
     push_pages(text, pages)
 }
 
-/// Writes why a value is no entry behind a text.
+/// Appends why a value is no entry to a text.
 fn push_entry(text: &mut Vec<u8>, pages: u32, worth: Worth) -> Result<(), AllocError>
     ensures { OnOk result (text.new.items ≡ text.old.items ++ spec.entry_text pages worth) }
 {
@@ -291,7 +291,7 @@ fn push_far_setting(
     }
 }
 
-/// Writes how far the target of a statement is behind a text, or why an entry is none.
+/// Appends how far the target of a statement is to a text, or why an entry is none.
 pub(crate) fn push_far(
     text: &mut Vec<u8>,
     standing: &Standing,
@@ -324,7 +324,7 @@ fn reason_words(reason: Misplaced) -> &'static str
     }
 }
 
-/// Writes the number of pages behind a text, where there are too few.
+/// Appends the number of pages to a text, where there are too few.
 fn push_pages_after(text: &mut Vec<u8>, pages: u32, reason: Misplaced) -> Result<(), AllocError>
     ensures { OnOk result (text.new.items ≡ text.old.items ++ spec.pages_after pages reason) }
 {
@@ -352,7 +352,7 @@ fn width_of(place: u128) -> usize
     }
 }
 
-/// Writes why a place is none behind a text.
+/// Appends why a place is none to a text.
 pub(crate) fn push_misplaced(
     text: &mut Vec<u8>,
     place: u128,
@@ -418,7 +418,7 @@ fn push_inexact_data(
     }
 }
 
-/// Writes the range of a statement's capability behind a text, and why bounds are not exactly that.
+/// Appends the range of a statement's capability to a text, and why bounds are not exactly that.
 pub(crate) fn push_inexact(
     text: &mut Vec<u8>,
     standing: &Standing,

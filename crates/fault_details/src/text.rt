@@ -12,7 +12,7 @@ pub(crate) fn up_to(byte: u8, text: &[u8]) -> &[u8]
     &text[..run_length(text, Class::Not(byte))]
 }
 
-/// What stands behind the first such byte; nothing where there is none.
+/// What stands after the first such byte; nothing where there is none.
 fn behind(byte: u8, text: &[u8]) -> &[u8]
     ensures { result.now ≡ behind byte text.now }
 {
@@ -24,7 +24,7 @@ fn behind(byte: u8, text: &[u8]) -> &[u8]
     }
 }
 
-/// What stands behind so many lines.
+/// What stands after so many lines.
 fn behind_lines(count: u64, text: &[u8]) -> &[u8]
     ensures { result.now ≡ behind_lines count text.now }
 {

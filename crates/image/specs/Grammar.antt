@@ -36,7 +36,7 @@ unfoldable pub capability_bytes : CapEntry → List ℕ
 capability_bytes c =
     little_bytes 8 c.place ++ (little_bytes 8 c.base ++ (little_bytes 8 c.length ++ (little_bytes 4 c.perms ++ little_bytes 4 c.flag)))
 
--- behind the sections: in version 1 nothing, in version 2 the count of capabilities in 4 bytes, and each of them
+-- after the sections: in version 1 nothing, in version 2 the count of capabilities in 4 bytes, and each of them
 unfoldable pub capabilities_bytes : ℕ → List CapEntry → List ℕ
 capabilities_bytes version capabilities =
     if version == 1 then [] else little_bytes 4 (length capabilities) ++ flat_map capability_bytes capabilities

@@ -45,7 +45,7 @@ is_good_header version pages entry mode =
     && ((entry % 4 == 0) && (nat_le ram_base entry && nat_le (entry + 4) (ram_end pages)))
     && nat_le mode 1
 
--- A section at this address with so many bytes, where the one before it ended at `free`: it lies in RAM, and behind the one before.
+-- A section at this address with so many bytes, where the one before it ended at `free`: it lies in RAM, and past the one before.
 abbrev pub span_checks : ℕ → ℕ → ℕ → ℕ → List (Bool × ImageFault)
 span_checks pages free address size =
     (nat_le ram_base address && nat_le (address + size) (ram_end pages), L6)

@@ -156,7 +156,7 @@ build_parts v pages entry mode ss cs none =
       capabilities = fourth.1;
     }
 
--- behind a version, a header and a number of sections without fault comes the fault of the sections, or else of the capabilities
+-- after a version, a header and a number of sections without fault comes the fault of the sections, or else of the capabilities
 pub build_fault-sections : (v pages entry mode : ℕ) (ss : List Section) (cs : List CapEntry) → is_version v ≡ true
     → is_good_header v pages entry mode ≡ true → length ss ≤ 64
     → build_fault v pages entry mode ss cs

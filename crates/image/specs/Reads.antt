@@ -28,7 +28,7 @@ HasFewer count left = IfSome left (λ bytes. length bytes < count)
 abbrev pub ConsumesBeginning : Option (List ℕ) → Option (List ℕ) → Type 0
 ConsumesBeginning old new = (bytes : List ℕ) × Consumes old new bytes
 
--- What was read stands behind what there was.
+-- What was read stands after what there was.
 abbrev pub ReadsBehind : Option (List ℕ) → Option (List ℕ) → List ℕ → List ℕ → Type 0
 ReadsBehind left_old left_new old new = (bytes : List ℕ) × Consumes left_old left_new bytes × (new ≡ old ++ bytes)
 

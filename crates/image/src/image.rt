@@ -248,7 +248,7 @@ impl Image {
     /// with at most 64 sections in ascending order.
     ///
     /// The first of these: L4 pages, entry or mode; L5 too many sections; for each section in order L6 outside RAM, L7 not
-    /// behind the one before it. L11, no memory, comes last.
+    /// after the one before it. L11, no memory, comes last.
     pub fn build(
         alloc: Global,
         pages: u32,

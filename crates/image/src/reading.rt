@@ -66,7 +66,7 @@ fn next_block(held: usize, size: usize) -> usize
     held.max(FIRST_BLOCK).min(size - held)
 }
 
-/// Reads `count` bytes more, behind those that are there.
+/// Reads `count` bytes more, after those that are there.
 fn read_behind<R: Source>(
     source: &mut R,
     bytes: &mut Vec<u8>,

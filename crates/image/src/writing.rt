@@ -103,7 +103,7 @@ fn write_entries<W: Sink>(capabilities: &[CapEntry], sink: &mut W) -> Result<(),
     Ok(())
 }
 
-/// What stands behind the sections: in version 1 nothing.
+/// What stands after the sections: in version 1 nothing.
 #[tactic(auto, unfolding(crate::specs::Grammar::capabilities_bytes))]
 fn write_capabilities<W: Sink>(
     version: u32,

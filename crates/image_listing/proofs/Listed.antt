@@ -10,7 +10,7 @@ use Rattle.image.specs.ImageLaws.{AllInRam, AllInRam-image, image_parts, header_
 use Rattle.symbols.specs.Symbols.{Symbol}
 use Rattle.image_listing.specs.Named.{named_byte, named_bytes, named_from, named_word}
 
--- the piece of an item behind those of the items before it
+-- the piece of an item after those of the items before it
 pub next_item : {X : Type 0} (f : X → List ℕ) (xs : List X) (i : ℕ) (d : X) → i < length xs
     → flat_map f (take i xs) ++ f (get_or xs i d) ≡ flat_map f (take (suc i) xs)
 next_item f [] i d lt = absurd (omega (arith, lt))
@@ -21,7 +21,7 @@ next_item f (x ∷ xs) (suc i) d lt =
 
 -- ---- lines
 
--- bytes that are cut behind whole words are listed in two pieces
+-- bytes that are cut after whole words are listed in two pieces
 pub lines_cut : (names : List Symbol) (mode : Bool) (address k : ℕ) (bytes : List ℕ) → 4 * k ≤ length bytes
     → named_from names mode address bytes
     ≡ named_from names mode address (take (4 * k) bytes) ++ named_from names mode (address + 4 * k) (drop (4 * k) bytes)
@@ -78,7 +78,7 @@ section_cut names mode address bytes =
     lines_cut names mode address (length bytes / 4) bytes (omega arith)
     ∙ ap (λ ls. named_from names mode address (take at bytes) ++ ls) (left_over names mode (address + at) (drop at bytes) few)
 
--- the line of a word behind the lines of those before it
+-- the line of a word after the lines of those before it
 pub next_word : (names : List Symbol) (mode : Bool) (address i : ℕ) (bytes : List ℕ) → 4 * i + 4 ≤ length bytes
     → named_from names mode address (take (4 * i) bytes) ++ named_word names mode (address + 4 * i) (little_number 4 (drop (4 * i) bytes))
     ≡ named_from names mode address (take (4 * suc i) bytes)

@@ -1,4 +1,4 @@
--- The listing of an image with names: labels before the words at their addresses, and the place in names behind a branch or jal.
+-- The listing of an image with names: labels before the words at their addresses, and the place in names after a branch or jal.
 use Rattle.std.specs.Prelude.{ℕ, ◌+◌, ◌-◌, ◌%◌, ◌^◌, Bool, true, false, ◌==◌, nat_lt, if◌then◌else◌, List, [], ◌∷◌, ◌++◌, Option, Some}
 use Rattle.std.specs.Prelude.{None, codes, decimal}
 use Rattle.std.specs.List.{flat_map}

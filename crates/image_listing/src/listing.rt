@@ -77,7 +77,7 @@ fn list_section<W: Sink>(
 }
 
 /// Writes the listing of an image with names: of each section from its first byte on a line for each word, in the image's mode, and for
-/// each of one to three bytes left over. A label stands in a line of its own before the word or byte at its address, and behind a
+/// each of one to three bytes left over. A label stands in a line of its own before the word or byte at its address, and after a
 /// branch or jal the place where it leads, by a name at it or fewer than 4096 bytes below it. It takes no memory.
 ///
 /// An Err says that a call of the sink failed: it then holds a beginning of the listing.

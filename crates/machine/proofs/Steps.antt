@@ -106,7 +106,7 @@ run_sent-split (suc n) (e ∷ es) s =
     append_assoc (option_to_list (sent e s)) (run_sent (take n es) (after e s)) _
     ∙ ap (λ bytes. option_to_list (sent e s) ++ bytes) (run_sent-split n es (after e s))
 
--- what is left of a list behind its first k elements, as a slice gives it
+-- what is left of a list after its first k elements, as a slice gives it
 pub slice_rest : (k : ℕ) (rest : List Event) → take (length rest - k) (drop k rest) ≡ drop k rest
 slice_rest k rest = ap (λ n. take n (drop k rest)) (sym (length-drop k rest)) ∙ take-length (drop k rest)
 

@@ -91,7 +91,7 @@ KeepsAuthority-after s t bytes e keeps is plain = record {
   silent = silent-after s t bytes e keeps is;
 }
 
--- behind each of the first events
+-- after each of the first events
 abbrev pub KeepsUpTo : List Event → State → ℕ → Type 0
 KeepsUpTo events s i = (k : ℕ) → k ≤ i → KeepsAuthority s (run_after (take k events) s) (run_sent (take k events) s)
 

@@ -16,7 +16,7 @@ use Rattle.machine.specs.Run.{run_after, run_sent}
 use Rattle.machine.specs.Stretch.{ArePlain, EndsBefore, IsStretch, IsTwin, IsSameStretch}
 use Rattle.machine.proofs.Stretches.{run_after-more, run_sent-more, ArePlain-more}
 
--- the first events are plain from the second state too, and behind each of them the two are twins
+-- the first events are plain from the second state too, and after each of them the two are twins
 pub record AreTwins (events : List Event) (s t : State) (i : ℕ) : Type 0 where
   pub plain : ArePlain (take i events) t
   pub twins : (k : ℕ) → k ≤ i → IsTwin (take k events) s t

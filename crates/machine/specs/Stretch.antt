@@ -44,7 +44,7 @@ pub record IsTwin (events : List Event) (s t : State) : Type 0 where
   pub bytes : run_sent events t ≡ run_sent events s
   pub agree : Agree (run_after events s) (run_after events t)
 
--- The second state's stretch is the first's: as many events, the same reason, and behind each of them the same bytes and agreement.
+-- The second state's stretch is the first's: as many events, the same reason, and after each of them the same bytes and agreement.
 pub record IsSameStretch (events : List Event) (done : ℕ) (why : Option Why) (s t : State) : Type 0 where
   pub stretch : IsStretch events done why t
   pub twins : (k : ℕ) → k ≤ done → IsTwin (take k events) s t

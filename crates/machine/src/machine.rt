@@ -44,7 +44,7 @@ impl<C: CapRep> Model for Machine<C> {
     ghost view = { λ m. m.hart };
 }
 
-/// Puts the byte that an event sent, if it sent one, behind the others. There is room for it.
+/// Appends the byte that an event sent, if it sent one, to the others. There is room for it.
 pub fn emit(out: &mut Vec<u8>, byte: Option<u8>)
     requires { vec_len out.old < vec_capacity out.old }
     ensures items { out.new.items ≡ out.old.items ++ option_to_list byte }

@@ -51,9 +51,9 @@ impl<C: CapRep> Machine<C> {
 
     /// Meets events in order up to the first that would end the stretch, and appends the sent bytes to `out`.
     ///
-    /// Behind each of the events that are met, what is reachable is within the rights of what was reachable at the start, a seal that
+    /// After each of the events that are met, what is reachable is within the rights of what was reachable at the start, a seal that
     /// is new is a sentry's or one that a capability reachable at the start may put on, and what no such capability opens is left
-    /// alone. From every state that agrees with the start, the same events make the same stretch, and agree behind each. Room is made
+    /// alone. From every state that agrees with the start, the same events make the same stretch, and agree after each. Room is made
     /// as for `run`, and M5 leaves the same.
     pub fn run_stretch(
         &mut self,

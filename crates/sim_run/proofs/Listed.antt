@@ -11,7 +11,7 @@ use Rattle.disassembler.specs.Shown.{word_line}
 use Rattle.disassembler.specs.Shown.{byte_line}
 use Rattle.sim_run.specs.Listing.{byte_lines, lines_from}
 
--- the piece of an item behind those of the items before it
+-- the piece of an item after those of the items before it
 pub next_item : {X : Type 0} (f : X → List ℕ) (xs : List X) (i : ℕ) (d : X) → i < length xs
     → flat_map f (take i xs) ++ f (get_or xs i d) ≡ flat_map f (take (suc i) xs)
 next_item f [] i d lt = absurd (omega (arith, lt))
@@ -22,7 +22,7 @@ next_item f (x ∷ xs) (suc i) d lt =
 
 -- ---- lines
 
--- bytes that are cut behind whole words are listed in two pieces
+-- bytes that are cut after whole words are listed in two pieces
 pub lines_cut : (mode : Bool) (address k : ℕ) (bytes : List ℕ) → 4 * k ≤ length bytes
     → lines_from mode address bytes
     ≡ lines_from mode address (take (4 * k) bytes) ++ lines_from mode (address + 4 * k) (drop (4 * k) bytes)
@@ -76,7 +76,7 @@ section_cut mode address bytes =
     lines_cut mode address (length bytes / 4) bytes (omega arith)
     ∙ ap (λ ls. lines_from mode address (take at bytes) ++ ls) (left_over mode (address + at) (drop at bytes) few)
 
--- the line of a word behind the lines of those before it
+-- the line of a word after the lines of those before it
 pub next_word : (mode : Bool) (address i : ℕ) (bytes : List ℕ) → 4 * i + 4 ≤ length bytes
     → lines_from mode address (take (4 * i) bytes) ++ word_line mode (address + 4 * i) (little_number 4 (drop (4 * i) bytes))
     ≡ lines_from mode address (take (4 * suc i) bytes)

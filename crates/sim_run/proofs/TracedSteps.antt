@@ -47,7 +47,7 @@ trace_lines-ticked n false s = refl
 
 -- ---- runs that are cut short
 
--- the lines of events behind others
+-- the lines of events after others
 lines_behind : (n : ℕ) (before done last : List Event) (old : State)
     → trace_lines n before old ++ trace_lines (n + steps_in before) (done ++ last) (run_after before old)
     ≡ trace_lines n ((before ++ done) ++ last) old

@@ -1,4 +1,4 @@
--- Where a run ended, for whoever called the program: `cherisim: steps 10000, pcc 0000000080000010`, and behind it the last trap.
+-- Where a run ended, for whoever called the program: `cherisim: steps 10000, pcc 0000000080000010`, and after it the last trap.
 use Rattle.std.specs.Prelude.{ℕ, Bool, not, ◌==◌, ◌&&◌, List, [], ◌++◌, codes, decimal, if◌then◌else◌}
 use Rattle.cap_bounds.specs.CapValue.{value_address}
 use Rattle.disassembler.specs.Hex.{hex_of}

@@ -11,7 +11,7 @@ use Rattle.effect_texts.specs.TraceLine.{trace_line}
 use Rattle.sim_run.specs.declared.traced.TraceFault.{TraceFault}
 use Rattle.sim_run.specs.declared.traced.TraceFault.TheVariants.{Output, Trace}
 
--- a line for each step among the events, numbered behind the steps that came before
+-- a line for each step among the events, numbered after the steps that came before
 abbrev pub trace_lines : ℕ → List Event → State → List ℕ
 trace_lines before [] s = []
 trace_lines before (Step ∷ es) s = trace_line (before + 1) s ++ trace_lines (before + 1) es (after Step s)

@@ -88,7 +88,7 @@ fn trap_part(mcause: u64, mtval: u64, mepc: u64) -> ArrayString<192>
     part
 }
 
-/// Puts the last trap behind a text, where one was taken.
+/// Appends the last trap to a text, where one was taken.
 #[tactic(auto, unfolding(crate::specs::Ending::last_trap))]
 fn push_last_trap<C: CapRep>(line: &mut ArrayString<256>, machine: &Machine<C>)
     requires { array_string_len line.old + 160 ≤ 256 }

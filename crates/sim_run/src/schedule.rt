@@ -24,7 +24,7 @@ impl Schedule {
             && self.tick <= 1_000_000
     }
 
-    /// How many bytes of its input a run by this schedule can use: each byte comes before a step, and those behind them never come.
+    /// How many bytes of its input a run by this schedule can use: each byte comes before a step, and those after them never come.
     pub fn most_bytes(self) -> u64
         requires { IsInRange self }
         ensures used { (i : ℕ) → i < result → 1 + i * self.gap ≤ self.steps }

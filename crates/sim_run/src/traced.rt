@@ -25,7 +25,7 @@ pub enum TraceFault {
     Trace,
 }
 
-/// Writes the line of the step behind so many others to the trace, does the step, and writes the byte that it sends.
+/// Writes the line of the step after so many others to the trace, does the step, and writes the byte that it sends.
 fn meet_step<C: CapRep, W: Sink, T: Sink>(
     machine: &mut Machine<C>,
     before: u64,
@@ -55,7 +55,7 @@ fn meet_step<C: CapRep, W: Sink, T: Sink>(
     }
 }
 
-/// Does the step behind so many others, with the byte before it and the tick after it, and writes its line and what it sends.
+/// Does the step after so many others, with the byte before it and the tick after it, and writes its line and what it sends.
 fn meet_around<C: CapRep, W: Sink, T: Sink>(
     machine: &mut Machine<C>,
     byte: Option<u8>,

@@ -80,7 +80,7 @@ and_right true b h = h
 and_right false true h = refl
 and_right false false h = h
 
--- behind the blank there is a label
+-- after the blank there is a label
 pub name_is_label : (line : List ℕ) → IsTrue (is_symbol line) → is_label (drop 17 line) ≡ true
 unfolding is_symbol
 name_is_label line symbol = and_right _ _ (and_right _ _ symbol)

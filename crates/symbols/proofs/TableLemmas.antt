@@ -12,7 +12,7 @@ next_entry [] i e h = cc
 next_entry (x ∷ xs) zero e h = let k : x ≡ e = cc in rw k refl
 next_entry (x ∷ xs) (suc i) e h = let n : suc i + 1 ≡ suc (i + 1) = omega arith in rw n (next_entry xs i e h)
 
--- behind the last entry nothing is left
+-- after the last entry nothing is left
 pub last_entry : {A : Type 0} (entries : List (Vec ℕ A × ℕ)) (i : ℕ) → slice_get entries i ≡ None → drop i entries ≡ []
 last_entry [] zero h = refl
 last_entry [] (suc i) h = refl

@@ -21,7 +21,7 @@ symbol address name = record { address = address; name = name }
 unfoldable pub is_label : List ℕ → Bool
 is_label name = is_name name && (not (is_dot name) && nat_le (length name) 254)
 
--- what stands between line feeds; behind the last one nothing, or a line that lacks its own
+-- what stands between line feeds; after the last one nothing, or a line that lacks its own
 abbrev pub onto_first : ℕ → List (List ℕ) → List (List ℕ)
 onto_first b [] = (b ∷ []) ∷ []
 onto_first b (line ∷ lines) = (b ∷ line) ∷ lines

@@ -7,7 +7,7 @@ ghost use Rattle.symbols.specs.Symbols.{lines_of, is_hexadecimal_digit, is_symbo
 use crate::symbol::is_label;
 use asm_lines::{Class, digit_value, run_length};
 
-/// What stands before the first line feed, or before the end, and what stands behind it.
+/// What stands before the first line feed, or before the end, and what stands after it.
 pub(crate) fn split_line(text: &[u8]) -> (&[u8], &[u8])
     requires { 0 < length text.now }
     ensures split { lines_of text.now ≡ result.0.now ∷ lines_of result.1.now }
@@ -28,7 +28,7 @@ fn front(line: &[u8]) -> &[u8]
     if line.len() > 16 { &line[..16] } else { line }
 }
 
-/// What stands behind the first 17 bytes of a line.
+/// What stands after the first 17 bytes of a line.
 pub(crate) fn name(line: &[u8]) -> &[u8]
     ensures { result.now ≡ drop 17 line.now }
 {

@@ -25,7 +25,7 @@ impl Model for Symbols {
     ghost view = { λ s. s.entries.items };
 }
 
-/// Puts the symbol of a line behind others.
+/// Appends the symbol of a line to others.
 #[tactic(auto, unfolding(crate::specs::Symbols::symbol_of), using(crate::proofs::LineLemmas::name_is_label))]
 fn push_symbol(alloc: Global, entries: &mut Vec<Symbol>, line: &[u8]) -> Result<(), AllocError>
     requires { IsTrue (is_symbol line.now) }

@@ -7,7 +7,7 @@ use disassembler::hex_digits;
 use indexmap::IndexMap;
 use std::alloc::{AllocError, Global};
 
-/// Writes the line of a symbol behind a text.
+/// Appends the line of a symbol to a text.
 fn push_line(text: &mut Vec<u8>, address: u128, name: &[u8]) -> Result<(), AllocError>
     ensures { OnOk result (text.new.items ≡ text.old.items ++ symbol_line (symbol address name.now)) }
 {

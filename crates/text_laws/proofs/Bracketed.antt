@@ -15,7 +15,7 @@ use Rattle.asm_lines.specs.Operand.{filled_slot}
 use Rattle.text_laws.proofs.Cut.{every, every_at, prefix_stop, before_stop, after_stop, take_front, last, last-append, trimmed_start_back}
 use Rattle.text_laws.proofs.Cut.{trimmed_back, is_plain, plain_blank, IsPlain}
 
--- a text, and another in brackets behind it
+-- a text, and another in brackets after it
 abbrev pub bracketed : List ℕ → List ℕ → List ℕ
 bracketed s r = s ++ 40 ∷ (r ++ 41 ∷ [])
 

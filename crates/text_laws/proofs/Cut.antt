@@ -76,7 +76,7 @@ drop_whole (x ∷ xs) =
     let e : suc (length xs) + 1 ≡ suc (length xs + 1) = omega arith in
     ap (λ j. drop j (x ∷ xs)) e ∙ drop_whole xs
 
--- what stands before the first byte that passes, and behind it
+-- what stands before the first byte that passes, and after it
 pub before_stop : (p : ℕ → Bool) (xs : List ℕ) (y : ℕ) (ys : List ℕ) → every (λ b. not (p b)) xs ≡ true → p y ≡ true
     → before_first p (xs ++ y ∷ ys) ≡ xs
 before_stop p xs y ys h n =
@@ -151,7 +151,7 @@ pub append_nil : (xs : List ℕ) → xs ++ [] ≡ xs
 append_nil [] = refl
 append_nil (x ∷ xs) = ap (λ l. x ∷ l) (append_nil xs)
 
--- operands behind the first, each behind a comma and a space
+-- operands after the first, each after a comma and a space
 abbrev pub joined : List (List ℕ) → List ℕ
 joined [] = []
 joined (t ∷ ts) = 44 ∷ 32 ∷ (t ++ joined ts)

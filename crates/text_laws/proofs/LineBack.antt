@@ -68,7 +68,7 @@ pattern_back true _ = refl
 pattern_back false Lui = refl
 pattern_back false _ = refl
 
--- operands behind the first, shown
+-- operands after the first, shown
 joined_shown : (f : Slot → List ℕ) (ss : List Slot) → flat_map (λ s. codes ", " ++ f s) ss ≡ joined (map f ss)
 joined_shown f [] = refl
 joined_shown f (s ∷ ss) = ap (λ l. 44 ∷ 32 ∷ (f s ++ l)) (joined_shown f ss)

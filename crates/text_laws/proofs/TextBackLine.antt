@@ -42,7 +42,7 @@ mnemonic_inside false _ = refl
 slot_inside : (mode : Bool) (i : Insn) (s : Slot) (ss : List Slot) → SlotsFit (s ∷ ss) i → every is_inside (shown_slot mode i s) ≡ true
 slot_inside mode i s ss h = inside_plain (shown_slot mode i s) (slot_plain mode i s h.0).bytes
 
--- operands behind the first
+-- operands after the first
 others_inside : (mode : Bool) (i : Insn) (ss : List Slot) → SlotsFit ss i
     → every is_inside (flat_map (λ s. codes ", " ++ shown_slot mode i s) ss) ≡ true
 others_inside mode i [] h = refl

@@ -16,7 +16,7 @@ pub fn names_of_interrupts()
     ensures { interrupts ≡ (0x8000000000000007, codes "timer interrupt") ∷ (0x800000000000000b, codes "external interrupt") ∷ [] }
 {}
 
-/// What a capability forbids, by its number in mtval (UCAM-CL-TR-987, capability exception codes; profile).
+/// What a capability forbids, by its number in mtval (UCAM-CL-TR-987, capability exception codes).
 pub fn names_of_cheri_causes()
     ensures forbidden { cheri_causes ≡ (1, codes "length violation") ∷ (2, codes "tag violation") ∷ (3, codes "seal violation")
         ∷ (4, codes "type violation") ∷ (0x11, codes "permit execute violation") ∷ (0x12, codes "permit load violation")

@@ -9,7 +9,7 @@ use arrayvec::ArrayString;
 use base::Cause;
 use disassembler::hex_digits;
 
-/// Puts the name of a cause behind a text, or its number.
+/// Appends the name of a cause to a text, or its number.
 #[tactic(auto, using(crate::specs::LengthLaws::cause_name_short))]
 fn push_cause(text: &mut ArrayString<128>, mcause: u64)
     requires { array_string_len text.old + 30 ≤ 128 }
@@ -25,7 +25,7 @@ fn push_cause(text: &mut ArrayString<128>, mcause: u64)
     }
 }
 
-/// Puts mtval as a number behind a text.
+/// Appends mtval as a number to a text.
 fn push_number(text: &mut ArrayString<128>, mtval: u64)
     requires { array_string_len text.old + 22 ≤ 128 }
     ensures text { text.new.bytes ≡ text.old.bytes ++ spec.number_text mtval }
@@ -35,7 +35,7 @@ fn push_number(text: &mut ArrayString<128>, mtval: u64)
     text.push_str(hex_digits(u128::from(mtval), 16).as_str());
 }
 
-/// Puts what mtval says of a CHERI exception behind a text: what is forbidden, and at which register.
+/// Appends what mtval says of a CHERI exception to a text: what is forbidden, and at which register.
 #[tactic(auto, using(crate::specs::LengthLaws::cheri_cause_name_short, crate::specs::LengthLaws::register_at_fault_short))]
 fn push_violation(text: &mut ArrayString<128>, mtval: u64)
     requires { array_string_len text.old + 64 ≤ 128 }

@@ -1,6 +1,6 @@
 -- The base and the top by corrections are those by windows, over plain numbers. An address lies `a` whole blocks, `ah` eighths and
--- a rest behind 0; the base `bh` eighths and a rest behind the beginning of its block; `k` is how many whole eighths the address
--- lies behind the beginning of its window.
+-- a rest past 0; the base `bh` eighths and a rest past the beginning of its block; `k` is how many whole eighths the address
+-- lies past the beginning of its window.
 use Rattle.std.proofs.Common.{◌≡◌, ℕ, ◌+◌, ◌-◌, ◌*◌, ◌/◌, ◌%◌, ◌^◌, ◌<◌, ◌≤◌, Bool, true, false, ltb, cond, refl, sym, ap, ◌∙◌, inl, inr}
 use Rattle.std.proofs.Common.{arith}
 use Rattle.std.proofs.lemmas.Bool.{ltb-true, ltb-false, lt-ltb, le-ltb, and_left, cond-false, cases_lt, cases_eq}
@@ -29,7 +29,7 @@ pub eighths : (ah bh : ℕ) → ah < 8 → bh < 8
     → ah + 1 + 8 * bit (ltb ah ((bh + 7) % 8)) ≡ (ah + 9 - bh) % 8 + bh + 8 * bit (ltb bh ((bh + 7) % 8))
 eighths ah bh a b = eighths_by ah bh (ltb ah ((bh + 7) % 8)) (ltb bh ((bh + 7) % 8)) a b refl refl
 
--- the top's mantissa lies L behind the base's, counted from the edge
+-- the top's mantissa lies L past the base's, counted from the edge
 top_from_base_by : (b l : ℕ) (b_high t_high : Bool) → b < 16384 → l < 8192 → ltb (b / 2048 % 8) ((b / 2048 % 8 + 7) % 8) ≡ b_high
     → ltb ((b + l) % 16384 / 2048 % 8) ((b / 2048 % 8 + 7) % 8) ≡ t_high
     → (b + l) % 16384 + 16384 * bit t_high ≡ b + 16384 * bit b_high + l
@@ -69,7 +69,7 @@ signed a h1 h0 w m k n positive small fits =
     (int_rem_euclid_is _ (pos n) n k ((a + h1) * w + m + k * n - h0 * w) positive refl
     (signed_multiple (pos a +ℤ (pos h1 -ℤ pos h0)) (a + h1) h0 w m (k * n) sum small fits))
 
--- an address p steps and a rest r behind 0 lies k steps and r behind the beginning of its window
+-- an address p steps and a rest r past 0 lies k steps and r past the beginning of its window
 place_of-eighths : (s p r h k : ℕ) → r < s → h < 8 → k ≡ (p % 8 + 9 - h) % 8 → place_of s h (p * s + r) ≡ k * s + r
 place_of-eighths s p r h k rest eighth is =
     let j : ℕ = (p + 9 - h) / 8 in
@@ -169,7 +169,7 @@ apart : (a h1 h0 ht b t l u w k : ℕ) → t + 16384 * ht ≡ b + 16384 * h1 + l
 apart a h1 h0 ht b t l u w k from block fits =
     omega (arith, ap (λ n. n * u) from, ap (λ n. ht * n) block, ap (λ n. h1 * n) block)
 
--- before they go round, the top lies L units behind the base
+-- before they go round, the top lies L units past the base
 unrounded-length : (e address b l : ℕ) → e ≤ 52 → b < 16384 → l < 8192
     → unrounded e address (high (edge_of b) ((b + l) % 16384)) (high (edge_of b) (address / 2 ^ e)) ((b + l) % 16384)
     ≡ unrounded e address (high (edge_of b) b) (high (edge_of b) (address / 2 ^ e)) b + l * 2 ^ e
@@ -179,7 +179,7 @@ unrounded-length e address b l most mantissa short =
     (4 * 2 ^ 64) (top_from_base b l mantissa short) (pow-add 2 e 14)
     (block_fits e (high (edge_of b) (address / 2 ^ e)) most (high-small (edge_of b) (address / 2 ^ e)))
 
--- where a top of 65 bits is less than 2 ^ 63 behind its base, modulo 2 ^ 64, its bit 64 is inverted exactly where it is wrong
+-- where a top of 65 bits is less than 2 ^ 63 past its base, modulo 2 ^ 64, its bit 64 is inverted exactly where it is wrong
 flip_by : (z n : ℕ) (wrong : Bool) → n < 2 ^ 63 → ltb 1 (((z + n) % 2 ^ 65 / 2 ^ 63 + 4 - z % 2 ^ 64 / 2 ^ 63) % 4) ≡ wrong
     → cond wrong (flipped ((z + n) % 2 ^ 65)) ((z + n) % 2 ^ 65) ≡ z % 2 ^ 64 + n
 flip_by z n true small is = let above = ltb-true _ _ is in omega arith

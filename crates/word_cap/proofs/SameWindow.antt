@@ -172,7 +172,7 @@ units_of_base w e b low mantissa =
       ap (λ n. (w * 16384 + b) % n % 16384) rounds ∙ mod-twice (w * 16384 + b) (2 ^ (50 - e)) ∙ own,
     )
 
--- an address less than a length behind the base gives the same base
+-- an address less than a length past the base gives the same base
 decoded_base-inside : (e b own address : ℕ) → e ≤ 52 → b < 16384 → own < 2 ^ 64 → address < 2 ^ 64
     → (address + (2 ^ 64 - decoded_base e b own)) % 2 ^ 64 / 2 ^ e < 8192 → decoded_base e b own ≡ decoded_base e b address
 decoded_base-inside e b own address most mantissa own_fits fits inside = elim (cases_lt 50 e) [

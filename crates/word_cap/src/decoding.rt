@@ -106,7 +106,7 @@ fn corrected_top(e: u32, address: u64, t: u64, top_high: bool, address_high: boo
     (forward + (1 << 66) - block(e, address_high)) & ((1 << 65) - 1)
 }
 
-/// Whether bit 64 of a top is to be inverted: the top lies less than `2^63` behind the base.
+/// Whether bit 64 of a top is to be inverted: the top lies less than `2^63` past the base.
 #[inline(always)]
 #[tactic(auto, unfolding(crate::specs::Parts::is_flipped))]
 fn is_flipped(e: u32, base: u64, top: u128) -> bool
@@ -150,7 +150,7 @@ pub(crate) struct Bounds {
     pub(crate) top: u128,
 }
 
-/// The bounds of a word: its base, and the top that lies its length behind it. The top by its correction, with bit 64 inverted
+/// The bounds of a word: its base, and the top that lies its length past it. The top by its correction, with bit 64 inverted
 /// where that is wrong, is the same number.
 #[inline(always)]
 #[tactic(auto, unfolding(cap_bounds::specs::Window::base_of_word, cap_bounds::specs::Window::top_of_word))]

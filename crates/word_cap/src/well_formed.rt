@@ -19,7 +19,7 @@ fn reserved_are_clear(word: CapWord) -> bool
     word.logical() >> 110 & 3 == 0
 }
 
-/// Whether so many bytes behind a base end in the address space.
+/// Whether so many bytes past a base end in the address space.
 #[inline(always)]
 fn ends_in_space(base: u64, length: u64) -> bool
     ensures { result ≡ nat_le (base + length) (2 ^ 64) }

@@ -14,7 +14,7 @@ use cap_format::CapWord;
 
 /// Whether a word's bounds stay with this address in place of its own: where it lies in the window of the old one.
 ///
-/// All addresses in the bounds do: those less than the length behind the base. An address in the same 2048 bytes as the old one
+/// All addresses in the bounds do: those less than the length past the base. An address in the same 2048 bytes as the old one
 /// does too, since it is in the same eighth of a window at every exponent. Only for another are windows compared: their numbers go
 /// round at `2^(50 - e)`, and with an exponent of 50 or more there is one window.
 #[inline(always)]

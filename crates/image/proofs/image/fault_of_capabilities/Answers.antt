@@ -8,7 +8,7 @@ use Rattle.image.proofs.image.fault_of_capabilities.Goals as goal
 abbrev nowhere : CapEntry
 nowhere = record { place = 0; base = 0; length = 0; perms = 0; flag = 0 }
 
--- the fault of the capabilities from one on is its own, or else that of those behind it
+-- the fault of the capabilities from one on is its own, or else that of those after it
 rest_fault : (pages before i : ℕ) (cs : List CapEntry) → i < length cs
     → capabilities_fault pages before (drop i cs)
     ≡ option_or (capability_fault pages before (get_or cs i nowhere))

@@ -8,7 +8,7 @@ use Rattle.image.specs.Grammar.{taken}
 use Rattle.image.proofs.Taking.{after_known}
 use Rattle.image.proofs.reading.body.Goals as goal
 
--- bytes that are there, and too few behind them
+-- bytes that are there, and too few after them
 cut_short : (size count : ℕ) (bytes rest : List ℕ) → count ≤ size - length bytes → length rest < count
     → taken size L8 (bytes ++ rest) ≡ Err L8
 cut_short size count bytes rest within few =

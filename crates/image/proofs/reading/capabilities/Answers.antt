@@ -7,7 +7,7 @@ use Rattle.image.specs.Reads.{Takes}
 use Rattle.image.proofs.Taking.{then_part, Takes-then}
 use Rattle.image.proofs.reading.capabilities.Goals as goal
 
--- behind the count of a version that may have capabilities come so many
+-- after the count of a version that may have capabilities come so many
 counted : (version pages : ℕ) → (version ≡ 1 → ⊥) → (bytes : List ℕ)
     → then_part (count_at version) (λ n. entries_at pages n 0) bytes ≡ capabilities_at version pages bytes
 unfolding capabilities_at
