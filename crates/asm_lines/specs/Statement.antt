@@ -206,7 +206,7 @@ escaped_byte b = if b == 110 then 10 else (if b == 48 then 0 else b)
 
 -- after the opening quote, the first quote that is not escaped ends the text, and each escape is one that there is
 abbrev pub closes_from : Bool → List ℕ → Bool
-closes_from behind [] = false
+closes_from escaped [] = false
 closes_from false (b ∷ bs) = if b == 34 then length bs == 0 else (if b == 92 then closes_from true bs else closes_from false bs)
 closes_from true (b ∷ bs) = is_escape b && closes_from false bs
 
@@ -215,7 +215,7 @@ is_quoted operands = (slice_index operands 0 == 34) && closes_from false (drop 1
 
 -- the bytes that a text between quotes stands for
 abbrev pub text_bytes_from : Bool → List ℕ → List ℕ
-text_bytes_from behind [] = []
+text_bytes_from escaped [] = []
 text_bytes_from false (b ∷ bs) = if b == 92 then text_bytes_from true bs else (b ∷ text_bytes_from false bs)
 text_bytes_from true (b ∷ bs) = escaped_byte b ∷ text_bytes_from false bs
 

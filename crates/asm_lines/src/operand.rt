@@ -149,8 +149,8 @@ fn before_bracket(text: &[u8]) -> &[u8]
 fn in_brackets(text: &[u8]) -> &[u8]
     ensures { result.now ≡ in_brackets text.now }
 {
-    let behind = after(text, Class::Not(b'('));
-    trimmed(&behind[..behind.len().saturating_sub(1)])
+    let past = after(text, Class::Not(b'('));
+    trimmed(&past[..past.len().saturating_sub(1)])
 }
 
 /// The number before a bracket; nothing means 0.

@@ -14,20 +14,20 @@ pub(crate) fn closes(text: &[u8]) -> bool
     ensures value { result ≡ closes_from false text.now }
     ensures some { IsTrue result → 0 < length text.now }
 {
-    let mut behind = false;
+    let mut escaped = false;
     let mut place = 0;
     while place < text.len() {
         let byte = text[place];
         place += 1;
-        if behind {
+        if escaped {
             if !is_escape(byte) {
                 return false;
             }
-            behind = false;
+            escaped = false;
         } else if byte == b'"' {
             return place == text.len();
         } else {
-            behind = byte == b'\\';
+            escaped = byte == b'\\';
         }
     }
     false

@@ -21,7 +21,7 @@ use Rattle.assembler.specs.Capabilities.{capability_in, is_inexact, part_value, 
 use Rattle.assembler.specs.Sound.{ArePartsKnown, IsPutThere}
 use Rattle.assembler.specs.Text.{version_for, version_of}
 use Rattle.assembler.proofs.CapabilityLemmas.{held-grown, held-entered, length-entered, ascending-entered, ascending-none, taken-own}
-use Rattle.assembler.proofs.CapabilityLemmas.{free-behind}
+use Rattle.assembler.proofs.CapabilityLemmas.{free-past}
 use Rattle.asm_lines.specs.Text.{pieces_of}
 use Rattle.asm_lines.specs.Operand.{wrapped}
 use Rattle.asm_lines.specs.Number.{expression_of}
@@ -264,7 +264,7 @@ one-kept symbols s bytes n operands b f e =
     record {
       ascending =
           ascending-entered (page_count s) 0 (closed s.done s.current) c s.capabilities g.good (omega (arith, g.good.above_base))
-          (free-behind s.places.place s.done s.current b.place g.free) b.held b.ascending;
+          (free-past s.places.place s.done s.current b.place g.free) b.held b.ascending;
       held =
           held-entered (closed s.done (filled s.current bytes)) c s.capabilities
           (taken-own s.places.place s.done (filled s.current bytes) (omega (arith, b.place)) (omega (arith, b.place, grew))) same.held;

@@ -88,9 +88,9 @@ neither-met : (a b : Bool) → a ≡ false → b ≡ false → (a || b) ≡ fals
 neither-met a b h g = cc
 
 -- what stands after the last section and in no other lies in none
-pub free-behind : (p : ℕ) (done : List Section) (s : Section) → p ≡ s.address + length s.bytes → is_taken p (p + 16) done ≡ false
+pub free-past : (p : ℕ) (done : List Section) (s : Section) → p ≡ s.address + length s.bytes → is_taken p (p + 16) done ≡ false
     → is_taken p (p + 16) (closed done s) ≡ false
-free-behind p done s e h =
+free-past p done s e h =
     elim (length s.bytes == 0) as (λ x. is_taken p (p + 16) (if x then done else inserted s done) ≡ false) [
       | true ↦ h
       | false ↦ taken-inserted p (p + 16) s done ∙ neither-met _ _ (not-met p s.address (length s.bytes) (sym e)) h

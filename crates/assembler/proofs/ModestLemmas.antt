@@ -144,8 +144,8 @@ said-modest word operands short-enough =
 
 operands-shorter : (statement : List ℕ) → length (operands_of statement) ≤ length statement
 operands-shorter statement =
-    let behind = after_first is_blank statement in
-    omega (arith, length-drop-le (prefix_len is_blank behind) behind, length-drop-le (position_or_len is_blank statement + 1) statement)
+    let past = after_first is_blank statement in
+    omega (arith, length-drop-le (prefix_len is_blank past) past, length-drop-le (position_or_len is_blank statement + 1) statement)
 
 line_said-modest : (label : Option (List ℕ)) (statement : List ℕ) → length statement ≤ 255
     → is_modest_line (line_said label statement) ≡ true

@@ -144,11 +144,11 @@ here-before address at (b ∷ bs) h =
     let other : (at == address) ≡ false = grind (arith, nat_tests) in
     rw other (omega (arith, here-before address (at + 1) bs (omega arith)))
 
-here-behind : (address at : ℕ) (bs : List ℕ) → at + length bs ≤ address → count_from (λ a b. a == address) at bs ≡ 0
-here-behind address at [] h = refl
-here-behind address at (b ∷ bs) h =
+here-past : (address at : ℕ) (bs : List ℕ) → at + length bs ≤ address → count_from (λ a b. a == address) at bs ≡ 0
+here-past address at [] h = refl
+here-past address at (b ∷ bs) h =
     let other : (at == address) ≡ false = grind (arith, nat_tests) in
-    rw other (omega (arith, here-behind address (at + 1) bs (omega arith)))
+    rw other (omega (arith, here-past address (at + 1) bs (omega arith)))
 
 here-once : (address at : ℕ) (bs : List ℕ) → count_from (λ a b. a == address) at bs ≤ 1
 here-once address at [] = omega arith
@@ -192,7 +192,7 @@ sections-once address count free (s ∷ ss) h =
           )
       | false ↦ λ e.
           let f : s.address + length s.bytes ≤ address = grind (arith, nat_tests) in
-          omega (arith, here-behind address s.address s.bytes f, sections-once address count (s.address + length s.bytes) ss none.1)
+          omega (arith, here-past address s.address s.bytes f, sections-once address count (s.address + length s.bytes) ss none.1)
     ] refl
 
 pub bytes-once : (text : List ℕ) (address : ℕ) → text_fault text ≡ None

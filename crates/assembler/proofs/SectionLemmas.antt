@@ -20,8 +20,8 @@ span-moved pages free other a n h f = grind (arith, nat_tests)
 before : (a n b m : ℕ) → nat_lt a b ≡ true → (nat_lt a (b + m) && nat_lt b (a + n)) ≡ false → a + n ≤ b
 before a n b m h g = grind (arith, nat_tests)
 
-behind : (a n b m : ℕ) → nat_lt a b ≡ false → 0 < n → (nat_lt a (b + m) && nat_lt b (a + n)) ≡ false → b + m ≤ a
-behind a n b m h f g = grind (arith, nat_tests)
+past : (a n b m : ℕ) → nat_lt a b ≡ false → 0 < n → (nat_lt a (b + m) && nat_lt b (a + n)) ≡ false → b + m ≤ a
+past a n b m h f g = grind (arith, nat_tests)
 
 inserted-none : (pages free : ℕ) (s : Section) (ss : List Section) → 0 < length s.bytes → ram_base ≤ s.address
     → s.address + length s.bytes ≤ ram_end pages → free ≤ s.address → is_taken s.address (s.address + length s.bytes) ss ≡ false
@@ -41,7 +41,7 @@ inserted-none pages free s (t ∷ ts) f a b g p h =
       | false ↦ λ e.
           sections_fault-none pages free t (inserted s ts) both.0
           (inserted-none pages (t.address + length t.bytes) s ts f a b
-          (behind s.address (length s.bytes) t.address (length t.bytes) e f apart.0) apart.1 both.1)
+          (past s.address (length s.bytes) t.address (length t.bytes) e f apart.0) apart.1 both.1)
     ] refl
 
 length-inserted : (s : Section) (ss : List Section) → length (inserted s ss) ≡ length ss + 1

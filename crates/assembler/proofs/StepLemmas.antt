@@ -13,11 +13,11 @@ pub before-step : (symbols : Symbols) (s t : Assembled) (l : Line) (ls : List Li
     → t ≡ assembled_after symbols s l → before_fault symbols s (l ∷ ls) ≡ before_fault symbols t ls
 before-step symbols s t l ls none after = rw none (ap (λ a. before_fault symbols a ls) (sym after))
 
-pub left-behind : (rest : Option (Bor (List ℕ))) (n : ℕ) → IfSome rest (λ r. length r.now < n) → left rest ≤ n
-left-behind None n h = omega arith
-left-behind (Some r) n h = omega arith
+pub left-past : (rest : Option (Bor (List ℕ))) (n : ℕ) → IfSome rest (λ r. length r.now < n) → left rest ≤ n
+left-past None n h = omega arith
+left-past (Some r) n h = omega arith
 
-pub room-behind : (place end l m n : ℕ) → IsNear place end → m < l → l ≤ n → place + 2 ^ 28 * l ≤ 2 ^ 64 + 2 ^ 28 * n
+pub room-past : (place end l m n : ℕ) → IsNear place end → m < l → l ≤ n → place + 2 ^ 28 * l ≤ 2 ^ 64 + 2 ^ 28 * n
     → end + 2 ^ 28 * m ≤ 2 ^ 64 + 2 ^ 28 * n
-room-behind place end l m n (inl h) a b r = omega arith
-room-behind place end l m n (inr h) a b r = omega arith
+room-past place end l m n (inl h) a b r = omega arith
+room-past place end l m n (inr h) a b r = omega arith

@@ -272,13 +272,13 @@ fn escaped(byte: u8) -> u8
 fn push_text(bytes: &mut Vec<u8>, between: &[u8]) -> Result<(), AllocError>
     ensures { OnOk result (bytes.new.items ≡ bytes.old.items ++ text_bytes between.now) }
 {
-    let mut behind = false;
+    let mut escaped = false;
     for byte in between {
-        if behind {
+        if escaped {
             bytes.push(escaped(*byte))?;
-            behind = false;
+            escaped = false;
         } else if *byte == b'\\' {
-            behind = true;
+            escaped = true;
         } else {
             bytes.push(*byte)?;
         }

@@ -17,12 +17,12 @@ fn text_length(between: &[u8]) -> u128
     ensures bound { result ≤ length between.now }
 {
     let mut count = 0;
-    let mut behind = false;
+    let mut escaped = false;
     for byte in between {
-        if *byte == b'\\' && !behind {
-            behind = true;
+        if *byte == b'\\' && !escaped {
+            escaped = true;
         } else {
-            behind = false;
+            escaped = false;
             count += 1;
         }
     }
@@ -45,7 +45,7 @@ fn aligned(place: u128, bits: u32) -> u128
     requires place { place < 2 ^ 100 }
     ensures value { result ≡ aligned place bits }
     ensures bound { result < place + 2 ^ 12 }
-    ensures behind { place ≤ result }
+    ensures past { place ≤ result }
 {
     let unit = power(bits);
     (place + unit - 1) / unit * unit

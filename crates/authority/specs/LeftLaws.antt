@@ -61,7 +61,7 @@ touched address size granule touch =
     let above : address < granule + 16 = ltb-true _ _ near.1 in
     elim (cases_lt address granule) [
       | inl before ↦ (granule, omega arith, omega arith, omega arith, below)
-      | inr behind ↦ (address, behind, above, omega arith, omega arith)
+      | inr beyond ↦ (address, beyond, above, omega arith, omega arith)
     ]
 
 kept-tag : (t touch : Bool) → touch ≡ false → (t && not touch) ≡ t

@@ -9,10 +9,10 @@ use Rattle.cap_bounds.specs.PowerLaws.{window_fits}
 use Rattle.cap_bounds.specs.RemainderLaws.{mod-is}
 
 -- addresses less than half a window past the base, round the end of the address space too
-pub is_in_window-behind : (e base address : ℕ) → base < 2 ^ 64 → address < 2 ^ 64 → (address + (2 ^ 64 - base)) % 2 ^ 64 < 2 ^ (e + 13)
+pub is_in_window-past : (e base address : ℕ) → base < 2 ^ 64 → address < 2 ^ 64 → (address + (2 ^ 64 - base)) % 2 ^ 64 < 2 ^ (e + 13)
     → is_in_window e base address ≡ true
 unfolding is_in_window
-is_in_window-behind e base address base_fits fits near = elim (cases_lt e 50) [
+is_in_window-past e base address base_fits fits near = elim (cases_lt e 50) [
   | inl below ↦
       let s : ℕ = 2 ^ (e + 11) in
       let positive : 0 < 2 ^ (e + 11) = pow_pos (e + 11) in
@@ -32,6 +32,6 @@ pub bounds_in_window : BoundsLieInTheWindow
 bounds_in_window r address well fits low high =
     let in_space = well.in_space in
     let short = exponent_for-holds (r.top - r.base) (omega arith) in
-    let behind : (address + (2 ^ 64 - r.base)) % 2 ^ 64 ≡ address - r.base =
+    let past : (address + (2 ^ 64 - r.base)) % 2 ^ 64 ≡ address - r.base =
     mod-is (address + (2 ^ 64 - r.base)) (address - r.base) 0 1 (2 ^ 64) (omega arith) (omega (arith, well.base_fits)) in
-    is_in_window-behind (exponent_for (r.top - r.base)) r.base address well.base_fits fits (rw behind (omega arith))
+    is_in_window-past (exponent_for (r.top - r.base)) r.base address well.base_fits fits (rw past (omega arith))

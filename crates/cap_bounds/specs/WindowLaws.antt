@@ -50,11 +50,11 @@ start-holds_address a y N small =
 
 -- it holds the base that the place gives, one step and q past its beginning
 pub start-holds_base : (a y s q N : ℕ) → y < N → s + q < N → (base_at N s q a y + N - (a + N - y) % N) % N ≡ s + q
-start-holds_base a y s q N small behind =
+start-holds_base a y s q N small past =
     let k : ℕ = (a + N - y) / N in
     let m : ℕ = (a + N - y + s + q) / N in
     let low : (a + N - y) % N < N = mod-lt (a + N - y) (omega arith) in
-    mod-is (base_at N s q a y + N - (a + N - y) % N) (s + q) m (k + 1) N behind (omega arith)
+    mod-is (base_at N s q a y + N - (a + N - y) % N) (s + q) m (k + 1) N past (omega arith)
 
 module _ (s M N : ℕ) (space : N ≡ M * (8 * s)) where
   -- an address within a window after the step before the p-th has that distance as its place
@@ -115,7 +115,7 @@ module _ (s M N : ℕ) (space : N ≡ M * (8 * s)) where
       → base_at N s q a (place_of s h a) ≡ base
   base_at-unique a h q base start eighth small fits inside begins congruent holds_address holds_base =
       let place = place_of-from_start a h start eighth inside begins holds_address in
-      let behind = base-from_start h q base start eighth small inside begins congruent holds_base in
+      let past = base-from_start h q base start eighth small inside begins congruent holds_base in
       let k : ℕ = (a + N - start) / N in
       let m : ℕ = (base + N - start) / N in
       mod-is (a + N - place_of s h a + s + q) base m (k + 1) N fits (omega arith)

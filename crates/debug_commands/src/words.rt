@@ -13,7 +13,7 @@ fn before<'a>(text: &'a [u8], end: usize) -> &'a [u8]
 }
 
 /// A text from its byte number `start` on.
-fn behind<'a>(text: &'a [u8], start: usize) -> &'a [u8]
+fn from<'a>(text: &'a [u8], start: usize) -> &'a [u8]
     requires { start ≤ length text.now }
     ensures { result.now ≡ drop start text.now }
 {
@@ -25,10 +25,10 @@ fn behind<'a>(text: &'a [u8], start: usize) -> &'a [u8]
 pub(crate) fn split_word<'a>(line: &'a [u8]) -> Option<(&'a [u8], &'a [u8])>
     ensures { MatchOption result (words_of line.now ≡ []) (λ p. words_of line.now ≡ p.0.now ∷ words_of p.1.now) }
 {
-    let text = behind(line, run_length(line, Class::Blank));
+    let text = from(line, run_length(line, Class::Blank));
     if text.is_empty() {
         return None;
     }
     let end = run_length(text, Class::Solid);
-    Some((before(text, end), behind(text, end)))
+    Some((before(text, end), from(text, end)))
 }

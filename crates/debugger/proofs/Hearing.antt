@@ -198,7 +198,7 @@ module _ (n : ℕ) (line : List ℕ) (old new : Standing) (h : IsHeard n line ol
     cut_at_feed Write s held' f = record {
       lines = h.lines;
       line = h.part;
-      behind = 10 ∷ [];
+      past = 10 ∷ [];
       is_read = read_feed s held';
       is_line = before_none h.part h.in_line;
       ends = inl refl;
@@ -210,7 +210,7 @@ module _ (n : ℕ) (line : List ℕ) (old new : Standing) (h : IsHeard n line ol
     cut_at_feed Memory s held' f = record {
       lines = h.lines;
       line = h.part;
-      behind = 10 ∷ [];
+      past = 10 ∷ [];
       is_read = read_feed s held';
       is_line = before_none h.part h.in_line;
       ends = inl refl;
@@ -274,7 +274,7 @@ module _ (n : ℕ) (line : List ℕ) (old new : Standing) (h : IsHeard n line ol
     cut_at_rest Write s held' f = record {
       lines = h.lines;
       line = h.part;
-      behind = [];
+      past = [];
       is_read = read_rest s held';
       is_line = before_none h.part h.in_line;
       ends = ends_rest;
@@ -286,7 +286,7 @@ module _ (n : ℕ) (line : List ℕ) (old new : Standing) (h : IsHeard n line ol
     cut_at_rest Memory s held' f = record {
       lines = h.lines;
       line = h.part;
-      behind = [];
+      past = [];
       is_read = read_rest s held';
       is_line = before_none h.part h.in_line;
       ends = ends_rest;

@@ -58,8 +58,8 @@ pub record IsRead (lines : List (List ℕ)) (more : List ℕ) (old new : Standin
 
 -- What stands after a line: its line feed; or nothing, where the input is at its end or as much was heard as a conversation hears.
 abbrev pub Ends : List (List ℕ) → List ℕ → List ℕ → Option (List ℕ) → Type 0
-Ends lines line behind left =
-    (behind ≡ 10 ∷ []) ⊎ ((behind ≡ []) × (0 < length line) × ((length (fed lines ++ line) ≡ most_heard) ⊎ IsAtEnd left))
+Ends lines line past left =
+    (past ≡ 10 ∷ []) ⊎ ((past ≡ []) × (0 < length line) × ((length (fed lines ++ line) ≡ most_heard) ⊎ IsAtEnd left))
 
 -- Somewhere in a line: the replies to the lines before were written, and the machine stands after those lines.
 pub record IsCutInLine (old new : Standing) : Type 0 where
@@ -74,10 +74,10 @@ pub record IsCutInLine (old new : Standing) : Type 0 where
 pub record IsCutBeforeReply (old new : Standing) : Type 0 where
   pub lines : List (List ℕ)
   pub line : List ℕ
-  pub behind : List ℕ
-  pub is_read : IsRead lines (line ++ behind) old new
+  pub past : List ℕ
+  pub is_read : IsRead lines (line ++ past) old new
   pub is_line : IsLine line
-  pub ends : Ends lines line behind new.left
+  pub ends : Ends lines line past new.left
   pub text : Appends old.held new.held (replies lines old.state)
   pub state : new.state ≡ state_after_all lines old.state
 
@@ -85,10 +85,10 @@ pub record IsCutBeforeReply (old new : Standing) : Type 0 where
 pub record IsCutInReply (old new : Standing) : Type 0 where
   pub lines : List (List ℕ)
   pub line : List ℕ
-  pub behind : List ℕ
-  pub is_read : IsRead lines (line ++ behind) old new
+  pub past : List ℕ
+  pub is_read : IsRead lines (line ++ past) old new
   pub is_line : IsLine line
-  pub ends : Ends lines line behind new.left
+  pub ends : Ends lines line past new.left
   pub text : AppendsBeginning old.held new.held (replies lines old.state ++ reply_to line (state_after_all lines old.state))
   pub state : new.state ≡ state_after line (state_after_all lines old.state)
 

@@ -16,12 +16,12 @@ use Rattle.disassembler.specs.Hex.{hex_of}
 use Rattle.fault_details.specs.Limits.{beyond_text}
 use Rattle.fault_details.specs.Forms.{ranges_read, written_text}
 use Rattle.fault_details.specs.Reasons.{named, value_beyond_text, name_of_statement, far_text, misplaced_text, inexact_text}
-use Rattle.fault_details.specs.Pieces.{behind, up_to}
+use Rattle.fault_details.specs.Pieces.{past, up_to}
 
 -- a line of a text, counted from 1
 abbrev pub behind_lines : ℕ → List ℕ → List ℕ
 behind_lines zero text = text
-behind_lines (suc count) text = behind_lines count (behind 10 text)
+behind_lines (suc count) text = behind_lines count (past 10 text)
 
 abbrev pub line_at : ℕ → List ℕ → List ℕ
 line_at number text = up_to 10 (behind_lines (number - 1) text)

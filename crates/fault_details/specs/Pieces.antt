@@ -6,5 +6,5 @@ use Rattle.std.specs.List.{prefix_len}
 abbrev pub up_to : ℕ → List ℕ → List ℕ
 up_to byte text = take (prefix_len (λ b. not (b == byte)) text) text
 
-abbrev pub behind : ℕ → List ℕ → List ℕ
-behind byte text = drop (prefix_len (λ b. not (b == byte)) text + 1) text
+abbrev pub past : ℕ → List ℕ → List ℕ
+past byte text = drop (prefix_len (λ b. not (b == byte)) text + 1) text

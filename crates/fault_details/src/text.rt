@@ -1,7 +1,7 @@
 //! Lines of a text, and pieces of a line.
 ghost use Rattle.std.specs.Prelude.{◌≡◌};
 ghost use Rattle.fault_details.specs.Detail.{behind_lines, first_word, line_at};
-ghost use Rattle.fault_details.specs.Pieces.{behind, up_to};
+ghost use Rattle.fault_details.specs.Pieces.{past, up_to};
 
 use asm_lines::{Class, run_length};
 
@@ -13,8 +13,8 @@ pub(crate) fn up_to(byte: u8, text: &[u8]) -> &[u8]
 }
 
 /// What stands after the first such byte; nothing where there is none.
-fn behind(byte: u8, text: &[u8]) -> &[u8]
-    ensures { result.now ≡ behind byte text.now }
+fn past(byte: u8, text: &[u8]) -> &[u8]
+    ensures { result.now ≡ past byte text.now }
 {
     let count = run_length(text, Class::Not(byte));
     if count < text.len() {
@@ -32,7 +32,7 @@ fn behind_lines(count: u64, text: &[u8]) -> &[u8]
     let mut rest = text;
     while left > 0 {
         left -= 1;
-        rest = behind(b'\n', rest);
+        rest = past(b'\n', rest);
     }
     rest
 }

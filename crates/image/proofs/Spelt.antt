@@ -221,9 +221,9 @@ unfolding spelling
 parts_spelt h ss cs none count =
     let good = (build_parts h.version h.pages h.entry h.mode ss cs none).header in
     let small = (header_ranges h.version h.pages h.entry h.mode good).2 in
-    let behind = flat_map section_bytes ss ++ capabilities_bytes h.version cs in
-    ap (λ n. header_bytes h.version h.pages h.entry n (mode_number (eqb h.mode 1)) ++ behind) count
-    ∙ ap (λ n. header_bytes h.version h.pages h.entry h.count n ++ behind) (mode_again h.mode small)
+    let past = flat_map section_bytes ss ++ capabilities_bytes h.version cs in
+    ap (λ n. header_bytes h.version h.pages h.entry n (mode_number (eqb h.mode 1)) ++ past) count
+    ∙ ap (λ n. header_bytes h.version h.pages h.entry h.count n ++ past) (mode_again h.mode small)
 
 -- the bytes of three parts and the rest
 three : (bytes a b c after after_sections rest : List ℕ) → bytes ≡ a ++ after → after ≡ b ++ after_sections → after_sections ≡ c ++ rest

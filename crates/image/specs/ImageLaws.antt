@@ -139,13 +139,13 @@ pub build_parts : (v pages entry mode : ℕ) (ss : List Section) (cs : List CapE
 unfolding build_fault
 build_parts v pages entry mode ss cs none =
     let entries = capabilities_checks pages 0 cs in
-    let behind = (leb (length cs) (most_capabilities_of v), L15) ∷ entries in
-    let both = sections_checks pages 0 ss ++ behind in
+    let past = (leb (length cs) (most_capabilities_of v), L15) ∷ entries in
+    let both = sections_checks pages 0 ss ++ past in
     let first = first_fault-cons (is_version v) L3
     ((is_good_header v pages entry mode, L4) ∷ (leb (length ss) 64, L5) ∷ both) none in
     let second = first_fault-cons (is_good_header v pages entry mode) L4 ((leb (length ss) 64, L5) ∷ both) first.1 in
     let third = first_fault-cons (leb (length ss) 64) L5 both second.1 in
-    let neither = no_fault _ _ (sym (first_fault-append (sections_checks pages 0 ss) behind) ∙ third.1) in
+    let neither = no_fault _ _ (sym (first_fault-append (sections_checks pages 0 ss) past) ∙ third.1) in
     let fourth = first_fault-cons (leb (length cs) (most_capabilities_of v)) L15 entries neither.1 in
     record {
       version = first.0;

@@ -276,10 +276,10 @@ module _ (byte : Option ℕ) (n : ℕ) (ticks : Bool) (s t : State) (running : i
     count_in_block u at_steps =
         let steps = up_to_halt (replicate n Step) t in
         let before = steps_in-append (brought byte) (steps ++ ticked_after ticks u) in
-        let behind = steps_in-append steps (ticked_after ticks u) in
+        let past = steps_in-append steps (ticked_after ticks u) in
         let none = steps_in-brought byte in
         let no_more = steps_in-ticked (ticks && not (is_halted u)) in
-        ap steps_in (up_to_halt-block u at_steps) ∙ omega (arith, before, behind, none, no_more)
+        ap steps_in (up_to_halt-block u at_steps) ∙ omega (arith, before, past, none, no_more)
 
     pub cut_in_block : (u : State) (a b : Option (List ℕ)) → IsCutShort (up_to_halt (replicate n Step) t) t u a b
         → IsCutShort (up_to_halt (block byte n ticks) s) s u a b

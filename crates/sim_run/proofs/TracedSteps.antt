@@ -227,11 +227,11 @@ module _ (schedule : Schedule) (input : List ℕ) where
         let done = up_to_halt (first_steps schedule input m) s in
         let next = up_to_halt (nth_block schedule input m 1) t in
         let none : steps_in done ≡ 0 + steps_in done = omega arith in
-        let behind = steps_from schedule input (m + 1) (schedule.steps - (m + 1)) in
-        let later = then_up_to_halt behind (run_after (up_to_halt (first_steps schedule input (m + 1)) s) s) in
+        let past = steps_from schedule input (m + 1) (schedule.steps - (m + 1)) in
+        let later = then_up_to_halt past (run_after (up_to_halt (first_steps schedule input (m + 1)) s) s) in
         let whole : done ++ (next ++ later) ≡ scheduled schedule input s =
         sym (append_assoc done next later) ∙ ap (λ es. es ++ later) (sym met)
-        ∙ sym (up_to_halt-append (first_steps schedule input (m + 1)) behind s running)
+        ∙ sym (up_to_halt-append (first_steps schedule input (m + 1)) past s running)
         ∙ ap (λ es. up_to_halt es s) (sym (more_follow schedule input (m + 1) few)) in
         subst (λ es. WasCut fault 0 es s u a c d f) whole
         (traced_within 0 fault done next later s u a b c d e f written traced

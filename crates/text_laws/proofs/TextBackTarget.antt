@@ -41,14 +41,14 @@ back_again here distance = omega (arith, ints)
 limits_pos : (n : ℕ) → n < 2 ^ 20 → is_in_limits (pos ram_base +ℤ pos n) ≡ true
 limits_pos n h = grind (arith, nat_tests)
 
-behind : (n : ℕ) → n < 2 ^ 20 → pos ram_base +ℤ negsuc n ≡ pos (ram_base - 1 - n)
-behind n h = omega (arith, ints)
+past : (n : ℕ) → n < 2 ^ 20 → pos ram_base +ℤ negsuc n ≡ pos (ram_base - 1 - n)
+past n h = omega (arith, ints)
 
 limits_number : (n : ℕ) → n < 2 ^ 32 → is_in_limits (pos n) ≡ true
 limits_number n h = grind (arith, nat_tests)
 
 limits_negsuc : (n : ℕ) → n < 2 ^ 20 → is_in_limits (pos ram_base +ℤ negsuc n) ≡ true
-limits_negsuc n h = ap is_in_limits (behind n h) ∙ limits_number (ram_base - 1 - n) (omega arith)
+limits_negsuc n h = ap is_in_limits (past n h) ∙ limits_number (ram_base - 1 - n) (omega arith)
 
 branch_pos : (n : ℕ) → n < 4096 → wrapped (pos n) % 2 ≡ 0 → is_reached 4096 (pos n) ≡ true
 branch_pos n h e = grind (arith, nat_tests)

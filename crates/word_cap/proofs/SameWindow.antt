@@ -11,7 +11,7 @@ use Rattle.cap_bounds.specs.MantissaLaws.{exponent_of-high, base_mantissa-below}
 use Rattle.cap_bounds.specs.Window.{decoded_base, decoded_top, base_of_word, top_of_word}
 use Rattle.cap_bounds.specs.SetAddress.{KeepsBounds}
 use Rattle.cap_bounds.specs.BaseLaws.{decoded_top-low, decoded_top-high, decoded_base-high, decoded_base-below, decoded_base-in_window}
-use Rattle.cap_bounds.specs.InsideLaws.{is_in_window-behind}
+use Rattle.cap_bounds.specs.InsideLaws.{is_in_window-past}
 use Rattle.cap_bounds.specs.RemainderLaws.{mod-apart, mod-is}
 use Rattle.word_cap.proofs.Windows.{window_number, window_number-base}
 
@@ -186,7 +186,7 @@ decoded_base-inside e b own address most mantissa own_fits fits inside = elim (c
       let near : (address + (2 ^ 64 - p * 2 ^ e)) % 2 ^ 64 / 2 ^ e < 8192 = rw base inside in
       let short : (address + (2 ^ 64 - p * 2 ^ e)) % 2 ^ 64 < 2 ^ (e + 13) =
       omega (arith, (div-lt_iff_lt-mul (pow_pos e)).0 near, pow-add 2 e 13) in
-      let holds = is_in_window-behind e (p * 2 ^ e) address base_fits fits short in
+      let holds = is_in_window-past e (p * 2 ^ e) address base_fits fits short in
       let again = decoded_base-in_window e p address most base_fits holds in
       sym (ap (λ n. decoded_base e n address) (sym units.1) ∙ again ∙ base)
 ]

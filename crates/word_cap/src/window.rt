@@ -26,8 +26,8 @@ pub fn keeps_bounds(word: CapWord, address: u64) -> bool
     }
     let mantissas = mantissas_of(word);
     let (e, b) = (mantissas.exponent, mantissas.base);
-    let behind = address.wrapping_sub(base_at(e, b, word.address()));
-    if behind >> e < mantissas.length {
+    let past = address.wrapping_sub(base_at(e, b, word.address()));
+    if past >> e < mantissas.length {
         return true;
     }
     (window(e, b, word.address()) ^ window(e, b, address)) << 14 << e == 0

@@ -4,7 +4,7 @@ use Rattle.assembler.specs.Faults.{line_fault}
 use Rattle.assembler.specs.Left.{left, lines_left}
 use Rattle.assembler.specs.Standing.{before_fault}
 use Rattle.assembler.proofs.BuildLemmas.{kept_buildable}
-use Rattle.assembler.proofs.StepLemmas.{before-step, left-behind, room-behind}
+use Rattle.assembler.proofs.StepLemmas.{before-step, left-past, room-past}
 use Rattle.assembler.proofs.standing.before_fault.Goals as goal
 
 pub loop-rest-preserved : goal.loop-rest-preserved
@@ -14,7 +14,7 @@ loop-rest-preserved c =
     let s = c.loop-rest.builder in
     let none : line_fault symbols s (seen_line c.next_line.result.0) ≡ None = cc in
     let at : left c.loop-rest.rest ≡ length c.in-Some.left.now + 1 = ap left c.in-Some.is in
-    let behind : left c.next_line.result.1 ≤ length c.in-Some.left.now = left-behind _ _ c.next_line.ensures.shorter in
+    let past : left c.next_line.result.1 ≤ length c.in-Some.left.now = left-past _ _ c.next_line.ensures.shorter in
     record {
       before =
           so_far.before
@@ -24,5 +24,5 @@ loop-rest-preserved c =
       buildable =
           kept_buildable _ _ _ _ c.in-Ok.ensures.value so_far.buildable none c.next_line.ensures.paged;
       lines = omega arith;
-      room = room-behind _ _ _ _ _ c.in-Ok.ensures.near (omega arith) so_far.lines so_far.room;
+      room = room-past _ _ _ _ _ c.in-Ok.ensures.near (omega arith) so_far.lines so_far.room;
     }

@@ -5,8 +5,8 @@ use Rattle.debug_commands.proofs.words.split_word.Goals as goal
 
 pub returns : goal.returns
 returns c =
-    let t = c.behind-text.result.now in
+    let t = c.from-text.result.now in
     let cut =
-    found_word c.args.line.now t (c.behind-text.ensures ∙ ap (λ n. drop n c.args.line.now) c.run_length.ensures.value)
+    found_word c.args.line.now t (c.from-text.ensures ∙ ap (λ n. drop n c.args.line.now) c.run_length.ensures.value)
     (grind (arith, nat_tests)) in
-    cut ∙ sym (rw (c.before-2.ensures, c.behind.ensures, c.run_length-end.ensures.value) refl)
+    cut ∙ sym (rw (c.before-2.ensures, c.from.ensures, c.run_length-end.ensures.value) refl)

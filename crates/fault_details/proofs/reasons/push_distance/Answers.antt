@@ -3,11 +3,11 @@ use Rattle.std.proofs.lemmas.List.{append_assoc}
 use Rattle.fault_details.specs.Reasons.{distance_text}
 use Rattle.fault_details.proofs.reasons.push_distance.Goals as goal
 
-behind : {A E : Type 0} (r : Result A E) (old one new a b both : List ℕ)
+past : {A E : Type 0} (r : Result A E) (old one new a b both : List ℕ)
     → one ≡ old ++ a → both ≡ a ++ b → OnOk r (new ≡ one ++ b) → OnOk r (new ≡ old ++ both)
-behind (Ok x) old one new a b both first is second =
+past (Ok x) old one new a b both first is second =
     second ∙ ap (λ t. t ++ b) first ∙ append_assoc old a b ∙ ap (λ t. old ++ t) (sym is)
-behind (Err e) old one new a b both first is second = tt
+past (Err e) old one new a b both first is second = tt
 
 pub place-here-requires : goal.place-here-requires
 place-here-requires c = search rules
@@ -41,7 +41,7 @@ returns-in_default c = search rules
 
 pub returns-in_ok-push_shown-in-Known : goal.returns-in_ok-push_shown-in-Known
 returns-in_ok-push_shown-in-Known c =
-    behind _ _ _ _ _ _ _ c.in_ok-push_shown-in-Known.ensures
+    past _ _ _ _ _ _ _ c.in_ok-push_shown-in-Known.ensures
     (ap (λ w. distance_text c.args.standing.now.assembled.places.place w c.args.opening.now c.args.range)
     (sym c.worth.ensures ∙ c.in-Known.is)
     ∙ (search rules))

@@ -22,15 +22,15 @@ pub returns-in-Some : goal.returns-in-Some
 returns-in-Some c =
     let cs = c.args.capabilities.now in
     let i = c.loop-capability.capability-index in
-    let behind = capabilities_fault c.args.pages (get_or cs i nowhere).place (drop (i + 1) cs) in
-    ap (λ f. option_or f behind) c.in-Some.ensures.value
+    let past = capabilities_fault c.args.pages (get_or cs i nowhere).place (drop (i + 1) cs) in
+    ap (λ f. option_or f past) c.in-Some.ensures.value
     ∙ sym (rest_fault c.args.pages c.loop-capability.before i cs c.loop-capability-test.true) ∙ c.loop-capability.invariant
 
 pub loop-capability-preserved : goal.loop-capability-preserved
 loop-capability-preserved c =
     let cs = c.args.capabilities.now in
     let i = c.loop-capability.capability-index in
-    let behind = capabilities_fault c.args.pages (get_or cs i nowhere).place (drop (i + 1) cs) in
+    let past = capabilities_fault c.args.pages (get_or cs i nowhere).place (drop (i + 1) cs) in
     let none : capability_fault c.args.pages c.loop-capability.before (get_or cs i nowhere) ≡ None = search rules in
-    sym (ap (λ f. option_or f behind) none)
+    sym (ap (λ f. option_or f past) none)
     ∙ sym (rest_fault c.args.pages c.loop-capability.before i cs c.loop-capability-test.true) ∙ c.loop-capability.invariant

@@ -20,8 +20,8 @@ returns-in-Some c =
     let cs = c.args.capabilities.now in
     let few : length ss ≤ 64 = omega (arith, length-map c.args.sections.now lent_section) in
     let good : is_good_header c.args.version c.args.pages c.args.entry c.args.mode ≡ true = search rules in
-    let behind = if leb (length cs) (most_capabilities_of c.args.version) then capabilities_fault c.args.pages 0 cs else Some L15 in
-    ap (λ f. option_or f behind) c.in-Some.ensures
+    let past = if leb (length cs) (most_capabilities_of c.args.version) then capabilities_fault c.args.pages 0 cs else Some L15 in
+    ap (λ f. option_or f past) c.in-Some.ensures
     ∙ sym (build_fault-sections c.args.version c.args.pages c.args.entry c.args.mode ss cs (is_one _ c.requires) good few)
 
 pub returns-then-capabilities-most_capabilities : goal.returns-then-capabilities-most_capabilities

@@ -15,11 +15,11 @@ returns c =
     c.ranges.address.fits c.mantissas_of-mantissas.ensures.exponent c.mantissas_of-mantissas.ensures.base c.address-3.ensures
     c.window.ensures.base c.window-2.ensures.base
 
-pub returns-then-behind-e : goal.returns-then-behind-e
-returns-then-behind-e c =
+pub returns-then-past-e : goal.returns-then-past-e
+returns-then-past-e c =
     let found = c.mantissas_of-mantissas.ensures in
     let kept =
     keeps_bounds-inside c.args.word c.address-2.result c.args.address c.base_at.result c.mantissas_of-mantissas.result.exponent
     c.mantissas_of-mantissas.result.base c.ranges.address.fits c.address-2.ensures found.exponent found.base c.base_at.ensures
-    (omega (arith, c.if-behind-e.true, found.length_range)) in
+    (omega (arith, c.if-past-e.true, found.length_range)) in
     (λ _. kept, λ _. refl)
