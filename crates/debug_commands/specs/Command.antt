@@ -1,4 +1,4 @@
--- The commands of a session, as they are written.
+-- The commands of a session: a line each, with its operands and their limits, and what it gives or shows.
 use Rattle.std.specs.Prelude.{ℕ, ◌-◌, ◌%◌, ◌^◌, Bool, not, ◌||◌, ◌==◌, nat_lt, if◌then◌else◌, ℤ, pos, List, [], ◌∷◌, ◌++◌, length, filter}
 use Rattle.std.specs.Prelude.{Option, Some, None, Result, Ok, Err, codes}
 use Rattle.std.specs.Option.{option_or}
@@ -12,45 +12,18 @@ use Rattle.asm_lines.specs.Operand.{ranged, wrapped}
 use Rattle.symbols.specs.Symbols.{Symbol, address_of}
 use Rattle.debug_commands.specs.declared.fault.DebugFault.{DebugFault}
 use Rattle.debug_commands.specs.declared.fault.DebugFault.TheVariants.{B1, B2}
+use Rattle.debug_commands.specs.declared.command.Command.{Command}
+use Rattle.debug_commands.specs.declared.command.Command.TheVariants.{Gives, Shows, Quit}
+use Rattle.debug_commands.specs.declared.command.Events.TheVariants.{Steps, Ticks, Byte, Until}
 use Rattle.debug_commands.specs.declared.command.Stop.{Stop}
 use Rattle.debug_commands.specs.declared.command.Stop.TheVariants.{Address, Trap}
-
-pub data Command : Type 0 where
-  -- so many steps, so many ticks, one byte on the console's line
-  step : ℕ → Command
-  tick : ℕ → Command
-  byte : ℕ → Command
-  -- steps until PCC's address is the one asked for, or the next step would trap; at most so many
-  until : Stop → ℕ → Command
-  -- a register, all of them, the special capability registers, the control and status registers
-  reg : ℕ → Command
-  regs : Command
-  scr : Command
-  csr : Command
-  -- the capabilities in RAM
-  caps : Command
-  -- bytes from an address, and words as instructions
-  mem : ℕ → ℕ → Command
-  dis : ℕ → ℕ → Command
-  -- what the next step will do, and why
-  why : Command
-  -- the commands with their operands
-  help : Command
-  quit : Command
+use Rattle.debug_commands.specs.declared.command.View.TheVariants.{Register, Registers, SpecialRegisters, ControlRegisters, Capabilities}
+use Rattle.debug_commands.specs.declared.command.View.TheVariants.{Memory, Words, Why, Help}
 
 -- the address at which a command stops, if it stops at one
 abbrev pub stop_address : Stop → Option ℕ
 stop_address (Address address) = Some address
 stop_address Trap = None
-
--- what `help` answers: the commands with their operands, as lines and as a text with a line feed after each
-abbrev pub help_lines : List (List ℕ)
-help_lines =
-    codes "step N" ∷ codes "tick N" ∷ codes "byte B" ∷ codes "until ADDR N" ∷ codes "trap N" ∷ codes "reg R" ∷ codes "regs"
-    ∷ codes "scr" ∷ codes "csr" ∷ codes "caps" ∷ codes "mem ADDR LEN" ∷ codes "dis ADDR N" ∷ codes "why" ∷ codes "help" ∷ codes "quit" ∷ []
-
-abbrev pub help_text : List ℕ
-help_text = flat_map (λ line. line ++ codes "\n") help_lines
 
 -- the words of a line: what stands between spaces, tabs and carriage returns
 abbrev pub words_of : List ℕ → List (List ℕ)
@@ -69,71 +42,99 @@ read_number (Err fault) = None
 abbrev pub address_in : List Symbol → List ℕ → Option ℕ
 address_in symbols text = option_or (read_number (number_between 0 (2 ^ 64 - 1) text)) (address_of symbols text)
 
--- a command of a number, of an address and a number; of other operands there is none
-abbrev pub with_number : (ℕ → Command) → Result ℤ LineFault → Option Command
-with_number make (Ok n) = Some (make (wrapped n))
-with_number make (Err fault) = None
+-- ---- operands
 
-abbrev pub with_numbers : (ℕ → ℕ → Command) → Option ℕ → Option ℕ → Option Command
-with_numbers make (Some a) (Some n) = Some (make a n)
-with_numbers make (Some a) None = None
-with_numbers make None n = None
+-- what an operand says, or B2
+abbrev pub or_B2 : {A : Type 0} → Option A → Result A DebugFault
+or_B2 (Some x) = Ok x
+or_B2 None = Err B2
 
-abbrev pub one_number : (ℕ → Command) → ℕ → ℕ → List (List ℕ) → Option Command
-one_number make low high [] = None
-one_number make low high (n ∷ []) = with_number make (number_between low high n)
-one_number make low high (n ∷ m ∷ rest) = None
+abbrev pub one_number : ℕ → ℕ → List (List ℕ) → Result ℕ DebugFault
+one_number low high [] = Err B2
+one_number low high (n ∷ []) = or_B2 (read_number (number_between low high n))
+one_number low high (n ∷ m ∷ rest) = Err B2
 
-abbrev pub address_and_number : List Symbol → (ℕ → ℕ → Command) → ℕ → List (List ℕ) → Option Command
-address_and_number symbols make high [] = None
-address_and_number symbols make high (a ∷ []) = None
-address_and_number symbols make high (a ∷ n ∷ []) = with_numbers make (address_in symbols a) (read_number (number_between 1 high n))
-address_and_number symbols make high (a ∷ n ∷ m ∷ rest) = None
+abbrev pub one_register : List (List ℕ) → Result ℕ DebugFault
+one_register [] = Err B2
+one_register (r ∷ []) = or_B2 (register_named r)
+one_register (r ∷ s ∷ rest) = Err B2
 
-abbrev pub of_register : Option ℕ → Option Command
-of_register None = None
-of_register (Some n) = Some (reg n)
+-- an address that is such a multiple, and a number
+abbrev pub placed : ℕ → Option ℕ → Option ℕ → Result (ℕ × ℕ) DebugFault
+placed multiple (Some address) (Some n) = if address % multiple == 0 then Ok (address, n) else Err B2
+placed multiple (Some address) None = Err B2
+placed multiple None n = Err B2
 
-abbrev pub one_register : List (List ℕ) → Option Command
-one_register [] = None
-one_register (r ∷ []) = of_register (register_named r)
-one_register (r ∷ s ∷ rest) = None
+abbrev pub address_and_number : List Symbol → ℕ → ℕ → List (List ℕ) → Result (ℕ × ℕ) DebugFault
+address_and_number symbols multiple high [] = Err B2
+address_and_number symbols multiple high (a ∷ []) = Err B2
+address_and_number symbols multiple high (a ∷ n ∷ []) = placed multiple (address_in symbols a) (read_number (number_between 1 high n))
+address_and_number symbols multiple high (a ∷ n ∷ m ∷ rest) = Err B2
 
-abbrev pub nothing_more : Command → List (List ℕ) → Option Command
-nothing_more command [] = Some command
-nothing_more command (w ∷ rest) = None
+-- ---- the table
 
--- words are disassembled from a multiple of 4 on
-abbrev pub at_a_word : Option Command → Option Command
-at_a_word None = None
-at_a_word (Some (dis address n)) = if address % 4 == 0 then Some (dis address n) else None
-at_a_word (Some other) = Some other
+-- how operands are written: none; a number of these limits; an address that is such a multiple and a number from 1 on; a register's name.
+-- And the command of what they say.
+pub data Operands : Type 0 where
+  nothing : Command → Operands
+  number : ℕ → ℕ → (ℕ → Command) → Operands
+  place : ℕ → ℕ → (ℕ → ℕ → Command) → Operands
+  a_register : (ℕ → Command) → Operands
 
--- The command that words write, over a table of labels: none where the first is no command's name (B1), and none where the operands
--- are others (B2).
-abbrev pub operands_or_B2 : Option Command → Result Command DebugFault
-operands_or_B2 (Some command) = Ok command
-operands_or_B2 None = Err B2
+-- a command's name, its operands as `help` shows them, and how they are written
+pub record Line : Type 0 where
+  pub name : List ℕ
+  pub usage : List ℕ
+  pub operands : Operands
 
-unfoldable pub command_named : List Symbol → List ℕ → List (List ℕ) → Result Command DebugFault
-command_named symbols name operands =
-    if is_word name (codes "step") then operands_or_B2 (one_number step 1 1000000 operands)
-    else (if is_word name (codes "tick") then operands_or_B2 (one_number tick 1 1000000 operands)
-    else (if is_word name (codes "byte") then operands_or_B2 (one_number byte 0 255 operands)
-    else (if is_word name (codes "until")
-    then operands_or_B2 (address_and_number symbols (λ address. until (Address address)) 1000000 operands)
-    else (if is_word name (codes "trap") then operands_or_B2 (one_number (until Trap) 1 1000000 operands)
-    else (if is_word name (codes "reg") then operands_or_B2 (one_register operands)
-    else (if is_word name (codes "regs") then operands_or_B2 (nothing_more regs operands)
-    else (if is_word name (codes "scr") then operands_or_B2 (nothing_more scr operands)
-    else (if is_word name (codes "csr") then operands_or_B2 (nothing_more csr operands)
-    else (if is_word name (codes "caps") then operands_or_B2 (nothing_more caps operands)
-    else (if is_word name (codes "mem") then operands_or_B2 (address_and_number symbols mem 4096 operands)
-    else (if is_word name (codes "dis") then operands_or_B2 (at_a_word (address_and_number symbols dis 1024 operands))
-    else (if is_word name (codes "why") then operands_or_B2 (nothing_more why operands)
-    else (if is_word name (codes "help") then operands_or_B2 (nothing_more help operands)
-    else (if is_word name (codes "quit") then operands_or_B2 (nothing_more quit operands)
-    else Err B1))))))))))))))
+abbrev pub line : List ℕ → List ℕ → Operands → Line
+line name usage operands = record { name = name; usage = usage; operands = operands }
+
+abbrev pub commands : List Line
+commands =
+    line (codes "step") (codes " N") (number 1 1000000 (λ n. Gives (Steps n)))
+    ∷ line (codes "tick") (codes " N") (number 1 1000000 (λ n. Gives (Ticks n)))
+    ∷ line (codes "byte") (codes " B") (number 0 255 (λ n. Gives (Byte n)))
+    ∷ line (codes "until") (codes " ADDR N") (place 1 1000000 (λ address n. Gives (Until (Address address) n)))
+    ∷ line (codes "trap") (codes " N") (number 1 1000000 (λ n. Gives (Until Trap n)))
+    ∷ line (codes "reg") (codes " R") (a_register (λ n. Shows (Register n)))
+    ∷ line (codes "regs") [] (nothing (Shows Registers))
+    ∷ line (codes "scr") [] (nothing (Shows SpecialRegisters))
+    ∷ line (codes "csr") [] (nothing (Shows ControlRegisters))
+    ∷ line (codes "caps") [] (nothing (Shows Capabilities))
+    ∷ line (codes "mem") (codes " ADDR LEN") (place 1 4096 (λ address n. Shows (Memory address n)))
+    ∷ line (codes "dis") (codes " ADDR N") (place 4 1024 (λ address n. Shows (Words address n)))
+    ∷ line (codes "why") [] (nothing (Shows Why))
+    ∷ line (codes "help") [] (nothing (Shows Help))
+    ∷ line (codes "quit") [] (nothing Quit)
+    ∷ []
+
+-- what `help` answers: the commands with their operands, one a line
+abbrev pub help_text : List ℕ
+help_text = flat_map (λ l. l.name ++ l.usage ++ codes "\n") commands
+
+-- ---- what a line writes
+
+abbrev pub made : {A : Type 0} → (A → Command) → Result A DebugFault → Result Command DebugFault
+made make (Ok said) = Ok (make said)
+made make (Err fault) = Err fault
+
+-- the command of what operands say, or B2
+abbrev pub said_by : List Symbol → Operands → List (List ℕ) → Result Command DebugFault
+said_by symbols (nothing command) [] = Ok command
+said_by symbols (nothing command) (w ∷ rest) = Err B2
+said_by symbols (number low high make) words = made make (one_number low high words)
+said_by symbols (place multiple high make) words = made (λ p. make p.0 p.1) (address_and_number symbols multiple high words)
+said_by symbols (a_register make) words = made make (one_register words)
+
+-- the command of the line that has the name, or B1
+abbrev pub command_among : List Symbol → List Line → List ℕ → List (List ℕ) → Result Command DebugFault
+command_among symbols [] name operands = Err B1
+command_among symbols (l ∷ ls) name operands =
+    if is_word name l.name then said_by symbols l.operands operands else command_among symbols ls name operands
+
+abbrev pub command_named : List Symbol → List ℕ → List (List ℕ) → Result Command DebugFault
+command_named symbols name operands = command_among symbols commands name operands
 
 abbrev pub command_of_words : List Symbol → List (List ℕ) → Result Command DebugFault
 command_of_words symbols [] = Err B1

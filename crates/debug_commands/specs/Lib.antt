@@ -1,4 +1,4 @@
 -- What to read
 pub mod Command
 -- Inner words
-pub mod Seen
+pub mod Limits

@@ -4,7 +4,10 @@
 mod command;
 mod fault;
 pub mod laws;
+mod operands;
+mod table;
 mod words;
 
-pub use command::{Command, Stop, command_of, help_text};
+pub use command::{Command, Events, Stop, View};
 pub use fault::DebugFault;
+pub use table::{command_of, help_text};

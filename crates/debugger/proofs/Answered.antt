@@ -4,7 +4,7 @@ use Rattle.std.specs.Prelude.{IfOk}
 use Rattle.hart.specs.State.{State}
 use Rattle.debug_commands.specs.declared.fault.DebugFault.{DebugFault}
 use Rattle.debugger.specs.declared.reply.Reply.{Reply}
-use Rattle.debug_commands.specs.Command.{Command}
+use Rattle.debug_commands.specs.declared.command.Command.{Command}
 use Rattle.debugger.specs.SessionState.{SessionState}
 use Rattle.debugger.specs.Reply.{answer_to, command_in}
 use Rattle.debugger.specs.Answers.{seen_reply, IsAnswer}

@@ -12,7 +12,9 @@ use Rattle.symbols.specs.Symbols.{Symbol}
 use Rattle.machine.specs.Run.{run_after}
 use Rattle.debug_commands.specs.declared.fault.DebugFault.{DebugFault}
 use Rattle.debug_commands.specs.declared.fault.DebugFault.TheVariants.{B2}
-use Rattle.debug_commands.specs.Command.{Command, step, tick, byte, until, reg, regs, scr, csr, caps, mem, dis, why, help, quit, command_of}
+use Rattle.debug_commands.specs.declared.command.Command.{Command}
+use Rattle.debug_commands.specs.declared.command.Command.TheVariants.{Gives, Shows, Quit}
+use Rattle.debug_commands.specs.Command.{command_of}
 use Rattle.debugger.specs.SessionState.{SessionState, session_state}
 use Rattle.debugger.specs.Reply.{answer_to, events_of, command_in, state_by, state_after}
 use Rattle.debugger.specs.Conversation.{reply_to, is_end, ends_by, is_last, replies_to, state_after_lines, unread_lines, conversation}
@@ -40,21 +42,9 @@ kept_command symbols line = kept_at symbols line (nat_lt 255 (length line)) refl
 -- ---- the line that ends a conversation
 
 last_command : (c : Command) (s : State) → is_end (answer_to c s) ≡ true → run_after (events_of c s) s ≡ s
-unfolding answer_to events_of
-last_command (step n) s h = absurd (false≢true h)
-last_command (tick n) s h = absurd (false≢true h)
-last_command (byte b) s h = absurd (false≢true h)
-last_command (until a n) s h = absurd (false≢true h)
-last_command (reg n) s h = absurd (false≢true h)
-last_command regs s h = absurd (false≢true h)
-last_command scr s h = absurd (false≢true h)
-last_command csr s h = absurd (false≢true h)
-last_command caps s h = absurd (false≢true h)
-last_command (mem a n) s h = absurd (false≢true h)
-last_command (dis a n) s h = absurd (false≢true h)
-last_command why s h = absurd (false≢true h)
-last_command help s h = absurd (false≢true h)
-last_command quit s h = refl
+last_command (Gives events) s h = absurd (false≢true h)
+last_command (Shows what) s h = refl
+last_command Quit s h = refl
 
 last_by : (r : Result Command DebugFault) (s : State) → ends_by r s ≡ true → state_by r s ≡ s
 last_by (Ok c) s h = last_command c s h

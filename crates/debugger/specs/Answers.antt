@@ -2,7 +2,7 @@
 use Rattle.std.specs.Prelude.{◌≡◌, ℕ, List, Ok, string_bytes}
 use Rattle.debugger.specs.declared.reply.Reply.{Reply}
 use Rattle.debugger.specs.declared.reply.Reply.TheVariants.{Text, Quit}
-use Rattle.debug_commands.specs.Command.{Command}
+use Rattle.debug_commands.specs.declared.command.Command.{Command}
 use Rattle.debugger.specs.SessionState.{SessionState}
 use Rattle.debugger.specs.Reply.{Answer, told, ended, answer_to, command_in}
 

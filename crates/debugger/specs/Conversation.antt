@@ -4,7 +4,7 @@ use Rattle.std.specs.List.{slice_split, join_by}
 use Rattle.hart.specs.State.{State}
 use Rattle.debug_commands.specs.declared.fault.DebugFault.{DebugFault}
 use Rattle.debug_commands.specs.declared.fault.DebugFault.TheVariants.{B1, B2, B3, B4}
-use Rattle.debug_commands.specs.Command.{Command}
+use Rattle.debug_commands.specs.declared.command.Command.{Command}
 use Rattle.debugger.specs.SessionState.{SessionState}
 use Rattle.debugger.specs.Reply.{Answer, told, ended, answer_to, command_in, state_after}
 

@@ -5,6 +5,8 @@ use Rattle.special_regs.specs.declared.csrs.Csrs.{Csrs}
 use Rattle.special_regs.specs.Scrs.{Scrs, scr_value}
 use Rattle.special_regs.specs.CsrValues.{csr_value}
 use Rattle.hart.specs.State.{State, pc_of}
+use Rattle.debug_commands.specs.declared.command.Events.{Events}
+use Rattle.debug_commands.specs.declared.command.Events.TheVariants.{Steps, Ticks, Byte, Until}
 use Rattle.debug_commands.specs.declared.command.Stop.{Stop}
 use Rattle.registers.specs.Registers.{register}
 use Rattle.asm_names.specs.Registers.{register_name}
@@ -46,3 +48,10 @@ place_part s = codes " pc " ++ hex_of 16 (pc_of s) ++ codes " " ++ shown_end s.d
 -- whether `until` or `trap` gives one more step
 abbrev pub goes_on : Stop → ℕ → State → Bool
 goes_on stop left s = nat_lt 0 left && not (is_stop stop s || is_some s.devices.halted)
+
+-- the most events that a command gives
+abbrev pub most_of : Events → ℕ
+most_of (Steps n) = n
+most_of (Ticks n) = n
+most_of (Byte b) = 1
+most_of (Until stop n) = n

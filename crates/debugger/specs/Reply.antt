@@ -9,7 +9,7 @@ use Rattle.special_regs.specs.Scrs.{scr_values}
 use Rattle.special_regs.specs.CsrValues.{csr_values}
 use Rattle.devices.specs.Devices.{interrupts_of}
 use Rattle.hart.specs.declared.event.Event.{Event}
-use Rattle.hart.specs.declared.event.Event.TheVariants.{Step, Tick, Byte}
+use Rattle.hart.specs.declared.event.Event.TheVariants as event
 use Rattle.hart.specs.State.{State, pc_of}
 use Rattle.registers.specs.Registers.{register}
 use Rattle.hart.specs.Event.{after}
@@ -26,7 +26,12 @@ use Rattle.disassembler.specs.Shown.{name_or, word_line}
 use Rattle.effect_texts.specs.ValueText.{value_line}
 use Rattle.debug_commands.specs.declared.command.Stop.{Stop}
 use Rattle.debug_commands.specs.declared.command.Stop.TheVariants.{Address, Trap}
-use Rattle.debug_commands.specs.Command.{Command, step, tick, byte, until, reg, regs, scr, csr, caps, mem, dis, why, help, quit}
+use Rattle.debug_commands.specs.declared.command.Command.{Command}
+use Rattle.debug_commands.specs.declared.command.Command.TheVariants.{Gives, Shows, Quit}
+use Rattle.debug_commands.specs.declared.command.Events.{Events}
+use Rattle.debug_commands.specs.declared.command.Events.TheVariants.{Steps, Ticks, Byte, Until}
+use Rattle.debug_commands.specs.declared.command.View.{View}
+use Rattle.debug_commands.specs.declared.command.View.TheVariants as view
 use Rattle.debug_commands.specs.Command.{help_text, command_of}
 use Rattle.debugger.specs.SessionState.{SessionState}
 
@@ -41,24 +46,18 @@ is_stop Trap s = is_trap (step_outcome s)
 abbrev pub steps_until : Stop → ℕ → State → List Event
 steps_until stop zero s = []
 steps_until stop (suc n) s =
-    if is_stop stop s || is_some s.devices.halted then [] else (Step ∷ steps_until stop n (after Step s))
+    if is_stop stop s || is_some s.devices.halted then [] else (event.Step ∷ steps_until stop n (after event.Step s))
+
+unfoldable pub given : Events → State → List Event
+given (Steps n) s = replicate n event.Step
+given (Ticks n) s = replicate n event.Tick
+given (Byte b) s = event.Byte b ∷ []
+given (Until stop n) s = steps_until stop n s
 
 -- the events that a command gives; a command that only shows gives none
-unfoldable pub events_of : Command → State → List Event
-events_of (step n) s = replicate n Step
-events_of (tick n) s = replicate n Tick
-events_of (byte b) s = Byte b ∷ []
-events_of (until stop n) s = steps_until stop n s
-events_of (reg n) s = []
-events_of regs s = []
-events_of scr s = []
-events_of csr s = []
-events_of caps s = []
-events_of (mem address n) s = []
-events_of (dis address n) s = []
-events_of why s = []
-events_of help s = []
-events_of quit s = []
+abbrev pub events_of : Command → State → List Event
+events_of (Gives events) s = given events s
+events_of other s = []
 
 -- the bytes that were sent, two digits each, or `-` for none
 abbrev pub shown_sent : List ℕ → List ℕ
@@ -113,43 +112,37 @@ word_lines mode m (suc n) address = word_line mode address (number_at m address 
 
 -- ---- replies
 
--- some byte that a command shows is outside RAM
+-- some byte that is shown is outside RAM
+abbrev pub is_view_outside : View → State → Bool
+is_view_outside (view.Memory address n) s = not (is_in_ram s.memory address n)
+is_view_outside (view.Words address n) s = not (is_in_ram s.memory address (4 * n))
+is_view_outside other s = false
+
 abbrev pub is_outside : Command → State → Bool
-is_outside (step n) s = false
-is_outside (tick n) s = false
-is_outside (byte b) s = false
-is_outside (until stop n) s = false
-is_outside (reg n) s = false
-is_outside regs s = false
-is_outside scr s = false
-is_outside csr s = false
-is_outside caps s = false
-is_outside (mem address n) s = not (is_in_ram s.memory address n)
-is_outside (dis address n) s = not (is_in_ram s.memory address (4 * n))
-is_outside why s = false
-is_outside help s = false
-is_outside quit s = false
+is_outside (Shows what) s = is_view_outside what s
+is_outside other s = false
+
+-- what is shown
+unfoldable pub view_text : View → State → List ℕ
+view_text (view.Register n) s = value_line (name_or [] (register_name true n)) (register s.registers n)
+view_text view.Registers s = register_lines s 0 capability_names
+view_text view.SpecialRegisters s = scr_lines (scr_values s.scrs)
+view_text view.ControlRegisters s = csr_lines (csr_values s.csrs s.scrs (interrupts_of s.devices))
+view_text view.Capabilities s = cap_lines s.memory
+view_text (view.Memory address n) s = byte_lines n address (bytes_at s.memory address n)
+view_text (view.Words address n) s = word_lines (value_flag s.scrs.pcc) s.memory n address
+view_text view.Why s = why_text s
+view_text view.Help s = help_text
 
 -- what a session answers: a text of lines, or that it ends
 pub data Answer : Type 0 where
   told : List ℕ → Answer
   ended : Answer
 
-unfoldable pub answer_to : Command → State → Answer
-answer_to (step n) s = told (events_line (events_of (step n) s) s)
-answer_to (tick n) s = told (events_line (events_of (tick n) s) s)
-answer_to (byte b) s = told (events_line (events_of (byte b) s) s)
-answer_to (until stop n) s = told (events_line (events_of (until stop n) s) s)
-answer_to (reg n) s = told (value_line (name_or [] (register_name true n)) (register s.registers n))
-answer_to regs s = told (register_lines s 0 capability_names)
-answer_to scr s = told (scr_lines (scr_values s.scrs))
-answer_to csr s = told (csr_lines (csr_values s.csrs s.scrs (interrupts_of s.devices)))
-answer_to caps s = told (cap_lines s.memory)
-answer_to (mem address n) s = told (byte_lines n address (bytes_at s.memory address n))
-answer_to (dis address n) s = told (word_lines (value_flag s.scrs.pcc) s.memory n address)
-answer_to why s = told (why_text s)
-answer_to help s = told help_text
-answer_to quit s = ended
+abbrev pub answer_to : Command → State → Answer
+answer_to (Gives events) s = told (events_line (given events s) s)
+answer_to (Shows what) s = told (view_text what s)
+answer_to Quit s = ended
 
 -- what a line is refused by in a state: what it writes, then addresses outside RAM
 abbrev pub refused_outside : Command → State → Result Command DebugFault

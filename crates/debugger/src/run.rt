@@ -9,12 +9,12 @@ ghost use Rattle.hart.specs.Applying.{meant, IsPlanned};
 ghost use Rattle.hart.specs.Outcome.{is_trap, outcome_of};
 ghost use Rattle.machine.specs.Run.{run_after, run_sent};
 ghost use Rattle.disassembler.specs.Hex.{hex_of};
-ghost use Rattle.debugger.specs.Reply.{is_stop, steps_until as until_steps, events_of, events_line, shown_sent, shown_end};
-ghost use Rattle.debugger.specs.Lines.{given_part, place_part, goes_on};
-ghost use Rattle.debug_commands.specs.Seen.{seen_command, most_of, IsWithinLimits};
+ghost use Rattle.debugger.specs.Reply.{is_stop, steps_until as until_steps, given, events_line, shown_sent, shown_end};
+ghost use Rattle.debugger.specs.Lines.{given_part, place_part, goes_on, most_of};
+ghost use Rattle.debug_commands.specs.Limits.{AreWithinLimits};
 
 use cap_bounds::CapRep;
-use debug_commands::{Command, DebugFault, Stop};
+use debug_commands::{DebugFault, Events, Stop};
 use effect_texts::{put, put_decimal, put_hex};
 use hart::Effect;
 use machine::{Event, Machine, Planned, emit};
@@ -139,44 +139,42 @@ fn steps_until<C: CapRep>(
 }
 
 /// The most events that a command gives.
-fn most_events(command: Command) -> u64
-    requires { IsWithinLimits command }
-    ensures value { result ≡ most_of command }
+fn most_events(events: Events) -> u64
+    requires { AreWithinLimits events }
+    ensures value { result ≡ most_of events }
     ensures bound { result ≤ 1000000 }
 {
-    match command {
-        Command::Step(n) | Command::Tick(n) => n,
-        Command::Until { most, .. } => most,
-        Command::Byte(_) => 1,
-        _ => 0,
+    match events {
+        Events::Steps(n) | Events::Ticks(n) => n,
+        Events::Until { most, .. } => most,
+        Events::Byte(_) => 1,
     }
 }
 
 /// Gives the events of a command, appends what is sent to the other bytes, for which there is room, and answers how many there
 /// were.
-#[tactic(auto, unfolding(crate::specs::Reply::events_of))]
-fn give<C: CapRep>(machine: &mut Machine<C>, command: Command, sent: &mut Vec<u8>) -> u64
-    requires { vec_len sent.old + most_of command ≤ vec_capacity sent.old }
-    ensures state { machine.new ≡ run_after (events_of (seen_command command) machine.old) machine.old }
-    ensures bytes { sent.new.items ≡ sent.old.items ++ run_sent (events_of (seen_command command) machine.old) machine.old }
-    ensures count { result ≡ length (events_of (seen_command command) machine.old) }
-    ensures len { vec_len sent.new ≤ vec_len sent.old + most_of command }
+#[tactic(auto, unfolding(crate::specs::Reply::given))]
+fn give<C: CapRep>(machine: &mut Machine<C>, events: Events, sent: &mut Vec<u8>) -> u64
+    requires { vec_len sent.old + most_of events ≤ vec_capacity sent.old }
+    ensures state { machine.new ≡ run_after (given events machine.old) machine.old }
+    ensures bytes { sent.new.items ≡ sent.old.items ++ run_sent (given events machine.old) machine.old }
+    ensures count { result ≡ length (given events machine.old) }
+    ensures len { vec_len sent.new ≤ vec_len sent.old + most_of events }
 {
-    match command {
-        Command::Step(n) => {
+    match events {
+        Events::Steps(n) => {
             steps(machine, n, sent);
             n
         }
-        Command::Tick(n) => {
+        Events::Ticks(n) => {
             repeat(machine, Event::Tick, n, sent);
             n
         }
-        Command::Byte(byte) => {
+        Events::Byte(byte) => {
             repeat(machine, Event::Byte(byte), 1, sent);
             1
         }
-        Command::Until { stop, most } => steps_until(machine, stop, most, sent),
-        _ => 0,
+        Events::Until { stop, most } => steps_until(machine, stop, most, sent),
     }
 }
 
@@ -267,19 +265,18 @@ fn put_run_line<C: CapRep>(
 pub(crate) fn told_events<C: CapRep>(
     alloc: Global,
     machine: &mut Machine<C>,
-    command: Command,
+    events: Events,
 ) -> Result<String, DebugFault>
-    requires { IsWithinLimits command }
-    ensures text { IfOk result (λ text.
-        string_bytes text ≡ events_line (events_of (seen_command command) machine.old) machine.old) }
-    ensures state { OnOk result (machine.new ≡ run_after (events_of (seen_command command) machine.old) machine.old) }
+    requires { AreWithinLimits events }
+    ensures text { IfOk result (λ text. string_bytes text ≡ events_line (given events machine.old) machine.old) }
+    ensures state { OnOk result (machine.new ≡ run_after (given events machine.old) machine.old) }
     ensures err { IfErr result (λ fault. fault ≡ DebugFault.B4) }
     ensures same { OnErr result (machine.new ≡ machine.old) }
 {
-    let most = most_events(command) as usize;
+    let most = most_events(events) as usize;
     let mut sent = Vec::with_capacity(alloc, most)?;
     let mut text = String::with_capacity(alloc, 2 * most + LINE_ROOM)?;
-    let count = give(machine, command, &mut sent);
+    let count = give(machine, events, &mut sent);
     match put_run_line(&mut text, machine, count, &sent) {
         Ok(()) => Ok(text),
         Err(_) => unreachable!(),

@@ -2,7 +2,7 @@
 ghost use Rattle.std.specs.Prelude.{◌≡◌, ◌⊎◌, [], false, Err, IfOk, IfErr, OnOk, OnErr};
 ghost use Rattle.debugger.specs.Reply.{command_in, state_after, is_outside};
 ghost use Rattle.debugger.specs.SessionState.{session_state};
-ghost use Rattle.debug_commands.specs.Seen.{seen_command, seen_request, IsWithinLimits};
+ghost use Rattle.debug_commands.specs.Limits.{IsWithinLimits};
 ghost use Rattle.debugger.specs.Answers.{seen_reply, IsAnswer};
 
 use crate::answer::{answer, is_outside};
@@ -40,9 +40,9 @@ fn accepted<C: CapRep>(
     symbols: &Symbols,
     line: &[u8],
 ) -> Result<Command, DebugFault>
-    ensures value { seen_request result ≡ command_in line.now (session_state machine.now symbols.now) }
+    ensures value { result ≡ command_in line.now (session_state machine.now symbols.now) }
     ensures limits { IfOk result IsWithinLimits }
-    ensures inside { IfOk result (λ command. is_outside (seen_command command) machine.now ≡ false) }
+    ensures inside { IfOk result (λ command. is_outside command machine.now ≡ false) }
 {
     let command = command_of(symbols, line)?;
     if is_outside(machine, command) {

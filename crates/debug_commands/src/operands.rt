@@ -1,0 +1,89 @@
+//! Operands of commands as they are written.
+ghost use Rattle.std.specs.Prelude.{◌≡◌, ◌≤◌, ◌<◌, ◌%◌, ◌^◌, IfOk, IfSome};
+ghost use Rattle.debug_commands.specs.Command as spec;
+ghost use Rattle.debug_commands.specs.Command.{words_of, number_between, read_number};
+
+use crate::fault::DebugFault;
+use crate::words::split_word;
+use asm_lines::natural;
+use asm_names::register_named;
+use symbols::Symbols;
+
+/// A number of `low` to `high`.
+fn number(text: &[u8], low: u64, high: u64) -> Option<u64>
+    ensures value { result ≡ read_number (number_between low high text.now) }
+    ensures bound { IfSome result (λ n. n ≤ high) }
+{
+    match natural(text, high) {
+        Ok(number) if number >= low => Some(number),
+        _ => None,
+    }
+}
+
+/// An address: a number of 64 bits, or else the address of a label.
+fn address_in(symbols: &Symbols, text: &[u8]) -> Option<u64>
+    ensures { result ≡ spec.address_in symbols.now text.now }
+{
+    match number(text, 0, u64::MAX) {
+        Some(number) => Some(number),
+        None => symbols.address_of(text),
+    }
+}
+
+/// The only operand, a number of `low` to `high`, or B2.
+pub(crate) fn one_number(operands: &[u8], low: u64, high: u64) -> Result<u64, DebugFault>
+    ensures value { result ≡ spec.one_number low high (words_of operands.now) }
+    ensures bound { IfOk result (λ n. n ≤ high) }
+{
+    let Some((word, rest)) = split_word(operands) else {
+        return Err(DebugFault::B2);
+    };
+    if split_word(rest).is_some() {
+        return Err(DebugFault::B2);
+    }
+    number(word, low, high).ok_or(DebugFault::B2)
+}
+
+/// The only two operands, an address that is a multiple of `multiple` and a number of 1 to `high`, or B2.
+pub(crate) fn address_and_number(
+    symbols: &Symbols,
+    operands: &[u8],
+    multiple: u64,
+    high: u64,
+) -> Result<(u64, u64), DebugFault>
+    requires { 0 < multiple }
+    ensures value { result ≡ spec.address_and_number symbols.now multiple high (words_of operands.now) }
+    ensures bound { IfOk result (λ p. p.1 ≤ high) }
+    ensures aligned { IfOk result (λ p. p.0 % multiple ≡ 0) }
+{
+    let Some((place, rest)) = split_word(operands) else {
+        return Err(DebugFault::B2);
+    };
+    let Some((count, rest)) = split_word(rest) else {
+        return Err(DebugFault::B2);
+    };
+    if split_word(rest).is_some() {
+        return Err(DebugFault::B2);
+    }
+    let Some(address) = address_in(symbols, place) else {
+        return Err(DebugFault::B2);
+    };
+    match number(count, 1, high) {
+        Some(count) if address % multiple == 0 => Ok((address, count)),
+        _ => Err(DebugFault::B2),
+    }
+}
+
+/// The only operand, a register's name, or B2.
+pub(crate) fn one_register(operands: &[u8]) -> Result<u8, DebugFault>
+    ensures value { result ≡ spec.one_register (words_of operands.now) }
+    ensures bound { IfOk result (λ n. n < 32) }
+{
+    let Some((word, rest)) = split_word(operands) else {
+        return Err(DebugFault::B2);
+    };
+    if split_word(rest).is_some() {
+        return Err(DebugFault::B2);
+    }
+    register_named(word).ok_or(DebugFault::B2)
+}

@@ -1,0 +1,119 @@
+//! The table of the commands, and what is read off it: what `help` answers, and the command that a line writes.
+ghost use Rattle.std.specs.Prelude.{◌≡◌, IfOk};
+ghost use Rattle.debug_commands.specs.Command.{words_of};
+ghost use Rattle.debug_commands.specs.Command as spec;
+ghost use Rattle.debug_commands.specs.Limits.{IsWithinLimits};
+
+use crate::command::{Command, Events, Stop, View};
+use crate::fault::DebugFault;
+use crate::operands::{address_and_number, one_number, one_register};
+use crate::words::split_word;
+use asm_lines::{Class, run_length};
+use symbols::Symbols;
+
+/// The most bytes that a line has.
+const MOST_BYTES: usize = 255;
+
+/// The most events that a command gives.
+const MOST_EVENTS: u64 = 1_000_000;
+
+/// The most bytes that a command shows.
+const MOST_SHOWN: u64 = 4096;
+
+/// The most words that a command disassembles.
+const MOST_WORDS: u64 = 1024;
+
+// The table. Of each command: its name, its operands as `help` shows them, how they are read, and the command of what they say.
+macro_rules! commands {
+    ($reading:ident $($what:ident)*) => {
+        $reading! {
+            $($what)*;
+            "step" " N" (number 1 MOST_EVENTS) n => Command::Gives(Events::Steps(n));
+            "tick" " N" (number 1 MOST_EVENTS) n => Command::Gives(Events::Ticks(n));
+            "byte" " B" (number 0 255) n => Command::Gives(Events::Byte(n as u8));
+            "until" " ADDR N" (place 1 MOST_EVENTS) p => Command::Gives(Events::Until { stop: Stop::Address(p.0), most: p.1 });
+            "trap" " N" (number 1 MOST_EVENTS) n => Command::Gives(Events::Until { stop: Stop::Trap, most: n });
+            "reg" " R" (register) n => Command::Shows(View::Register(n));
+            "regs" "" (nothing) n => Command::Shows(View::Registers);
+            "scr" "" (nothing) n => Command::Shows(View::SpecialRegisters);
+            "csr" "" (nothing) n => Command::Shows(View::ControlRegisters);
+            "caps" "" (nothing) n => Command::Shows(View::Capabilities);
+            "mem" " ADDR LEN" (place 1 MOST_SHOWN) p => Command::Shows(View::Memory { address: p.0, count: p.1 });
+            "dis" " ADDR N" (place 4 MOST_WORDS) p => Command::Shows(View::Words { address: p.0, count: p.1 });
+            "why" "" (nothing) n => Command::Shows(View::Why);
+            "help" "" (nothing) n => Command::Shows(View::Help);
+            "quit" "" (nothing) n => Command::Quit;
+        }
+    };
+}
+
+// The lines of all commands, as `help` shows them.
+macro_rules! help_of {
+    (; $($name:literal $usage:literal $form:tt $said:ident => $made:expr;)*) => { concat!($($name, $usage, "\n"),*) };
+}
+
+// The command of what operands say, or B2.
+macro_rules! made_of {
+    ((number $low:literal $high:tt) $said:ident $made:expr, $symbols:ident $operands:ident) => {{
+        let $said = one_number($operands, $low, $high)?;
+        Ok($made)
+    }};
+    ((place $multiple:literal $high:tt) $said:ident $made:expr, $symbols:ident $operands:ident) => {{
+        let $said = address_and_number($symbols, $operands, $multiple, $high)?;
+        Ok($made)
+    }};
+    ((register) $said:ident $made:expr, $symbols:ident $operands:ident) => {{
+        let $said = one_register($operands)?;
+        Ok($made)
+    }};
+    ((nothing) $said:ident $made:expr, $symbols:ident $operands:ident) => {
+        match split_word($operands) {
+            Some(_) => Err(DebugFault::B2),
+            None => Ok($made),
+        }
+    };
+}
+
+// The command of the line that has this name, or B1.
+macro_rules! named {
+    ($sought:ident $symbols:ident $operands:ident; $($name:literal $usage:literal $form:tt $said:ident => $made:expr;)*) => {{
+        $(if $sought == $name.as_bytes() {
+            return made_of!($form $said $made, $symbols $operands);
+        })*
+        Err(DebugFault::B1)
+    }};
+}
+
+const HELP: &str = commands!(help_of);
+
+/// What `help` answers: the commands with their operands, one a line, each ended by a line feed.
+pub fn help_text() -> &'static str
+    ensures { result.now ≡ spec.help_text }
+{
+    HELP
+}
+
+/// The command of a name and operands, over a table of labels: B1 where no command has that name, and else B2 where the operands are
+/// not its own.
+fn command_named(symbols: &Symbols, name: &[u8], operands: &[u8]) -> Result<Command, DebugFault>
+    ensures value { result ≡ spec.command_named symbols.now name.now (words_of operands.now) }
+    ensures limits { IfOk result IsWithinLimits }
+{
+    commands!(named name symbols operands)
+}
+
+/// The command that a line writes, over a table of labels: B2 where the line has more than 255 bytes or one of 128 or more; else B1
+/// where its first word is no command's name or there is none, and else B2 where the operands are not that command's.
+#[tactic(auto, unfolding(crate::specs::Command::command_of))]
+pub fn command_of(symbols: &Symbols, line: &[u8]) -> Result<Command, DebugFault>
+    ensures value { result ≡ spec.command_of symbols.now line.now }
+    ensures limits { IfOk result IsWithinLimits }
+{
+    if line.len() > MOST_BYTES || run_length(line, Class::Ascii) < line.len() {
+        return Err(DebugFault::B2);
+    }
+    match split_word(line) {
+        Some((name, operands)) => command_named(symbols, name, operands),
+        None => Err(DebugFault::B1),
+    }
+}
