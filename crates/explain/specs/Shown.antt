@@ -1,0 +1,71 @@
+-- What the lines of `why` show, against the state's own fields: a capability under another register's name is refused here, though
+-- definition and code show the same.
+use Rattle.std.specs.Prelude.{◌≡◌, ℕ, ◌+◌, ◌*◌, Bool, not, ◌&&◌, nat_le, if◌then◌else◌, List, [], ◌++◌, Some, find, codes, decimal}
+use Rattle.base.specs.declared.cause.CheriCause.{CheriCause}
+use Rattle.base.specs.Fault.{number_of, cheri_number_of}
+use Rattle.cap_bounds.specs.CapValue.{value_base, value_top}
+use Rattle.cap_checks.specs.declared.question.Condition.{Condition}
+use Rattle.cap_checks.specs.declared.question.Question.{Question}
+use Rattle.cap_checks.specs.declared.question.Question.TheVariants.{Right, Bounds, Multiple, Ram, RamOrDevice, Instruction, SystemRegister}
+use Rattle.disassembler.specs.Hex.{hex_of}
+use Rattle.disassembler.specs.Shown.{name_or}
+use Rattle.trap_texts.specs.Names.{cheri_asked_name}
+use Rattle.hart.specs.declared.effect.Effect.{Effect}
+use Rattle.hart.specs.declared.effect.Effect.TheVariants.{Trap}
+use Rattle.cap_bounds.specs.CapValue.{CapValue}
+use Rattle.hart.specs.State.{State}
+use Rattle.hart.specs.Step.{step_effect}
+use Rattle.effect_texts.specs.ValueText.{shown_value}
+use Rattle.explain.specs.Asked.{stages_of, all_conditions}
+use Rattle.explain.specs.Says.{held, Each}
+use Rattle.explain.specs.Text.{register_text, capability_in, capability_line, condition_line}
+
+-- The law: the value that is shown of a register is the one that it holds, and its line shows that under its name.
+abbrev pub ShowsWhatIsHeld : Type 0
+ShowsWhatIsHeld =
+    (s : State) (n : ℕ) → (capability_in s n ≡ held s n)
+    × (capability_line s n ≡ codes "  " ++ (register_text n ++ codes " " ++ shown_value (held s n) ++ codes "\n"))
+
+-- ---- lines
+
+abbrev pub mark_of : Bool → List ℕ
+mark_of holds = if holds then codes "  ok " else codes "  no "
+
+-- a line of bounds shows four numbers, and is marked as they compare
+abbrev pub bounds_line : ℕ → ℕ → ℕ → ℕ → ℕ → List ℕ
+bounds_line r address size base top =
+    mark_of (nat_le base address && nat_le (address + size) top)
+    ++ (codes "length of " ++ register_text r
+    ++ (codes ": " ++ hex_of 16 address ++ codes " + " ++ decimal size ++ codes " in " ++ hex_of 16 base ++ codes " to " ++ hex_of 17 top))
+    ++ codes "\n"
+
+abbrev pub LineSays : State → Question → Bool → Type 0
+LineSays s (Bounds r address size) holds =
+    condition_line s (record { question = Bounds r address size; holds = holds })
+    ≡ bounds_line r address size (value_base (held s r)) (value_top (held s r))
+LineSays s (Right r what) holds =
+    condition_line s (record { question = Right r what; holds = holds })
+    ≡ mark_of holds ++ (name_or [] (cheri_asked_name (cheri_number_of what)) ++ codes " of " ++ register_text r) ++ codes "\n"
+LineSays s _ holds = Unit {0}
+
+-- The law: the line of a condition of bounds is `ok` exactly if base <= address and address + size <= top, of the numbers that it shows,
+-- and those are the bounds of what the register that it names holds.
+abbrev pub LinesSayWhatIsHeld : Type 0
+LinesSayWhatIsHeld = (s : State) → Each (LineSays s) (all_conditions (stages_of s))
+
+-- ---- the first false condition, and the trap
+
+-- the trap by a condition that is false: a CHERI exception, 28, names the register and the right
+abbrev pub trap_by : Question → Effect CapValue
+trap_by (Right r what) = Trap (record { mcause = 28; mtval = 32 * r + cheri_number_of what })
+trap_by (Bounds r address size) = Trap (record { mcause = 28; mtval = 32 * r + 1 })
+trap_by (Multiple otherwise address size) = Trap (record { mcause = number_of otherwise; mtval = address })
+trap_by (Ram otherwise address) = Trap (record { mcause = number_of otherwise; mtval = address })
+trap_by (RamOrDevice otherwise address size) = Trap (record { mcause = number_of otherwise; mtval = address })
+trap_by (Instruction word) = Trap (record { mcause = 2; mtval = word })
+trap_by (SystemRegister word) = Trap (record { mcause = 2; mtval = word })
+
+-- The law: where a condition is false, the step is the trap by the first, and the stages' text ends with that condition's line.
+abbrev pub TrapsByTheShown : Type 0
+TrapsByTheShown =
+    (s : State) (c : Condition) → find (λ c. not c.holds) (all_conditions (stages_of s)) ≡ Some c → step_effect s ≡ trap_by c.question

@@ -1,0 +1,126 @@
+-- What is shown, by what the conditions say.
+use Rattle.std.proofs.Common.{◌≡◌, ℕ, Bool, true, false, not, cond, List, [], ◌∷◌, ◌++◌, Option, Some, None, refl, sym, ap, ◌∙◌}
+use Rattle.std.proofs.Common.{append-nil, append_assoc}
+use Rattle.std.specs.Prelude.{find, codes}
+use Rattle.base.specs.declared.cause.CheriCause.{CheriCause}
+use Rattle.base.specs.declared.cause.CheriCause.TheVariants as forbids
+use Rattle.base.specs.declared.fault.Fault.{Fault}
+use Rattle.base.specs.Fault.{fault, cheri}
+use Rattle.cap_bounds.specs.CapValue.{CapValue}
+use Rattle.cap_checks.specs.declared.question.Condition.{Condition}
+use Rattle.cap_checks.specs.declared.question.Question.{Question}
+use Rattle.cap_checks.specs.declared.question.Question.TheVariants.{Right, Bounds, Multiple, Ram, RamOrDevice, Instruction, SystemRegister}
+use Rattle.cap_checks.specs.Question.{fault_of, first_false}
+use Rattle.devices.specs.Devices.{interrupts_of}
+use Rattle.special_regs.specs.Interrupts.{pending}
+use Rattle.special_regs.specs.declared.interrupts.Interrupt.{Interrupt}
+use Rattle.trap_texts.specs.Names.{cheri_asked_name}
+use Rattle.isa_rows.specs.declared.operands.Insn.{Insn}
+use Rattle.isa_rows.specs.declared.kinds.Kind.{Kind}
+use Rattle.isa_rows.specs.Kind.{kind_of}
+use Rattle.isa_rows.specs.Decoded.{insn_of}
+use Rattle.hart.specs.declared.effect.Effect.{Effect}
+use Rattle.hart.specs.declared.effect.Effect.TheVariants.{Trap}
+use Rattle.hart.specs.Looks.{unless_fault}
+use Rattle.hart.specs.State.{State}
+use Rattle.hart.specs.Step.{fetch, step_effect}
+use Rattle.effect_texts.specs.ValueText.{value_line}
+use Rattle.explain.specs.Asked.{stages_unless, stages_of, all_conditions, done_by_word, effect_unless}
+use Rattle.explain.specs.AskedLaws.{traps-by_its_stages}
+use Rattle.explain.specs.Says.{held, lies_in, word_here, FetchSays, InsnSays, Each, InsnStageSays, StagesSay}
+use Rattle.explain.specs.SaysLaws.{held-shown, each-append, conditions-say}
+use Rattle.explain.specs.Shown.{ShowsWhatIsHeld, LineSays, LinesSayWhatIsHeld, trap_by, TrapsByTheShown}
+use Rattle.explain.specs.Text.{name_text, bounds_text, mark, question_text, condition_line, register_text}
+
+pub shows-what_is_held : ShowsWhatIsHeld
+shows-what_is_held s n =
+    let same = held-shown s n in
+    (same, ap (λ v. codes "  " ++ value_line (register_text n) v) same)
+
+-- ---- lines
+
+line-bounds : (s : State) (r address size : ℕ) (b : Bool) → b ≡ lies_in (held s r) address size
+    → LineSays s (Bounds r address size) b
+unfolding condition_line question_text cheri_asked_name
+line-bounds s r address size b says =
+    ap (λ v. mark b ++ (name_text r forbids.Length ++ bounds_text address size v) ++ codes "\n") (held-shown s r)
+    ∙ ap (λ b. mark b ++ (name_text r forbids.Length ++ bounds_text address size (held s r)) ++ codes "\n") says
+
+line-right : (s : State) (r : ℕ) (what : CheriCause) (b : Bool) → LineSays s (Right r what) b
+unfolding condition_line question_text
+line-right s r what b = refl
+
+line-of_pcc : (s : State) (r address size : ℕ) (b : Bool) → r ≡ 32 → b ≡ lies_in s.scrs.pcc address size
+    → LineSays s (Bounds r address size) b
+line-of_pcc s r address size b is says = line-bounds s r address size b (says ∙ ap (λ n. lies_in (held s n) address size) (sym is))
+
+line-fetch : (s : State) (q : Question) (b : Bool) → FetchSays s q b → LineSays s q b
+line-fetch s (Bounds r address size) b says = line-of_pcc s r address size b says.0 says.3
+line-fetch s (Right r what) b says = line-right s r what b
+line-fetch s _ b says = tt
+
+line-insn : (s : State) (k : Kind) (insn : Insn) (q : Question) (b : Bool) → InsnSays s k insn q b → LineSays s q b
+line-insn s k insn (Bounds r address size) b says = line-bounds s r address size b says
+line-insn s k insn (Right r what) b says = line-right s r what b
+line-insn s k insn _ b says = tt
+
+each-so : (P Q : Question → Bool → Type 0) → ((q : Question) (b : Bool) → P q b → Q q b) → (cs : List Condition) → Each P cs → Each Q cs
+each-so P Q so [] all = tt
+each-so P Q so (c ∷ cs) all = (so c.question c.holds all.0, each-so P Q so cs all.1)
+
+lines-insn : (s : State) (found : Option Insn) (stages : List (List Condition)) → InsnStageSays found s stages
+    → Each (LineSays s) (all_conditions stages)
+lines-insn s (Some insn) [] says = absurd says
+lines-insn s (Some insn) (stage ∷ []) says =
+    each-append (LineSays s) stage [] (each-so _ (LineSays s) (line-insn s (kind_of insn.row) insn) stage says) tt
+lines-insn s (Some insn) (stage ∷ other ∷ stages) says = absurd says
+lines-insn s None [] says = tt
+lines-insn s None (stage ∷ stages) says = absurd says
+
+lines-stages : (s : State) (stages : List (List Condition)) → StagesSay s stages → Each (LineSays s) (all_conditions stages)
+lines-stages s [] says = tt
+lines-stages s (first ∷ []) says = each-append (LineSays s) first [] (each-so _ (LineSays s) (line-fetch s) first says) tt
+lines-stages s (first ∷ second ∷ stages) says =
+    each-append (LineSays s) first _ (each-so _ (LineSays s) (line-fetch s) first says.0)
+    (each-append (LineSays s) second _ (each-so _ (LineSays s) (line-fetch s) second says.1)
+    (lines-insn s (insn_of (word_here s)) stages says.2))
+
+pub lines-say : LinesSayWhatIsHeld
+lines-say s = lines-stages s (stages_of s) (conditions-say s)
+
+-- ---- the trap
+
+-- the first false condition's fault is the first
+false-first : (c : Condition) (cs : List Condition) → find (λ c. not c.holds) cs ≡ Some c → first_false cs ≡ Some (fault_of c.question)
+false-first c [] found = cc
+false-first c (d ∷ cs) found =
+    elim d.holds as
+    (λ b. cond (not b) (Some d) (find (λ c. not c.holds) cs) ≡ Some c
+    → cond b (first_false cs) (Some (fault_of d.question)) ≡ Some (fault_of c.question)) [
+      | true ↦ λ e. false-first c cs e
+      | false ↦ λ e. let same : d ≡ c = cc in ap (λ x. Some (fault_of x.question)) same
+    ] found
+
+trap-by : (q : Question) → Trap (fault_of q) ≡ trap_by q
+unfolding fault cheri
+trap-by (Right r what) = refl
+trap-by (Bounds r address size) = refl
+trap-by (Multiple otherwise address size) = refl
+trap-by (Ram otherwise address) = refl
+trap-by (RamOrDevice otherwise address size) = refl
+trap-by (Instruction word) = refl
+trap-by (SystemRegister word) = refl
+
+unless-traps : (p : Option Interrupt) (s : State) (c : Condition) → pending s.csrs (interrupts_of s.devices) ≡ p
+    → find (λ c. not c.holds) (all_conditions (stages_unless p s)) ≡ Some c → effect_unless p s ≡ trap_by c.question
+unfolding stages_of
+unless-traps (Some interrupt) s c is found = cc
+unless-traps None s c is found =
+    let all : List Condition = all_conditions (stages_unless None s) in
+    ap (λ p. unless_fault (first_false (all_conditions (stages_unless p s))) (done_by_word (fetch s) s)) is
+    ∙ ap (λ f. unless_fault f (done_by_word (fetch s) s)) (false-first c all found)
+    ∙ trap-by c.question
+
+pub traps-by_the_shown : TrapsByTheShown
+unfolding stages_of
+traps-by_the_shown s c found = traps-by_its_stages s ∙ unless-traps (pending s.csrs (interrupts_of s.devices)) s c refl found
