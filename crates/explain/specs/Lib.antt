@@ -7,6 +7,7 @@ pub mod After
 -- Laws
 pub mod AskedLaws
 pub mod SaysLaws
+pub mod StageLaws
 pub mod ShownLaws
 pub mod FitsLaws
 pub mod AfterLaws

@@ -1,12 +1,15 @@
 -- What the lines of `why` show, against the state's own fields: a capability under another register's name is refused here, though
 -- definition and code show the same.
-use Rattle.std.specs.Prelude.{◌≡◌, ℕ, ◌+◌, ◌*◌, Bool, not, ◌&&◌, nat_le, if◌then◌else◌, List, [], ◌++◌, Some, find, codes, decimal}
+use Rattle.std.specs.Prelude.{◌≡◌, ℕ, ◌+◌, ◌*◌, Bool, not, ◌&&◌, nat_le, if◌then◌else◌, List, [], ◌∷◌, ◌++◌, map}
+use Rattle.std.specs.Prelude.{Some, find, codes, decimal}
+use Rattle.std.specs.List.{range_with_len}
 use Rattle.base.specs.declared.cause.CheriCause.{CheriCause}
 use Rattle.base.specs.Fault.{number_of, cheri_number_of}
 use Rattle.cap_bounds.specs.CapValue.{value_base, value_top}
 use Rattle.cap_checks.specs.declared.question.Condition.{Condition}
 use Rattle.cap_checks.specs.declared.question.Question.{Question}
 use Rattle.cap_checks.specs.declared.question.Question.TheVariants.{Right, Bounds, Multiple, Ram, RamOrDevice, Instruction, SystemRegister}
+use Rattle.asm_names.specs.Registers.{capability_names}
 use Rattle.disassembler.specs.Hex.{hex_of}
 use Rattle.disassembler.specs.Shown.{name_or}
 use Rattle.trap_texts.specs.Names.{cheri_asked_name}
@@ -18,13 +21,21 @@ use Rattle.hart.specs.Step.{step_effect}
 use Rattle.effect_texts.specs.ValueText.{shown_value}
 use Rattle.explain.specs.Asked.{stages_of, all_conditions}
 use Rattle.explain.specs.Says.{held, Each}
-use Rattle.explain.specs.Text.{register_text, capability_in, capability_line, condition_line}
+use Rattle.explain.specs.Text.{register_text, capability_in, capability_line, condition_line, stage_text, stages_text}
 
--- The law: the value that is shown of a register is the one that it holds, and its line shows that under its name.
-abbrev pub ShowsWhatIsHeld : Type 0
-ShowsWhatIsHeld =
-    (s : State) (n : ℕ) → (capability_in s n ≡ held s n)
-    × (capability_line s n ≡ codes "  " ++ (register_text n ++ codes " " ++ shown_value (held s n) ++ codes "\n"))
+-- ---- registers
+
+-- The law: a register is shown by its name, of the general ones as a capability register, and the value that is shown is the one that it
+-- holds.
+abbrev pub RegistersAreShown : Type 0
+RegistersAreShown =
+    (map register_text (range_with_len 0 32) ≡ capability_names)
+    × (
+    map register_text (32 ∷ 33 ∷ 60 ∷ 61 ∷ 62 ∷ 63 ∷ [])
+    ≡ codes "pcc" ∷ codes "ddc" ∷ codes "mtcc" ∷ codes "mtdc" ∷ codes "mscratchc" ∷ codes "mepcc" ∷ []
+    )
+    × ((s : State) (n : ℕ) → capability_in s n ≡ held s n)
+    × ((s : State) (n : ℕ) → capability_line s n ≡ codes "  " ++ (register_text n ++ codes " " ++ shown_value (held s n) ++ codes "\n"))
 
 -- ---- lines
 
@@ -53,6 +64,23 @@ LineSays s _ holds = Unit {0}
 abbrev pub LinesSayWhatIsHeld : Type 0
 LinesSayWhatIsHeld = (s : State) → Each (LineSays s) (all_conditions (stages_of s))
 
+-- ---- stages
+
+-- where a stage asks for bounds, its first line ends with the address, and after that the capability is shown whose bounds they are
+abbrev pub StageShows : State → List Condition → Question → Bool → Type 0
+StageShows s stage (Bounds r address size) holds =
+    (what : List ℕ) × (between : List ℕ) × (after : List ℕ)
+    × (stage_text s stage ≡ what ++ hex_of 16 address ++ codes "\n" ++ between ++ capability_line s r ++ after)
+StageShows s stage _ holds = Unit {0}
+
+abbrev pub EachStage : (List Condition → Type 0) → List (List Condition) → Type 0
+EachStage P [] = Unit {0}
+EachStage P (stage ∷ stages) = P stage × EachStage P stages
+
+-- The law: each stage shows where bounds are asked, and of which capability.
+abbrev pub StagesShowWhereAndWhat : Type 0
+StagesShowWhereAndWhat = (s : State) → EachStage (λ stage. Each (StageShows s stage) stage) (stages_of s)
+
 -- ---- the first false condition, and the trap
 
 -- the trap by a condition that is false: a CHERI exception, 28, names the register and the right
@@ -68,4 +96,5 @@ trap_by (SystemRegister word) = Trap (record { mcause = 2; mtval = word })
 -- The law: where a condition is false, the step is the trap by the first, and the stages' text ends with that condition's line.
 abbrev pub TrapsByTheShown : Type 0
 TrapsByTheShown =
-    (s : State) (c : Condition) → find (λ c. not c.holds) (all_conditions (stages_of s)) ≡ Some c → step_effect s ≡ trap_by c.question
+    (s : State) (c : Condition) → find (λ c. not c.holds) (all_conditions (stages_of s)) ≡ Some c
+    → (step_effect s ≡ trap_by c.question) × ((before : List ℕ) × (stages_text s ≡ before ++ condition_line s c))

@@ -14,7 +14,8 @@ use Rattle.cap_checks.specs.Question.{fault_of, first_false}
 use Rattle.devices.specs.Devices.{interrupts_of}
 use Rattle.special_regs.specs.Interrupts.{pending}
 use Rattle.special_regs.specs.declared.interrupts.Interrupt.{Interrupt}
-use Rattle.trap_texts.specs.Names.{cheri_asked_name}
+use Rattle.asm_names.specs.SpecialNames.{scr_name}
+use Rattle.trap_texts.specs.Names.{cheri_asked_name, register_at_fault}
 use Rattle.isa_rows.specs.declared.operands.Insn.{Insn}
 use Rattle.isa_rows.specs.declared.kinds.Kind.{Kind}
 use Rattle.isa_rows.specs.Kind.{kind_of}
@@ -27,15 +28,15 @@ use Rattle.hart.specs.Step.{fetch, step_effect}
 use Rattle.effect_texts.specs.ValueText.{value_line}
 use Rattle.explain.specs.Asked.{stages_unless, stages_of, all_conditions, done_by_word, effect_unless}
 use Rattle.explain.specs.AskedLaws.{traps-by_its_stages}
+use Rattle.explain.specs.StageLaws.{text-ends}
 use Rattle.explain.specs.Says.{held, lies_in, word_here, FetchSays, InsnSays, Each, InsnStageSays, StagesSay}
 use Rattle.explain.specs.SaysLaws.{held-shown, each-append, conditions-say}
-use Rattle.explain.specs.Shown.{ShowsWhatIsHeld, LineSays, LinesSayWhatIsHeld, trap_by, TrapsByTheShown}
+use Rattle.explain.specs.Shown.{RegistersAreShown, LineSays, LinesSayWhatIsHeld, trap_by, TrapsByTheShown}
 use Rattle.explain.specs.Text.{name_text, bounds_text, mark, question_text, condition_line, register_text}
 
-pub shows-what_is_held : ShowsWhatIsHeld
-shows-what_is_held s n =
-    let same = held-shown s n in
-    (same, ap (λ v. codes "  " ++ value_line (register_text n) v) same)
+pub registers-shown : RegistersAreShown
+unfolding register_at_fault scr_name
+registers-shown = (refl, refl, held-shown, λ s n. ap (λ v. codes "  " ++ value_line (register_text n) v) (held-shown s n))
 
 -- ---- lines
 
@@ -123,4 +124,7 @@ unless-traps None s c is found =
 
 pub traps-by_the_shown : TrapsByTheShown
 unfolding stages_of
-traps-by_the_shown s c found = traps-by_its_stages s ∙ unless-traps (pending s.csrs (interrupts_of s.devices)) s c refl found
+traps-by_the_shown s c found = (
+  traps-by_its_stages s ∙ unless-traps (pending s.csrs (interrupts_of s.devices)) s c refl found,
+  text-ends s c found,
+)

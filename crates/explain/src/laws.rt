@@ -2,7 +2,7 @@
 ghost use Rattle.explain.specs.Asked.{TrapsByItsStages};
 ghost use Rattle.explain.specs.After.{ShowsTheStateAfter, CsrsKeepWhatIsShown, DevicesAreGivenWhatIsShown};
 ghost use Rattle.explain.specs.Says.{ConditionsSayWhatIsAsked};
-ghost use Rattle.explain.specs.Shown.{ShowsWhatIsHeld, LinesSayWhatIsHeld, TrapsByTheShown};
+ghost use Rattle.explain.specs.Shown.{RegistersAreShown, LinesSayWhatIsHeld, StagesShowWhereAndWhat, TrapsByTheShown};
 
 /// Unless an interrupt is taken, the next step is the trap by the first false condition of its stages, or what the instruction does.
 pub fn step_traps_by_its_stages()
@@ -14,10 +14,11 @@ pub fn conditions_say_what_is_asked()
     ensures { ConditionsSayWhatIsAsked }
 {}
 
-/// What is shown of a register is what it holds.
+/// What is shown of a register is what it holds, under its name; lines compare the numbers that they show, and the last false one traps.
 pub fn lines_say_what_is_held()
-    ensures registers { ShowsWhatIsHeld }
+    ensures registers { RegistersAreShown }
     ensures lines { LinesSayWhatIsHeld }
+    ensures stages { StagesShowWhereAndWhat }
     ensures traps { TrapsByTheShown }
 {}
 
