@@ -1,13 +1,14 @@
 -- What the truth of each condition of a step says, read off the state's own fields, and not through the definitions of the checks: a wrong
 -- check is refused here, though the code makes the same.
-use Rattle.std.specs.Prelude.{◌≡◌, ℕ, ◌+◌, ◌%◌, ◌^◌, Bool, not, ◌&&◌, ◌||◌, ◌==◌, ◌⊎◌, nat_lt, nat_le, if◌then◌else◌, List, [], ◌∷◌, Option}
-use Rattle.std.specs.Prelude.{Some, None, is_some, is_none}
+use Rattle.std.specs.Prelude.{◌≡◌, ℕ, ◌+◌, ◌*◌, ◌/◌, ◌%◌, ◌^◌, Bool, not, ◌&&◌, ◌||◌, ◌==◌, ◌⊎◌, nat_lt, nat_le, if◌then◌else◌}
+use Rattle.std.specs.Prelude.{List, [], ◌∷◌, Option, Some, None, is_some, is_none}
 use Rattle.base.specs.declared.cause.Cause.TheVariants as cause
 use Rattle.base.specs.declared.cause.CheriCause.TheVariants as forbids
 use Rattle.base.specs.ObjectType.{sentry_type, is_reserved}
 use Rattle.base.specs.Registers.{is_csr, is_scr}
 use Rattle.base.specs.Size.{bytes_of}
-use Rattle.cap_bounds.specs.CapValue.{CapValue, integer, is_tagged, is_sealed, value_base, value_top, value_otype}
+use Rattle.cap_bounds.specs.CapValue.{CapValue, integer, is_tagged, is_sealed, value_base, value_top, value_address, value_flag}
+use Rattle.cap_bounds.specs.CapValue.{value_otype}
 use Rattle.cap_rights.specs.Permission.{permits}
 use Rattle.cap_rights.specs.declared.permission.Permission.TheVariants as permission
 use Rattle.cap_checks.specs.declared.question.Condition.{Condition}
@@ -22,6 +23,7 @@ use Rattle.isa_rows.specs.declared.kinds.Kind.TheVariants as kind
 use Rattle.isa_rows.specs.Kind.{kind_of}
 use Rattle.isa_rows.specs.Decoded.{insn_of}
 use Rattle.registers.specs.Registers.{register}
+use Rattle.hart.specs.Accesses.{size_of, through_rs1}
 use Rattle.hart.specs.State.{State, pc_of}
 use Rattle.hart.specs.SystemRows.{csr_writes}
 use Rattle.explain.specs.Asked.{stages_of}
@@ -88,7 +90,32 @@ RegisterSays kind.Csr i holds =
 RegisterSays kind.SpecialRw i holds = holds ≡ (is_scr i.rs2 && not (not (i.rs1 == 0) && (i.rs2 == 0)))
 RegisterSays _ i holds = ⊥
 
--- a question of an instruction of a kind: what the register that it names holds, at the address that it names
+-- Where an instruction of a kind asks: an access at the number in rs1 and the immediate, a jump at its target, whose bit 0 is cleared; for
+-- how many bytes; and through the capability in which register.
+abbrev pub asked_at : Kind → Insn → State → ℕ
+asked_at kind.Branch i s = (pc_of s + i.imm) % 2 ^ 64 / 2 * 2
+asked_at kind.Jal i s = (pc_of s + i.imm) % 2 ^ 64 / 2 * 2
+asked_at kind.Jalr i s = (value_address (register s.registers i.rs1) + i.imm) % 2 ^ 64 / 2 * 2
+asked_at kind.JalrCap i s = (value_address (register s.registers i.rs1) + i.imm) % 2 ^ 64 / 2 * 2
+asked_at kind.Invoke i s = value_address (register s.registers i.rs1) % 2 ^ 64 / 2 * 2
+asked_at _ i s = (value_address (register s.registers i.rs1) + i.imm) % 2 ^ 64
+
+abbrev pub asked_bytes : Kind → Insn → ℕ
+asked_bytes kind.Load i = bytes_of (size_of i.row)
+asked_bytes kind.Store i = bytes_of (size_of i.row)
+asked_bytes kind.LoadCapability i = 16
+asked_bytes kind.StoreCapability i = 16
+asked_bytes _ i = 4
+
+abbrev pub asked_through : Kind → Insn → State → ℕ
+asked_through kind.Branch i s = 32
+asked_through kind.Jal i s = 32
+asked_through kind.Jalr i s = if value_flag s.scrs.pcc then i.rs1 else 32
+asked_through kind.JalrCap i s = i.rs1
+asked_through kind.Invoke i s = i.rs1
+asked_through _ i s = if through_rs1 i.row (value_flag s.scrs.pcc) then i.rs1 else 33
+
+-- a question of an instruction of a kind: of what the register that it names holds, and of the place that it names
 abbrev pub InsnSays : State → Kind → Insn → Question → Bool → Type 0
 InsnSays s k i (Right r forbids.Tag) holds = holds ≡ is_tagged (held s r)
 InsnSays s k i (Right r forbids.Seal) holds = holds ≡ seal_lets k i (held s r)
@@ -102,13 +129,17 @@ InsnSays s k i (Right r forbids.StoreLocalCapability) holds = holds ≡ permits 
 InsnSays s k i (Right r forbids.CInvoke) holds = holds ≡ permits (held s r) permission.CInvoke
 InsnSays s k i (Right r forbids.AccessSystemRegisters) holds = AccessSays s k i r holds
 InsnSays s k i (Right r forbids.Length) holds = ⊥
-InsnSays s k i (Bounds r address size) holds = holds ≡ lies_in (held s r) address size
-InsnSays s k i (Multiple otherwise address size) holds = holds ≡ (address % size == 0)
-InsnSays s k i (Ram otherwise address) holds = holds ≡ is_in_ram s.memory address 16
+InsnSays s k i (Bounds r address size) holds =
+    (r ≡ asked_through k i s) × (address ≡ asked_at k i s) × (size ≡ asked_bytes k i) × (holds ≡ lies_in (held s r) address size)
+InsnSays s k i (Multiple otherwise address size) holds =
+    (address ≡ asked_at k i s) × (size ≡ asked_bytes k i) × (holds ≡ (address % size == 0))
+InsnSays s k i (Ram otherwise address) holds = (address ≡ asked_at k i s) × (holds ≡ is_in_ram s.memory address 16)
 InsnSays s k i (RamOrDevice cause.LoadAccess address size) holds =
-    holds ≡ (is_in_ram s.memory address (bytes_of size) || is_none (read_fault address (bytes_of size)))
+    (address ≡ asked_at k i s) × (bytes_of size ≡ asked_bytes k i)
+    × (holds ≡ (is_in_ram s.memory address (bytes_of size) || is_none (read_fault address (bytes_of size))))
 InsnSays s k i (RamOrDevice cause.StoreAccess address size) holds =
-    holds ≡ (is_in_ram s.memory address (bytes_of size) || is_none (write_fault address (bytes_of size)))
+    (address ≡ asked_at k i s) × (bytes_of size ≡ asked_bytes k i)
+    × (holds ≡ (is_in_ram s.memory address (bytes_of size) || is_none (write_fault address (bytes_of size))))
 InsnSays s k i (SystemRegister word) holds = (word ≡ word_here s) × RegisterSays k i holds
 InsnSays s k i _ holds = ⊥
 

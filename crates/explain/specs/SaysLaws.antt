@@ -1,5 +1,5 @@
 -- What the conditions of a step say, by the rows.
-use Rattle.std.proofs.Common.{◌≡◌, ℕ, ◌+◌, ◌-◌, ◌≤◌, ◌<◌, Bool, true, false, not, ◌&&◌, ◌||◌, cond, eqb, List, [], ◌∷◌, ◌++◌, Option, Some, None, inl, inr}
+use Rattle.std.proofs.Common.{◌≡◌, ℕ, ◌+◌, ◌-◌, ◌*◌, ◌/◌, ◌%◌, ◌^◌, ◌≤◌, ◌<◌, Bool, true, false, not, ◌&&◌, ◌||◌, cond, eqb, List, [], ◌∷◌, ◌++◌, Option, Some, None, inl, inr}
 use Rattle.std.proofs.Common.{refl, sym, ap, ◌∙◌, arith}
 use Rattle.std.specs.Prelude.{IfSome, is_some}
 use Rattle.std.specs.Option.{unwrap_or}
@@ -38,7 +38,7 @@ use Rattle.hart.specs.JumpRows.{branch_asked, link_asked, enter_asked, invoke_as
 use Rattle.hart.specs.State.{State, pc_of}
 use Rattle.hart.specs.Step.{asked, fetch_asked, fetch, word_unless}
 use Rattle.explain.specs.Asked.{decoding, insn_stages, word_stages, fetched_stages, stages_unless, stages_of}
-use Rattle.explain.specs.Says.{held, lies_in, word_here, FetchSays, seal_lets, ExecuteSays, InsnSays, Each, InsnStageSays, StagesSay}
+use Rattle.explain.specs.Says.{held, lies_in, word_here, asked_at, asked_bytes, asked_through, FetchSays, seal_lets, ExecuteSays, InsnSays, Each, InsnStageSays, StagesSay}
 use Rattle.explain.specs.Says.{ConditionsSayWhatIsAsked}
 use Rattle.explain.specs.Text.{capability_in}
 
@@ -122,38 +122,41 @@ module _ (s : State) (k : Kind) (insn : Insn) (r : ℕ) (v : CapValue) (at : hel
   tagged : is_tagged v ≡ is_tagged (held s r)
   tagged = ap is_tagged (sym at)
 
-  place-says : (otherwise : Cause) (address size : ℕ)
+  place-says : (otherwise : Cause) (address size : ℕ) → r ≡ asked_through k insn s → address ≡ asked_at k insn s → size ≡ asked_bytes k insn
       → Each (InsnSays s k insn) (within r v address size ∷ aligned otherwise address size ∷ [])
-  place-says otherwise address size = (bounds-says address size, (refl, tt))
+  place-says otherwise address size through at_it many =
+      ((through, at_it, many, bounds-says address size), ((at_it, many, refl), tt))
 
   access-says : ((u : CapValue) → seal_lets k insn u ≡ not (is_sealed u)) → (a : Access) (address : ℕ)
+      → r ≡ asked_through k insn s → address ≡ asked_at k insn s → width_of a ≡ asked_bytes k insn
       → Each (InsnSays s k insn) (access_checks v r a address)
-  access-says plain (access.Load size) address =
-      (tagged, (unsealed plain, (permitted permission.Load, place-says (misaligned (access.Load size)) address (width_of (access.Load size)))))
-  access-says plain (access.Store size) address =
-      (tagged, (unsealed plain, (permitted permission.Store, place-says (misaligned (access.Store size)) address (width_of (access.Store size)))))
-  access-says plain access.LoadCapability address =
-      (tagged, (unsealed plain, (permitted permission.Load, place-says (misaligned access.LoadCapability) address 16)))
-  access-says plain (access.StoreCapability what) address =
+  access-says plain (access.Load size) address through at_it many =
+      (tagged, (unsealed plain, (permitted permission.Load, place-says (misaligned (access.Load size)) address (width_of (access.Load size)) through at_it many)))
+  access-says plain (access.Store size) address through at_it many =
+      (tagged, (unsealed plain, (permitted permission.Store, place-says (misaligned (access.Store size)) address (width_of (access.Store size)) through at_it many)))
+  access-says plain access.LoadCapability address through at_it many =
+      (tagged, (unsealed plain, (permitted permission.Load, place-says (misaligned access.LoadCapability) address 16 through at_it many)))
+  access-says plain (access.StoreCapability what) address through at_it many =
       let a : Access = access.StoreCapability what in
       (tagged, (unsealed plain, (
         permitted permission.Store,
         each-asked_if (InsnSays s k insn) (stores_capability a) _ _ (permitted permission.StoreCapability)
         (each-asked_if (InsnSays s k insn) (stores_local a) _ _ (permitted permission.StoreLocalCapability)
-        (place-says (misaligned a) address 16)),
+        (place-says (misaligned a) address 16 through at_it many)),
       )))
 
   jump-says : ((u : CapValue) → seal_lets k insn u ≡ (not (is_sealed u) || is_entered_sealed u insn.imm))
       → ((b : Bool) → b ≡ permits (held s r) permission.Execute → ExecuteSays s k insn r b)
+      → r ≡ asked_through k insn s → jump_target (value_address v) insn.imm ≡ asked_at k insn s → 4 ≡ asked_bytes k insn
       → Each (InsnSays s k insn) (jump_checks v r insn.imm)
-  jump-says sentry runs =
+  jump-says sentry runs through at_it many =
       (
         tagged,
         (
           ap (λ u. not (is_sealed u) || is_entered_sealed u insn.imm) (sym at) ∙ sym (sentry (held s r)),
           (
             runs (permits v permission.Execute) (permitted permission.Execute),
-            place-says cause.MisalignedJump (jump_target (value_address v) insn.imm) 4,
+            place-says cause.MisalignedJump (jump_target (value_address v) insn.imm) 4 through at_it many,
           ),
         ),
       )
@@ -172,38 +175,50 @@ module _ (s : State) (insn : Insn) (range : AreInRange insn) where
   -- ---- memory
 
   memory-says : (k : Kind) (a : Access) → ((u : CapValue) → seal_lets k insn u ≡ not (is_sealed u))
+      → authority_number_of insn s ≡ asked_through k insn s → place_of insn s ≡ asked_at k insn s → width_of a ≡ asked_bytes k insn
       → InsnSays s k insn (mapped_for a (place_of insn s) s).question (mapped_for a (place_of insn s) s).holds
       → Each (InsnSays s k insn) (memory_asked a insn s)
-  memory-says k a plain mapped =
+  memory-says k a plain through at_it many mapped =
       each-append (InsnSays s k insn) (access_checks (authority_of insn s) (authority_number_of insn s) a (place_of insn s)) _
       (access-says s k insn (authority_number_of insn s) (authority_of insn s)
-      (through-held (through_rs1 insn.row (in_capability_mode s))) plain a (place_of insn s))
+      (through-held (through_rs1 insn.row (in_capability_mode s))) plain a (place_of insn s) through at_it many)
       (mapped, tt)
 
   -- ---- jumps
 
-  target-says : (k : Kind) (target : ℕ) → Each (InsnSays s k insn) (link_asked target s)
-  target-says k target = place-says s k insn 32 s.scrs.pcc refl cause.MisalignedJump target 4
+  target-says : (k : Kind) (target : ℕ) → 32 ≡ asked_through k insn s → target ≡ asked_at k insn s → 4 ≡ asked_bytes k insn
+      → Each (InsnSays s k insn) (link_asked target s)
+  target-says k target through at_it many = place-says s k insn 32 s.scrs.pcc refl cause.MisalignedJump target 4 through at_it many
 
-  taken-says : (taken : Bool) (target : ℕ) → Each (InsnSays s kind.Branch insn) (cond taken (link_asked target s) [])
-  taken-says true target = target-says kind.Branch target
-  taken-says false target = tt
+  taken-says : (taken : Bool) (target : ℕ) → target ≡ asked_at kind.Branch insn s
+      → Each (InsnSays s kind.Branch insn) (cond taken (link_asked target s) [])
+  taken-says true target at_it = target-says kind.Branch target refl at_it refl
+  taken-says false target at_it = tt
 
   branch-says : Each (InsnSays s kind.Branch insn) (branch_asked insn s)
-  branch-says = taken-says _ (jump_target (pc_of s) insn.imm)
+  unfolding jump_target
+  branch-says = taken-says _ (jump_target (pc_of s) insn.imm) refl
 
   enter-says : (k : Kind) → ((u : CapValue) → seal_lets k insn u ≡ (not (is_sealed u) || is_entered_sealed u insn.imm))
       → ((b : Bool) → b ≡ permits (held s insn.rs1) permission.Execute → ExecuteSays s k insn insn.rs1 b)
+      → insn.rs1 ≡ asked_through k insn s
+      → jump_target (value_address (register s.registers insn.rs1)) insn.imm ≡ asked_at k insn s → 4 ≡ asked_bytes k insn
       → Each (InsnSays s k insn) (enter_asked insn s)
-  enter-says k sentry runs = jump-says s k insn insn.rs1 (register s.registers insn.rs1) rs1-held sentry runs
+  enter-says k sentry runs through at_it many =
+      jump-says s k insn insn.rs1 (register s.registers insn.rs1) rs1-held sentry runs through at_it many
 
   jalr-says : Each (InsnSays s kind.Jalr insn) (jalr_asked insn s)
+  unfolding jump_target
   jalr-says =
       elim (in_capability_mode s) as
-      (λ b. Each (InsnSays s kind.Jalr insn) (cond b (enter_asked insn s) (link_asked (jalr_target insn s) s))) [
-        | true ↦ enter-says kind.Jalr (λ u. refl) (λ b e. e)
-        | false ↦ target-says kind.Jalr (jalr_target insn s)
-      ]
+      (λ b. in_capability_mode s ≡ b → Each (InsnSays s kind.Jalr insn) (cond b (enter_asked insn s) (link_asked (jalr_target insn s) s))) [
+        | true ↦ λ e. enter-says kind.Jalr (λ u. refl) (λ b e. e) (ap (λ b. cond b insn.rs1 32) (sym e)) refl refl
+        | false ↦ λ e. target-says kind.Jalr (jalr_target insn s) (ap (λ b. cond b insn.rs1 32) (sym e)) refl refl
+      ] refl
+
+  opened-target : (n : ℕ) → jump_target n 0 ≡ n % 2 ^ 64 / 2 * 2
+  unfolding jump_target
+  opened-target n = ap (λ m. m % 2 ^ 64 / 2 * 2) (omega arith)
 
   invoke-says : Each (InsnSays s kind.Invoke insn) (invoke_asked insn s)
   invoke-says =
@@ -232,7 +247,8 @@ module _ (s : State) (insn : Insn) (range : AreInRange insn) where
                       inl (refl, ap (λ u. permits u permission.Execute) (sym rs1-held)),
                       (
                         inr (refl, ap (λ u. not (permits u permission.Execute)) (sym rs2-held)),
-                        place-says s kind.Invoke insn insn.rs1 code rs1-held cause.MisalignedJump (invoke_target code) 4,
+                        place-says s kind.Invoke insn insn.rs1 code rs1-held cause.MisalignedJump (invoke_target code) 4 refl
+                            (opened-target (value_address code)) refl,
                       ),
                     ),
                   ),
@@ -246,17 +262,18 @@ module _ (s : State) (insn : Insn) (range : AreInRange insn) where
   -- ---- all rows
 
   pub kind-says : (k : Kind) → Each (InsnSays s k insn) (asked k (word_here s) insn s)
-  unfolding asked
+  unfolding asked jump_target
   kind-says kind.Branch = branch-says
-  kind-says kind.Jal = target-says kind.Jal (jal_target insn s)
+  kind-says kind.Jal = target-says kind.Jal (jal_target insn s) refl refl refl
   kind-says kind.Jalr = jalr-says
-  kind-says kind.JalrCap = enter-says kind.JalrCap (λ u. refl) (λ b e. e)
+  kind-says kind.JalrCap = enter-says kind.JalrCap (λ u. refl) (λ b e. e) refl refl refl
   kind-says kind.Invoke = invoke-says
-  kind-says kind.Load = memory-says kind.Load (access.Load (size_of insn.row)) (λ u. refl) refl
-  kind-says kind.Store = memory-says kind.Store (access.Store (size_of insn.row)) (λ u. refl) refl
-  kind-says kind.LoadCapability = memory-says kind.LoadCapability access.LoadCapability (λ u. refl) refl
+  kind-says kind.Load = memory-says kind.Load (access.Load (size_of insn.row)) (λ u. refl) refl refl refl (refl, refl, refl)
+  kind-says kind.Store = memory-says kind.Store (access.Store (size_of insn.row)) (λ u. refl) refl refl refl (refl, refl, refl)
+  kind-says kind.LoadCapability = memory-says kind.LoadCapability access.LoadCapability (λ u. refl) refl refl refl (refl, refl)
   kind-says kind.StoreCapability =
-      memory-says kind.StoreCapability (access.StoreCapability (stored_of (register s.registers insn.rs2))) (λ u. refl) refl
+      memory-says kind.StoreCapability (access.StoreCapability (stored_of (register s.registers insn.rs2))) (λ u. refl) refl refl refl
+      (refl, refl)
   kind-says kind.Csr = ((refl, refl), ((refl, refl), tt))
   kind-says kind.SpecialRw = ((refl, refl), ((refl, refl), tt))
   kind-says kind.Mret = ((refl, refl), tt)

@@ -61,7 +61,7 @@ line-fetch s (Right r what) b says = line-right s r what b
 line-fetch s _ b says = tt
 
 line-insn : (s : State) (k : Kind) (insn : Insn) (q : Question) (b : Bool) → InsnSays s k insn q b → LineSays s q b
-line-insn s k insn (Bounds r address size) b says = line-bounds s r address size b says
+line-insn s k insn (Bounds r address size) b says = line-bounds s r address size b says.3
 line-insn s k insn (Right r what) b says = line-right s r what b
 line-insn s k insn _ b says = tt
 
