@@ -1,9 +1,11 @@
 -- What the lines of `why` show, against the state's own fields: a capability under another register's name is refused here, though
 -- definition and code show the same.
-use Rattle.std.specs.Prelude.{◌≡◌, ℕ, ◌+◌, ◌*◌, Bool, not, ◌&&◌, nat_le, if◌then◌else◌, List, [], ◌∷◌, ◌++◌, map}
+use Rattle.std.specs.Prelude.{◌≡◌, ℕ, ◌+◌, ◌*◌, ◌%◌, Bool, not, ◌&&◌, ◌==◌, ◌⊎◌, nat_le, if◌then◌else◌, List, [], ◌∷◌, ◌++◌, map}
 use Rattle.std.specs.Prelude.{Some, find, codes, decimal}
 use Rattle.std.specs.List.{range_with_len}
-use Rattle.base.specs.declared.cause.CheriCause.{CheriCause}
+use Rattle.base.specs.declared.cause.Cause.TheVariants as cause
+use Rattle.base.specs.declared.cause.CheriCause.TheVariants as forbids
+use Rattle.base.specs.declared.size.Size.{Size}
 use Rattle.base.specs.Fault.{number_of, cheri_number_of}
 use Rattle.cap_bounds.specs.CapValue.{value_base, value_top}
 use Rattle.cap_checks.specs.declared.question.Condition.{Condition}
@@ -16,8 +18,9 @@ use Rattle.trap_texts.specs.Names.{cheri_asked_name}
 use Rattle.hart.specs.declared.effect.Effect.{Effect}
 use Rattle.hart.specs.declared.effect.Effect.TheVariants.{Trap}
 use Rattle.cap_bounds.specs.CapValue.{CapValue}
-use Rattle.hart.specs.State.{State}
+use Rattle.hart.specs.State.{State, pc_of}
 use Rattle.hart.specs.Step.{step_effect}
+use Rattle.effect_texts.specs.EffectText.{shown_size}
 use Rattle.effect_texts.specs.ValueText.{shown_value}
 use Rattle.explain.specs.Asked.{stages_of, all_conditions}
 use Rattle.explain.specs.Says.{held, Each}
@@ -50,36 +53,72 @@ bounds_line r address size base top =
     ++ (codes ": " ++ hex_of 16 address ++ codes " + " ++ decimal size ++ codes " in " ++ hex_of 16 base ++ codes " to " ++ hex_of 17 top))
     ++ codes "\n"
 
+abbrev pub multiple_line : ℕ → ℕ → List ℕ
+multiple_line address size =
+    mark_of (address % size == 0) ++ (codes "a multiple of " ++ decimal size ++ codes ": " ++ hex_of 16 address) ++ codes "\n"
+
+-- the line of each question, `ok` where it holds
+abbrev pub line_of : State → Question → Bool → List ℕ
+line_of s (Right r what) holds =
+    mark_of holds ++ (name_or [] (cheri_asked_name (cheri_number_of what)) ++ codes " of " ++ register_text r) ++ codes "\n"
+line_of s (Bounds r address size) holds = bounds_line r address size (value_base (held s r)) (value_top (held s r))
+line_of s (Multiple otherwise address size) holds = multiple_line address size
+line_of s (Ram otherwise address) holds = mark_of holds ++ (codes "RAM at " ++ hex_of 16 address) ++ codes "\n"
+line_of s (RamOrDevice otherwise address size) holds =
+    mark_of holds ++ (codes "RAM or a device at " ++ hex_of 16 address) ++ codes "\n"
+line_of s (Instruction word) holds = mark_of holds ++ codes "the word is an instruction" ++ codes "\n"
+line_of s (SystemRegister word) holds =
+    mark_of holds ++ codes "there is such a register, and it may be written where it is" ++ codes "\n"
+
 abbrev pub LineSays : State → Question → Bool → Type 0
-LineSays s (Bounds r address size) holds =
-    condition_line s (record { question = Bounds r address size; holds = holds })
-    ≡ bounds_line r address size (value_base (held s r)) (value_top (held s r))
-LineSays s (Right r what) holds =
-    condition_line s (record { question = Right r what; holds = holds })
-    ≡ mark_of holds ++ (name_or [] (cheri_asked_name (cheri_number_of what)) ++ codes " of " ++ register_text r) ++ codes "\n"
-LineSays s _ holds = Unit {0}
+LineSays s q holds = condition_line s (record { question = q; holds = holds }) ≡ line_of s q holds
 
 -- The law: the line of a condition of bounds is `ok` exactly if base <= address and address + size <= top, of the numbers that it shows,
--- and those are the bounds of what the register that it names holds.
+-- and those are the bounds of what the register that it names holds; that of a multiple exactly if the address that it shows is one.
 abbrev pub LinesSayWhatIsHeld : Type 0
 LinesSayWhatIsHeld = (s : State) → Each (LineSays s) (all_conditions (stages_of s))
 
 -- ---- stages
 
--- where a stage asks for bounds, its first line ends with the address, and after that the capability is shown whose bounds they are
-abbrev pub StageShows : State → List Condition → Question → Bool → Type 0
-StageShows s stage (Bounds r address size) holds =
-    (what : List ℕ) × (between : List ℕ) × (after : List ℕ)
-    × (stage_text s stage ≡ what ++ hex_of 16 address ++ codes "\n" ++ between ++ capability_line s r ++ after)
-StageShows s stage _ holds = Unit {0}
+-- a text that begins with another, and one that has another in it
+abbrev pub Begins : List ℕ → List ℕ → Type 0
+Begins text first = (after : List ℕ) × (text ≡ first ++ after)
+
+abbrev pub Has : List ℕ → List ℕ → Type 0
+Has text part = (before : List ℕ) × (after : List ℕ) × (text ≡ before ++ part ++ after)
+
+-- the line of the place that a question is about
+abbrev pub place_line : List ℕ → ℕ → List ℕ
+place_line what address = what ++ hex_of 16 address ++ codes "\n"
+
+abbrev pub sized : Size → List ℕ
+sized size = shown_size size ++ codes " at "
+
+-- what the text of a stage shows of each of its questions: which capability, and as its first line where
+abbrev pub StageShows : State → List ℕ → Question → Type 0
+StageShows s text (Right r forbids.Tag) = Has text (capability_line s r)
+StageShows s text (Right r forbids.AccessSystemRegisters) = Begins text (place_line (codes "system register at ") (pc_of s) ++ capability_line s 32)
+StageShows s text (Right r what) = Unit {0}
+StageShows s text (Bounds r address size) =
+    (what : List ℕ) × (between : List ℕ) × Begins text (place_line what address ++ between ++ capability_line s r)
+StageShows s text (Multiple cause.MisalignedJump address size) =
+    Begins text (place_line (codes "jump to ") address) ⊎ Begins text (place_line (codes "invocation of ") address)
+StageShows s text (Multiple otherwise address size) = (what : List ℕ) × Begins text (place_line what address)
+StageShows s text (Ram cause.FetchAccess address) = Begins text (place_line (codes "fetch at ") address)
+StageShows s text (Ram cause.LoadAccess address) = Begins text (place_line (codes "load of a capability at ") address)
+StageShows s text (Ram otherwise address) = Begins text (place_line (codes "store of a capability at ") address)
+StageShows s text (RamOrDevice cause.LoadAccess address size) = Begins text (place_line (codes "load of " ++ sized size) address)
+StageShows s text (RamOrDevice otherwise address size) = Begins text (place_line (codes "store of " ++ sized size) address)
+StageShows s text (Instruction word) = Begins text (place_line (codes "decoding at ") (pc_of s))
+StageShows s text (SystemRegister word) = Begins text (place_line (codes "system register at ") (pc_of s) ++ capability_line s 32)
 
 abbrev pub EachStage : (List Condition → Type 0) → List (List Condition) → Type 0
 EachStage P [] = Unit {0}
 EachStage P (stage ∷ stages) = P stage × EachStage P stages
 
--- The law: each stage shows where bounds are asked, and of which capability.
+-- The law: each stage shows where it asks, and each capability that it asks.
 abbrev pub StagesShowWhereAndWhat : Type 0
-StagesShowWhereAndWhat = (s : State) → EachStage (λ stage. Each (StageShows s stage) stage) (stages_of s)
+StagesShowWhereAndWhat = (s : State) → EachStage (λ stage. Each (λ q holds. StageShows s (stage_text s stage) q) stage) (stages_of s)
 
 -- ---- the first false condition, and the trap
 

@@ -1,7 +1,8 @@
 -- What is shown, by what the conditions say.
-use Rattle.std.proofs.Common.{◌≡◌, ℕ, Bool, true, false, not, cond, List, [], ◌∷◌, ◌++◌, Option, Some, None, refl, sym, ap, ◌∙◌}
+use Rattle.std.proofs.Common.{◌≡◌, ℕ, ◌%◌, Bool, true, false, not, cond, eqb, List, [], ◌∷◌, ◌++◌, Option, Some, None, refl, sym, ap, ◌∙◌}
 use Rattle.std.proofs.Common.{append-nil, append_assoc}
 use Rattle.std.specs.Prelude.{find, codes}
+use Rattle.base.specs.declared.cause.Cause.{Cause}
 use Rattle.base.specs.declared.cause.CheriCause.{CheriCause}
 use Rattle.base.specs.declared.cause.CheriCause.TheVariants as forbids
 use Rattle.base.specs.declared.fault.Fault.{Fault}
@@ -32,7 +33,7 @@ use Rattle.explain.specs.StageLaws.{text-ends}
 use Rattle.explain.specs.Says.{held, lies_in, word_here, FetchSays, InsnSays, Each, InsnStageSays, StagesSay}
 use Rattle.explain.specs.SaysLaws.{held-shown, each-append, conditions-say}
 use Rattle.explain.specs.Shown.{RegistersAreShown, LineSays, LinesSayWhatIsHeld, trap_by, TrapsByTheShown}
-use Rattle.explain.specs.Text.{name_text, bounds_text, mark, question_text, condition_line, register_text}
+use Rattle.explain.specs.Text.{name_text, bounds_text, multiple_text, mark, question_text, condition_line, register_text}
 
 pub registers-shown : RegistersAreShown
 unfolding register_at_fault scr_name
@@ -51,19 +52,34 @@ line-right : (s : State) (r : ℕ) (what : CheriCause) (b : Bool) → LineSays s
 unfolding condition_line question_text
 line-right s r what b = refl
 
+line-multiple : (s : State) (otherwise : Cause) (address size : ℕ) (b : Bool) → b ≡ eqb (address % size) 0
+    → LineSays s (Multiple otherwise address size) b
+unfolding condition_line question_text
+line-multiple s otherwise address size b says = ap (λ b. mark b ++ multiple_text size address ++ codes "\n") says
+
 line-of_pcc : (s : State) (r address size : ℕ) (b : Bool) → r ≡ 32 → b ≡ lies_in s.scrs.pcc address size
     → LineSays s (Bounds r address size) b
 line-of_pcc s r address size b is says = line-bounds s r address size b (says ∙ ap (λ n. lies_in (held s n) address size) (sym is))
 
 line-fetch : (s : State) (q : Question) (b : Bool) → FetchSays s q b → LineSays s q b
+unfolding condition_line question_text
 line-fetch s (Bounds r address size) b says = line-of_pcc s r address size b says.0 says.3
+line-fetch s (Multiple otherwise address size) b says = absurd says
 line-fetch s (Right r what) b says = line-right s r what b
-line-fetch s _ b says = tt
+line-fetch s (Ram otherwise address) b says = refl
+line-fetch s (RamOrDevice otherwise address size) b says = refl
+line-fetch s (Instruction word) b says = refl
+line-fetch s (SystemRegister word) b says = refl
 
 line-insn : (s : State) (k : Kind) (insn : Insn) (q : Question) (b : Bool) → InsnSays s k insn q b → LineSays s q b
+unfolding condition_line question_text
 line-insn s k insn (Bounds r address size) b says = line-bounds s r address size b says.3
+line-insn s k insn (Multiple otherwise address size) b says = line-multiple s otherwise address size b says.2
 line-insn s k insn (Right r what) b says = line-right s r what b
-line-insn s k insn _ b says = tt
+line-insn s k insn (Ram otherwise address) b says = refl
+line-insn s k insn (RamOrDevice otherwise address size) b says = refl
+line-insn s k insn (Instruction word) b says = refl
+line-insn s k insn (SystemRegister word) b says = refl
 
 each-so : (P Q : Question → Bool → Type 0) → ((q : Question) (b : Bool) → P q b → Q q b) → (cs : List Condition) → Each P cs → Each Q cs
 each-so P Q so [] all = tt

@@ -1,6 +1,6 @@
 -- What the text of each stage shows, and how the text of a step's stages ends where a condition is false.
 use Rattle.std.proofs.Common.{◌≡◌, ℕ, ◌-◌, Bool, true, false, not, cond, List, [], ◌∷◌, ◌++◌, length, Option, Some, None, refl, sym, ap, ◌∙◌}
-use Rattle.std.proofs.Common.{append-nil, append_assoc, arith}
+use Rattle.std.proofs.Common.{inl, inr, append-nil, append_assoc, arith}
 use Rattle.std.specs.Prelude.{find, is_some, slice_get, codes}
 use Rattle.std.specs.List.{flat_map}
 use Rattle.std.specs.Option.{option_or}
@@ -32,101 +32,182 @@ use Rattle.hart.specs.Looks.{in_capability_mode}
 use Rattle.hart.specs.MemoryRows.{place_of, authority_number_of, memory_asked}
 use Rattle.hart.specs.State.{State, pc_of}
 use Rattle.hart.specs.Step.{asked, fetch_asked, word_unless}
+use Rattle.hart.specs.SystemRows.{csr_asked, special_asked, return_asked}
 use Rattle.effect_texts.specs.EffectText.{shown_size}
 use Rattle.explain.specs.Asked.{decoding, insn_stages, word_stages, fetched_stages, stages_unless, stages_of, all_conditions}
 use Rattle.explain.specs.Says.{word_here, Each}
-use Rattle.explain.specs.Shown.{StageShows, EachStage, StagesShowWhereAndWhat}
+use Rattle.explain.specs.Shown.{Begins, Has, place_line, sized, StageShows, EachStage, StagesShowWhereAndWhat}
 use Rattle.explain.specs.Text.{capability_line, condition_line, condition_lines, stage_between, stage_text, stages_text}
 
--- ---- where bounds are asked, and of which capability
+-- ---- where a stage asks, and which capabilities
 
--- a stage's text by its parts
-parts : (what hex between line rest conditions : List ℕ)
-    → (what ++ hex) ++ codes "\n" ++ (between ++ line ++ rest) ++ conditions
-    ≡ what ++ hex ++ codes "\n" ++ between ++ line ++ (rest ++ conditions)
-parts what hex between line rest conditions =
-    let first : List ℕ = what ++ hex ++ codes "\n" in
-    ap (λ k. k ++ conditions) (sym (append_assoc first (between ++ line) rest))
-    ∙ append_assoc (first ++ (between ++ line)) rest conditions
-    ∙ ap (λ k. k ++ (rest ++ conditions)) (sym (append_assoc first between line))
+abbrev pub StageIsShown : State → List Condition → Type 0
+StageIsShown s stage = Each (λ q holds. StageShows s (stage_text s stage) q) stage
 
-fetch-shows : (s : State) → Each (StageShows s (fetch_asked s)) (fetch_asked s)
+-- a stage's text begins with the line of its place
+first-line : (what : List ℕ) (address : ℕ) (lines conditions : List ℕ)
+    → Begins (place_line what address ++ lines ++ conditions) (place_line what address)
+first-line what address lines conditions = (lines ++ conditions, append_assoc (place_line what address) lines conditions)
+
+-- and has each of its capabilities
+module _ (what : List ℕ) (address : ℕ) (before line after conditions : List ℕ) where
+  by-line : place_line what address ++ (before ++ line ++ after) ++ conditions
+      ≡ place_line what address ++ before ++ line ++ (after ++ conditions)
+  by-line =
+      let place : List ℕ = place_line what address in
+      ap (λ k. k ++ conditions) (sym (append_assoc place (before ++ line) after))
+      ∙ append_assoc (place ++ (before ++ line)) after conditions
+      ∙ ap (λ k. k ++ (after ++ conditions)) (sym (append_assoc place before line))
+
+  begins-line : Begins (place_line what address ++ (before ++ line ++ after) ++ conditions) (place_line what address ++ before ++ line)
+  begins-line = (after ++ conditions, by-line)
+
+  has-line : Has (place_line what address ++ (before ++ line ++ after) ++ conditions) line
+  has-line = (place_line what address ++ before, after ++ conditions, by-line)
+
+fetch-shows : (s : State) → StageIsShown s (fetch_asked s)
 unfolding stage_text
 fetch-shows s =
-    let text = parts (codes "fetch at ") (hex_of 16 (pc_of s)) [] (capability_line s 32) [] (condition_lines s (fetch_asked s)) in
-    (tt, (tt, (tt, ((codes "fetch at ", [], _, text), (tt, tt)))))
+    let what : List ℕ = codes "fetch at " in
+    let line : List ℕ = capability_line s 32 in
+    let conditions : List ℕ = condition_lines s (fetch_asked s) in
+    (
+      has-line what (pc_of s) [] line [] conditions,
+      (tt, (tt, ((what, [], begins-line what (pc_of s) [] line [] conditions), (first-line what (pc_of s) (line ++ []) conditions, tt)))),
+    )
 
-decoding-shows : (s : State) (b : Bool) (word : ℕ) → Each (StageShows s (decoding b word)) (decoding b word)
-decoding-shows s b word = (tt, tt)
+decoding-shows : (s : State) (b : Bool) (word : ℕ) → StageIsShown s (decoding b word)
+unfolding stage_text
+decoding-shows s b word = (first-line (codes "decoding at ") (pc_of s) [] (condition_lines s (decoding b word)), tt)
 
 module _ (s : State) (insn : Insn) where
-  memory-shows : (a : Access) → Each (StageShows s (memory_asked a insn s)) (memory_asked a insn s)
+  memory-shows : (a : Access) → StageIsShown s (memory_asked a insn s)
   unfolding stage_text
   memory-shows (access.Load size) =
-      let stage : List Condition = memory_asked (access.Load size) insn s in
-      let what : List ℕ = codes "load of " ++ shown_size size ++ codes " at " in
-      let text = parts what (hex_of 16 (place_of insn s)) [] (capability_line s (authority_number_of insn s)) [] (condition_lines s stage) in
-      (tt, (tt, (tt, ((what, [], _, text), (tt, (tt, tt))))))
+      let what : List ℕ = codes "load of " ++ sized size in
+      let line : List ℕ = capability_line s (authority_number_of insn s) in
+      let conditions : List ℕ = condition_lines s (memory_asked (access.Load size) insn s) in
+      let first = first-line what (place_of insn s) (line ++ []) conditions in
+      let bounds = begins-line what (place_of insn s) [] line [] conditions in
+      (has-line what (place_of insn s) [] line [] conditions, (tt, (tt, ((what, [], bounds), ((what, first), (first, tt))))))
   memory-shows (access.Store size) =
-      let stage : List Condition = memory_asked (access.Store size) insn s in
-      let what : List ℕ = codes "store of " ++ shown_size size ++ codes " at " in
-      let text = parts what (hex_of 16 (place_of insn s)) [] (capability_line s (authority_number_of insn s)) [] (condition_lines s stage) in
-      (tt, (tt, (tt, ((what, [], _, text), (tt, (tt, tt))))))
+      let what : List ℕ = codes "store of " ++ sized size in
+      let line : List ℕ = capability_line s (authority_number_of insn s) in
+      let conditions : List ℕ = condition_lines s (memory_asked (access.Store size) insn s) in
+      let first = first-line what (place_of insn s) (line ++ []) conditions in
+      let bounds = begins-line what (place_of insn s) [] line [] conditions in
+      (has-line what (place_of insn s) [] line [] conditions, (tt, (tt, ((what, [], bounds), ((what, first), (first, tt))))))
   memory-shows access.LoadCapability =
-      let stage : List Condition = memory_asked access.LoadCapability insn s in
       let what : List ℕ = codes "load of a capability at " in
-      let text = parts what (hex_of 16 (place_of insn s)) [] (capability_line s (authority_number_of insn s)) [] (condition_lines s stage) in
-      (tt, (tt, (tt, ((what, [], _, text), (tt, (tt, tt))))))
+      let line : List ℕ = capability_line s (authority_number_of insn s) in
+      let conditions : List ℕ = condition_lines s (memory_asked access.LoadCapability insn s) in
+      let first = first-line what (place_of insn s) (line ++ []) conditions in
+      let bounds = begins-line what (place_of insn s) [] line [] conditions in
+      (has-line what (place_of insn s) [] line [] conditions, (tt, (tt, ((what, [], bounds), ((what, first), (first, tt))))))
   memory-shows (access.StoreCapability stored.Untagged) =
-      let stage : List Condition = memory_asked (access.StoreCapability stored.Untagged) insn s in
       let what : List ℕ = codes "store of a capability at " in
-      let text = parts what (hex_of 16 (place_of insn s)) [] (capability_line s (authority_number_of insn s)) [] (condition_lines s stage) in
-      (tt, (tt, (tt, ((what, [], _, text), (tt, (tt, tt))))))
+      let line : List ℕ = capability_line s (authority_number_of insn s) in
+      let conditions : List ℕ = condition_lines s (memory_asked (access.StoreCapability stored.Untagged) insn s) in
+      let first = first-line what (place_of insn s) (line ++ []) conditions in
+      let bounds = begins-line what (place_of insn s) [] line [] conditions in
+      (has-line what (place_of insn s) [] line [] conditions, (tt, (tt, ((what, [], bounds), ((what, first), (first, tt))))))
   memory-shows (access.StoreCapability stored.Local) =
-      let stage : List Condition = memory_asked (access.StoreCapability stored.Local) insn s in
       let what : List ℕ = codes "store of a capability at " in
-      let text = parts what (hex_of 16 (place_of insn s)) [] (capability_line s (authority_number_of insn s)) [] (condition_lines s stage) in
-      (tt, (tt, (tt, (tt, (tt, ((what, [], _, text), (tt, (tt, tt))))))))
+      let line : List ℕ = capability_line s (authority_number_of insn s) in
+      let conditions : List ℕ = condition_lines s (memory_asked (access.StoreCapability stored.Local) insn s) in
+      let first = first-line what (place_of insn s) (line ++ []) conditions in
+      let bounds = begins-line what (place_of insn s) [] line [] conditions in
+      (has-line what (place_of insn s) [] line [] conditions, (tt, (tt, (tt, (tt, ((what, [], bounds), ((what, first), (first, tt))))))))
   memory-shows (access.StoreCapability stored.Global) =
-      let stage : List Condition = memory_asked (access.StoreCapability stored.Global) insn s in
       let what : List ℕ = codes "store of a capability at " in
-      let text = parts what (hex_of 16 (place_of insn s)) [] (capability_line s (authority_number_of insn s)) [] (condition_lines s stage) in
-      (tt, (tt, (tt, (tt, ((what, [], _, text), (tt, (tt, tt)))))))
+      let line : List ℕ = capability_line s (authority_number_of insn s) in
+      let conditions : List ℕ = condition_lines s (memory_asked (access.StoreCapability stored.Global) insn s) in
+      let first = first-line what (place_of insn s) (line ++ []) conditions in
+      let bounds = begins-line what (place_of insn s) [] line [] conditions in
+      (has-line what (place_of insn s) [] line [] conditions, (tt, (tt, (tt, ((what, [], bounds), ((what, first), (first, tt)))))))
 
-  target-shows : (target : ℕ) → Each (StageShows s (link_asked target s)) (link_asked target s)
+  target-shows : (target : ℕ) → StageIsShown s (link_asked target s)
   unfolding stage_text
   target-shows target =
-      let text = parts (codes "jump to ") (hex_of 16 target) [] (capability_line s 32) [] (condition_lines s (link_asked target s)) in
-      ((codes "jump to ", [], _, ap (λ k. codes "jump to " ++ hex_of 16 target ++ codes "\n" ++ k ++ condition_lines s (link_asked target s))
-      (sym (append-nil (capability_line s 32))) ∙ text), (tt, tt))
+      let what : List ℕ = codes "jump to " in
+      let line : List ℕ = capability_line s 32 in
+      let conditions : List ℕ = condition_lines s (link_asked target s) in
+      let bounds : Begins (place_line what target ++ line ++ conditions) (place_line what target ++ [] ++ line) =
+      (conditions, ap (λ k. k ++ line ++ conditions) (sym (append-nil (place_line what target)))) in
+      ((what, [], bounds), (inl (first-line what target line conditions), tt))
 
-  taken-shows : (taken : Bool) (target : ℕ)
-      → Each (StageShows s (cond taken (link_asked target s) [])) (cond taken (link_asked target s) [])
+  taken-shows : (taken : Bool) (target : ℕ) → StageIsShown s (cond taken (link_asked target s) [])
   taken-shows true target = target-shows target
   taken-shows false target = tt
 
-  enter-shows : Each (StageShows s (enter_asked insn s)) (enter_asked insn s)
+  enter-shows : StageIsShown s (enter_asked insn s)
   unfolding stage_text
   enter-shows =
       let target : ℕ = jump_target (value_address (register s.registers insn.rs1)) insn.imm in
-      let text = parts (codes "jump to ") (hex_of 16 target) [] (capability_line s insn.rs1) [] (condition_lines s (enter_asked insn s)) in
-      (tt, (tt, (tt, ((codes "jump to ", [], _, text), (tt, tt)))))
+      let what : List ℕ = codes "jump to " in
+      let line : List ℕ = capability_line s insn.rs1 in
+      let conditions : List ℕ = condition_lines s (enter_asked insn s) in
+      (
+        has-line what target [] line [] conditions,
+        (tt, (tt, ((what, [], begins-line what target [] line [] conditions), (inl (first-line what target (line ++ []) conditions), tt)))),
+      )
 
-  jalr-shows : (b : Bool) → Each (StageShows s (cond b (enter_asked insn s) (link_asked (jalr_target insn s) s)))
-      (cond b (enter_asked insn s) (link_asked (jalr_target insn s) s))
+  jalr-shows : (b : Bool) → StageIsShown s (cond b (enter_asked insn s) (link_asked (jalr_target insn s) s))
   jalr-shows true = enter-shows
   jalr-shows false = target-shows (jalr_target insn s)
 
-  invoke-shows : Each (StageShows s (invoke_asked insn s)) (invoke_asked insn s)
+  invoke-shows : StageIsShown s (invoke_asked insn s)
   unfolding stage_text
   invoke-shows =
       let target : ℕ = invoke_target (register s.registers insn.rs1) in
-      let text = parts (codes "invocation of ") (hex_of 16 target) [] (capability_line s insn.rs1) (capability_line s insn.rs2 ++ [])
-      (condition_lines s (invoke_asked insn s)) in
-      (tt, (tt, (tt, (tt, (tt, (tt, (tt, (tt, (tt, ((codes "invocation of ", [], _, text), (tt, tt)))))))))))
+      let what : List ℕ = codes "invocation of " in
+      let code : List ℕ = capability_line s insn.rs1 in
+      let datum : List ℕ = capability_line s insn.rs2 in
+      let conditions : List ℕ = condition_lines s (invoke_asked insn s) in
+      let of_datum = has-line what target code datum [] conditions in
+      (
+        has-line what target [] code (datum ++ []) conditions,
+        (
+          (
+            of_datum.0,
+            of_datum.1,
+            ap (λ k. place_line what target ++ k ++ conditions) (sym (append_assoc code datum [])) ∙ of_datum.2,
+          ),
+          (
+            tt,
+            (
+              tt,
+              (
+                tt,
+                (
+                  tt,
+                  (
+                    tt,
+                    (
+                      tt,
+                      (
+                        tt,
+                        (
+                          (what, [], begins-line what target [] code (datum ++ []) conditions),
+                          (inr (first-line what target (code ++ (datum ++ [])) conditions), tt),
+                        ),
+                      ),
+                    ),
+                  ),
+                ),
+              ),
+            ),
+          ),
+        ),
+      )
 
-  kind-shows : (k : Kind) (word : ℕ) → Each (StageShows s (asked k word insn s)) (asked k word insn s)
-  unfolding asked
+  -- of a system register, by PCC
+  system-shows : (stage : List Condition) → Begins (place_line (codes "system register at ") (pc_of s) ++ capability_line s 32
+      ++ condition_lines s stage) (place_line (codes "system register at ") (pc_of s) ++ capability_line s 32)
+  system-shows stage = (condition_lines s stage, refl)
+
+  kind-shows : (k : Kind) (word : ℕ) → StageIsShown s (asked k word insn s)
+  unfolding asked stage_text
   kind-shows kind.Branch word = taken-shows _ (jump_target (pc_of s) insn.imm)
   kind-shows kind.Jal word = target-shows (jal_target insn s)
   kind-shows kind.Jalr word = jalr-shows (in_capability_mode s)
@@ -136,21 +217,25 @@ module _ (s : State) (insn : Insn) where
   kind-shows kind.Store word = memory-shows (access.Store (size_of insn.row))
   kind-shows kind.LoadCapability word = memory-shows access.LoadCapability
   kind-shows kind.StoreCapability word = memory-shows (access.StoreCapability (stored_of (register s.registers insn.rs2)))
-  kind-shows kind.Csr word = (tt, (tt, tt))
-  kind-shows kind.SpecialRw word = (tt, (tt, tt))
-  kind-shows kind.Mret word = (tt, tt)
+  kind-shows kind.Csr word =
+      let shows = system-shows (csr_asked word insn s) in
+      (shows, (shows, tt))
+  kind-shows kind.SpecialRw word =
+      let shows = system-shows (special_asked word insn s) in
+      (shows, (shows, tt))
+  kind-shows kind.Mret word = (system-shows (return_asked word s), tt)
   kind-shows _ word = tt
 
-insn-shows : (s : State) (found : Option Insn) (word : ℕ)
-    → EachStage (λ stage. Each (StageShows s stage) stage) (insn_stages found word s)
+insn-shows : (s : State) (found : Option Insn) (word : ℕ) → EachStage (StageIsShown s) (insn_stages found word s)
 insn-shows s (Some insn) word = (kind-shows s insn (kind_of insn.row) word, tt)
 insn-shows s None word = tt
 
-fetched-shows : (s : State) (f : Option Fault) → EachStage (λ stage. Each (StageShows s stage) stage) (fetched_stages (word_unless f s) s)
-fetched-shows s None = ((tt, tt), insn-shows s (insn_of (word_here s)) (word_here s))
+fetched-shows : (s : State) (f : Option Fault) → EachStage (StageIsShown s) (fetched_stages (word_unless f s) s)
+fetched-shows s None =
+    (decoding-shows s (is_some (insn_of (word_here s))) (word_here s), insn-shows s (insn_of (word_here s)) (word_here s))
 fetched-shows s (Some fault) = tt
 
-unless-shows : (s : State) (p : Option Interrupt) → EachStage (λ stage. Each (StageShows s stage) stage) (stages_unless p s)
+unless-shows : (s : State) (p : Option Interrupt) → EachStage (StageIsShown s) (stages_unless p s)
 unless-shows s None = (fetch-shows s, fetched-shows s (first_false (fetch_asked s)))
 unless-shows s (Some interrupt) = tt
 
