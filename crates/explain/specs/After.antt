@@ -1,16 +1,19 @@
 -- What a line of a trace shows of a step, read off the state after it: a value of another register, or under another name, is refused here,
 -- though definition and code show the same. `why` shows the same text of the effect.
-use Rattle.std.specs.Prelude.{◌≡◌, ℕ, ◌+◌, ◌*◌, ◌/◌, ◌^◌, ◌==◌, if◌then◌else◌, bit_and, List, [], ◌++◌, Option, Some, None, codes}
+use Rattle.std.specs.Prelude.{◌≡◌, ℕ, ◌+◌, ◌*◌, ◌/◌, ◌^◌, ◌==◌, true, false, if◌then◌else◌, bit_and, List, [], ◌++◌, Some}
+use Rattle.std.specs.Prelude.{None, codes, decimal}
 use Rattle.base.specs.Bits.{bit}
 use Rattle.base.specs.Size.{bytes_of}
-use Rattle.cap_bounds.specs.CapValue.{CapValue, value_of}
-use Rattle.tagged_memory.specs.Memory.{number_at, word_at, has_tag}
+use Rattle.cap_bounds.specs.CapValue.{CapValue, value_of, value_address, value_flag}
+use Rattle.tagged_memory.specs.Memory.{is_in_ram, number_at, word_at, has_tag}
 use Rattle.devices.specs.Devices.{effect_of, byte_sent, written, interrupts_of}
 use Rattle.special_regs.specs.CsrValues.{csr_value}
 use Rattle.special_regs.specs.Mtvec.{mtvec_of}
 use Rattle.special_regs.specs.Traps.{is_sentry}
 use Rattle.special_regs.specs.Writes.{has_bit}
+use Rattle.cap_checks.specs.Question.{first_false}
 use Rattle.disassembler.specs.Hex.{hex_of}
+use Rattle.disassembler.specs.Shown.{shown_word}
 use Rattle.registers.specs.Registers.{register}
 use Rattle.hart.specs.declared.effect.CsrWrite.{CsrWrite}
 use Rattle.hart.specs.declared.effect.Effect.{Effect}
@@ -19,10 +22,12 @@ use Rattle.hart.specs.declared.effect.Effect.TheVariants.{Jump, Link, Enter, Spe
 use Rattle.hart.specs.declared.effect.Store.{Store as Stored}
 use Rattle.hart.specs.IsState.{IsState}
 use Rattle.hart.specs.State.{State, pc_of}
-use Rattle.hart.specs.Step.{step_effect, stepped, step_sent}
-use Rattle.effect_texts.specs.EffectText.{trap_entry, register_text, shown_special, shown_csr, shown_size, return_part, effect_text}
+use Rattle.hart.specs.Step.{fetch_asked, step_effect, stepped, step_sent}
+use Rattle.effect_texts.specs.EffectText.{trap_entry, register_text, shown_special, shown_csr, shown_size, return_part}
+use Rattle.effect_texts.specs.TraceLine.{is_interrupt, step_word, trace_line}
 use Rattle.effect_texts.specs.ValueText.{shown_value}
 use Rattle.explain.specs.Says.{held}
+use Rattle.explain.specs.Text.{instruction_text, stages_text, why_text}
 
 -- ---- parts, of the state t after the step
 
@@ -75,10 +80,38 @@ text_after (Special w) t = register_first w.rd t ++ (shown_special w.number ++ c
 text_after (Csr w) t = register_first w.rd t ++ shown_csr w.number ++ codes " = " ++ hex_of 16 w.value
 text_after (Return sealed) t = return_part (is_sentry t.scrs.mepcc)
 
--- The law: what is shown of a step's effect is what the state after it has.
+-- The law: what a line of a trace and `why` show of a step's effect is what the state after it has.
 abbrev pub ShowsTheStateAfter : Type 0
 ShowsTheStateAfter =
-    (s : State) → IsState s → s.devices.halted ≡ None → effect_text (step_effect s) ≡ text_after (step_effect s) (stepped s)
+    (s : State) → IsState s → s.devices.halted ≡ None
+    → (
+    (number : ℕ)
+    → trace_line number s
+    ≡ decimal number ++ codes " " ++ hex_of 16 (value_address s.scrs.pcc) ++ codes " " ++ step_word s ++ codes ": "
+    ++ text_after (step_effect s) (stepped s) ++ codes "\n"
+    )
+    × (
+    why_text s
+    ≡ instruction_text s ++ stages_text s ++ codes "effect: " ++ text_after (step_effect s) (stepped s) ++ codes "\n"
+    )
+
+-- ---- the word
+
+-- the word in RAM at PCC's address, with its text in PCC's mode
+abbrev pub word_shown : State → List ℕ
+word_shown s =
+    let word : ℕ = number_at s.memory (value_address s.scrs.pcc) 4 in
+    hex_of 8 word ++ codes " " ++ shown_word (value_flag s.scrs.pcc) word
+
+-- The law: `why` shows the word at PCC's address where that lies in RAM, and a line of a trace shows the word that is fetched.
+abbrev pub ShowsTheWord : Type 0
+ShowsTheWord =
+    (s : State)
+    → (
+    is_in_ram s.memory (value_address s.scrs.pcc) 4 ≡ true
+    → instruction_text s ≡ hex_of 16 (value_address s.scrs.pcc) ++ codes " " ++ word_shown s ++ codes "\n"
+    )
+    × (is_interrupt (step_effect s) ≡ false → first_false (fetch_asked s) ≡ None → step_word s ≡ word_shown s)
 
 -- ---- control and status registers
 

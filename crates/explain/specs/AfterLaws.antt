@@ -1,7 +1,7 @@
 -- What is shown of a step is what the state after it has.
 use Rattle.std.proofs.Common.{◌≡◌, ℕ, zero, suc, ◌+◌, ◌-◌, ◌*◌, ◌/◌, ◌%◌, ◌^◌, ◌<◌, ◌≤◌, Bool, true, false, not, ◌&&◌, ◌||◌, cond, eqb, List, [], ◌∷◌}
 use Rattle.std.proofs.Common.{◌++◌, length, take, drop, None, Some, refl, sym, ap, subst, ◌∙◌, arith, lit<, append-nil, append_assoc}
-use Rattle.std.specs.Prelude.{codes}
+use Rattle.std.specs.Prelude.{codes, decimal}
 use Rattle.std.proofs.lemmas.Bool.{true≢false, and_parts, not-true, eq-eqb, ne_eqb, eqb-true, cond_both}
 use Rattle.std.proofs.lemmas.List.{get_or-set_same}
 use Rattle.std.proofs.Math.Nat.{add-mul, add_assoc, div-add-mod', mod-eq_of_lt, mod-lt, mul-add-mod_self_right, mul-le-mul_right}
@@ -15,7 +15,7 @@ use Rattle.base.specs.Size.{bytes_of}
 use Rattle.base.specs.declared.size.Size.{Size}
 use Rattle.base.specs.declared.size.Size.TheVariants.{Byte, Half, Word, Double}
 use Rattle.cap_bounds.specs.AddressLaws.{value_address-at_address}
-use Rattle.cap_bounds.specs.CapValue.{CapValue, IsSound, is_tagged, value_address, value_of, word_of}
+use Rattle.cap_bounds.specs.CapValue.{CapValue, IsSound, is_tagged, value_address, value_flag, value_of, word_of}
 use Rattle.cap_bounds.specs.RecordLaws.{value_of-word_of}
 use Rattle.cap_bounds.specs.SetAddress.{at_address}
 use Rattle.cap_bounds.specs.SoundLaws.{word_of-below}
@@ -30,6 +30,7 @@ use Rattle.special_regs.specs.Mtvec.{is_vectored, mtvec_of}
 use Rattle.special_regs.specs.Refusals.{is_read_only}
 use Rattle.special_regs.specs.Writes.{csrs_written, views_written, scr_written}
 use Rattle.disassembler.specs.Hex.{hex_of}
+use Rattle.disassembler.specs.Shown.{shown_word}
 use Rattle.registers.specs.Registers.{null, register, with_register, AreRegisters}
 use Rattle.hart.specs.AppliedLaws.{IsSoundEffect}
 use Rattle.hart.specs.declared.effect.CsrWrite.{CsrWrite}
@@ -41,13 +42,15 @@ use Rattle.hart.specs.Effect.{applied, sent_by}
 use Rattle.hart.specs.EventLaws.{step_effect-sound}
 use Rattle.hart.specs.IsState.{IsState}
 use Rattle.hart.specs.State.{State, pc_of}
-use Rattle.hart.specs.Step.{step_effect, stepped_unless, stepped, step_sent_unless, step_sent}
+use Rattle.hart.specs.Step.{word_unless, step_effect, stepped_unless, stepped, step_sent_unless, step_sent}
 use Rattle.effect_texts.specs.EffectText.{register_text, value_part, written_or, written_first, jump_part, effect_text}
 use Rattle.effect_texts.specs.EffectText.{shown_size, shown_special, shown_csr, return_part}
+use Rattle.effect_texts.specs.TraceLine.{word_part, step_word}
 use Rattle.effect_texts.specs.ValueText.{shown_value}
-use Rattle.explain.specs.Says.{held}
-use Rattle.explain.specs.After.{register_or, register_first, text_after, kept, ShowsTheStateAfter, CsrsKeepWhatIsShown}
-use Rattle.explain.specs.After.{DevicesAreGivenWhatIsShown}
+use Rattle.explain.specs.Says.{held, word_here}
+use Rattle.explain.specs.Text.{instruction_text, stages_text, why_unless, why_text}
+use Rattle.explain.specs.After.{register_or, register_first, text_after, kept, ShowsTheStateAfter, ShowsTheWord}
+use Rattle.explain.specs.After.{CsrsKeepWhatIsShown, DevicesAreGivenWhatIsShown}
 use Rattle.explain.specs.FitsLaws.{Fits, step-fits}
 
 -- ---- numbers and their digits
@@ -133,8 +136,7 @@ module _ (registers : List CapValue) (rd : ℕ) (v : CapValue) (t : State) (are 
   unfolding written_or
   or-there other =
       elim (eqb rd 0) as
-      (λ b. eqb rd 0 ≡ b → cond b other (value_part (register_text rd) v) ≡ cond b other (value_part (register_text rd) (register t.registers rd)))
-      [
+      (λ b. eqb rd 0 ≡ b → cond b other (value_part (register_text rd) v) ≡ cond b other (value_part (register_text rd) (register t.registers rd))) [
         | true ↦ λ e. refl
         | false ↦ λ e. ap (value_part (register_text rd)) (there e)
       ] refl
@@ -144,8 +146,7 @@ module _ (registers : List CapValue) (rd : ℕ) (v : CapValue) (t : State) (are 
   first-there =
       elim (eqb rd 0) as
       (λ b. eqb rd 0 ≡ b → cond b [] (value_part (register_text rd) v ++ codes ", ")
-      ≡ cond b [] (value_part (register_text rd) (register t.registers rd) ++ codes ", "))
-      [
+      ≡ cond b [] (value_part (register_text rd) (register t.registers rd) ++ codes ", ")) [
         | true ↦ λ e. refl
         | false ↦ λ e. ap (λ u. value_part (register_text rd) u ++ codes ", ") (there e)
       ] refl
@@ -282,14 +283,38 @@ module _ (s : State) (is : IsState s) where
 
 -- ---- the laws
 
+word-line : (address word text : List ℕ)
+    → address ++ codes " " ++ word ++ codes " " ++ text ++ codes "\n" ≡ address ++ codes " " ++ (word ++ codes " " ++ text) ++ codes "\n"
+word-line address word text =
+    ap (λ k. k ++ codes "\n")
+    (ap (λ k. k ++ text) (append_assoc (address ++ codes " ") word (codes " "))
+    ∙ append_assoc (address ++ codes " ") (word ++ codes " ") text)
+
 stepped-applied : (s : State) → s.devices.halted ≡ None → stepped s ≡ applied (step_effect s) s
 unfolding stepped
 stepped-applied s running = ap (λ halted. stepped_unless halted s) running
 
-pub shows-the_state_after : ShowsTheStateAfter
-shows-the_state_after s is running =
+effect-after : (s : State) → IsState s → s.devices.halted ≡ None → effect_text (step_effect s) ≡ text_after (step_effect s) (stepped s)
+effect-after s is running =
     text-after s is (step_effect s) (step_effect-sound s is) (step-fits s)
     ∙ ap (text_after (step_effect s)) (sym (stepped-applied s running))
+
+pub shows-the_state_after : ShowsTheStateAfter
+unfolding why_text
+shows-the_state_after s is running =
+    let same = effect-after s is running in (
+      λ number. ap (λ text. decimal number ++ codes " " ++ hex_of 16 (pc_of s) ++ codes " " ++ step_word s ++ codes ": " ++ text ++ codes "\n")
+          same,
+      ap (λ halted. why_unless halted s) running
+          ∙ ap (λ text. instruction_text s ++ stages_text s ++ codes "effect: " ++ text ++ codes "\n") same,
+    )
+
+pub shows-the_word : ShowsTheWord
+unfolding instruction_text step_word
+shows-the_word s = (
+  λ inside. rw inside (word-line (hex_of 16 (pc_of s)) (hex_of 8 (word_here s)) (shown_word (value_flag s.scrs.pcc) (word_here s))),
+  λ instruction fetched. rw instruction (ap (λ f. word_part (value_flag s.scrs.pcc) (word_unless f s)) fetched),
+)
 
 -- a step's effect that is this one
 module _ (s : State) (e : Effect CapValue) (is : step_effect s ≡ e) (running : s.devices.halted ≡ None) where

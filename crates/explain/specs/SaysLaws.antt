@@ -137,29 +137,33 @@ module _ (s : State) (k : Kind) (insn : Insn) (r : ℕ) (v : CapValue) (at : hel
   access-says plain access.LoadCapability address through at_it many =
       (tagged, (unsealed plain, (permitted permission.Load, place-says (misaligned access.LoadCapability) address 16 through at_it many)))
   access-says plain (access.StoreCapability what) address through at_it many =
-      let a : Access = access.StoreCapability what in
-      (tagged, (unsealed plain, (
-        permitted permission.Store,
-        each-asked_if (InsnSays s k insn) (stores_capability a) _ _ (permitted permission.StoreCapability)
-        (each-asked_if (InsnSays s k insn) (stores_local a) _ _ (permitted permission.StoreLocalCapability)
-        (place-says (misaligned a) address 16 through at_it many)),
-      )))
+      let a : Access = access.StoreCapability what in (
+        tagged,
+        (
+          unsealed plain,
+          (
+            permitted permission.Store,
+            each-asked_if (InsnSays s k insn) (stores_capability a) _ _ (permitted permission.StoreCapability)
+                (each-asked_if (InsnSays s k insn) (stores_local a) _ _ (permitted permission.StoreLocalCapability)
+                (place-says (misaligned a) address 16 through at_it many)),
+          ),
+        ),
+      )
 
   jump-says : ((u : CapValue) → seal_lets k insn u ≡ (not (is_sealed u) || is_entered_sealed u insn.imm))
       → ((b : Bool) → b ≡ permits (held s r) permission.Execute → ExecuteSays s k insn r b)
       → r ≡ asked_through k insn s → jump_target (value_address v) insn.imm ≡ asked_at k insn s → 4 ≡ asked_bytes k insn
       → Each (InsnSays s k insn) (jump_checks v r insn.imm)
-  jump-says sentry runs through at_it many =
+  jump-says sentry runs through at_it many = (
+    tagged,
+    (
+      ap (λ u. not (is_sealed u) || is_entered_sealed u insn.imm) (sym at) ∙ sym (sentry (held s r)),
       (
-        tagged,
-        (
-          ap (λ u. not (is_sealed u) || is_entered_sealed u insn.imm) (sym at) ∙ sym (sentry (held s r)),
-          (
-            runs (permits v permission.Execute) (permitted permission.Execute),
-            place-says cause.MisalignedJump (jump_target (value_address v) insn.imm) 4 through at_it many,
-          ),
-        ),
-      )
+        runs (permits v permission.Execute) (permitted permission.Execute),
+        place-says cause.MisalignedJump (jump_target (value_address v) insn.imm) 4 through at_it many,
+      ),
+    ),
+  )
 
 module _ (s : State) (insn : Insn) (range : AreInRange insn) where
   rs1-held : held s insn.rs1 ≡ register s.registers insn.rs1
@@ -223,8 +227,7 @@ module _ (s : State) (insn : Insn) (range : AreInRange insn) where
   invoke-says : Each (InsnSays s kind.Invoke insn) (invoke_asked insn s)
   invoke-says =
       let code : CapValue = register s.registers insn.rs1 in
-      let datum : CapValue = register s.registers insn.rs2 in
-      (
+      let datum : CapValue = register s.registers insn.rs2 in (
         ap is_tagged (sym rs1-held),
         (
           ap is_tagged (sym rs2-held),

@@ -20,6 +20,7 @@ use Rattle.hart.specs.declared.effect.Effect.TheVariants.{Trap}
 use Rattle.cap_bounds.specs.CapValue.{CapValue}
 use Rattle.hart.specs.State.{State, pc_of}
 use Rattle.hart.specs.Step.{step_effect}
+use Rattle.effect_texts.specs.EffectText as traced
 use Rattle.effect_texts.specs.EffectText.{shown_size}
 use Rattle.effect_texts.specs.ValueText.{shown_value}
 use Rattle.explain.specs.Asked.{stages_of, all_conditions}
@@ -28,17 +29,28 @@ use Rattle.explain.specs.Text.{register_text, capability_in, capability_line, co
 
 -- ---- registers
 
+abbrev pub special_names : List (List ℕ)
+special_names = codes "pcc" ∷ codes "ddc" ∷ codes "mtcc" ∷ codes "mtdc" ∷ codes "mscratchc" ∷ codes "mepcc" ∷ []
+
+-- a line of a trace names registers by their numbers
+abbrev pub RegistersAreNamedInTraces : Type 0
+RegistersAreNamedInTraces =
+    (map traced.register_text (range_with_len 0 32) ≡ capability_names)
+    × (map traced.shown_special (0 ∷ 1 ∷ 28 ∷ 29 ∷ 30 ∷ 31 ∷ []) ≡ special_names)
+    × (
+    map traced.shown_csr (0x300 ∷ 0x301 ∷ 0x304 ∷ 0x305 ∷ 0x340 ∷ 0x341 ∷ 0x342 ∷ 0x343 ∷ 0x344 ∷ 0xb00 ∷ 0xb02 ∷ [])
+    ≡ codes "mstatus" ∷ codes "misa" ∷ codes "mie" ∷ codes "mtvec" ∷ codes "mscratch" ∷ codes "mepc" ∷ codes "mcause" ∷ codes "mtval"
+    ∷ codes "mip" ∷ codes "mcycle" ∷ codes "minstret" ∷ []
+    )
+
 -- The law: a register is shown by its name, of the general ones as a capability register, and the value that is shown is the one that it
 -- holds.
 abbrev pub RegistersAreShown : Type 0
 RegistersAreShown =
-    (map register_text (range_with_len 0 32) ≡ capability_names)
-    × (
-    map register_text (32 ∷ 33 ∷ 60 ∷ 61 ∷ 62 ∷ 63 ∷ [])
-    ≡ codes "pcc" ∷ codes "ddc" ∷ codes "mtcc" ∷ codes "mtdc" ∷ codes "mscratchc" ∷ codes "mepcc" ∷ []
-    )
+    (map register_text (range_with_len 0 32) ≡ capability_names) × (map register_text (32 ∷ 33 ∷ 60 ∷ 61 ∷ 62 ∷ 63 ∷ []) ≡ special_names)
     × ((s : State) (n : ℕ) → capability_in s n ≡ held s n)
     × ((s : State) (n : ℕ) → capability_line s n ≡ codes "  " ++ (register_text n ++ codes " " ++ shown_value (held s n) ++ codes "\n"))
+    × RegistersAreNamedInTraces
 
 -- ---- lines
 

@@ -15,7 +15,7 @@ use Rattle.cap_checks.specs.Question.{fault_of, first_false}
 use Rattle.devices.specs.Devices.{interrupts_of}
 use Rattle.special_regs.specs.Interrupts.{pending}
 use Rattle.special_regs.specs.declared.interrupts.Interrupt.{Interrupt}
-use Rattle.asm_names.specs.SpecialNames.{scr_name}
+use Rattle.asm_names.specs.SpecialNames.{csr_name, scr_name}
 use Rattle.trap_texts.specs.Names.{cheri_asked_name, register_at_fault}
 use Rattle.isa_rows.specs.declared.operands.Insn.{Insn}
 use Rattle.isa_rows.specs.declared.kinds.Kind.{Kind}
@@ -36,8 +36,14 @@ use Rattle.explain.specs.Shown.{RegistersAreShown, LineSays, LinesSayWhatIsHeld,
 use Rattle.explain.specs.Text.{name_text, bounds_text, multiple_text, mark, question_text, condition_line, register_text}
 
 pub registers-shown : RegistersAreShown
-unfolding register_at_fault scr_name
-registers-shown = (refl, refl, held-shown, λ s n. ap (λ v. codes "  " ++ value_line (register_text n) v) (held-shown s n))
+unfolding register_at_fault scr_name csr_name
+registers-shown = (
+  refl,
+  refl,
+  held-shown,
+  λ s n. ap (λ v. codes "  " ++ value_line (register_text n) v) (held-shown s n),
+  (refl, refl, refl),
+)
 
 -- ---- lines
 

@@ -70,8 +70,7 @@ unfolding stage_text
 fetch-shows s =
     let what : List ℕ = codes "fetch at " in
     let line : List ℕ = capability_line s 32 in
-    let conditions : List ℕ = condition_lines s (fetch_asked s) in
-    (
+    let conditions : List ℕ = condition_lines s (fetch_asked s) in (
       has-line what (pc_of s) [] line [] conditions,
       (tt, (tt, ((what, [], begins-line what (pc_of s) [] line [] conditions), (first-line what (pc_of s) (line ++ []) conditions, tt)))),
     )
@@ -146,8 +145,7 @@ module _ (s : State) (insn : Insn) where
       let target : ℕ = jump_target (value_address (register s.registers insn.rs1)) insn.imm in
       let what : List ℕ = codes "jump to " in
       let line : List ℕ = capability_line s insn.rs1 in
-      let conditions : List ℕ = condition_lines s (enter_asked insn s) in
-      (
+      let conditions : List ℕ = condition_lines s (enter_asked insn s) in (
         has-line what target [] line [] conditions,
         (tt, (tt, ((what, [], begins-line what target [] line [] conditions), (inl (first-line what target (line ++ []) conditions), tt)))),
       )
@@ -164,8 +162,7 @@ module _ (s : State) (insn : Insn) where
       let code : List ℕ = capability_line s insn.rs1 in
       let datum : List ℕ = capability_line s insn.rs2 in
       let conditions : List ℕ = condition_lines s (invoke_asked insn s) in
-      let of_datum = has-line what target code datum [] conditions in
-      (
+      let of_datum = has-line what target code datum [] conditions in (
         has-line what target [] code (datum ++ []) conditions,
         (
           (

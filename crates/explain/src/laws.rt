@@ -1,6 +1,6 @@
 //! What holds of every state: each function's contract is a law, and its body is empty.
+ghost use Rattle.explain.specs.After.{ShowsTheStateAfter, ShowsTheWord, CsrsKeepWhatIsShown, DevicesAreGivenWhatIsShown};
 ghost use Rattle.explain.specs.Asked.{TrapsByItsStages};
-ghost use Rattle.explain.specs.After.{ShowsTheStateAfter, CsrsKeepWhatIsShown, DevicesAreGivenWhatIsShown};
 ghost use Rattle.explain.specs.Says.{ConditionsSayWhatIsAsked};
 ghost use Rattle.explain.specs.Shown.{RegistersAreShown, LinesSayWhatIsHeld, StagesShowWhereAndWhat, TrapsByTheShown};
 
@@ -9,22 +9,19 @@ pub fn step_traps_by_its_stages()
     ensures { TrapsByItsStages }
 {}
 
-/// Each condition is true exactly if what it asks is so, of the capability in the register that it names.
-pub fn conditions_say_what_is_asked()
-    ensures { ConditionsSayWhatIsAsked }
-{}
-
-/// What is shown of a register is what it holds, under its name; lines compare the numbers that they show, and the last false one traps.
-pub fn lines_say_what_is_held()
+/// `why` shows the state: registers by their names, conditions as they are true of what those hold, and the one that traps as the last.
+pub fn why_shows_the_state()
     ensures registers { RegistersAreShown }
+    ensures conditions { ConditionsSayWhatIsAsked }
     ensures lines { LinesSayWhatIsHeld }
     ensures stages { StagesShowWhereAndWhat }
     ensures traps { TrapsByTheShown }
 {}
 
 /// What is shown of a step's effect, in a trace and by `why`, is what the state after it has.
-pub fn lines_of_a_trace_show_the_state_after()
+pub fn effects_show_the_state_after()
     ensures text { ShowsTheStateAfter }
+    ensures word { ShowsTheWord }
     ensures csrs { CsrsKeepWhatIsShown }
     ensures devices { DevicesAreGivenWhatIsShown }
 {}

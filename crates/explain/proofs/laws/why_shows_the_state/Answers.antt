@@ -1,9 +1,13 @@
+use Rattle.explain.specs.SaysLaws.{conditions-say}
 use Rattle.explain.specs.ShownLaws.{registers-shown, lines-say, traps-by_the_shown}
 use Rattle.explain.specs.StageLaws.{stages-show}
-use Rattle.explain.proofs.laws.lines_say_what_is_held.Goals as goal
+use Rattle.explain.proofs.laws.why_shows_the_state.Goals as goal
 
 pub returns-clause-registers : goal.returns-clause-registers
 returns-clause-registers c = registers-shown
+
+pub returns-clause-conditions : goal.returns-clause-conditions
+returns-clause-conditions c = conditions-say
 
 pub returns-clause-lines : goal.returns-clause-lines
 returns-clause-lines c = lines-say
