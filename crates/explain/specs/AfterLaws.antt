@@ -1,6 +1,7 @@
 -- What is shown of a step is what the state after it has.
-use Rattle.std.proofs.Common.{◌≡◌, ℕ, zero, suc, ◌+◌, ◌-◌, ◌*◌, ◌/◌, ◌%◌, ◌^◌, ◌<◌, ◌≤◌, Bool, true, false, not, ◌&&◌, ◌||◌, cond, eqb, List, [], ◌∷◌}
-use Rattle.std.proofs.Common.{◌++◌, length, take, drop, None, Some, refl, sym, ap, subst, ◌∙◌, arith, lit<, append-nil, append_assoc}
+use Rattle.std.proofs.Common.{◌≡◌, ℕ, zero, suc, ◌+◌, ◌-◌, ◌*◌, ◌/◌, ◌%◌, ◌^◌, ◌<◌, ◌≤◌, Bool, true, false, not, ◌&&◌, ◌||◌, cond, eqb}
+use Rattle.std.proofs.Common.{List, [], ◌∷◌, ◌++◌, length, take, drop, None, Some, refl, sym, ap, subst, ◌∙◌, arith, append-nil}
+use Rattle.std.proofs.Common.{append_assoc}
 use Rattle.std.specs.Prelude.{codes, decimal}
 use Rattle.std.proofs.lemmas.Bool.{true≢false, and_parts, not-true, eq-eqb, ne_eqb, eqb-true, cond_both}
 use Rattle.std.proofs.lemmas.List.{get_or-set_same}
@@ -24,7 +25,6 @@ use Rattle.tagged_memory.specs.Memory.{Memory, is_in_ram, number_at, word_at, ha
 use Rattle.tagged_memory.specs.MemoryLaws.{in_ram}
 use Rattle.tagged_memory.specs.Replaced.{part-new}
 use Rattle.devices.specs.Devices.{interrupts_of}
-use Rattle.special_regs.specs.Csrs.{cycle_counted}
 use Rattle.special_regs.specs.CsrValues.{csr_value}
 use Rattle.special_regs.specs.Mtvec.{is_vectored, mtvec_of}
 use Rattle.special_regs.specs.Refusals.{is_read_only}
@@ -136,7 +136,8 @@ module _ (registers : List CapValue) (rd : ℕ) (v : CapValue) (t : State) (are 
   unfolding written_or
   or-there other =
       elim (eqb rd 0) as
-      (λ b. eqb rd 0 ≡ b → cond b other (value_part (register_text rd) v) ≡ cond b other (value_part (register_text rd) (register t.registers rd))) [
+      (λ b. eqb rd 0 ≡ b
+      → cond b other (value_part (register_text rd) v) ≡ cond b other (value_part (register_text rd) (register t.registers rd))) [
         | true ↦ λ e. refl
         | false ↦ λ e. ap (value_part (register_text rd)) (there e)
       ] refl
@@ -164,7 +165,7 @@ listed P k n others is here rest =
 each-scr : (P : ℕ → Type 0) (n : ℕ) → (is_scr n && not (eqb n 0)) ≡ true → P 1 → P 28 → P 29 → P 30 → P 31 → P n
 each-scr P n is ddc mtcc mtdc mscratchc mepcc =
     let both = and_parts _ _ is in
-    listed P 0 n _ both.0 (λ e. absurd (let no : eqb n 0 ≡ false = not-true _ both.1 in let yes : eqb n 0 ≡ true = eq-eqb n 0 (sym e) in true≢false (sym yes ∙ no))) (λ others.
+    listed P 0 n _ both.0 (λ e. absurd (true≢false (sym (eq-eqb n 0 (sym e)) ∙ not-true _ both.1))) (λ others.
     listed P 1 n _ others (λ e. subst P e ddc) (λ others.
     listed P 28 n _ others (λ e. subst P e mtcc) (λ others.
     listed P 29 n _ others (λ e. subst P e mtdc) (λ others.
@@ -303,7 +304,8 @@ pub shows-the_state_after : ShowsTheStateAfter
 unfolding why_text
 shows-the_state_after s is running =
     let same = effect-after s is running in (
-      λ number. ap (λ text. decimal number ++ codes " " ++ hex_of 16 (pc_of s) ++ codes " " ++ step_word s ++ codes ": " ++ text ++ codes "\n")
+      λ number.
+          ap (λ text. decimal number ++ codes " " ++ hex_of 16 (pc_of s) ++ codes " " ++ step_word s ++ codes ": " ++ text ++ codes "\n")
           same,
       ap (λ halted. why_unless halted s) running
           ∙ ap (λ text. instruction_text s ++ stages_text s ++ codes "effect: " ++ text ++ codes "\n") same,

@@ -1,5 +1,5 @@
 -- What holds of every step's effect besides that it is sound: the register that it writes exists, and so do the system registers.
-use Rattle.std.proofs.Common.{◌≡◌, ℕ, ◌%◌, ◌^◌, ◌<◌, Bool, true, false, not, ◌&&◌, cond, eqb, List, Option, Some, None, Result, Ok, Err, refl, lit<}
+use Rattle.std.proofs.Common.{◌≡◌, ℕ, ◌<◌, Bool, true, false, not, ◌&&◌, cond, eqb, Option, Some, None, Result, Ok, Err, refl, lit<}
 use Rattle.std.specs.Prelude.{IfSome}
 use Rattle.std.proofs.lemmas.Bool.{cond_both}
 use Rattle.base.specs.FirstFault.{first_fault}
@@ -26,14 +26,14 @@ use Rattle.isa_rows.specs.Decoded.{insn_of}
 use Rattle.isa_rows.specs.OperandLaws.{AreInRange, AreInRange-insn_of}
 use Rattle.hart.specs.declared.effect.CsrWrite.{CsrWrite}
 use Rattle.hart.specs.declared.effect.Effect.{Effect}
-use Rattle.hart.specs.declared.effect.Effect.TheVariants.{Trap, Nothing, Write, Unseal, Store, StoreCapability, DeviceLoad, DeviceStore}
+use Rattle.hart.specs.declared.effect.Effect.TheVariants.{Nothing, Write, Unseal, Store, DeviceLoad, DeviceStore}
 use Rattle.hart.specs.declared.effect.Effect.TheVariants.{Jump, Link, Enter, Special, Csr, Return}
 use Rattle.hart.specs.declared.effect.SpecialWrite.{SpecialWrite}
 use Rattle.hart.specs.declared.effect.Write.{Write as Written}
 use Rattle.hart.specs.AskedLaws.{register-none}
 use Rattle.hart.specs.ComputeRows.{integer_effect, mul_div_effect, written_by, capability_effect, auipc_effect}
 use Rattle.hart.specs.JumpRows.{branch_done, enter_done, jalr_done, jalr_target, link_done}
-use Rattle.hart.specs.Looks.{in_capability_mode, number_in, unless_fault}
+use Rattle.hart.specs.Looks.{in_capability_mode, unless_fault}
 use Rattle.hart.specs.MemoryRows.{load_done, store_done, load_capability_done, store_capability_done}
 use Rattle.hart.specs.State.{State}
 use Rattle.hart.specs.Step.{asked, does, kind_effect, decoded_effect, fetched_effect, fetch, decided, step_effect}
@@ -132,8 +132,8 @@ module _ (s : State) (insn : Insn) (range : AreInRange insn) (word : ℕ) where
   kind-fits kind.StoreCapability =
       where-fit kind.StoreCapability (λ _. tt)
   kind-fits kind.Csr =
-      where-fit kind.Csr (λ none. csr-fits (csr_held insn s) (register-none pcc_register word (csr_checks s.scrs (csr_number insn) (csr_writes insn.row insn.rs1))
-      (csr_done (csr_held insn s) insn s) none))
+      where-fit kind.Csr (λ none. csr-fits (csr_held insn s) (register-none pcc_register word
+      (csr_checks s.scrs (csr_number insn) (csr_writes insn.row insn.rs1)) (csr_done (csr_held insn s) insn s) none))
   kind-fits kind.SpecialRw =
       where-fit kind.SpecialRw (λ none. special-fits (special_held insn s) (register-none (special_register insn.rs2) word
       (scr_checks s.scrs insn.rs2 (not (eqb insn.rs1 0))) (special_done (special_held insn s) insn s) none))

@@ -161,6 +161,7 @@ StagesSay s (fetch ∷ []) = Each (FetchSays s) fetch
 StagesSay s (fetch ∷ decoding ∷ stages) =
     Each (FetchSays s) fetch × Each (FetchSays s) decoding × InsnStageSays (insn_of (word_here s)) s stages
 
--- The law: every condition of every stage is true exactly if what it asks is so, of the capability in the register that it names.
+-- The law: every condition of every stage is true exactly if what it asks is so: of the capability that the register which it names holds,
+-- at the instruction's place and of so many bytes as it moves.
 abbrev pub ConditionsSayWhatIsAsked : Type 0
 ConditionsSayWhatIsAsked = (s : State) → StagesSay s (stages_of s)

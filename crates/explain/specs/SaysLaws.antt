@@ -1,7 +1,7 @@
 -- What the conditions of a step say, by the rows.
-use Rattle.std.proofs.Common.{◌≡◌, ℕ, ◌+◌, ◌-◌, ◌*◌, ◌/◌, ◌%◌, ◌^◌, ◌≤◌, ◌<◌, Bool, true, false, not, ◌&&◌, ◌||◌, cond, eqb, List, [], ◌∷◌, ◌++◌, Option, Some, None, inl, inr}
-use Rattle.std.proofs.Common.{refl, sym, ap, ◌∙◌, arith}
-use Rattle.std.specs.Prelude.{IfSome, is_some}
+use Rattle.std.proofs.Common.{◌≡◌, ℕ, ◌+◌, ◌-◌, ◌*◌, ◌/◌, ◌%◌, ◌^◌, ◌≤◌, ◌<◌, Bool, true, false, not, ◌||◌, cond, eqb, List, [], ◌∷◌}
+use Rattle.std.proofs.Common.{◌++◌, Option, Some, None, inl, inr, refl, sym, ap, ◌∙◌, arith}
+use Rattle.std.specs.Prelude.{IfSome}
 use Rattle.std.specs.Option.{unwrap_or}
 use Rattle.std.proofs.lemmas.Bool.{cases_eq, cases_lt, eq-eqb, ne_eqb, lt-ltb, le-ltb}
 use Rattle.base.specs.declared.cause.Cause.{Cause}
@@ -32,14 +32,14 @@ use Rattle.isa_rows.specs.Decoded.{insn_of}
 use Rattle.isa_rows.specs.OperandLaws.{AreInRange, AreInRange-insn_of}
 use Rattle.registers.specs.Registers.{register}
 use Rattle.hart.specs.Accesses.{size_of, through_rs1}
-use Rattle.hart.specs.Looks.{number_in, in_capability_mode}
+use Rattle.hart.specs.Looks.{in_capability_mode}
 use Rattle.hart.specs.MemoryRows.{place_of, authority_of, authority_number_of, authority_through, number_through, mapped_for, memory_asked}
 use Rattle.hart.specs.JumpRows.{branch_asked, link_asked, enter_asked, invoke_asked, jal_target, jalr_asked, jalr_target}
 use Rattle.hart.specs.State.{State, pc_of}
-use Rattle.hart.specs.Step.{asked, fetch_asked, fetch, word_unless}
-use Rattle.explain.specs.Asked.{decoding, insn_stages, word_stages, fetched_stages, stages_unless, stages_of}
-use Rattle.explain.specs.Says.{held, lies_in, word_here, asked_at, asked_bytes, asked_through, FetchSays, seal_lets, ExecuteSays, InsnSays, Each, InsnStageSays, StagesSay}
-use Rattle.explain.specs.Says.{ConditionsSayWhatIsAsked}
+use Rattle.hart.specs.Step.{asked, fetch_asked, word_unless}
+use Rattle.explain.specs.Asked.{insn_stages, fetched_stages, stages_unless, stages_of}
+use Rattle.explain.specs.Says.{held, lies_in, word_here, asked_at, asked_bytes, asked_through, FetchSays, seal_lets}
+use Rattle.explain.specs.Says.{ExecuteSays, InsnSays, Each, InsnStageSays, StagesSay, ConditionsSayWhatIsAsked}
 use Rattle.explain.specs.Text.{capability_in}
 
 -- ---- what a register holds
@@ -131,9 +131,11 @@ module _ (s : State) (k : Kind) (insn : Insn) (r : ℕ) (v : CapValue) (at : hel
       → r ≡ asked_through k insn s → address ≡ asked_at k insn s → width_of a ≡ asked_bytes k insn
       → Each (InsnSays s k insn) (access_checks v r a address)
   access-says plain (access.Load size) address through at_it many =
-      (tagged, (unsealed plain, (permitted permission.Load, place-says (misaligned (access.Load size)) address (width_of (access.Load size)) through at_it many)))
+      let place = place-says (misaligned (access.Load size)) address (width_of (access.Load size)) through at_it many in
+      (tagged, (unsealed plain, (permitted permission.Load, place)))
   access-says plain (access.Store size) address through at_it many =
-      (tagged, (unsealed plain, (permitted permission.Store, place-says (misaligned (access.Store size)) address (width_of (access.Store size)) through at_it many)))
+      let place = place-says (misaligned (access.Store size)) address (width_of (access.Store size)) through at_it many in
+      (tagged, (unsealed plain, (permitted permission.Store, place)))
   access-says plain access.LoadCapability address through at_it many =
       (tagged, (unsealed plain, (permitted permission.Load, place-says (misaligned access.LoadCapability) address 16 through at_it many)))
   access-says plain (access.StoreCapability what) address through at_it many =

@@ -109,7 +109,8 @@ sized size = shown_size size ++ codes " at "
 -- what the text of a stage shows of each of its questions: which capability, and as its first line where
 abbrev pub StageShows : State → List ℕ → Question → Type 0
 StageShows s text (Right r forbids.Tag) = Has text (capability_line s r)
-StageShows s text (Right r forbids.AccessSystemRegisters) = Begins text (place_line (codes "system register at ") (pc_of s) ++ capability_line s 32)
+StageShows s text (Right r forbids.AccessSystemRegisters) =
+    Begins text (place_line (codes "system register at ") (pc_of s) ++ capability_line s 32)
 StageShows s text (Right r what) = Unit {0}
 StageShows s text (Bounds r address size) =
     (what : List ℕ) × (between : List ℕ) × Begins text (place_line what address ++ between ++ capability_line s r)

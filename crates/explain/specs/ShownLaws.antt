@@ -1,13 +1,10 @@
 -- What is shown, by what the conditions say.
 use Rattle.std.proofs.Common.{◌≡◌, ℕ, ◌%◌, Bool, true, false, not, cond, eqb, List, [], ◌∷◌, ◌++◌, Option, Some, None, refl, sym, ap, ◌∙◌}
-use Rattle.std.proofs.Common.{append-nil, append_assoc}
 use Rattle.std.specs.Prelude.{find, codes}
 use Rattle.base.specs.declared.cause.Cause.{Cause}
 use Rattle.base.specs.declared.cause.CheriCause.{CheriCause}
 use Rattle.base.specs.declared.cause.CheriCause.TheVariants as forbids
-use Rattle.base.specs.declared.fault.Fault.{Fault}
 use Rattle.base.specs.Fault.{fault, cheri}
-use Rattle.cap_bounds.specs.CapValue.{CapValue}
 use Rattle.cap_checks.specs.declared.question.Condition.{Condition}
 use Rattle.cap_checks.specs.declared.question.Question.{Question}
 use Rattle.cap_checks.specs.declared.question.Question.TheVariants.{Right, Bounds, Multiple, Ram, RamOrDevice, Instruction, SystemRegister}
@@ -21,11 +18,10 @@ use Rattle.isa_rows.specs.declared.operands.Insn.{Insn}
 use Rattle.isa_rows.specs.declared.kinds.Kind.{Kind}
 use Rattle.isa_rows.specs.Kind.{kind_of}
 use Rattle.isa_rows.specs.Decoded.{insn_of}
-use Rattle.hart.specs.declared.effect.Effect.{Effect}
 use Rattle.hart.specs.declared.effect.Effect.TheVariants.{Trap}
 use Rattle.hart.specs.Looks.{unless_fault}
 use Rattle.hart.specs.State.{State}
-use Rattle.hart.specs.Step.{fetch, step_effect}
+use Rattle.hart.specs.Step.{fetch}
 use Rattle.effect_texts.specs.ValueText.{value_line}
 use Rattle.explain.specs.Asked.{stages_unless, stages_of, all_conditions, done_by_word, effect_unless}
 use Rattle.explain.specs.AskedLaws.{traps-by_its_stages}

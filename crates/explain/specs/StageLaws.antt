@@ -1,17 +1,15 @@
 -- What the text of each stage shows, and how the text of a step's stages ends where a condition is false.
-use Rattle.std.proofs.Common.{◌≡◌, ℕ, ◌-◌, Bool, true, false, not, cond, List, [], ◌∷◌, ◌++◌, length, Option, Some, None, refl, sym, ap, ◌∙◌}
-use Rattle.std.proofs.Common.{inl, inr, append-nil, append_assoc, arith}
+use Rattle.std.proofs.Common.{◌≡◌, ℕ, ◌-◌, Bool, true, false, not, cond, List, [], ◌∷◌, ◌++◌, length, Option, Some, None, refl}
+use Rattle.std.proofs.Common.{sym, ap, ◌∙◌, inl, inr, append-nil, append_assoc, arith}
 use Rattle.std.specs.Prelude.{find, is_some, slice_get, codes}
 use Rattle.std.specs.List.{flat_map}
 use Rattle.std.specs.Option.{option_or}
 use Rattle.std.proofs.lemmas.List.Folds.{find-append}
 use Rattle.base.specs.declared.fault.Fault.{Fault}
-use Rattle.base.specs.declared.size.Size.{Size}
 use Rattle.cap_bounds.specs.CapValue.{value_address}
 use Rattle.cap_checks.specs.Access.{stored_of}
 use Rattle.cap_checks.specs.declared.access.Access.{Access}
 use Rattle.cap_checks.specs.declared.access.Access.TheVariants as access
-use Rattle.cap_checks.specs.declared.access.Stored.{Stored}
 use Rattle.cap_checks.specs.declared.access.Stored.TheVariants as stored
 use Rattle.cap_checks.specs.declared.question.Condition.{Condition}
 use Rattle.cap_checks.specs.FirstFault.{jump_target, invoke_target}
@@ -24,16 +22,14 @@ use Rattle.isa_rows.specs.declared.kinds.Kind.TheVariants as kind
 use Rattle.isa_rows.specs.declared.operands.Insn.{Insn}
 use Rattle.isa_rows.specs.Kind.{kind_of}
 use Rattle.isa_rows.specs.Decoded.{insn_of}
-use Rattle.disassembler.specs.Hex.{hex_of}
 use Rattle.registers.specs.Registers.{register}
 use Rattle.hart.specs.Accesses.{size_of}
-use Rattle.hart.specs.JumpRows.{branch_asked, link_asked, enter_asked, invoke_asked, jal_target, jalr_asked, jalr_target}
+use Rattle.hart.specs.JumpRows.{link_asked, enter_asked, invoke_asked, jal_target, jalr_target}
 use Rattle.hart.specs.Looks.{in_capability_mode}
 use Rattle.hart.specs.MemoryRows.{place_of, authority_number_of, memory_asked}
 use Rattle.hart.specs.State.{State, pc_of}
 use Rattle.hart.specs.Step.{asked, fetch_asked, word_unless}
 use Rattle.hart.specs.SystemRows.{csr_asked, special_asked, return_asked}
-use Rattle.effect_texts.specs.EffectText.{shown_size}
 use Rattle.explain.specs.Asked.{decoding, insn_stages, word_stages, fetched_stages, stages_unless, stages_of, all_conditions}
 use Rattle.explain.specs.Says.{word_here, Each}
 use Rattle.explain.specs.Shown.{Begins, Has, place_line, sized, StageShows, EachStage, StagesShowWhereAndWhat}
