@@ -1,9 +1,10 @@
 -- What the lines of `why` show, against the state's own fields: a capability under another register's name is refused here, though
 -- definition and code show the same.
 use Rattle.std.specs.Prelude.{◌≡◌, ℕ, ◌+◌, ◌*◌, ◌%◌, Bool, not, ◌&&◌, ◌==◌, ◌⊎◌, nat_le, if◌then◌else◌, List, [], ◌∷◌, ◌++◌, map}
-use Rattle.std.specs.Prelude.{Some, find, codes, decimal}
+use Rattle.std.specs.Prelude.{Some, IsSome, find, codes, decimal}
 use Rattle.std.specs.List.{range_with_len}
 use Rattle.base.specs.declared.cause.Cause.TheVariants as cause
+use Rattle.base.specs.declared.cause.CheriCause.{CheriCause}
 use Rattle.base.specs.declared.cause.CheriCause.TheVariants as forbids
 use Rattle.base.specs.declared.size.Size.{Size}
 use Rattle.base.specs.Fault.{number_of, cheri_number_of}
@@ -14,7 +15,7 @@ use Rattle.cap_checks.specs.declared.question.Question.TheVariants.{Right, Bound
 use Rattle.asm_names.specs.Registers.{capability_names}
 use Rattle.disassembler.specs.Hex.{hex_of}
 use Rattle.disassembler.specs.Shown.{name_or}
-use Rattle.trap_texts.specs.Names.{cheri_asked_name}
+use Rattle.trap_texts.specs.Names.{cheri_cause_name, cheri_asked_name, register_at_fault}
 use Rattle.hart.specs.declared.effect.Effect.{Effect}
 use Rattle.hart.specs.declared.effect.Effect.TheVariants.{Trap}
 use Rattle.cap_bounds.specs.CapValue.{CapValue}
@@ -32,7 +33,7 @@ use Rattle.explain.specs.Text.{register_text, capability_in, capability_line, co
 abbrev pub special_names : List (List ℕ)
 special_names = codes "pcc" ∷ codes "ddc" ∷ codes "mtcc" ∷ codes "mtdc" ∷ codes "mscratchc" ∷ codes "mepcc" ∷ []
 
--- a line of a trace names registers by their numbers
+-- A line of a trace names registers by their numbers, and of a CHERI exception what is forbidden and at which register.
 abbrev pub RegistersAreNamedInTraces : Type 0
 RegistersAreNamedInTraces =
     (map traced.register_text (range_with_len 0 32) ≡ capability_names)
@@ -42,6 +43,10 @@ RegistersAreNamedInTraces =
     ≡ codes "mstatus" ∷ codes "misa" ∷ codes "mie" ∷ codes "mtvec" ∷ codes "mscratch" ∷ codes "mepc" ∷ codes "mcause" ∷ codes "mtval"
     ∷ codes "mip" ∷ codes "mcycle" ∷ codes "minstret" ∷ []
     )
+    × ((r : ℕ) (what : CheriCause) → IsSome (register_at_fault r)
+    → traced.trap_entry (record { mcause = 28; mtval = 32 * r + cheri_number_of what })
+    ≡ codes "trap CHERI exception, " ++ (name_or [] (cheri_cause_name (cheri_number_of what)) ++ codes " at " ++ register_text r ++ codes ", ")
+    ++ codes "mcause " ++ hex_of 16 28 ++ codes ", mtval " ++ hex_of 16 (32 * r + cheri_number_of what))
 
 -- The law: a register is shown by its name, of the general ones as a capability register, and the value that is shown is the one that it
 -- holds.

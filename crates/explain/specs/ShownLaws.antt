@@ -1,10 +1,11 @@
 -- What is shown, by what the conditions say.
-use Rattle.std.proofs.Common.{◌≡◌, ℕ, ◌%◌, Bool, true, false, not, cond, eqb, List, [], ◌∷◌, ◌++◌, Option, Some, None, refl, sym, ap, ◌∙◌}
-use Rattle.std.specs.Prelude.{find, codes}
+use Rattle.std.proofs.Common.{◌≡◌, ℕ, ◌+◌, ◌*◌, ◌/◌, ◌%◌, ◌<◌, Bool, true, false, not, cond, eqb, List, [], ◌∷◌, ◌++◌, Option, Some, None}
+use Rattle.std.proofs.Common.{refl, sym, ap, ◌∙◌, arith, lit<}
+use Rattle.std.specs.Prelude.{IsSome, find, codes}
 use Rattle.base.specs.declared.cause.Cause.{Cause}
 use Rattle.base.specs.declared.cause.CheriCause.{CheriCause}
 use Rattle.base.specs.declared.cause.CheriCause.TheVariants as forbids
-use Rattle.base.specs.Fault.{fault, cheri}
+use Rattle.base.specs.Fault.{cheri_number_of, fault, cheri}
 use Rattle.cap_checks.specs.declared.question.Condition.{Condition}
 use Rattle.cap_checks.specs.declared.question.Question.{Question}
 use Rattle.cap_checks.specs.declared.question.Question.TheVariants.{Right, Bounds, Multiple, Ram, RamOrDevice, Instruction, SystemRegister}
@@ -13,7 +14,10 @@ use Rattle.devices.specs.Devices.{interrupts_of}
 use Rattle.special_regs.specs.Interrupts.{pending}
 use Rattle.special_regs.specs.declared.interrupts.Interrupt.{Interrupt}
 use Rattle.asm_names.specs.SpecialNames.{csr_name, scr_name}
-use Rattle.trap_texts.specs.Names.{cheri_asked_name, register_at_fault}
+use Rattle.trap_texts.specs.Names.{cause_name, cheri_cause_name, cheri_asked_name, register_at_fault}
+use Rattle.disassembler.specs.Hex.{hex_of}
+use Rattle.disassembler.specs.Shown.{name_or}
+use Rattle.effect_texts.specs.EffectText.{violation_names, taken, trap_entry}
 use Rattle.isa_rows.specs.declared.operands.Insn.{Insn}
 use Rattle.isa_rows.specs.declared.kinds.Kind.{Kind}
 use Rattle.isa_rows.specs.Kind.{kind_of}
@@ -31,6 +35,53 @@ use Rattle.explain.specs.SaysLaws.{held-shown, each-append, conditions-say}
 use Rattle.explain.specs.Shown.{RegistersAreShown, LineSays, LinesSayWhatIsHeld, trap_by, TrapsByTheShown}
 use Rattle.explain.specs.Text.{name_text, bounds_text, multiple_text, mark, question_text, condition_line, register_text}
 
+-- mtval of a CHERI exception, taken apart
+entry-parts : (r k : ℕ) → k < 32 → ((32 * r + k) % 32 ≡ k) × ((32 * r + k) / 32 ≡ r)
+entry-parts r k small = (omega arith, omega arith)
+
+named-entry : (what : CheriCause) (o : Option (List ℕ)) → IsSome o
+    → violation_names (cheri_cause_name (cheri_number_of what)) o
+    ≡ name_or [] (cheri_cause_name (cheri_number_of what)) ++ codes " at " ++ name_or [] o ++ codes ", "
+unfolding cheri_cause_name
+named-entry what None is = cc
+named-entry forbids.Length (Some name) is = refl
+named-entry forbids.Tag (Some name) is = refl
+named-entry forbids.Seal (Some name) is = refl
+named-entry forbids.Type (Some name) is = refl
+named-entry forbids.Execute (Some name) is = refl
+named-entry forbids.Load (Some name) is = refl
+named-entry forbids.Store (Some name) is = refl
+named-entry forbids.StoreCapability (Some name) is = refl
+named-entry forbids.StoreLocalCapability (Some name) is = refl
+named-entry forbids.AccessSystemRegisters (Some name) is = refl
+named-entry forbids.CInvoke (Some name) is = refl
+
+cheri-small : (what : CheriCause) → cheri_number_of what < 32
+cheri-small forbids.Length = lit< tt
+cheri-small forbids.Tag = lit< tt
+cheri-small forbids.Seal = lit< tt
+cheri-small forbids.Type = lit< tt
+cheri-small forbids.Execute = lit< tt
+cheri-small forbids.Load = lit< tt
+cheri-small forbids.Store = lit< tt
+cheri-small forbids.StoreCapability = lit< tt
+cheri-small forbids.StoreLocalCapability = lit< tt
+cheri-small forbids.AccessSystemRegisters = lit< tt
+cheri-small forbids.CInvoke = lit< tt
+
+entry-named : (r : ℕ) (what : CheriCause) → IsSome (register_at_fault r)
+    → trap_entry (record { mcause = 28; mtval = 32 * r + cheri_number_of what })
+    ≡ codes "trap CHERI exception, " ++ (name_or [] (cheri_cause_name (cheri_number_of what)) ++ codes " at " ++ register_text r ++ codes ", ")
+    ++ codes "mcause " ++ hex_of 16 28 ++ codes ", mtval " ++ hex_of 16 (32 * r + cheri_number_of what)
+unfolding taken cause_name
+entry-named r what is =
+    let mtval : ℕ = 32 * r + cheri_number_of what in
+    let both = entry-parts r (cheri_number_of what) (cheri-small what) in
+    ap (λ k. codes "trap CHERI exception, " ++ k ++ codes "mcause " ++ hex_of 16 28 ++ codes ", mtval " ++ hex_of 16 mtval)
+    (ap (λ n. violation_names (cheri_cause_name n) (register_at_fault (mtval / 32))) both.0
+    ∙ ap (λ n. violation_names (cheri_cause_name (cheri_number_of what)) (register_at_fault n)) both.1
+    ∙ named-entry what (register_at_fault r) is)
+
 pub registers-shown : RegistersAreShown
 unfolding register_at_fault scr_name csr_name
 registers-shown = (
@@ -38,7 +89,7 @@ registers-shown = (
   refl,
   held-shown,
   λ s n. ap (λ v. codes "  " ++ value_line (register_text n) v) (held-shown s n),
-  (refl, refl, refl),
+  (refl, refl, refl, entry-named),
 )
 
 -- ---- lines
