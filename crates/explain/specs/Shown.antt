@@ -1,7 +1,7 @@
 -- What the lines of `why` show, against the state's own fields: a capability under another register's name is refused here, though
 -- definition and code show the same.
 use Rattle.std.specs.Prelude.{◌≡◌, ℕ, ◌+◌, ◌*◌, ◌%◌, Bool, not, ◌&&◌, ◌==◌, ◌⊎◌, nat_le, if◌then◌else◌, List, [], ◌∷◌, ◌++◌, map}
-use Rattle.std.specs.Prelude.{Some, IsSome, find, codes, decimal}
+use Rattle.std.specs.Prelude.{Some, IsSome, find, flat_map, codes, decimal}
 use Rattle.std.specs.List.{range_with_len}
 use Rattle.base.specs.declared.cause.Cause.TheVariants as cause
 use Rattle.base.specs.declared.cause.CheriCause.{CheriCause}
@@ -134,9 +134,18 @@ abbrev pub EachStage : (List Condition → Type 0) → List (List Condition) →
 EachStage P [] = Unit {0}
 EachStage P (stage ∷ stages) = P stage × EachStage P stages
 
--- The law: each stage shows where it asks, and each capability that it asks.
-abbrev pub StagesShowWhereAndWhat : Type 0
-StagesShowWhereAndWhat = (s : State) → EachStage (λ stage. Each (λ q holds. StageShows s (stage_text s stage) q) stage) (stages_of s)
+-- conditions up to the first that is false, and with it
+abbrev pub until_false : List Condition → List Condition
+until_false [] = []
+until_false (c ∷ cs) = c ∷ (if c.holds then until_false cs else [])
+
+-- The law: the text is that of each stage, and each shows where it asks, each capability that it asks, and at its end the line of each
+-- condition up to the first false one.
+abbrev pub StagesShowWhatTheyAsk : Type 0
+StagesShowWhatTheyAsk =
+    (s : State) → (stages_text s ≡ flat_map (stage_text s) (stages_of s))
+    × EachStage (λ stage. Each (λ q holds. StageShows s (stage_text s stage) q) stage
+    × ((before : List ℕ) × (stage_text s stage ≡ before ++ flat_map (condition_line s) (until_false stage)))) (stages_of s)
 
 -- ---- the first false condition, and the trap
 

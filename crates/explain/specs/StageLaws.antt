@@ -32,7 +32,7 @@ use Rattle.hart.specs.Step.{asked, fetch_asked, word_unless}
 use Rattle.hart.specs.SystemRows.{csr_asked, special_asked, return_asked}
 use Rattle.explain.specs.Asked.{decoding, insn_stages, word_stages, fetched_stages, stages_unless, stages_of, all_conditions}
 use Rattle.explain.specs.Says.{word_here, Each}
-use Rattle.explain.specs.Shown.{Begins, Has, place_line, sized, StageShows, EachStage, StagesShowWhereAndWhat}
+use Rattle.explain.specs.Shown.{Begins, Has, place_line, sized, StageShows, EachStage, until_false, StagesShowWhatTheyAsk}
 use Rattle.explain.specs.Text.{capability_line, condition_line, condition_lines, stage_between, stage_text, stages_text}
 
 -- ---- where a stage asks, and which capabilities
@@ -232,10 +232,6 @@ unless-shows : (s : State) (p : Option Interrupt) → EachStage (StageIsShown s)
 unless-shows s None = (fetch-shows s, fetched-shows s (first_false (fetch_asked s)))
 unless-shows s (Some interrupt) = tt
 
-pub stages-show : StagesShowWhereAndWhat
-unfolding stages_of
-stages-show s = unless-shows s (pending s.csrs (interrupts_of s.devices))
-
 -- ---- the end of the text
 
 -- a text that ends with another
@@ -328,3 +324,38 @@ pub text-ends : (s : State) (c : Condition) → find is_false (all_conditions (s
     → EndsWith (stages_text s) (condition_line s c)
 unfolding stages_of stages_text
 text-ends s c found = unless-ends s c (pending s.csrs (interrupts_of s.devices)) found
+
+-- ---- the lines of each stage
+
+lines-until_false : (s : State) (cs : List Condition) → condition_lines s cs ≡ flat_map (condition_line s) (until_false cs)
+lines-until_false s [] = refl
+lines-until_false s (c ∷ cs) =
+    elim c.holds as
+    (λ b. condition_line s c ++ cond b (condition_lines s cs) []
+    ≡ condition_line s c ++ flat_map (condition_line s) (cond b (until_false cs) [])) [
+      | true ↦ ap (λ k. condition_line s c ++ k) (lines-until_false s cs)
+      | false ↦ refl
+    ]
+
+between-lines : (s : State) (d last : Condition) (o : Option Condition) (cs : List Condition) → o ≡ Some last
+    → EndsWith (stage_between (Some d) o cs s) (flat_map (condition_line s) (until_false cs))
+between-lines s d last (Some it) cs is =
+    ends-after _ (condition_lines s cs) (flat_map (condition_line s) (until_false cs)) ([], lines-until_false s cs)
+between-lines s d last None cs is = cc
+
+stage-lines : (s : State) (cs : List Condition) → EndsWith (stage_text s cs) (flat_map (condition_line s) (until_false cs))
+unfolding stage_text
+stage-lines s [] = ([], refl)
+stage-lines s (d ∷ cs) =
+    let last = last-of d cs in
+    let place : length (d ∷ cs) - 1 ≡ length cs = omega arith in
+    between-lines s d last.0 (slice_get (d ∷ cs) (length (d ∷ cs) - 1)) (d ∷ cs) (ap (slice_get (d ∷ cs)) place ∙ last.1)
+
+each-lines : (s : State) (stages : List (List Condition)) → EachStage (StageIsShown s) stages
+    → EachStage (λ stage. StageIsShown s stage × EndsWith (stage_text s stage) (flat_map (condition_line s) (until_false stage))) stages
+each-lines s [] shown = tt
+each-lines s (stage ∷ stages) shown = ((shown.0, stage-lines s stage), each-lines s stages shown.1)
+
+pub stages-show : StagesShowWhatTheyAsk
+unfolding stages_of stages_text
+stages-show s = (refl, each-lines s (stages_of s) (unless-shows s (pending s.csrs (interrupts_of s.devices))))

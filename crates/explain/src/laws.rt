@@ -2,7 +2,7 @@
 ghost use Rattle.explain.specs.After.{ShowsTheStateAfter, ShowsTheWord, CsrsKeepWhatIsShown, DevicesAreGivenWhatIsShown};
 ghost use Rattle.explain.specs.Asked.{TrapsByItsStages};
 ghost use Rattle.explain.specs.Says.{ConditionsSayWhatIsAsked};
-ghost use Rattle.explain.specs.Shown.{RegistersAreShown, LinesSayWhatIsHeld, StagesShowWhereAndWhat, TrapsByTheShown};
+ghost use Rattle.explain.specs.Shown.{RegistersAreShown, LinesSayWhatIsHeld, StagesShowWhatTheyAsk, TrapsByTheShown};
 
 /// Unless an interrupt is taken, the next step is the trap by the first false condition of its stages, or what the instruction does.
 pub fn step_traps_by_its_stages()
@@ -14,7 +14,7 @@ pub fn why_shows_the_state()
     ensures registers { RegistersAreShown }
     ensures conditions { ConditionsSayWhatIsAsked }
     ensures lines { LinesSayWhatIsHeld }
-    ensures stages { StagesShowWhereAndWhat }
+    ensures stages { StagesShowWhatTheyAsk }
     ensures traps { TrapsByTheShown }
 {}
 
