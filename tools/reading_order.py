@@ -41,6 +41,7 @@ REST = [
     ("what setting bounds gives, as a text", "bounds_text/specs/WindowEnds, Picture, BoundsText"),
     ("what a step comes to, as text", "trap_texts/specs/Names, Text; effect_texts/specs/ValueText, EffectText, TraceLine"),
     ("what the next step asks, and why", "explain/specs/Asked, Text"),
+    ("what is shown, against the state", "text_laws/specs/Says, Shown, After"),
     ("names: tables of symbols, listings with names", "symbols/specs/Symbols; image_listing/specs/Named"),
     ("sessions", "debug_commands/specs/Command; debugger/specs/SessionState, Reply, Answers, Conversation, Talk"),
     ("the command line and runs on a schedule",

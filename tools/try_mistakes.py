@@ -69,13 +69,14 @@ def copied(crate, room):
             shutil.copytree(os.path.join(folder_of(crate), part), os.path.join(room, part))
 
 
-def moved(path, to, crate, laws):
-    """Moves a file of the crate of laws into the copy, under the name of its crate."""
+def moved(path, to, crate, laws, modules):
+    """Moves a file of the crate of laws into the copy, under the name of its crate; modules have the name of the crate of laws in front."""
     with open(path, encoding="utf-8") as file:
         text = file.read()
     for part in ("specs", "proofs"):
         text = text.replace(f"Rattle.{laws}.{part}.", f"Rattle.{crate}.{part}.")
-    text = text.replace(f"Rattle.{crate}.proofs.laws.", f"Rattle.{crate}.proofs.{laws}_laws.")
+    for module in modules:
+        text = text.replace(f"Rattle.{crate}.proofs.{module}.", f"Rattle.{crate}.proofs.{laws}_{module}.")
     os.makedirs(os.path.dirname(to), exist_ok=True)
     with open(to, "w", encoding="utf-8") as file:
         file.write(text)
@@ -89,23 +90,23 @@ def appended(path, text):
 def with_laws(room, crate, laws):
     """Puts the definitions, proofs and laws of a crate into the copy of one that it stands on; answers the functions that are its laws."""
     folder = folder_of(laws)
+    modules = sorted(os.path.basename(path).removesuffix(".rt") for path in glob.glob(os.path.join(folder, "src", "*.rt")))
+    modules.remove("lib")
     for part in ("specs", "proofs"):
         for path in glob.glob(os.path.join(folder, part, "**", "*.antt"), recursive=True):
             name = os.path.relpath(path, os.path.join(folder, part))
             if name != "Lib.antt":
-                to = re.sub(r"^laws/", f"{laws}_laws/", name)
-                moved(path, os.path.join(room, part, to), crate, laws)
+                to = f"{laws}_{name}" if part == "proofs" and name.partition("/")[0] in modules else name
+                moved(path, os.path.join(room, part, to), crate, laws, modules)
         with open(os.path.join(folder, part, "Lib.antt"), encoding="utf-8") as file:
             appended(os.path.join(room, part, "Lib.antt"), file.read())
     found = []
-    for path in sorted(glob.glob(os.path.join(folder, "src", "*.rt"))):
-        module = os.path.basename(path).removesuffix(".rt")
-        if module != "lib":
-            name = f"{laws}_laws" if module == "laws" else module
-            moved(path, os.path.join(room, "src", f"{name}.rt"), crate, laws)
-            appended(os.path.join(room, "src", "lib.rt"), f"pub mod {name};\n")
-            with open(path, encoding="utf-8") as file:
-                found += [f"{name}::{law}" for law in re.findall(r"^pub fn (\w+)\(\)", file.read(), re.M)]
+    for module in modules:
+        path, name = os.path.join(folder, "src", f"{module}.rt"), f"{laws}_{module}"
+        moved(path, os.path.join(room, "src", f"{name}.rt"), crate, laws, modules)
+        appended(os.path.join(room, "src", "lib.rt"), f"pub mod {name};\n")
+        with open(path, encoding="utf-8") as file:
+            found += [f"{name}::{law}" for law in re.findall(r"^pub fn (\w+)\(\)", file.read(), re.M)]
     return found
 
 
@@ -138,9 +139,13 @@ def tried(mistake, known):
             return faults, False
         only = [word for it in functions for word in ("--only", it)]
         how = {"cwd": room, "stdin": subprocess.DEVNULL, "stdout": subprocess.PIPE, "stderr": subprocess.STDOUT}
-        call = [compiler(), "check", *words(mistake.crate, known), *over_the_logic(1), *only]
+        needs = [it for it in [*known[mistake.crate], *known.get(mistake.over, [])] if it != mistake.crate]
+        over = {**known, mistake.crate: list(dict.fromkeys(needs))}
+        call = [compiler(), "check", *words(mistake.crate, over), *over_the_logic(1), *only]
         run = subprocess.run(call, check=False, encoding="utf-8", errors="replace", **how)
-        found = lemmas_left(room, run.stdout) if mistake.over else functions_left(mistake.crate, run.stdout)
+        found = functions_left(mistake.crate, run.stdout)
+        if mistake.over:
+            found = [*lemmas_left(room, run.stdout), *(it.removeprefix(f"{mistake.over}_") for it in found)]
         if "--report" in sys.argv:
             print(run.stdout)
         return found, run.returncode != 0 and mistake.law in found

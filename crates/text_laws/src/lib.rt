@@ -1,6 +1,8 @@
-//! The laws of shown texts: what is shown for a word, an assembler reads as that word again. Each function's contract is a law, and
-//! its body is empty.
+//! The laws of shown texts: what is shown for a word, an assembler reads as that word again; and what is shown of a step is what the
+//! state has. Each function's contract is a law, and its body is empty.
 #![tactic(auto)]
+
+pub mod why;
 
 ghost use Rattle.std.specs.Prelude.{ℕ, ◌<◌, ◌^◌, Bool};
 ghost use Rattle.text_laws.specs.ReadBack.{ReadsBack};

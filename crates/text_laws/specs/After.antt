@@ -1,0 +1,139 @@
+-- What a line of a trace shows of a step, read off the state after it: a value of another register, or under another name, is refused here,
+-- though definition and code show the same. `why` shows the same text of the effect.
+use Rattle.std.specs.Prelude.{◌≡◌, ℕ, ◌+◌, ◌*◌, ◌/◌, ◌^◌, ◌==◌, true, false, if◌then◌else◌, bit_and, List, [], ◌++◌, Some}
+use Rattle.std.specs.Prelude.{None, codes, decimal}
+use Rattle.base.specs.Bits.{bit}
+use Rattle.base.specs.Size.{bytes_of}
+use Rattle.cap_bounds.specs.CapValue.{CapValue, value_of, value_address, value_flag}
+use Rattle.tagged_memory.specs.Memory.{is_in_ram, number_at, word_at, has_tag}
+use Rattle.devices.specs.Devices.{effect_of, byte_sent, written, interrupts_of}
+use Rattle.special_regs.specs.CsrValues.{csr_value}
+use Rattle.special_regs.specs.Mtvec.{mtvec_of}
+use Rattle.special_regs.specs.Traps.{is_sentry}
+use Rattle.special_regs.specs.Writes.{has_bit}
+use Rattle.cap_checks.specs.Question.{first_false}
+use Rattle.disassembler.specs.Hex.{hex_of}
+use Rattle.disassembler.specs.Shown.{shown_word}
+use Rattle.registers.specs.Registers.{register}
+use Rattle.hart.specs.declared.effect.CsrWrite.{CsrWrite}
+use Rattle.hart.specs.declared.effect.Effect.{Effect}
+use Rattle.hart.specs.declared.effect.Effect.TheVariants.{Trap, Nothing, Write, Unseal, Store, StoreCapability, DeviceLoad, DeviceStore}
+use Rattle.hart.specs.declared.effect.Effect.TheVariants.{Jump, Link, Enter, Special, Csr, Return}
+use Rattle.hart.specs.declared.effect.Store.{Store as Stored}
+use Rattle.hart.specs.IsState.{IsState}
+use Rattle.hart.specs.State.{State, pc_of}
+use Rattle.hart.specs.Step.{fetch_asked, step_effect, stepped, step_sent}
+use Rattle.effect_texts.specs.EffectText.{trap_entry, register_text, shown_special, shown_csr, shown_size, return_part}
+use Rattle.effect_texts.specs.TraceLine.{is_interrupt, step_word, trace_line}
+use Rattle.effect_texts.specs.ValueText.{shown_value}
+use Rattle.text_laws.specs.Says.{held}
+use Rattle.explain.specs.Text.{instruction_text, stages_text, why_text}
+
+-- ---- parts, of the state t after the step
+
+-- a general register by its name, and what it holds
+abbrev pub register_now : ℕ → State → List ℕ
+register_now n t = register_text n ++ codes " = " ++ shown_value (register t.registers n)
+
+-- register 0 is never written: another text stands for it, or none
+abbrev pub register_or : List ℕ → ℕ → State → List ℕ
+register_or other n t = if n == 0 then other else register_now n t
+
+abbrev pub register_first : ℕ → State → List ℕ
+register_first n t = if n == 0 then [] else register_now n t ++ codes ", "
+
+-- PCC's address
+abbrev pub jump_now : State → List ℕ
+jump_now t = codes "jump to " ++ hex_of 16 (pc_of t)
+
+-- the bytes in RAM
+abbrev pub bytes_now : Stored → State → List ℕ
+bytes_now w t =
+    codes "store " ++ shown_size w.size ++ codes " at " ++ hex_of 16 w.address ++ codes ": "
+    ++ hex_of (2 * bytes_of w.size) (number_at t.memory w.address (bytes_of w.size))
+
+-- the granule in RAM, with its tag
+abbrev pub granule_now : ℕ → State → List ℕ
+granule_now address t =
+    codes "store capability at " ++ hex_of 16 address ++ codes ": "
+    ++ shown_value (value_of (word_at t.memory address) (has_tag t.memory address))
+
+-- ---- the whole text
+
+-- What devices are given is not read from them again, nor is a number that a control and status register is given, of which it keeps what
+-- `kept` says.
+abbrev pub text_after : Effect CapValue → State → List ℕ
+text_after (Trap fault) t = trap_entry (record { mcause = t.csrs.mcause; mtval = t.csrs.mtval })
+text_after Nothing t = codes "nothing"
+text_after (Write w) t = register_or (codes "nothing") w.rd t
+text_after (Unseal w) t = register_or (codes "nothing") w.rd t
+text_after (Store w) t = bytes_now w t
+text_after (StoreCapability w) t = granule_now w.address t
+text_after (DeviceLoad l) t = register_or (codes "load") l.rd t ++ codes " from device " ++ hex_of 16 l.address
+text_after (DeviceStore w) t =
+    codes "device "
+    ++ (codes "store " ++ shown_size w.size ++ codes " at " ++ hex_of 16 w.address ++ codes ": " ++ hex_of (2 * bytes_of w.size) w.number)
+text_after (Jump target) t = jump_now t
+text_after (Link l) t = register_first l.rd t ++ jump_now t
+text_after (Enter e) t = register_first e.rd t ++ jump_now t ++ codes ", " ++ (codes "pcc = " ++ shown_value t.scrs.pcc)
+text_after (Special w) t = register_first w.rd t ++ (shown_special w.number ++ codes " = " ++ shown_value (held t (32 + w.number)))
+text_after (Csr w) t = register_first w.rd t ++ shown_csr w.number ++ codes " = " ++ hex_of 16 w.value
+text_after (Return sealed) t = return_part (is_sentry t.scrs.mepcc)
+
+-- The law: what a line of a trace and `why` show of a step's effect is what the state after it has.
+abbrev pub ShowsTheStateAfter : Type 0
+ShowsTheStateAfter =
+    (s : State) → IsState s → s.devices.halted ≡ None
+    → (
+    (number : ℕ)
+    → trace_line number s
+    ≡ decimal number ++ codes " " ++ hex_of 16 (value_address s.scrs.pcc) ++ codes " " ++ step_word s ++ codes ": "
+    ++ text_after (step_effect s) (stepped s) ++ codes "\n"
+    )
+    × (
+    why_text s
+    ≡ instruction_text s ++ stages_text s ++ codes "effect: " ++ text_after (step_effect s) (stepped s) ++ codes "\n"
+    )
+
+-- ---- the word
+
+-- the word in RAM at PCC's address, with its text in PCC's mode
+abbrev pub word_shown : State → List ℕ
+word_shown s =
+    let word : ℕ = number_at s.memory (value_address s.scrs.pcc) 4 in
+    hex_of 8 word ++ codes " " ++ shown_word (value_flag s.scrs.pcc) word
+
+-- The law: `why` shows the word at PCC's address where that lies in RAM, and a line of a trace shows the word that is fetched.
+abbrev pub ShowsTheWord : Type 0
+ShowsTheWord =
+    (s : State)
+    → (
+    is_in_ram s.memory (value_address s.scrs.pcc) 4 ≡ true
+    → instruction_text s ≡ hex_of 16 (value_address s.scrs.pcc) ++ codes " " ++ word_shown s ++ codes "\n"
+    )
+    × (is_interrupt (step_effect s) ≡ false → first_false (fetch_asked s) ≡ None → step_word s ≡ word_shown s)
+
+-- ---- control and status registers
+
+-- what a control and status register holds after a write of a number in a state: all of it, but for mstatus, misa, mie, mtvec, mepc, mip
+abbrev pub kept : ℕ → ℕ → State → ℕ
+kept n value s =
+    if n == 0x300 then 0x1800 + bit (has_bit value 7) * 2 ^ 7 + bit (has_bit value 3) * 2 ^ 3
+    else (if n == 0x301 then 0x8000_0000_0000_1100
+    else (if n == 0x304 then bit_and value 0x880
+    else (if n == 0x305 then mtvec_of value
+    else (if n == 0x341 then value / 4 * 4
+    else (if n == 0x344 then interrupts_of s.devices
+    else value)))))
+
+-- The law: after a write of a control and status register it holds what it keeps of the number that is shown.
+abbrev pub CsrsKeepWhatIsShown : Type 0
+CsrsKeepWhatIsShown =
+    (s : State) → IsState s → s.devices.halted ≡ None → (w : CsrWrite CapValue) → step_effect s ≡ Csr w
+    → csr_value (stepped s).csrs (stepped s).scrs (interrupts_of (stepped s).devices) w.number ≡ Some (kept w.number w.value s)
+
+-- The law: the devices are given the number that is shown, and the byte that is sent is its lowest, if one is sent.
+abbrev pub DevicesAreGivenWhatIsShown : Type 0
+DevicesAreGivenWhatIsShown =
+    (s : State) → s.devices.halted ≡ None → (w : Stored) → step_effect s ≡ DeviceStore w
+    → ((stepped s).devices ≡ written s.devices w.address w.number) × (step_sent s ≡ byte_sent (effect_of w.address w.number))

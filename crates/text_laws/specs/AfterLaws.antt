@@ -1,0 +1,336 @@
+-- What is shown of a step is what the state after it has.
+use Rattle.std.proofs.Common.{◌≡◌, ℕ, zero, suc, ◌+◌, ◌-◌, ◌*◌, ◌/◌, ◌%◌, ◌^◌, ◌<◌, ◌≤◌, Bool, true, false, not, ◌&&◌, ◌||◌, cond, eqb}
+use Rattle.std.proofs.Common.{List, [], ◌∷◌, ◌++◌, length, take, drop, None, Some, refl, sym, ap, subst, ◌∙◌, arith, append-nil}
+use Rattle.std.proofs.Common.{append_assoc}
+use Rattle.std.specs.Prelude.{codes, decimal}
+use Rattle.std.proofs.lemmas.Bool.{true≢false, and_parts, not-true, eq-eqb, ne_eqb, eqb-true, cond_both}
+use Rattle.std.proofs.lemmas.List.{get_or-set_same}
+use Rattle.std.proofs.Math.Nat.{add-mul, add_assoc, div-add-mod', mod-eq_of_lt, mod-lt, mul-add-mod_self_right, mul-le-mul_right}
+use Rattle.std.proofs.Math.Nat.{mul_assoc, one-le-pow, pow-suc}
+use Rattle.std.specs.Fmt.{digit_glyph}
+use Rattle.byteorder.specs.Endian.{little_bytes, little_from}
+use Rattle.byteorder.specs.Numbers.{little_from-bytes, little_from-take, length-bytes_low_first}
+use Rattle.base.specs.Ram.{ram_base}
+use Rattle.base.specs.Registers.{is_csr, is_scr}
+use Rattle.base.specs.Size.{bytes_of}
+use Rattle.base.specs.declared.size.Size.{Size}
+use Rattle.base.specs.declared.size.Size.TheVariants.{Byte, Half, Word, Double}
+use Rattle.cap_bounds.specs.AddressLaws.{value_address-at_address}
+use Rattle.cap_bounds.specs.CapValue.{CapValue, IsSound, is_tagged, value_address, value_flag, value_of, word_of}
+use Rattle.cap_bounds.specs.RecordLaws.{value_of-word_of}
+use Rattle.cap_bounds.specs.SetAddress.{at_address}
+use Rattle.cap_bounds.specs.SoundLaws.{word_of-below}
+use Rattle.tagged_memory.specs.AccessLaws.{stored_is_loaded}
+use Rattle.tagged_memory.specs.Memory.{Memory, is_in_ram, number_at, word_at, has_tag, data_written, capability_written, place_fault}
+use Rattle.tagged_memory.specs.MemoryLaws.{in_ram}
+use Rattle.tagged_memory.specs.Replaced.{part-new}
+use Rattle.devices.specs.Devices.{interrupts_of}
+use Rattle.special_regs.specs.CsrValues.{csr_value}
+use Rattle.special_regs.specs.Mtvec.{is_vectored, mtvec_of}
+use Rattle.special_regs.specs.Refusals.{is_read_only}
+use Rattle.special_regs.specs.Writes.{csrs_written, views_written, scr_written}
+use Rattle.disassembler.specs.Hex.{hex_of}
+use Rattle.disassembler.specs.Shown.{shown_word}
+use Rattle.registers.specs.Registers.{null, register, with_register, AreRegisters}
+use Rattle.hart.specs.AppliedLaws.{IsSoundEffect}
+use Rattle.hart.specs.declared.effect.CsrWrite.{CsrWrite}
+use Rattle.hart.specs.declared.effect.SpecialWrite.{SpecialWrite}
+use Rattle.hart.specs.declared.effect.Effect.{Effect}
+use Rattle.hart.specs.declared.effect.Effect.TheVariants.{Trap, Nothing, Write, Unseal, Store, StoreCapability, DeviceLoad, DeviceStore}
+use Rattle.hart.specs.declared.effect.Effect.TheVariants.{Jump, Link, Enter, Special, Csr, Return}
+use Rattle.hart.specs.Effect.{applied, sent_by}
+use Rattle.hart.specs.EventLaws.{step_effect-sound}
+use Rattle.hart.specs.IsState.{IsState}
+use Rattle.hart.specs.State.{State, pc_of}
+use Rattle.hart.specs.Step.{word_unless, step_effect, stepped_unless, stepped, step_sent_unless, step_sent}
+use Rattle.effect_texts.specs.EffectText.{register_text, value_part, written_or, written_first, jump_part, effect_text}
+use Rattle.effect_texts.specs.EffectText.{shown_size, shown_special, shown_csr, return_part}
+use Rattle.effect_texts.specs.TraceLine.{word_part, step_word}
+use Rattle.effect_texts.specs.ValueText.{shown_value}
+use Rattle.text_laws.specs.Says.{held, word_here}
+use Rattle.explain.specs.Text.{instruction_text, stages_text, why_unless, why_text}
+use Rattle.text_laws.specs.After.{register_or, register_first, text_after, kept, ShowsTheStateAfter, ShowsTheWord}
+use Rattle.text_laws.specs.After.{CsrsKeepWhatIsShown, DevicesAreGivenWhatIsShown}
+use Rattle.text_laws.specs.FitsLaws.{Fits, step-fits}
+
+-- ---- numbers and their digits
+
+-- the two low digits of n, to the bases c and then m
+mod-split : (n m c : ℕ) → 0 < m → 0 < c → n % (m * c) ≡ (n / c % m) * c + n % c
+mod-split n m c some other =
+    let a = mod-lt (n / c) some in
+    let b = mod-lt n other in
+    let top : (n / c % m + 1) * c ≤ m * c = mul-le-mul_right c (omega arith) in
+    let expand : (n / c % m + 1) * c ≡ n / c % m * c + 1 * c = add-mul (n / c % m) 1 c in
+    let split : n ≡ n / c / m * (m * c) + (n / c % m * c + n % c) =
+    sym (div-add-mod' n c)
+    ∙ ap (λ (x : ℕ). x * c + n % c) (sym (div-add-mod' (n / c) m))
+    ∙ ap (λ (x : ℕ). x + n % c) (add-mul (n / c / m * m) (n / c % m) c ∙ ap (λ (x : ℕ). x + n / c % m * c) (mul_assoc (n / c / m) m c))
+    ∙ add_assoc (n / c / m * (m * c)) (n / c % m * c) (n % c) in
+    ap (λ (x : ℕ). x % (m * c)) split ∙ mul-add-mod_self_right (n / c / m) (m * c) (n / c % m * c + n % c) ∙ mod-eq_of_lt (omega arith)
+
+-- the lowest digits are those of the number's lowest part
+low-digits : (k n : ℕ) → hex_of k (n % 16 ^ k) ≡ hex_of k n
+unfolding hex_of
+low-digits zero n = refl
+low-digits (suc k) n =
+    let split = mod-split n (16 ^ k) 16 (one-le-pow k 16 (omega arith)) (omega arith) in
+    let high : n % 16 ^ suc k / 16 ≡ n / 16 % 16 ^ k = rw (pow-suc 16 k, split) (omega arith) in
+    let low : n % 16 ^ suc k % 16 ≡ n % 16 = rw (pow-suc 16 k, split) (omega arith) in
+    ap (λ m. hex_of k m ++ digit_glyph false (n % 16 ^ suc k % 16) ∷ []) high
+    ∙ ap (λ m. m ++ digit_glyph false (n % 16 ^ suc k % 16) ∷ []) (low-digits k (n / 16))
+    ∙ ap (λ m. hex_of k (n / 16) ++ digit_glyph false m ∷ []) low
+
+-- two digits a byte
+digits-of_bytes : (size : Size) (n : ℕ) → hex_of (2 * bytes_of size) (n % 256 ^ bytes_of size) ≡ hex_of (2 * bytes_of size) n
+digits-of_bytes Byte n = low-digits 2 n
+digits-of_bytes Half n = low-digits 4 n
+digits-of_bytes Word n = low-digits 8 n
+digits-of_bytes Double n = low-digits 16 n
+
+-- ---- memory
+
+-- the bytes of a number that are stored are its lowest
+number-stored : (m : Memory) (address size number : ℕ) → is_in_ram m address size ≡ true
+    → number_at (data_written m address (little_bytes size number)) address size ≡ number % 256 ^ size
+unfolding data_written
+number-stored m address size number inside =
+    let new : List ℕ = little_bytes size number in
+    let count : length new ≡ size = length-bytes_low_first 0 size number in
+    let place = in_ram m address size inside in
+    let fits : address - ram_base + length new ≤ length m.bytes = omega (arith, place.1, count) in
+    let there : take size (drop (address - ram_base) (data_written m address new).bytes) ≡ new =
+    ap (λ n. take n (drop (address - ram_base) (data_written m address new).bytes)) (sym count)
+    ∙ part-new m.bytes (address - ram_base) new fits in
+    sym (little_from-take 0 size size (drop (address - ram_base) (data_written m address new).bytes) (omega arith))
+    ∙ ap (little_from 0 size) (there ∙ sym (append-nil new))
+    ∙ little_from-bytes size 0 number []
+    ∙ ap (λ n. n % 256 ^ size) (omega arith)
+
+-- a value that is stored is there
+value-stored : (m : Memory) (address : ℕ) (v : CapValue) → place_fault m address 16 ≡ None → IsSound v
+    → value_of (word_at (capability_written m address (word_of v) (is_tagged v)) address)
+    (has_tag (capability_written m address (word_of v) (is_tagged v)) address)
+    ≡ v
+value-stored m address v none sound =
+    let loaded = stored_is_loaded m address (word_of v) (is_tagged v) none (word_of-below v sound) in
+    ap (λ w. value_of w (has_tag (capability_written m address (word_of v) (is_tagged v)) address)) loaded.0
+    ∙ ap (λ b. value_of (word_of v) b) loaded.1
+    ∙ value_of-word_of v sound
+
+-- ---- registers
+
+written-there : (registers : List CapValue) (rd : ℕ) (v : CapValue) → AreRegisters registers → rd < 32 → eqb rd 0 ≡ false
+    → register (with_register registers rd v) rd ≡ v
+unfolding with_register
+written-there registers rd v are small other =
+    let inside : rd < length registers = omega (arith, small, are.count) in
+    rw other (get_or-set_same registers rd v null inside)
+
+module _ (registers : List CapValue) (rd : ℕ) (v : CapValue) (t : State) (are : AreRegisters registers) (small : rd < 32)
+    (after : t.registers ≡ with_register registers rd v) where
+  there : eqb rd 0 ≡ false → v ≡ register t.registers rd
+  there other = sym (written-there registers rd v are small other) ∙ ap (λ rs. register rs rd) (sym after)
+
+  or-there : (other : List ℕ) → written_or other rd v ≡ register_or other rd t
+  unfolding written_or
+  or-there other =
+      elim (eqb rd 0) as
+      (λ b. eqb rd 0 ≡ b
+      → cond b other (value_part (register_text rd) v) ≡ cond b other (value_part (register_text rd) (register t.registers rd))) [
+        | true ↦ λ e. refl
+        | false ↦ λ e. ap (value_part (register_text rd)) (there e)
+      ] refl
+
+  first-there : written_first rd v ≡ register_first rd t
+  unfolding written_first
+  first-there =
+      elim (eqb rd 0) as
+      (λ b. eqb rd 0 ≡ b → cond b [] (value_part (register_text rd) v ++ codes ", ")
+      ≡ cond b [] (value_part (register_text rd) (register t.registers rd) ++ codes ", ")) [
+        | true ↦ λ e. refl
+        | false ↦ λ e. ap (λ u. value_part (register_text rd) u ++ codes ", ") (there e)
+      ] refl
+
+-- ---- one of the listed numbers
+
+listed : (P : ℕ → Type 0) (k n : ℕ) (others : Bool) → (eqb k n || others) ≡ true → (k ≡ n → P n) → (others ≡ true → P n) → P n
+listed P k n others is here rest =
+    elim (eqb k n) as (λ b. eqb k n ≡ b → (b || others) ≡ true → P n) [
+      | true ↦ λ e _. here (eqb-true k n e)
+      | false ↦ λ _ e. rest e
+    ] refl is
+
+-- a special capability register that can be written
+each-scr : (P : ℕ → Type 0) (n : ℕ) → (is_scr n && not (eqb n 0)) ≡ true → P 1 → P 28 → P 29 → P 30 → P 31 → P n
+each-scr P n is ddc mtcc mtdc mscratchc mepcc =
+    let both = and_parts _ _ is in
+    listed P 0 n _ both.0 (λ e. absurd (true≢false (sym (eq-eqb n 0 (sym e)) ∙ not-true _ both.1))) (λ others.
+    listed P 1 n _ others (λ e. subst P e ddc) (λ others.
+    listed P 28 n _ others (λ e. subst P e mtcc) (λ others.
+    listed P 29 n _ others (λ e. subst P e mtdc) (λ others.
+    listed P 30 n _ others (λ e. subst P e mscratchc) (λ others.
+    listed P 31 n _ others (λ e. subst P e mepcc) (λ none. cc))))))
+
+-- a control and status register that can be written
+each-csr : (P : ℕ → Type 0) (n : ℕ) → (is_csr n && not (is_read_only n)) ≡ true → P 0x300 → P 0x301 → P 0x304 → P 0x305 → P 0x340 → P 0x341
+    → P 0x342 → P 0x343 → P 0x344 → P 0xb00 → P 0xb02 → P n
+each-csr P n is mstatus misa mie mtvec mscratch mepc mcause mtval mip mcycle minstret =
+    let both = and_parts _ _ is in
+    let written : is_read_only n ≡ false = not-true _ both.1 in
+    let read : (k : ℕ) → is_read_only k ≡ true → k ≡ n → P n =
+    λ k only e. absurd (true≢false (sym (ap is_read_only (sym e) ∙ only) ∙ written)) in
+    listed P 0x300 n _ both.0 (λ e. subst P e mstatus) (λ others.
+    listed P 0x301 n _ others (λ e. subst P e misa) (λ others.
+    listed P 0x304 n _ others (λ e. subst P e mie) (λ others.
+    listed P 0x305 n _ others (λ e. subst P e mtvec) (λ others.
+    listed P 0x340 n _ others (λ e. subst P e mscratch) (λ others.
+    listed P 0x341 n _ others (λ e. subst P e mepc) (λ others.
+    listed P 0x342 n _ others (λ e. subst P e mcause) (λ others.
+    listed P 0x343 n _ others (λ e. subst P e mtval) (λ others.
+    listed P 0x344 n _ others (λ e. subst P e mip) (λ others.
+    listed P 0xb00 n _ others (λ e. subst P e mcycle) (λ others.
+    listed P 0xb02 n _ others (λ e. subst P e minstret) (λ others.
+    listed P 0xf11 n _ others (λ e. read 0xf11 refl e) (λ others.
+    listed P 0xf12 n _ others (λ e. read 0xf12 refl e) (λ others.
+    listed P 0xf13 n _ others (λ e. read 0xf13 refl e) (λ others.
+    listed P 0xf14 n _ others (λ e. read 0xf14 refl e) (λ none. cc)))))))))))))))
+
+-- ---- effects
+
+special-there : (s : State) (w : SpecialWrite CapValue) → (is_scr w.number && not (eqb w.number 0)) ≡ true
+    → w.value ≡ held (applied (Special w) s) (32 + w.number)
+unfolding applied scr_written
+special-there s w is =
+    each-scr (λ n. w.value ≡ held (applied (Special (record w { number = n })) s) (32 + n)) w.number is refl refl refl refl refl
+
+module _ (s : State) (is : IsState s) where
+  jump-there : (v : CapValue) (target : ℕ) → target < 2 ^ 64 → target ≡ value_address (at_address v target)
+  jump-there v target fits = sym (value_address-at_address v target fits)
+
+  text-after : (e : Effect CapValue) → IsSoundEffect e s → Fits e s → effect_text e ≡ text_after e (applied e s)
+  unfolding effect_text applied
+  text-after (Trap fault) sound fits = refl
+  text-after Nothing sound fits = refl
+  text-after (Write w) sound fits = or-there s.registers w.rd w.value (applied (Write w) s) is.registers fits refl (codes "nothing")
+  text-after (Unseal w) sound fits = or-there s.registers w.rd w.value (applied (Unseal w) s) is.registers fits refl (codes "nothing")
+  text-after (Store w) sound fits =
+      ap (λ d. codes "store " ++ shown_size w.size ++ codes " at " ++ hex_of 16 w.address ++ codes ": " ++ d)
+      (sym (ap (hex_of (2 * bytes_of w.size)) (number-stored s.memory w.address (bytes_of w.size) w.number sound)
+      ∙ digits-of_bytes w.size w.number))
+  text-after (StoreCapability w) sound fits =
+      ap (λ v. codes "store capability at " ++ hex_of 16 w.address ++ codes ": " ++ shown_value v)
+      (sym (value-stored s.memory w.address w.value sound.0 sound.1))
+  text-after (DeviceLoad l) sound fits =
+      ap (λ k. k ++ codes " from device " ++ hex_of 16 l.address)
+      (or-there s.registers l.rd l.value (applied (DeviceLoad l) s) is.registers fits refl (codes "load"))
+  text-after (DeviceStore w) sound fits = refl
+  text-after (Jump target) sound fits = ap jump_part (jump-there s.scrs.pcc target sound.0)
+  text-after (Link l) sound fits =
+      ap (λ k. k ++ jump_part l.target) (first-there s.registers l.rd l.link (applied (Link l) s) is.registers fits refl)
+      ∙ ap (λ n. register_first l.rd (applied (Link l) s) ++ jump_part n) (jump-there s.scrs.pcc l.target sound.1.0)
+  text-after (Enter e) sound fits =
+      ap (λ k. k ++ jump_part e.target ++ codes ", " ++ value_part (codes "pcc") (at_address e.code e.target))
+      (first-there s.registers e.rd e.link (applied (Enter e) s) is.registers fits refl)
+      ∙ ap (λ n. register_first e.rd (applied (Enter e) s) ++ jump_part n ++ codes ", "
+      ++ value_part (codes "pcc") (at_address e.code e.target))
+      (jump-there e.code e.target sound.2.0)
+  text-after (Special w) sound fits =
+      ap (λ k. k ++ value_part (shown_special w.number) w.value)
+      (first-there s.registers w.rd w.old (applied (Special w) s) is.registers fits.0 refl)
+      ∙ ap (λ v. register_first w.rd (applied (Special w) s) ++ value_part (shown_special w.number) v) (special-there s w fits.1)
+  text-after (Csr w) sound fits =
+      ap (λ k. k ++ shown_csr w.number ++ codes " = " ++ hex_of 16 w.value)
+      (first-there s.registers w.rd w.old (applied (Csr w) s) is.registers fits.0 refl)
+  text-after (Return sealed) sound fits = ap return_part fits
+
+  -- ---- control and status registers
+
+  mtvec-kept : (n : ℕ) → mtvec_of (mtvec_of n) ≡ mtvec_of n
+  unfolding mtvec_of
+  mtvec-kept n =
+      elim (is_vectored n) as (λ b. is_vectored n ≡ b → mtvec_of (cond b n (n / 4 * 4)) ≡ cond b n (n / 4 * 4)) [
+        | true ↦ λ e. rw e refl
+        | false ↦ λ e. rw (ne_eqb (n / 4 * 4 % 4) 1 (λ is. omega arith)) (omega arith)
+      ] refl
+
+  mtvec-below : (n : ℕ) → n < 2 ^ 64 → mtvec_of n < 2 ^ 64
+  unfolding mtvec_of
+  mtvec-below n fits = cond_both (is_vectored n) n (n / 4 * 4) (λ m. m < 2 ^ 64) (λ _. fits) (λ _. omega arith)
+
+  csr-kept : (w : CsrWrite CapValue) → w.value < 2 ^ 64 → (is_csr w.number && not (is_read_only w.number)) ≡ true
+      → csr_value (applied (Csr w) s).csrs (applied (Csr w) s).scrs (interrupts_of (applied (Csr w) s).devices) w.number
+      ≡ Some (kept w.number w.value s)
+  unfolding applied csr_value csrs_written views_written
+  csr-kept w fits is =
+      let view : value_address (at_address s.scrs.mtcc (mtvec_of w.value)) ≡ mtvec_of w.value =
+      value_address-at_address s.scrs.mtcc (mtvec_of w.value) (mtvec-below w.value fits) in
+      let low : value_address (at_address s.scrs.mepcc (w.value / 4 * 4)) ≡ w.value / 4 * 4 =
+      value_address-at_address s.scrs.mepcc (w.value / 4 * 4) (omega arith) in
+      each-csr (λ n. csr_value (applied (Csr (record w { number = n })) s).csrs (applied (Csr (record w { number = n })) s).scrs
+      (interrupts_of (applied (Csr (record w { number = n })) s).devices) n
+      ≡ Some (kept n w.value s)) w.number is
+      refl
+      refl
+      refl
+      (ap Some (ap mtvec_of view ∙ mtvec-kept w.value))
+      refl
+      (ap Some (ap (λ n. n / 4 * 4) low ∙ omega arith))
+      refl
+      refl
+      refl
+      refl
+      refl
+
+-- ---- the laws
+
+word-line : (address word text : List ℕ)
+    → address ++ codes " " ++ word ++ codes " " ++ text ++ codes "\n" ≡ address ++ codes " " ++ (word ++ codes " " ++ text) ++ codes "\n"
+word-line address word text =
+    ap (λ k. k ++ codes "\n")
+    (ap (λ k. k ++ text) (append_assoc (address ++ codes " ") word (codes " "))
+    ∙ append_assoc (address ++ codes " ") (word ++ codes " ") text)
+
+stepped-applied : (s : State) → s.devices.halted ≡ None → stepped s ≡ applied (step_effect s) s
+unfolding stepped
+stepped-applied s running = ap (λ halted. stepped_unless halted s) running
+
+effect-after : (s : State) → IsState s → s.devices.halted ≡ None → effect_text (step_effect s) ≡ text_after (step_effect s) (stepped s)
+effect-after s is running =
+    text-after s is (step_effect s) (step_effect-sound s is) (step-fits s)
+    ∙ ap (text_after (step_effect s)) (sym (stepped-applied s running))
+
+pub shows-the_state_after : ShowsTheStateAfter
+unfolding why_text
+shows-the_state_after s is running =
+    let same = effect-after s is running in (
+      λ number.
+          ap (λ text. decimal number ++ codes " " ++ hex_of 16 (pc_of s) ++ codes " " ++ step_word s ++ codes ": " ++ text ++ codes "\n")
+          same,
+      ap (λ halted. why_unless halted s) running
+          ∙ ap (λ text. instruction_text s ++ stages_text s ++ codes "effect: " ++ text ++ codes "\n") same,
+    )
+
+pub shows-the_word : ShowsTheWord
+unfolding instruction_text step_word
+shows-the_word s = (
+  λ inside. rw inside (word-line (hex_of 16 (pc_of s)) (hex_of 8 (word_here s)) (shown_word (value_flag s.scrs.pcc) (word_here s))),
+  λ instruction fetched. rw instruction (ap (λ f. word_part (value_flag s.scrs.pcc) (word_unless f s)) fetched),
+)
+
+-- a step's effect that is this one
+module _ (s : State) (e : Effect CapValue) (is : step_effect s ≡ e) (running : s.devices.halted ≡ None) where
+  pub stepped-by : stepped s ≡ applied e s
+  stepped-by = stepped-applied s running ∙ ap (λ e. applied e s) is
+
+pub csrs-keep_what_is_shown : CsrsKeepWhatIsShown
+csrs-keep_what_is_shown s is running w effect =
+    ap (λ t. csr_value t.csrs t.scrs (interrupts_of t.devices) w.number) (stepped-by s (Csr w) effect running)
+    ∙ csr-kept s is w (subst (λ e. IsSoundEffect e s) effect (step_effect-sound s is)).1 (subst (λ e. Fits e s) effect (step-fits s)).1
+
+pub devices-are_given_what_is_shown : DevicesAreGivenWhatIsShown
+unfolding applied step_sent sent_by
+devices-are_given_what_is_shown s running w effect = (
+  ap (λ t. t.devices) (stepped-by s (DeviceStore w) effect running),
+  ap (λ halted. step_sent_unless halted s) running ∙ ap sent_by effect,
+)
