@@ -3,7 +3,7 @@
 
     python3 tools/compiled.py [PROGRAM]
 
-Without the compiler it says so, and ends with 0.
+Without the compiler it says so, and tries those from the section on that needs none.
 """
 import shutil
 import sys
@@ -11,6 +11,9 @@ import sys
 from tried import PROGRAM, commands, tried
 
 PAGE = "docs/COMPILED.md"
+
+# From this section on no compiler is needed.
+WITHOUT = "## Many runs"
 
 # The compiler, and Debian's package that has it.
 COMPILER, PACKAGE = "riscv64-unknown-elf-gcc", "gcc-riscv64-unknown-elf"
@@ -21,9 +24,9 @@ def main():
         print(f"{PAGE} has no command that begins with {COMPILER}")
         return 1
     if not shutil.which(COMPILER):
-        print(f"{PAGE} isn't tried: it needs {COMPILER}, of Debian's package {PACKAGE}")
-        return 0
-    return 0 if tried(PAGE, sys.argv[1] if len(sys.argv) > 1 else PROGRAM) else 1
+        print(f"{PAGE}: what needs {COMPILER}, of Debian's package {PACKAGE}, isn't tried")
+    section = None if shutil.which(COMPILER) else WITHOUT
+    return 0 if tried(PAGE, sys.argv[1] if len(sys.argv) > 1 else PROGRAM, section) else 1
 
 
 if __name__ == "__main__":

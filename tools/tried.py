@@ -79,9 +79,16 @@ def furnished(room, program):
     os.chmod(name, 0o755)
 
 
-def tried(page, program):
-    """Tries a page's commands, says what is wrong, and answers whether nothing is."""
-    listed = commands(page)
+def section_line(page, title):
+    """The line at which a section of a page begins."""
+    with open(os.path.join(TOP, page), encoding="utf-8") as file:
+        return file.read().split("\n").index(title) + 1
+
+
+def tried(page, program, section=None):
+    """Tries a page's commands, or those from a section on; says what is wrong, and answers whether nothing is."""
+    first = section_line(page, section) if section else 0
+    listed = [command for command in commands(page) if command.line > first]
     with tempfile.TemporaryDirectory(prefix="tried-") as room:
         furnished(room, program)
         for command in listed:
