@@ -272,13 +272,13 @@ fn escaped(byte: u8) -> u8
 fn push_text(bytes: &mut Vec<u8>, between: &[u8]) -> Result<(), AllocError>
     ensures { OnOk result (bytes.new.items ≡ bytes.old.items ++ text_bytes between.now) }
 {
-    let mut escaped = false;
+    let mut is_escaped = false;
     for byte in between {
-        if escaped {
+        if is_escaped {
             bytes.push(escaped(*byte))?;
-            escaped = false;
+            is_escaped = false;
         } else if *byte == b'\\' {
-            escaped = true;
+            is_escaped = true;
         } else {
             bytes.push(*byte)?;
         }

@@ -17,12 +17,12 @@ fn text_length(between: &[u8]) -> u128
     ensures bound { result ≤ length between.now }
 {
     let mut count = 0;
-    let mut escaped = false;
+    let mut is_escaped = false;
     for byte in between {
-        if *byte == b'\\' && !escaped {
-            escaped = true;
+        if *byte == b'\\' && !is_escaped {
+            is_escaped = true;
         } else {
-            escaped = false;
+            is_escaped = false;
             count += 1;
         }
     }

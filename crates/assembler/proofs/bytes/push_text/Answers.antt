@@ -7,5 +7,5 @@ pub returns : goal.returns
 returns c =
     let at = c.loop-byte in
     sym (append-nil at.bytes.items)
-    ∙ ap (λ r. at.bytes.items ++ text_bytes_from at.escaped r) (sym (drop_all at.byte-index c.args.between.now c.loop-byte-test.false))
+    ∙ ap (λ r. at.bytes.items ++ text_bytes_from at.is_escaped r) (sym (drop_all at.byte-index c.args.between.now c.loop-byte-test.false))
     ∙ at.invariant

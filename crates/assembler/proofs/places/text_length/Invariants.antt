@@ -4,6 +4,6 @@ use Rattle.assembler.proofs.places.text_length.Given as goal
 
 abbrev pub invariant-loop-byte : goal.invariant-loop-byte
 invariant-loop-byte l = record {
-  value : l.count + length (text_bytes_from l.escaped (drop l.byte-index l.between)) ≡ length (text_bytes l.between);
+  value : l.count + length (text_bytes_from l.is_escaped (drop l.byte-index l.between)) ≡ length (text_bytes l.between);
   bound : l.count ≤ l.byte-index;
 }
