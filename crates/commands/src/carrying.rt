@@ -70,7 +70,10 @@ fn carry_out<'a, F: Folder, I: Read + Drop, O: Write + Drop>(
     requires { IsSound plan }
 {
     match plan {
-        Plan::First => Ok(Done::Run(run_first(alloc, output)?, false)),
+        Plan::First => {
+            let (ended, _output) = run_first(alloc, output)?;
+            Ok(Done::Run(ended, false))
+        }
         Plan::Run {
             image,
             steps,
@@ -81,7 +84,7 @@ fn carry_out<'a, F: Folder, I: Read + Drop, O: Write + Drop>(
             trace,
         } => {
             let schedule = schedule_of(steps, gap, tick);
-            let ended = run_file(alloc, folder, image, schedule, input, trace, output)?;
+            let (ended, _output) = run_file(alloc, folder, image, schedule, input, trace, output)?;
             Ok(Done::Run(ended, quiet))
         }
         Plan::Asm {
@@ -101,7 +104,7 @@ fn carry_out<'a, F: Folder, I: Read + Drop, O: Write + Drop>(
             Ok(Done::All)
         }
         Plan::Dis { image, symbols } => {
-            list_file(alloc, folder, image, symbols, output)?;
+            let _output = list_file(alloc, folder, image, symbols, output)?;
             Ok(Done::All)
         }
         Plan::Debug { image, symbols } => {

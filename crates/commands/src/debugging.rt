@@ -14,7 +14,7 @@ use symbols::Symbols;
 /// `output`.
 pub fn debug_file<'a, F: Folder, I: Read + Drop, O: Write + Drop>(
     alloc: Global,
-    folder: &mut F,
+    folder: &F,
     name: &'a str,
     symbols: Option<&'a str>,
     input: I,

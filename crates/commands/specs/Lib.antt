@@ -1,0 +1,6 @@
+-- What to read
+pub mod Files
+pub mod Assembling
+pub mod Imaging
+pub mod Listing
+pub mod Running
