@@ -4,3 +4,4 @@ pub mod Assembling
 pub mod Imaging
 pub mod Listing
 pub mod Running
+pub mod Carrying
