@@ -1,7 +1,6 @@
 -- A file that is made, written and closed is a whole file.
-use Rattle.std.specs.Prelude.{◌≡◌, ℕ, List, [], ◌∷◌, ◌++◌, Option, Some, None, ⊤, refl}
-use Rattle.std.proofs.Common.{rules, ◌∙◌, ap, append_assoc}
-use Rattle.std.proofs.lemmas.Grind.{common_steps}
+use Rattle.std.specs.Prelude.{◌≡◌, ℕ, List, [], ◌∷◌, ◌++◌, Option, Some, None, refl}
+use Rattle.std.proofs.Common.{◌∙◌, ap, append_assoc}
 use Rattle.std.specs.Io.KnownBytes.{Appends}
 use Rattle.std.specs.declared.vec.Vec.{Vec}
 use Rattle.assembler.specs.Labels as text
@@ -23,6 +22,7 @@ gains_whole (Some files) made new name bytes empty held first is_new more last =
     (rw (first, full) at last) ∙ ap Some (append_assoc files (begun name ∷ []) (ended name (Some bytes) ∷ []))
 
 -- labels as a map of names holds them, as a table has them
-pub seen_labels-entries : {A : Type 0} → (entries : List (Vec ℕ A × ℕ)) → table.seen_entries entries ≡ seen_labels (text.seen_entries entries)
+pub seen_labels-entries : {A : Type 0} → (entries : List (Vec ℕ A × ℕ))
+    → table.seen_entries entries ≡ seen_labels (text.seen_entries entries)
 seen_labels-entries [] = refl
 seen_labels-entries (e ∷ es) = ap (λ symbols. table.seen_entry e ∷ symbols) (seen_labels-entries es)

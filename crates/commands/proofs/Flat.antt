@@ -1,8 +1,9 @@
 -- The image of a flat file: numbers that a header can't hold, and bytes past those that RAM has room for, change no fault.
-use Rattle.std.specs.Prelude.{◌≡◌, ℕ, ◌+◌, ◌-◌, ◌*◌, ◌^◌, ◌<◌, ◌≤◌, min, max, ◌/◌, nat_le, Bool, true, false, ◌&&◌, if◌then◌else◌, List, [], ◌∷◌, length, take, Option, Some, None, Result, Ok, Err, refl, IfSome, IfErr, ◌⊎◌}
-use Rattle.std.proofs.Common.{rules, sym, ◌∙◌, ap, arith, inl, inr}
-use Rattle.std.proofs.Math.Nat.{min-eq_left, min-le_left, min-le_right}
-use Rattle.std.proofs.lemmas.Bool.{cases_Bool, cases_lt, and_parts, and_left, and_right, leb-true, le-leb, lt-leb, both_ways}
+use Rattle.std.specs.Prelude.{◌≡◌, ℕ, ◌+◌, ◌-◌, ◌*◌, ◌^◌, ◌<◌, ◌≤◌, min, nat_le, true, false, ◌&&◌, List, [], length, take, Option, Some}
+use Rattle.std.specs.Prelude.{None, Result, Ok, Err, refl, IfSome, IfErr, ◌⊎◌}
+use Rattle.std.proofs.Common.{sym, ◌∙◌, arith, inl, inr}
+use Rattle.std.proofs.Math.Nat.{min-eq_left}
+use Rattle.std.proofs.lemmas.Bool.{cases_Bool, cases_lt, and_left, and_right, lt-leb}
 use Rattle.std.proofs.lemmas.List.{take_all, length-take-le}
 use Rattle.base.specs.Ram.{ram_base, ram_end, page_bytes, most_pages, most_pages_version_1}
 use Rattle.image.specs.declared.cap_entry.CapEntry.{CapEntry}

@@ -1,11 +1,12 @@
 -- Bytes behind those that a schedule has room for change nothing of a run.
-use Rattle.std.specs.Prelude.{◌≡◌, ◌≤◌, ◌<◌, ℕ, zero, suc, ◌+◌, ◌-◌, ◌*◌, ◌/◌, ◌%◌, ◌==◌, Bool, true, false, List, [], ◌∷◌, take, slice_get, Option, None, Some, IfSome, refl, if◌then◌else◌}
+use Rattle.std.specs.Prelude.{◌≡◌, ◌≤◌, ◌<◌, ℕ, zero, suc, ◌+◌, ◌-◌, ◌*◌, ◌/◌, List, [], ◌∷◌, take, slice_get, Option, None, Some, IfSome}
+use Rattle.std.specs.Prelude.{refl}
 use Rattle.std.proofs.Common.{arith, ap, inl, inr}
 use Rattle.std.proofs.lemmas.Bool.{cases_lt}
 use Rattle.std.proofs.Math.Nat.{div-mul-le_self}
 use Rattle.hart.specs.State.{State}
 use Rattle.sim_run.specs.declared.schedule.Schedule.{Schedule}
-use Rattle.sim_run.specs.Schedule.{byte_before, is_tick_after, around, first_steps, scheduled, up_to_halt}
+use Rattle.sim_run.specs.Schedule.{byte_before, first_steps, scheduled, up_to_halt}
 
 pub slice_get-take : (m : ℕ) (xs : List ℕ) (i : ℕ) → i < m → slice_get (take m xs) i ≡ slice_get xs i
 slice_get-take zero xs i below = absurd (omega (arith, below))

@@ -1,10 +1,9 @@
 -- The status of a command line that was carried out, and what then holds of its files.
-use Rattle.std.specs.Prelude.{◌≡◌, ◌≤◌, ⊤, ℕ, List, Option, Some, None, IfSome, Bool, false, bytes_eq, codes, [], ◌∷◌}
+use Rattle.std.specs.Prelude.{◌≡◌, ◌≤◌, ℕ, List, Option, IfSome, Bool, false, bytes_eq, codes, [], ◌∷◌}
 use Rattle.command_line.specs.declared.plans.Plan.{Plan}
 use Rattle.command_line.specs.declared.plans.Plan.TheVariants.{Asm, Image, Run, Dis, Debug, Bounds, First}
 use Rattle.clap.specs.Words.{subcommand_of}
 use Rattle.command_line.specs.CommandLine.{IsPlanOf, IsSound, IsTaken, NoPlanFits, program}
-use Rattle.sim_run.specs.declared.schedule.Schedule.{Schedule}
 use Rattle.sim_run.specs.Verdict.{status_of}
 use Rattle.commands.specs.declared.carrying.Done.{Done}
 use Rattle.commands.specs.declared.carrying.Done.TheVariants as done

@@ -1,25 +1,25 @@
--- The files of a folder: what became of them, as far as it is known.
-use Rattle.std.specs.Prelude.{◌≡◌, ℕ, List, [], ◌∷◌, ◌++◌, bytes_eq, if◌then◌else◌, Option, Some, None, ⊤, IfSome, option_and_then}
+-- The files of a folder: what became of them, in order.
+use Rattle.std.specs.Prelude.{◌≡◌, ℕ, List, [], ◌∷◌, ◌++◌, bytes_eq, if◌then◌else◌, Option, Some, None, ⊤}
 use Rattle.commands.specs.declared.fault.ProgramFault.{ProgramFault}
 use Rattle.commands.specs.declared.fault.ProgramFault.TheVariants.{NoFile, Directory, Read, Write, CutShort, Memory}
 
 abbrev pub Text : Type 0
 Text = List ℕ
 
--- a name, and what the file of that name holds; nothing is known of one that is being written
+-- a name, and what the file of that name holds; of one that is being written that is not known
 abbrev pub File : Type 0
 File = Text × Option (List ℕ)
 
 -- a file that is made new, or emptied, to be written
-abbrev pub begun : List ℕ → File
+abbrev pub begun : Text → File
 begun name = (name, None)
 
--- a file that is written to its end
-abbrev pub ended : List ℕ → Option (List ℕ) → File
+-- a file that is closed, and what it holds
+abbrev pub ended : Text → Option (List ℕ) → File
 ended name bytes = (name, bytes)
 
--- a whole file: it is made, and at its end holds these bytes
-abbrev pub whole : List ℕ → List ℕ → List File
+-- a whole file: it is made, and holds these bytes when it is closed
+abbrev pub whole : Text → List ℕ → List File
 whole name bytes = begun name ∷ ended name (Some bytes) ∷ []
 
 -- Known files get these, in this order.
@@ -33,11 +33,11 @@ IsNew None held = ⊤
 IsNew (Some files) held = held ≡ Some []
 
 -- what the file of a name holds: of several entries the last counts
-abbrev pub last_of : List ℕ → List File → Option (List ℕ) → Option (List ℕ)
+abbrev pub last_of : Text → List File → Option (List ℕ) → Option (List ℕ)
 last_of name [] found = found
 last_of name (file ∷ files) found = last_of name files (if bytes_eq file.0 name then file.1 else found)
 
-abbrev pub bytes_of : List ℕ → Option (List File) → Option (List ℕ)
+abbrev pub bytes_of : Text → Option (List File) → Option (List ℕ)
 bytes_of name None = None
 bytes_of name (Some files) = last_of name files None
 

@@ -4,4 +4,5 @@ pub mod Assembling
 pub mod Imaging
 pub mod Listing
 pub mod Running
+pub mod Debugging
 pub mod Carrying

@@ -1,6 +1,6 @@
 //! The command `asm`.
 
-ghost use Rattle.std.specs.Prelude.{◌≡◌, ◌++◌, IfErr, IfSome, OnOk, map};
+ghost use Rattle.std.specs.Prelude.{◌≡◌, ◌++◌, IfErr, IfSome, OnOk};
 ghost use Rattle.image.specs.Grammar.{spelling};
 ghost use Rattle.symbols.specs.Symbols.{table_text};
 ghost use Rattle.commands.specs.Assembling.{Assembles, IsAsmFault, IsTextFault, seen_labels, table_file};

@@ -118,7 +118,7 @@ fn carry_out<'a, F: Folder, I: Read + Drop, O: Write + Drop>(
             Ok(Done::All)
         }
         Plan::Debug { image, symbols } => {
-            debug_file(alloc, folder, image, symbols, input, output)?;
+            let _output = debug_file(alloc, folder, image, symbols, input, output)?;
             Ok(Done::All)
         }
         Plan::Bounds {
@@ -126,7 +126,7 @@ fn carry_out<'a, F: Folder, I: Read + Drop, O: Write + Drop>(
             length,
             address,
         } => {
-            show_bounds(base, length, address, output)?;
+            let _output = show_bounds(base, length, address, output)?;
             Ok(Done::All)
         }
     }

@@ -1,6 +1,6 @@
 //! What the program reads from files and writes to them.
 
-ghost use Rattle.std.specs.Prelude.{◌≡◌, List, ℕ, [], ◌∷◌, Option, None, Some, IfOk, IfErr, OnOk, IfSome, take};
+ghost use Rattle.std.specs.Prelude.{◌≡◌, List, [], ◌∷◌, Option, None, IfOk, IfErr, OnOk, IfSome, take};
 ghost use Rattle.image.specs.Grammar.{spelling, reading};
 ghost use Rattle.symbols.specs.Symbols.{faulty_line, symbols_of};
 ghost use Rattle.commands.specs.Files.{File, begun, ended, whole, Gains, IsNew, IsOfSystem, bytes_of};
@@ -21,19 +21,20 @@ pub trait Folder {
     /// A file that is written.
     type Made: Write + Drop;
 
-    // What became of the files, in order, where that is known.
+    // What became of the files, in order, where that is known: each that was made, and then what it held when it was closed.
     ghost files: { Self → Option (List File) } = { λ _. None };
 
     /// Opens the file of this name for reading; of a directory it answers `IsADirectory`.
     fn open(&self, name: &str) -> io::Result<Self::Opened>
-        ensures { IfOk result (λ file. IfSome (bytes_of name.now (files self.now)) (λ bytes. Self.Opened.remaining file ≡ Some bytes)) };
+        ensures { IfOk result (λ file. IfSome (bytes_of name.now (files self.now))
+            (λ bytes. Self.Opened.remaining file ≡ Some bytes)) };
 
     /// Makes a file of this name, or empties the one that there is.
     fn make(&mut self, name: &str) -> io::Result<Self::Made>
         ensures files { OnOk result (Gains (files self.old) (files self.new) (begun name.now ∷ [])) }
         ensures empty { IfOk result (λ file. IsNew (files self.old) (Self.Made.contents file)) };
 
-    /// Closes a file that was made by this name, and is written to its end.
+    /// Closes a file that was made by this name and is written to its end.
     fn close(&mut self, name: &str, file: Self::Made)
         ensures { Gains (files self.old) (files self.new) (ended name.now (Self.Made.contents file) ∷ []) };
 }
@@ -56,7 +57,8 @@ fn read_rest<'a, R: Read + Drop>(
 
 /// A file that is opened for reading.
 fn open_file<'a, F: Folder>(folder: &F, name: &'a str) -> Result<F::Opened, ProgramFault<'a>>
-    ensures ok { IfOk result (λ file. IfSome (bytes_of name.entry.now (F.files folder.now)) (λ bytes. F.Opened.remaining file ≡ Some bytes)) }
+    ensures ok { IfOk result (λ file. IfSome (bytes_of name.entry.now (F.files folder.now))
+        (λ bytes. F.Opened.remaining file ≡ Some bytes)) }
     ensures err { IfErr result IsOfSystem }
 {
     folder

@@ -1,11 +1,10 @@
 //! The command `image`.
 
-ghost use Rattle.std.specs.Prelude.{◌≡◌, ◌≤◌, ◌+◌, ◌-◌, ◌*◌, ◌<◌, ◌^◌, [], ◌∷◌, length, take, min, Option, Some, None, IfOk, IfErr, OnOk, OnErr, IfSome};
-ghost use Rattle.std.specs.Option.{option_copied};
-ghost use Rattle.image.specs.Grammar.{spelling};
-ghost use Rattle.image.specs.Image.{Builds, build_fault, image_of as made_of};
-ghost use Rattle.commands.specs.Files.{whole, Gains, bytes_of};
-ghost use Rattle.commands.specs.Imaging.{fewest_pages, most_read, header_number, flat_image, flat_fault, fault_for, image_for as image_for_layout, IsFlatFault, MakesImage};
+ghost use Rattle.std.specs.Prelude.{◌≡◌, IfErr, OnOk, IfSome};
+ghost use Rattle.image.specs.Image.{Builds};
+ghost use Rattle.commands.specs.Files.{bytes_of};
+ghost use Rattle.commands.specs.Imaging.{fault_for, fewest_pages, flat_fault, flat_image, header_number, image_for as image_for_layout};
+ghost use Rattle.commands.specs.Imaging.{most_read, IsFlatFault, MakesImage};
 
 use crate::fault::ProgramFault;
 use crate::files::{Folder, read_beginning, write_image};

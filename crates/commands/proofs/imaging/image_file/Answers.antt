@@ -7,7 +7,8 @@ returns-in-Ok-clause-ok g c =
     let part = rw c.most_bytes.ensures at c.in_ok-bytes.ensures.ok in
     let builds = rw c.deref.ensures.value at c.in-Ok.ensures in
     on_ok_weaker c.write_image.result
-    (λ gains. written_whole c.args.layout c.args.output.now c.in_ok-bytes.bytes.items _ c.in-Ok.image _ _ part builds gains) c.write_image.ensures.ok
+    (λ gains. written_whole c.args.layout c.args.output.now c.in_ok-bytes.bytes.items _ c.in-Ok.image _ _ part builds gains)
+    c.write_image.ensures.ok
 
 pub returns-clause-err : goal.returns-clause-err
 returns-clause-err g c =

@@ -1,6 +1,5 @@
-use Rattle.std.proofs.Common.{refl, arith, [], ◌+◌, ◌≤◌, ◌<◌, ◌≡◌, ◌^◌, ◌-◌, false, true}
-use Rattle.std.specs.Prelude.{nat_le, min}
-use Rattle.base.specs.Ram.{most_pages_version_1}
+use Rattle.std.proofs.Common.{refl, arith, [], ◌≤◌, ◌<◌, ◌≡◌, ◌^◌, ◌-◌, false, true}
+use Rattle.std.specs.Prelude.{nat_le}
 use Rattle.std.proofs.Math.Nat.{min-le_left}
 use Rattle.std.proofs.lemmas.Bool.{lt-leb, le-leb}
 use Rattle.commands.specs.Imaging.{flat_sections, header_number}
