@@ -4,7 +4,7 @@ use commands::Folder;
 use std::fs::{self, File};
 use std::io;
 
-/// The files of the host, by their paths.
+/// The files of the host, by their paths. What they hold is known to no clause.
 #[derive(Clone, Copy)]
 pub struct Disk<'a> {
     rt: &'a HostRuntime,
@@ -22,7 +22,7 @@ impl Folder for Disk<'_> {
 
     type Made = File;
 
-    fn open(&mut self, name: &str) -> io::Result<File> {
+    fn open(&self, name: &str) -> io::Result<File> {
         // The system opens a directory, and refuses to read it.
         if fs::metadata(self.rt, name)?.is_dir() {
             return Err(io::Error::from(io::ErrorKind::IsADirectory));
@@ -32,5 +32,9 @@ impl Folder for Disk<'_> {
 
     fn make(&mut self, name: &str) -> io::Result<File> {
         File::create(self.rt, name)
+    }
+
+    fn close(&mut self, _name: &str, file: File) {
+        drop(file);
     }
 }

@@ -1,7 +1,10 @@
 //! A command line carried out, and the status that it ends with.
 
 ghost use Rattle.command_line.specs.CommandLine.{AreInRange, IsSound};
+ghost use Rattle.std.specs.Prelude.{◌≡◌, ◌≤◌, ◌⊎◌, false, true, map, IfOk};
 ghost use Rattle.sim_run.specs.Schedule.{IsInRange};
+ghost use Rattle.sim_run.specs.Verdict.{status_of as status_of_run};
+ghost use Rattle.commands.specs.Carrying.{HasStatus, IsCarriedOut, IsRefused, asks_version, status_of_done};
 
 use crate::assembling::assemble_file;
 use crate::bounding::show_bounds;
@@ -36,7 +39,9 @@ enum Done {
 }
 
 /// Tells how a run ended, and where unless it is to be quiet; and answers the status.
-fn tell_end<E: Write>(errors: &mut E, ended: &Ended, quiet: bool) -> u8 {
+fn tell_end<E: Write>(errors: &mut E, ended: &Ended, quiet: bool) -> u8
+    ensures { result ≡ status_of_run ended.now.end }
+{
     let (status, line) = verdict(ended.end);
     if status != 0 && writeln!(errors, "{line}").is_ok() && !quiet {
         let place = ended.place;
@@ -46,7 +51,9 @@ fn tell_end<E: Write>(errors: &mut E, ended: &Ended, quiet: bool) -> u8 {
 }
 
 /// Tells a fault, and answers the status.
-pub fn tell_fault<E: Write>(errors: &mut E, fault: &ProgramFault<'_>) -> u8 {
+pub fn tell_fault<E: Write>(errors: &mut E, fault: &ProgramFault<'_>) -> u8
+    ensures { result ≡ 3 }
+{
     let _ = writeln!(errors, "cherisim: {fault}");
     FAULT
 }
@@ -54,7 +61,8 @@ pub fn tell_fault<E: Write>(errors: &mut E, fault: &ProgramFault<'_>) -> u8 {
 /// The schedule of a run, whose numbers lie in their ranges.
 fn schedule_of(steps: u64, gap: u64, tick: u64) -> Schedule
     requires { AreInRange steps gap tick }
-    ensures { IsInRange result }
+    ensures range { IsInRange result }
+    ensures value { result ≡ record { steps = steps; gap = gap; tick = tick } }
 {
     Schedule { steps, gap, tick }
 }
@@ -68,9 +76,14 @@ fn carry_out<'a, F: Folder, I: Read + Drop, O: Write + Drop>(
     plan: Plan<'a>,
 ) -> Result<Done, ProgramFault<'a>>
     requires { IsSound plan }
+    ensures { IfOk result (λ done. HasStatus plan.entry (O.contents output) (F.files folder.old) (F.files folder.new)
+        (status_of_done done)) }
 {
     match plan {
-        Plan::First => Ok(Done::Run(run_first(alloc, output)?, false)),
+        Plan::First => {
+            let (ended, _output) = run_first(alloc, output)?;
+            Ok(Done::Run(ended, false))
+        }
         Plan::Run {
             image,
             steps,
@@ -81,7 +94,7 @@ fn carry_out<'a, F: Folder, I: Read + Drop, O: Write + Drop>(
             trace,
         } => {
             let schedule = schedule_of(steps, gap, tick);
-            let ended = run_file(alloc, folder, image, schedule, input, trace, output)?;
+            let (ended, _output) = run_file(alloc, folder, image, schedule, input, trace, output)?;
             Ok(Done::Run(ended, quiet))
         }
         Plan::Asm {
@@ -101,11 +114,11 @@ fn carry_out<'a, F: Folder, I: Read + Drop, O: Write + Drop>(
             Ok(Done::All)
         }
         Plan::Dis { image, symbols } => {
-            list_file(alloc, folder, image, symbols, output)?;
+            let _output = list_file(alloc, folder, image, symbols, output)?;
             Ok(Done::All)
         }
         Plan::Debug { image, symbols } => {
-            debug_file(alloc, folder, image, symbols, input, output)?;
+            let _output = debug_file(alloc, folder, image, symbols, input, output)?;
             Ok(Done::All)
         }
         Plan::Bounds {
@@ -113,19 +126,43 @@ fn carry_out<'a, F: Folder, I: Read + Drop, O: Write + Drop>(
             length,
             address,
         } => {
-            show_bounds(base, length, address, output)?;
+            let _output = show_bounds(base, length, address, output)?;
             Ok(Done::All)
         }
     }
 }
 
+/// Does what the plan says, and answers the status.
+fn carry<'a, F: Folder, I: Read + Drop, O: Write + Drop, E: Write>(
+    alloc: Global,
+    folder: &mut F,
+    input: I,
+    output: O,
+    errors: &mut E,
+    plan: Plan<'a>,
+) -> u8
+    requires { IsSound plan }
+    ensures done { result ≤ 1 → HasStatus plan.entry (O.contents output) (F.files folder.old) (F.files folder.new) result }
+    ensures otherwise { (result ≤ 1) ⊎ (result ≡ 3) }
+{
+    match carry_out(alloc, folder, input, output, plan) {
+        Ok(Done::All) => 0,
+        Ok(Done::Run(ended, quiet)) => tell_end(errors, &ended, quiet),
+        Err(fault) => tell_fault(errors, &fault),
+    }
+}
+
 /// Whether the words ask for the version alone.
-fn asks_version(words: &[&str]) -> bool {
+fn asks_version(words: &[&str]) -> bool
+    ensures { result ≡ asks_version (map (λ word. word.now) words.entry.now) }
+{
     words.len() == 2 && words[1] == "--version"
 }
 
 /// Writes a text that was asked for, and answers this status where it could be written.
-fn show<O: Write + Drop, E: Write>(mut output: O, errors: &mut E, text: &str, status: u8) -> u8 {
+fn show<O: Write + Drop, E: Write>(mut output: O, errors: &mut E, text: &str, status: u8) -> u8
+    ensures { (result ≡ status) ⊎ (result ≡ 3) }
+{
     match output.write_all(text.as_bytes()) {
         Ok(()) => status,
         Err(_) => tell_fault(errors, &ProgramFault::Write(DeviceFailed)),
@@ -133,9 +170,23 @@ fn show<O: Write + Drop, E: Write>(mut output: O, errors: &mut E, text: &str, st
 }
 
 /// Tells why a command line is refused, and answers the status.
-pub fn refuse<E: Write>(errors: &mut E, text: &str) -> u8 {
+pub fn refuse<E: Write>(errors: &mut E, text: &str) -> u8
+    ensures { result ≡ 2 }
+{
     let _ = errors.write_all(text.as_bytes());
     REFUSED
+}
+
+/// Tells why the words are no plan, or gives the help that they ask for, and answers the status.
+fn tell_no_plan<O: Write + Drop, E: Write>(output: O, errors: &mut E, fault: PlanFault) -> u8
+    ensures memory { fault ≡ PlanFault.Memory → result ≡ 3 }
+    ensures otherwise { (result ≡ 2) ⊎ (result ≡ 3) }
+{
+    match fault {
+        PlanFault::Memory => tell_fault(errors, &ProgramFault::Memory),
+        PlanFault::Help(text) => show(output, errors, &text, REFUSED),
+        PlanFault::Refused(text) => refuse(errors, &text),
+    }
 }
 
 /// Reads the words of a command line, the program's name first, and does what they ask: with files in `folder`, what is typed
@@ -150,19 +201,20 @@ pub fn status_of<F: Folder, I: Read + Drop, O: Write + Drop, E: Write>(
     output: O,
     errors: &mut E,
     words: &[&str],
-) -> u8 {
+) -> u8
+    ensures version { asks_version (map (λ word. word.now) words.entry.now) ≡ true → (result ≡ 0) ⊎ (result ≡ 3) }
+    // At 0 and 1 a plan that the words are was carried out wholly.
+    ensures done { asks_version (map (λ word. word.now) words.entry.now) ≡ false → result ≤ 1
+        → IsCarriedOut (map (λ word. word.now) words.entry.now) (O.contents output) (F.files folder.old) (F.files folder.new) result }
+    // At 2 clap doesn't take the words, or finds no sound plan in them.
+    ensures refused { result ≡ 2 → IsRefused (map (λ word. word.now) words.entry.now) }
+    ensures most { result ≤ 3 }
+{
     if asks_version(words) {
         return show(output, errors, VERSION, 0);
     }
-    let plan = match plan(alloc, words) {
-        Ok(plan) => plan,
-        Err(PlanFault::Memory) => return tell_fault(errors, &ProgramFault::Memory),
-        Err(PlanFault::Help(text)) => return show(output, errors, &text, REFUSED),
-        Err(PlanFault::Refused(text)) => return refuse(errors, &text),
-    };
-    match carry_out(alloc, folder, input, output, plan) {
-        Ok(Done::All) => 0,
-        Ok(Done::Run(ended, quiet)) => tell_end(errors, &ended, quiet),
-        Err(fault) => tell_fault(errors, &fault),
+    match plan(alloc, words) {
+        Ok(plan) => carry(alloc, folder, input, output, errors, plan),
+        Err(fault) => tell_no_plan(output, errors, fault),
     }
 }

@@ -1,5 +1,7 @@
 //! The faults that end the program with status 3, and their texts.
 
+ghost use Rattle.commands.specs.Files.{IsOfSystem};
+
 use assembler::{AsmCode, AsmFault};
 use debugger::TalkFault;
 use image::{DeviceFailed, ImageFault};
@@ -118,7 +120,9 @@ fn talk_text(fault: &TalkFault) -> &'static str {
 }
 
 /// The fault of a file that could not be opened or made.
-pub fn opening_fault<'a>(name: &'a str, error: &io::Error) -> ProgramFault<'a> {
+pub fn opening_fault<'a>(name: &'a str, error: &io::Error) -> ProgramFault<'a>
+    ensures { IsOfSystem result }
+{
     match error.kind() {
         ErrorKind::OutOfMemory => ProgramFault::Memory,
         ErrorKind::IsADirectory => ProgramFault::Directory(name),
@@ -127,7 +131,9 @@ pub fn opening_fault<'a>(name: &'a str, error: &io::Error) -> ProgramFault<'a> {
 }
 
 /// The fault of a file that was opened and could not be read.
-pub fn reading_fault<'a>(name: &'a str, error: &io::Error) -> ProgramFault<'a> {
+pub fn reading_fault<'a>(name: &'a str, error: &io::Error) -> ProgramFault<'a>
+    ensures { IsOfSystem result }
+{
     match error.kind() {
         ErrorKind::OutOfMemory => ProgramFault::Memory,
         reason => ProgramFault::Read(name, reason),

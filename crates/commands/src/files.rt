@@ -1,7 +1,13 @@
 //! What the program reads from files and writes to them.
 
+ghost use Rattle.std.specs.Prelude.{◌≡◌, List, [], ◌∷◌, Option, None, IfOk, IfErr, OnOk, IfSome, take};
+ghost use Rattle.image.specs.Grammar.{spelling, reading};
+ghost use Rattle.symbols.specs.Symbols.{faulty_line, symbols_of};
+ghost use Rattle.commands.specs.Files.{File, begun, ended, whole, Gains, IsNew, IsOfSystem, bytes_of};
+
 use crate::fault::{ProgramFault, opening_fault, reading_fault};
-use image::{FromRead, Image, ToWrite, write_all};
+use crate::writing::Writing;
+use image::{FromRead, Image, write_all};
 use std::alloc::Global;
 use std::io;
 use std::io::{Read, Write};
@@ -15,56 +21,84 @@ pub trait Folder {
     /// A file that is written.
     type Made: Write + Drop;
 
+    // What became of the files, in order, where that is known: each that was made, and then what it held when it was closed.
+    ghost files: { Self → Option (List File) } = { λ _. None };
+
     /// Opens the file of this name for reading; of a directory it answers `IsADirectory`.
-    fn open(&mut self, name: &str) -> io::Result<Self::Opened>;
+    fn open(&self, name: &str) -> io::Result<Self::Opened>
+        ensures { IfOk result (λ file. IfSome (bytes_of name.now (files self.now))
+            (λ bytes. Self.Opened.remaining file ≡ Some bytes)) };
 
     /// Makes a file of this name, or empties the one that there is.
-    fn make(&mut self, name: &str) -> io::Result<Self::Made>;
+    fn make(&mut self, name: &str) -> io::Result<Self::Made>
+        ensures files { OnOk result (Gains (files self.old) (files self.new) (begun name.now ∷ [])) }
+        ensures empty { IfOk result (λ file. IsNew (files self.old) (Self.Made.contents file)) };
+
+    /// Closes a file that was made by this name and is written to its end.
+    fn close(&mut self, name: &str, file: Self::Made)
+        ensures { Gains (files self.old) (files self.new) (ended name.now (Self.Made.contents file) ∷ []) };
 }
 
-/// The first `most` bytes of a file, or all that it has: no more are asked for.
-pub fn read_beginning<'a, F: Folder>(
+/// What is left of a file.
+fn read_rest<'a, R: Read + Drop>(
     alloc: Global,
-    folder: &mut F,
+    mut file: R,
     name: &'a str,
-    most: u64,
-) -> Result<Vec<u8>, ProgramFault<'a>> {
-    let file = folder
-        .open(name)
-        .map_err(|error| opening_fault(name, &error))?;
+) -> Result<Vec<u8>, ProgramFault<'a>>
+    ensures ok { IfOk result (λ read. IfSome (R.remaining file) (λ bytes. read.items ≡ bytes)) }
+    ensures err { IfErr result IsOfSystem }
+{
     let mut bytes = Vec::new(alloc);
-    match file.take(most).read_to_end(&mut bytes) {
+    match file.read_to_end(&mut bytes) {
         Ok(_) => Ok(bytes),
         Err(error) => Err(reading_fault(name, &error)),
     }
 }
 
+/// A file that is opened for reading.
+fn open_file<'a, F: Folder>(folder: &F, name: &'a str) -> Result<F::Opened, ProgramFault<'a>>
+    ensures ok { IfOk result (λ file. IfSome (bytes_of name.entry.now (F.files folder.now))
+        (λ bytes. F.Opened.remaining file ≡ Some bytes)) }
+    ensures err { IfErr result IsOfSystem }
+{
+    folder
+        .open(name)
+        .map_err(|error| opening_fault(name, &error))
+}
+
+/// The first `most` bytes of a file, or all that it has: no more are asked for.
+pub fn read_beginning<'a, F: Folder>(
+    alloc: Global,
+    folder: &F,
+    name: &'a str,
+    most: u64,
+) -> Result<Vec<u8>, ProgramFault<'a>>
+    ensures ok { IfOk result (λ read. IfSome (bytes_of name.entry.now (F.files folder.now)) (λ bytes. read.items ≡ take most bytes)) }
+    ensures err { IfErr result IsOfSystem }
+{
+    let file = open_file(folder, name)?;
+    read_rest(alloc, file.take(most), name)
+}
+
 /// All bytes of a file.
 pub fn read_file<'a, F: Folder>(
     alloc: Global,
-    folder: &mut F,
+    folder: &F,
     name: &'a str,
-) -> Result<Vec<u8>, ProgramFault<'a>> {
-    read_beginning(alloc, folder, name, u64::MAX)
-}
-
-/// The image of a file.
-pub fn read_image<'a, F: Folder>(
-    alloc: Global,
-    folder: &mut F,
-    name: &'a str,
-) -> Result<Image, ProgramFault<'a>> {
-    let file = folder
-        .open(name)
-        .map_err(|error| opening_fault(name, &error))?;
-    image::read(alloc, &mut FromRead::new(file)).map_err(|fault| ProgramFault::File(name, fault))
+) -> Result<Vec<u8>, ProgramFault<'a>>
+    ensures ok { IfOk result (λ read. IfSome (bytes_of name.entry.now (F.files folder.now)) (λ bytes. read.items ≡ bytes)) }
+    ensures err { IfErr result IsOfSystem }
+{
+    let file = open_file(folder, name)?;
+    read_rest(alloc, file, name)
 }
 
 /// A new file of this name, or the one that there is, emptied.
-pub fn make_file<'a, F: Folder>(
-    folder: &mut F,
-    name: &'a str,
-) -> Result<F::Made, ProgramFault<'a>> {
+pub fn make_file<'a, F: Folder>(folder: &mut F, name: &'a str) -> Result<F::Made, ProgramFault<'a>>
+    ensures files { OnOk result (Gains (F.files folder.old) (F.files folder.new) (begun name.entry.now ∷ [])) }
+    ensures empty { IfOk result (λ file. IsNew (F.files folder.old) (F.Made.contents file)) }
+    ensures err { IfErr result IsOfSystem }
+{
     folder
         .make(name)
         .map_err(|error| opening_fault(name, &error))
@@ -75,9 +109,19 @@ pub fn write_image<'a, F: Folder>(
     folder: &mut F,
     name: &'a str,
     image: &Image,
-) -> Result<(), ProgramFault<'a>> {
+) -> Result<(), ProgramFault<'a>>
+    ensures ok { OnOk result (Gains (F.files folder.old) (F.files folder.new) (whole name.entry.now (spelling image.now))) }
+    ensures err { IfErr result IsOfSystem }
+{
     let file = make_file(folder, name)?;
-    image::write(image, &mut ToWrite::new(file)).map_err(|_| ProgramFault::CutShort(name))
+    let mut sink = Writing::new(file);
+    match image::write(image, &mut sink) {
+        Ok(()) => {
+            folder.close(name, sink.into_inner());
+            Ok(())
+        }
+        Err(_) => Err(ProgramFault::CutShort(name)),
+    }
 }
 
 /// Writes bytes to a new file of this name, or to the one that there is, emptied.
@@ -85,20 +129,49 @@ pub fn write_bytes<'a, F: Folder>(
     folder: &mut F,
     name: &'a str,
     bytes: &[u8],
-) -> Result<(), ProgramFault<'a>> {
+) -> Result<(), ProgramFault<'a>>
+    ensures ok { OnOk result (Gains (F.files folder.old) (F.files folder.new) (whole name.entry.now bytes.now)) }
+    ensures err { IfErr result IsOfSystem }
+{
     let file = make_file(folder, name)?;
-    write_all(&mut ToWrite::new(file), bytes).map_err(|_| ProgramFault::CutShort(name))
+    let mut sink = Writing::new(file);
+    match write_all(&mut sink, bytes) {
+        Ok(()) => {
+            folder.close(name, sink.into_inner());
+            Ok(())
+        }
+        Err(_) => Err(ProgramFault::CutShort(name)),
+    }
+}
+
+/// The image of a file.
+pub fn read_image<'a, F: Folder>(
+    alloc: Global,
+    folder: &F,
+    name: &'a str,
+) -> Result<Image, ProgramFault<'a>>
+    ensures { IfOk result (λ image. IfSome (bytes_of name.entry.now (F.files folder.now)) (λ bytes. reading bytes ≡ Ok image)) }
+{
+    let file = open_file(folder, name)?;
+    match image::read(alloc, &mut FromRead::new(file)) {
+        Ok(image) => Ok(image),
+        Err(fault) => Err(ProgramFault::File(name, fault)),
+    }
 }
 
 /// The table of symbols of a file.
 pub fn read_table<'a, F: Folder>(
     alloc: Global,
-    folder: &mut F,
+    folder: &F,
     name: &'a str,
-) -> Result<Symbols, ProgramFault<'a>> {
+) -> Result<Symbols, ProgramFault<'a>>
+    ensures correct { IfOk result (λ _. IfSome (bytes_of name.entry.now (F.files folder.now)) (λ text. faulty_line text ≡ None)) }
+    ensures symbols { IfOk result (λ table. IfSome (bytes_of name.entry.now (F.files folder.now)) (λ text. table ≡ symbols_of text)) }
+{
     let text = read_file(alloc, folder, name)?;
-    read_symbols(alloc, &text).map_err(|fault| match fault {
-        SymbolsFault::Line(number) => ProgramFault::Symbols(name, number),
-        SymbolsFault::Memory => ProgramFault::Memory,
-    })
+    match read_symbols(alloc, &text) {
+        Ok(table) => Ok(table),
+        Err(SymbolsFault::Line(number)) => Err(ProgramFault::Symbols(name, number)),
+        Err(SymbolsFault::Memory) => Err(ProgramFault::Memory),
+    }
 }

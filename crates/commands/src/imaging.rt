@@ -1,5 +1,11 @@
 //! The command `image`.
 
+ghost use Rattle.std.specs.Prelude.{◌≡◌, IfErr, OnOk, IfSome};
+ghost use Rattle.image.specs.Image.{Builds};
+ghost use Rattle.commands.specs.Files.{bytes_of};
+ghost use Rattle.commands.specs.Imaging.{fault_for, fewest_pages, flat_fault, flat_image, header_number, image_for as image_for_layout};
+ghost use Rattle.commands.specs.Imaging.{most_read, IsFlatFault, MakesImage};
+
 use crate::fault::ProgramFault;
 use crate::files::{Folder, read_beginning, write_image};
 use base::ram;
@@ -8,20 +14,26 @@ use image::{Image, ImageFault};
 use std::alloc::Global;
 
 /// How many bytes of a flat file are read: one more than RAM has room for, so that a file that is too large is known by it.
-fn most_bytes(pages: Option<u64>) -> u64 {
+fn most_bytes(pages: Option<u64>) -> u64
+    ensures { result ≡ most_read pages }
+{
     let most = u64::from(ram::MOST_PAGES);
     pages.unwrap_or(most).min(most) * ram::PAGE_BYTES + 1
 }
 
 /// The fewest pages of RAM that hold so many bytes from an address on: at least one, and no more than there can be.
-fn fewest_pages(at: u64, count: u64) -> u64 {
+fn fewest_pages(at: u64, count: u64) -> u64
+    ensures { result ≡ fewest_pages at count }
+{
     let end = at.saturating_sub(ram::BASE).saturating_add(count);
     end.div_ceil(ram::PAGE_BYTES)
         .clamp(1, u64::from(ram::MOST_PAGES))
 }
 
 /// A number of an image's header, which has 32 bits; the greatest stands for those beyond it, which are refused as it is.
-fn header_number(number: u64) -> u32 {
+fn header_number(number: u64) -> u32
+    ensures { result ≡ header_number number }
+{
     u32::try_from(number).unwrap_or(u32::MAX)
 }
 
@@ -32,7 +44,10 @@ fn image_of(
     entry: u64,
     mode: u64,
     section: (u64, &[u8]),
-) -> Result<Image, ImageFault> {
+) -> Result<Image, ImageFault>
+    ensures { Builds (flat_fault pages entry mode section.entry.0 section.entry.1.now)
+        (flat_image pages entry mode section.entry.0 section.entry.1.now) result }
+{
     let pages = header_number(pages);
     let mode = header_number(mode);
     if pages > ram::MOST_PAGES_VERSION_1 {
@@ -42,15 +57,10 @@ fn image_of(
     }
 }
 
-/// Makes an image of the bytes of the file `flat`, and writes it to the file `output`.
-pub fn image_file<'a, F: Folder>(
-    alloc: Global,
-    folder: &mut F,
-    flat: &'a str,
-    output: &'a str,
-    layout: Layout,
-) -> Result<(), ProgramFault<'a>> {
-    let bytes = read_beginning(alloc, folder, flat, most_bytes(layout.pages))?;
+/// The image of a flat file's bytes, where the layout says.
+fn image_for(alloc: Global, layout: Layout, bytes: &[u8]) -> Result<Image, ImageFault>
+    ensures { Builds (fault_for layout bytes.now) (image_for_layout layout bytes.now) result }
+{
     let at = layout.at.unwrap_or(ram::BASE);
     let pages = match layout.pages {
         Some(pages) => pages,
@@ -58,8 +68,25 @@ pub fn image_file<'a, F: Folder>(
     };
     let entry = layout.entry.unwrap_or(at);
     let mode = layout.mode.unwrap_or(0);
-    let image = image_of(alloc, pages, entry, mode, (at, bytes.as_slice())).map_err(
-        |fault| ProgramFault::File(flat, fault),
-    )?;
-    write_image(folder, output, &image)
+    image_of(alloc, pages, entry, mode, (at, bytes))
+}
+
+/// Makes an image of the bytes of the file `flat`, and writes it to the file `output`.
+pub fn image_file<'a, F: Folder>(
+    alloc: Global,
+    folder: &mut F,
+    flat: &'a str,
+    output: &'a str,
+    layout: Layout,
+) -> Result<(), ProgramFault<'a>>
+    ensures ok { OnOk result (IfSome (bytes_of flat.entry.now (F.files folder.old)) (λ bytes.
+        MakesImage layout output.entry.now bytes (F.files folder.old) (F.files folder.new))) }
+    ensures err { IfErr result (λ fault. IfSome (bytes_of flat.entry.now (F.files folder.old)) (λ bytes.
+        IsFlatFault layout flat.entry.now bytes (F.files folder.old) (F.files folder.new) fault)) }
+{
+    let bytes = read_beginning(alloc, folder, flat, most_bytes(layout.pages))?;
+    match image_for(alloc, layout, &bytes) {
+        Ok(image) => write_image(folder, output, &image),
+        Err(fault) => Err(ProgramFault::File(flat, fault)),
+    }
 }

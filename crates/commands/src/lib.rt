@@ -10,6 +10,7 @@ mod files;
 mod imaging;
 mod listing;
 mod running;
+mod writing;
 
 pub use carrying::{FAULT, refuse, status_of, tell_fault};
 pub use fault::ProgramFault;

@@ -1,37 +1,86 @@
 //! The command `dis`.
 
+ghost use Rattle.std.specs.Prelude.{◌-◌, ◌^◌, ◌<◌, Some, IfOk, IfSome, OnOk};
+ghost use Rattle.std.specs.Option.{option_copied};
+ghost use Rattle.std.specs.Io.Buffered.{writer_contents};
+ghost use Rattle.std.specs.Io.KnownBytes.{Appends, Keeps};
+ghost use Rattle.commands.specs.Files.{bytes_of};
+ghost use Rattle.commands.specs.Listing.{ListsFile, listing_of};
+
 use crate::fault::ProgramFault;
 use crate::files::{Folder, read_image, read_table};
-use image::{DeviceFailed, ToWrite};
+use crate::writing::Writing;
+use image::{DeviceFailed, Image, Sink};
 use image_listing::list_named;
 use sim_run::list;
 use std::alloc::Global;
 use std::io::{BufWriter, Write};
+use symbols::Symbols;
 
-/// Lists the image of a file on `output`, a block of lines at a time, with the labels of the file `symbols` if one is named.
+/// Writes the listing of an image, with the labels of a table if there is one.
+fn list_on<W: Sink>(
+    image: &Image,
+    table: Option<&Symbols>,
+    sink: &mut W,
+) -> Result<(), DeviceFailed>
+    requires { W.failed sink.old < 2 ^ 64 - 1 }
+    ensures { OnOk result (Appends (W.held sink.old) (W.held sink.new) (listing_of (option_copied table.entry) image.now)) }
+{
+    match table {
+        Some(table) => list_named(image, table, sink),
+        None => list(image, sink),
+    }
+}
+
+/// Writes what is left of a block of lines, and hands the output back.
+fn finish<'a, O: Write + Drop>(lines: BufWriter<O>) -> Result<O, ProgramFault<'a>>
+    ensures { IfOk result (λ out. Keeps (writer_contents O.contents lines) (O.contents out)) }
+{
+    match lines.into_inner() {
+        Ok(output) => Ok(output),
+        Err(error) => Err(cut_short(error.into_inner())),
+    }
+}
+
+/// Lists an image on `output`, a block of lines at a time, and hands it back.
+fn list_to<'a, O: Write + Drop>(
+    alloc: Global,
+    image: &Image,
+    table: Option<&Symbols>,
+    output: O,
+) -> Result<O, ProgramFault<'a>>
+    ensures { IfOk result (λ out. Appends (O.contents output) (O.contents out) (listing_of (option_copied table.entry) image.now)) }
+{
+    let lines = match BufWriter::new(alloc, output) {
+        Ok(lines) => lines,
+        Err(_) => return Err(ProgramFault::Memory),
+    };
+    let mut sink = Writing::new(lines);
+    match list_on(image, table, &mut sink) {
+        Ok(()) => finish(sink.into_inner()),
+        Err(_) => Err(cut_short(sink.into_inner())),
+    }
+}
+
+/// Lists the image of a file on `output`, a block of lines at a time, with the labels of the file `symbols` if one is named; and hands
+/// the output back.
 pub fn list_file<'a, F: Folder, O: Write + Drop>(
     alloc: Global,
-    folder: &mut F,
+    folder: &F,
     name: &'a str,
     symbols: Option<&'a str>,
     output: O,
-) -> Result<(), ProgramFault<'a>> {
+) -> Result<O, ProgramFault<'a>>
+    ensures { IfOk result (λ out. IfSome (bytes_of name.entry.now (F.files folder.now)) (λ bytes.
+        ListsFile (F.files folder.now) bytes symbols.entry (O.contents output) (O.contents out))) }
+{
     let image = read_image(alloc, folder, name)?;
-    let table = match symbols {
-        Some(table) => Some(read_table(alloc, folder, table)?),
-        None => None,
-    };
-    let mut lines = BufWriter::new(alloc, output).map_err(|_| ProgramFault::Memory)?;
-    let listed = match &table {
-        Some(table) => list_named(&image, table, &mut ToWrite::new(&mut lines)),
-        None => list(&image, &mut ToWrite::new(&mut lines)),
-    };
-    if listed.is_err() {
-        return Err(cut_short(lines));
-    }
-    match lines.into_inner() {
-        Ok(_) => Ok(()),
-        Err(error) => Err(cut_short(error.into_inner())),
+    match symbols {
+        Some(table) => {
+            let table = read_table(alloc, folder, table)?;
+            list_to(alloc, &image, Some(&table), output)
+        }
+        None => list_to(alloc, &image, None, output),
     }
 }
 

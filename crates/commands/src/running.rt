@@ -1,11 +1,16 @@
 //! The command `run`, and the run without a command.
 
+ghost use Rattle.std.specs.Prelude.{◌≡◌, IfOk, IfSome, OnOk};
+ghost use Rattle.sim_run.specs.Ending.{ending_line};
 ghost use Rattle.sim_run.specs.Schedule.{IsInRange};
+ghost use Rattle.commands.specs.Files.{Gains, bytes_of, whole};
+ghost use Rattle.commands.specs.Running.{IsTyped, Runs, RunsFile, Traces, trace_of};
 
 use crate::fault::ProgramFault;
 use crate::files::{Folder, make_file, read_beginning, read_image};
+use crate::writing::Writing;
 use arrayvec::ArrayString;
-use image::{DeviceFailed, Image, ToWrite};
+use image::{DeviceFailed, Image};
 use machine::{End, Machine};
 use sim_run::{Ran, Schedule, TraceFault, ending_line, run_counted, run_traced};
 use std::alloc::Global;
@@ -32,30 +37,35 @@ pub struct Ended {
 }
 
 /// How a machine's run ended, and where.
-fn ending(machine: &ProgramMachine, ran: Ran) -> Ended {
+fn ending(machine: &ProgramMachine, ran: Ran) -> Ended
+    ensures end { result.end ≡ ran.end }
+    ensures place { result.place.bytes ≡ ending_line ran.steps machine.now }
+{
     Ended {
         end: ran.end,
         place: ending_line(machine, ran.steps),
     }
 }
 
-/// Runs a machine from its image, and writes to `output` what it sends.
+/// Runs a machine from its image, writes to `output` what it sends, and hands it back.
 fn run_machine<'a, O: Write + Drop>(
     alloc: Global,
     image: &Image,
     schedule: Schedule,
     input: &[u8],
     output: O,
-) -> Result<Ended, ProgramFault<'a>>
+) -> Result<(Ended, O), ProgramFault<'a>>
     requires { IsInRange schedule }
+    ensures { IfOk result (λ done. Runs schedule input.now image.now done.0 (O.contents output) (O.contents done.1)) }
 {
     let mut machine: ProgramMachine = Machine::new(alloc, image)?;
-    let mut sink = ToWrite::new(output);
+    let mut sink = Writing::new(output);
     let ran = run_counted(&mut machine, schedule, input, &mut sink)?;
-    Ok(ending(&machine, ran))
+    Ok((ending(&machine, ran), sink.into_inner()))
 }
 
-/// Runs a machine from its image, writes to `output` what it sends, and to the file `trace`, which is made first, a line for each step.
+/// Runs a machine from its image, writes to `output` what it sends, and to the file `trace`, which is made first, a line for each step;
+/// and hands the output back.
 fn trace_machine<'a, F: Folder, O: Write + Drop>(
     alloc: Global,
     folder: &mut F,
@@ -64,21 +74,63 @@ fn trace_machine<'a, F: Folder, O: Write + Drop>(
     input: &[u8],
     trace: &'a str,
     output: O,
-) -> Result<Ended, ProgramFault<'a>>
+) -> Result<(Ended, O), ProgramFault<'a>>
     requires { IsInRange schedule }
+    ensures ok { IfOk result (λ done. Runs schedule input.now image.now done.0 (O.contents output) (O.contents done.1)) }
+    ensures files { OnOk result (Gains (F.files folder.old) (F.files folder.new)
+        (whole trace.entry.now (trace_of schedule input.now image.now))) }
 {
     let mut machine: ProgramMachine = Machine::new(alloc, image)?;
-    let mut lines = ToWrite::new(make_file(folder, trace)?);
-    let mut sink = ToWrite::new(output);
+    let mut lines = Writing::new(make_file(folder, trace)?);
+    let mut sink = Writing::new(output);
     match run_traced(&mut machine, schedule, input, &mut sink, &mut lines) {
-        Ok(ran) => Ok(ending(&machine, ran)),
+        Ok(ran) => {
+            folder.close(trace, lines.into_inner());
+            Ok((ending(&machine, ran), sink.into_inner()))
+        }
         Err(TraceFault::Output) => Err(ProgramFault::Write(DeviceFailed)),
         Err(TraceFault::Trace) => Err(ProgramFault::CutShort(trace)),
     }
 }
 
+/// Runs an image with these bytes on its console, and writes a line for each step to the file `trace` where one is named.
+fn run_image<'a, F: Folder, O: Write + Drop>(
+    alloc: Global,
+    folder: &mut F,
+    image: &Image,
+    schedule: Schedule,
+    input: &[u8],
+    trace: Option<&'a str>,
+    output: O,
+) -> Result<(Ended, O), ProgramFault<'a>>
+    requires { IsInRange schedule }
+    ensures ok { IfOk result (λ done. Runs schedule input.now image.now done.0 (O.contents output) (O.contents done.1)) }
+    ensures files { OnOk result (Traces trace.entry (trace_of schedule input.now image.now) (F.files folder.old) (F.files folder.new)) }
+{
+    match trace {
+        Some(name) => trace_machine(alloc, folder, image, schedule, input, name, output),
+        None => run_machine(alloc, image, schedule, input, output),
+    }
+}
+
+/// The bytes of the file `input` that a run by a schedule has room for, or none where no file is named.
+fn typed<'a, F: Folder>(
+    alloc: Global,
+    folder: &F,
+    schedule: Schedule,
+    input: Option<&'a str>,
+) -> Result<Vec<u8>, ProgramFault<'a>>
+    requires { IsInRange schedule }
+    ensures { IfOk result (λ typed. IsTyped schedule input.entry (F.files folder.now) typed.items) }
+{
+    match input {
+        Some(file) => read_beginning(alloc, folder, file, schedule.most_bytes()),
+        None => Ok(Vec::new(alloc)),
+    }
+}
+
 /// Runs the image of a file, with the bytes of the file `input` on its console: no more of them are read than the schedule has room for.
-/// Where a file `trace` is named, a line for each step is written to it.
+/// Where a file `trace` is named, a line for each step is written to it. Hands the output back.
 pub fn run_file<'a, F: Folder, O: Write + Drop>(
     alloc: Global,
     folder: &mut F,
@@ -87,22 +139,22 @@ pub fn run_file<'a, F: Folder, O: Write + Drop>(
     input: Option<&'a str>,
     trace: Option<&'a str>,
     output: O,
-) -> Result<Ended, ProgramFault<'a>>
+) -> Result<(Ended, O), ProgramFault<'a>>
     requires { IsInRange schedule }
+    ensures { IfOk result (λ done. IfSome (bytes_of name.entry.now (F.files folder.old)) (λ bytes.
+        RunsFile schedule input.entry bytes trace.entry (F.files folder.old) (F.files folder.new) done.0
+        (O.contents output) (O.contents done.1))) }
 {
     let image = read_image(alloc, folder, name)?;
-    let bytes = match input {
-        Some(file) => read_beginning(alloc, folder, file, schedule.most_bytes())?,
-        None => Vec::new(alloc),
-    };
-    match trace {
-        Some(name) => trace_machine(alloc, folder, &image, schedule, &bytes, name, output),
-        None => run_machine(alloc, &image, schedule, &bytes, output),
-    }
+    let bytes = typed(alloc, folder, schedule, input)?;
+    run_image(alloc, folder, &image, schedule, &bytes, trace, output)
 }
 
 /// Runs the first image for its five steps: it sends `A` and halts with 0.
-pub fn run_first<'a, O: Write + Drop>(alloc: Global, output: O) -> Result<Ended, ProgramFault<'a>> {
+pub fn run_first<'a, O: Write + Drop>(
+    alloc: Global,
+    output: O,
+) -> Result<(Ended, O), ProgramFault<'a>> {
     let image = Image::build(alloc, 1, ENTRY, 0, &[(ENTRY, &FIRST)])?;
     let schedule = Schedule {
         steps: 5,

@@ -1,0 +1,28 @@
+-- A file that is made, written and closed is a whole file.
+use Rattle.std.specs.Prelude.{◌≡◌, ℕ, List, [], ◌∷◌, ◌++◌, Option, Some, None, refl}
+use Rattle.std.proofs.Common.{◌∙◌, ap, append_assoc}
+use Rattle.std.specs.Io.KnownBytes.{Appends}
+use Rattle.std.specs.declared.vec.Vec.{Vec}
+use Rattle.assembler.specs.Labels as text
+use Rattle.symbols.specs.Reads as table
+use Rattle.commands.specs.Assembling.{seen_labels}
+use Rattle.commands.specs.Files.{File, begun, ended, whole, Gains, IsNew}
+
+-- empty, and then grown by bytes
+pub grown_from_empty : (held new : Option (List ℕ)) (bytes : List ℕ) → held ≡ Some [] → Appends held new bytes → new ≡ Some bytes
+grown_from_empty held None bytes empty more = absurd (rw empty at more)
+grown_from_empty held (Some ys) bytes empty more = let e : ys ≡ [] ++ bytes = rw empty at more in ap Some e
+
+pub gains_whole : (old made new : Option (List File)) (name bytes : List ℕ) (empty held : Option (List ℕ))
+    → Gains old made (begun name ∷ []) → IsNew old empty → Appends empty held bytes
+    → Gains made new (ended name held ∷ []) → Gains old new (whole name bytes)
+gains_whole None made new name bytes empty held first is_new more last = tt
+gains_whole (Some files) made new name bytes empty held first is_new more last =
+    let full : held ≡ Some bytes = grown_from_empty empty held bytes is_new more in
+    (rw (first, full) at last) ∙ ap Some (append_assoc files (begun name ∷ []) (ended name (Some bytes) ∷ []))
+
+-- labels as a map of names holds them, as a table has them
+pub seen_labels-entries : {A : Type 0} → (entries : List (Vec ℕ A × ℕ))
+    → table.seen_entries entries ≡ seen_labels (text.seen_entries entries)
+seen_labels-entries [] = refl
+seen_labels-entries (e ∷ es) = ap (λ symbols. table.seen_entry e ∷ symbols) (seen_labels-entries es)

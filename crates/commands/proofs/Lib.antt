@@ -1,0 +1,4 @@
+pub mod Filing
+pub mod Flat
+pub mod Typed
+pub mod Debugged

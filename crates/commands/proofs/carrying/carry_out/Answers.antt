@@ -1,0 +1,11 @@
+use Rattle.std.proofs.Common.{refl}
+use Rattle.commands.proofs.carrying.carry_out.Goals as goal
+
+pub returns-in_ok-ended-in-Run : goal.returns-in_ok-ended-in-Run
+returns-in_ok-ended-in-Run g c =
+    let run = c.in_ok-ended-in-Run in
+    rw c.in-Run.is (run.ended, g.O.Write.contents run._output, refl, rw c.schedule_of-schedule.ensures.value at run.ensures)
+
+pub returns-in_ok-_output-in-Dis : goal.returns-in_ok-_output-in-Dis
+returns-in_ok-_output-in-Dis g c =
+    rw c.in-Dis.is (g.O.Write.contents c.in_ok-_output-in-Dis._output, refl, c.in_ok-_output-in-Dis.ensures)

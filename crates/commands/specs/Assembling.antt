@@ -1,0 +1,43 @@
+-- What `asm` writes of a text, and how it tells its fault.
+use Rattle.std.specs.Prelude.{◌≡◌, ◌⊎◌, ⊤, ℕ, List, [], ◌++◌, map, Option, Some, None}
+use Rattle.std.specs.Borrow.{Bor}
+use Rattle.image.specs.Grammar.{spelling}
+use Rattle.assembler.specs.declared.fault.AsmFault.{AsmFault}
+use Rattle.assembler.specs.Left.{IsFaultOf}
+use Rattle.assembler.specs.Places.{Symbols, symbols_of}
+use Rattle.assembler.specs.Standing.{standing_of}
+use Rattle.assembler.specs.Text.{text_fault, text_image}
+use Rattle.fault_details.specs.Detail.{detail_of, line_at}
+use Rattle.symbols.specs.Symbols.{Symbol, symbol, table_text}
+use Rattle.commands.specs.declared.fault.ProgramFault.{ProgramFault}
+use Rattle.commands.specs.declared.fault.ProgramFault.TheVariants.{Asm}
+use Rattle.commands.specs.Files.{Text, File, Gains, whole}
+
+-- labels and their values, as a table has them
+abbrev pub seen_labels : Symbols → List Symbol
+seen_labels labels = map (λ label. symbol label.1 label.0) labels
+
+-- the file of the labels, if one is named
+abbrev pub table_file : Option (Bor Text) → Symbols → List File
+table_file None labels = []
+table_file (Some name) labels = whole name.now (table_text (seen_labels labels))
+
+-- A correct text: its image is written to a file, the table of its labels to another if one is named, and no other file is.
+abbrev pub Assembles : Text → Option (Bor Text) → List ℕ → Option (List File) → Option (List File) → Type 0
+Assembles output symbols text old new =
+    (text_fault text ≡ None)
+    × Gains old new (whole output (spelling (text_image text)) ++ table_file symbols (symbols_of text))
+
+-- what is told of a fault of a text: what was read of its line, unless there was no memory for that
+abbrev pub IsRead : List ℕ → AsmFault → List ℕ → Type 0
+IsRead text fault read = (read ≡ []) ⊎ (read ≡ detail_of fault.code (standing_of text) (line_at fault.line text))
+
+abbrev pub IsAsmFault : Text → List ℕ → AsmFault → ProgramFault → Type 0
+IsAsmFault input text found (Asm name fault read) = (name.now ≡ input) × (fault ≡ found) × IsRead text fault read.items
+IsAsmFault input text found other = ⊥
+
+-- A fault of the text is its first, unless there was no memory, and no file is written.
+abbrev pub IsTextFault : Text → List ℕ → Option (List File) → Option (List File) → ProgramFault → Type 0
+IsTextFault input text old new (Asm name fault read) =
+    (name.now ≡ input) × IsFaultOf (text_fault text) fault × IsRead text fault read.items × (new ≡ old)
+IsTextFault input text old new other = ⊤

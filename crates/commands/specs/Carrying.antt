@@ -1,0 +1,50 @@
+-- The status of a command line that was carried out, and what then holds of its files.
+use Rattle.std.specs.Prelude.{◌≡◌, ◌≤◌, ℕ, List, Option, IfSome, Bool, false, bytes_eq, codes, [], ◌∷◌}
+use Rattle.command_line.specs.declared.plans.Plan.{Plan}
+use Rattle.command_line.specs.declared.plans.Plan.TheVariants.{Asm, Image, Run, Dis, Debug, Bounds, First}
+use Rattle.clap.specs.Words.{subcommand_of}
+use Rattle.command_line.specs.CommandLine.{IsPlanOf, IsSound, IsTaken, NoPlanFits, program}
+use Rattle.sim_run.specs.Verdict.{status_of}
+use Rattle.commands.specs.declared.carrying.Done.{Done}
+use Rattle.commands.specs.declared.carrying.Done.TheVariants as done
+use Rattle.commands.specs.declared.running.Ended.{Ended}
+use Rattle.commands.specs.Files.{File, Text, bytes_of}
+use Rattle.commands.specs.Assembling.{Assembles}
+use Rattle.commands.specs.Imaging.{MakesImage}
+use Rattle.commands.specs.Listing.{ListsFile}
+use Rattle.commands.specs.Running.{RunsFile}
+
+-- 0 for what was done, and of a run what its end comes to
+abbrev pub status_of_done : Done → ℕ
+status_of_done done.All = 0
+status_of_done (done.Run ended quiet) = status_of ended.end
+
+-- A plan was carried out wholly, with this status, where files and an output were known before.
+abbrev pub HasStatus : Plan → Option (List ℕ) → Option (List File) → Option (List File) → ℕ → Type 0
+HasStatus (Asm input output symbols) sent old new status =
+    (status ≡ 0) × IfSome (bytes_of input.now old) (λ text. Assembles output.now symbols text old new)
+HasStatus (Image flat output layout) sent old new status =
+    (status ≡ 0) × IfSome (bytes_of flat.now old) (λ bytes. MakesImage layout output.now bytes old new)
+HasStatus (Run image steps gap tick input quiet trace) sent old new status =
+    (ended : Ended) × (out : Option (List ℕ)) × (status ≡ status_of ended.end)
+    × IfSome (bytes_of image.now old)
+    (λ bytes. RunsFile (record { steps = steps; gap = gap; tick = tick }) input bytes trace old new ended sent out)
+HasStatus (Dis image symbols) sent old new status =
+    (out : Option (List ℕ)) × (status ≡ 0) × IfSome (bytes_of image.now old) (λ bytes. ListsFile old bytes symbols sent out)
+HasStatus (Debug image symbols) sent old new status = status ≡ 0
+HasStatus (Bounds base length address) sent old new status = status ≡ 0
+HasStatus First sent old new status = status ≤ 1
+
+-- the program's name, and --version alone
+abbrev pub asks_version : List Text → Bool
+asks_version (name ∷ word ∷ []) = bytes_eq word (codes "--version")
+asks_version words = false
+
+-- The words are a plan, which was carried out with this status.
+abbrev pub IsCarriedOut : List Text → Option (List ℕ) → Option (List File) → Option (List File) → ℕ → Type 0
+IsCarriedOut words sent old new status =
+    (plan : Plan) × IsTaken words × IsPlanOf (subcommand_of program words) plan × IsSound plan × HasStatus plan sent old new status
+
+-- Clap doesn't take the words, or nothing that it finds in them is a sound plan.
+abbrev pub IsRefused : List Text → Type 0
+IsRefused words = IsTaken words → (NoPlanFits (subcommand_of program words) → ⊥) → ⊥

@@ -1,0 +1,52 @@
+-- The files of a folder: what became of them, in order.
+use Rattle.std.specs.Prelude.{◌≡◌, ℕ, List, [], ◌∷◌, ◌++◌, bytes_eq, if◌then◌else◌, Option, Some, None, ⊤}
+use Rattle.commands.specs.declared.fault.ProgramFault.{ProgramFault}
+use Rattle.commands.specs.declared.fault.ProgramFault.TheVariants.{NoFile, Directory, Read, Write, CutShort, Memory}
+
+abbrev pub Text : Type 0
+Text = List ℕ
+
+-- a name, and what the file of that name holds; of one that is being written that is not known
+abbrev pub File : Type 0
+File = Text × Option (List ℕ)
+
+-- a file that is made new, or emptied, to be written
+abbrev pub begun : Text → File
+begun name = (name, None)
+
+-- a file that is closed, and what it holds
+abbrev pub ended : Text → Option (List ℕ) → File
+ended name bytes = (name, bytes)
+
+-- a whole file: it is made, and holds these bytes when it is closed
+abbrev pub whole : Text → List ℕ → List File
+whole name bytes = begun name ∷ ended name (Some bytes) ∷ []
+
+-- Known files get these, in this order.
+abbrev pub Gains : Option (List File) → Option (List File) → List File → Type 0
+Gains None new more = ⊤
+Gains (Some files) new more = new ≡ Some (files ++ more)
+
+-- Where files are known, a new one is empty.
+abbrev pub IsNew : Option (List File) → Option (List ℕ) → Type 0
+IsNew None held = ⊤
+IsNew (Some files) held = held ≡ Some []
+
+-- what the file of a name holds: of several entries the last counts
+abbrev pub last_of : Text → List File → Option (List ℕ) → Option (List ℕ)
+last_of name [] found = found
+last_of name (file ∷ files) found = last_of name files (if bytes_eq file.0 name then file.1 else found)
+
+abbrev pub bytes_of : Text → Option (List File) → Option (List ℕ)
+bytes_of name None = None
+bytes_of name (Some files) = last_of name files None
+
+-- a fault of the system, its devices or its memory, and none of what was read
+abbrev pub IsOfSystem : ProgramFault → Type 0
+IsOfSystem (NoFile name kind) = ⊤
+IsOfSystem (Directory name) = ⊤
+IsOfSystem (Read name kind) = ⊤
+IsOfSystem (Write failed) = ⊤
+IsOfSystem (CutShort name) = ⊤
+IsOfSystem Memory = ⊤
+IsOfSystem other = ⊥

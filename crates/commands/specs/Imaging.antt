@@ -1,0 +1,72 @@
+-- The image that `image` makes of a flat file: where the bytes go, and what stands for what isn't named.
+use Rattle.std.specs.Prelude.{◌≡◌, ℕ, ◌+◌, ◌-◌, ◌*◌, ◌/◌, ◌^◌, nat_le, min, max, if◌then◌else◌, List, [], ◌∷◌, length}
+use Rattle.std.specs.Prelude.{Option, Some, None, ◌⊎◌, ⊤}
+use Rattle.base.specs.Ram.{ram_base, page_bytes, most_pages, most_pages_version_1}
+use Rattle.image.specs.declared.fault.ImageFault.{ImageFault}
+use Rattle.image.specs.Image.{Image, Section, build_fault, image_of}
+use Rattle.image.specs.declared.fault.ImageFault.TheVariants.{L11}
+use Rattle.image.specs.Grammar.{spelling}
+use Rattle.command_line.specs.declared.layout.Layout.{Layout}
+use Rattle.commands.specs.declared.fault.ProgramFault.{ProgramFault}
+use Rattle.commands.specs.declared.fault.ProgramFault.TheVariants as program
+use Rattle.commands.specs.Files.{Text, File, Gains, whole}
+
+abbrev pub given : ℕ → Option ℕ → ℕ
+given default None = default
+given default (Some number) = number
+
+-- the fewest pages, one at least and no more than there can be, that hold so many bytes from an address on
+abbrev pub fewest_pages : ℕ → ℕ → ℕ
+fewest_pages at count = min most_pages (max 1 ((at - ram_base + count + (page_bytes - 1)) / page_bytes))
+
+-- Of a flat file a byte more is read than RAM has room for.
+abbrev pub most_read : Option ℕ → ℕ
+most_read pages = min (given most_pages pages) most_pages * page_bytes + 1
+
+-- a number of the header, which has 32 bits; the greatest stands for those beyond it
+abbrev pub header_number : ℕ → ℕ
+header_number number = min number (2 ^ 32 - 1)
+
+-- version 2 where version 1 can't have so many pages
+abbrev pub version_of : ℕ → ℕ
+version_of pages = if nat_le pages most_pages_version_1 then 1 else 2
+
+abbrev pub flat_sections : ℕ → List ℕ → List Section
+flat_sections at bytes = record { address = at; bytes = bytes } ∷ []
+
+abbrev pub flat_image : ℕ → ℕ → ℕ → ℕ → List ℕ → Image
+flat_image pages entry mode at bytes = image_of (version_of pages) pages entry mode (flat_sections at bytes) []
+
+abbrev pub flat_fault : ℕ → ℕ → ℕ → ℕ → List ℕ → Option ImageFault
+flat_fault pages entry mode at bytes = build_fault (version_of pages) pages entry mode (flat_sections at bytes) []
+
+-- What stands for a number that isn't named: for the address of the first byte that of RAM's first, for the first instruction that of the
+-- first byte, for the mode integer mode, and for the pages the fewest that hold the bytes.
+abbrev pub at_of : Layout → ℕ
+at_of layout = given ram_base layout.at
+
+abbrev pub entry_of : Layout → ℕ
+entry_of layout = given (at_of layout) layout.entry
+
+abbrev pub mode_of : Layout → ℕ
+mode_of layout = given 0 layout.mode
+
+abbrev pub pages_of : Layout → ℕ → ℕ
+pages_of layout count = given (fewest_pages (at_of layout) count) layout.pages
+
+abbrev pub image_for : Layout → List ℕ → Image
+image_for layout bytes = flat_image (pages_of layout (length bytes)) (entry_of layout) (mode_of layout) (at_of layout) bytes
+
+abbrev pub fault_for : Layout → List ℕ → Option ImageFault
+fault_for layout bytes = flat_fault (pages_of layout (length bytes)) (entry_of layout) (mode_of layout) (at_of layout) bytes
+
+-- The image of the bytes is written to a file, and no other file is.
+abbrev pub MakesImage : Layout → Text → List ℕ → Option (List File) → Option (List File) → Type 0
+MakesImage layout output bytes old new =
+    (fault_for layout bytes ≡ None) × Gains old new (whole output (spelling (image_for layout bytes)))
+
+-- A fault of the image is the first of its build, unless there was no memory, and no file is written.
+abbrev pub IsFlatFault : Layout → Text → List ℕ → Option (List File) → Option (List File) → ProgramFault → Type 0
+IsFlatFault layout flat bytes old new (program.File name fault) =
+    (name.now ≡ flat) × ((fault ≡ L11) ⊎ (fault_for layout bytes ≡ Some fault)) × (new ≡ old)
+IsFlatFault layout flat bytes old new other = ⊤

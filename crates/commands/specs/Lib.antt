@@ -1,0 +1,8 @@
+-- What to read
+pub mod Files
+pub mod Assembling
+pub mod Imaging
+pub mod Listing
+pub mod Running
+pub mod Debugging
+pub mod Carrying
