@@ -61,7 +61,7 @@ builds_same v pages entry mode ss cs answer version builds = elim (cases_Bool (i
       rw e g)
 ]
 
--- bytes that RAM has no room for are the fault, behind the header
+-- bytes that RAM has no room for are the fault, after the header
 pub too_large : (v pages entry mode at : ℕ) (bytes : List ℕ) → is_version v ≡ true → is_good_header v pages entry mode ≡ true
     → page_bytes * pages < length bytes → build_fault v pages entry mode (flat_sections at bytes) [] ≡ Some L6
 unfolding build_fault

@@ -1,4 +1,4 @@
--- Bytes behind those that a schedule has room for change nothing of a run.
+-- Bytes after those that a schedule has room for change nothing of a run.
 use Rattle.std.specs.Prelude.{◌≡◌, ◌≤◌, ◌<◌, ℕ, zero, suc, ◌+◌, ◌-◌, ◌*◌, ◌/◌, List, [], ◌∷◌, take, slice_get, Option, None, Some, IfSome}
 use Rattle.std.specs.Prelude.{refl}
 use Rattle.std.proofs.Common.{arith, ap, inl, inr}

@@ -85,7 +85,7 @@ pub fn list_file<'a, F: Folder, O: Write + Drop>(
 }
 
 /// The fault of a listing that was cut short. What is left of its block is let go: written when the writer is dropped it would stand
-/// behind a gap.
+/// after a gap.
 fn cut_short<'a, O: Write + Drop>(lines: BufWriter<O>) -> ProgramFault<'a> {
     let _ = lines.into_parts();
     ProgramFault::Write(DeviceFailed)

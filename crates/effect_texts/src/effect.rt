@@ -27,7 +27,7 @@ pub fn size_text(size: Size) -> &'static str
     }
 }
 
-/// Puts a store of a number behind a text.
+/// Appends a store of a number to a text.
 fn put_store(text: &mut Text, store: Store)
     requires { array_string_len text.old + 60 ≤ 256 }
     ensures text { text.new.bytes ≡ text.old.bytes ++ spec.store_part store }
@@ -41,7 +41,7 @@ fn put_store(text: &mut Text, store: Store)
     put_hex(text, 2 * store.size.bytes() as usize, store.number);
 }
 
-/// Puts a store of a capability behind a text.
+/// Appends a store of a capability to a text.
 fn put_capability<C: CapRep>(text: &mut Text, store: StoreCapability<C>)
     requires { array_string_len text.old + 120 ≤ 256 }
     ensures text { text.new.bytes ≡ text.old.bytes
@@ -54,7 +54,7 @@ fn put_capability<C: CapRep>(text: &mut Text, store: StoreCapability<C>)
     put_value(text, store.value);
 }
 
-/// Puts a load from a device register behind a text.
+/// Appends a load from a device register to a text.
 fn put_load<C: CapRep>(text: &mut Text, load: DeviceLoad<C>)
     requires { array_string_len text.old + 120 ≤ 256 }
     ensures text { text.new.bytes ≡ text.old.bytes
@@ -66,7 +66,7 @@ fn put_load<C: CapRep>(text: &mut Text, load: DeviceLoad<C>)
     put_hex(text, 16, load.address);
 }
 
-/// Puts a jump behind a text.
+/// Appends a jump to a text.
 fn put_jump(text: &mut Text, target: u64)
     requires { array_string_len text.old + 24 ≤ 256 }
     ensures text { text.new.bytes ≡ text.old.bytes ++ spec.jump_part target }
@@ -76,7 +76,7 @@ fn put_jump(text: &mut Text, target: u64)
     put_hex(text, 16, target);
 }
 
-/// Puts a jump with a link behind a text.
+/// Appends a jump with a link to a text.
 fn put_link<C: CapRep>(text: &mut Text, link: Link<C>)
     requires { array_string_len text.old + 120 ≤ 256 }
     ensures text { text.new.bytes ≡ text.old.bytes ++ spec.written_first link.rd (C.value link.link) ++ spec.jump_part link.target }
@@ -86,7 +86,7 @@ fn put_link<C: CapRep>(text: &mut Text, link: Link<C>)
     put_jump(text, link.target);
 }
 
-/// Puts a jump to a capability behind a text.
+/// Appends a jump to a capability to a text.
 fn put_enter<C: CapRep>(text: &mut Text, enter: Enter<C>)
     requires { array_string_len text.old + 208 ≤ 256 }
     ensures text { text.new.bytes ≡ text.old.bytes
@@ -100,7 +100,7 @@ fn put_enter<C: CapRep>(text: &mut Text, enter: Enter<C>)
     put_value(text, enter.code.set_address(enter.target));
 }
 
-/// Puts the name of a special capability register behind a text.
+/// Appends the name of a special capability register to a text.
 #[tactic(auto, using(disassembler::specs::LengthLaws::scr_name_short))]
 fn put_special_name(text: &mut Text, number: u8)
     requires { array_string_len text.old + 20 ≤ 256 }
@@ -116,7 +116,7 @@ fn put_special_name(text: &mut Text, number: u8)
     }
 }
 
-/// Puts the name of a control and status register behind a text.
+/// Appends the name of a control and status register to a text.
 #[tactic(auto, using(disassembler::specs::LengthLaws::csr_name_short))]
 fn put_csr_name(text: &mut Text, number: u16)
     requires { array_string_len text.old + 20 ≤ 256 }
@@ -132,7 +132,7 @@ fn put_csr_name(text: &mut Text, number: u16)
     }
 }
 
-/// Puts an exchange of a special capability register behind a text.
+/// Appends an exchange of a special capability register to a text.
 fn put_special<C: CapRep>(text: &mut Text, write: SpecialWrite<C>)
     requires { array_string_len text.old + 208 ≤ 256 }
     ensures text { text.new.bytes ≡ text.old.bytes
@@ -145,7 +145,7 @@ fn put_special<C: CapRep>(text: &mut Text, write: SpecialWrite<C>)
     put_value(text, write.value);
 }
 
-/// Puts a write of a control and status register behind a text.
+/// Appends a write of a control and status register to a text.
 fn put_csr<C: CapRep>(text: &mut Text, write: CsrWrite<C>)
     requires { array_string_len text.old + 208 ≤ 256 }
     ensures text { text.new.bytes ≡ text.old.bytes

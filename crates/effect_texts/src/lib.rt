@@ -1,4 +1,4 @@
-//! What a step's effect comes to, as a line of text, the text of a register's value, and what is put behind a string.
+//! What a step's effect comes to, as a line of text, the text of a register's value, and what is appended to a string.
 #![tactic(auto)]
 
 mod effect;

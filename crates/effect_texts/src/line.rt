@@ -26,7 +26,7 @@ fn is_interrupt<C: CapRep>(effect: &Effect<C>) -> bool
     }
 }
 
-/// Puts the word that the next step does and its text behind a line.
+/// Appends the word that the next step does and its text to a line.
 #[tactic(auto, unfolding(crate::specs::TraceLine::step_word))]
 fn put_word<C: CapRep>(line: &mut Line, hart: &Hart<C>, effect: &Effect<C>)
     requires effect { meant C.value effect.now ≡ step_effect hart.now }

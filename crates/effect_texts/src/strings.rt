@@ -1,4 +1,4 @@
-//! Texts and numbers put behind a string.
+//! Texts and numbers appended to a string.
 ghost use Rattle.std.specs.Prelude.{◌≡◌, ◌+◌, ◌<◌, ◌≤◌, ◌++◌, length, OnOk, OnErr, string_bytes, string_len, string_capacity, decimal};
 ghost use Rattle.disassembler.specs.Hex.{hex_of};
 
@@ -6,7 +6,7 @@ use disassembler::hex_digits;
 use itoa::Buffer;
 use std::alloc::AllocError;
 
-/// Puts the lowest `width` hexadecimal digits of a number, at most 17, behind a string.
+/// Appends the lowest `width` hexadecimal digits of a number, at most 17, to a string.
 ///
 /// # Errors
 ///
@@ -22,7 +22,7 @@ pub fn put_hex(text: &mut String, width: usize, n: u128) -> Result<(), AllocErro
     text.push_str(hex_digits(n, width).as_str())
 }
 
-/// Puts a number in decimal behind a string: 40 digits at most.
+/// Appends a number in decimal to a string: 40 digits at most.
 ///
 /// # Errors
 ///
@@ -37,7 +37,7 @@ pub fn put_decimal(text: &mut String, n: u64) -> Result<(), AllocError>
     text.push_str(buffer.format(n))
 }
 
-/// Puts a text behind a string.
+/// Appends a text to a string.
 ///
 /// # Errors
 ///

@@ -1,4 +1,4 @@
-//! A text of one line that takes no memory, and what is put behind it.
+//! A text of one line that takes no memory, and what is appended to it.
 ghost use Rattle.std.specs.Prelude.{◌≡◌, ◌+◌, ◌<◌, ◌≤◌, ◌++◌, length};
 ghost use Rattle.arrayvec.specs.ArrayString.{array_string_len};
 ghost use Rattle.disassembler.specs.Hex.{hex_of};
@@ -14,7 +14,7 @@ use disassembler::hex_digits;
 /// The text of an effect.
 pub type Text = ArrayString<256>;
 
-/// Puts the lowest `width` hexadecimal digits of a number, at most 17, behind a text.
+/// Appends the lowest `width` hexadecimal digits of a number, at most 17, to a text.
 pub(crate) fn put_hex(text: &mut Text, width: usize, n: u64)
     requires width { width ≤ 17 }
     requires room { array_string_len text.old + width ≤ 256 }
@@ -24,7 +24,7 @@ pub(crate) fn put_hex(text: &mut Text, width: usize, n: u64)
     text.push_str(hex_digits(u128::from(n), width).as_str());
 }
 
-/// Puts a value behind a text.
+/// Appends a value to a text.
 pub(crate) fn put_value<C: CapRep>(text: &mut Text, value: C)
     requires { array_string_len text.old + 81 ≤ 256 }
     ensures bytes { text.new.bytes ≡ text.old.bytes ++ shown_value (C.value value) }
@@ -41,7 +41,7 @@ fn register(n: u8) -> &'static str
     if n < 32 { register_name(n, true) } else { "" }
 }
 
-/// Puts a register's new value behind a text.
+/// Appends a register's new value to a text.
 fn put_register<C: CapRep>(text: &mut Text, rd: u8, value: C)
     requires { array_string_len text.old + 89 ≤ 256 }
     ensures bytes { text.new.bytes ≡ text.old.bytes ++ value_part (register_text rd) (C.value value) }
@@ -52,7 +52,7 @@ fn put_register<C: CapRep>(text: &mut Text, rd: u8, value: C)
     put_value(text, value);
 }
 
-/// Puts a register's new value behind a text; for register 0, where it is lost, another text.
+/// Appends a register's new value to a text; for register 0, where it is lost, another text.
 #[tactic(auto, unfolding(crate::specs::EffectText::written_or))]
 pub(crate) fn put_written_or<C: CapRep>(text: &mut Text, other: &str, rd: u8, value: C)
     requires other { length other.now ≤ 89 }
@@ -67,7 +67,7 @@ pub(crate) fn put_written_or<C: CapRep>(text: &mut Text, other: &str, rd: u8, va
     }
 }
 
-/// Puts a register's new value and a comma behind a text; for register 0, where it is lost, nothing.
+/// Appends a register's new value and a comma to a text; for register 0, where it is lost, nothing.
 #[tactic(auto, unfolding(crate::specs::EffectText::written_first))]
 pub(crate) fn put_written_first<C: CapRep>(text: &mut Text, rd: u8, value: C)
     requires { array_string_len text.old + 91 ≤ 256 }

@@ -8,7 +8,7 @@ use crate::text::{Text, put_hex};
 use base::{Cause, Fault, interrupt};
 use trap_texts::{cause_name, cheri_cause_name, register_at_fault};
 
-/// Puts a cause's name, where it has one, behind a text.
+/// Appends a cause's name, where it has one, to a text.
 #[tactic(auto, using(trap_texts::specs::LengthLaws::cause_name_short))]
 fn put_cause(text: &mut Text, mcause: u64)
     requires { array_string_len text.old + 32 ≤ 256 }
@@ -21,7 +21,7 @@ fn put_cause(text: &mut Text, mcause: u64)
     }
 }
 
-/// Puts what a capability forbids and at which register behind a text, where the trap is a CHERI exception and both have names.
+/// Appends what a capability forbids and at which register to a text, where the trap is a CHERI exception and both have names.
 #[tactic(auto, using(trap_texts::specs::LengthLaws::cheri_cause_name_short, trap_texts::specs::LengthLaws::register_at_fault_short))]
 fn put_violation(text: &mut Text, fault: Fault)
     requires { array_string_len text.old + 66 ≤ 256 }
@@ -45,7 +45,7 @@ fn put_violation(text: &mut Text, fault: Fault)
     }
 }
 
-/// Puts whether an exception traps or an interrupt is taken behind a text.
+/// Appends whether an exception traps or an interrupt is taken to a text.
 #[tactic(auto, unfolding(crate::specs::EffectText::taken))]
 fn put_taken(text: &mut Text, mcause: u64)
     requires { array_string_len text.old + 5 ≤ 256 }
@@ -59,7 +59,7 @@ fn put_taken(text: &mut Text, mcause: u64)
     });
 }
 
-/// Puts a trap behind a text.
+/// Appends a trap to a text.
 pub(crate) fn put_trap(text: &mut Text, fault: Fault)
     requires { array_string_len text.old + 160 ≤ 256 }
     ensures text { text.new.bytes ≡ text.old.bytes ++ trap_entry fault }

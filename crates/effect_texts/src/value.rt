@@ -9,7 +9,7 @@ use cap_bounds::CapRep;
 use cap_rights::Perms;
 use disassembler::hex_digits;
 
-/// Puts a name and so many hexadecimal digits behind a text.
+/// Appends a name and so many hexadecimal digits to a text.
 fn put_field(text: &mut ArrayString<96>, name: &str, width: usize, n: u128)
     requires width { width ≤ 17 }
     requires room { array_string_len text.old + (length name.now + width) ≤ 96 }
@@ -20,7 +20,7 @@ fn put_field(text: &mut ArrayString<96>, name: &str, width: usize, n: u128)
     text.push_str(hex_digits(n, width).as_str());
 }
 
-/// Puts a name and a truth value as a digit behind a text.
+/// Appends a name and a truth value as a digit to a text.
 fn put_flag(text: &mut ArrayString<96>, name: &str, flag: bool)
     requires { array_string_len text.old + (length name.now + 1) ≤ 96 }
     ensures bytes { text.new.bytes ≡ text.old.bytes ++ name.now ++ digit flag }

@@ -12,7 +12,7 @@ use hart::Hart;
 use std::alloc::AllocError;
 use trap_texts::cheri_asked_name;
 
-/// Puts a text and an address behind a text.
+/// Appends a text and an address to a text.
 pub(crate) fn put_at(text: &mut String, before: &str, address: u64) -> Result<(), AllocError>
     ensures { OnOk result (string_bytes text.new ≡ string_bytes text.old ++ (before.now ++ hex_of 16 address)) }
 {
@@ -20,7 +20,7 @@ pub(crate) fn put_at(text: &mut String, before: &str, address: u64) -> Result<()
     put_hex(text, 16, u128::from(address))
 }
 
-/// Puts what is asked of a capability, and its register, behind a text.
+/// Appends what is asked of a capability, and its register, to a text.
 fn put_name(text: &mut String, register: u64, cause: CheriCause) -> Result<(), AllocError>
     ensures { OnOk result (string_bytes text.new ≡ string_bytes text.old ++ name_text register cause) }
 {
@@ -29,7 +29,7 @@ fn put_name(text: &mut String, register: u64, cause: CheriCause) -> Result<(), A
     put_register(text, register)
 }
 
-/// Puts the bytes that are asked for, and a capability's bounds, behind a text.
+/// Appends the bytes that are asked for, and a capability's bounds, to a text.
 fn put_bounds<C: CapRep>(
     text: &mut String,
     address: u64,
@@ -55,7 +55,7 @@ fn put_multiple(text: &mut String, size: u64, address: u64) -> Result<(), AllocE
     put_hex(text, 16, u128::from(address))
 }
 
-/// Puts what a condition asks behind a text.
+/// Appends what a condition asks to a text.
 #[tactic(auto, unfolding(crate::specs::Text::question_text))]
 fn put_question<C: CapRep>(
     text: &mut String,
@@ -91,7 +91,7 @@ fn mark(holds: bool) -> &'static str
     if holds { "  ok " } else { "  no " }
 }
 
-/// Puts the line of a condition behind a text.
+/// Appends the line of a condition to a text.
 #[tactic(auto, unfolding(crate::specs::Text::condition_line))]
 fn put_line<C: CapRep>(
     text: &mut String,
@@ -105,7 +105,7 @@ fn put_line<C: CapRep>(
     put(text, "\n")
 }
 
-/// Puts the lines of conditions behind a text, up to the first that is false.
+/// Appends the lines of conditions to a text, up to the first that is false.
 pub(crate) fn put_conditions<C: CapRep>(
     text: &mut String,
     hart: &Hart<C>,

@@ -23,14 +23,14 @@ pub(crate) fn capability_in<C: CapRep>(hart: &Hart<C>, register: u64) -> C
     }
 }
 
-/// Puts the name of a register behind a text.
+/// Appends the name of a register to a text.
 pub(crate) fn put_register(text: &mut String, register: u64) -> Result<(), AllocError>
     ensures { OnOk result (string_bytes text.new ≡ string_bytes text.old ++ register_text register) }
 {
     put(text, register_at_fault(register).unwrap_or(""))
 }
 
-/// Puts the line of the capability in a register behind a text.
+/// Appends the line of the capability in a register to a text.
 pub(crate) fn put_capability<C: CapRep>(
     text: &mut String,
     hart: &Hart<C>,

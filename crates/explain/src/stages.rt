@@ -41,7 +41,7 @@ fn moved_name(cause: Cause) -> &'static str
     }
 }
 
-/// Puts a size, and where, behind a text.
+/// Appends a size, and where, to a text.
 fn put_sized(text: &mut String, name: &str, size: Size, address: u64) -> Result<(), AllocError>
     ensures { OnOk result (string_bytes text.new ≡ string_bytes text.old ++ sized_place name.now size address) }
 {
@@ -57,7 +57,7 @@ fn here<C: CapRep>(hart: &Hart<C>) -> u64
     hart.scrs().pcc().address()
 }
 
-/// Puts what a stage asks and where, as its last question says it, behind a text.
+/// Appends what a stage asks and where, as its last question says it, to a text.
 fn put_place<C: CapRep>(
     text: &mut String,
     hart: &Hart<C>,
@@ -87,7 +87,7 @@ fn is_invocation(conditions: &[Condition]) -> bool
     conditions.iter().any(|c| matches!(c.question, Question::Right { cause: CInvoke, .. }))
 }
 
-/// Puts the lines of the capabilities whose tag is asked behind a text.
+/// Appends the lines of the capabilities whose tag is asked to a text.
 fn put_tag_lines<C: CapRep>(
     text: &mut String,
     hart: &Hart<C>,
@@ -110,7 +110,7 @@ fn put_tag_lines<C: CapRep>(
     }
 }
 
-/// Puts the lines of the capabilities that a stage asks behind a text.
+/// Appends the lines of the capabilities that a stage asks to a text.
 fn put_capabilities<C: CapRep>(
     text: &mut String,
     hart: &Hart<C>,
@@ -129,7 +129,7 @@ fn put_capabilities<C: CapRep>(
     }
 }
 
-/// Puts a stage behind a text, if it asks for something.
+/// Appends a stage to a text, if it asks for something.
 #[tactic(auto, unfolding(crate::specs::Text::stage_text))]
 fn put_stage<C: CapRep>(
     text: &mut String,
@@ -149,7 +149,7 @@ fn put_stage<C: CapRep>(
     }
 }
 
-/// Puts the decoding of a word, and what it asks as an instruction, behind a text.
+/// Appends the decoding of a word, and what it asks as an instruction, to a text.
 fn put_word<C: CapRep>(text: &mut String, hart: &Hart<C>, word: u32) -> Result<(), AllocError>
     ensures { OnOk result (string_bytes text.new
         ≡ string_bytes text.old ++ flat_map (stage_text hart.now) (word_stages (insn_of word) word hart.now)) }
@@ -175,7 +175,7 @@ fn is_interrupted<C: CapRep>(hart: &Hart<C>) -> bool
     pending(hart.csrs(), hart.devices().interrupts()).is_some()
 }
 
-/// Puts the stages of the next step behind a text; there are none where an interrupt is taken.
+/// Appends the stages of the next step to a text; there are none where an interrupt is taken.
 #[tactic(auto, unfolding(crate::specs::Asked::stages_of, crate::specs::Text::stages_text))]
 pub(crate) fn put_stages<C: CapRep>(text: &mut String, hart: &Hart<C>) -> Result<(), AllocError>
     ensures { OnOk result (string_bytes text.new ≡ string_bytes text.old ++ stages_text hart.now) }

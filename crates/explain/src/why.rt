@@ -22,7 +22,7 @@ fn word_at(memory: &Memory, address: u64) -> u32
     memory.load(address, Size::Word) as u32
 }
 
-/// Puts the line of the instruction at PCC behind a text, where there is RAM.
+/// Appends the line of the instruction at PCC to a text, where there is RAM.
 #[tactic(auto, unfolding(crate::specs::Text::instruction_text))]
 fn put_instruction<C: CapRep>(text: &mut String, hart: &Hart<C>) -> Result<(), AllocError>
     ensures { OnOk result (string_bytes text.new ≡ string_bytes text.old ++ instruction_text hart.now) }
@@ -37,7 +37,7 @@ fn put_instruction<C: CapRep>(text: &mut String, hart: &Hart<C>) -> Result<(), A
     }
 }
 
-/// Puts what the next step will do, and why, behind a text.
+/// Appends what the next step will do, and why, to a text.
 fn put_running<C: CapRep>(text: &mut String, hart: &Hart<C>) -> Result<(), AllocError>
     ensures { OnOk result (string_bytes text.new ≡ string_bytes text.old ++ running_text hart.now) }
 {
@@ -48,7 +48,7 @@ fn put_running<C: CapRep>(text: &mut String, hart: &Hart<C>) -> Result<(), Alloc
     put(text, "\n")
 }
 
-/// Puts what the next step will do, and why, behind a text: PCC's instruction, the stages that it asks, and the effect; or *halted*.
+/// Appends what the next step will do, and why, to a text: PCC's instruction, the stages that it asks, and the effect; or *halted*.
 ///
 /// # Errors
 ///
