@@ -22,6 +22,8 @@ mod plain_rows;
 mod plain_run;
 mod plan;
 mod planned;
+mod polls;
+mod reach;
 mod run;
 mod setting;
 mod step;
