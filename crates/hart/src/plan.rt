@@ -1,18 +1,41 @@
 //! What an instruction does, decided from what the hart looks at: by its row's kind.
 
-ghost use Rattle.std.specs.Prelude.{◌≡◌};
+ghost use Rattle.std.specs.Prelude.{◌≡◌, ℕ, IfSome, true};
 ghost use Rattle.isa_rows.specs.Kind.{kind_of};
 ghost use Rattle.hart.specs.Applying.{meant, CanApply};
 ghost use Rattle.hart.specs.Looks.{HasRegisters};
+ghost use Rattle.hart.specs.PlainRun.{is_steady};
 ghost use Rattle.hart.specs.Step.{kind_effect};
 
 use crate::effect::Effect;
 use crate::hart::Hart;
 use base::{Cause, Fault};
 use cap_bounds::CapRep;
-use isa_rows::{Insn, Kind};
+use isa_rows::{Insn, Kind, Row};
 
 impl<C: CapRep> Hart<C> {
+    /// The effect of an instruction of a row that does the same wherever it stands, whatever its word is.
+    #[inline(always)]
+    pub(crate) fn plan_steady(&self, row: Row, insn: Insn) -> Option<Effect<C>>
+        requires same { insn.row ≡ row }
+        requires registers { HasRegisters insn }
+        ensures effect { IfSome result (λ e. (word : ℕ) → meant C.value e ≡ kind_effect (kind_of insn.row) word insn self.now) }
+        ensures can { IfSome result (λ e. CanApply e self.now) }
+        ensures steady { IfSome result (λ e. is_steady (kind_of insn.row) ≡ true) }
+    {
+        let insn = Insn { row, ..insn };
+        match row.kind() {
+            Kind::Integer => Some(self.plan_integer(insn)),
+            Kind::MulDiv => Some(self.plan_mul_div(insn)),
+            Kind::Capability => Some(self.plan_capability(insn)),
+            Kind::Load => Some(self.plan_load(insn)),
+            Kind::Store => Some(self.plan_store(insn)),
+            Kind::LoadCapability => Some(self.plan_load_capability(insn)),
+            Kind::StoreCapability => Some(self.plan_store_capability(insn)),
+            _ => None,
+        }
+    }
+
     /// The effect of an instruction. The word stands in mtval where it is illegal.
     #[inline]
     #[tactic(auto, unfolding(crate::specs::Step::kind_effect, crate::specs::Step::asked, crate::specs::Step::does, crate::specs::Applying::CanApply))]
