@@ -11,20 +11,18 @@ use crate::effect::Effect;
 use crate::hart::Hart;
 use base::{Cause, Fault};
 use cap_bounds::CapRep;
-use isa_rows::{Insn, Kind, Row};
+use isa_rows::{Insn, Kind};
 
 impl<C: CapRep> Hart<C> {
     /// The effect of an instruction of a row that does the same wherever it stands, whatever its word is.
-    #[inline(always)]
-    pub(crate) fn plan_steady(&self, row: Row, insn: Insn) -> Option<Effect<C>>
-        requires same { insn.row ≡ row }
+    #[inline]
+    pub(crate) fn plan_steady(&self, insn: Insn) -> Option<Effect<C>>
         requires registers { HasRegisters insn }
         ensures effect { IfSome result (λ e. (word : ℕ) → meant C.value e ≡ kind_effect (kind_of insn.row) word insn self.now) }
         ensures can { IfSome result (λ e. CanApply e self.now) }
         ensures steady { IfSome result (λ e. is_steady (kind_of insn.row) ≡ true) }
     {
-        let insn = Insn { row, ..insn };
-        match row.kind() {
+        match insn.row.kind() {
             Kind::Integer => Some(self.plan_integer(insn)),
             Kind::MulDiv => Some(self.plan_mul_div(insn)),
             Kind::Capability => Some(self.plan_capability(insn)),

@@ -3,7 +3,6 @@ use Rattle.cap_bounds.specs.CapValue.{CapValue}
 use Rattle.isa_rows.specs.Kind.{kind_of}
 use Rattle.isa_rows.specs.declared.kinds.Kind.{Kind}
 use Rattle.isa_rows.specs.declared.operands.Insn.{Insn}
-use Rattle.isa_rows.specs.declared.rows.Row.{Row}
 use Rattle.hart.specs.ComputeRows.{integer_effect, mul_div_effect, capability_effect}
 use Rattle.hart.specs.PlainRun.{is_steady}
 use Rattle.hart.specs.RowEffects.{load_effect, store_effect, load_capability_effect, store_capability_effect}
@@ -12,19 +11,10 @@ use Rattle.hart.specs.State.{State}
 use Rattle.hart.specs.declared.effect.Effect.{Effect}
 use Rattle.hart.proofs.hart.Hart.plan_steady.Goals as goal
 
--- an instruction with its own row is the same
-abbrev with_row : Row → Insn → Insn
-with_row row insn = record { row = row; rd = insn.rd; rs1 = insn.rs1; rs2 = insn.rs2; imm = insn.imm }
-
-same-effect : (k : Kind) (row : Row) (insn : Insn) (s : State) (e : Effect CapValue) → insn.row ≡ row → k ≡ kind_of row
-    → ((word : ℕ) → e ≡ kind_effect k word (with_row row insn) s) → (word : ℕ) → e ≡ kind_effect (kind_of insn.row) word insn s
-same-effect k row insn s e same kind effect word =
-    effect word ∙ ap (λ r. kind_effect k word (with_row r insn) s) (sym same)
-    ∙ ap (λ j. kind_effect j word insn s) (kind ∙ ap kind_of (sym same))
-
-same-steady : (k : Kind) (row : Row) (insn : Insn) → insn.row ≡ row → k ≡ kind_of row → is_steady k ≡ true
-    → is_steady (kind_of insn.row) ≡ true
-same-steady k row insn same kind is = ap is_steady (ap kind_of same ∙ sym kind) ∙ is
+-- the effect of an instruction is that of its row's kind
+of_kind : (k : Kind) (insn : Insn) (s : State) (e : Effect CapValue) → k ≡ kind_of insn.row → ((word : ℕ) → e ≡ kind_effect k word insn s)
+    → (word : ℕ) → e ≡ kind_effect (kind_of insn.row) word insn s
+of_kind k insn s e kind effect word = effect word ∙ ap (λ j. kind_effect j word insn s) kind
 
 pub returns-in-Integer : goal.returns-in-Integer
 unfolding kind_effect asked does integer_effect
@@ -32,9 +22,9 @@ returns-in-Integer g c =
     let kind = sym c.in-Integer.is ∙ c.kind.ensures in
     let planned = c.plan_integer.ensures in
     record {
-      effect = same-effect _ c.args.row c.args.insn c.args.self.now _ c.requires.same kind (λ word. planned.effect);
+      effect = of_kind _ c.args.insn c.args.self.now _ kind (λ word. planned.effect);
       can = planned.can;
-      steady = same-steady _ c.args.row c.args.insn c.requires.same kind refl;
+      steady = ap is_steady (sym kind);
     }
 
 pub returns-in-MulDiv : goal.returns-in-MulDiv
@@ -43,9 +33,9 @@ returns-in-MulDiv g c =
     let kind = sym c.in-MulDiv.is ∙ c.kind.ensures in
     let planned = c.plan_mul_div.ensures in
     record {
-      effect = same-effect _ c.args.row c.args.insn c.args.self.now _ c.requires.same kind (λ word. planned.effect);
+      effect = of_kind _ c.args.insn c.args.self.now _ kind (λ word. planned.effect);
       can = planned.can;
-      steady = same-steady _ c.args.row c.args.insn c.requires.same kind refl;
+      steady = ap is_steady (sym kind);
     }
 
 pub returns-in-Capability : goal.returns-in-Capability
@@ -54,9 +44,9 @@ returns-in-Capability g c =
     let kind = sym c.in-Capability.is ∙ c.kind.ensures in
     let planned = c.plan_capability.ensures in
     record {
-      effect = same-effect _ c.args.row c.args.insn c.args.self.now _ c.requires.same kind (λ word. planned.effect);
+      effect = of_kind _ c.args.insn c.args.self.now _ kind (λ word. planned.effect);
       can = planned.can;
-      steady = same-steady _ c.args.row c.args.insn c.requires.same kind refl;
+      steady = ap is_steady (sym kind);
     }
 
 pub returns-in-Load : goal.returns-in-Load
@@ -65,9 +55,9 @@ returns-in-Load g c =
     let kind = sym c.in-Load.is ∙ c.kind.ensures in
     let planned = c.plan_load.ensures in
     record {
-      effect = same-effect _ c.args.row c.args.insn c.args.self.now _ c.requires.same kind (λ word. planned.effect);
+      effect = of_kind _ c.args.insn c.args.self.now _ kind (λ word. planned.effect);
       can = planned.can;
-      steady = same-steady _ c.args.row c.args.insn c.requires.same kind refl;
+      steady = ap is_steady (sym kind);
     }
 
 pub returns-in-Store : goal.returns-in-Store
@@ -76,9 +66,9 @@ returns-in-Store g c =
     let kind = sym c.in-Store.is ∙ c.kind.ensures in
     let planned = c.plan_store.ensures in
     record {
-      effect = same-effect _ c.args.row c.args.insn c.args.self.now _ c.requires.same kind (λ word. planned.effect);
+      effect = of_kind _ c.args.insn c.args.self.now _ kind (λ word. planned.effect);
       can = planned.can;
-      steady = same-steady _ c.args.row c.args.insn c.requires.same kind refl;
+      steady = ap is_steady (sym kind);
     }
 
 pub returns-in-LoadCapability : goal.returns-in-LoadCapability
@@ -87,9 +77,9 @@ returns-in-LoadCapability g c =
     let kind = sym c.in-LoadCapability.is ∙ c.kind.ensures in
     let planned = c.plan_load_capability.ensures in
     record {
-      effect = same-effect _ c.args.row c.args.insn c.args.self.now _ c.requires.same kind (λ word. planned.effect);
+      effect = of_kind _ c.args.insn c.args.self.now _ kind (λ word. planned.effect);
       can = planned.can;
-      steady = same-steady _ c.args.row c.args.insn c.requires.same kind refl;
+      steady = ap is_steady (sym kind);
     }
 
 pub returns-in-StoreCapability : goal.returns-in-StoreCapability
@@ -98,7 +88,7 @@ returns-in-StoreCapability g c =
     let kind = sym c.in-StoreCapability.is ∙ c.kind.ensures in
     let planned = c.plan_store_capability.ensures in
     record {
-      effect = same-effect _ c.args.row c.args.insn c.args.self.now _ c.requires.same kind (λ word. planned.effect);
+      effect = of_kind _ c.args.insn c.args.self.now _ kind (λ word. planned.effect);
       can = planned.can;
-      steady = same-steady _ c.args.row c.args.insn c.requires.same kind refl;
+      steady = ap is_steady (sym kind);
     }
