@@ -18,6 +18,7 @@ pub mod laws;
 mod looks;
 mod memory_rows;
 mod opening;
+mod plain_jumps;
 mod plain_rows;
 mod plain_run;
 mod plan;

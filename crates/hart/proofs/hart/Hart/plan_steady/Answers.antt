@@ -1,4 +1,4 @@
-use Rattle.std.proofs.Common.{◌≡◌, ℕ, true, refl, sym, ap, ◌∙◌}
+use Rattle.std.proofs.Common.{◌≡◌, ℕ, sym, ap, ◌∙◌}
 use Rattle.cap_bounds.specs.CapValue.{CapValue}
 use Rattle.isa_rows.specs.Kind.{kind_of}
 use Rattle.isa_rows.specs.declared.kinds.Kind.{Kind}
