@@ -36,7 +36,7 @@ impl<C: CapRep> Hart<C> {
 
     /// The effect of an instruction. The word stands in mtval where it is illegal.
     #[inline]
-    #[tactic(auto, unfolding(crate::specs::Step::kind_effect, crate::specs::Step::asked, crate::specs::Step::does, crate::specs::Applying::CanApply))]
+    #[tactic(auto, unfolding(crate::specs::Step::kind_effect, crate::specs::Step::asked, crate::specs::Step::does))]
     pub(crate) fn plan(&self, word: u32, insn: Insn) -> Effect<C>
         requires registers { HasRegisters insn }
         ensures effect { meant C.value result ≡ kind_effect (kind_of insn.row) word insn self.now }

@@ -3,6 +3,7 @@ use Rattle.cap_bounds.specs.CapValue.{CapValue}
 use Rattle.isa_rows.specs.Kind.{kind_of}
 use Rattle.isa_rows.specs.declared.kinds.Kind.{Kind}
 use Rattle.isa_rows.specs.declared.operands.Insn.{Insn}
+use Rattle.hart.specs.Applying.{CanApply}
 use Rattle.hart.specs.Step.{asked, does, kind_effect}
 use Rattle.hart.specs.RowEffects.{branch_effect, link_effect, enter_effect, jalr_effect, invoke_effect, load_effect, store_effect}
 use Rattle.hart.specs.RowEffects.{load_capability_effect, store_capability_effect, csr_effect, special_effect, return_effect}
@@ -135,3 +136,15 @@ returns-in-Mret g c = record {
   effect = of_kind _ c.args.word c.args.insn c.args.self.now _ c.plan_return.ensures.effect (sym c.in-Mret.is ∙ c.kind.ensures);
   can = c.plan_return.ensures.can;
 }
+
+pub returns-in-Fence-clause-can : goal.returns-in-Fence-clause-can
+unfolding CanApply
+returns-in-Fence-clause-can g c = tt
+
+pub returns-in-Ecall-clause-can : goal.returns-in-Ecall-clause-can
+unfolding CanApply
+returns-in-Ecall-clause-can g c = tt
+
+pub returns-in-Ebreak-clause-can : goal.returns-in-Ebreak-clause-can
+unfolding CanApply
+returns-in-Ebreak-clause-can g c = tt
