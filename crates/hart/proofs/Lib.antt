@@ -5,6 +5,7 @@ pub mod Places
 pub mod PlainRun
 pub mod PlainSteps
 pub mod Plans
+pub mod Polled
 pub mod Quiet
 pub mod Words
 pub mod Written

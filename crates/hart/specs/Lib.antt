@@ -27,5 +27,6 @@ pub mod OpeningStateLaws
 -- Inner words
 pub mod Applying
 pub mod RowEffects
+pub mod Plan
 pub mod PlainRun
 pub mod Hops

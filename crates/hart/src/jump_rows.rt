@@ -23,7 +23,7 @@ const INVOKED_DATA: u8 = 31;
 impl<C: CapRep> Hart<C> {
     /// A branch: where it is taken, its target is checked against PCC.
     #[inline]
-    #[tactic(auto, unfolding(crate::specs::RowEffects::branch_effect, cap_checks::specs::FirstFault::target_fault, crate::specs::Applying::CanApply))]
+    #[tactic(auto, unfolding(crate::specs::Plan::branch_effect, crate::specs::Plan::target_fault, crate::specs::Plan::CanApply))]
     pub(crate) fn plan_branch(&self, insn: Insn) -> Effect<C>
         requires kind { kind_of insn.row ≡ kind.Branch }
         requires registers { HasRegisters insn }
@@ -62,7 +62,7 @@ impl<C: CapRep> Hart<C> {
 
     /// A jump within PCC with a link.
     #[inline]
-    #[tactic(auto, unfolding(crate::specs::RowEffects::link_effect, cap_checks::specs::FirstFault::target_fault, crate::specs::Applying::CanApply))]
+    #[tactic(auto, unfolding(crate::specs::Plan::link_effect, crate::specs::Plan::target_fault, crate::specs::Plan::CanApply))]
     fn plan_link(&self, rd: u8, target: u64) -> Effect<C>
         requires { rd < 32 }
         ensures effect { meant C.value result ≡ link_effect rd target self.now }
@@ -90,7 +90,7 @@ impl<C: CapRep> Hart<C> {
 
     /// A jump to the capability in rs1, whose seal, if it has one, is opened: JALR in capability mode, and JALR.CAP.
     #[inline(always)]
-    #[tactic(auto, unfolding(crate::specs::RowEffects::enter_effect, cap_checks::specs::FirstFault::jump_fault, crate::specs::Applying::CanApply))]
+    #[tactic(auto, unfolding(crate::specs::Plan::enter_effect, crate::specs::Plan::jump_fault, crate::specs::Plan::CanApply))]
     pub(crate) fn plan_enter(&self, insn: Insn) -> Effect<C>
         requires registers { HasRegisters insn }
         ensures effect { meant C.value result ≡ enter_effect insn self.now }
@@ -111,7 +111,7 @@ impl<C: CapRep> Hart<C> {
 
     /// JALR, by the mode.
     #[inline(always)]
-    #[tactic(auto, unfolding(crate::specs::RowEffects::jalr_effect, crate::specs::RowEffects::enter_effect, crate::specs::RowEffects::link_effect))]
+    #[tactic(auto, unfolding(crate::specs::Plan::jalr_effect, crate::specs::Plan::enter_effect, crate::specs::Plan::link_effect))]
     pub(crate) fn plan_jalr(&self, insn: Insn) -> Effect<C>
         requires registers { HasRegisters insn }
         ensures effect { meant C.value result ≡ jalr_effect insn self.now }
@@ -125,7 +125,7 @@ impl<C: CapRep> Hart<C> {
     }
 
     /// CInvoke: PCC is the code unsealed, and register 31 is the data unsealed.
-    #[tactic(auto, unfolding(crate::specs::RowEffects::invoke_effect, cap_checks::specs::FirstFault::invoke_fault, crate::specs::Applying::CanApply))]
+    #[tactic(auto, unfolding(crate::specs::Plan::invoke_effect, crate::specs::Plan::invoke_fault, crate::specs::Plan::CanApply))]
     pub(crate) fn plan_invoke(&self, insn: Insn) -> Effect<C>
         requires registers { HasRegisters insn }
         ensures effect { meant C.value result ≡ invoke_effect insn self.now }
