@@ -1,25 +1,26 @@
 #!/usr/bin/env python3
 """docs/PROGRAMMING.md, the programmer's page, made of the repository's own tables.
 
-    python3 tools/programming.py            writes it
-    python3 tools/programming.py --check    says the first line that differs from what stands there, and ends with 1 if any does
+    python3 tools/pages/programming.py            writes it
+    python3 tools/pages/programming.py --check    says the first line that differs from what stands there, and ends with 1 if any does
 
-The prose stands in tools/programming.md, with a name in double braces for each table and number; tools/programming_words.py has the
-words for each condition and definition, by its text. Every number, name, bit, mask and order comes from the sources. A source that
-isn't understood, words that nothing asks for, or a name that the prose doesn't use ends the script with 1 too.
+The prose stands in tools/pages/programming.md, with a name in double braces for each table and number; programming_words.py beside it
+has the words for each condition and definition, by its text. Every number, name, bit, mask and order comes from the sources. A source
+that isn't understood, words that nothing asks for, or a name that the prose doesn't use ends the script with 1 too.
 """
 import os
 import re
 import sys
 
-import programming_words as words
-from definitions import Definitions, NotUnderstood, bare, choices, constants, fields, items, matched, pair, plain, split, text_of, variants
-from definitions import worth
-from markdown import table
-from programming_rows import format_table, row_count, row_names, rows_table
+sys.path.insert(0, os.path.join(os.path.dirname(os.path.abspath(__file__)), ".."))
+import pages.programming_words as words
+from pages.definitions import (Definitions, NotUnderstood, bare, choices, constants, fields, items, matched, pair, plain, split, text_of,
+                               variants, worth)
+from pages.markdown import table
+from pages.programming_rows import format_table, row_count, row_names, rows_table
 
-TOP = os.path.join(os.path.dirname(os.path.abspath(__file__)), "..")
-PROSE = os.path.join(TOP, "tools", "programming.md")
+TOP = os.path.join(os.path.dirname(os.path.abspath(__file__)), "..", "..")
+PROSE = os.path.join(TOP, "tools", "pages", "programming.md")
 PAGE = os.path.join(TOP, "docs", "PROGRAMMING.md")
 
 FIRST_FAULT = Definitions("cap_checks/specs/FirstFault")
@@ -51,7 +52,7 @@ used = set()
 def said(book, text):
     """The words for a text of the sources."""
     if text not in getattr(words, book):
-        raise NotUnderstood(f"tools/programming_words.py, {book}: no words for: {text}")
+        raise NotUnderstood(f"tools/pages/programming_words.py, {book}: no words for: {text}")
     used.add((book, text))
     return getattr(words, book)[text]
 
@@ -728,9 +729,9 @@ def page():
     with open(PROSE, encoding="utf-8") as file:
         prose = file.read()
     asked = re.findall(r"\{\{(\w+)\}\}", prose)
-    wrong = [f"tools/programming.md: no {name}" for name in asked if name not in tables]
-    wrong += [f"tools/programming.md doesn't use {name}" for name in tables if name not in asked]
-    wrong += [f"tools/programming_words.py: nothing asks for {text}" for text in unused()]
+    wrong = [f"tools/pages/programming.md: no {name}" for name in asked if name not in tables]
+    wrong += [f"tools/pages/programming.md doesn't use {name}" for name in tables if name not in asked]
+    wrong += [f"tools/pages/programming_words.py: nothing asks for {text}" for text in unused()]
     if wrong:
         raise NotUnderstood("\n".join(wrong))
     return re.sub(r"\{\{(\w+)\}\}", lambda found: tables[found.group(1)], prose)

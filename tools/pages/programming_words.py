@@ -1,4 +1,4 @@
-"""What docs/PROGRAMMING.md says for each condition, value and definition that tools/programming.py meets in the sources.
+"""What docs/PROGRAMMING.md says for each condition, value and definition that tools/pages/programming.py meets in the sources.
 
 The key is the source's own text, with single blanks. A text that changes there finds nothing here, so that whoever changes a
 definition says here, in words, what it says now; and an entry that nothing asks for is an error too.
@@ -181,12 +181,12 @@ DEFINITIONS = {
         "a fault names that register",
     "hart/specs/Accesses is_rs1: capability_mode | false | true":
         "it is rs1 in capability mode and in the `.cap` forms, and DDC in integer mode and in the `.ddc` forms",
-    "hart/specs/MemoryRows load_done: if is_in_ram s.memory address (bytes_of size) then Write (record {rd = insn.rd; value = integer (loaded insn.row "
-    "size (number_at s.memory address (bytes_of size)))}) else DeviceLoad (record {rd = insn.rd; value = integer (value_at address "
-    "s.devices); address = address; size = size})":
+    "hart/specs/MemoryRows load_done: if is_in_ram s.memory address (bytes_of size) then Write (record {rd = insn.rd; "
+    "value = integer (loaded insn.row size (number_at s.memory address (bytes_of size)))}) else DeviceLoad (record {rd = insn.rd; "
+    "value = integer (value_at address s.devices); address = address; size = size})":
         "A load that its authority allows reads RAM if all its bytes lie there, or else a device register",
-    "hart/specs/MemoryRows store_done: if is_in_ram s.memory address (bytes_of size) then Store (stored_number address size number) else DeviceStore "
-    "(stored_number address size number); stored_number: record {address = address; size = size; number = number}":
+    "hart/specs/MemoryRows store_done: if is_in_ram s.memory address (bytes_of size) then Store (stored_number address size number) "
+    "else DeviceStore (stored_number address size number); stored_number: record {address = address; size = size; number = number}":
         "A store writes RAM if all its bytes lie there, or else a device register",
     "hart/specs/MemoryRows memory_asked: access_asked a (mapped_for a (place_of insn s) s) insn s; mapped_for: loads_from address size s | "
     "stores_to address size s | capability_at cause.LoadAccess address s | capability_at cause.StoreAccess address s; capability_at: asks "

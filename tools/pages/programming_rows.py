@@ -2,8 +2,8 @@
 isa_rows/specs/Shape, Forms and Line."""
 import re
 
-from definitions import Definitions, NotUnderstood, bare, declared, items, matched, split, text_of, worth
-from markdown import table
+from pages.definitions import Definitions, NotUnderstood, bare, declared, items, matched, split, text_of, worth
+from pages.markdown import table
 
 SHAPE = Definitions("isa_rows/specs/Shape")
 FORMS = Definitions("isa_rows/specs/Forms")

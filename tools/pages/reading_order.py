@@ -1,8 +1,8 @@
 #!/usr/bin/env python3
 """The reading order of docs/MODEL.md: its tables, with the lines of each page.
 
-    python3 tools/reading_order.py            prints the tables
-    python3 tools/reading_order.py --check    says whether they stand in docs/MODEL.md, and ends with 1 if not
+    python3 tools/pages/reading_order.py            prints the tables
+    python3 tools/pages/reading_order.py --check    says whether they stand in docs/MODEL.md, and ends with 1 if not
 
 The thirteen pages of the step have to be all files that hart/specs/Step names, directly or not, each after those that it names; what
 is missing, too much or too early is printed.
@@ -11,7 +11,7 @@ import os
 import re
 import sys
 
-TOP = os.path.join(os.path.dirname(os.path.abspath(__file__)), "..")
+TOP = os.path.join(os.path.dirname(os.path.abspath(__file__)), "..", "..")
 
 # Pages: what each is about, and its files.
 STEP = [

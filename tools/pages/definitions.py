@@ -6,7 +6,7 @@ Reading is strict: where a line isn't of the form that is looked for, NotUnderst
 import os
 import re
 
-CRATES = os.path.join(os.path.dirname(os.path.abspath(__file__)), "..", "crates")
+CRATES = os.path.join(os.path.dirname(os.path.abspath(__file__)), "..", "..", "crates")
 
 OPENING, CLOSING = "({[", ")}]"
 

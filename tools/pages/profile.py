@@ -1,7 +1,7 @@
 #!/usr/bin/env python3
 """Whether each choice that a definition marks *profile* has its row in docs/PROFILE.md.
 
-    python3 tools/profile.py --check
+    python3 tools/pages/profile.py --check
 
 A mark is the word `profile` in a file of crates/*/specs or crates/*/src; the file has to be named in the table, as `crate/specs/Name` or
 `crate/src/name.rt`. It names also what the table names and is no file. It ends with 1 where something is missing.
@@ -11,7 +11,7 @@ import re
 import subprocess
 import sys
 
-TOP = os.path.join(os.path.dirname(os.path.abspath(__file__)), "..")
+TOP = os.path.join(os.path.dirname(os.path.abspath(__file__)), "..", "..")
 MARK = re.compile(r"\bprofile\b")
 
 
@@ -22,7 +22,8 @@ def name_of(path):
 
 def marked():
     """The files of definitions and code that mark a choice."""
-    tracked = subprocess.run(["git", "-C", TOP, "ls-files", "crates/*/specs/*", "crates/*/src/*"], capture_output=True, text=True, check=True)
+    asked = ["git", "-C", TOP, "ls-files", "crates/*/specs/*", "crates/*/src/*"]
+    tracked = subprocess.run(asked, capture_output=True, text=True, check=True)
     for path in tracked.stdout.split():
         with open(os.path.join(TOP, path), encoding="utf-8") as file:
             if MARK.search(file.read()):

@@ -1,14 +1,16 @@
 #!/usr/bin/env python3
-"""Tries the commands of docs/COMPILED.md where their compiler is installed, as tools/tried.py tries those of the other pages.
+"""Tries the commands of docs/COMPILED.md where their compiler is installed, as tools/pages/tried.py tries those of the other pages.
 
-    python3 tools/compiled.py [PROGRAM]
+    python3 tools/pages/compiled.py [PROGRAM]
 
 Without the compiler it says so, and tries those from the section on that needs none.
 """
+import os
 import shutil
 import sys
 
-from tried import PROGRAM, commands, tried
+sys.path.insert(0, os.path.join(os.path.dirname(os.path.abspath(__file__)), ".."))
+from pages.tried import PROGRAM, commands, tried
 
 PAGE = "docs/COMPILED.md"
 

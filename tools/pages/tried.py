@@ -1,13 +1,13 @@
 #!/usr/bin/env python3
 """Tries the commands of the pages: README.md and docs/*.md.
 
-    python3 tools/tried.py [PROGRAM]
+    python3 tools/pages/tried.py [PROGRAM]
 
 PROGRAM is the proved program, as the gate leaves it: crates/cherisim/out/cherisim. A block marked ```console has lines `$ COMMAND`,
 each with what the command prints after it, on standard output and standard error. Lines `> ` directly after a command go on with it.
 A page's commands run one after the other in a folder of their own, which has a copy of examples/ and the program, as `cherisim` and as
 `./cherisim`. What they print has to be what stands there, word for word; a command that prints nothing has to end with 0.
-docs/COMPILED.md needs a compiler, and is tried by tools/compiled.py.
+docs/COMPILED.md needs a compiler, and is tried by tools/pages/compiled.py.
 """
 import glob
 import os
@@ -17,7 +17,7 @@ import subprocess
 import sys
 import tempfile
 
-TOP = os.path.join(os.path.dirname(os.path.abspath(__file__)), "..")
+TOP = os.path.join(os.path.dirname(os.path.abspath(__file__)), "..", "..")
 PROGRAM = os.path.join(TOP, "crates", "cherisim", "out", "cherisim")
 
 # The pages that another script tries.
