@@ -9,14 +9,14 @@ written by hand, from the format's definition and the manuals' words: no functio
 """
 import unittest
 
-from alu_vectors import BRANCH, M, ONE
-from bounds_vectors import (NULL_HIGH, ROOT_HIGH, SPACE, UNSEALED, canonical, decoded, exponent_and_mantissas, is_well_formed, kept,
+from cases.alu_vectors import BRANCH, M, ONE
+from cases.bounds_vectors import (NULL_HIGH, ROOT_HIGH, SPACE, UNSEALED, canonical, decoded, exponent_and_mantissas, is_well_formed, kept,
                             memory)
-from capability_rows import (COMPARISON, NUMBER, alignment_mask, integer, otype, perms, seal, set_address, set_bounds, set_bounds_exact,
-                             unseal)
-from capability_rows import ONE as OF_ONE
-from images import FIRST, ONE_CAPABILITY, ONE_INSN
-from values import SENTRY, capability, untagged
+from cases.capability_rows import (COMPARISON, NUMBER, alignment_mask, integer, otype, perms, seal, set_address, set_bounds,
+                                   set_bounds_exact, unseal)
+from cases.capability_rows import ONE as OF_ONE
+from cases.images import FIRST, ONE_CAPABILITY, ONE_INSN
+from cases.values import SENTRY, capability, untagged
 
 ONES = SPACE - 1
 LEAST = 1 << 63

@@ -1,8 +1,8 @@
 """Words, windows, requests and rights: the calls of libcheri-caps."""
 from ctypes import byref, c_bool, c_uint8
 
-from bounds_vectors import SPACE, UNSEALED, decoded, is_well_formed
-from requests import expected as bounded_by_formulas
+from cases.bounds_vectors import SPACE, UNSEALED, decoded, is_well_formed
+from cases.requests import expected as bounded_by_formulas
 
 from .libraries import Cap, Fields
 from .machines import MEPCC, PCC

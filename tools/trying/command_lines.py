@@ -3,7 +3,7 @@ import os
 import shutil
 import tempfile
 
-from quoting import quoted
+from cases.quoting import quoted
 
 from .reading import unquoted
 

@@ -1,7 +1,7 @@
 """The program's command lines over files and streams, some of which fail."""
 import re
 
-from quoting import quoted
+from cases.quoting import quoted
 
 from .desk import Desk
 from .reading import unescaped

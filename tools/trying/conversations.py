@@ -3,7 +3,7 @@ import os
 import re
 import subprocess
 
-from quoting import quoted
+from cases.quoting import quoted
 
 from .desk import Desk
 from .programs import text_of

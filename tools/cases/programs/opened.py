@@ -1,6 +1,6 @@
 """Image files that are opened: what RAM holds, and what a program finds there. Values are the format's and the architecture's."""
 
-import images
+from cases import images
 
 # auipc a1, 0; lc ca0, 256(a1), in integer mode
 LOADS = bytes.fromhex("97050000" "0fa50510")

@@ -4,10 +4,7 @@ own.
 A permission's set, a type that is none, a reserved type opened, a jump from where nothing is fetched, a text's pieces, a name with a blank
 after it, an expression longer than a line, what halted devices do, and amounts that no shift has.
 """
-import alu_vectors
-import asm_lines
-import checks
-import rights
+from cases import alu_vectors, asm_lines, checks, rights
 
 RESERVED = "3fffe4"
 AMOUNTS = {"slli": 64, "srli": 64, "srai": 64, "slliw": 32, "srliw": 32, "sraiw": 32}

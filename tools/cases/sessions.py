@@ -5,8 +5,8 @@ one that begins with `< ` is typed and left unread, and every other line is answ
 In the texts here a line that begins with `! ` stands for lines of the state.
 """
 
-import explanations
-from quoting import escaped, quoted
+from cases import explanations
+from cases.quoting import escaped, quoted
 
 # What `help` answers.
 COMMANDS = """\

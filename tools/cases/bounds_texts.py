@@ -4,10 +4,10 @@ The bounds and the word come from requests.py, and the window from bounds_vector
 its decoding keeps the bounds with, one block after the other. The picture is drawn by looking at each column's addresses.
 """
 
-from bounds_vectors import NULL_HIGH, ROOT_HIGH, SPACE, Numbers, kept
-from capability_rows import alignment_mask
-from quoting import quoted
-from requests import by_the_least_exponent, expected
+from cases.bounds_vectors import NULL_HIGH, ROOT_HIGH, SPACE, Numbers, kept
+from cases.capability_rows import alignment_mask
+from cases.quoting import quoted
+from cases.requests import by_the_least_exponent, expected
 
 # base, length and address of the requests whose numbers are worked out by hand
 WORKED = [

@@ -1,6 +1,6 @@
 """Spellings of registers and rows, from the manuals' listings."""
 
-from quoting import quoted
+from cases.quoting import quoted
 
 # Some of a register's names.
 REGISTERS = [

@@ -3,9 +3,9 @@
 The statuses, the order of faults and the texts are those of the program's description; images and words are made here, field by field.
 """
 
-from bounds_texts import text as bounds_text
-from images import FIRST, header, section
-from quoting import quoted
+from cases.bounds_texts import text as bounds_text
+from cases.images import FIRST, header, section
+from cases.quoting import quoted
 
 RAM = 0x80000000
 A0, A1, A2 = 10, 11, 12

@@ -1,6 +1,6 @@
 """Values in the lines of cases: a capability word's high half, its address and its tag."""
 
-from bounds_vectors import NULL_HIGH, SPACE, UNSEALED, canonical, decoded, is_well_formed
+from cases.bounds_vectors import NULL_HIGH, SPACE, UNSEALED, canonical, decoded, is_well_formed
 
 SENTRY = UNSEALED - 1
 ALL = 0xFFFF

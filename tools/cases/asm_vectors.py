@@ -3,8 +3,8 @@
 The words are those of isa_vectors.py: of GNU as for RV64IM, Zicsr, Zifencei and the privileged rows, and put together from the fields of
 CHERI-RISC-V's encodings for the others. The lines are written here, each row by each of its names.
 """
-from asm_texts import PROGRAMS, assembled
-from isa_vectors import made
+from cases.asm_texts import PROGRAMS, assembled
+from cases.isa_vectors import made
 
 X = ("zero ra sp gp tp t0 t1 t2 s0 s1 a0 a1 a2 a3 a4 a5 a6 a7 s2 s3 s4 s5 s6 s7 s8 s9 s10 s11 t3 t4 t5 t6").split()
 C = ["cnull"] + ["c" + name for name in X[1:]]

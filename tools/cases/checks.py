@@ -1,7 +1,7 @@
 """Cases of the checks before accesses, jumps and invocations: the first fault of an ordered list."""
 
-from bounds_vectors import SPACE, UNSEALED
-from values import ALL, SENTRY, capability, text, untagged
+from cases.bounds_vectors import SPACE, UNSEALED
+from cases.values import ALL, SENTRY, capability, text, untagged
 
 OWN_TYPE, OTHER_TYPE = 5, 6
 GLOBAL, EXECUTE, LOAD, STORE = 1 << 0, 1 << 1, 1 << 2, 1 << 3

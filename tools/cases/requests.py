@@ -6,7 +6,7 @@ The bounds expected are those that the word decodes to, by the formulas of bound
 definitions of cap_bounds, which take the least exponent that serves; that this rule agrees is asserted of every request.
 """
 
-from bounds_vectors import NULL_HIGH, ROOT_HIGH, SPACE, UNSEALED, Numbers, decoded, is_well_formed, kept
+from cases.bounds_vectors import NULL_HIGH, ROOT_HIGH, SPACE, UNSEALED, Numbers, decoded, is_well_formed, kept
 
 SENTRY = UNSEALED - 1
 # the fields that setting bounds leaves: permissions, flag and object type

@@ -1,8 +1,8 @@
 #!/usr/bin/env python3
 """Makes the files of cases anew, in cases/ and, where the proved program reads them, in crates/conformance/data.
 
-    python3 tools/cases.py            writes them
-    python3 tools/cases.py --check    says which differ from those that stand there, and ends with 1 if any does
+    python3 tools/cases/make.py            writes them
+    python3 tools/cases/make.py --check    says which differ from those that stand there, and ends with 1 if any does
 
 Each module of SOURCES has a function `files()` that gives pairs: a file's name, and its lines. A module that needs a program which is
 not installed is left out, and its Debian package is named.
@@ -11,10 +11,13 @@ import importlib
 import os
 import sys
 
+sys.path.insert(0, os.path.join(os.path.dirname(os.path.abspath(__file__)), ".."))
 from trying.paths import CASES, PROVED_CASES
 
 # The files that the proved program reads.
-PROVED = {"words", "windows", "requests", "agreements", "rights", "capability_rows", "accesses", "jumps", "invocations", "alone", "failures"}
+PROVED = {
+    "words", "windows", "requests", "agreements", "rights", "capability_rows", "accesses", "jumps", "invocations", "alone", "failures",
+}
 
 # The modules that make files, one a line.
 SOURCES = [
@@ -54,12 +57,13 @@ def made():
     """The names of the files with what is to stand in them."""
     for source in SOURCES:
         try:
-            yield from ((name, "".join(line + "\n" for line in lines)) for name, lines in importlib.import_module(source).files())
+            module = importlib.import_module(f"cases.{source}")
+            yield from ((name, "".join(line + "\n" for line in lines)) for name, lines in module.files())
         except FileNotFoundError as missing:
             if missing.filename not in PACKAGES:
                 raise
             package = PACKAGES[missing.filename]
-            print(f"tools/{source}.py is left out: it needs {missing.filename}, of Debian's package {package}", file=sys.stderr)
+            print(f"tools/cases/{source}.py is left out: it needs {missing.filename}, of Debian's package {package}", file=sys.stderr)
 
 
 def standing(path):

@@ -1,7 +1,7 @@
 #!/usr/bin/env python3
 """Words with the texts that they are shown as in both modes, from outside the program; and numbers with their digits.
 
-    tools/shown_vectors.py --compare
+    python3 tools/cases/shown_vectors.py --compare
 
 The words are those of isa_vectors.py (of GNU as for RV64IM, Zicsr, Zifencei and the privileged rows, put together from the fields of
 CHERI-RISC-V's encodings for the others), and these words with other operands in their fields. The texts are written here by the rules
@@ -14,13 +14,15 @@ as addresses; numbers of lui, auipc and shifts, decimal here and hexadecimal the
 that objdump knows and the language doesn't; fence's sets, which the language writes as a number, and fence.i's zeros.
 A fence or fence.i whose fields the manual reserves is left out: objdump shows it as no row, or without its operands.
 """
+import os
 import re
 import subprocess
 import sys
 import tempfile
 
-import isa_vectors
-from row_forms import FORM, SECOND
+sys.path.insert(0, os.path.join(os.path.dirname(os.path.abspath(__file__)), ".."))
+from cases import isa_vectors
+from cases.row_forms import FORM, SECOND
 
 X = ("zero ra sp gp tp t0 t1 t2 s0 s1 a0 a1 a2 a3 a4 a5 a6 a7 s2 s3 s4 s5 s6 s7 s8 s9 s10 s11 t3 t4 t5 t6").split()
 C = ["cnull"] + ["c" + name for name in X[1:]]
@@ -254,4 +256,4 @@ if __name__ == "__main__" and sys.argv[1:] == ["--compare"]:
     try:
         compare(whole()[0])
     except FileNotFoundError as missing:
-        sys.exit(f"tools/shown_vectors.py needs {missing.filename}, of Debian's package binutils-riscv64-linux-gnu")
+        sys.exit(f"tools/cases/shown_vectors.py needs {missing.filename}, of Debian's package binutils-riscv64-linux-gnu")

@@ -5,7 +5,7 @@ Each program narrows PCC and DDC, jumps to code that nobody trusts, and runs it 
 64 bytes from CODE on, DDC and a0 over bytes from SHARED on, and a1 over the transmit register.
 """
 
-from programs.items import BOTH, CHERI, ENTRY, EXECUTE, LOAD_CAPABILITY, UNSEALED
+from cases.programs.items import BOTH, CHERI, ENTRY, EXECUTE, LOAD_CAPABILITY, UNSEALED
 
 HEAD = ("# mode | statements | what the first world has after them | what the second has | events and queries => answers, both where they "
         "differ")

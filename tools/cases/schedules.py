@@ -237,14 +237,16 @@ def over_own_code():
     yield in_turns(0, numbered, ["turn: lb t0, 3(s5)", "addi s6, s1, OWN", "sb t0, 3(s6)", "own: addi a0, a0, 1"], 4, added((17, 33, 65)))
     # two words by one store, the second after the next instruction
     pairs = added((16, 256, 32, 512, 64, 1024))
-    yield in_turns(0, [*numbered, "addi zero, zero, 0"], ["turn: ld t0, 0(s5)", "addi zero, zero, 0", "addi zero, zero, 0", "sd t0, OWN(s1)",
-                                                          "own: addi a0, a0, 1", "addi a0, a0, 2"], 8, pairs)
+    yield in_turns(0, [*numbered, "addi zero, zero, 0"],
+                   ["turn: ld t0, 0(s5)", "addi zero, zero, 0", "addi zero, zero, 0", "sd t0, OWN(s1)", "own: addi a0, a0, 1",
+                    "addi a0, a0, 2"], 8, pairs)
     yield in_turns(1, addressed, ["turn: ld t0, 0(cs5)", "addi zero, zero, 0", "sd t0, OWN(cs1)", "own: addi a0, a0, 1", "addi a0, a0, 2"],
                    8, pairs)
     # four words by a store of a capability, or of 128 bits without a tag
     fours = [statement for turn in range(TURNS) for statement in added(1 << turn << shift for shift in (1, 4, 7, 8))]
     yield in_turns(1, addressed, ["turn: clc ct0, 0(cs5)", "addi zero, zero, 0", "addi zero, zero, 0", "addi zero, zero, 0",
-                                  "csc ct0, OWN(cs1)", "own: addi a0, a0, 1", "addi a0, a0, 2", "addi a0, a0, 3", "addi a0, a0, 4"], 16, fours)
+                                  "csc ct0, OWN(cs1)", "own: addi a0, a0, 1", "addi a0, a0, 2", "addi a0, a0, 3", "addi a0, a0, 4"],
+                   16, fours)
     # the last word of RAM
     last = [".org 0x80000ffc", "jalr zero, 0(ra)"]
     mode, statements = in_turns(0, [*numbered, "lui s2, 1", "add s2, s2, s1"],

@@ -1,6 +1,6 @@
 """Lines of the assembly language, and what the language's rules make of each: its label, its statement and its fault."""
 
-from quoting import quoted
+from cases.quoting import quoted
 
 def values(size, operands):
     return f"values {size} {quoted(operands)}"

@@ -1,6 +1,6 @@
 """Cases of the devices and of memory: scripts of calls, and what each is to answer."""
 
-from bounds_vectors import ROOT_HIGH, SPACE
+from cases.bounds_vectors import ROOT_HIGH, SPACE
 
 HALT, TIMER_COMPARE, TIMER, TRANSMIT = 0x100000, 0x2004000, 0x200BFF8, 0x10000000
 RECEIVE, STATUS, CONTROL = 0x10000008, 0x10000010, 0x10000018

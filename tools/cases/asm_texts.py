@@ -3,7 +3,7 @@
 Words are from GNU as and from the manuals' tables, answers from the language's rules.
 """
 
-from quoting import quoted
+from cases.quoting import quoted
 
 # What a text assembles to: the first section's bytes are these words, lowest byte first.
 PROGRAMS = [

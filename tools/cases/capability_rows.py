@@ -7,10 +7,10 @@ shares nothing with the definitions of cap_insns, cap_rights and cap_bounds.
 
 import re
 
-import capability_worked
-from bounds_vectors import NULL_HIGH, ROOT_HIGH, SPACE, UNSEALED, canonical, decoded, is_well_formed
-from requests import SENTRY, expected, mantissas
-from values import text
+from cases import capability_worked
+from cases.bounds_vectors import NULL_HIGH, ROOT_HIGH, SPACE, UNSEALED, canonical, decoded, is_well_formed
+from cases.requests import SENTRY, expected, mantissas
+from cases.values import text
 
 GREATEST_SEALING_TYPE = 0x3FFFB
 GLOBAL, EXECUTE, SEAL, UNSEAL = 0, 1, 7, 9

@@ -3,8 +3,8 @@
 Values are from the rules of the command line, of listings and of the schedule.
 """
 
-from programs.items import csr, halted, integer, line, sent
-from quoting import quoted
+from cases.programs.items import csr, halted, integer, line, sent
+from cases.quoting import quoted
 
 # A command line, and its plan: of a run the image, the steps, the gap, the tick and the input, whether it is quiet, and its trace.
 PLANS = [

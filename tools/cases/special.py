@@ -3,8 +3,8 @@
 A case is a script: what the registers begin with, and calls. After a call stands what it is to answer.
 """
 
-from bounds_vectors import SPACE, UNSEALED
-from values import ALL, SENTRY, capability, text, untagged
+from cases.bounds_vectors import SPACE, UNSEALED
+from cases.values import ALL, SENTRY, capability, text, untagged
 
 OWN_TYPE = 5
 PCC_ADDRESS = 0x80000040

@@ -8,7 +8,7 @@ import os
 import subprocess
 import tempfile
 
-from row_forms import FORM, FORMS
+from cases.row_forms import FORM, FORMS
 
 AS = "riscv64-linux-gnu-as"
 OBJCOPY = "riscv64-linux-gnu-objcopy"

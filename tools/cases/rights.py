@@ -1,7 +1,7 @@
 """Cases of permissions, types and seals, by the table of permissions and the rules of derivations."""
 
-from bounds_vectors import NULL_HIGH, ROOT_HIGH, SPACE, UNSEALED
-from values import ALL, SENTRY, capability, text, untagged
+from cases.bounds_vectors import NULL_HIGH, ROOT_HIGH, SPACE, UNSEALED
+from cases.values import ALL, SENTRY, capability, text, untagged
 
 GREATEST_SEALING_TYPE = 0x3FFFB
 LOAD, STORE, SEAL, USER1 = 0x4, 0x8, 0x80, 0x2000
