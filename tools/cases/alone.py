@@ -4,7 +4,7 @@ own.
 A permission's set, a type that is none, a reserved type opened, a jump from where nothing is fetched, a text's pieces, a name with a blank
 after it, an expression longer than a line, what halted devices do, and amounts that no shift has.
 """
-from cases import alu_vectors, asm_lines, checks, rights
+from cases import asm_lines, checks, integers, rights
 
 RESERVED = "3fffe4"
 AMOUNTS = {"slli": 64, "srli": 64, "srai": 64, "slliw": 32, "srliw": 32, "sraiw": 32}
@@ -50,7 +50,7 @@ def lines():
     yield "# and the first number"
     yield from ("halted 3 141 => 0 41 3", "halted 8877665544332211 141 => 0 41 8877665544332211")
     yield "# amounts that no shift has"
-    yield from (f"integer {line}" for line in cases(alu_vectors.lines()) if not has_amount(line))
+    yield from (f"integer {line}" for line in cases(integers.lines()) if not has_amount(line))
 
 
 def files():

@@ -1,13 +1,13 @@
 """Cases of the texts that say what setting bounds gives: requests, the worked ones first, and their whole texts.
 
-The bounds and the word come from requests.py, and the window from bounds_vectors.py: the standard's formulas, and the addresses that
-its decoding keeps the bounds with, one block after the other. The picture is drawn by looking at each column's addresses.
+The bounds and the word come from tools/model/bounds.py, and the window from tools/model/words.py: the standard's formulas, and the
+addresses that its decoding keeps the bounds with, one block after the other. The picture is drawn by looking at each column's addresses.
 """
 
-from cases.bounds_vectors import NULL_HIGH, ROOT_HIGH, SPACE, Numbers, kept
-from cases.capability_rows import alignment_mask
 from cases.quoting import quoted
-from cases.requests import by_the_least_exponent, expected
+from cases.sequences import Numbers
+from model.bounds import alignment_mask, bounded, by_the_least_exponent
+from model.words import NULL_HIGH, ONES, ROOT_HIGH, SPACE, kept
 
 # base, length and address of the requests whose numbers are worked out by hand
 WORKED = [
@@ -19,14 +19,14 @@ WORKED = [
     (0x80001000, 0xFFF, 0x800007FF),
     (0x80001001, 0x1000, None),
     (1, 0x1FFF, None),
-    (0, 16, SPACE - 1),
+    (0, 16, ONES),
     (0, 16, SPACE - 0x801),
     (0x80001FFF, 0, 0x80001FFF),
-    (0, SPACE - 1, 5),
-    (1, SPACE - 1, SPACE - 1),
-    (SPACE - 1, 1, SPACE - 1),
-    (SPACE - 1, 2, 0),
-    (SPACE - 1, SPACE - 1, None),
+    (0, ONES, 5),
+    (1, ONES, ONES),
+    (ONES, 1, ONES),
+    (ONES, 2, 0),
+    (ONES, ONES, None),
 ]
 
 
@@ -52,7 +52,7 @@ def marks(base, low, up, end, first, size):
 def text(base, length, address):
     """The whole text of a request."""
     end = base + length
-    high, tag, exact, low, top = expected(ROOT_HIGH, base, 1, length)[:5]
+    high, tag, exact, low, top = bounded(ROOT_HIGH, base, 1, length)[:5]
     (_, (_, up)) = by_the_least_exponent(base, end)
     found = by_the_least_exponent(base, end)[0]
     granule = 2 ** (found[0] + 3) if found[1] else 1
@@ -64,7 +64,7 @@ def text(base, length, address):
     yield f"bounds   {low:016x} {top:017x}"
     yield f"added    {base - low} below, {raised - end} above"
     yield f"granule  {granule}"
-    yield f"crrl     {length + SPACE - 1 - mask & mask:016x}"
+    yield f"crrl     {length + ONES - mask & mask:016x}"
     yield f"cram     {mask:016x}"
     yield f"word     {base:016x} {high ^ NULL_HIGH:016x}"
     if not tag:
@@ -83,7 +83,7 @@ def drawn():
     """Requests of every length, with addresses at the ends of their windows."""
     numbers = Numbers(0x424F554E)
     for bits in range(65):
-        length = min((1 << bits) - 1 + numbers.below(3), SPACE - 1) if bits % 2 else numbers.below(1 << bits)
+        length = min((1 << bits) - 1 + numbers.below(3), ONES) if bits % 2 else numbers.below(1 << bits)
         base = numbers.below(SPACE - length) if bits < 64 else numbers.below(2)
         address = numbers.choice([None, base, numbers.below(SPACE), (base + length) % SPACE])
         yield base, length, address

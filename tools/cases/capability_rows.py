@@ -1,125 +1,11 @@
-"""Cases of what each row over capabilities gives of capabilities and of data.
+"""Cases of what each row over capabilities gives of capabilities and of data, by the rows that are worked by hand
+(tools/model/worked.py) and by the model of values (tools/model/capabilities.py)."""
 
-A value is its word's high half, its address and its tag, and rows change bits of the high half in place, so what a row does not
-name stays, reserved bits too. Bounds are decoded by the formulas of bounds_vectors and set by the formula of requests. It
-shares nothing with the definitions of cap_insns, cap_rights and cap_bounds.
-"""
-
-import re
-
-from cases import capability_worked
-from cases.bounds_vectors import NULL_HIGH, ROOT_HIGH, SPACE, UNSEALED, canonical, decoded, is_well_formed
-from cases.requests import SENTRY, expected, mantissas
 from cases.values import text
-
-GREATEST_SEALING_TYPE = 0x3FFFB
-GLOBAL, EXECUTE, SEAL, UNSEAL = 0, 1, 7, 9
-
-
-def bits(v, low, count):
-    return v[0] >> low & (1 << count) - 1
-
-
-def with_bits(v, low, count, number):
-    return v[0] & ~((1 << count) - 1 << low) | number << low, v[1], v[2]
-
-
-def perms(v): return bits(v, 48, 16)
-def flag(v): return bits(v, 45, 1)
-def otype(v): return bits(v, 27, 18)
-def has(v, permission): return perms(v) >> permission & 1 == 1
-def is_unsealed(v): return otype(v) == UNSEALED
-def base(v): return decoded(v[0], v[1])[0]
-def top(v): return decoded(v[0], v[1])[1]
-def in_bounds(v): return base(v) <= v[1] < top(v)
-
-
-def integer(number): return NULL_HIGH, number % SPACE, False
-def tag_if(may, v): return v[0], v[1], v[2] and may
-
-
-def set_address(v, address):
-    """The tag stays where the same mantissas give the same bounds at the new address."""
-    address %= SPACE
-    return v[0], address, v[2] and is_unsealed(v) and decoded(v[0], address) == decoded(v[0], v[1])
-
-
-def set_bounds(v, length):
-    """The value with new bounds, and whether they are those asked for."""
-    high, tag, exact, *_ = expected(*v, length)
-    return (high, v[1], tag), exact
-
-
-def alignment_mask(length):
-    e, has_exponent, *_ = mantissas(0, length)
-    return SPACE - (1 << e + 3 if has_exponent else 1)
-
-
-def seal(v, by):
-    may = (v[2] and by[2] and is_unsealed(v) and is_unsealed(by) and has(by, SEAL) and in_bounds(by)
-           and by[1] <= GREATEST_SEALING_TYPE)
-    return tag_if(may, with_bits(v, 27, 18, by[1] % 2**18))
-
-
-def unseal(v, by):
-    may = (v[2] and by[2] and otype(v) <= GREATEST_SEALING_TYPE and is_unsealed(by) and has(by, UNSEAL) and in_bounds(by)
-           and by[1] == otype(v))
-    kept = perms(v) if has(by, GLOBAL) else perms(v) & 0xFFFE
-    return tag_if(may, with_bits(with_bits(v, 27, 18, UNSEALED), 48, 16, kept))
-
-
-def and_perms(v, number):
-    mask = number & 0xFFF | (number >> 15 & 0xF) << 12
-    return tag_if(is_unsealed(v), with_bits(v, 48, 16, perms(v) & mask))
-
-
-def is_subset(outer, v):
-    return outer[2] == v[2] and base(outer) <= base(v) and top(v) <= top(outer) and perms(v) & ~perms(outer) == 0
-
-
-def set_bounds_exact(v, length):
-    bounded, exact = set_bounds(v, length)
-    return tag_if(exact, bounded)
-
-
-IMMEDIATE = {
-    "CIncOffsetImm": lambda a, imm: set_address(a, a[1] + imm),
-    "CSetBoundsImm": lambda a, imm: set_bounds(a, imm)[0],
-}
-NUMBER = {
-    "CSetBounds": lambda a, n: set_bounds(a, n)[0],
-    "CSetBoundsExact": set_bounds_exact,
-    "CAndPerm": and_perms,
-    "CSetFlags": lambda a, n: tag_if(is_unsealed(a), with_bits(a, 45, 1, n & 1)),
-    "CSetOffset": lambda a, n: set_address(a, base(a) + n),
-    "CSetAddr": set_address,
-    "CIncOffset": lambda a, n: set_address(a, a[1] + n),
-    "CSub": lambda a, n: integer(a[1] - n),
-}
-AUTHORITY = {
-    "CSeal": seal,
-    "CUnseal": unseal,
-}
-COMPARISON = {
-    "CTestSubset": lambda a, b: integer(is_subset(a, b)),
-    "CSetEqualExact": lambda a, b: integer(a == b),
-}
-ONE = {
-    "CGetPerm": lambda a: integer(perms(a) & 0xFFF | perms(a) >> 12 << 15),
-    "CGetType": lambda a: integer(otype(a) - 2**18 if otype(a) > GREATEST_SEALING_TYPE else otype(a)),
-    "CGetBase": lambda a: integer(base(a)),
-    "CGetLen": lambda a: integer(min((top(a) - base(a)) % (2 * SPACE), SPACE - 1)),
-    "CGetTag": lambda a: integer(a[2]),
-    "CGetSealed": lambda a: integer(not is_unsealed(a)),
-    "CGetOffset": lambda a: integer(a[1] - base(a)),
-    "CGetFlags": lambda a: integer(flag(a)),
-    "Crrl": lambda a: integer((a[1] + SPACE - 1 - alignment_mask(a[1])) & alignment_mask(a[1])),
-    "Cram": lambda a: integer(alignment_mask(a[1])),
-    "CMove": lambda a: a,
-    "CClearTag": lambda a: (a[0], a[1], False),
-    "CGetAddr": lambda a: integer(a[1]),
-    "CSealEntry": lambda a: tag_if(is_unsealed(a) and has(a, EXECUTE), with_bits(a, 27, 18, SENTRY)),
-}
+from model.capabilities import AUTHORITY, COMPARISON, IMMEDIATE, NUMBER, ONE, integer
+from model.rights import UNSEALED
+from model.words import NULL_HIGH, ROOT_HIGH, canonical
+from model.worked import GROUPS, worked
 
 WIDE_BOUNDS = 0xFFFFFFFFF4000000, 0xFFFFFFFFF8000000
 # what the rows are given, by name
@@ -164,32 +50,20 @@ def cases():
             yield name, v, "", f(GIVEN[v][1])
 
 
-IMMEDIATES = [name.lower() for name in IMMEDIATE]
-
-
-def value(words, names):
-    """The value that some words are: a number, or a name or a high half, an address and a tag."""
-    words = words.split()
-    if len(words) == 1:
-        return integer(int(words[0], 16))
-    high, address, tag = words
-    return names[high] if high in names else int(high, 16), int(address, 16), tag == "1"
-
-
 def worked_line(line, names):
     """A line of hand-written cases with its names replaced."""
-    row, first, second, rs1, ddc, result = re.fullmatch(r"(\w+) \((.*?)\) \((.*?)\)(?: (\d+) \((.*?)\))? => (.*)", line).groups()
-    other = second if row in IMMEDIATES else text(value(second, names))
-    rest = "" if rs1 is None else f" {rs1} {text(value(ddc, names))}"
-    return f"{row} {text(value(first, names))} {other}{rest} => {text(value(result, names))}"
+    row, first, second, rs1, ddc, result = worked(line, names)
+    other = second if isinstance(second, str) else text(second)
+    rest = "" if rs1 is None else f" {rs1} {text(ddc)}"
+    return f"{row} {text(first)} {other}{rest} => {text(result)}"
 
 
 def lines():
     yield "# a mnemonic, the value in rs1, the value in rs2 or the immediate, and the number of rs1 and DDC where they count => the result"
-    for topic, names, table in capability_worked.GROUPS:
+    for topic, names, table in GROUPS:
         yield f"# {topic}"
         for line in table.splitlines():
-            yield line if line.startswith("#") else worked_line(line, capability_worked.NAMES | names)
+            yield line if line.startswith("#") else worked_line(line, names)
     yield "# each of the 28 rows over three capabilities, a malformed word, and one with reserved bits"
     rows = list(cases())
     assert len({name for name, *_ in rows}) == 28

@@ -1,23 +1,21 @@
 """Cases of the checks before accesses, jumps and invocations: the first fault of an ordered list."""
 
-from cases.bounds_vectors import SPACE, UNSEALED
-from cases.values import ALL, SENTRY, capability, text, untagged
+from cases.values import text
+from model.capabilities import capability, untagged
+from model.faults import CHERI, EXECUTES, INVOKES, LENGTH, LOADS, SEAL, STORES, STORES_CAPABILITY, STORES_LOCAL, TAG, TYPE
+from model.rights import ALL, CINVOKE, EXECUTE, GLOBAL, LOAD, SENTRY, STORE, STORE_CAPABILITY, STORE_LOCAL, UNSEALED
+from model.words import SPACE
 
 OWN_TYPE, OTHER_TYPE = 5, 6
-GLOBAL, EXECUTE, LOAD, STORE = 1 << 0, 1 << 1, 1 << 2, 1 << 3
-STORE_CAPABILITY, STORE_LOCAL, CINVOKE = 1 << 5, 1 << 6, 1 << 8
 A0, A1, PCC, DDC = 10, 11, 32, 33
 BASE, TOP = 0x80001000, 0x80001010
 # where the bounds of the same cases lie above 2^63
 HIGH = 0xFFFFFFFF80000000
-# CHERI causes
-LENGTH, TAG, SEAL, TYPE, EXECUTES, LOADS, STORES, STORES_CAPABILITY, STORES_LOCAL, INVOKES = \
-    0x01, 0x02, 0x03, 0x04, 0x11, 0x12, 0x13, 0x15, 0x16, 0x19
 
 
 def cheri(register, cause):
     """A fault of the CHERI exception: mcause and mtval."""
-    return f"1c {32 * register + cause:x}"
+    return f"{CHERI:x} {32 * register + cause:x}"
 
 
 def misaligned(mcause, address):

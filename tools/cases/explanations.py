@@ -4,8 +4,9 @@ privileged manual, mcause), each true or the first that is false, and the step's
 A stage is its first line, the capabilities that it asks, and its conditions up to the first false one.
 """
 
-RAM = 0x8000_0000
-TOP = 1 << 64
+from model.devices import RAM
+from model.rights import UNSEALED
+from model.words import SPACE
 
 
 def value(name, tag, address, base, top, perms, flag, otype):
@@ -14,11 +15,11 @@ def value(name, tag, address, base, top, perms, flag, otype):
 
 
 def root(name, address):
-    return value(name, 1, address, 0, TOP, 0x78fff, 0, 0x3ffff)
+    return value(name, 1, address, 0, SPACE, 0x78fff, 0, UNSEALED)
 
 
 def number(name, address):
-    return value(name, 0, address, 0, TOP, 0, 0, 0x3ffff)
+    return value(name, 0, address, 0, SPACE, 0, 0, UNSEALED)
 
 
 def stage(first, held, conditions):
@@ -43,7 +44,7 @@ def multiple(address, size):
 def fetch(address, in_ram=True):
     """The fetch through a PCC that is root."""
     return stage(f"fetch at {address:016x}", [root("pcc", address)], [
-        ("tag of pcc", True), ("seal of pcc", True), ("permit execute of pcc", True), bounds("pcc", address, 4, 0, TOP),
+        ("tag of pcc", True), ("seal of pcc", True), ("permit execute of pcc", True), bounds("pcc", address, 4, 0, SPACE),
         (f"RAM at {address:016x}", in_ram)])
 
 
@@ -88,7 +89,7 @@ SEALED = "cspecialrw ca0, pcc, cnull; cspecialrw ca1, ddc, cnull; cincoffsetimm 
 
 
 def sealed(name, address, otype):
-    return value(name, 1, address, 0, TOP, 0x78fff, 0, otype)
+    return value(name, 1, address, 0, SPACE, 0x78fff, 0, otype)
 
 
 CONVERSATIONS = [
@@ -104,20 +105,20 @@ CONVERSATIONS = [
                   f"effect: {number('ca2 =', 0)}")),
     ("Why a load through a number traps", "auipc a1, 0x1; ld.cap a2, (ca1)",
      step_and_ask(1, begun(RAM + 4, "fab5865b ld.cap a2, (ca1)"),
-                  access("load of 8 bytes", number("ca1", RAM + 0x1000), "ca1", "load", RAM + 0x1000, 8, 0, TOP, False,
+                  access("load of 8 bytes", number("ca1", RAM + 0x1000), "ca1", "load", RAM + 0x1000, 8, 0, SPACE, False,
                          rights=(False, True, True)),
                   trapped(28, "CHERI exception, tag violation at ca1", 32 * 11 + 2))),
     ("Why an access traps whose address is no multiple of its size", "auipc a1, 0x0; ld a0, 4(a1)",
      step_and_ask(1, begun(RAM + 4, "0045b503 ld a0, 4(a1)"),
-                  access("load of 8 bytes", root("ddc", 0), "ddc", "load", RAM + 4, 8, 0, TOP, True),
+                  access("load of 8 bytes", root("ddc", 0), "ddc", "load", RAM + 4, 8, 0, SPACE, True),
                   trapped(4, "load address misaligned", RAM + 4))),
     ("A store to a device, and one to where nothing answers", "lui a1, 0x10000; sb a1, 0(a1); sd zero, 0(zero)",
      step_and_ask(1, begun(RAM + 4, "00b58023 sb a1, 0(a1)"),
-                  access("store of 1 byte", root("ddc", 0), "ddc", "store", 0x1000_0000, 1, 0, TOP, True),
+                  access("store of 1 byte", root("ddc", 0), "ddc", "store", 0x1000_0000, 1, 0, SPACE, True),
                   "effect: device store 1 byte at 0000000010000000: 00")
      + "> step 1\nevents 1 out 00 pc 0000000080000008 running\n> why\n"
      + reply(begun(RAM + 8, "00003023 sd zero, 0(zero)"),
-             access("store of 8 bytes", root("ddc", 0), "ddc", "store", 0, 8, 0, TOP, False),
+             access("store of 8 bytes", root("ddc", 0), "ddc", "store", 0, 8, 0, SPACE, False),
              trapped(7, "store access fault", 0))),
     ("Why a jump to a sealed capability traps", SEALED + "jalr.cap cra, ca2",
      step_and_ask(4, begun(RAM + 16, "fec600db jalr.cap cra, ca2"),
@@ -131,7 +132,7 @@ CONVERSATIONS = [
                   trapped(28, "CHERI exception, type violation at ca2", 32 * 12 + 4))),
     ("A branch that is taken is a jump, and one that is not asks for nothing", "beq a0, a1, .+8; bne a0, a1, .+8; bne a0, a1, .+8",
      step_and_ask(0, begun(RAM, "00b50463 beq a0, a1, .+8"),
-                  stage(f"jump to {RAM + 8:016x}", [root("pcc", RAM)], [bounds("pcc", RAM + 8, 4, 0, TOP), multiple(RAM + 8, 4)]),
+                  stage(f"jump to {RAM + 8:016x}", [root("pcc", RAM)], [bounds("pcc", RAM + 8, 4, 0, SPACE), multiple(RAM + 8, 4)]),
                   f"effect: jump to {RAM + 8:016x}")
      + "> step 1\nevents 1 out - pc 0000000080000008 running\n> why\n"
      + reply(begun(RAM + 8, "00b51463 bne a0, a1, .+8"), "effect: nothing")),

@@ -1,37 +1,11 @@
 """Cases of images: what is built, what files are read and what they are written back as, and each fault."""
 
-RAM, END, LAST_END = 0x80000000, 0x80001000, 0x81000000
-ONES32, ONES = 2**32 - 1, 2**64 - 1
+from model.devices import RAM
+from model.images import (END, FIRST, GRANTED, LAST_END, MOST, MOST_END, NEXT_END, NO_SECTION, ONE_CAPABILITY, ONE_INSN, ROOT, TWO, file_v2,
+                          granted, header, number, patched, section)
+from model.words import ONES, SPACE
 
-
-def number(value, size):
-    return value.to_bytes(size, "little")
-
-
-def header(pages, entry, count, mode):
-    """The 32 bytes in front."""
-    return b"CHERIIMG" + number(1, 4) + number(pages, 4) + number(entry, 8) + number(count, 4) + number(mode, 4)
-
-
-def section(address, contents):
-    return number(address, 8) + number(len(contents), 8) + contents
-
-
-# five instructions that print `A` and halt
-FIRST = bytes.fromhex(
-    "4348455249494d47" "01000000" "01000000" "0000008000000000" "01000000" "00000000"
-    "0000008000000000" "1400000000000000" "b7050010" "13051004" "2380a500" "b7051000" "23b00500")
-# cincoffset ca0, ca0, a1
-ONE_INSN = bytes.fromhex(
-    "4348455249494d47" "01000000" "01000000" "0000008000000000" "01000000" "00000000" "0000008000000000" "0400000000000000" "5b05b522")
-# 4096 pages, and no section
-NO_SECTION = bytes.fromhex("4348455249494d47" "01000000" "00100000" "fcffff8000000000" "00000000" "00000000")
-# two sections of four bytes, one right after the other
-TWO = bytes.fromhex(
-    "4348455249494d47" "01000000" "02000000" "0400008000000000" "02000000" "01000000"
-    "1000008000000000" "0400000000000000" "01020304" "1400008000000000" "0400000000000000" "05060708")
-# the null-derived word with every right, as it stands in memory
-ROOT = bytes(14) + b"\xff\xff"
+ONES32 = 2**32 - 1
 
 
 def text(contents):
@@ -39,13 +13,6 @@ def text(contents):
     if len(contents) > 1 and len(set(contents)) == 1:
         return f"{contents[0]:02x}*{len(contents)}"
     return contents.hex() or "-"
-
-
-def patched(file, changes):
-    changed = bytearray(file)
-    for place, byte in changes.items():
-        changed[place] = byte
-    return bytes(changed)
 
 
 def build(pages, entry, mode, sections, answer):
@@ -188,23 +155,6 @@ def faults():
 
 # ---- version 2
 
-# the capability of 4095 bytes at 0x80001000 with every right, at 0x80000100
-GRANTED = (RAM + 0x100, 0x80001000, 4095, 0xFFFF, 0)
-ONE_CAPABILITY = bytes.fromhex(
-    "4348455249494d47" "02000000" "01000000" "0000008000000000" "00000000" "01000000"
-    "01000000" "0001008000000000" "0010008000000000" "ff0f000000000000" "ffff0000" "00000000")
-assert len(ONE_CAPABILITY) == 68
-MOST = 65536
-MOST_END = RAM + 4096 * MOST
-# the end of RAM of a page more than version 1 has
-NEXT_END = LAST_END + 4096
-
-
-def capability(place, base, length, perms, flag):
-    """The 32 bytes of a capability."""
-    return number(place, 8) + number(base, 8) + number(length, 8) + number(perms, 4) + number(flag, 4)
-
-
 def asked_v2(what, pages, entry, mode, capabilities, sections, answer):
     words = "".join(" " + " ".join(f"{part:x}" for part in parts) for parts in capabilities)
     given = "".join(f" {address:x}:{text(contents)}" for address, contents in sections)
@@ -217,21 +167,11 @@ def shown_v2(pages, entry, mode, capabilities, sections=()):
     return f"v2 {pages:x} {entry:x} {mode:x}{given}" + "".join(" @" + ":".join(f"{part:x}" for part in parts) for parts in capabilities)
 
 
-def file_v2(pages, entry, mode, capabilities, sections=()):
-    front = b"CHERIIMG" + number(2, 4) + number(pages, 4) + number(entry, 8) + number(len(sections), 4) + number(mode, 4)
-    return (front + b"".join(section(*one) for one in sections) + number(len(capabilities), 4)
-            + b"".join(capability(*one) for one in capabilities))
-
-
 def both(capabilities, fault=None, pages=1, entry=RAM, mode=0, sections=()):
     """A build and a file of the same parts: the image, or the same fault."""
     answer = fault or shown_v2(pages, entry, mode, capabilities, sections)
     yield asked_v2("build2", pages, entry, mode, capabilities, sections, answer)
     yield f"read {text(file_v2(pages, entry, mode, capabilities, sections))} => {answer}"
-
-
-def granted(place=RAM + 0x100, base=0x80001000, length=4095, perms=0xFFFF, flag=0):
-    return place, base, length, perms, flag
 
 
 def over_zeros():
@@ -312,7 +252,7 @@ def second_version():
             (0, 0, None), (ONES, 0, None), (ONES, 1, None), (ONES, 2, "L13"), (ONES, ONES, "L13"), (1, ONES, "L13"), (0, ONES, "L13"),
             (1 << 63, 1 << 63, None), (1 << 63, (1 << 63) + 1, "L13"), (0x80001001, 4095, None), (0x80001001, 4096, "L13"),
             (0x80001000, 4096, None), (0x80001000, 4097, "L13"), (0x80001000, 4104, None), (0x80001008, 4096, None), (1, 8191, "L13"),
-            (0, 8192, None), (2**64 - 8192, 8192, None), (2**64 - 4096, 4097, "L13")):
+            (0, 8192, None), (SPACE - 8192, 8192, None), (SPACE - 4096, 4097, "L13")):
         yield from both([granted(base=base, length=length)], fault)
     yield "# permissions have 16 bits, and a flag one"
     for perms, flag, fault in (

@@ -1,14 +1,12 @@
 """Cases of the devices and of memory: scripts of calls, and what each is to answer."""
 
-from cases.bounds_vectors import ROOT_HIGH, SPACE
+from model.devices import CONTROL, HALT, RAM, RECEIVE, STATUS, TIMER, TIMER_COMPARE, TRANSMIT
+from model.words import NULL_HIGH, ONES, ROOT_HIGH
 
-HALT, TIMER_COMPARE, TIMER, TRANSMIT = 0x100000, 0x2004000, 0x200BFF8, 0x10000000
-RECEIVE, STATUS, CONTROL = 0x10000008, 0x10000010, 0x10000018
-ONES = SPACE - 1
 # each register, and what a load gives at the beginning
 REGISTERS = {HALT: 0, TIMER_COMPARE: ONES, TIMER: 0, TRANSMIT: 0, RECEIVE: 0, STATUS: 0, CONTROL: 0}
 # addresses at which no register begins: inside and after them, in RAM and at both ends of the address space
-NOWHERE = (0, HALT + 4, HALT + 8, TIMER_COMPARE + 8, TIMER + 4, TRANSMIT - 8, TRANSMIT + 1, TRANSMIT + 4, CONTROL + 8, 0x80000000, ONES)
+NOWHERE = (0, HALT + 4, HALT + 8, TIMER_COMPARE + 8, TIMER + 4, TRANSMIT - 8, TRANSMIT + 1, TRANSMIT + 4, CONTROL + 8, RAM, ONES)
 # mtime, mtimecmp, the bytes that wait, overrun, control and halt, as they begin
 BEGINNING = "0 ffffffffffffffff - 0 0 -"
 
@@ -106,7 +104,7 @@ def devices():
 
 # the memory form of a capability word with address 0x80001000, and the word's halves
 BYTES = "00100080000000000450fe070000ffff"
-HIGH = 0xFFFF000007FE5004 ^ 0x1FFFFC018004
+HIGH = 0xFFFF000007FE5004 ^ NULL_HIGH
 WORD = f"{HIGH:016x} 80001000"
 ROOT = f"{ROOT_HIGH:016x} 0"
 
@@ -121,7 +119,7 @@ def tagged(addresses):
 
 def granule(number):
     """The address of a granule, by its number from 0."""
-    return 0x80000000 + 16 * number
+    return RAM + 16 * number
 
 
 def planes(granules, pages):

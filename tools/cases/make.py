@@ -21,14 +21,14 @@ PROVED = {
 
 # The modules that make files, one a line.
 SOURCES = [
-    "bounds_vectors",
+    "words",
     "requests",
     "rights",
     "capability_rows",
     "checks",
     "special",
     "machine_parts",
-    "alu_vectors",
+    "integers",
     "isa_vectors",
     "images",
     "programs",

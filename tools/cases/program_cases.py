@@ -4,10 +4,11 @@ The statuses, the order of faults and the texts are those of the program's descr
 """
 
 from cases.bounds_texts import text as bounds_text
-from cases.images import FIRST, header, section
 from cases.quoting import quoted
+from model.devices import RAM
+from model.images import FIRST, header, section
+from model.words import ONES, SPACE
 
-RAM = 0x80000000
 A0, A1, A2 = 10, 11, 12
 
 
@@ -92,7 +93,7 @@ DETAILED = [
     (2, [".byte 1", "nop"], "A7 place: from 0x0000000080000001 on: an instruction at no multiple of 4"),
     (2, ["nop", ".cap 0, 1, 0, 0"], "A7 place: from 0x0000000080000004 on: a capability at no multiple of 16"),
     (1, [".cap 0x80000001, 65537, 0, 0"], "A11 capability not exact: from 0x0000000080000001 on, 65537 bytes would be rounded"),
-    (1, [f".cap {2 ** 64 - 1}, 2, 0, 0"], "A11 capability not exact: from 0xffffffffffffffff on, 2 bytes end above 2^64"),
+    (1, [f".cap {ONES}, 2, 0, 0"], "A11 capability not exact: from 0xffffffffffffffff on, 2 bytes end above 2^64"),
 ]
 
 LOADS_BY_NULL = [0xFA85855B]
@@ -183,7 +184,7 @@ def ends():
 
 def integer(number):
     """The text of a register that holds a number, and no capability."""
-    return f"v:0 a:{number:016x} b:{0:016x} t:{1 << 64:017x} p:00000 f:0 o:3ffff"
+    return f"v:0 a:{number:016x} b:{0:016x} t:{SPACE:017x} p:00000 f:0 o:3ffff"
 
 
 def traced(*steps):
@@ -330,7 +331,7 @@ def named():
     yield from debugged(table)
     yield "# what setting bounds gives"
     yield case("bounds 0x80000000 4097 --address 2147487744", [], 0, sent=shown(0x80000000, 4097, 0x80001000))
-    yield case("bounds 18446744073709551615 2", [], 0, sent=shown(2**64 - 1, 2, None))
+    yield case("bounds 18446744073709551615 2", [], 0, sent=shown(ONES, 2, None))
     yield case("bounds 0 1", ["output 0"], 3, told="cherisim: write failed\n")
     yield "# what was read of a faulty line stands after the fault's words"
     for line, told in (("addi a0, a0, 4096", "A3 immediate out of range: 4096 (-2048 to 2047)"), ("j lop", "A5 label unknown: lop"),

@@ -1,82 +1,14 @@
-"""Cases of requests for bounds, and what setting the bounds is to give.
+"""Cases of requests for bounds, and what setting the bounds is to give, by the model's formula (tools/model/bounds.py)."""
 
-Bounds are set by the published formula of CHERI Concentrate (UCAM-CL-TR-987, 128-bit format; setCapBounds in the Sail
-model of CHERI-RISC-V): the exponent comes from the leading zeros of the length, and is raised by one where rounding carries.
-The bounds expected are those that the word decodes to, by the formulas of bounds_vectors. It shares nothing with the
-definitions of cap_bounds, which take the least exponent that serves; that this rule agrees is asserted of every request.
-"""
-
-from cases.bounds_vectors import NULL_HIGH, ROOT_HIGH, SPACE, UNSEALED, Numbers, decoded, is_well_formed, kept
-
-SENTRY = UNSEALED - 1
-# the fields that setting bounds leaves: permissions, flag and object type
-KEPT_FIELDS = 0xFFFF << 48 | 1 << 45 | 0x3FFFF << 27
-
-
-def in_granules(base, top, e):
-    """Base and top in granules of 2^(e+3) bytes (11 bits each), rounded out, and whether that changed nothing."""
-    below = (1 << e + 3) - 1
-    carry = top & below != 0
-    return base >> e + 3 & 0x7FF, (top >> e + 3) + carry & 0x7FF, base & below == 0 and not carry
-
-
-def mantissas(base, top):
-    """E, IE, B and T (14 bits each) for a requested range, and whether they say it exactly."""
-    length = top - base
-    # 52 less the leading zeros of the length's bits 64..13
-    e = (length >> 13).bit_length()
-    if e == 0 and not length >> 12 & 1:
-        return 0, 0, base & 0x3FFF, top & 0x3FFF, True
-    b, t, exact = in_granules(base, top, e)
-    if t - b & 0x400:
-        e += 1
-        b, t, exact = in_granules(base, top, e)
-    return e, 1, b << 3, t << 3, exact
-
-
-def high_of(fields, e, ie, b, t):
-    """The high half of a word of these fields and mantissas; the reserved bits are 0."""
-    t &= 0xFFF
-    if ie:
-        b, t = b | e & 7, t | e >> 3
-    return fields & KEPT_FIELDS | ie << 26 | t << 14 | b
-
-
-def by_the_least_exponent(base, top):
-    """The mantissas, and the rounded bounds, by trying exponents until fewer than 1024 granules are touched."""
-    e, ie, granule = 0, 0, 1
-    if top - base >= 4096:
-        e = next(e for e in range(53) if -(-top // 2 ** (e + 3)) - base // 2 ** (e + 3) < 1024)
-        ie, granule = 1, 2 ** (e + 3)
-    low, up = base // granule * granule, -(-top // granule) * granule
-    found = e, ie, low // 2**e % 2**14, up // 2**e % 2**14, (low, up) == (base, top)
-    return found, (low, up % (2 * SPACE))
-
-
-def expected(high, address, tag, length):
-    """The result's high half and tag, whether rounding changed nothing, and the result's base and top."""
-    assert is_well_formed(high, address) or not tag
-    top = address + length
-    found = mantissas(address, top)
-    result = high_of(high, *found[:4])
-    new_base, new_top = decoded(result, address)
-    assert (found, (new_base, new_top)) == by_the_least_exponent(address, top)
-    base, end = decoded(high, address)
-    unsealed = high >> 27 & 0x3FFFF == UNSEALED
-    result_tag = tag and unsealed and base <= address and top <= end
-    if result_tag:
-        assert is_well_formed(result, address) and base <= new_base and new_top <= end
-    return result, result_tag, found[4], new_base, new_top
+from cases.sequences import Drawn, Numbers
+from model.bounds import KEPT_FIELDS, bounded, high_around
+from model.rights import ALL, SENTRY, UNSEALED
+from model.words import NULL_HIGH, ONES, ROOT_HIGH, SPACE, decoded, is_well_formed, kept
 
 
 def shape(numbers, otype=UNSEALED):
     """Any permissions and flag, as they stand in a high half with this object type."""
-    return numbers.choice([0xFFFF, numbers.below(1 << 16)]) << 48 | numbers.below(2) << 45 | otype << 27
-
-
-def high_around(fields, base, top):
-    """The high half of the word whose bounds are this range, rounded out."""
-    return high_of(fields, *mantissas(base, top)[:4])
+    return numbers.choice([ALL, numbers.below(1 << 16)]) << 48 | numbers.below(2) << 45 | otype << 27
 
 
 def root_or_narrower(numbers, base, top):
@@ -93,7 +25,7 @@ def worked():
     yield ROOT_HIGH, 0x80001000, True, 4095
     yield ROOT_HIGH, 0x80001001, True, 4096
     yield ROOT_HIGH, 1, True, 8191
-    yield ROOT_HIGH, SPACE - 1, True, SPACE - 1
+    yield ROOT_HIGH, ONES, True, ONES
 
 
 def short(numbers):
@@ -139,8 +71,8 @@ def at_the_end(numbers):
         address = SPACE - length
         for more in (0, 1, granule):
             yield root_or_narrower(numbers, address, SPACE), address, True, length + more
-    for address in (0, 1, SPACE // 2, SPACE // 2 + 1, SPACE - 1):
-        yield ROOT_HIGH, address, True, SPACE - 1
+    for address in (0, 1, SPACE // 2, SPACE // 2 + 1, ONES):
+        yield ROOT_HIGH, address, True, ONES
         yield ROOT_HIGH, address, True, SPACE // 2
 
 
@@ -176,8 +108,8 @@ def untagged(numbers):
     malformed = [
         # an exponent field above 52, and bounds that go past the end of the address space
         (0x00001FFFF8003FFF ^ NULL_HIGH, 0),
-        (SPACE - 1, SPACE - 1),
-        (high_around(shape(numbers), SPACE - 2**20, SPACE + 2**20), SPACE - 1),
+        (ONES, ONES),
+        (high_around(shape(numbers), SPACE - 2**20, SPACE + 2**20), ONES),
     ]
     for high, address in malformed:
         assert not is_well_formed(high, address)
@@ -185,7 +117,7 @@ def untagged(numbers):
     address = numbers.below(SPACE // 2)
     well_formed = [
         (NULL_HIGH, 0),
-        (NULL_HIGH, SPACE - 1),
+        (NULL_HIGH, ONES),
         (ROOT_HIGH, address),
         (high_around(shape(numbers), address, address + 2**33), address),
         (high_around(shape(numbers, SENTRY), address, address + 2**33), address),
@@ -206,28 +138,10 @@ def lines():
     yield "# a value, and a length => the value with these bounds, whether rounding changed nothing, perms, flag, otype, base, top"
     # in their order, each once
     for high, address, tag, length in dict.fromkeys(requests()):
-        result, result_tag, exact, base, top = expected(high, address, tag, length)
+        result, result_tag, exact, base, top = bounded(high, address, tag, length)
         fields = f"{high >> 48:x} {high >> 45 & 1} {high >> 27 & 0x3FFFF:x}"
         yield (f"{high:016x} {address:x} {int(tag)} {length:x} => "
                f"{result:016x} {address:x} {int(result_tag)} {int(exact)} {fields} {base:x} {top:x}")
-
-
-class Drawn:
-    """Another fixed sequence of numbers (xorshift64*)."""
-
-    def __init__(self, state):
-        self.state = state
-
-    def next(self):
-        self.state ^= self.state << 13 & SPACE - 1
-        self.state ^= self.state >> 7
-        self.state ^= self.state << 17 & SPACE - 1
-        return self.state * 0x9E3779B97F4A7C15 & SPACE - 1
-
-    def any_length(self):
-        """A number of any length."""
-        number = self.next()
-        return number >> self.next() % 64
 
 
 def drawn_words():

@@ -1,10 +1,10 @@
 """Cases of permissions, types and seals, by the table of permissions and the rules of derivations."""
 
-from cases.bounds_vectors import NULL_HIGH, ROOT_HIGH, SPACE, UNSEALED
-from cases.values import ALL, SENTRY, capability, text, untagged
+from cases.values import text
+from model.capabilities import capability, untagged, with_fields
+from model.rights import ALL, GREATEST_SEALING_TYPE, LOAD, SEAL, SENTRY, STORE, UNSEALED, USER1
+from model.words import SPACE
 
-GREATEST_SEALING_TYPE = 0x3FFFB
-LOAD, STORE, SEAL, USER1 = 0x4, 0x8, 0x80, 0x2000
 # Global, Execute, Load, Store, Load_Capability, Store_Capability, Store_Local_Capability, Seal, CInvoke, Unseal,
 # Access_System_Registers and Set_CID
 PERMISSIONS = range(12)
@@ -27,15 +27,6 @@ def authority(address, perms=ALL, otype=UNSEALED):
 def of_type(otype):
     """8 KiB of RAM with an address inside, the flag and all permissions but Store."""
     return capability(0x80002000, 0x80004000, 0x80002104, 0xFFF7, 1, otype)
-
-
-def with_fields(value, perms=None, flag=None, otype=None, tag=None):
-    """The value with some fields replaced in place."""
-    high, address, old_tag = value
-    for field, low, bits in ((perms, 48, 16), (flag, 45, 1), (otype, 27, 18)):
-        if field is not None:
-            high = high & ~((1 << bits) - 1 << low) | field << low
-    return high, address, old_tag if tag is None else tag
 
 
 def permitted():

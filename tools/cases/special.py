@@ -3,14 +3,14 @@
 A case is a script: what the registers begin with, and calls. After a call stands what it is to answer.
 """
 
-from cases.bounds_vectors import SPACE, UNSEALED
-from cases.values import ALL, SENTRY, capability, text, untagged
+from cases.values import text
+from model.capabilities import capability, untagged
+from model.faults import CHERI, EXTERNAL_INTERRUPT, TIMER_INTERRUPT
+from model.rights import ALL, NO_SYSTEM_ACCESS, SENTRY, UNSEALED
+from model.words import ONES, SPACE
 
 OWN_TYPE = 5
 PCC_ADDRESS = 0x80000040
-# all permissions but Access_System_Registers, which is bit 10
-NO_SYSTEM_ACCESS = 0xFBFF
-ONES = SPACE - 1
 # control registers with another number in each: MIE, MPIE, mie, mscratch, mcause, mtval, mcycle, minstret
 NUMBERED = "1 0 880 3 4 5 6 7"
 WRITABLE = (0x300, 0x301, 0x304, 0x305, 0x340, 0x341, 0x342, 0x343, 0x344, 0xB00, 0xB02)
@@ -209,10 +209,6 @@ def entered():
         yield script((TRAP, ("get 0", text(untagged(sealed)))), askew, askew)
 
 
-# mcause of the timer's interrupt and of the external one
-TIMER, EXTERNAL = 1 << 63 | 7, 1 << 63 | 11
-
-
 def entry(cause):
     """A trap of this cause."""
     return f"trap {cause:x} 0", "ok"
@@ -222,26 +218,28 @@ def vectored():
     yield "# where MTCC's low bits are 1 an interrupt goes 4 bytes a number past the base, and an exception to it"
     for otype in (UNSEALED, SENTRY):
         mtcc = root(0x80000101, otype)
-        for cause, place in ((TIMER, 0x8000011C), (EXTERNAL, 0x8000012C), (7, 0x80000100), (11, 0x80000100), (28, 0x80000100)):
+        for cause, place in ((TIMER_INTERRUPT, 0x8000011C), (EXTERNAL_INTERRUPT, 0x8000012C), (7, 0x80000100), (11, 0x80000100),
+                             (CHERI, 0x80000100)):
             yield script((entry(cause), ("get 0", text(root(place))), ("get 28", text(mtcc)), ("read 305 0", "80000101")), mtcc)
     yield "# with other low bits every trap goes to the base"
     for address in (0x80000100, 0x80000102, 0x80000103):
-        for cause in (TIMER, EXTERNAL, 11):
+        for cause in (TIMER_INTERRUPT, EXTERNAL_INTERRUPT, 11):
             yield script((entry(cause), ("get 0", text(root(0x80000100)))), root(address))
     yield "# an entry lies modulo 2^64"
-    for cause, place in ((TIMER, 24), (EXTERNAL, 40), (11, ONES - 3)):
+    for cause, place in ((TIMER_INTERRUPT, 24), (EXTERNAL_INTERRUPT, 40), (11, ONES - 3)):
         yield script((entry(cause), ("get 0", text(root(place)))), root(ONES - 2))
     yield "# an entry out of the bounds keeps the tag inside the window, and takes it behind"
-    for cause, place, tag in ((TIMER, 0x800047FC, True), (EXTERNAL, 0x8000480C, False), (3, 0x800047E0, True)):
+    for cause, place, tag in ((TIMER_INTERRUPT, 0x800047FC, True), (EXTERNAL_INTERRUPT, 0x8000480C, False), (3, 0x800047E0, True)):
         entered = small(0x80001004)[0], place, tag
         yield script((entry(cause), ("get 0", text(entered))), small(0x800047E1))
     yield "# another seal takes the tag with the address, and keeps it where the address is the entry's"
-    for cause, address, place in ((TIMER, 0x80000101, 0x8000011C), (11, 0x80000101, 0x80000100), (TIMER, 0x80000100, 0x80000100)):
+    for cause, address, place in ((TIMER_INTERRUPT, 0x80000101, 0x8000011C), (11, 0x80000101, 0x80000100),
+                                  (TIMER_INTERRUPT, 0x80000100, 0x80000100)):
         sealed = root(address, OWN_TYPE)
         entered = sealed[0], place, address == place
         yield script((entry(cause), ("get 0", text(entered)), ("get 28", text(sealed))), sealed)
     yield "# a return goes to no entry"
-    yield script((entry(EXTERNAL), ("leave", "ok"), ("get 0", text(PCC))), root(0x80000101))
+    yield script((entry(EXTERNAL_INTERRUPT), ("leave", "ok"), ("get 0", text(PCC))), root(0x80000101))
 
 
 def targets():

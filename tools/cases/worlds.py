@@ -5,20 +5,16 @@ Each program narrows PCC and DDC, jumps to code that nobody trusts, and runs it 
 64 bytes from CODE on, DDC and a0 over bytes from SHARED on, and a1 over the transmit register.
 """
 
-from cases.programs.items import BOTH, CHERI, ENTRY, EXECUTE, LOAD_CAPABILITY, UNSEALED
+from cases.programs.items import BOTH, ENTRY
+from model.faults import ACCESS, CHERI, LENGTH
+from model.rights import ACCESS_SYSTEM_REGISTERS, EXECUTE, LOAD_CAPABILITY, UNSEALED
 
 HEAD = ("# mode | statements | what the first world has after them | what the second has | events and queries => answers, both where they "
         "differ")
 
-# Access_System_Registers.
-SYSTEM = 1 << 10
-
 CODE = ENTRY + 0x100
 SHARED = ENTRY + 0x200
 PRELUDE = ENTRY + 0x240
-
-# What a capability forbids: its bounds, and the system registers.
-LENGTH, ACCESS = 1, 0x18
 
 # The register of a fault at the first load or store, by mode: DDC, or a0.
 THROUGH = {0: 33, 1: 10}
@@ -27,7 +23,7 @@ THROUGH = {0: 33, 1: 10}
 LOADS = ["lbu a2, 0(a0)", "sb.cap a2, (ca1)", "ld a3, 8(a0)", "lbu a4, 16(a0)"]
 
 
-def narrowed(length=16, code=SYSTEM, data=SYSTEM | EXECUTE):
+def narrowed(length=16, code=ACCESS_SYSTEM_REGISTERS, data=ACCESS_SYSTEM_REGISTERS | EXECUTE):
     """Narrows PCC and DDC, without the permissions of `code` and `data`, and jumps to CODE."""
     return [
         "cspecialrw ct0, pcc, cnull", f"cincoffsetimm ct0, ct0, {CODE - ENTRY}", "addi t1, zero, 64", "csetbounds ct0, ct0, t1",
@@ -94,7 +90,7 @@ def hidden_tag():
     loads = ["lc ca2, 0(a0)", "cgettag a3, ca2", "sb.cap a3, (ca1)", "ebreak"]
     root = "0000000000000000 000000000000ffff"
     for mode in BOTH:
-        program = entered(narrowed(data=SYSTEM | EXECUTE | LOAD_CAPABILITY)) + code(loads)
+        program = entered(narrowed(data=ACCESS_SYSTEM_REGISTERS | EXECUTE | LOAD_CAPABILITY)) + code(loads)
         one, two = (prelude(["cspecialrw ct3, ddc, cnull", f"{row} ct3, ct3", "addi t2, zero, 1", "slli t2, t2, 31",
                              f"addi t2, t2, {SHARED - ENTRY:#x}", "sc.ddc ct3, (t2)", "addi t3, zero, 0", "addi t2, zero, 0"])
                     for row in ("cmove", "ccleartag"))

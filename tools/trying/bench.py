@@ -5,11 +5,12 @@ import signal
 import subprocess
 import tempfile
 
+from model.words import ROOT_HIGH
+
 from .libraries import Cap, loaded
 from .machines import MCAUSE, MTVAL, TRAP, Machine
 from .rows import encoded
 
-ROOT_UPPER = 0xFFFF1FFFFC018004
 # What mcause holds before a step that may trap: no trap gives it.
 UNTRAPPED = 0x5EED
 
@@ -32,7 +33,7 @@ class Bench:
 
     def root(self, address):
         """The capability of all addresses and permissions."""
-        return Cap(address, ROOT_UPPER, True)
+        return Cap(address, ROOT_HIGH, True)
 
     def root_machine(self, pages=1):
         """A machine of empty RAM, as it begins."""

@@ -1,16 +1,16 @@
 """Words, windows, requests and rights: the calls of libcheri-caps."""
 from ctypes import byref, c_bool, c_uint8
 
-from cases.bounds_vectors import SPACE, UNSEALED, decoded, is_well_formed
-from cases.requests import expected as bounded_by_formulas
+from model.bounds import bounded as bounded_by_formulas
+from model.rights import CINVOKE, GREATEST_SEALING_TYPE, SENTRY, UNSEALED
+from model.words import NULL_HIGH, ONES, SPACE, decoded, fields, is_well_formed
 
 from .libraries import Cap, Fields
 from .machines import MEPCC, PCC
-from .reading import MASK, NULL_UPPER, Left, Words, cap_text, number
+from .reading import Left, Words, cap_text, number
 from .rows import BY_NAME, encoded
 
 WINDOW_GOES_ROUND = 50
-CINVOKE = 1 << 8
 
 
 def word(bench, case):
@@ -49,8 +49,8 @@ def parts(bench, case):
     start = eighths - (eighths - edge) % 8 << e + 11
     ends = (start, True), (start + (1 << e + 14) - 1, True), (start - 1, False), (start + (1 << e + 14), False)
     for address, stays in ends if e < WINDOW_GOES_ROUND else ((address, True) for address, _ in ends):
-        if library.cheri_is_representable(found, address & MASK) != stays:
-            return f"the window's end {address & MASK:x} is another"
+        if library.cheri_is_representable(found, address & ONES) != stays:
+            return f"the window's end {address & ONES:x} is another"
     return case.expected
 
 
@@ -76,7 +76,7 @@ def request(bench, case):
 
 
 class Modelled:
-    """The library beside the standard's formulas in tools/: which calls differ over one value."""
+    """The library beside the standard's formulas in tools/model/: which calls differ over one value."""
 
     def __init__(self, library, value):
         self.library, self.value = library, value
@@ -92,7 +92,7 @@ class Modelled:
         """Whether it moves to an address as the formulas say."""
         value = self.value
         stays = decoded(value.upper, address) == self.bounds
-        tag = value.tag and stays and value.upper >> 27 & 0x3FFFF == UNSEALED
+        tag = value.tag and stays and fields(value.upper)[2] == UNSEALED
         return (self.library.cheri_is_representable(value.word(), address) == stays
                 and self.is_same(self.library.cheri_set_address(value, address), value.upper, address, tag))
 
@@ -119,12 +119,12 @@ def agreement(bench, case):
     step = 1 << min(field_exponent(found.upper), 49) + 11
     start = base // step * step - step
     for end in (start, start + 8 * step, base, top):
-        for address in (end & MASK, end - 1 & MASK):
+        for address in (end & ONES, end - 1 & ONES):
             if not model.moves(address):
                 return f"0: address {address:x}"
     most = 1023 * granule
     around = (most, most - granule, most + granule, 512 * granule)
-    for asked in (length, *(one + more & MASK for one in around for more in (0, -1, 1))):
+    for asked in (length, *(one + more & ONES for one in around for more in (0, -1, 1))):
         if not model.takes(asked):
             return f"0: length {asked:x}"
     return "1"
@@ -140,7 +140,7 @@ def field_exponent(upper):
 def executed(bench, name, cs1, cs2=None, rs1=11, ddc=None, imm=0):
     """The value of a row over capabilities."""
     library, value = bench.library, Cap()
-    null = Cap(0, NULL_UPPER, False)
+    null = Cap(0, NULL_HIGH, False)
     found = encoded(library, name, 10, rs1, 12 if BY_NAME[name].format == "Register" else 0, imm)
     if not library.cheri_execute(found, cs1, cs2 or null, ddc or null, byref(value)):
         raise ValueError(f"{name} is not executed")
@@ -154,7 +154,7 @@ def in_software(perms):
 
 def with_type(bench, otype):
     """Data with an object type."""
-    return Cap(0, NULL_UPPER & ~(0x3FFFF << 27) | otype << 27, False)
+    return Cap(0, NULL_HIGH & ~(0x3FFFF << 27) | otype << 27, False)
 
 
 def opened(bench, value):
@@ -163,14 +163,14 @@ def opened(bench, value):
     if not value.tag:
         return cap_text(executed(bench, "cunseal", value, bench.root(0)))
     otype = bench.library.cheri_otype(value.word())
-    if otype in (0x3FFFC, 0x3FFFD):
+    if GREATEST_SEALING_TYPE < otype < SENTRY:
         raise Left
     machine = bench.root_machine()
-    if otype >= 0x3FFFE:
+    if otype >= SENTRY:
         machine.set_scr(MEPCC, value)
         bench.place(machine, "mret")
     else:
-        data = Cap(0, NULL_UPPER & ~(0x3FFFF << 27) | CINVOKE << 48 | otype << 27, False)
+        data = Cap(0, NULL_HIGH & ~(0x3FFFF << 27) | CINVOKE << 48 | otype << 27, False)
         machine.set_reg(11, value)
         machine.set_reg(12, bench.library.cheri_cap(data.word(), True))
         bench.place(machine, "cinvoke", rs1=11, rs2=12)
@@ -182,17 +182,17 @@ def about_number(bench, what, words):
     """A question about no value."""
     library = bench.library
     if what == "granule":
-        return f"{-library.cheri_alignment_mask(words.hex()) & MASK:x}"
+        return f"{-library.cheri_alignment_mask(words.hex()) & ONES:x}"
     if what == "shown":
         return f"{executed(bench, 'cgetperm', Cap(0, words.hex() << 48, False)).address:x}"
     if what == "named":
         return f"{library.cheri_perms(executed(bench, 'candperm', bench.root(0), number(words.hex())).word()):x}"
     if what == "record":
         base, top, address, perms, flag, otype = words.hex(), words.hex(), words.hex(), words.hex(), words.bit(), words.hex()
-        fields = Fields(base, top & MASK, top >> 64, address, otype, perms, flag)
+        fields = Fields(base, top & ONES, top >> 64, address, otype, perms, flag)
         return f"{library.cheri_compress(byref(fields), byref(Cap())):d}"
     otype = words.hex() if what == "type" else SPACE
-    if otype > 0x3FFFF:
+    if otype > UNSEALED:
         raise Left
     reserved = not executed(bench, "cseal", bench.root(0), bench.root(otype)).tag
     return f"{reserved:d} {executed(bench, 'cgettype', with_type(bench, otype)).address:x}"

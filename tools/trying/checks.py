@@ -2,16 +2,17 @@
 import random
 import re
 
-from .bench import ROOT_UPPER
+from model.faults import CHERI, STORES_CAPABILITY, STORES_LOCAL
+from model.rights import EXECUTE, STORE, STORE_CAPABILITY
+from model.words import ROOT_HIGH
+
 from .libraries import Cap
 from .machines import DDC, PAGE, PCC, RAM
 from .reading import Left, Words, number
 
 FLAG = 1 << 45
-EXECUTE, STORE, STORE_CAPABILITY = 1 << 1, 1 << 3, 1 << 5
 PAGES, DDC_IN_FAULTS = 16, 33
-LENGTH, STORES_CAPABILITY, STORES_LOCAL = 0x01, 0x15, 0x16
-FETCH_ACCESS, LOAD_ACCESS, STORE_ACCESS, MISALIGNED_JUMP, CHERI = 1, 5, 7, 0, 28
+FETCH_ACCESS, LOAD_ACCESS, STORE_ACCESS, MISALIGNED_JUMP = 1, 5, 7, 0
 LOADS = {1: "lb", 2: "lh", 4: "lw", 8: "ld"}
 STORES = {1: "sb", 2: "sh", 4: "sw", 8: "sd"}
 # Registers of what is moved, and of an address.
@@ -25,7 +26,7 @@ def fault_text(fault):
 
 def with_perms(perms, address):
     """All addresses, with these permissions."""
-    return Cap(address, perms << 48 | ROOT_UPPER & (1 << 48) - 1, True)
+    return Cap(address, perms << 48 | ROOT_HIGH & (1 << 48) - 1, True)
 
 
 def machine_of(bench, capability_mode):
@@ -35,7 +36,7 @@ def machine_of(bench, capability_mode):
         machine.write(RAM, random.Random(PAGES).randbytes(PAGES * PAGE))
         return machine
     machine = bench.once("filled", filled).copy()
-    machine.set_scr(PCC, Cap(RAM, ROOT_UPPER | FLAG * capability_mode, True))
+    machine.set_scr(PCC, Cap(RAM, ROOT_HIGH | FLAG * capability_mode, True))
     return machine
 
 

@@ -1,10 +1,13 @@
 """Images: the machine of a file, whose state the image says, and the files that the program writes."""
 from ctypes import byref
 
+from model.rights import UNSEALED
+from model.words import NULL_HIGH, ONES
+
 from .image_files import MOST_PAGES, asked, read_back, shown, version_of
 from .libraries import Cap, Fields
 from .machines import DDC, MEPCC, MTCC, PAGE, PCC, RAM, Machine, Refused
-from .reading import NULL_UPPER, Left, bytes_of
+from .reading import Left, bytes_of
 
 FLAG = 1 << 45
 CHUNK = 1 << 20
@@ -12,7 +15,7 @@ CHUNK = 1 << 20
 
 def granted(library, base, length, perms, flag):
     """The capability of these parts, by the library."""
-    value, fields = Cap(), Fields(base, base + length & (1 << 64) - 1, base + length >> 64, base, 0x3FFFF, perms, bool(flag))
+    value, fields = Cap(), Fields(base, base + length & ONES, base + length >> 64, base, UNSEALED, perms, bool(flag))
     if not library.cheri_compress(byref(fields), byref(value)):
         raise ValueError(f"no capability of {length} bytes from {base:x} on")
     return value
@@ -27,7 +30,7 @@ def difference(bench, machine, image):
         return "another PCC"
     if any(machine.scr(n).key() != bench.root(0).key() for n in (DDC, MTCC, MEPCC)):
         return "other special registers"
-    if any(value.key() != (NULL_UPPER, 0, False) for value in machine.regs()):
+    if any(value.key() != (NULL_HIGH, 0, False) for value in machine.regs()):
         return "other registers"
     capabilities = {place: granted(library, *rest) for place, *rest in image.capabilities}
     if list(machine.tagged(0)) != sorted(capabilities):

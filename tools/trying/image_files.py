@@ -1,7 +1,7 @@
 """Images by their parts: as files have them, as answers show them, and as texts that assemble to them."""
 from typing import NamedTuple
 
-from cases.images import capability as entry_bytes, number, section as section_bytes
+from model.images import capability as entry_bytes, number, section as section_bytes
 
 from .reading import bytes_of
 

@@ -2,17 +2,18 @@
 import re
 from ctypes import byref, c_uint32, create_string_buffer
 
-from .bench import ROOT_UPPER
+from model.devices import TRANSMIT
+from model.words import NULL_HIGH, ROOT_HIGH
+
 from .libraries import Word
 from .machines import PCC, RAM
-from .reading import NULL_UPPER, Left, Words, number
+from .reading import Left, Words, number
 from .rows import BY_NAME, decoded
 
 # how far a branch that is taken goes
 AWAY = 64
 # How many amounts a shift has.
 AMOUNTS = {"Shift6": 64, "Shift5": 32}
-TRANSMIT = 0x10000000
 
 
 def integer(bench, case):
@@ -35,7 +36,7 @@ def integer(bench, case):
     if row.kind == "Branch":
         return {4: "0", AWAY: "1"}[gone]
     value = machine.reg(10)
-    return f"{value.address:x}" if (gone, value.upper, value.tag) == (4, NULL_UPPER, False) else "no number, or a jump"
+    return f"{value.address:x}" if (gone, value.upper, value.tag) == (4, NULL_HIGH, False) else "no number, or a jump"
 
 
 def encoding(bench, case):
@@ -74,7 +75,7 @@ def digits(bench, case):
         # the top of all addresses
         pattern = r"of pcc: .* to (\w+)"
     elif width == "5":
-        sealed = bench.library.cheri_cap(Word(RAM, ROOT_UPPER & ~(0x3FFFF << 27) | int(word, 16) << 27), True)
+        sealed = bench.library.cheri_cap(Word(RAM, ROOT_HIGH & ~(0x3FFFF << 27) | int(word, 16) << 27), True)
         machine.set_reg(11, sealed)
         bench.place(machine, "lb.cap", rd=10, rs1=11)
         pattern = r"ca1 v:1 .* o:(\w+)"

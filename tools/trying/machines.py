@@ -1,9 +1,11 @@
 """A machine of the library, as the readers of cases use it."""
 from ctypes import byref, c_uint8, c_uint32, c_uint64, c_size_t
 
+from model.devices import RAM
+
 from .libraries import Asked, Cap, Console, Halted, Handle, Ran, Sent, Timer
 
-RAM, PAGE = 0x80000000, 4096
+PAGE = 4096
 PCC, DDC, MTCC, MTDC, MSCRATCHC, MEPCC = 0, 1, 28, 29, 30, 31
 SCRS = (PCC, DDC, MTCC, MTDC, MSCRATCHC, MEPCC)
 MSTATUS, MIE, MSCRATCH, MCAUSE, MTVAL, MIP, MCYCLE, MINSTRET = 0x300, 0x304, 0x340, 0x342, 0x343, 0x344, 0xB00, 0xB02

@@ -3,9 +3,11 @@
 Numbers are read and written by instructions, in a copy of the machine, whose faults tell misaligned from outside; what they leave is
 written into the machine itself.
 """
+from model.words import NULL_HIGH
+
 from .libraries import Cap
 from .machines import PAGE, PCC, RAM, Machine, Refused
-from .reading import NULL_UPPER, Words, bytes_of, cap_text, number
+from .reading import Words, bytes_of, cap_text, number
 
 NAMES = {1: ("lbu", "sb"), 2: ("lhu", "sh"), 4: ("lwu", "sw"), 8: ("ld", "sd"), 16: ("lc", "sc")}
 MISALIGNED = 4, 6
@@ -117,7 +119,7 @@ def search(bench, case):
     """Words, as the tags of RAM: the index of the first that isn't 0, by the first tagged granule, or how many there are."""
     words = [int(word, 16) for word in case.inputs.split()]
     machine = Machine.flat(bench.library, pages=-(-len(words) // 4))
-    tagged = Cap(0, NULL_UPPER, True)
+    tagged = Cap(0, NULL_HIGH, True)
     for place, word in enumerate(words):
         for granule in range(64):
             if word >> granule & 1:

@@ -1,10 +1,10 @@
 """Cases as they stand in files, and the words of their inputs."""
 from typing import NamedTuple
 
+from model.words import NULL_HIGH, ONES
+
 from .libraries import Cap, Word
 
-NULL_UPPER = 0x00001FFFFC018004
-MASK = (1 << 64) - 1
 NAMED = {"n": 10, "t": 9, "r": 13, "0": 0}
 
 
@@ -78,7 +78,7 @@ def spaced(contents):
 
 def number(value):
     """A number as a register holds it."""
-    return Cap(value & MASK, NULL_UPPER, False)
+    return Cap(value & ONES, NULL_HIGH, False)
 
 
 def cap_text(value):

@@ -5,23 +5,27 @@ into the machine itself, so that nothing else of the step (the counters, PCC's a
 """
 from ctypes import byref, c_bool
 
+from model.devices import CONTROL, TIMER_COMPARE
+from model.faults import ACCESS, CHERI, INTERRUPT, LENGTH
+from model.rights import EXECUTE, UNSEALED
+from model.words import fields
+
 from .machines import (DDC, MCAUSE, MCYCLE, MEPCC, MIE, MINSTRET, MSCRATCH, MSCRATCHC, MSTATUS, MTCC, MTDC, MTVAL, PAGE, PCC, RAM, SCRS,
                        SEALED_JUMP, TRAP, Refused)
 from .reading import Left, Words, cap_text, number
 from .rows import encoded
 
-ILLEGAL, EBREAK, STORE_ACCESS, ECALL, CHERI = 2, 3, 7, 11, 28
-# The CHERI cause of want of Access_System_Registers, the number of PCC in mtval, and the mtval of an access past DDC's bounds.
-SYSTEM_ACCESS, SPECIAL, PAST_DDC = 0x18, 32, 33 << 5 | 1
-INTERRUPT = 1 << 63
+ILLEGAL, EBREAK, STORE_ACCESS, ECALL = 2, 3, 7, 11
+# The number of PCC in mtval, and the mtval of an access past DDC's bounds.
+SPECIAL, PAST_DDC = 32, 33 << 5 | LENGTH
 TIMER, EXTERNAL = 0x80, 0x800
-TIMER_COMPARE, CONTROL = 0x2004000, 0x10000018
 STORES_AT = RAM + 0x200
 
 
 def is_fetched(pcc):
     """Whether an instruction in RAM is fetched through a PCC."""
-    return pcc.tag and pcc.upper >> 27 & 0x3FFFF == 0x3FFFF and pcc.upper >> 49 & 1 and RAM <= pcc.address < RAM + PAGE
+    perms, _, otype = fields(pcc.upper)
+    return pcc.tag and otype == UNSEALED and perms & EXECUTE and RAM <= pcc.address < RAM + PAGE
 
 
 class Registers:
@@ -66,7 +70,7 @@ class Registers:
         if fault == (ILLEGAL, encoded(self.bench.library, name, **operands)):
             return "S1"
         register = SPECIAL + (operands["rs2"] if name == "cspecialrw" else PCC)
-        return "S2" if fault == (CHERI, register << 5 | SYSTEM_ACCESS) else f"{fault[0]:x} {fault[1]:x}"
+        return "S2" if fault == (CHERI, register << 5 | ACCESS) else f"{fault[0]:x} {fault[1]:x}"
 
     def take(self, copy, scrs, csrs=(MSTATUS,)):
         """Takes some registers over from a copy."""

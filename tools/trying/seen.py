@@ -1,10 +1,12 @@
 """What a query tells of a machine."""
 from ctypes import c_uint8
 
+from model.words import NULL_HIGH
+
 from .machines import MCAUSE, MTVAL, PAGE, RAM
 from .memory import planes_of
 from .names import CSRS, NAMES, REGISTERS, SCRS
-from .reading import NULL_UPPER, spaced
+from .reading import spaced
 
 
 def value_of(machine, name):
@@ -21,7 +23,7 @@ def granule_text(library, value):
 
 def value_text(library, value):
     """A value: its address alone where it is a null capability with an address; else tag, bounds, address, permissions, flag and type."""
-    if value.upper == NULL_UPPER and not value.tag:
+    if value.upper == NULL_HIGH and not value.tag:
         return f"{value.address:x}"
     word = value.word()
     base, top, perms = library.cheri_base(word), int(library.cheri_top(word)), library.cheri_perms(word)
@@ -36,7 +38,7 @@ def trap(machine):
 
 def registers(machine):
     """The registers that hold anything but 0."""
-    null = NULL_UPPER, 0, False
+    null = NULL_HIGH, 0, False
     held = ((name, value) for name, value in zip(NAMES, machine.regs()) if value.key() != null)
     return "".join(f"{name}={value_text(machine.library, value)}," for name, value in held)
 

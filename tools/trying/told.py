@@ -2,7 +2,7 @@
 import re
 import subprocess
 
-from cases.images import FIRST, ONE_CAPABILITY, file_v2, granted, header, patched, section
+from model.images import FIRST, ONE_CAPABILITY, file_v2, granted, header, patched, section
 from refused_growths import library
 
 from .desk import Desk

@@ -1,7 +1,9 @@
 """Cases over programs: what the whole machine shows after statements of assembly. Values are the architecture's, worked out by hand."""
 
+from model.words import NULL_HIGH
+
 from . import derivations, integers, invocations, jumps, loads, machines, memory, opened, stretches, system, traps
-from .items import BOTH, ENTRY, NULL, at, bits, csr, line, together
+from .items import BOTH, ENTRY, at, bits, csr, line, together
 
 HEAD = "# mode | statements | events and queries => answers"
 
@@ -14,7 +16,7 @@ def steps_line(mode, steps):
         register = statements[0].split()[1].rstrip(",")
         texts += statements
         deeds += together(len(statements) * ["step"])
-        deeds.append(bits(register, *(expected if len(expected) == 3 else (NULL, expected[0], False))))
+        deeds.append(bits(register, *(expected if len(expected) == 3 else (NULL_HIGH, expected[0], False))))
     return line(mode, texts, deeds + [csr("mcause", 0), csr("minstret", len(texts)), at(ENTRY + 4 * len(texts))])
 
 

@@ -3,19 +3,21 @@
 Words are put together by hand from base, top, permissions and type.
 """
 
-from .items import NULL, put
+from model.words import NULL_HIGH
+
+from .items import put
 
 # Root.
 ROOT = 0xffff_1fff_fc01_8004
 
 # Every permission over `[0x8000_1000, 0x8000_1fff)`.
-PAGE = 0xffff_0000_07fe_5004 ^ NULL
+PAGE = 0xffff_0000_07fe_5004 ^ NULL_HIGH
 
 # Every permission over `[0x8000_1000, 0x8000_2008)`.
-ROUNDED = 0xffff_0000_0003_9004 ^ NULL
+ROUNDED = 0xffff_0000_0003_9004 ^ NULL_HIGH
 
 # Every permission over `[0, 8192)`, with an exponent of 1.
-RAISED = 0xffff_0000_0001_8005 ^ NULL
+RAISED = 0xffff_0000_0001_8005 ^ NULL_HIGH
 
 # Every permission over `[0, 16)`.
 SIXTEEN = 0xffff_1fff_f804_0000

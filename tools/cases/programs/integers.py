@@ -1,15 +1,17 @@
 """Rows over capabilities on integers, which are data: what each gives, and that none of them traps."""
 
-from .items import NULL, put
+from model.words import NULL_HIGH
+
+from .items import put
 
 # No permission, over `[0x8000_1000, 0x8000_1fff)`.
-PAGE = 0x07fe_5004 ^ NULL
+PAGE = 0x07fe_5004 ^ NULL_HIGH
 
 # No permission, over `[0x8000_1000, 0x8000_2008)`.
-ROUNDED = 0x0003_9004 ^ NULL
+ROUNDED = 0x0003_9004 ^ NULL_HIGH
 
 # No permission, over `[0, 8192)` with an exponent of 1.
-RAISED = 0x0001_8005 ^ NULL
+RAISED = 0x0001_8005 ^ NULL_HIGH
 
 TOLD = [
     ("cgetbase a0, cnull", 0),

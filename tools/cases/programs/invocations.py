@@ -1,9 +1,9 @@
 """CInvoke of the pair in ca0 and ca1."""
 
-from .items import (
-    BOTH, CHERI, CINVOKE, DATA, DONE, EXECUTE, FROM_LAST, LOAD, Table, UNSEALED, at, capability, integer, sealed,
-    shaped, trap,
-)
+from model.faults import CHERI
+from model.rights import CINVOKE, EXECUTE, LOAD, UNSEALED
+
+from .items import BOTH, DATA, DONE, FROM_LAST, Table, at, capability, integer, sealed, shaped, trap
 
 # Types 5 and 6, a pair that is good, and each condition false from a place on, one place fewer a line. Bytes 2 to 6 are neither in 4
 # bytes nor at a multiple of 4, and data that may be executed is forbidden.

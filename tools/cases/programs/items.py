@@ -5,41 +5,20 @@ one step is done for it; an event is met where it stands. What is to be seen is 
 functions that give one where the program's end is known.
 """
 
-# Where RAM begins, and each program with it.
-ENTRY = 0x8000_0000
+from model.devices import RAM
+from model.rights import SENTRY
+from model.words import SPACE
+
+# Where each program begins.
+ENTRY = RAM
 
 # Where data stands, after each program.
 DATA = 0x8000_0800
-
-# The end of the address space.
-END = 1 << 64
-
-# mcause of what a capability forbids, of the timer's interrupt and of the console's.
-CHERI = 28
-TIMER = 0x8000_0000_0000_0007
-CONSOLE = 0x8000_0000_0000_000b
-
-# The type of a sentry, and that of what is not sealed.
-SENTRY = 0x3_fffe
-UNSEALED = 0x3_ffff
 
 # The modes that a table is tried in.
 INTEGER = (0,)
 CAPABILITY = (1,)
 BOTH = (0, 1)
-
-# Permissions.
-GLOBAL = 1
-EXECUTE = 1 << 1
-LOAD = 1 << 2
-STORE = 1 << 3
-LOAD_CAPABILITY = 1 << 4
-STORE_CAPABILITY = 1 << 5
-STORE_LOCAL = 1 << 6
-CINVOKE = 1 << 8
-
-# The high half of sixteen zero bytes: a high half stands in memory as it is exclusive-ored with this.
-NULL = 0x1fff_fc01_8004
 
 
 # ---- items of more than one statement
@@ -122,7 +101,7 @@ def capability(name, base, top, address, permissions, flag, otype):
 
 def link(register, flag):
     """A register holds a sentry of root after the program's last word, with this flag."""
-    return lambda end: capability(register, 0, END, end, 0xffff, flag, SENTRY)
+    return lambda end: capability(register, 0, SPACE, end, 0xffff, flag, SENTRY)
 
 
 def fields(name, address, otype, tag):

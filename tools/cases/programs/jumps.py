@@ -1,8 +1,12 @@
 """Branches, jumps, links, and the fetch."""
 
+from model.faults import CHERI
+from model.rights import EXECUTE, SENTRY, UNSEALED
+from model.words import SPACE
+
 from .items import (
-    BOTH, CAPABILITY, CHERI, DATA, DONE, END, ENTRY, EXECUTE, FROM_LAST, INTEGER, SENTRY, Table, UNSEALED, at,
-    came_from, capability, csr, fields, integer, link, narrowed, number, same, sealed, shaped, trap,
+    BOTH, CAPABILITY, DATA, DONE, ENTRY, FROM_LAST, INTEGER, Table, at, came_from, capability, csr, fields, integer, link, narrowed,
+    number, same, sealed, shaped, trap,
 )
 
 # -1 in a0, 1 in a1, and a word after which a branch stands at 0x8000_000c.
@@ -118,7 +122,7 @@ JUMPS_WITHIN = [
                 [],
                 [
                     DONE,
-                    capability("pcc", 0, END, 0x8000_0008, 0xffff, True, UNSEALED),
+                    capability("pcc", 0, SPACE, 0x8000_0008, 0xffff, True, UNSEALED),
                     link("ra", True),
                     fields("ra", 0x8000_0004, SENTRY, True),
                 ],
@@ -207,8 +211,8 @@ JUMPS_TO_CAPABILITIES = [
                 [],
                 [
                     trap(CHERI, 0xa2),
-                    capability("mepcc", 0, END, 0x8000_0014, 0xffff, True, UNSEALED),
-                    capability("pcc", 0, END, 0, 0xffff, False, UNSEALED),
+                    capability("mepcc", 0, SPACE, 0x8000_0014, 0xffff, True, UNSEALED),
+                    capability("pcc", 0, SPACE, 0, 0xffff, False, UNSEALED),
                 ],
             ),
         ],
@@ -230,8 +234,8 @@ FETCHES = [
             (
                 [],
                 [
-                    capability("a0", 0, END, 0x8000_1000, 0xffff, True, UNSEALED),
-                    capability("a1", 0, END, 0x7fff_f004, 0xffff, True, UNSEALED),
+                    capability("a0", 0, SPACE, 0x8000_1000, 0xffff, True, UNSEALED),
+                    capability("a1", 0, SPACE, 0x7fff_f004, 0xffff, True, UNSEALED),
                 ],
             ),
         ],

@@ -1,6 +1,9 @@
 """Loads of data from RAM, the authority of each row, and devices."""
 
-from .items import BOTH, CAPABILITY, CHERI, DATA, DONE, ENTRY, FROM_LAST, INTEGER, LOAD, Table, integer, number, sent, shaped, trap
+from model.faults import CHERI
+from model.rights import LOAD
+
+from .items import BOTH, CAPABILITY, DATA, DONE, ENTRY, FROM_LAST, INTEGER, Table, integer, number, sent, shaped, trap
 
 # The bytes 88 87 86 85 84 83 82 81 in memory, and the place in t0, ca1 and, as root, in ca2.
 HIGH = [

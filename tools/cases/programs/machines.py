@@ -1,8 +1,11 @@
 """Programs with what is to be seen of the whole machine: halts, traps, devices and interrupts. Values are the architecture's."""
 
+from model.faults import CHERI, EXTERNAL_INTERRUPT, TIMER_INTERRUPT
+from model.rights import SENTRY, UNSEALED
+from model.words import NULL_HIGH, SPACE
+
 from .items import (
-    CHERI, CONSOLE, DONE, END, ENTRY, NULL, SENTRY, TIMER, UNSEALED, at, came_from, capability, end, fields, granule, halted, integer,
-    line, number, same, sealed, sent, together, waiting,
+    DONE, ENTRY, at, came_from, capability, end, fields, granule, halted, integer, line, number, same, sealed, sent, together, waiting,
 )
 
 # Sends `A` and halts with 0.
@@ -87,14 +90,14 @@ def first_image():
     yield line(0, FIRST_IMAGE[:3] + FIRST_IMAGE, ["steps 4", end(None), sent(b"A"), "steps 3", end(None), sent(b"AA"), "steps 3", end(0),
                                                   sent(b"AA")])
     yield "# the opening state"
-    at_zero = [capability(name, 0, END, 0, 0xffff, False, UNSEALED) for name in ("ddc", "mtcc", "mepcc")]
+    at_zero = [capability(name, 0, SPACE, 0, 0xffff, False, UNSEALED) for name in ("ddc", "mtcc", "mepcc")]
     null = [integer(name, 0) for name in ("mtdc", "mscratchc", "a0")]
     for mode in (0, 1):
-        yield line(mode, FIRST_IMAGE, [capability("pcc", 0, END, ENTRY, 0xffff, mode, UNSEALED), *at_zero, *null,
+        yield line(mode, FIRST_IMAGE, [capability("pcc", 0, SPACE, ENTRY, 0xffff, mode, UNSEALED), *at_zero, *null,
                                        *numbers(mstatus=0x1800)])
     yield "# a halted machine meets ticks and bytes alone"
     state = [("registers", "a0=41,a1=100000,"),
-             capability("pcc", 0, END, 0x8000_0014, 0xffff, False, UNSEALED), *at_zero, integer("mtdc", 0), integer("mscratchc", 0),
+             capability("pcc", 0, SPACE, 0x8000_0014, 0xffff, False, UNSEALED), *at_zero, integer("mtdc", 0), integer("mscratchc", 0),
              *numbers(mstatus=0x1800, mie=0, mscratch=0, mcause=0, mtval=0, mip=0, mcycle=5, minstret=5),
              ("ram", "80000000=4100513100005b7,80000008=1005b700a58023,80000010=5b023,")]
     yield line(0, FIRST_IMAGE, ["steps 5", halted(0), *state, "byte 42", "tick", "step", halted(0), sent(b"A"), waiting(b"B"),
@@ -130,7 +133,7 @@ def faults():
         ("beq zero, zero, .+2", 0, 0x8000_0002),
     ]:
         yield line(0, [statement], ["step", sent(b""), *traps(mcause, mtval, ENTRY, 1, 0), at(0),
-                                    capability("mepcc", 0, END, ENTRY, 0xffff, False, UNSEALED), "step", *traps(1, 0, 0, 2, 0)])
+                                    capability("mepcc", 0, SPACE, ENTRY, 0xffff, False, UNSEALED), "step", *traps(1, 0, 0, 2, 0)])
     yield "# stores into devices want their sizes: transmit, halt, transmit; then halt, and past control"
     for page, store, mcause, mtval in [
         (0x10000, "sd zero, 0(a1)", 0, 0),
@@ -187,23 +190,23 @@ def interrupts():
     # the set-up's 14 instructions are counted first
     yield "# the set-up lets interrupts come"
     yield prepared(*standing(0, ENTRY, 0x1808, 0), *numbers(mie=0x880, mcycle=14, minstret=14, mtimecmp=2, control=1),
-                   capability("mtcc", 0, END, HANDLER, 0xffff, False, UNSEALED), integer("a1", 0x1000_0008))
+                   capability("mtcc", 0, SPACE, HANDLER, 0xffff, False, UNSEALED), integer("a1", 0x1000_0008))
     yield "# the console is served before the timer; MPIE, and no MIE"
-    yield prepared(*both, *standing(CONSOLE, HANDLER, 0x1880, 0x880), *numbers(mtval=0), came_from(ENTRY),
-                   *numbers(mcycle=15, minstret=14), "steps 2", integer("a0", 0x41), *standing(CONSOLE, ENTRY, 0x1888, 0x80),
-                   *numbers(mcycle=17, minstret=16), "step", *standing(TIMER, HANDLER, 0x1880, 0x80),
+    yield prepared(*both, *standing(EXTERNAL_INTERRUPT, HANDLER, 0x1880, 0x880), *numbers(mtval=0), came_from(ENTRY),
+                   *numbers(mcycle=15, minstret=14), "steps 2", integer("a0", 0x41), *standing(EXTERNAL_INTERRUPT, ENTRY, 0x1888, 0x80),
+                   *numbers(mcycle=17, minstret=16), "step", *standing(TIMER_INTERRUPT, HANDLER, 0x1880, 0x80),
                    *numbers(mcycle=18, minstret=16), integer("a0", 0x41), program=[seven])
     yield "# without MIE the instruction is done"
     yield prepared("step", *numbers(mcycle=15, minstret=15), *both, *standing(0, ENTRY + 8, 0x1800, 0x880), integer("a0", 7),
                    *numbers(mcycle=16, minstret=16), program=[INTERRUPTS_OFF, seven])
     yield "# an interrupt needs its bit in mie"
     for value, mie, events, mcause in [
-        (-1, 0x880, ["tick", "tick", "byte 01"], CONSOLE),
-        (-1, 0x880, ["tick", "tick", "tick"], TIMER),
-        (-1, 0x880, ["byte 01", "byte 01", "tick"], CONSOLE),
-        (-2048, 0x800, ["tick", "tick", "byte 01"], CONSOLE),
+        (-1, 0x880, ["tick", "tick", "byte 01"], EXTERNAL_INTERRUPT),
+        (-1, 0x880, ["tick", "tick", "tick"], TIMER_INTERRUPT),
+        (-1, 0x880, ["byte 01", "byte 01", "tick"], EXTERNAL_INTERRUPT),
+        (-2048, 0x800, ["tick", "tick", "byte 01"], EXTERNAL_INTERRUPT),
         (-2048, 0x800, ["tick", "tick", "tick"], 0),
-        (128, 0x080, ["tick", "tick", "byte 01"], TIMER),
+        (128, 0x080, ["tick", "tick", "byte 01"], TIMER_INTERRUPT),
         (128, 0x080, ["byte 01", "byte 01", "tick"], 0),
         (0, 0x000, ["tick", "tick", "byte 01"], 0),
     ]:
@@ -211,7 +214,7 @@ def interrupts():
         yield prepared("steps 2", *numbers(mie=mie), *events, "step", *numbers(mcause=mcause), at(place), integer("a0", a0),
                        program=[f"addi t2, zero, {value}", "csrrw zero, mie, t2", seven])
     yield "# an interrupt is taken where PCC cannot fetch: CHERI's exception for PCC's tag, and the console's interrupt"
-    for event, mcause, mtval in [("tick", 28, 0x402), ("byte 09", CONSOLE, 0)]:
+    for event, mcause, mtval in [("tick", 28, 0x402), ("byte 09", EXTERNAL_INTERRUPT, 0)]:
         yield prepared("steps 4", integer("pcc", 128), *standing(0, 128, 0x1888, 0), *numbers(mcycle=18, minstret=18), event, "step",
                        *numbers(mcause=mcause, mtval=mtval), at(HANDLER), integer("mepcc", 128), *numbers(mcycle=19, minstret=18),
                        program=["addi t2, zero, 128", "csrrs zero, mstatus, t2", "cspecialrw cnull, mepcc, ct2", "mret"])
@@ -228,19 +231,20 @@ def vectored():
     """Traps with the low bits of MTCC's address 1."""
     yield "# in vectored mode an interrupt goes 4 bytes a number past the base, and an exception to it"
     for events, mcause, place, mip in [
-        (["byte 41", "tick", "tick"], CONSOLE, HANDLER + 44, 0x880),
-        (["tick", "tick"], TIMER, HANDLER + 28, 0x80),
+        (["byte 41", "tick", "tick"], EXTERNAL_INTERRUPT, HANDLER + 44, 0x880),
+        (["tick", "tick"], TIMER_INTERRUPT, HANDLER + 28, 0x80),
         ([], 11, HANDLER, 0),
     ]:
         yield prepared(*events, "step", *standing(mcause, place, 0x1880, mip), came_from(ENTRY), *numbers(mtvec=HANDLER + 1),
-                       capability("mtcc", 0, END, HANDLER + 1, 0xffff, False, UNSEALED), program=["ecall"], set_up=VECTORED)
+                       capability("mtcc", 0, SPACE, HANDLER + 1, 0xffff, False, UNSEALED), program=["ecall"], set_up=VECTORED)
     yield "# a return goes back, and the next interrupt to its own entry"
     yield prepared("byte 41", "tick", "tick", "step", at(HANDLER + 44), "steps 2", at(ENTRY), integer("a0", 0x41), "step",
-                   *standing(TIMER, HANDLER + 28, 0x1880, 0x80), program=[f".org {HANDLER + 44:#x}", *TAKE_BYTE], set_up=VECTORED)
+                   *standing(TIMER_INTERRUPT, HANDLER + 28, 0x1880, 0x80), program=[f".org {HANDLER + 44:#x}", *TAKE_BYTE], set_up=VECTORED)
     yield "# an entry past the window of MTCC: no tag, and the next trap goes to the base, which is out of its bounds"
     program = [*number("t0", 0x8000_1000), "cspecialrw ca0, ddc, cnull", "csetaddr ca0, ca0, t0", *number("t0", 4095),
                "csetbounds ca0, ca0, t0", *number("t0", 0x8000_47f1), "csetaddr ca0, ca0, t0", "cspecialrw cnull, mtcc, ca0"]
-    yield prepared(f"steps {len(program)}", "byte 41", "step", *numbers(mcause=CONSOLE), fields("pcc", 0x8000_481c, UNSEALED, False),
+    yield prepared(f"steps {len(program)}", "byte 41",
+                   "step", *numbers(mcause=EXTERNAL_INTERRUPT), fields("pcc", 0x8000_481c, UNSEALED, False),
                    "step", *numbers(mcause=CHERI, mtval=0x402), fields("pcc", 0x8000_47f0, UNSEALED, True),
                    "step", *numbers(mcause=CHERI, mtval=0x401), fields("pcc", 0x8000_47f0, UNSEALED, True), program=program)
     yield "# a sealed value that stands at the entry keeps its tag, and is refused at the fetch"
@@ -279,10 +283,10 @@ def sealed_values():
     for otype, items in ((5, typed), (SENTRY, entry)):
         items = items + -len(items) % 4 * ["nop"] + ["auipc t1, 0x0", "sc ca1, 64(t1)", "lc ca2, 64(t1)"]
         place = ENTRY + 4 * (len(items) - 3) + 64
-        high = 0xffff << 48 | otype << 27 | NULL & ~(UNSEALED << 27)
-        stored = int.from_bytes((high ^ NULL).to_bytes(8, "little"), "big")
+        high = 0xffff << 48 | otype << 27 | NULL_HIGH & ~(UNSEALED << 27)
+        stored = int.from_bytes((high ^ NULL_HIGH).to_bytes(8, "little"), "big")
         for mode in (0, 1):
-            yield line(mode, items, [f"steps {len(items)}", DONE, capability("a1", 0, END, 0, 0xffff, False, otype),
+            yield line(mode, items, [f"steps {len(items)}", DONE, capability("a1", 0, SPACE, 0, 0xffff, False, otype),
                                      granule(place, 0, stored, True), same("a1", "a2")])
 
 

@@ -1,9 +1,9 @@
 """Stores, and loads and stores of capabilities, in RAM."""
 
-from .items import (
-    BOTH, CAPABILITY, CHERI, DATA, DONE, FROM_LAST, GLOBAL, INTEGER, LOAD, LOAD_CAPABILITY, STORE, STORE_CAPABILITY,
-    STORE_LOCAL, Table, granule, memory_form, number, sealed, sent, shaped, trap,
-)
+from model.faults import CHERI
+from model.rights import GLOBAL, LOAD, LOAD_CAPABILITY, STORE, STORE_CAPABILITY, STORE_LOCAL
+
+from .items import BOTH, CAPABILITY, DATA, DONE, FROM_LAST, INTEGER, Table, granule, memory_form, number, sealed, sent, shaped, trap
 
 # Everything that a store of a capability needs.
 ALL = STORE | STORE_CAPABILITY | STORE_LOCAL

@@ -1,9 +1,10 @@
 """Stretches: how many events they meet, and why they end. Values are the architecture's."""
 
-from .items import (
-    CINVOKE, CONSOLE, DONE, END, ENTRY, EXECUTE, LOAD, TIMER, UNSEALED, WITHOUT_SYSTEM_ACCESS, at, capability, halted, integer, line,
-    number, sealed, sent, shaped, waiting,
-)
+from model.faults import EXTERNAL_INTERRUPT, TIMER_INTERRUPT
+from model.rights import CINVOKE, EXECUTE, LOAD, UNSEALED
+from model.words import SPACE
+
+from .items import DONE, ENTRY, WITHOUT_SYSTEM_ACCESS, at, capability, halted, integer, line, number, sealed, sent, shaped, waiting
 from .machines import FIRST_IMAGE, HANDLER, numbers, prepared, standing
 
 
@@ -33,8 +34,8 @@ def made(*parts):
 def runs():
     yield "# the console's interrupt ends a stretch, which meets the byte and the ticks before it"
     yield prepared(stretch("btts", 3, "trap"), ends("trap"), *standing(0, ENTRY, 0x1808, 0x880), sent(b""), "step",
-                   *standing(CONSOLE, HANDLER, 0x1880, 0x880), stretch("sss", 2, "trap"), integer("a0", 0x41),
-                   *standing(CONSOLE, ENTRY, 0x1888, 0x80), "step", *numbers(mcause=TIMER))
+                   *standing(EXTERNAL_INTERRUPT, HANDLER, 0x1880, 0x880), stretch("sss", 2, "trap"), integer("a0", 0x41),
+                   *standing(EXTERNAL_INTERRUPT, ENTRY, 0x1888, 0x80), "step", *numbers(mcause=TIMER_INTERRUPT))
     yield "# the first image is one stretch, and a step of a halted machine belongs to it"
     yield line(0, FIRST_IMAGE, [stretch("ssssss", 6, "none"), sent(b"A"), halted(0), ends("none")])
     yield "# bytes on the line, of which 64 wait; and no event"
@@ -59,7 +60,7 @@ def outcomes():
     yield "# code without system access may jump to code that has it, which reads MTCC: all that is one stretch"
     items = made("cspecialrw ca0, ddc, cnull", number("t0", ENTRY + 0x100), "csetaddr ca0, ca0, t0", WITHOUT_SYSTEM_ACCESS)
     yield line(1, [*items, "cjalr cnull, 0(ca0)", f".org {ENTRY + 0x100:#x}", "cspecialrw ca1, mtcc, cnull"],
-               [f"steps {len(items)}", stretch("ss", 2, "none"), capability("a1", 0, END, 0, 0xffff, False, UNSEALED)])
+               [f"steps {len(items)}", stretch("ss", 2, "none"), capability("a1", 0, SPACE, 0, 0xffff, False, UNSEALED)])
 
 
 def cases():

@@ -1,8 +1,12 @@
 """Control and status registers, and special capability registers."""
 
+from model.faults import CHERI
+from model.rights import LOAD, SENTRY, STORE, UNSEALED
+from model.words import SPACE
+
 from .items import (
-    BOTH, CAPABILITY, CHERI, DATA, DONE, END, FROM_LAST, INTEGER, LOAD, SENTRY, STORE, Table, UNSEALED,
-    WITHOUT_SYSTEM_ACCESS, at, capability, csr, fields, integer, number, shaped, trap,
+    BOTH, CAPABILITY, DATA, DONE, FROM_LAST, INTEGER, Table, WITHOUT_SYSTEM_ACCESS, at, capability, csr, fields, integer, number,
+    shaped, trap,
 )
 
 ACCESS = [
@@ -233,7 +237,7 @@ SPECIAL = [
         name="PCC is read",
         modes=CAPABILITY,
         rows=[["nop", "cspecialrw ca2, pcc, cnull"]],
-        lines=[([], [capability("a2", 0, END, 0x8000_0004, 0xffff, True, UNSEALED)])],
+        lines=[([], [capability("a2", 0, SPACE, 0x8000_0004, 0xffff, True, UNSEALED)])],
     ),
 ]
 

@@ -1,8 +1,12 @@
 """Trap entry and return, and interrupts."""
 
+from model.faults import CHERI
+from model.rights import EXECUTE, UNSEALED
+from model.words import SPACE
+
 from .items import (
-    BOTH, CHERI, DATA, DONE, END, EXECUTE, FROM_LAST, INTEGER, Table, UNSEALED, WITHOUT_SYSTEM_ACCESS, at, capability,
-    csr, fields, number, permissions, same, sealed, shaped, trap,
+    BOTH, DATA, DONE, FROM_LAST, INTEGER, Table, WITHOUT_SYSTEM_ACCESS, at, capability, csr, fields, number, permissions, same, sealed,
+    shaped, trap,
 )
 
 ENTRIES = [
@@ -80,11 +84,11 @@ RETURNS = [
         lines=[
             (
                 [number("t0", 0x8000_0102), "cspecialrw ca0, ddc, cnull", "csetaddr ca0, ca0, t0", "csealentry ca0, ca0"],
-                [capability("pcc", 0, END, 0x8000_0100, 0xffff, False, UNSEALED), same("mepcc", "a0")],
+                [capability("pcc", 0, SPACE, 0x8000_0100, 0xffff, False, UNSEALED), same("mepcc", "a0")],
             ),
             (
                 [number("t0", 0x8000_0102), "cspecialrw ca0, ddc, cnull", "csetaddr ca0, ca0, t0"],
-                [capability("pcc", 0, END, 0x8000_0100, 0xffff, False, UNSEALED), same("mepcc", "a0")],
+                [capability("pcc", 0, SPACE, 0x8000_0100, 0xffff, False, UNSEALED), same("mepcc", "a0")],
             ),
         ],
     ),

@@ -4,6 +4,11 @@ A value is a number, or a name for bits 127..64 of its word, an address and a ta
 rs2, or the immediate; after it may stand the number of rs1 and the value in DDC. The names that every group has are in NAMES.
 """
 
+import re
+from typing import NamedTuple, Optional, Union
+
+from model.capabilities import IMMEDIATE, integer
+
 NAMES = {
     # sixteen zero bytes; every permission over all addresses
     "NULL": 0x00001ffffc018004,
@@ -332,3 +337,33 @@ GROUPS = (
     ("fields told and fields set", FIELDS_NAMES, FIELDS),
     ("seals and entries", SEALS_NAMES, SEALS),
 )
+
+IMMEDIATES = [name.lower() for name in IMMEDIATE]
+
+
+class Worked(NamedTuple):
+    """A mnemonic, the value in rs1, that in rs2 or the immediate as it stands, the number of rs1 and DDC where they count, the result."""
+    row: str
+    first: tuple
+    second: Union[tuple, str]
+    rs1: Optional[int]
+    ddc: Optional[tuple]
+    result: tuple
+
+
+def value(words, names):
+    """The value that some words are: a number, or a name or a high half, an address and a tag."""
+    words = words.split()
+    if len(words) == 1:
+        return integer(int(words[0], 16))
+    high, address, tag = words
+    return names[high] if high in names else int(high, 16), int(address, 16), tag == "1"
+
+
+def worked(line, names):
+    """A row of a table, with the names of its group."""
+    names = NAMES | names
+    row, first, second, rs1, ddc, result = re.fullmatch(r"(\w+) \((.*?)\) \((.*?)\)(?: (\d+) \((.*?)\))? => (.*)", line).groups()
+    second = second if row in IMMEDIATES else value(second, names)
+    counted = (None, None) if rs1 is None else (int(rs1), value(ddc, names))
+    return Worked(row, value(first, names), second, *counted, value(result, names))
