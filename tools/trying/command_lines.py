@@ -55,10 +55,10 @@ def outcome(bench, words, text=WATCHES):
         with open(os.path.join(folder, name), "wb") as file:
             file.write(contents)
     came = bench.run(*words, given=b"step 1\nmem 0x80000000 4\nmem start 1\nquit\n", folder=folder)
-    behind = {}
+    after = {}
     for name in sorted(os.listdir(folder)):
         with open(os.path.join(folder, name), "rb") as file:
-            behind[name] = file.read()
+            after[name] = file.read()
     shutil.rmtree(folder)
     return *came, after
 
