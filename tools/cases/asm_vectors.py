@@ -52,25 +52,30 @@ def lines(mnemonic, rd, rs1, rs2, imm):
         return [f"{mnemonic} {X[rd]}, {csr}, {source}" for csr in [str(imm)] + ([CSRS[imm]] if imm in CSRS else [])]
     if mnemonic in ("ecall", "ebreak", "mret", "wfi"):
         return [mnemonic]
+    return [one_line(mnemonic, rd, rs1, rs2, n)]
+
+
+def one_line(mnemonic, rd, rs1, rs2, n):
+    """The line of a row that has one name and no address: a row over capabilities, or one of integers in three registers."""
     if mnemonic == "cspecialrw":
-        return [f"cspecialrw {C[rd]}, {rs2}, {C[rs1]}"]
+        return f"cspecialrw {C[rd]}, {rs2}, {C[rs1]}"
     if mnemonic in ("csetbounds", "csetboundsexact", "candperm", "csetflags", "csetoffset", "csetaddr", "cincoffset"):
-        return [f"{mnemonic} {C[rd]}, {C[rs1]}, {X[rs2]}"]
+        return f"{mnemonic} {C[rd]}, {C[rs1]}, {X[rs2]}"
     if mnemonic in ("cincoffsetimm", "csetboundsimm"):
-        return [f"{mnemonic} {C[rd]}, {C[rs1]}, {n}"]
+        return f"{mnemonic} {C[rd]}, {C[rs1]}, {n}"
     if mnemonic in ("cseal", "cunseal"):
-        return [f"{mnemonic} {C[rd]}, {C[rs1]}, {C[rs2]}"]
+        return f"{mnemonic} {C[rd]}, {C[rs1]}, {C[rs2]}"
     if mnemonic in ("csub", "ctestsubset", "csetequalexact"):
-        return [f"{mnemonic} {X[rd]}, {C[rs1]}, {C[rs2]}"]
+        return f"{mnemonic} {X[rd]}, {C[rs1]}, {C[rs2]}"
     if mnemonic == "cinvoke":
-        return [f"cinvoke {C[rs1]}, {C[rs2]}"]
+        return f"cinvoke {C[rs1]}, {C[rs2]}"
     if mnemonic in ("crrl", "cram"):
-        return [f"{mnemonic} {X[rd]}, {X[rs1]}"]
+        return f"{mnemonic} {X[rd]}, {X[rs1]}"
     if mnemonic in ("cmove", "ccleartag", "csealentry", "jalr.cap"):
-        return [f"{mnemonic} {C[rd]}, {C[rs1]}"]
+        return f"{mnemonic} {C[rd]}, {C[rs1]}"
     if mnemonic.startswith("cget"):
-        return [f"{mnemonic} {X[rd]}, {C[rs1]}"]
-    return [f"{mnemonic} {X[rd]}, {X[rs1]}, {X[rs2]}"]
+        return f"{mnemonic} {X[rd]}, {C[rs1]}"
+    return f"{mnemonic} {X[rd]}, {X[rs1]}, {X[rs2]}"
 
 
 table = [(word, line) for word, _, mnemonic, rd, rs1, rs2, imm in made for line in lines(mnemonic, rd, rs1, rs2, imm)]

@@ -230,6 +230,12 @@ def second_version():
     yield from both([])
     yield from both([], sections=[(RAM, b"\1\2\3\4"), (RAM + 4, b"\5")])
     yield from either_version()
+    yield from places()
+    yield from parts_of_capabilities()
+    yield from pairs()
+
+
+def places():
     yield "# pages are 1 to 65536"
     for pages in (4096, 4097, MOST):
         yield from both([], pages=pages, entry=RAM + 4096 * pages - 4)
@@ -247,6 +253,9 @@ def second_version():
     yield "# it may touch sections, which end before it, cover it, or begin in it"
     for address, contents in ((RAM + 0xF8, b"\7" * 8), (RAM + 0x100, b"\7" * 16), (RAM + 0x108, b"\7" * 16), (RAM + 0x110, b"\7")):
         yield from both([GRANTED], sections=[(address, contents)])
+
+
+def parts_of_capabilities():
     yield "# bounds are those of a capability, and end at 2^64 at most"
     for base, length, fault in (
             (0, 0, None), (ONES, 0, None), (ONES, 1, None), (ONES, 2, "L13"), (ONES, ONES, "L13"), (1, ONES, "L13"), (0, ONES, "L13"),
@@ -268,7 +277,6 @@ def second_version():
     yield f"read {text(patched(ONE_CAPABILITY, {32: 0, 33: 4}))} => L8"
     yield f"read {text(patched(ONE_CAPABILITY, {32: 0}))} => L9"
     yield f"read {text(patched(ONE_CAPABILITY, {32: 2}))} => L8"
-    yield from pairs()
 
 
 # What is wrong with a capability, under its code: the parts of an entry that have other values.

@@ -130,10 +130,7 @@ def planes(granules, pages):
     return " ".join(f"{word:x}" for word in words)
 
 
-def memory():
-    yield "# pages, of 4096 bytes; calls => what each answers"
-    yield "# pages are 1 to 4096"
-    yield from ("0 => M1", "10001 => M1", "1 => 1", "1000 => 1000", "1001 => 1001", "2 => 2")
+def numbers():
     yield "# memory begins as zeros"
     yield memory_script(("read 8 80001ff8", "0"), ("readc 80001ff0", "00001ffffc018004 0 0"), ("tagged 0 ffffffffffffffff", "none"),
                         pages=2)
@@ -153,6 +150,9 @@ def memory():
         ("write 8 80000010 1122334455667788", "ok"), ("write 4 80000014 ffffffff0a0b0c0d", "ok"), ("read 8 80000010", "a0b0c0d55667788"),
         ("write 2 80000012 fffbeef", "ok"), ("read 8 80000010", "a0b0c0dbeef7788"), ("write 1 80000011 1234", "ok"),
         ("read 8 80000010", "a0b0c0dbeef3488"), ("read 8 80000008", "0"), ("read 8 80000018", "0"))
+
+
+def granules():
     yield "# a byte takes the tag of its granule"
     left = f"{HIGH & ~(0xFF << 56):016x} 80001000 0"
     yield memory_script(
@@ -170,17 +170,23 @@ def memory():
             ("80000010 80002ff0", "80001ff0 80002000"), ("0 ffffffffffffffff", "80000000 80001ff0 80002000 80002ff0"),
             ("80001ff1 80002000", "none"), ("80001ff1 80002001", "80002000"), ("80002ff0 80000000", "none")):
         yield memory_script(*tagged((0x80002000, 0x80000000, 0x80002FF0, 0x80001FF0)), (f"tagged {bounds}", answer), pages=3)
+
+
+def filled():
     yield "# filling takes the tags that it touches: from the last byte of a granule to the first of the next but one"
     yield "# no byte touches none"
-    granules = tagged((0x80000000, 0x80000010, 0x80000020, 0x80000030, 0x80000040))
+    five = tagged((0x80000000, 0x80000010, 0x80000020, 0x80000030, 0x80000040))
     yield memory_script(
-        *granules, ("fill 8000001f 07*18", "ok"), ("tagged 0 ffffffffffffffff", "80000000 80000040"), ("read 1 8000001e", "ff"),
+        *five, ("fill 8000001f 07*18", "ok"), ("tagged 0 ffffffffffffffff", "80000000 80000040"), ("read 1 8000001e", "ff"),
         ("read 1 8000001f", "7"), ("read 2 80000030", "7"), ("fill 80000048 -", "ok"), ("readc 80000040", f"{ROOT} 1"))
+
+
+def planes_of_tags():
     yield "# tags are bits, 64 granules a word, the first granule's the lowest of the first word"
     yield memory_script(("planes", planes([], 1)))
-    for pages, granules in ((1, (0, 63, 64, 255)), (2, (256 + 1,)), (3, (11 * 64,))):
-        yield memory_script(*tagged(map(granule, granules)), ("planes", planes(granules, pages)),
-                            ("tagged 0 ffffffffffffffff", " ".join(f"{granule(number):x}" for number in granules)), pages=pages)
+    for pages, some in ((1, (0, 63, 64, 255)), (2, (256 + 1,)), (3, (11 * 64,))):
+        yield memory_script(*tagged(map(granule, some)), ("planes", planes(some, pages)),
+                            ("tagged 0 ffffffffffffffff", " ".join(f"{granule(number):x}" for number in some)), pages=pages)
     yield memory_script(*tagged(map(granule, (0, 1, 2))), ("write 1 8000001f 0", "ok"), ("planes", planes((0, 2), 1)),
                         (f"writec 80000000 {ROOT} 0", "ok"), ("planes", planes((2,), 1)))
     yield "# filling takes the tags of whole words and of the words that it begins and ends in"
@@ -195,6 +201,14 @@ def memory():
     yield "# there is no place past the end"
     for call, answer in (("fill 80001000 -", "ok"), ("fill 80001001 -", "M3"), ("fill 80000fff 0102", "M3"), ("fill 7fffffff 0102", "M3")):
         yield memory_script((call, answer), ("read 1 80000fff", "0"))
+
+
+def memory():
+    yield "# pages, of 4096 bytes; calls => what each answers"
+    yield "# pages are 1 to 4096"
+    yield from ("0 => M1", "10001 => M1", "1 => 1", "1000 => 1000", "1001 => 1001", "2 => 2")
+    for group in (numbers, granules, filled, planes_of_tags):
+        yield from group()
 
 
 def searches():

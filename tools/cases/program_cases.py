@@ -151,6 +151,9 @@ def ends():
     time = f"time.img {quoted(image(*TELLS_TIME))}"
     yield case("run time.img 7 --tick 1", [time], 0, "open time.img", b"B")
     yield case("run time.img 7 --tick 0", [time], 0, "open time.img", b"A")
+
+
+def ended_otherwise():
     yield "# a run that ended otherwise: status 1"
     yield case("run first.img 4", [FILE], 1, "open first.img", b"A", "cherisim: not halted\ncherisim: steps 4, pcc 0000000080000010\n")
     yield case("run first.img 4 --quiet", [FILE], 1, "open first.img", b"A", "cherisim: not halted\n")
@@ -165,6 +168,9 @@ def ends():
                trapped + "load access fault, mtval 0000000000000000, mepc 0000000080000000\n")
     yield case("run trap.img 1", [f"trap.img {quoted(image(*LOADS_BY_NULL))}"], 1, "open trap.img", b"",
                trapped + "CHERI exception, tag violation at ca1, mepc 0000000080000000\n")
+
+
+def not_begun():
     yield "# a command line that is refused, or asks for help: status 2, a text of clap's, and no file is opened"
     for words in ("frob", "asm a.s", "asm a.s a.img b.img", "run first.img", "run first.img 0", "run none.img 100000001",
                   "run first.img 5 --gap 0", "run first.img 5 --gap 1000001", "run first.img 5 --tick 1000001", "run first.img x", "dis",
@@ -298,6 +304,10 @@ def debugged(table):
     yield session("mem start 1\nmem 0x80000000 1", "fault B2\n0000000080000000: b7\n", 't ""')
     yield case("debug first.img", [FILE, table, 'input "mem start 1\\nmem 0x80000000 1"'], 0, "open first.img",
                "fault B2\n0000000080000000: b7\n")
+
+
+def tables_refused(table):
+    """Sessions over the first image whose table of labels is not read."""
     yield "# the table is read after the image, and refused as that of a listing"
     for wrong, line in ((table.replace(" halt", "  halt"), 2), (table.replace(" start", " 80000000"), 1),
                         (table.replace("C halt", "C h:"), 2),
@@ -329,6 +339,7 @@ def named():
                told="cherisim: file none: entity not found\n")
     yield case("dis bad.img --symbols none", [BAD], 3, "open bad.img", told="cherisim: bad.img: L1 short header\n")
     yield from debugged(table)
+    yield from tables_refused(table)
     yield "# what setting bounds gives"
     yield case("bounds 0x80000000 4097 --address 2147487744", [], 0, sent=shown(0x80000000, 4097, 0x80001000))
     yield case("bounds 18446744073709551615 2", [], 0, sent=shown(ONES, 2, None))
@@ -433,6 +444,6 @@ def fault_texts():
 
 def files():
     lines = ["# a command line, files and streams => the status, what is opened and made, sent, told, and what stands in the file made"]
-    lines += [*ends(), *traces(), *images(), *named(), *faults(), *failing()]
+    lines += [*ends(), *ended_otherwise(), *not_begun(), *traces(), *images(), *named(), *faults(), *failing()]
     yield "commands.txt", lines
     yield "told.txt", fault_texts()

@@ -213,6 +213,9 @@ def interrupts():
         place, a0 = (HANDLER, 0) if mcause else (ENTRY + 12, 7)
         yield prepared("steps 2", *numbers(mie=mie), *events, "step", *numbers(mcause=mcause), at(place), integer("a0", a0),
                        program=[f"addi t2, zero, {value}", "csrrw zero, mie, t2", seven])
+
+
+def other_interrupts():
     yield "# an interrupt is taken where PCC cannot fetch: CHERI's exception for PCC's tag, and the console's interrupt"
     for event, mcause, mtval in [("tick", 28, 0x402), ("byte 09", EXTERNAL_INTERRUPT, 0)]:
         yield prepared("steps 4", integer("pcc", 128), *standing(0, 128, 0x1888, 0), *numbers(mcycle=18, minstret=18), event, "step",
@@ -224,7 +227,7 @@ def interrupts():
                        program=[INTERRUPTS_OFF, f"addi t2, zero, {value}", "csrrw zero, mip, t2", "csrrs a0, mip, zero"])
     yield "# waiting for interrupts goes on"
     yield prepared("step", *standing(0, ENTRY + 4, 0x1808, 0), *numbers(mcycle=15, minstret=15), "step", integer("a0", 7),
-                   program=["wfi", seven])
+                   program=["wfi", "addi a0, zero, 7"])
 
 
 def vectored():
@@ -291,5 +294,5 @@ def sealed_values():
 
 
 def cases():
-    for part in (first_image, programs, faults, console, timer, interrupts, vectored, long_run, sealed_values):
+    for part in (first_image, programs, faults, console, timer, interrupts, other_interrupts, vectored, long_run, sealed_values):
         yield from part()
