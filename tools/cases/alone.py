@@ -5,6 +5,7 @@ A permission's set, a type that is none, a reserved type opened, a jump from whe
 after it, an expression longer than a line, what halted devices do, and amounts that no shift has.
 """
 from cases import asm_lines, checks, integers, rights
+from model.words import SPACE
 
 RESERVED = "3fffe4"
 AMOUNTS = {"slli": 64, "srli": 64, "srai": 64, "slliw": 32, "srliw": 32, "sraiw": 32}
@@ -29,7 +30,7 @@ def is_fetched(line):
 def has_amount(line):
     """Whether a row of integers is an instruction: of a shift, whether it has the amount."""
     name, _, amount = line.split(" => ")[0].split()
-    return int(amount, 16) < AMOUNTS.get(name, 1 << 64)
+    return int(amount, 16) < AMOUNTS.get(name, SPACE)
 
 
 def lines():

@@ -5,6 +5,7 @@ CHERI-RISC-V's encodings for the others. The lines are written here, each row by
 """
 from cases.asm_texts import PROGRAMS, assembled
 from cases.isa_vectors import made
+from model.integers import s as signed
 
 X = ("zero ra sp gp tp t0 t1 t2 s0 s1 a0 a1 a2 a3 a4 a5 a6 a7 s2 s3 s4 s5 s6 s7 s8 s9 s10 s11 t3 t4 t5 t6").split()
 C = ["cnull"] + ["c" + name for name in X[1:]]
@@ -13,10 +14,6 @@ SCRS = {0: "pcc", 1: "ddc", 28: "mtcc", 29: "mtdc", 30: "mscratchc", 31: "mepcc"
 LOADS = ("lb", "lh", "lw", "ld", "lbu", "lhu", "lwu")
 STORES = ("sb", "sh", "sw", "sd")
 IMMEDIATES = ("fence", "fence.i", "addi", "slti", "sltiu", "xori", "ori", "andi", "addiw")
-
-
-def signed(number):
-    return number - 2**64 if number >= 2**63 else number
 
 
 def lines(mnemonic, rd, rs1, rs2, imm):

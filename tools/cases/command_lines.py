@@ -4,6 +4,7 @@ Values are from the rules of the command line, of listings and of the schedule.
 """
 
 from cases.programs.items import csr, halted, integer, line, sent
+from cases.programs.machines import FIRST_IMAGE
 from cases.quoting import quoted
 
 # A command line, and its plan: of a run the image, the steps, the gap, the tick and the input, whether it is quiet, and its trace.
@@ -112,8 +113,6 @@ CUT_LISTING = """0000000080000000 100005b7 lui a1, 0x10000
 
 # How many bytes the sink of a listing takes a call.
 MOST = 7
-
-FIRST_IMAGE = ["lui a1, 0x10000", "addi a0, zero, 65", "sb a0, 0(a1)", "lui a1, 0x100", "sd zero, 0(a1)"]
 
 # Sends three bytes that it receives, and halts with 0.
 ECHO = ["lui a1, 0x10000", "li a2, 3", "loop: ld a0, 16(a1)", "beq a0, zero, loop", "ld a0, 8(a1)", "sb a0, 0(a1)", "addi a2, a2, -1",

@@ -9,6 +9,7 @@ import subprocess
 import tempfile
 
 from cases.row_forms import FORM, FORMS
+from model.words import SPACE
 
 AS = "riscv64-linux-gnu-as"
 OBJCOPY = "riscv64-linux-gnu-objcopy"
@@ -32,7 +33,7 @@ TEXTS = []  # (variant, mnemonic, text, rd, rs1, rs2, imm)
 
 
 def text(variant, mnemonic, line, rd=0, rs1=0, rs2=0, imm=0):
-    TEXTS.append((variant, mnemonic, line, rd, rs1, rs2, imm % 2**64))
+    TEXTS.append((variant, mnemonic, line, rd, rs1, rs2, imm % SPACE))
 
 
 def variant(mnemonic):
@@ -89,7 +90,7 @@ FIELDS = []  # (variant, mnemonic, word, rd, rs1, rs2, imm)
 def fields(variant, mnemonic, funct7=0, rs2=0, rs1=0, funct3=0, rd=0, opcode=0x5B, operands=(0, 0, 0, 0)):
     word = funct7 << 25 | rs2 << 20 | rs1 << 15 | funct3 << 12 | rd << 7 | opcode
     r_d, r_s1, r_s2, imm = operands
-    FIELDS.append((variant, mnemonic, word, r_d, r_s1, r_s2, imm % 2**64))
+    FIELDS.append((variant, mnemonic, word, r_d, r_s1, r_s2, imm % SPACE))
 
 
 PAIRS = ((10, 11, 12), (31, 1, 16))

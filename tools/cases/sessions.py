@@ -7,6 +7,7 @@ In the texts here a line that begins with `! ` stands for lines of the state.
 
 from cases import explanations
 from cases.quoting import escaped, quoted
+from model.words import SPACE
 
 # What `help` answers.
 COMMANDS = """\
@@ -69,12 +70,12 @@ REFUSED = [
 
 def number(name, address):
     """The line of a register that holds a number."""
-    return f"{name} v:0 a:{address:016x} b:{0:016x} t:{1 << 64:017x} p:00000 f:0 o:3ffff"
+    return f"{name} v:0 a:{address:016x} b:{0:016x} t:{SPACE:017x} p:00000 f:0 o:3ffff"
 
 
 def root(name, address, flag=0):
     """The line of a register that holds root, with an address and a flag."""
-    return f"{name} v:1 a:{address:016x} b:{0:016x} t:{1 << 64:017x} p:78fff f:{flag} o:3ffff"
+    return f"{name} v:1 a:{address:016x} b:{0:016x} t:{SPACE:017x} p:78fff f:{flag} o:3ffff"
 
 
 def scr(pcc, flag=0):

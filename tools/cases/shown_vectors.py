@@ -23,6 +23,8 @@ import tempfile
 sys.path.insert(0, os.path.join(os.path.dirname(os.path.abspath(__file__)), ".."))
 from cases import isa_vectors
 from cases.row_forms import FORM, SECOND
+from model.integers import s as signed
+from model.words import SPACE
 
 X = ("zero ra sp gp tp t0 t1 t2 s0 s1 a0 a1 a2 a3 a4 a5 a6 a7 s2 s3 s4 s5 s6 s7 s8 s9 s10 s11 t3 t4 t5 t6").split()
 C = ["cnull"] + ["c" + name for name in X[1:]]
@@ -32,10 +34,6 @@ CSRS = {0x300: "mstatus", 0x301: "misa", 0x304: "mie", 0x305: "mtvec", 0x340: "m
 SCRS = {0: "pcc", 1: "ddc", 28: "mtcc", 29: "mtdc", 30: "mscratchc", 31: "mepcc"}
 
 # ---- words and their operands
-
-
-def signed(number):
-    return number - 2**64 if number >= 2**63 else number
 
 
 def vectors():
@@ -174,7 +172,7 @@ def one_form(text, place):
 
     def value(part):
         if part[0] == ".":
-            return (place + int(part[1:])) % 2**64
+            return (place + int(part[1:])) % SPACE
         if part in FIELD_CSRS and name.startswith("csr"):
             return FIELD_CSRS[part]
         return int(part, 0) if re.fullmatch(r"-?(0x[0-9a-f]+|\d+)", part) else part
@@ -212,7 +210,7 @@ LISTED = [
 ]
 
 # Numbers, how many digits, and the digits.
-DIGITS = [(1 << 64, 17, "10000000000000000"), (0xBEEF, 5, "0beef"), (0x12345, 2, "45")]
+DIGITS = [(SPACE, 17, "10000000000000000"), (0xBEEF, 5, "0beef"), (0x12345, 2, "45")]
 
 
 def cases(table, none):

@@ -4,7 +4,7 @@ import re
 
 from model.faults import CHERI, STORES_CAPABILITY, STORES_LOCAL
 from model.rights import EXECUTE, STORE, STORE_CAPABILITY
-from model.words import ROOT_HIGH
+from model.words import ROOT_HIGH, SPACE
 
 from .libraries import Cap
 from .machines import DDC, PAGE, PCC, RAM
@@ -97,7 +97,7 @@ def access(bench, case):
         return stored(bench, words.value())
     asked = Access(what, words)
     register, authority, address = words.decimal(), words.value(), words.hex()
-    away = (address - authority.address + (1 << 63)) % (1 << 64) - (1 << 63)
+    away = (address - authority.address + (1 << 63)) % SPACE - (1 << 63)
     is_near = register < 32 and -2048 <= away < 2048
     machine = machine_of(bench, is_near)
     machine.set_reg(MOVED, asked.stored)

@@ -3,7 +3,7 @@ import re
 from ctypes import byref, c_uint32, create_string_buffer
 
 from model.devices import TRANSMIT
-from model.words import NULL_HIGH, ROOT_HIGH
+from model.words import NULL_HIGH, ROOT_HIGH, SPACE
 
 from .libraries import Word
 from .machines import PCC, RAM
@@ -20,7 +20,7 @@ def integer(bench, case):
     """A mnemonic, rs1's number, and rs2's or the immediate: what a step leaves in rd; of a branch 1 where it is taken."""
     words = Words(bench.library, case.inputs)
     row, a, b = BY_NAME[words.word()], words.hex(), words.hex()
-    if b >= AMOUNTS.get(row.format, 1 << 64):
+    if b >= AMOUNTS.get(row.format, SPACE):
         # an amount that no instruction has
         raise Left
     machine = bench.once("integers", bench.root_machine)

@@ -1,6 +1,8 @@
 """Lines of the assembly language, by what the assembler makes of a text that has the line."""
 import re
 
+from model.words import SPACE
+
 from .image_cases import granted
 from .machines import PCC, RAM, Machine, Refused
 from .reading import Left, unquoted
@@ -83,7 +85,7 @@ def instruction(bench, line, meaning):
     if not to:
         return shown
     name, offset = to.split()
-    is_there = (value(name) + int(offset) - RAM - gone) % (1 << 64) == 0
+    is_there = (value(name) + int(offset) - RAM - gone) % SPACE == 0
     return f"{shown} to {to}" if is_there else f"{shown}, {gone} bytes away"
 
 
@@ -94,8 +96,8 @@ def address(bench, line, meaning):
     words = [decoded(bench.library, int.from_bytes(machine.read(RAM + at, 4), "little")) for at in (0, 4)]
     (first, one), (second, two) = words
     found = {"Addi": "la", "CIncOffsetImm": "cla"}[two.variant], first.rd, second.rd, second.rs1, one.variant
-    gone = (RAM + first.imm + second.imm) % (1 << 64)
-    is_it = found == (kind, *(int(rd),) * 3, "Auipc") and gone == (value(name) + int(offset)) % (1 << 64)
+    gone = (RAM + first.imm + second.imm) % SPACE
+    is_it = found == (kind, *(int(rd),) * 3, "Auipc") and gone == (value(name) + int(offset)) % SPACE
     return meaning if is_it else f"{found} to {gone:x}"
 
 
@@ -210,7 +212,7 @@ def expression(bench, text, expected):
         return fault.code()
     came = int.from_bytes(Machine.of_text(bench.library, line).read(RAM, 8), "little")
     name, offset = expected.split()
-    is_it = came == ({".": RAM, "-": 0, **names}[name] + int(offset)) % (1 << 64)
+    is_it = came == ({".": RAM, "-": 0, **names}[name] + int(offset)) % SPACE
     return expected if is_it else f"{came:x}"
 
 

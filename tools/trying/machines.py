@@ -2,6 +2,7 @@
 from ctypes import byref, c_uint8, c_uint32, c_uint64, c_size_t
 
 from model.devices import RAM
+from model.words import SPACE
 
 from .libraries import Asked, Cap, Console, Halted, Handle, Ran, Sent, Timer
 
@@ -160,7 +161,7 @@ class Machine:
             must(status)
             yield found.value
             start = found.value + 16
-            if start >= 1 << 64:
+            if start >= SPACE:
                 return
 
     def halted(self):

@@ -8,7 +8,7 @@ from ctypes import byref, c_bool
 from model.devices import CONTROL, TIMER_COMPARE
 from model.faults import ACCESS, CHERI, INTERRUPT, LENGTH
 from model.rights import EXECUTE, UNSEALED
-from model.words import fields
+from model.words import SPACE, fields
 
 from .machines import (DDC, MCAUSE, MCYCLE, MEPCC, MIE, MINSTRET, MSCRATCH, MSCRATCHC, MSTATUS, MTCC, MTDC, MTVAL, PAGE, PCC, RAM, SCRS,
                        SEALED_JUMP, TRAP, Refused)
@@ -99,7 +99,7 @@ class Registers:
         """Counts one of the counters, as an instruction counts both."""
         copy = self.copied()
         self.done(copy, "addi")
-        if copy.csr(other) != (self.machine.csr(other) + 1) % (1 << 64):
+        if copy.csr(other) != (self.machine.csr(other) + 1) % SPACE:
             return "the other counter is not one more"
         self.machine.set_csr(n, copy.csr(n))
         return "ok"

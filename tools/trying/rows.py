@@ -3,6 +3,8 @@ import re
 from ctypes import byref, c_uint32
 from typing import NamedTuple
 
+from model.words import SPACE
+
 from . import paths
 from .libraries import Insn
 
@@ -34,7 +36,7 @@ BY_VARIANT = {row.variant: row for row in ROWS}
 
 def encoded(library, name, rd=0, rs1=0, rs2=0, imm=0):
     """The word of an instruction, its row by name in integer mode."""
-    insn, word = Insn(imm % (1 << 64), BY_NAME[name].place, rd, rs1, rs2), c_uint32()
+    insn, word = Insn(imm % SPACE, BY_NAME[name].place, rd, rs1, rs2), c_uint32()
     if not library.cheri_encode(byref(insn), byref(word)):
         raise ValueError(f"{name} {rd} {rs1} {rs2} {imm:x} is no instruction")
     return word.value

@@ -3,12 +3,9 @@
 Words are put together by hand from base, top, permissions and type.
 """
 
-from model.words import NULL_HIGH
+from model.words import NULL_HIGH, ROOT_HIGH
 
 from .items import put
-
-# Root.
-ROOT = 0xffff_1fff_fc01_8004
 
 # Every permission over `[0x8000_1000, 0x8000_1fff)`.
 PAGE = 0xffff_0000_07fe_5004 ^ NULL_HIGH
@@ -24,17 +21,17 @@ SIXTEEN = 0xffff_1fff_f804_0000
 
 # Register 20 is root at 0, as DDC is opened.
 LENGTHS = [
-    ("cspecialrw cs4, ddc, cnull", ROOT, 0, True),
+    ("cspecialrw cs4, ddc, cnull", ROOT_HIGH, 0, True),
     ("cgetperm a3, cs4", 0x7_8fff),
     put("a0", 0x8000_1000),
-    ("csetaddr cs5, cs4, a0", ROOT, 0x8000_1000, True),
+    ("csetaddr cs5, cs4, a0", ROOT_HIGH, 0x8000_1000, True),
     put("a1", 4095),
     ("csetbounds cs6, cs5, a1", PAGE, 0x8000_1000, True),
     ("csetboundsexact cs7, cs5, a1", PAGE, 0x8000_1000, True),
     ("csetboundsimm cs7, cs5, 4095", PAGE, 0x8000_1000, True),
     ("cgetbase a3, cs6", 0x8000_1000),
     ("cgetlen a3, cs6", 4095),
-    ("cincoffsetimm cs5, cs5, 1", ROOT, 0x8000_1001, True),
+    ("cincoffsetimm cs5, cs5, 1", ROOT_HIGH, 0x8000_1001, True),
     put("a1", 4096),
     ("csetbounds cs6, cs5, a1", ROUNDED, 0x8000_1001, True),
     ("csetboundsexact cs7, cs5, a1", ROUNDED, 0x8000_1001, False),
@@ -42,7 +39,7 @@ LENGTHS = [
     ("cgetlen a3, cs6", 0x1008),
     ("cgetoffset a3, cs6", 1),
     put("a0", 1),
-    ("csetoffset cs5, cs4, a0", ROOT, 1, True),
+    ("csetoffset cs5, cs4, a0", ROOT_HIGH, 1, True),
     put("a1", 8191),
     ("csetbounds cs6, cs5, a1", RAISED, 1, True),
     ("cgetbase a3, cs6", 0),
@@ -51,9 +48,9 @@ LENGTHS = [
 
 # Requests that are empty, too long, and at the end of the address space.
 ENDS = [
-    ("cspecialrw cs4, ddc, cnull", ROOT, 0, True),
+    ("cspecialrw cs4, ddc, cnull", ROOT_HIGH, 0, True),
     put("a0", 0x8000_1000),
-    ("csetaddr cs5, cs4, a0", ROOT, 0x8000_1000, True),
+    ("csetaddr cs5, cs4, a0", ROOT_HIGH, 0x8000_1000, True),
     put("a1", 4095),
     ("csetbounds cs6, cs5, a1", PAGE, 0x8000_1000, True),
     put("a0", 0x8000_1fff),
@@ -64,7 +61,7 @@ ENDS = [
     ("cgetbase a3, cs7", 0x8000_1fff),
     ("cgetlen a3, cs7", 1),
     put("a0", 0xffff_ffff_ffff_ffff),
-    ("csetaddr cs5, cs4, a0", ROOT, 0xffff_ffff_ffff_ffff, True),
+    ("csetaddr cs5, cs4, a0", ROOT_HIGH, 0xffff_ffff_ffff_ffff, True),
     ("csetbounds cs6, cs5, a0", 0xffff_1fff_fc01_8ffc, 0xffff_ffff_ffff_ffff, False),
     ("cgetbase a3, cs6", 0xff80_0000_0000_0000),
     ("cgetlen a3, cs6", 0xffff_ffff_ffff_ffff),
@@ -73,9 +70,9 @@ ENDS = [
 
 # Addresses at both ends of windows, and one past them.
 WINDOWS = [
-    ("cspecialrw cs4, ddc, cnull", ROOT, 0, True),
+    ("cspecialrw cs4, ddc, cnull", ROOT_HIGH, 0, True),
     put("a0", 0x8000_1000),
-    ("csetaddr cs5, cs4, a0", ROOT, 0x8000_1000, True),
+    ("csetaddr cs5, cs4, a0", ROOT_HIGH, 0x8000_1000, True),
     ("csetboundsimm cs6, cs5, 4095", PAGE, 0x8000_1000, True),
     put("a0", 0x8000_47ff),
     ("csetaddr cs7, cs6, a0", PAGE, 0x8000_47ff, True),
@@ -96,21 +93,21 @@ WINDOWS = [
 
 # Seals, entries, permissions and flags.
 SEALS = [
-    ("cspecialrw cs4, ddc, cnull", ROOT, 0, True),
+    ("cspecialrw cs4, ddc, cnull", ROOT_HIGH, 0, True),
     put("a0", 0x8000_1000),
-    ("csetaddr cs5, cs4, a0", ROOT, 0x8000_1000, True),
+    ("csetaddr cs5, cs4, a0", ROOT_HIGH, 0x8000_1000, True),
     ("csetboundsimm cs6, cs5, 4095", PAGE, 0x8000_1000, True),
     put("a0", 0x3_fffb),
-    ("csetaddr cs7, cs4, a0", ROOT, 0x3_fffb, True),
+    ("csetaddr cs7, cs4, a0", ROOT_HIGH, 0x3_fffb, True),
     ("cseal cs8, cs6, cs7", 0xffff_1fff_dbff_d000, 0x8000_1000, True),
     ("cgettype a3, cs8", 0x3_fffb),
     ("cgetsealed a3, cs8", 1),
     ("cunseal cs9, cs8, cs7", PAGE, 0x8000_1000, True),
     ("csetaddr cs9, cs8, a0", 0xffff_1fff_dbff_d000, 0x3_fffb, False),
-    ("cincoffsetimm cs7, cs7, 1", ROOT, 0x3_fffc, True),
+    ("cincoffsetimm cs7, cs7, 1", ROOT_HIGH, 0x3_fffc, True),
     ("cseal cs8, cs6, cs7", 0xffff_1fff_e3ff_d000, 0x8000_1000, False),
     ("cgettype a3, cs8", 0xffff_ffff_ffff_fffc),
-    ("cincoffsetimm cs7, cs7, 2", ROOT, 0x3_fffe, True),
+    ("cincoffsetimm cs7, cs7, 2", ROOT_HIGH, 0x3_fffe, True),
     ("csealentry cs8, cs6", 0xffff_1fff_f3ff_d000, 0x8000_1000, True),
     ("cunseal cs9, cs8, cs7", PAGE, 0x8000_1000, False),
     put("a0", 0x8003),
