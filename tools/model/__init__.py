@@ -5,6 +5,7 @@ has a name has it in one module.
     words.py         capability words: what they decode to, and the addresses with which their bounds stay (CHERI Concentrate)
     bounds.py        what setting bounds gives
     capabilities.py  values, and what each row over capabilities gives of them (CHERI-RISC-V)
+    worked.py        rows over capabilities that are worked by hand, of which cases and tests are made
     integers.py      what each row over integers gives (RISC-V unprivileged manual)
     faults.py        what mcause and mtval tell
     devices.py       where the devices' registers lie

@@ -2,8 +2,8 @@
 
 import unittest
 
-from model.bounds import alignment_mask
-from model.capabilities import integer, set_bounds, set_bounds_exact, untagged
+from model.bounds import alignment_mask, high_around
+from model.capabilities import capability, integer, set_bounds, set_bounds_exact, untagged
 from model.tests.begun import in_memory, page, read, root
 from model.words import ONES, SPACE, decoded, exponent_and_mantissas
 
@@ -26,6 +26,15 @@ class Bounds(unittest.TestCase):
         value, exact = set_bounds(root(1), 8191)
         self.assertEqual((decoded(*value[:2]), value[2], exact), ((0, 8192), True, False))
         self.assertEqual((in_memory(value), exponent_and_mantissas(value[0])[0]), (0xFFFF000000018005, 1))
+
+    def test_permissions_flag_and_type_stay_and_reserved_bits_go(self):
+        flagged = capability(0, 0x100, 0x10, 0x8001, 1)
+        self.assertEqual(set_bounds(flagged, 16), ((0x80013FFFF8080010, 0x10, True), True))
+        self.assertEqual(set_bounds((0x8001E00028080010, 0x10, False), 16), ((0x8001200028080010, 0x10, False), True))
+
+    def test_a_word_around_a_range_has_the_bounds_that_are_set(self):
+        self.assertEqual(high_around(root(0)[0], 0x80001000, 0x80001FFF), page()[0])
+        self.assertEqual(high_around(root(0)[0], 0x80001001, 0x80002001), set_bounds(root(0x80001001), 4096)[0][0])
 
     def test_past_the_last_address(self):
         value, _ = set_bounds(root(ONES), ONES)
