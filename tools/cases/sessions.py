@@ -6,6 +6,7 @@ In the texts here a line that begins with `! ` stands for lines of the state.
 """
 
 from cases import explanations
+from cases.programs import machines
 from cases.quoting import escaped, quoted
 from model.words import SPACE
 
@@ -29,7 +30,7 @@ quit
 """
 
 # Sends `A` and halts with 0.
-FIRST_IMAGE = "lui a1, 0x10000; addi a0, zero, 65; sb a0, 0(a1); lui a1, 0x100; sd zero, 0(a1)"
+FIRST_IMAGE = "; ".join(machines.FIRST_IMAGE)
 
 # Receives a byte.
 RECEIVES = "lui a1, 0x10000; ld a0, 8(a1)"
