@@ -11,7 +11,7 @@ from .reading import Left, Words, cap_text, number
 from .rows import encoded
 
 ILLEGAL, EBREAK, STORE_ACCESS, ECALL, CHERI = 2, 3, 7, 11, 28
-# The CHERI cause of want of Access_System_Registers, the number of PCC in mtval, and the mtval of an access past DDC's bounds.
+# The CHERI cause of an access without Access_System_Registers, the number of PCC in mtval, and the mtval of an access past DDC's bounds.
 SYSTEM_ACCESS, SPECIAL, PAST_DDC = 0x18, 32, 33 << 5 | 1
 INTERRUPT = 1 << 63
 TIMER, EXTERNAL = 0x80, 0x800
