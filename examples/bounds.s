@@ -8,9 +8,10 @@
 # mtval is 32 times the register's number and the cause (1 is a length violation).
 
         .mode   0
+        .entry  start                   # at the end of this text: gives up root
 
 # the handler: MTCC, a capability, is where traps go
-        cspecialrw ct0, pcc, cnull      # the program counter as a capability
+bounds: cspecialrw ct0, pcc, cnull      # the program counter as a capability
         la      t1, trap
         csetaddr ct0, ct0, t1
         cspecialrw cnull, mtcc, ct0
@@ -83,3 +84,16 @@ unharmed:  .ascii "no trap\n\0"
 
         .align  4
 table:  .zero   16
+        .zero   16                      # what a store past the table would reach
+
+# Where it starts: root is given up. DDC, PCC and MEPCC keep what loads, stores and runs bytes, and the system registers, which the
+# handler reads; no capability can be moved and nothing sealed.
+        .align  2
+start:  cspecialrw ct0, pcc, cnull      # root
+        li      t1, 0x40f               # Global, Execute, Load, Store, Access_System_Registers
+        candperm ct0, ct0, t1
+        cspecialrw cnull, ddc, ct0
+        cspecialrw cnull, mepcc, ct0
+        la      t1, bounds
+        csetaddr ct0, ct0, t1
+        jalr.cap cnull, ct0

@@ -19,7 +19,7 @@
 # A system call is ECALL with a number in a7: 0 ends the compartment, 1 sends the low byte of a0, 2 lets the other one run.
 # Another number does nothing. A CHERI fault sends '!', the compartment's letter and the cause as two hexadecimal digits, and
 # ends the compartment; another exception sends '?' in place of '!', and mcause. The one that runs is the one that faults,
-# also while it is behind the other's door. When both have ended the machine halts with 0.
+# also while it is inside the other's door. When both have ended the machine halts with 0.
 
         .pages  16
         .mode   1

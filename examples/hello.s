@@ -6,7 +6,9 @@
 # A byte that is stored at 0x10000000 is sent. A double word that is stored at 0x00100000 halts the machine with that
 # number; 0 says that all went well.
 
-        lui     a1, 0x10000             # a1: where bytes are sent
+        .entry  start                   # at the end of this text: gives up root
+
+hello:  lui     a1, 0x10000             # a1: where bytes are sent
         la      a2, text                # a2: the next byte
         la      a3, end                 # a3: where the text ends
 next:   lbu     a0, 0(a2)
@@ -18,3 +20,14 @@ next:   lbu     a0, 0(a2)
 
 text:   .ascii  "hello, world\n"
 end:
+
+# Where it starts: root is given up. DDC and PCC keep what loads, stores and runs bytes; no capability can be moved, nothing
+# sealed and no system register reached, whatever the code does.
+        .align  2
+start:  cspecialrw ct0, pcc, cnull      # root
+        li      t1, 0xf                 # Global, Execute, Load, Store
+        candperm ct0, ct0, t1
+        cspecialrw cnull, ddc, ct0
+        la      t1, hello
+        csetaddr ct0, ct0, t1
+        jalr.cap cnull, ct0

@@ -8,8 +8,9 @@
 # purpose, can't make a capability to another place of it: its tag is gone, and the walk stops before it is used.
 
         .mode   0
+        .entry  start                   # at the end of this text: gives up root
 
-        cspecialrw cs2, ddc, cnull      # all of memory: what the links are made from
+list:   cspecialrw cs2, ddc, cnull      # all of memory: what the links are made from
 
 # three nodes, the last of the list first: ca0 is the list so far, which ends with no capability
         cmove   ca0, cnull
@@ -53,3 +54,13 @@ last:   li      a2, 10
 
         .align  5
 nodes:  .zero   96
+
+# Where it starts: root is given up. DDC and PCC keep what loads, stores and runs bytes and moves capabilities; nothing can be
+# sealed and no system register reached.
+start:  cspecialrw ct0, pcc, cnull      # root
+        li      t1, 0x3f                # Global, Execute, Load, Store, Load_Capability, Store_Capability
+        candperm ct0, ct0, t1
+        cspecialrw cnull, ddc, ct0
+        la      t1, list
+        csetaddr ct0, ct0, t1
+        jalr.cap cnull, ct0

@@ -3,7 +3,9 @@
 #   cherisim asm examples/primes.s primes.img
 #   cherisim run primes.img 100000
 
-        lui     s1, 0x10000             # s1: where bytes are sent
+        .entry  start                   # at the end of this text: gives up root
+
+primes: lui     s1, 0x10000             # s1: where bytes are sent
         li      s2, 2                   # s2: the candidate
         li      s3, 100                 # s3: one past the last
 
@@ -37,3 +39,14 @@ ones:   addi    t2, t2, 48
         li      t2, 32
         sb      t2, 0(s1)
         ret
+
+# Where it starts: root is given up. DDC and PCC keep what loads, stores and runs bytes; no capability can be moved, nothing
+# sealed and no system register reached, whatever the code does.
+        .align  2
+start:  cspecialrw ct0, pcc, cnull      # root
+        li      t1, 0xf                 # Global, Execute, Load, Store
+        candperm ct0, ct0, t1
+        cspecialrw cnull, ddc, ct0
+        la      t1, primes
+        csetaddr ct0, ct0, t1
+        jalr.cap cnull, ct0

@@ -7,8 +7,9 @@
 # CInvoke takes such a pair, unseals both at once, and goes on in the code, with the data in register 31 (ct6). The user
 # keeps the pair and calls it twice. Then it tries to load through the sealed data itself, and that traps.
 
-        cspecialrw cs2, ddc, cnull      # all of memory: what everything here is made from
-        cspecialrw cs3, pcc, cnull
+        cspecialrw cs2, ddc, cnull      # root, which makes the seal
+        li      t1, 0x10f               # Global, Execute, Load, Store, Invoke
+        candperm cs3, cs2, t1           # what code and data are made from
 
 # traps go to the handler
         la      t1, trap
@@ -26,14 +27,23 @@
 
 # the counter's data: 8 bytes, not executable, sealed
         la      t1, value
-        csetaddr cs1, cs2, t1
+        csetaddr cs1, cs3, t1
         csetboundsimm cs1, cs1, 8
         li      t1, -3                  # every permission but Execute
         candperm cs1, cs1, t1
         cseal   cs1, cs1, cs4
 
+# Everything is made, and root is given up: DDC and PCC keep what loads, stores and runs bytes and invokes, and nothing can be
+# sealed.
+        cspecialrw cnull, ddc, cs3
+        cmove   cs2, cnull
+        cmove   cs4, cnull
+        la      t1, calls
+        csetaddr ct0, cs3, t1
+        jalr.cap cnull, ct0
+
 # two calls: the link is a sentry, a capability that can only be jumped to
-        li      s5, 2
+calls:  li      s5, 2
 call:   la      t1, back
         csetaddr cra, cs3, t1
         csealentry cra, cra

@@ -9,7 +9,7 @@ class CherisimError(Exception):
 
 
 class ImageFault(CherisimError):
-    """An image is none: `code` is L1 to L15."""
+    """An image is invalid: `code` is L1 to L15."""
 
     def __init__(self, status: int) -> None:
         self.status, self.code = status, f"L{status}"

@@ -91,7 +91,7 @@ class Records(unittest.TestCase):
         rvfi.main([name, "1000"], lines)
         rvfi.main([name, "1000", "--packed"], blocks)
         records = [json.loads(line) for line in lines.getvalue().splitlines()]
-        self.assertEqual((len(records), records[-1]["halt"], len(blocks.getvalue())), (59, 1, 59 * 88))
+        self.assertEqual((len(records), records[-1]["halt"], len(blocks.getvalue())), (67, 1, 67 * 88))
         sent = [it["mem_wdata"] for it in records if it["mem_addr"] == 0x10000000]
         self.assertEqual(bytes(sent), b"hello, world\n")
         for order, (it, fields) in enumerate(zip(records, struct.iter_unpack("<10Q8B", blocks.getvalue()))):

@@ -1,8 +1,8 @@
 """Cases that neither the C libraries nor the program show, which the proved program alone tries: lines of other files, and calls of their
 own.
 
-A permission's set, a type that is none, a reserved type opened, a jump from where nothing is fetched, a text's pieces, a name with a blank
-after it, an expression longer than a line, what halted devices do, and amounts that no shift has.
+A permission's set, a number that is not a type, a reserved type opened, a jump from where nothing is fetched, a text's pieces, a name
+with a blank after it, an expression longer than a line, what halted devices do, and amounts that no shift has.
 """
 from cases import asm_lines, checks, integers, rights
 from model.words import SPACE

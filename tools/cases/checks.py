@@ -114,7 +114,7 @@ def local_stores(base):
 def stored_values(base):
     narrow, wide = around(base)
     data, both, local = STORE, STORE | STORE_CAPABILITY, STORE | STORE_CAPABILITY | STORE_LOCAL
-    yield "# a store needs the permissions of what it stores; the one for local values is none for capabilities"
+    yield "# a store needs the permissions of what it stores; the one for local values is not one for capabilities"
     for stored, perms, cause in (
             ("untagged", data, None), ("global", data, STORES_CAPABILITY), ("global", both, None), ("local", data, STORES_CAPABILITY),
             ("local", both, STORES_LOCAL), ("local", local, None), ("global", STORE | STORE_LOCAL, STORES_CAPABILITY)):

@@ -93,7 +93,7 @@ HELPED = [
 ]
 
 # An instruction and three bytes that are no word, and another section of an instruction at a place that is no multiple of 4, and a word
-# that is none.
+# that is not an instruction.
 LISTED = ".word 0x100005b7\n.byte 0x0a, 0xff, 0\n.org 0x80000102\n.byte 0x23, 0x80, 0xa5, 0\n.word 0"
 LISTING = """0000000080000000 100005b7 lui a1, 0x10000
 0000000080000004 .byte 0x0a

@@ -228,7 +228,7 @@ def vectored():
     yield "# an entry lies modulo 2^64"
     for cause, place in ((TIMER_INTERRUPT, 24), (EXTERNAL_INTERRUPT, 40), (11, ONES - 3)):
         yield script((entry(cause), ("get 0", text(root(place)))), root(ONES - 2))
-    yield "# an entry out of the bounds keeps the tag inside the window, and takes it behind"
+    yield "# an entry out of the bounds keeps the tag inside the window, and loses it past the window"
     for cause, place, tag in ((TIMER_INTERRUPT, 0x800047FC, True), (EXTERNAL_INTERRUPT, 0x8000480C, False), (3, 0x800047E0, True)):
         entered = small(0x80001004)[0], place, tag
         yield script((entry(cause), ("get 0", text(entered))), small(0x800047E1))

@@ -56,7 +56,7 @@ def place_of(bench, text, name):
 
 
 def value(name):
-    """The value of a name in an expression of a text's first line; `-` is none."""
+    """The value of a name in an expression of a text's first line; `-` is no value."""
     return {".": RAM, "-": 0, **LABELS}[name]
 
 

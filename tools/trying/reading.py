@@ -20,7 +20,7 @@ class Case(NamedTuple):
 
 
 def lines_of(text):
-    """The cases of a file, a line each; `#` begins a line that is none."""
+    """The cases of a file, a line each; `#` begins a comment."""
     for number, line in enumerate(text.split("\n"), 1):
         if line and not line.startswith("#"):
             inputs, _, expected = line.partition(" => ")

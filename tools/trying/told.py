@@ -40,7 +40,7 @@ OTHERS = {
     "symbols": ("dis a.img --symbols a.s", {"a.img": FIRST, "a.s": b"0000000080000000 x\n" * 6 + b"x\n"}, b"", [], {}),
     "file L2": ("run a.s 5", {"a.s": FILES["L2"]}, b"", [], {}),
 }
-# Of want of memory the command line, what is typed, and the text that a refused growth has.
+# That there is no memory the command line, what is typed, and the text that a refused growth has.
 GROWTHS = {
     "A10": ("asm a.s b.img", b"", "a.s: line 0: A10 no memory"), "L11": ("run a.img 5", b"", "a.img: L11 no memory"),
     "M2": ("run a.img 5", b"", "M2 no memory"), "memory": ("asm a.s b.img", b"", "no memory"),

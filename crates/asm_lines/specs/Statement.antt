@@ -260,7 +260,7 @@ data_said Ascii operands = text_said operands
 data_said Capability operands = said_unless (contents (item Capability 0 operands)) (capability_fault operands)
 data_said d operands = count_said d (number_of operands)
 
--- what the lines of a text say of their data: values have a size, and a number is none that the directive refuses
+-- what the lines of a text say of their data: values have a size, and no number is one that the directive refuses
 abbrev pub is_sized : Directive → Bool
 is_sized (Values size) = is_size size
 is_sized other = true

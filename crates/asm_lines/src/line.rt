@@ -37,7 +37,7 @@ fn line_said<'a>(label: Option<&'a [u8]>, text: &'a [u8]) -> Parsed<'a>
 
 /// What a line says: its label, its statement, and the first fault that it decides alone.
 ///
-/// `line` is without its line feed. The fault is the first of these: A8, a byte that is none of a text; A9, more than 255 bytes;
+/// `line` is without its line feed. The fault is the first of these: A8, a byte that cannot be in text; A9, more than 255 bytes;
 /// A1, an unknown mnemonic; A2, operands of another form; A3, a number out of range. A line with A8 or A9 has no label and no
 /// statement; one with A1 or A2, or with A3 at `.org`, `.align` or `.zero`, has no statement. An instruction without a fault has
 /// a word.

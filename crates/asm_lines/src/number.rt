@@ -74,7 +74,7 @@ fn is_negative(text: &[u8]) -> bool
 
 /// A number: decimal digits, with a minus before them or not, or `0x` and hexadecimal digits.
 ///
-/// A2 where it is none, and else A3 where it is below -2^63 or at least 2^64.
+/// A2 if it is not one, and else A3 where it is below -2^63 or at least 2^64.
 #[tactic(auto, unfolding(crate::specs::Number::number_of))]
 pub(crate) fn number(text: &[u8]) -> Result<i128, LineFault>
     ensures value { result ≡ number_of text.now }
@@ -133,7 +133,7 @@ fn named_expression<'a>(text: &'a [u8]) -> Result<Expression<'a>, LineFault>
 
 /// An expression, without white space around it: a number, a name, or a name plus or minus a number.
 ///
-/// A2 where it is none, and else A3 where its number is below -2^63 or at least 2^64.
+/// A2 if it is not one, and else A3 where its number is below -2^63 or at least 2^64.
 #[tactic(auto, unfolding(crate::specs::Number::expression_of))]
 pub fn expression<'a>(text: &'a [u8]) -> Result<Expression<'a>, LineFault>
     ensures value { seen_result result ≡ expression_of text.now }

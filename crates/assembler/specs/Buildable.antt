@@ -9,7 +9,7 @@ use Rattle.asm_lines.specs.Statement.{Statement, setting, pages}
 use Rattle.asm_lines.specs.Line.{Line}
 use Rattle.assembler.specs.Faults.{Assembled, given, page_count, is_taken, closed}
 
--- a number of pages, where no fault says that it is none, is 1 to the most
+-- a number of pages, where no fault says that it is out of range, is 1 to the most
 abbrev pub is_paged : Statement → Bool
 is_paged (setting (pages n)) = nat_le 1 n && nat_le n most_pages
 is_paged other = true

@@ -3,7 +3,7 @@ use Rattle.std.specs.Prelude.{ℕ, ◌+◌, ◌^◌, ◌<◌, ◌≤◌, ◌⊎�
 use Rattle.asm_lines.specs.Statement.{Statement, contents, Data, item, is_in_bounds}
 use Rattle.asm_lines.specs.Line.{Line}
 
--- a number is none that the directive refuses, and operands are part of a line
+-- no number is one that the directive refuses, and operands are part of a line
 abbrev pub is_modest_data : Data → Bool
 is_modest_data (item d number text) = is_in_bounds (item d number text) && nat_le (length text) 255
 

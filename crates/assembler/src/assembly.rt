@@ -96,7 +96,7 @@ fn built(alloc: Global, labels: &Labels, text: &[u8]) -> Result<Builder, AsmFaul
 
 /// Assembles a text.
 ///
-/// The fault is that of the first faulty line, counted from 1, and within a line the first of A8, A9, A4, A1, A2, A3, A5, A6 and A7;
+/// The fault is that of the first faulty line, counted from 1, and within a line the first of A8, A9, A4, A1, A2, A3, A5, A6, A7, A11;
 /// or, where there is no memory, A10 with line 0.
 pub fn assemble(alloc: Global, text: &[u8]) -> Result<Assembly, AsmFault>
     ensures correct { IfOk result (λ _. text_fault text.now ≡ None) }

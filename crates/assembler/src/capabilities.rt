@@ -36,7 +36,7 @@ fn part_value(labels: &Labels, here: u128, operands: &[u8], index: usize) -> u64
     wrapped(known(labels, here, &part_of(operands, index)))
 }
 
-/// A11, where a statement is a capability whose range is none that bounds can be.
+/// A11, where a statement is a capability whose range cannot be exact bounds.
 pub(crate) fn exact_fault(labels: &Labels, here: u128, operands: Option<&[u8]>) -> Option<AsmCode>
     requires { ArePartsKnown labels.now here (option_map (λ t. t.now) operands) }
     ensures { result

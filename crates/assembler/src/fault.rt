@@ -16,7 +16,7 @@ pub enum AsmCode {
     A4,
     /// A name that no line defines.
     A5,
-    /// A target out of range, or an entry that is none.
+    /// A target out of range, or an invalid entry.
     A6,
     /// A byte outside RAM or where another stands, a 65th section, an instruction at no multiple of 4, a capability at no multiple
     /// of 16 or the 1025th.

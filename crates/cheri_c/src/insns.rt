@@ -37,7 +37,7 @@ fn place_of(row: Row) -> u16
     row as u16
 }
 
-/// The instruction that a word is: false, and nothing is written, where it is none.
+/// The instruction that a word is: false, and nothing is written, if it is not one.
 #[unsafe(no_mangle)]
 pub extern "C" fn cheri_decode(word: u32, out: &mut CheriInsn) -> bool
     ensures ok { (insn : Instruction) → IsInsn word insn → (result ≡ true) × IsOf out.new insn }

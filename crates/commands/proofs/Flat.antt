@@ -158,7 +158,7 @@ fault_whole layout read bytes found part builds = elim (builds_err _ _ found bui
   | inr fault ↦ inr (sym (read_all layout bytes).0 ∙ (rw part at fault))
 ]
 
--- a fault of the system is none of an image
+-- a fault of the system is not one of an image
 pub system_flat : (layout : Layout) (flat bytes : List ℕ) (old new : Option (List File)) (fault : ProgramFault) → IsOfSystem fault
     → IsFlatFault layout flat bytes old new fault
 system_flat layout flat bytes old new (program.File name fault) system = absurd system

@@ -34,7 +34,7 @@ pub enum ProgramFault<'a> {
     /// A file is no image, or its bytes make none, or it could not be read.
     #[error("{}: {}", .0, image_text(.1))]
     File(&'a str, ImageFault),
-    /// A line of a table of symbols is none: its file, and the line's number.
+    /// An invalid line of a table of symbols: its file, and the line's number.
     #[error("{0}: line {1}: no address and label")]
     Symbols(&'a str, u64),
     /// A file could not be written to its end.

@@ -38,7 +38,7 @@ abbrev pub read_number : Result ℤ LineFault → Option ℕ
 read_number (Ok n) = Some (wrapped n)
 read_number (Err fault) = None
 
--- an address: a number of 64 bits, and where the text is none, the first address of the label of that name
+-- an address: a number of 64 bits, and where the text is not a number, the first address of the label of that name
 abbrev pub address_in : List Symbol → List ℕ → Option ℕ
 address_in symbols text = option_or (read_number (number_between 0 (2 ^ 64 - 1) text)) (address_of symbols text)
 

@@ -107,7 +107,7 @@ by_count : (k : ℕ) (rest : List Event) → length (replicate k Step ++ rest) �
 by_count zero rest = omega arith
 by_count (suc k) rest = let less = by_count k rest in omega (arith, less)
 
--- a state that steps go by is none before which they stop
+-- steps do not stop before a state that they go by
 elsewhere-not : (a b : ℕ) → (a ≡ b → ⊥) → a == b ≡ false
 elsewhere-not a b other = grind (arith, nat_tests, other)
 

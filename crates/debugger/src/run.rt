@@ -261,7 +261,7 @@ fn put_run_line<C: CapRep>(
 
 /// Gives the events of a command, and answers the line that tells of them.
 ///
-/// The line's room is made before the first event: B4 is for want of it, and then no event is given.
+/// The line's room is made before the first event: B4 says that there is no memory for it, and then no event is given.
 pub(crate) fn told_events<C: CapRep>(
     alloc: Global,
     machine: &mut Machine<C>,

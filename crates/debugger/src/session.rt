@@ -74,7 +74,7 @@ impl<C: CapRep> Session<C> {
     /// Does what a line asks for, and answers its reply.
     ///
     /// Commands are `step N`, `tick N`, `byte B`, `until ADDR N`, `trap N`, `reg R`, `regs`, `scr`, `csr`, `caps`, `mem ADDR LEN`,
-    /// `dis ADDR N`, `why`, `help` and `quit`; numbers are those of the assembly language, and ADDR is a number or, where it is none, a
+    /// `dis ADDR N`, `why`, `help` and `quit`; numbers are those of the assembly language, and ADDR is a number or, if it is not one, a
     /// label of the session. Only the first five change anything, and none changes the labels.
     ///
     /// Refused with B1 where the line has no word or its first is no command; with B2 where its operands are others, and where the

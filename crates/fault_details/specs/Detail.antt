@@ -60,7 +60,7 @@ abbrev pub out_of_range_read : Standing → List ℕ → List ℕ
 out_of_range_read s line =
     if is_A3 (line_meaning line).fault then beyond_read (statement_read line) else value_beyond_read s (statement_read line)
 
--- why the place of the statement is none (A7)
+-- why the place of the statement is invalid (A7)
 abbrev pub misplaced_read : Standing → List ℕ → List ℕ
 misplaced_read s line =
     misplaced_text s.assembled.places.place (page_count s.assembled) (misplaced_if_any s.assembled (line_meaning line).statement)

@@ -1,4 +1,4 @@
--- What the whole text says of a fault: the value of an operand, a name, a distance, why a place is none, a range.
+-- What the whole text says of a fault: the value of an operand, a name, a distance, why a place is invalid, a range.
 use Rattle.std.specs.Prelude.{ℕ, ◌+◌, ◌-◌, ◌^◌, ◌==◌, Bool, true, false, ◌||◌, nat_lt, if◌then◌else◌, pos, neg_ℤ, ◌-ℤ◌, int_lt, List, []}
 use Rattle.std.specs.Prelude.{◌∷◌, ◌++◌, Option, Some, None, Result, Ok, Err, codes, decimal}
 use Rattle.isa_rows.specs.Line.{line_of}
@@ -148,7 +148,7 @@ far_text s (Some (instruction i)) = far_instruction s i
 far_text s (Some (setting t)) = far_setting s t
 far_text s other = []
 
--- ---- A7: the place, and why it is none
+-- ---- A7: the place, and why it is invalid
 
 abbrev pub width_of : ℕ → ℕ
 width_of place = if nat_lt place (2 ^ 64) then 16 else 17

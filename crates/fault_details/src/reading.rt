@@ -152,7 +152,7 @@ fn far_read(alloc: Global, text: &[u8], line: &[u8]) -> Result<Vec<u8>, AllocErr
     detail
 }
 
-/// Why the place of a line's statement is none, where the text stands at the line.
+/// Why the place of a line's statement is invalid, where the text stands at the line.
 fn misplaced_at(alloc: Global, standing: &Standing, line: &[u8]) -> Result<Vec<u8>, AllocError>
     ensures { IfOk result (λ detail. detail.items ≡ misplaced_read standing.now line.now) }
 {
@@ -166,7 +166,7 @@ fn misplaced_at(alloc: Global, standing: &Standing, line: &[u8]) -> Result<Vec<u
     Ok(detail)
 }
 
-/// Why the place of a line's statement is none.
+/// Why the place of a line's statement is invalid.
 fn misplaced_read(alloc: Global, text: &[u8], line: &[u8]) -> Result<Vec<u8>, AllocError>
     ensures { IfOk result (λ detail. detail.items ≡ misplaced_read (standing_of text.now) line.now) }
 {
@@ -221,7 +221,7 @@ fn length_read(alloc: Global, line: &[u8]) -> Result<Vec<u8>, AllocError>
 
 /// What was read of the line at fault, for a fault that `assemble` gave for the text: the mnemonic of A1; that of A2 and what it
 /// takes, or that it stands once; the number or value of A3 and its range; the label of A4; the unknown name of A5; how far the
-/// target of A6 is and the range, or the entry; the place of A7 and why it is none; byte and column (counted from 1) of A8; the
+/// target of A6 is and the range, or the entry; the place of A7 and why it is invalid; byte and column (counted from 1) of A8; the
 /// length of A9; the range of A11. Nothing of A10.
 #[tactic(auto, unfolding(crate::specs::Detail::detail_of))]
 pub fn detail(alloc: Global, text: &[u8], fault: AsmFault) -> Result<Vec<u8>, AllocError>

@@ -291,7 +291,7 @@ fn push_far_setting(
     }
 }
 
-/// Appends how far the target of a statement is to a text, or why an entry is none.
+/// Appends how far the target of a statement is to a text, or why an entry is invalid.
 pub(crate) fn push_far(
     text: &mut Vec<u8>,
     standing: &Standing,
@@ -352,7 +352,7 @@ fn width_of(place: u128) -> usize
     }
 }
 
-/// Appends why a place is none to a text.
+/// Appends why a place is invalid to a text.
 pub(crate) fn push_misplaced(
     text: &mut Vec<u8>,
     place: u128,

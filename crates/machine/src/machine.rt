@@ -100,7 +100,7 @@ impl<C: CapRep> Machine<C> {
 
     /// Meets events in order and appends the sent bytes to `out`.
     ///
-    /// Room for one byte an event is made before the first event. M5 is for want of it, and then neither machine nor bytes
+    /// Room for one byte an event is made before the first event. M5: there is no room, and then neither machine nor bytes
     /// are changed; where `out` has that room already, nothing is asked for and M5 can't come.
     pub fn run(&mut self, events: &[Event], out: &mut Vec<u8>) -> Result<End, MachineFault>
         ensures state { OnOk result (self.new ≡ run_after events.now self.old) }

@@ -51,7 +51,7 @@ fn make_room(one: &mut Vec<u8>, two: &mut Vec<u8>, count: usize) -> Result<(), M
 /// sends to its own list.
 ///
 /// They go equally far and end for the same reason, they send the same bytes, and they agree after it. Room for one byte an event is
-/// made in both lists before the first event. M5 is for want of it, and then neither machine and neither list is changed; where
+/// made in both lists before the first event. M5: there is no room, and then neither machine and neither list is changed; where
 /// both lists have that room already, nothing is asked for and M5 can't come.
 pub fn run_both<C: CapRep, D: CapRep>(
     one: &mut Machine<C>,

@@ -44,7 +44,7 @@ pub fn write_csr<C: CapRep>(
     Ok(())
 }
 
-/// Writes control and status register `number` where a check has allowed it, as `write_csr` says; a number that is none changes
+/// Writes control and status register `number` where a check has allowed it, as `write_csr` says; a number that no CSR has does
 /// nothing.
 #[tactic(auto, unfolding(crate::specs::Writes::csrs_written, crate::specs::Writes::views_written, crate::specs::Writes::scr_written))]
 pub fn set_csr<C: CapRep>(csrs: &mut Csrs, scrs: &mut Scrs<C>, number: u16, value: u64)

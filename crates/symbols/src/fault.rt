@@ -6,7 +6,7 @@ use std::alloc::AllocError;
 /// Why a table of symbols is not read.
 #[derive(Clone, Copy, Debug, PartialEq, Eq)]
 pub enum SymbolsFault {
-    /// The first line that is none of a table, counted from 1.
+    /// The first line that is not one of a table, counted from 1.
     Line(u64),
     /// There is no memory.
     Memory,

@@ -38,7 +38,7 @@ fn push_symbol(alloc: Global, entries: &mut Vec<Symbol>, line: &[u8]) -> Result<
 
 /// Reads a table of symbols: lines of 16 hexadecimal digits, a blank and a label. The last line may lack its line feed.
 ///
-/// The fault is the first line that is none such, or that there is no memory.
+/// The fault is the first line that is not such a line, or that there is no memory.
 pub fn read_symbols(alloc: Global, text: &[u8]) -> Result<Symbols, SymbolsFault>
     ensures correct { IfOk result (λ _. faulty_line text.now ≡ None) }
     ensures symbols { IfOk result (λ symbols. symbols ≡ symbols_of text.now) }

@@ -14,7 +14,7 @@ is_free app e = subst (λ a. is_simple_and_free a ≡ true) (sym e) refl
 no_fault : (app : App) (words : List Text) → app ≡ program → fault_of app words ≡ [] → fault_of program words ≡ []
 no_fault app words e h = subst (λ a. fault_of a words ≡ []) e h
 
--- where nothing is wrong with the words, an error is want of memory
+-- where nothing is wrong with the words, the error is that there is no memory
 only_memory : (app : App) (words : List Text) (e : Error) → app ≡ program → fault_of program words ≡ [] → HasKind (fault_of app words) e
     → kind_of e ≡ ErrorKind.OutOfMemory
 only_memory app words e is none h = go (subst (λ k. HasKind k e) (ap (λ a. fault_of a words) is ∙ none) h)
