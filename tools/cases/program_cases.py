@@ -230,18 +230,18 @@ def traces():
     yield case("run time.img 6 --quiet --trace t", [f"time.img {quoted(image(*IS_INTERRUPTED))}"], 1, "open time.img, make t", b"",
                "cherisim: not halted\n", INTERRUPTED.encode())
     yield "# a trace that can't be made, or written to its end: a step whose line is not written is not done"
-    yield case("run first.img 5 --trace t", [FILE, "full"], 3, opened, told="cherisim: file t: entity not found\n")
-    yield case("run first.img 5 --trace d", [FILE, "directory d"], 3, "open first.img, make d", told="cherisim: d: is a directory\n")
+    yield case("run first.img 5 --trace t", [FILE, "full"], 3, opened, told="cherisim: file t\n  No such file or directory\n")
+    yield case("run first.img 5 --trace d", [FILE, "directory d"], 3, "open first.img, make d", told="cherisim: file d\n  Is a directory\n")
     for call in (0, 1, len(three) - 1, len(three), len(TRACE) - 1):
         yield case("run first.img 5 --trace t", [FILE, f"made {call}"], 3, opened, b"A" if call >= len(three) else b"",
-                   "cherisim: t: L10 device failed: the file is cut short\n", TRACE[:call].encode())
+                   "cherisim: L10 device failed\n  t: the file is cut short\n", TRACE[:call].encode())
     yield case("run first.img 5 --trace t", [FILE, f"made {len(TRACE)}"], 0, opened, b"A", made=TRACE.encode())
     yield "# where a byte can't be written, the line of the step that sent it is"
     yield case("run first.img 5 --trace t", [FILE, "output 0"], 3, opened, told="cherisim: write failed\n", made=three.encode())
     yield "# nothing is made where the image or the input can't be read"
-    yield case("run none 5 --trace t", [], 3, "open none", told="cherisim: file none: entity not found\n")
+    yield case("run none 5 --trace t", [], 3, "open none", told="cherisim: file none\n  No such file or directory\n")
     yield case("run first.img 5 --trace t --input none", [FILE], 3, "open first.img, open none",
-               told="cherisim: file none: entity not found\n")
+               told="cherisim: file none\n  No such file or directory\n")
     for words in ("run first.img 5 --trace first.img", "run first.img 5 --input keys --trace keys", "run first.img 5 --trace"):
         yield refused(words, [FILE, 'keys "A"'])
 
@@ -265,16 +265,22 @@ def images():
                 ("--at 0 --entry 0x80000000", "L6 section outside RAM"),
                 ("--at 18446744073709551615 --entry 0x80000000", "L6 section outside RAM")]
     for options, text in refusals:
-        yield case(f"image flat out.img {options}", [file], 3, "open flat", told=f"cherisim: flat: {text}\n")
+        yield case(f"image flat out.img {options}", [file], 3, "open flat", told=f"cherisim: {text}\n  flat\n")
     yield "# of a file that is larger than RAM one byte more than RAM has room for is read: the call after it, which fails, isn't made"
     large = bytes(4098)
     yield case("image flat out.img --pages 1", [f"flat 4097 {quoted(large)}"], 3, "open flat",
-               told="cherisim: flat: L6 section outside RAM\n")
+               told="cherisim: L6 section outside RAM\n  flat\n")
     yield case("image flat out.img --pages 1", [f"flat 4096 {quoted(large)}"], 3, "open flat",
-               told="cherisim: flat: read failed: broken pipe\n")
-    yield case("image none out.img", [file], 3, "open none", told="cherisim: file none: entity not found\n")
+               told="cherisim: read failed\n  flat: Broken pipe\n")
+    yield case("image none out.img", [file], 3, "open none", told="cherisim: file none\n  No such file or directory\n")
     yield case("image flat out.img", [file, "made 3"], 3, opened,
-               told="cherisim: out.img: L10 device failed: the file is cut short\n", made=flat_image(flat)[:3])
+               told="cherisim: L10 device failed\n  out.img: the file is cut short\n", made=flat_image(flat)[:3])
+
+
+def faulty_line(number, told):
+    """What is told of a line of a.s with a fault, of which its words and what was read stand with a colon between."""
+    words, _, read = told.partition(": ")
+    return f"cherisim: line {number}: {words}\n  a.s:{number}: {read}\n"
 
 
 def debugged(table):
@@ -313,13 +319,14 @@ def tables_refused(table):
                         (table.replace("C halt", "C h:"), 2),
                         ('t "start 0000000080000000"', 1), ('t "\\n"', 1)):
         yield case("debug first.img --symbols t", [FILE, wrong], 3, "open first.img, open t",
-                   told=f"cherisim: t: line {line}: no address and label\n")
+                   told=f"cherisim: line {line}: no address and label\n  t:{line}\n")
     yield case("debug first.img --symbols none", [FILE], 3, "open first.img, open none",
-               told="cherisim: file none: entity not found\n")
-    yield case("debug first.img --symbols d", [FILE, "directory d"], 3, "open first.img, open d", told="cherisim: d: is a directory\n")
+               told="cherisim: file none\n  No such file or directory\n")
+    yield case("debug first.img --symbols d", [FILE, "directory d"], 3, "open first.img, open d",
+               told="cherisim: file d\n  Is a directory\n")
     yield case("debug first.img --symbols t", [FILE, table.replace("t ", "t 0 ", 1)], 3, "open first.img, open t",
-               told="cherisim: t: read failed: broken pipe\n")
-    yield case("debug bad.img --symbols none", [BAD], 3, "open bad.img", told="cherisim: bad.img: L1 short header\n")
+               told="cherisim: read failed\n  t: Broken pipe\n")
+    yield case("debug bad.img --symbols none", [BAD], 3, "open bad.img", told="cherisim: L1 short header\n  bad.img\n")
     yield refused("debug first.img --symbols", [FILE])
     yield refused("debug --symbols t", [FILE, table])
 
@@ -327,80 +334,81 @@ def tables_refused(table):
 def named():
     yield "# labels: those of a text are written after its image, and a listing shows those of a table"
     yield case("asm a.s out.img --symbols a.sym", [TEXT], 3, "open a.s, make out.img, make a.sym",
-               told="cherisim: file a.sym: entity not found\n", made=FIRST)
+               told="cherisim: file a.sym\n  No such file or directory\n", made=FIRST)
     table = 't "0000000080000000 start\\n000000008000000C halt\\n"'
     lines = LISTED.splitlines(True)
     yield case("dis first.img --symbols t", [FILE, table], 0, "open first.img, open t",
                "".join(["start:\n", *lines[:3], "halt:\n", *lines[3:]]))
     yield case("dis first.img --symbols t", [FILE, 't ""'], 0, "open first.img, open t", LISTED)
     yield case("dis first.img --symbols t", [FILE, table.replace(" halt", "  halt")], 3, "open first.img, open t",
-               told="cherisim: t: line 2: no address and label\n")
+               told="cherisim: line 2: no address and label\n  t:2\n")
     yield case("dis first.img --symbols none", [FILE], 3, "open first.img, open none",
-               told="cherisim: file none: entity not found\n")
-    yield case("dis bad.img --symbols none", [BAD], 3, "open bad.img", told="cherisim: bad.img: L1 short header\n")
+               told="cherisim: file none\n  No such file or directory\n")
+    yield case("dis bad.img --symbols none", [BAD], 3, "open bad.img", told="cherisim: L1 short header\n  bad.img\n")
     yield from debugged(table)
     yield from tables_refused(table)
     yield "# what setting bounds gives"
     yield case("bounds 0x80000000 4097 --address 2147487744", [], 0, sent=shown(0x80000000, 4097, 0x80001000))
     yield case("bounds 18446744073709551615 2", [], 0, sent=shown(ONES, 2, None))
     yield case("bounds 0 1", ["output 0"], 3, told="cherisim: write failed\n")
-    yield "# what was read of a faulty line stands after the fault's words"
+    yield "# what was read of a faulty line stands on a line of its own after the fault, with the file and the line"
     for line, told in (("addi a0, a0, 4096", "A3 immediate out of range: 4096 (-2048 to 2047)"), ("j lop", "A5 label unknown: lop"),
                        ("x: nop\\nx: nop", "A4 label twice: x"), ("addi a0", "A2 operands: addi takes rd, rs1, imm"),
                         ("nop\\x01", "A8 byte not ASCII: 0x01 at column 4")):
         number = line.count("nop") if "x:" in line else 1
-        yield case("asm a.s out.img", [f'a.s "{line}\\n"'], 3, "open a.s", told=f"cherisim: a.s: line {number}: {told}\n")
+        yield case("asm a.s out.img", [f'a.s "{line}\\n"'], 3, "open a.s", told=faulty_line(number, told))
     for number, lines, told in DETAILED:
         text = "".join(f"{line}\\n" for line in lines)
-        yield case("asm a.s out.img", [f'a.s "{text}"'], 3, "open a.s", told=f"cherisim: a.s: line {number}: {told}\n")
+        yield case("asm a.s out.img", [f'a.s "{text}"'], 3, "open a.s", told=faulty_line(number, told))
 
 
 def faults():
     yield "# another fault: status 3, with its text"
     for command in ("asm none out.img", "run none 5", "dis none", "debug none"):
-        yield case(command, [FILE], 3, "open none", told="cherisim: file none: entity not found\n")
+        yield case(command, [FILE], 3, "open none", told="cherisim: file none\n  No such file or directory\n")
     for command in ("run bad.img 5", "dis bad.img", "debug bad.img"):
-        yield case(command, [BAD], 3, "open bad.img", told="cherisim: bad.img: L1 short header\n")
-    yield case("asm a.s out.img", ['a.s "nop\\nfrob a0\\n"'], 3, "open a.s", told="cherisim: a.s: line 2: A1 unknown mnemonic: frob\n")
-    yield case("asm a.s out.img", [TEXT, "full"], 3, "open a.s, make out.img", told="cherisim: file out.img: entity not found\n")
+        yield case(command, [BAD], 3, "open bad.img", told="cherisim: L1 short header\n  bad.img\n")
+    yield case("asm a.s out.img", ['a.s "nop\\nfrob a0\\n"'], 3, "open a.s", told="cherisim: line 2: A1 unknown mnemonic\n  a.s:2: frob\n")
+    yield case("asm a.s out.img", [TEXT, "full"], 3, "open a.s, make out.img", told="cherisim: file out.img\n  No such file or directory\n")
     yield case("run first.img 5 --input none", [FILE], 3, "open first.img, open none",
-               told="cherisim: file none: entity not found\n")
+               told="cherisim: file none\n  No such file or directory\n")
     yield "# the faults in order: the command line, the file that is read first, what it says, the other file, the work"
     yield refused("run none 0 --input none", [])
     yield refused("asm none", [])
-    yield case("run none 5 --input nowhere", [], 3, "open none", told="cherisim: file none: entity not found\n")
-    yield case("run bad.img 5 --input none", [BAD], 3, "open bad.img", told="cherisim: bad.img: L1 short header\n")
-    yield case("asm none out.img", ["full"], 3, "open none", told="cherisim: file none: entity not found\n")
-    yield case("asm a.s out.img", ['a.s "frob\\nnop\\n"', "full"], 3, "open a.s", told="cherisim: a.s: line 1: A1 unknown mnemonic: frob\n")
+    yield case("run none 5 --input nowhere", [], 3, "open none", told="cherisim: file none\n  No such file or directory\n")
+    yield case("run bad.img 5 --input none", [BAD], 3, "open bad.img", told="cherisim: L1 short header\n  bad.img\n")
+    yield case("asm none out.img", ["full"], 3, "open none", told="cherisim: file none\n  No such file or directory\n")
+    yield case("asm a.s out.img", ['a.s "frob\\nnop\\n"', "full"], 3, "open a.s",
+               told="cherisim: line 1: A1 unknown mnemonic\n  a.s:1: frob\n")
     yield case("run first.img 5 --input none", [FILE, "output 0"], 3, "open first.img, open none",
-               told="cherisim: file none: entity not found\n")
+               told="cherisim: file none\n  No such file or directory\n")
 
 
 def failing():
     yield "# calls of files and streams that fail, by their numbers from 0"
     yield from (case("asm a.s out.img", [TEXT.replace("a.s", f"a.s {call}", 1)], 3, "open a.s",
-                    told="cherisim: a.s: read failed: broken pipe\n")
+                    told="cherisim: read failed\n  a.s: Broken pipe\n")
                 for call in (0, 1, 40))
     for command in ("run", "dis", "debug"):
         words = f"{command} first.img" + (" 5" if command == "run" else "")
         yield from (case(words, [FILE.replace("first.img", f"first.img {call}", 1)], 3, "open first.img",
-                         told="cherisim: first.img: L10 device failed\n") for call in (0, 31, 32, 67, 68))
+                         told="cherisim: L10 device failed\n  first.img\n") for call in (0, 31, 32, 67, 68))
         yield case(words, [FILE.replace("first.img", "first.img 69", 1), 'input "quit\\n"'], 0, "open first.img",
                    {"run": b"A", "dis": LISTED, "debug": b""}[command])
     yield case("run first.img 5 --input keys", [FILE, 'keys 0 "AB"'], 3, "open first.img, open keys",
-               told="cherisim: keys: read failed: broken pipe\n")
+               told="cherisim: read failed\n  keys: Broken pipe\n")
     yield "# no more is read of an input than comes before a step"
     yield case("run first.img 5 --input keys", [FILE, 'keys 1 "AB"'], 0, "open first.img, open keys", b"A")
     yield case("run first.img 5 --input keys --gap 4", [FILE, 'keys 1 "AB"'], 3, "open first.img, open keys",
-               told="cherisim: keys: read failed: broken pipe\n")
+               told="cherisim: read failed\n  keys: Broken pipe\n")
     yield case("run first.img 5 --input keys --gap 4", [FILE, 'keys 2 "ABC"'], 0, "open first.img, open keys", b"A")
     yield "# a directory where a file is named"
     for words, opened in (("asm d out.img", "open d"), ("run d 5", "open d"), ("dis d", "open d"), ("debug d", "open d"),
                           ("image d out.img", "open d"), ("asm a.s d", "open a.s, make d"),
                            ("run first.img 5 --input d", "open first.img, open d")):
-        yield case(words, [FILE, TEXT, "directory d"], 3, opened, told="cherisim: d: is a directory\n")
+        yield case(words, [FILE, TEXT, "directory d"], 3, opened, told="cherisim: file d\n  Is a directory\n")
     yield from (case("asm a.s out.img", [TEXT, f"made {call}"], 3, "open a.s, make out.img",
-                     told="cherisim: out.img: L10 device failed: the file is cut short\n", made=FIRST[:call]) for call in (0, 1, 48, 67))
+                     told="cherisim: L10 device failed\n  out.img: the file is cut short\n", made=FIRST[:call]) for call in (0, 1, 48, 67))
     yield case("asm a.s out.img", [TEXT, "made 68"], 0, "open a.s, make out.img", made=FIRST)
     yield case("run first.img 5", [FILE, "output 0"], 3, "open first.img", told="cherisim: write failed\n")
     yield case("run first.img 5", [FILE, "output 1"], 0, "open first.img", b"A")
@@ -418,9 +426,9 @@ def failing():
 
 # The words of each code, and of the faults without one; files are `a.s`, and a text's fault is that of its line 7.
 TEXTS_OF_CODES = {
-    "a.s: line 7: ": ("A1 unknown mnemonic", "A2 operands", "A3 immediate out of range", "A4 label twice", "A5 label unknown",
-                      "A6 target out of range", "A7 place", "A8 byte not ASCII", "A9 line too long", "A10 no memory",
-                      "A11 capability not exact"),
+    "line 7: ": ("A1 unknown mnemonic", "A2 operands", "A3 immediate out of range", "A4 label twice", "A5 label unknown",
+                 "A6 target out of range", "A7 place", "A8 byte not ASCII", "A9 line too long", "A10 no memory",
+                 "A11 capability not exact"),
     "": ("L1 short header", "L2 magic", "L3 version", "L4 pages, entry or mode", "L5 too many sections", "L6 section outside RAM",
          "L7 sections not ascending", "L8 truncated", "L9 bytes after the end", "L10 device failed", "L11 no memory",
          "L12 capability place", "L13 capability not exact", "L14 permissions or flag", "L15 too many capabilities",
@@ -428,17 +436,17 @@ TEXTS_OF_CODES = {
 }
 OTHER_TEXTS = [
     ("talk read", "read failed"), ("talk write", "write failed"), ("talk memory", "no memory"), ("write", "write failed"),
-    ("memory", "no memory"), ("words", "read failed"), ("no file", "file a.s: entity not found"),
-    ("broken file", "a.s: read failed: broken pipe"), ("directory", "a.s: is a directory"),
-    ("cut short", "a.s: L10 device failed: the file is cut short"), ("symbols", "a.s: line 7: no address and label"),
-    ("file L2", "a.s: L2 magic"), ("foreign word", "error: a word of the command line is not UTF-8"),
+    ("memory", "no memory"), ("words", "read failed"), ("no file", "file a.s"),
+    ("broken file", "read failed"), ("directory", "file a.s"),
+    ("cut short", "L10 device failed"), ("symbols", "line 7: no address and label"),
+    ("file L2", "L2 magic"), ("foreign word", "error: a word of the command line is not UTF-8"),
 ]
 
 
 def fault_texts():
-    yield "# a fault by its code => its text"
+    yield "# a fault by its code => the first line of its text"
     yield from (f"{text.split()[0]} => {begin}{text}" for begin, texts in TEXTS_OF_CODES.items() for text in texts)
-    yield "# a fault without a code, or of a file => its text"
+    yield "# a fault without a code, or of a file => the first line of its text"
     yield from (f"{name} => {text}" for name, text in OTHER_TEXTS)
 
 

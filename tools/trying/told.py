@@ -42,7 +42,7 @@ OTHERS = {
 }
 # That there is no memory the command line, what is typed, and the text that a refused growth has.
 GROWTHS = {
-    "A10": ("asm a.s b.img", b"", "a.s: line 0: A10 no memory"), "L11": ("run a.img 5", b"", "a.img: L11 no memory"),
+    "A10": ("asm a.s b.img", b"", "line 0: A10 no memory"), "L11": ("run a.img 5", b"", "L11 no memory"),
     "M2": ("run a.img 5", b"", "M2 no memory"), "memory": ("asm a.s b.img", b"", "no memory"),
     "talk memory": ("debug a.img", b"regs\n", "no memory"),
 }
@@ -53,8 +53,8 @@ NEVER = {"M5": "M5 no memory", "words": "read failed"}
 
 
 def message(told):
-    """What stands after `cherisim: ` in what is told."""
-    return re.fullmatch(rb"cherisim: (.*)\n(?:fewer|refused)?", told, re.DOTALL)
+    """What stands after `cherisim: ` in the first line of what is told; each line after it is set in by two blanks."""
+    return re.fullmatch(rb"cherisim: ([^\n]*)\n(?:  [^\n]*\n)*(?:fewer|refused)?", told)
 
 
 def told_by(bench, line, files, typed=b"", directories=(), devices=()):
@@ -78,19 +78,18 @@ def told_without(bench, line, typed, number):
 
 
 def fault(bench, case):
-    """The fault of a name: its text, as the program tells it. Of a text's fault what was read may stand after the text."""
+    """The fault of a name: the first line of its text, as the program tells it."""
     name = case.inputs
     if name in TEXTS:
-        told = told_by(bench, "asm a.s a.img", {"a.s": b"".join(TEXTS[name])})
-        return case.expected if told.startswith(f"{case.expected}: ") else told
+        return told_by(bench, "asm a.s a.img", {"a.s": b"".join(TEXTS[name])})
     if name in FILES:
-        return told_by(bench, "run a.img 5", {"a.img": FILES[name]}).removeprefix("a.img: ")
+        return told_by(bench, "run a.img 5", {"a.img": FILES[name]})
     if name in OTHERS:
-        return told_by(bench, *OTHERS[name]).removeprefix("a.img: ")
+        return told_by(bench, *OTHERS[name])
     if name in GROWTHS:
         line, typed, text = GROWTHS[name]
         is_told = any(told_without(bench, line, typed, number) == text for number in range(1, MOST_GROWTHS))
-        return text.removeprefix("a.img: ").replace("line 0", "line 7") if is_told else "another text"
+        return text.replace("line 0", "line 7") if is_told else "another text"
     if name == FOREIGN[0]:
         return bench.run("asm", FOREIGN[1], "a.img")[2].decode().removesuffix("\n")
     with open(bench.program, "rb") as program:

@@ -10,17 +10,18 @@ use std::io;
 use std::io::ErrorKind;
 use thiserror::Error;
 
-/// Why the program could not do its work. The text follows `cherisim: ` on standard error.
+/// Why the program could not do its work. The first line of the text follows `cherisim: ` on standard error and is the fault's alone;
+/// what helps, the file and what was read there, stands on a line of its own after it, set in by two blanks.
 #[derive(Debug, Drop, Error)]
 pub enum ProgramFault<'a> {
     /// A file that cannot be opened or made: its name, and the system's reason.
-    #[error("file {0}: {1}")]
+    #[error("file {}\n  {}", .0, reason_text(.1))]
     NoFile(&'a str, ErrorKind),
     /// A directory stands where a file was named.
-    #[error("{0}: is a directory")]
+    #[error("file {0}\n  Is a directory")]
     Directory(&'a str),
     /// A file could not be read to its end: its name, and the system's reason.
-    #[error("{0}: read failed: {1}")]
+    #[error("read failed\n  {}: {}", .0, reason_text(.1))]
     Read(&'a str, ErrorKind),
     /// The words of the command line could not be read.
     #[error("read failed")]
@@ -32,19 +33,19 @@ pub enum ProgramFault<'a> {
     #[error("no memory")]
     Memory,
     /// A file is no image, or its bytes make none, or it could not be read.
-    #[error("{}: {}", .0, image_text(.1))]
+    #[error("{}\n  {}", image_text(.1), .0)]
     File(&'a str, ImageFault),
     /// An invalid line of a table of symbols: its file, and the line's number.
-    #[error("{0}: line {1}: no address and label")]
+    #[error("line {1}: no address and label\n  {0}:{1}")]
     Symbols(&'a str, u64),
     /// A file could not be written to its end.
-    #[error("{0}: L10 device failed: the file is cut short")]
+    #[error("L10 device failed\n  {0}: the file is cut short")]
     CutShort(&'a str),
     /// There is no image.
     #[error("{}", image_text(.0))]
     Image(#[from] ImageFault),
     /// A text is not assembled: its file, the first faulty line and its first fault, and what was read there, if that says more.
-    #[error("{}: line {}: {}{}{}", .0, .1.line, asm_text(.1.code), colon_before(.2), text_of(.2))]
+    #[error("line {}: {}\n  {}:{}{}{}", .1.line, asm_text(.1.code), .0, .1.line, colon_before(.2), text_of(.2))]
     Asm(&'a str, AsmFault, Vec<u8>),
     /// No machine could be made.
     #[error("{}", machine_text(.0))]
@@ -52,6 +53,30 @@ pub enum ProgramFault<'a> {
     /// A conversation with the debugger was cut short.
     #[error("{}", talk_text(.0))]
     Talk(#[from] TalkFault),
+}
+
+/// The system's words for why a file could not be opened, made or read.
+fn reason_text(reason: &ErrorKind) -> &'static str {
+    match reason {
+        ErrorKind::NotFound => "No such file or directory",
+        ErrorKind::PermissionDenied => "Permission denied",
+        ErrorKind::AlreadyExists => "File exists",
+        ErrorKind::NotADirectory => "Not a directory",
+        ErrorKind::IsADirectory => "Is a directory",
+        ErrorKind::ReadOnlyFilesystem => "Read-only file system",
+        ErrorKind::StorageFull => "No space left on device",
+        ErrorKind::QuotaExceeded => "Disk quota exceeded",
+        ErrorKind::FileTooLarge => "File too large",
+        ErrorKind::ResourceBusy => "Device or resource busy",
+        ErrorKind::ExecutableFileBusy => "Text file busy",
+        ErrorKind::InvalidFilename => "File name too long",
+        ErrorKind::FilesystemLoop => "Too many levels of symbolic links",
+        ErrorKind::StaleNetworkFileHandle => "Stale file handle",
+        ErrorKind::InvalidInput => "Invalid argument",
+        ErrorKind::Interrupted => "Interrupted system call",
+        ErrorKind::BrokenPipe => "Broken pipe",
+        _ => "refused by the system",
+    }
 }
 
 /// The code and the words of a fault of an image.
