@@ -147,7 +147,7 @@ class Page(unittest.TestCase):
                     printed.append(said(exec, block, names)[1])
         finally:
             os.chdir(before)
-        self.assertEqual(printed, ["b'hello, world\\n' 59 0\n", ""])
+        self.assertEqual(printed, ["b'hello, world\\n' 67 0\n", ""])
 
 
 class Installed(unittest.TestCase):
