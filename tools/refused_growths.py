@@ -68,7 +68,8 @@ def library(folder):
 def refusal(program, shim, number):
     """The call that was refused where the growth of this number is, `words` where the program's words were, or None where there are
     fewer."""
-    ran = subprocess.run([program, "growths"], env={"LD_PRELOAD": shim, "REFUSED_GROWTH": str(number)}, capture_output=True, text=True, timeout=120)
+    asked = {"LD_PRELOAD": shim, "REFUSED_GROWTH": str(number)}
+    ran = subprocess.run([program, "growths"], env=asked, capture_output=True, text=True, timeout=120)
     lines = [line.partition(": ") for line in ran.stdout.splitlines()]
     refused = [(name, said.partition(",")[0]) for name, _, said in lines if said != "no refusal, done"]
     is_whole = ran.returncode == 0 and [name for name, _, _ in lines] == CALLS

@@ -170,7 +170,8 @@ def main():
     for mistake in mistakes:
         found, so = tried(mistake, known)
         refused += so
-        print(f"{'refused' if so else 'NOT REFUSED SO'}: {mistake.given['says']}: {', '.join(found) or 'nothing is left unproved'}", flush=True)
+        left = ", ".join(found) or "nothing is left unproved"
+        print(f"{'refused' if so else 'NOT REFUSED SO'}: {mistake.given['says']}: {left}", flush=True)
     print(f"{refused} of {len(mistakes)} mistakes in definitions are refused by the law that they name")
     return 0 if refused == len(mistakes) else 1
 

@@ -96,7 +96,7 @@ def impl_name(head):
 
 
 def function_of(crate, path, old):
-    """The function whose text holds `old`, by the end of the name that a report gives it: `registers::is_csr`, `WordCapCapRep::top`; or None.
+    """The function whose text holds `old`, by the end of its name in a report, as `registers::is_csr` or `WordCapCapRep::top`; or None.
 
     A method goes by its type alone, since its impl may stand in another module than the type."""
     if is_comment(old):

@@ -13,7 +13,8 @@ class Integers(unittest.TestCase):
 
     def test_sums_comparisons_and_bits(self):
         rows = (("Add", 7, 5, 12), ("Add", ONES, 1, 0), ("Sub", 12, 5, 7), ("Sub", 5, 7, ONES - 1), ("Slt", ONES, 0, 1),
-                ("Slt", 0, ONES, 0), ("Slt", 5, 5, 0), ("Sltu", ONES, 0, 0), ("Sltu", 0, ONES, 1), ("Sltu", 5, 5, 0), ("Xor", 12, 10, 6), ("Or", 12, 10, 14),
+                ("Slt", 0, ONES, 0), ("Slt", 5, 5, 0), ("Sltu", ONES, 0, 0), ("Sltu", 0, ONES, 1), ("Sltu", 5, 5, 0),
+                 ("Xor", 12, 10, 6), ("Or", 12, 10, 14),
                 ("And", 12, 10, 8), ("Sll", 1, 63, LEAST), ("Srl", LEAST, 63, 1), ("Sra", LEAST, 63, ONES), ("Sra", LEAST, 64, LEAST),
                 ("Addw", 0xFFFFFFFF00000007, 5, 12), ("Subw", 12, 5, 7), ("Subw", 0, 1, ONES), ("Subw", 0x80000000, 1, 0x7FFFFFFF),
                 ("Sllw", 1, 31, 0xFFFFFFFF80000000), ("Sllw", 1, 33, 2), ("Srlw", 0x80000000, 31, 1), ("Srlw", 4, 33, 2),
