@@ -8,5 +8,9 @@ typedef struct { uint8_t ok; void *block; } tried_t;
 static uint8_t nothing; /* where nothing was allocated: `block` is never null */
 static tried_t tried(void *block) { return (tried_t){block != NULL, block ? block : &nothing}; }
 tried_t rattle_alloc(size_t size, size_t align) { return tried(malloc(size ? size : align)); }
-tried_t rattle_realloc(void *block, size_t kept, size_t size, size_t align) { return (void)kept, tried(realloc(block, size ? size : align)); }
+tried_t rattle_realloc(void *block, size_t kept, size_t size, size_t align)
+{
+    (void)kept;
+    return tried(realloc(block, size ? size : align));
+}
 void rattle_dealloc(void *block) { free(block); }

@@ -20,7 +20,8 @@ typedef struct { uint64_t low, high; } cheri_number_t;
 /* A capability, where the tag is set, or 128 bits of data. */
 typedef struct { uint64_t address, upper; bool tag; } cheri_cap_t;
 /* Bounds and fields in the plain: the bounds hold the addresses from base on and below top, which has 65 bits. perms has the hardware
- * permissions at bits 0 to 11 and the user permissions at bits 12 to 15; otype is below 2^18, and 0x3ffff where the capability is unsealed. */
+ * permissions at bits 0 to 11 and the user permissions at bits 12 to 15; otype is below 2^18, and 0x3ffff where the capability is
+ * unsealed. */
 typedef struct { uint64_t base, top_low, top_high, address; uint32_t otype; uint16_t perms; bool flag; } cheri_fields_t;
 
 /* The capability of a word and a tag: tagged exactly where `tag` is true and the word may be tagged. */

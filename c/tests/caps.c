@@ -54,8 +54,8 @@ static cheri_cap_t row(unsigned funct7, unsigned rs2, cheri_cap_t cs1, cheri_cap
     ROW(cheri_execute(funct7 << 25 | rs2 << 20 | 11u << 15 | 10u << 7 | 0x5b, cs1, cs2, root(), &out));
     return out;
 }
-enum { SEAL = 0x0b, UNSEAL = 0x0c, EXACTLY = 0x09, OF_ONE = 0x7f, GET_PERM = 0, GET_TYPE = 1, GET_BASE = 2, GET_LEN = 3, GET_TAG = 4, GET_SEALED = 5,
-       CRRL = 8, CRAM = 9 };
+enum { SEAL = 0x0b, UNSEAL = 0x0c, EXACTLY = 0x09, OF_ONE = 0x7f, GET_PERM = 0, GET_TYPE = 1, GET_BASE = 2, GET_LEN = 3, GET_TAG = 4,
+       GET_SEALED = 5, CRRL = 8, CRAM = 9 };
 
 static void worked_rows(void) {
     uint8_t zeros[16] = {0};
@@ -123,7 +123,8 @@ static void of_word(uint64_t address, uint64_t upper) {
     cheri_to_memory(w, bytes);
     memcpy(halves, bytes, 16);
     back = cheri_from_memory(bytes);
-    check(halves[0] == address && halves[1] == (upper ^ NULL_UPPER) && back.address == address && back.upper == upper, "memory", address, upper, 0);
+    check(halves[0] == address && halves[1] == (upper ^ NULL_UPPER) && back.address == address && back.upper == upper,
+          "memory", address, upper, 0);
 }
 
 /* the address moved */
@@ -148,7 +149,8 @@ static void of_request(uint64_t address, uint64_t upper, uint64_t length) {
     set.base = q.base;
     set.top = q.top % (2 * ALL);
     cheri_cap_t got = cheri_set_bounds(c, length, &exact);
-    check(got.tag == tag && exact == is_exact && got.address == address && got.upper == upper_of(&set, q.e, q.internal), "set bounds", address, upper, length);
+    check(got.tag == tag && exact == is_exact && got.address == address && got.upper == upper_of(&set, q.e, q.internal),
+          "set bounds", address, upper, length);
     check(cheri_is_exact(address, length) == is_exact, "exact", address, upper, length);
     struct request from_zero = rounded(0, length);
     u128 granule = length < 4096 ? 1 : power(from_zero.e + 3);
@@ -162,7 +164,8 @@ static void drawn_word(uint64_t *address, uint64_t *upper) {
     *upper = drawn();
     if (drawn() % 4 == 0) return;
     struct request q = rounded(*address, sized());
-    struct record r = {q.base, q.top % (2 * ALL), *address, (unsigned)(drawn() & 0xffff), drawn() % 4 ? 0x3ffff : (unsigned)(drawn() & 0x3ffff), drawn() & 1};
+    unsigned perms = (unsigned)(drawn() & 0xffff), otype = drawn() % 4 ? 0x3ffff : (unsigned)(drawn() & 0x3ffff);
+    struct record r = {q.base, q.top % (2 * ALL), *address, perms, otype, drawn() & 1};
     *upper = upper_of(&r, q.e, q.internal);
 }
 

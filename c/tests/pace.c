@@ -1,4 +1,5 @@
-/* Says what the calls of both libraries take, and what the standard's plain formulas in C take beside them: pace [TURNS]. Seconds are this process's own; take the best of several runs. */
+/* Says what the calls of both libraries take, and what the standard's plain formulas in C take beside them: pace [TURNS]. Seconds are
+ * this process's own; take the best of several runs. */
 #define _POSIX_C_SOURCE 200809L
 #include "cherisim.h"
 #include "formulas.h"

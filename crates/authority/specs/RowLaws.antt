@@ -406,7 +406,8 @@ module _ (s : State) (is : IsState s) (insn : Insn) where
       (λ none. csr_done-derives (csr_held insn s)
       (record { passes = passes; access = csr-access s (csr_number insn) writes none }))
 
-  special_done-derives : (old : CapValue) → (MTCC ≤ insn.rs2 → UsesSystem s) → IsGroundedIfTagged s old → Derives (special_done old insn s) s
+  special_done-derives : (old : CapValue) → (MTCC ≤ insn.rs2 → UsesSystem s) → IsGroundedIfTagged s old
+      → Derives (special_done old insn s) s
   unfolding special_done
   special_done-derives old system earned =
       cond_both (eqb insn.rs1 0) (Write (record { rd = insn.rd; value = old }))

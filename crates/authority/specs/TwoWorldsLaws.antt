@@ -221,7 +221,8 @@ module _ (s : State) (is : IsState s) (m : Memory) (x : Scrs) (agree : Agree s (
   effect-agrees (effect.Csr w) sound derives plain grows =
       agree-applied (effect.Csr w) grows refl refl refl refl refl memory (scrs-by (λ y. moved next (views_written w.number w.value y)))
   effect-agrees (effect.Return closed) sound derives plain grows =
-      agree-applied (effect.Return closed) grows refl (ap target (agree.scrs (system-used s derives.0)).mepcc) refl refl refl memory (scrs-by returned_scrs)
+      let returns = ap target (agree.scrs (system-used s derives.0)).mepcc in
+      agree-applied (effect.Return closed) grows refl returns refl refl refl memory (scrs-by returned_scrs)
 
   -- ---- steps and events
 

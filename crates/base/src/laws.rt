@@ -1,5 +1,5 @@
-//! What holds of the constants here: each function's contract is a law, and its body is empty. The numbers are the manuals', as literals, so
-//! that a constant that is another number is refused, though definitions take it from the code.
+//! What holds of the constants here: each function's contract is a law, and its body is empty. The numbers are the manuals', as literals,
+//! so that a constant that is another number is refused, though definitions take it from the code.
 
 ghost use Rattle.std.specs.Prelude.{◌≡◌, ◌∷◌, [], codes};
 ghost use Rattle.base.specs.declared.cause.Cause.TheVariants as cause;

@@ -26,7 +26,8 @@ module _ {X E : Type 0} (contents : X → Option (List ℕ)) (image : Image) (sy
   pub debugged_with : (r : Result X E) (known text : Option (List ℕ)) → IfSome known (λ bytes. reading bytes ≡ Ok image)
       → IfSome text (λ t. faulty_line t ≡ None) → IfSome text (λ t. symbols ≡ symbols_of t)
       → IfOk r (λ out. IsWritten image symbols input old (contents out))
-      → IfOk r (λ out. IfSome known (λ bytes. IfSome text (λ t. (faulty_line t ≡ None) × Debugs (symbols_of t) bytes input old (contents out))))
+      → IfOk r (λ out. IfSome known (λ bytes. IfSome text (λ t.
+      (faulty_line t ≡ None) × Debugs (symbols_of t) bytes input old (contents out))))
   debugged_with (Err e) known text read correct same told = tt
   debugged_with (Ok out) None text read correct same told = tt
   debugged_with (Ok out) (Some bytes) None read correct same told = tt

@@ -45,7 +45,8 @@ RegistersAreNamedInTraces =
     )
     × ((r : ℕ) (what : CheriCause) → IsSome (register_at_fault r)
     → traced.trap_entry (record { mcause = 28; mtval = 32 * r + cheri_number_of what })
-    ≡ codes "trap CHERI exception, " ++ (name_or [] (cheri_cause_name (cheri_number_of what)) ++ codes " at " ++ register_text r ++ codes ", ")
+    ≡ codes "trap CHERI exception, "
+    ++ (name_or [] (cheri_cause_name (cheri_number_of what)) ++ codes " at " ++ register_text r ++ codes ", ")
     ++ codes "mcause " ++ hex_of 16 28 ++ codes ", mtval " ++ hex_of 16 (32 * r + cheri_number_of what))
 
 -- The law: a register is shown by its name, of the general ones as a capability register, and the value that is shown is the one that it

@@ -71,7 +71,8 @@ cheri-small forbids.CInvoke = lit< tt
 
 entry-named : (r : ℕ) (what : CheriCause) → IsSome (register_at_fault r)
     → trap_entry (record { mcause = 28; mtval = 32 * r + cheri_number_of what })
-    ≡ codes "trap CHERI exception, " ++ (name_or [] (cheri_cause_name (cheri_number_of what)) ++ codes " at " ++ register_text r ++ codes ", ")
+    ≡ codes "trap CHERI exception, "
+    ++ (name_or [] (cheri_cause_name (cheri_number_of what)) ++ codes " at " ++ register_text r ++ codes ", ")
     ++ codes "mcause " ++ hex_of 16 28 ++ codes ", mtval " ++ hex_of 16 (32 * r + cheri_number_of what)
 unfolding taken cause_name
 entry-named r what is =

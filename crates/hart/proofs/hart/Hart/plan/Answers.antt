@@ -104,17 +104,19 @@ returns-in-Store g c = record {
 
 pub returns-in-LoadCapability : goal.returns-in-LoadCapability
 unfolding kind_effect asked does load_capability_effect
-returns-in-LoadCapability g c = record {
-  effect = of_kind _ c.args.word c.args.insn c.args.self.now _ c.plan_load_capability.ensures.effect (sym c.in-LoadCapability.is ∙ c.kind.ensures);
-  can = c.plan_load_capability.ensures.can;
-}
+returns-in-LoadCapability g c =
+    let kind = sym c.in-LoadCapability.is ∙ c.kind.ensures in record {
+      effect = of_kind _ c.args.word c.args.insn c.args.self.now _ c.plan_load_capability.ensures.effect kind;
+      can = c.plan_load_capability.ensures.can;
+    }
 
 pub returns-in-StoreCapability : goal.returns-in-StoreCapability
 unfolding kind_effect asked does store_capability_effect
-returns-in-StoreCapability g c = record {
-  effect = of_kind _ c.args.word c.args.insn c.args.self.now _ c.plan_store_capability.ensures.effect (sym c.in-StoreCapability.is ∙ c.kind.ensures);
-  can = c.plan_store_capability.ensures.can;
-}
+returns-in-StoreCapability g c =
+    let kind = sym c.in-StoreCapability.is ∙ c.kind.ensures in record {
+      effect = of_kind _ c.args.word c.args.insn c.args.self.now _ c.plan_store_capability.ensures.effect kind;
+      can = c.plan_store_capability.ensures.can;
+    }
 
 pub returns-in-Csr : goal.returns-in-Csr
 unfolding kind_effect asked does csr_effect
