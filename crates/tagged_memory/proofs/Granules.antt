@@ -8,8 +8,8 @@ use Rattle.base.specs.Ram.{ram_base}
 use Rattle.tagged_memory.specs.Memory.{Memory, has_tag, tagged_between}
 use Rattle.tagged_memory.specs.Layout.{memory_of, IsLaidOut}
 use Rattle.tagged_memory.specs.Tagged.{addresses_of}
-use Rattle.tagged_memory.specs.Planes.{tag_at, tags_of, IsNextTag}
-use Rattle.tagged_memory.proofs.TagBits.{length-tags_of, get_or-tags_of}
+use Rattle.tag_planes.specs.Planes.{tag_at, tags_of, IsNextTag}
+use Rattle.tag_planes.specs.PlanesLaws.{length-tags_of, get_or-tags_of}
 use Rattle.tagged_memory.proofs.Tags.{contains_at}
 
 past_zero : (k n : ℕ) → (k < 0) ⊎ (0 + n ≤ k) → 0 + suc n ≤ suc k

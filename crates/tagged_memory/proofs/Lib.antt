@@ -3,6 +3,3 @@ pub mod Tags
 pub mod Sound
 pub mod Written
 pub mod Granules
-pub mod Blocks
-pub mod TagBits
-pub mod NextTag

@@ -8,9 +8,10 @@ use Rattle.std.specs.Int.{bit_at}
 use Rattle.base.specs.Ram.{ram_base}
 use Rattle.tagged_memory.specs.Memory.{Memory, is_in_ram, has_tag, zeroed, IsMemory}
 use Rattle.tagged_memory.specs.Layout.{memory_of, tags_from, IsLaidOut}
-use Rattle.tagged_memory.specs.Planes.{tags_of, ArePlanes}
+use Rattle.tag_planes.specs.Planes.{tags_of}
+use Rattle.tagged_memory.specs.Planes.{ArePlanes}
 use Rattle.tagged_memory.proofs.Tags.{contains_at, place_of_contained, tags_from-replicate}
-use Rattle.tagged_memory.proofs.TagBits.{length-tags_of, get_or-tags_of, tags_of-zeros}
+use Rattle.tag_planes.specs.PlanesLaws.{length-tags_of, get_or-tags_of, tags_of-zeros}
 
 tagged_in_ram : (bytes planes : List ℕ) → IsLaidOut bytes planes → (a : ℕ) → has_tag (memory_of bytes planes) a ≡ true
     → is_in_ram (memory_of bytes planes) a 16 ≡ true

@@ -16,8 +16,8 @@ use Rattle.tagged_memory.specs.Replaced.{replaced, length-same}
 use Rattle.base.specs.Size.{bytes_of}
 use Rattle.base.specs.declared.size.Size.{Size}
 use Rattle.base.specs.declared.size.Size.TheVariants.{Byte, Half, Word, Double}
-use Rattle.tagged_memory.specs.Planes.{tag_at, tags_of}
-use Rattle.tagged_memory.proofs.TagBits.{length-tags_of, get_or-tags_of, tags_of-set}
+use Rattle.tag_planes.specs.Planes.{tag_at, tags_of}
+use Rattle.tag_planes.specs.PlanesLaws.{length-tags_of, get_or-tags_of, tags_of-set}
 use Rattle.tagged_memory.proofs.Tags.{contains_at, tags_from-retained, tags_from-inserted, tags_from-removed}
 
 -- a number that is read at its place is the number at its address

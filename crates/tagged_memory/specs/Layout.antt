@@ -5,7 +5,7 @@ use Rattle.std.specs.FinSet as set
 use Rattle.std.specs.Coded.{Coded, code_by, coded×, coded_list, coded_ℕ}
 use Rattle.base.specs.Ram.{ram_base, page_bytes, most_pages}
 use Rattle.tagged_memory.specs.Memory.{Memory}
-use Rattle.tagged_memory.specs.Planes.{tags_of}
+use Rattle.tag_planes.specs.Planes.{tags_of}
 
 -- the addresses of the granules whose truth value is true, the first granule at an address
 unfoldable pub tags_from : ℕ → List Bool → set.FinSet nat_cmp

@@ -1,26 +1,10 @@
--- Tags in bit planes: 64 granules a word, the first granule's tag in the lowest bit.
-use Rattle.std.specs.Prelude.{◌≡◌, ◌↔◌, ℕ, ◌+◌, ◌*◌, ◌/◌, ◌%◌, ◌<◌, ◌≤◌, Bool, true, false, ◌==◌, List, length, map, slice_index}
+-- Memory's tags in bit planes: 64 granules a word, the first granule's tag in the lowest bit.
+use Rattle.std.specs.Prelude.{◌≡◌, ◌↔◌, ℕ, ◌+◌, ◌*◌, ◌<◌, true, List, length, slice_index}
 use Rattle.std.specs.Int.{bit_at}
-use Rattle.std.specs.List.{range_with_len}
 use Rattle.base.specs.Ram.{ram_base, page_bytes}
 use Rattle.tagged_memory.specs.Memory.{Memory, has_tag}
-
--- the tag of a granule, counted from 0
-abbrev pub tag_at : List ℕ → ℕ → Bool
-tag_at planes granule = bit_at (slice_index planes (granule / 64)) (granule % 64) == 1
-
--- the tags of all granules in order
-abbrev pub tags_of : List ℕ → List Bool
-tags_of planes = map (tag_at planes) (range_with_len 0 (64 * length planes))
 
 -- The words are a memory's tags: four words a page, and bit j of word k is 1 exactly if RAM's granule number 64 * k + j is tagged.
 pub record ArePlanes (planes : List ℕ) (m : Memory) : Type 0 where
   pub four_a_page : page_bytes * length planes ≡ 4 * length m.bytes
   pub bit_each : (k j : ℕ) → j < 64 → (bit_at (slice_index planes k) j ≡ 1) ↔ (has_tag m (ram_base + 16 * (64 * k + j)) ≡ true)
-
--- the first tagged granule from one on, or the number of all granules where none is tagged
-pub record IsNextTag (planes : List ℕ) (from next : ℕ) : Type 0 where
-  pub not_before : from ≤ next
-  pub within : next ≤ 64 * length planes
-  pub none_between : (k : ℕ) → from ≤ k → k < next → tag_at planes k ≡ false
-  pub tagged : next < 64 * length planes → tag_at planes next ≡ true

@@ -2,7 +2,7 @@
 use Rattle.std.specs.Prelude.{ℕ, ◌+◌, ◌-◌, ◌*◌, Bool, if◌then◌else◌, List, [], ◌∷◌, take, drop}
 use Rattle.base.specs.Ram.{ram_base}
 use Rattle.tagged_memory.specs.declared.tagged.Tagged.{Tagged}
-use Rattle.tagged_memory.specs.Planes.{tags_of}
+use Rattle.tag_planes.specs.Planes.{tags_of}
 
 -- the addresses of the granules whose truth value is true, in order, the first granule at an address
 abbrev pub addresses_of : ℕ → List Bool → List ℕ

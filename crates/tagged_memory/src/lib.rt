@@ -7,10 +7,8 @@ pub mod laws;
 mod memory;
 mod place;
 mod planes;
-mod search;
 mod tagged;
 
 pub use fault::MemoryFault;
 pub use memory::Memory;
-pub use search::first_word;
 pub use tagged::Tagged;

@@ -1,8 +1,8 @@
 ghost use Rattle.std.specs.Prelude.{◌≡◌, ◌+◌, ◌*◌, ◌-◌, ◌^◌, ◌<◌, ◌≤◌, drop, length, take};
 ghost use Rattle.base.specs.Ram.{ram_base};
 
-use crate::planes::next_tag;
 use base::ram;
+use tag_planes::next_tag;
 
 /// An iterator over the addresses of tagged granules, ascending.
 #[derive(Debug, Drop)]
@@ -18,7 +18,7 @@ pub struct Tagged<'a> {
 }
 
 impl<'a> Tagged<'a> {
-    ghost use Rattle.tagged_memory.specs.Planes.{tags_of};
+    ghost use Rattle.tag_planes.specs.Planes.{tags_of};
     ghost use Rattle.tagged_memory.specs.Tagged.{addresses_of, tagged_rest};
 
     /// The tagged ones of the granules from `first` on and below `end`.

@@ -1,6 +1,6 @@
 use Rattle.std.proofs.Common.{◌≡◌, ◌/◌, ap, ◌∙◌}
 use Rattle.tagged_memory.specs.Memory.{word_at, has_tag}
-use Rattle.tagged_memory.specs.Planes.{tag_at}
+use Rattle.tag_planes.specs.Planes.{tag_at}
 use Rattle.tagged_memory.proofs.Written.{word_here, tag_here}
 use Rattle.tagged_memory.proofs.memory.Memory.get_cap.Goals as goal
 

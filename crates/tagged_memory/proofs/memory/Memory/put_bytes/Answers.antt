@@ -4,7 +4,7 @@ use Rattle.std.proofs.lemmas.List.{with_items_is}
 use Rattle.tagged_memory.specs.Layout.{memory_of}
 use Rattle.base.specs.Ram.{ram_base}
 use Rattle.tagged_memory.specs.Memory.{touches, IsMemory}
-use Rattle.tagged_memory.specs.Planes.{tag_at}
+use Rattle.tag_planes.specs.Planes.{tag_at}
 use Rattle.tagged_memory.specs.MemoryLaws.{in_ram-from, bytes_replaced, IsMemory-data_written}
 use Rattle.tagged_memory.specs.Replaced.{replaced, length-same}
 use Rattle.tagged_memory.proofs.Sound.{sound}

@@ -2,7 +2,7 @@ use Rattle.std.proofs.Common.{◌≡◌, ◌+◌, ◌*◌, ◌/◌, ◌<◌, ◌
 use Rattle.std.proofs.lemmas.List.{with_items_is}
 use Rattle.std.specs.Vec.{with_items}
 use Rattle.cap_format.specs.Word.{memory_bytes}
-use Rattle.tagged_memory.specs.Planes.{tag_at}
+use Rattle.tag_planes.specs.Planes.{tag_at}
 use Rattle.tagged_memory.specs.Layout.{memory_of}
 use Rattle.tagged_memory.specs.Memory.{IsMemory}
 use Rattle.tagged_memory.specs.MemoryLaws.{in_ram-from, IsMemory-capability_written}

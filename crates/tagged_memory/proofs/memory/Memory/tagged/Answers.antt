@@ -1,8 +1,8 @@
 use Rattle.std.proofs.Common.{◌≡◌, ◌+◌, ◌-◌, ◌*◌, ◌/◌, ◌≤◌, max, min, take, drop, length, ap, ◌∙◌, arith}
 use Rattle.base.specs.Ram.{ram_base}
-use Rattle.tagged_memory.specs.Planes.{tags_of}
+use Rattle.tag_planes.specs.Planes.{tags_of}
 use Rattle.tagged_memory.specs.Tagged.{addresses_of}
-use Rattle.tagged_memory.proofs.TagBits.{length-tags_of, range-of_first_words}
+use Rattle.tag_planes.specs.PlanesLaws.{length-tags_of, range-of_first_words}
 use Rattle.tagged_memory.proofs.Granules.{addresses_of-is}
 use Rattle.tagged_memory.proofs.memory.Memory.tagged.Goals as goal
 

@@ -1,0 +1,4 @@
+-- What to read
+pub mod Planes
+-- Laws
+pub mod PlanesLaws

@@ -1,5 +1,0 @@
-use Rattle.tagged_memory.proofs.TagBits.{bits_from-is}
-use Rattle.tagged_memory.proofs.planes.bits_from.Goals as goal
-
-pub returns : goal.returns
-returns c = λ j inside. bits_from-is c.args.count j c.requires inside

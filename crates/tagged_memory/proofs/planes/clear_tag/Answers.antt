@@ -1,5 +1,0 @@
-use Rattle.tagged_memory.proofs.TagBits.{tag_at-cleared}
-use Rattle.tagged_memory.proofs.planes.clear_tag.Goals as goal
-
-pub returns-clause-value : goal.returns-clause-value
-returns-clause-value c = λ k. tag_at-cleared c.args.planes.now c.args.granule k c.requires
