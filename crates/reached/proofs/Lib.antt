@@ -1,0 +1,4 @@
+pub mod Opening
+pub mod Searching
+pub mod Linking
+pub mod Ways

@@ -1,0 +1,15 @@
+//! The reachable set, computed: what whatever code can come to hold from these roots, where each was found, and the way there.
+#![tactic(auto)]
+
+mod granules;
+mod member;
+mod opens;
+mod search;
+mod span;
+mod system;
+mod way;
+
+pub use member::{Member, Place};
+pub use opens::{opens_capabilities, opens_system};
+pub use search::closure;
+pub use way::chain;

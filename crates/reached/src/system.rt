@@ -1,0 +1,69 @@
+//! The capabilities that stand in registers.
+ghost use Rattle.std.specs.Prelude.{◌≡◌, ◌++◌, All, true, map, filter, take, drop, length, if◌then◌else◌, IfOk, OnOk};
+ghost use Rattle.cap_bounds.specs.CapValue.{is_tagged};
+ghost use Rattle.cap_rights.specs.Rights.{OpensSystem};
+ghost use Rattle.reached.specs.Links.{IsAmong};
+ghost use Rattle.reached.specs.Search.{IsSystemOpened};
+
+use crate::member::{Member, Place};
+use crate::opens::opens_system;
+use cap_bounds::CapRep;
+use std::alloc::AllocError;
+
+/// The place of this number among the roots or the special registers.
+fn place_among(special: bool, number: usize) -> Place
+    ensures { result ≡ (if special then Place.Special number else Place.Root number) }
+{
+    if special {
+        Place::Special(number)
+    } else {
+        Place::Root(number)
+    }
+}
+
+/// Puts the tagged ones of some capabilities behind the members.
+pub(crate) fn add_tagged<C: CapRep>(
+    members: &mut Vec<Member<C>>,
+    caps: &[C],
+    special: bool,
+    from: usize,
+) -> Result<(), AllocError>
+    ensures kept { OnOk result (take (length members.old.items) members.new.items ≡ members.old.items) }
+    ensures added { OnOk result (All (IsAmong C.value (map C.value caps.now) special from)
+        (drop (length members.old.items) members.new.items)) }
+    ensures values { OnOk result (map (λ m. C.value m.cap) members.new.items
+        ≡ map (λ m. C.value m.cap) members.old.items ++ filter is_tagged (map C.value caps.now)) }
+{
+    for (number, cap) in caps.iter().enumerate() {
+        if !cap.tag() {
+            continue;
+        }
+        members.push(Member {
+            cap: *cap,
+            place: place_among(special, number),
+            from,
+        })?;
+    }
+    Ok(())
+}
+
+/// Puts the tagged special registers behind the members, if the capability opens them and they aren't there, and answers whether they are.
+pub(crate) fn open_system<C: CapRep>(
+    members: &mut Vec<Member<C>>,
+    specials: &[C],
+    cap: C,
+    opened: bool,
+    from: usize,
+) -> Result<bool, AllocError>
+    ensures kept { OnOk result (take (length members.old.items) members.new.items ≡ members.old.items) }
+    ensures added { OnOk result (All (λ x. OpensSystem (C.value cap) × IsAmong C.value (map C.value specials.now) true from x)
+        (drop (length members.old.items) members.new.items)) }
+    ensures opened { IfOk result (IsSystemOpened (C.value cap) (map C.value specials.now)
+        (map (λ m. C.value m.cap) members.old.items) opened (map (λ m. C.value m.cap) members.new.items)) }
+{
+    if opened || !opens_system(cap) {
+        return Ok(opened);
+    }
+    add_tagged(members, specials, true, from)?;
+    Ok(true)
+}
