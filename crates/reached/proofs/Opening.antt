@@ -38,17 +38,23 @@ IsOpened-none m c vs left These bare = record {
   taken = bare;
 }
 
--- what is taken of more granules is taken of these
+-- a tag that isn't left is not left later
+gone : (left new : List ℕ) → ((g : ℕ) → tag_at new g ≡ true → tag_at left g ≡ true) → (g : ℕ) → tag_at left g ≡ false → tag_at new g ≡ false
+gone left new fewer g none = false_from_ne_true (tag_at new g) (λ tagged. false≢true (sym none ∙ fewer g tagged))
+
+-- the tags of granules have been taken where none was left, and where those of others were that they are among
 pub IsOpened-these : (m : Memory) (c : CapValue) (vs ws : List CapValue) (left new : List ℕ) (Those These : ℕ → Type 0)
-    → IsOpened m c vs ws left new Those → ((g : ℕ) → g < 64 * length left → These g → Those g) → IsOpened m c vs ws left new These
-IsOpened-these m c vs ws left new Those These o more = record {
+    → IsOpened m c vs ws left new Those
+    → ((g : ℕ) → g < 64 * length left → These g → (tag_at left g ≡ false) ⊎ Those g)
+    → IsOpened m c vs ws left new These
+IsOpened-these m c vs ws left new Those These o each = record {
   kept = o.kept;
   added = o.added;
   words = o.words;
   fewer = o.fewer;
   moved = o.moved;
   taken = λ g this. elim (cases_lt g (64 * length left)) [
-    | inl inside ↦ o.taken g (more g inside this)
+    | inl inside ↦ ⊎_elim (λ none. gone left new o.fewer g none) (λ that. o.taken g that) (each g inside this)
     | inr past ↦ tag_at-past new g (omega (arith, o.words))
   ];
 }
@@ -148,8 +154,7 @@ IsBare-either first end first_too end_too f e left bare bare_too either g place 
 -- a row stays bare while tags are taken
 pub IsBare-fewer : (first end : ℕ) (left new : List ℕ) → ((g : ℕ) → tag_at new g ≡ true → tag_at left g ≡ true) → IsBare first end left
     → IsBare first end new
-IsBare-fewer first end left new fewer bare g place =
-    false_from_ne_true (tag_at new g) (λ tagged. false≢true (sym (bare g place) ∙ fewer g tagged))
+IsBare-fewer first end left new fewer bare g place = gone left new fewer g (bare g place)
 
 -- the copied planes are memory's tags
 pub planes-tag : (planes : List ℕ) (m : Memory) → ArePlanes planes m → (g : ℕ) → tag_at planes g ≡ has_tag m (ram_base + 16 * g)

@@ -57,7 +57,7 @@ fn take_granules<C: CapRep>(
 }
 
 /// Takes the tags that are left in the granules that a capability opens, puts what they hold behind the members, and answers a span in
-/// which no tag is left. Such a span is given: where the granules lie in it, there is nothing to look for.
+/// which no tag is left. Such a span is given, so that nothing is looked for in it.
 pub(crate) fn open_granules<C: CapRep>(
     members: &mut Vec<Member<C>>,
     left: &mut [u64],
@@ -83,9 +83,6 @@ pub(crate) fn open_granules<C: CapRep>(
         return Ok(bare);
     }
     let span = Span::of(64 * left.len(), cap);
-    if bare.holds(span) {
-        return Ok(bare);
-    }
-    take_granules(members, left, memory, cap, from, span)?;
+    take_granules(members, left, memory, cap, from, bare.beside(span))?;
     Ok(bare.joined(span))
 }

@@ -1,5 +1,5 @@
 //! Granules of RAM in a row.
-ghost use Rattle.std.specs.Prelude.{◌≡◌, ◌⊎◌, ℕ, ◌+◌, ◌-◌, ◌/◌, ◌^◌, ◌<◌, ◌&&◌, nat_le, min};
+ghost use Rattle.std.specs.Prelude.{◌≡◌, ◌⊎◌, ℕ, ◌+◌, ◌-◌, ◌/◌, ◌^◌, ◌<◌, ◌≤◌, min};
 ghost use Rattle.base.specs.Ram.{ram_base};
 ghost use Rattle.reached.specs.Search.{IsBetween, granules_of};
 
@@ -43,11 +43,18 @@ impl Span {
         }
     }
 
-    /// Whether another span lies in this one.
-    pub(crate) fn holds(self, other: Span) -> bool
-        ensures { result ≡ (nat_le self.first other.first && nat_le other.end self.end) }
+    /// What is left of another span beside this one: an end of it that lies in this one is cut off, and both where all of it does.
+    pub(crate) fn beside(self, other: Span) -> Span
+        ensures within { result.end ≤ other.end }
+        ensures part { (g : ℕ) → IsBetween result.first result.end g → IsBetween other.first other.end g }
+        ensures rest { (g : ℕ) → IsBetween other.first other.end g → IsBetween self.first self.end g ⊎ IsBetween result.first result.end g }
     {
-        self.first <= other.first && other.end <= self.end
+        let cuts_first = self.first <= other.first && other.first < self.end;
+        let cuts_end = self.first < other.end && other.end <= self.end;
+        Span {
+            first: if cuts_first { self.end } else { other.first },
+            end: if cuts_end { self.first } else { other.end },
+        }
     }
 
     /// Two spans as one where they meet, and else the longer of them.
