@@ -1,4 +1,4 @@
--- Members stay linked while others come behind them.
+-- Members stay linked while others come after them.
 use Rattle.std.proofs.Common.{◌≡◌, ℕ, ◌+◌, ◌-◌, ◌<◌, ◌≤◌, ◌++◌, true, false, List, [], ◌∷◌, length, get_or, map, take, drop, refl, sym}
 use Rattle.std.proofs.Common.{ap, ◌∙◌, cond, subst, arith, inl, inr}
 use Rattle.std.proofs.lemmas.Bool.{cases_lt}
@@ -10,7 +10,7 @@ use Rattle.cap_bounds.specs.CapValue.{CapValue, is_tagged}
 use Rattle.cap_rights.specs.Rights.{OpensSystem, OpensGranule}
 use Rattle.tagged_memory.specs.Memory.{Memory}
 use Rattle.reached.specs.declared.member.Member.{Member}
-use Rattle.reached.specs.Links.{IsLinked, in_root, in_special, in_granule, values, AreLinked, IsBehindMember, IsAmong}
+use Rattle.reached.specs.Links.{IsLinked, in_root, in_special, in_granule, values, AreLinked, IsMemberThrough, IsAmong}
 
 module _ {X : Type 0} (value : X → CapValue) (roots specials : List CapValue) (m : Memory) where
   IsLinked-grown : (vs ws : List CapValue) (k : ℕ) (x : Member X) → k ≤ length vs → IsLinked value roots specials m vs k x
@@ -23,13 +23,13 @@ module _ {X : Type 0} (value : X → CapValue) (roots specials : List CapValue) 
       in_granule granule place here before
       (subst (λ v. OpensGranule v granule) (sym (get_or_append_left vs ws (value x.cap) x.from (omega arith))) opens)
 
-  -- what was found behind the capability at a place has its link
+  -- what was found through the capability at a place has its link
   abbrev pub HasLink : ℕ → CapValue → Member X → Type 0
   HasLink from c x =
       (vs : List CapValue) (k : ℕ) → from < k → ((d : CapValue) → get_or vs from d ≡ c) → IsLinked value roots specials m vs k x
 
-  pub linked-behind : (c : CapValue) (from : ℕ) (x : Member X) → IsBehindMember value m c from x → HasLink from c x
-  linked-behind c from x b vs k before at =
+  pub linked-through : (c : CapValue) (from : ℕ) (x : Member X) → IsMemberThrough value m c from x → HasLink from c x
+  linked-through c from x b vs k before at =
       in_granule b.granule b.place_is b.here (omega (arith, b.from_is))
       (subst (λ v. OpensGranule v b.granule) (sym (ap (λ i. get_or vs i (value x.cap)) b.from_is ∙ at (value x.cap))) b.opens)
 
@@ -42,12 +42,12 @@ module _ {X : Type 0} (value : X → CapValue) (roots specials : List CapValue) 
       → IsLinked value roots specials m vs k x
   linked-root from x a vs k = in_root a.number a.place_is a.some a.is_it
 
-  -- the members before stay linked, and those that come behind them are
-  AreLinked-behind : (ms more : List (Member X)) → AreLinked value roots specials m ms
+  -- the members before stay linked, and those that come after them are
+  AreLinked-after : (ms more : List (Member X)) → AreLinked value roots specials m ms
       → ((k : ℕ) (x : Member X) → length ms ≤ k → (j : ℕ) → j < length more → x ≡ get_or more j x
       → IsLinked value roots specials m (values value (ms ++ more)) k x)
       → AreLinked value roots specials m (ms ++ more)
-  AreLinked-behind ms more linked new k d below = elim (cases_lt k (length ms)) [
+  AreLinked-after ms more linked new k d below = elim (cases_lt k (length ms)) [
     | inl before ↦
         let vs = values value ms in
         let grown : IsLinked value roots specials m (vs ++ values value more) k (get_or ms k d) =
@@ -76,7 +76,7 @@ module _ {X : Type 0} (value : X → CapValue) (roots specials : List CapValue) 
       ∙ get_or_append_left (values value ms) (values value more) d from (omega (arith, length-map ms (λ x. value x.cap)))
       ∙ at d in
       subst (AreLinked value roots specials m) whole
-      (AreLinked-behind ms more linked (λ k x behind j within read.
+      (AreLinked-after ms more linked (λ k x past j within read.
       link x (subst P (sym read) (All-get_or P more j x within added)) (values value (ms ++ more)) k (omega arith) here))
 
   -- a list of roots alone

@@ -15,14 +15,14 @@ use Rattle.tag_planes.specs.PlanesLaws.{tag_at-past}
 use Rattle.tagged_memory.specs.Memory.{Memory, has_tag, is_in_ram, place_fault}
 use Rattle.tagged_memory.specs.Planes.{ArePlanes}
 use Rattle.reached.specs.Reached.{OpensCapabilities}
-use Rattle.reached.specs.Search.{held, IsBetween, granules_of, IsBare, IsBehind, IsOpened, AreLeft}
+use Rattle.reached.specs.Search.{held, IsBetween, granules_of, IsBare, IsFoundThrough, IsOpened, AreLeft}
 
 -- an aligned granule in RAM may be loaded
 pub place_fault-none : (m : Memory) (address : ℕ) → address % 16 ≡ 0 → is_in_ram m address 16 ≡ true → place_fault m address 16 ≡ None
 unfolding place_fault
 place_fault-none m address aligned inside = rw (eq-eqb (address % 16) 0 aligned, inside) refl
 
--- nothing is behind the members yet
+-- nothing has been appended yet
 pub none_added : {X : Type 0} (P : X → Type 0) (xs : List X) → All P (drop (length xs) xs)
 none_added P xs = rw (drop-length xs) (λ k d below. absurd (omega arith))
 
@@ -31,7 +31,7 @@ pub IsOpened-none : (m : Memory) (c : CapValue) (vs : List CapValue) (left : Lis
     → ((g : ℕ) → These g → tag_at left g ≡ false) → IsOpened m c vs vs left left These
 IsOpened-none m c vs left These bare = record {
   kept = take_all (length vs) vs (omega arith);
-  added = none_added (IsBehind m c) vs;
+  added = none_added (IsFoundThrough m c) vs;
   words = refl;
   fewer = λ g h. h;
   moved = λ g h. inl h;
@@ -95,7 +95,7 @@ module _ (m : Memory) (c : CapValue) (vs ws : List CapValue) (left now : List �
   IsOpened-more new w inside tags opens value same each =
       let some : length vs ≤ length ws = fewer_before vs ws o.kept in
       let here : tag_at now granule ≡ true = n.tagged inside in
-      let behind : IsBehind m c w = record {
+      let through : IsFoundThrough m c w = record {
         granule = ram_base + 16 * granule;
         opens = opens;
         here = record { tagged = tags granule (o.fewer granule here); value = value };
@@ -103,7 +103,7 @@ module _ (m : Memory) (c : CapValue) (vs ws : List CapValue) (left now : List �
       record {
         kept = take-append-le (length vs) ws (w ∷ []) some ∙ o.kept;
         added = rw (drop-append-le (length vs) ws (w ∷ []) some)
-            (All-push (IsBehind m c) (drop (length vs) ws) w o.added behind);
+            (All-push (IsFoundThrough m c) (drop (length vs) ws) w o.added through);
         words = same ∙ o.words;
         fewer = λ g h.
             o.fewer g (⊎_elim (λ e. absurd (false≢true (sym (cleared_tag now new granule each g e) ∙ h)))

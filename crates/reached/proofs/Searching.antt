@@ -13,7 +13,7 @@ use Rattle.tag_planes.specs.Planes.{tag_at}
 use Rattle.tagged_memory.specs.Memory.{Memory, has_tag, word_at, IsMemory}
 use Rattle.tagged_memory.specs.MemoryLaws.{in_ram}
 use Rattle.reached.specs.Reached.{IsHeldAt, IsReachedFrom, from_root, from_special, from_granule}
-use Rattle.reached.specs.Search.{held, IsBehind, IsOpened, IsBare, IsVisited, IsSearch, IsSystemOpened, kept, added}
+use Rattle.reached.specs.Search.{held, IsFoundThrough, IsOpened, IsBare, IsVisited, IsSearch, IsSystemOpened, kept, added}
 use Rattle.reached.proofs.Opening.{fewer_before}
 
 -- ---- filtered lists
@@ -43,7 +43,7 @@ All-filtered {X = X} p P (y ∷ ys) each =
 -- ---- the search
 
 module _ (roots specials : List CapValue) (m : Memory) where
-  -- what is found behind a value stays found
+  -- what is found through a value stays found
   IsVisited-grown : (vs more : List CapValue) (c : CapValue) → IsVisited m specials vs c → IsVisited m specials (vs ++ more) c
   IsVisited-grown vs more c v = record {
     system = λ opens w tagged there. Contains-append_left vs more w (v.system opens w tagged there);
@@ -118,9 +118,9 @@ module _ (roots specials : List CapValue) (m : Memory) where
     subst (λ xs. k < length xs) (sym same_values) (omega (arith, length-append vs (filter is_tagged specials))),
   )
 
-  -- what is behind a reachable value is reachable
-  behind_reached : (c v : CapValue) → IsReachedFrom roots specials m c → IsBehind m c v → IsReachedFrom roots specials m v
-  behind_reached c v reached behind = from_granule behind.granule reached behind.opens behind.here
+  -- what is through a reachable value is reachable
+  through_reached : (c v : CapValue) → IsReachedFrom roots specials m c → IsFoundThrough m c v → IsReachedFrom roots specials m v
+  through_reached c v reached through = from_granule through.granule reached through.opens through.here
 
   -- granules are taken
   IsSearch-granules : (vs ws : List CapValue) (left new : List ℕ) (opened : Bool) (first end f e next : ℕ)
@@ -137,7 +137,8 @@ module _ (roots specials : List CapValue) (m : Memory) where
       λ v there. subst (λ xs. Contains xs v) whole (Contains-append_left vs more v there) in
       record {
         sound = subst (All (IsReachedFrom roots specials m)) whole (All-append (IsReachedFrom roots specials m) vs more s.sound
-            (All-weaker (IsBehind m c) (IsReachedFrom roots specials m) (λ x behind. behind_reached c x reached behind) more o.added));
+            (All-weaker (IsFoundThrough m c) (IsReachedFrom roots specials m)
+            (λ x through. through_reached c x reached through) more o.added));
         roots_in = λ v tagged there. grows v (s.roots_in v tagged there);
         specials_in = λ e v tagged there. grows v (s.specials_in e v tagged there);
         words = ap (λ n. 16 * (64 * n)) o.words ∙ s.words;
@@ -194,13 +195,13 @@ module _ (roots specials : List CapValue) (m : Memory) where
   }
 
   -- a value has been visited once it has opened the system and its granules
-  pub IsSearch-behind : (vs us ws : List CapValue) (left new : List ℕ) (opened now : Bool) (first end f e next : ℕ)
+  pub IsSearch-through : (vs us ws : List CapValue) (left new : List ℕ) (opened now : Bool) (first end f e next : ℕ)
       (c : CapValue) → IsMemory m
       → IsSearch roots specials m vs left opened first end next → next < length vs → ((d : CapValue) → get_or vs next d ≡ c)
       → IsSystemOpened c specials vs opened us now
       → IsOpened m c us ws left new (λ g. OpensGranule c (ram_base + 16 * g)) → IsBare f e new
       → IsSearch roots specials m ws new now f e (next + 1)
-  IsSearch-behind vs us ws left new opened now first end f e next c memory s below here system o bare =
+  IsSearch-through vs us ws left new opened now first end f e next c memory s below here system o bare =
       let Opens : ℕ → Type 0 = λ g. OpensGranule c (ram_base + 16 * g) in
       let reached : IsReachedFrom roots specials m c =
       subst (IsReachedFrom roots specials m) (here c) (All-get_or (IsReachedFrom roots specials m) vs next c below s.sound) in

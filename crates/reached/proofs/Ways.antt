@@ -6,7 +6,7 @@ use Rattle.std.proofs.lemmas.List.{length_push, get_or_push, get_or_append_left,
 use Rattle.reached.specs.declared.member.Member.{Member}
 use Rattle.reached.specs.Chain.{is_root, IsFrom, IsChain}
 
--- The numbers of members from one down: each was found behind the next, and the last is this one.
+-- The numbers of members from one down: each was found through the next, and the last is this one.
 pub record IsWayDown {X : Type 0} (ms : List (Member X)) (index : ℕ) (way : List ℕ) (last : ℕ) : Type 0 where
   pub some : 0 < length way
   pub members : (j : ℕ) → j < length way → get_or way j 0 < length ms
@@ -34,8 +34,8 @@ module _ {X : Type 0} (ms : List (Member X)) (index : ℕ) where
     before : (j : ℕ) → j < length way → get_or (way ++ from ∷ []) j 0 ≡ get_or way j 0
     before j below = get_or_append_left way (from ∷ []) 0 j below
 
-    behind : (j : ℕ) → j ≡ length way → get_or (way ++ from ∷ []) j 0 ≡ from
-    behind j same = get_or_push way from 0 j (sym same)
+    at_end : (j : ℕ) → j ≡ length way → get_or (way ++ from ∷ []) j 0 ≡ from
+    at_end j same = get_or_push way from 0 j (sym same)
 
     -- one member more
     pub IsWayDown-more : from < length ms → ((d : Member X) → IsFrom (get_or ms last d) from) → IsWayDown ms index (way ++ from ∷ []) from
@@ -46,7 +46,7 @@ module _ {X : Type 0} (ms : List (Member X)) (index : ℕ) where
           some = omega arith;
           members = λ j below. elim (cases_lt j (length way)) [
             | inl old ↦ subst (λ k. k < length ms) (sym (before j old)) (w.members j old)
-            | inr new ↦ subst (λ k. k < length ms) (sym (behind j (omega arith))) inside
+            | inr new ↦ subst (λ k. k < length ms) (sym (at_end j (omega arith))) inside
           ];
           first = before 0 some ∙ w.first;
           links = λ j d below. elim (cases_lt (j + 1) (length way)) [
@@ -56,9 +56,9 @@ module _ {X : Type 0} (ms : List (Member X)) (index : ℕ) where
                 let at : j ≡ length way - 1 = omega arith in
                 subst (λ k. IsFrom (get_or ms k d) (get_or (way ++ from ∷ []) (j + 1) 0))
                 (sym (before j (omega arith) ∙ ap (λ k. get_or way k 0) at ∙ w.last_is))
-                (subst (IsFrom (get_or ms last d)) (sym (behind (j + 1) (omega arith))) (link d))
+                (subst (IsFrom (get_or ms last d)) (sym (at_end (j + 1) (omega arith))) (link d))
           ];
-          last_is = behind (length (way ++ from ∷ []) - 1) (omega arith);
+          last_is = at_end (length (way ++ from ∷ []) - 1) (omega arith);
         }
 
   -- a way down to a root is a chain, turned round

@@ -11,17 +11,17 @@ is_root (Root n) = true
 is_root (Special n) = false
 is_root (Granule granule) = false
 
--- each member that is no root was found behind an earlier one
+-- each member that is no root was found through an earlier one
 abbrev pub AreInOrder : {X : Type 0} → List (Member X) → Type 0
 AreInOrder {X} ms =
     (k : ℕ) (d : Member X) → k < length ms → is_root (slice_index_or ms k d).place ≡ false → (slice_index_or ms k d).from < k
 
--- a member was found behind the one of this number
+-- a member was found through the one of this number
 pub record IsFrom {X : Type 0} (x : Member X) (from : ℕ) : Type 0 where
   pub no_root : is_root x.place ≡ false
   pub from_is : x.from ≡ from
 
--- The numbers of members that lead to the one of a number: a root first, and each later one was found behind the one before it.
+-- The numbers of members that lead to the one of a number: a root first, and each later one was found through the one before it.
 pub record IsChain {X : Type 0} (ms : List (Member X)) (index : ℕ) (way : List ℕ) : Type 0 where
   pub some : 0 < length way
   pub members : (j : ℕ) → j < length way → slice_index way j < length ms

@@ -28,7 +28,7 @@ AreLinked {X} value roots specials m ms =
     (k : ℕ) (d : Member X) → k < length ms → IsLinked value roots specials m (values value ms) k (slice_index_or ms k d)
 
 -- a member in a granule that a capability opens
-pub record IsBehindMember {X : Type 0} (value : X → CapValue) (m : Memory) (c : CapValue) (from : ℕ) (x : Member X) : Type 0 where
+pub record IsMemberThrough {X : Type 0} (value : X → CapValue) (m : Memory) (c : CapValue) (from : ℕ) (x : Member X) : Type 0 where
   pub from_is : x.from ≡ from
   pub granule : ℕ
   pub place_is : x.place ≡ Granule granule

@@ -16,7 +16,7 @@ pub record IsHeldAt (m : Memory) (granule : ℕ) (v : CapValue) : Type 0 where
   pub tagged : has_tag m granule ≡ true
   pub value : v ≡ value_of (word_at m granule) true
 
--- what code can come to hold: the tagged roots; behind a reachable value that opens the system the tagged special registers; behind one
+-- what code can come to hold: the tagged roots; through a reachable value that opens the system the tagged special registers; through one
 -- that opens a granule what the granule holds
 pub data IsReachedFrom (roots specials : List CapValue) (m : Memory) : CapValue → Type 0 where
   from_root : {v : CapValue} → is_tagged v ≡ true → Contains roots v → IsReachedFrom roots specials m v

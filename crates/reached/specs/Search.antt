@@ -33,7 +33,7 @@ abbrev pub AreLeft : Memory → List ℕ → Type 0
 AreLeft m left = (g : ℕ) → tag_at left g ≡ true → has_tag m (ram_base + 16 * g) ≡ true
 
 -- the value lies in a granule that the capability opens
-pub record IsBehind (m : Memory) (c v : CapValue) : Type 0 where
+pub record IsFoundThrough (m : Memory) (c v : CapValue) : Type 0 where
   pub granule : ℕ
   pub opens : OpensGranule c granule
   pub here : IsHeldAt m granule v
@@ -41,7 +41,7 @@ pub record IsBehind (m : Memory) (c v : CapValue) : Type 0 where
 -- Of the tags that are left some have been taken, those of these granules among them, and what such a granule holds is among the values.
 pub record IsOpened (m : Memory) (c : CapValue) (vs new_vs : List CapValue) (left new_left : List ℕ) (These : ℕ → Type 0) : Type 0 where
   pub kept : take (length vs) new_vs ≡ vs
-  pub added : All (IsBehind m c) (drop (length vs) new_vs)
+  pub added : All (IsFoundThrough m c) (drop (length vs) new_vs)
   pub words : length new_left ≡ length left
   pub fewer : (g : ℕ) → tag_at new_left g ≡ true → tag_at left g ≡ true
   pub moved : (g : ℕ) → tag_at left g ≡ true → (tag_at new_left g ≡ true) ⊎ Contains new_vs (held m g)
@@ -52,12 +52,12 @@ pub data IsSystemOpened (c : CapValue) (specials vs : List CapValue) (opened : B
   kept : (OpensSystem c → opened ≡ true) → ws ≡ vs → now ≡ opened → IsSystemOpened c specials vs opened ws now
   added : OpensSystem c → ws ≡ vs ++ filter is_tagged specials → now ≡ true → IsSystemOpened c specials vs opened ws now
 
--- what the search has found behind a value
+-- what the search has found through a value
 pub record IsVisited (m : Memory) (specials vs : List CapValue) (c : CapValue) : Type 0 where
   pub system : OpensSystem c → (v : CapValue) → is_tagged v ≡ true → Contains specials v → Contains vs v
   pub granules : (granule : ℕ) (v : CapValue) → OpensGranule c granule → IsHeldAt m granule v → Contains vs v
 
--- The search has looked behind the first `next` of its values; the tags of the granules from `first` on and below `end` have been taken.
+-- The search has looked through the first `next` of its values; the tags of the granules from `first` on and below `end` have been taken.
 pub record IsSearch (roots specials : List CapValue) (m : Memory) (vs : List CapValue) (left : List ℕ)
     (opened : Bool) (first end next : ℕ) : Type 0 where
   pub sound : All (IsReachedFrom roots specials m) vs

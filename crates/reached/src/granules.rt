@@ -2,7 +2,7 @@
 ghost use Rattle.std.specs.Prelude.{◌≡◌, ℕ, ◌+◌, ◌*◌, ◌≤◌, map, length, take, drop, All, OnOk, IfOk};
 ghost use Rattle.base.specs.Ram.{ram_base};
 ghost use Rattle.cap_rights.specs.Rights.{OpensGranule};
-ghost use Rattle.reached.specs.Links.{IsBehindMember};
+ghost use Rattle.reached.specs.Links.{IsMemberThrough};
 ghost use Rattle.reached.specs.Reached.{HoldsCapabilities};
 ghost use Rattle.reached.specs.Search.{AreLeft, IsBare, IsBetween, IsOpened};
 
@@ -15,7 +15,7 @@ use std::alloc::AllocError;
 use tag_planes::{clear_tag, next_tag};
 use tagged_memory::Memory;
 
-/// Takes the tags that are left in a span, and puts what the granules hold behind the members.
+/// Takes the tags that are left in a span, and appends what the granules hold to the members.
 fn take_granules<C: CapRep>(
     members: &mut Vec<Member<C>>,
     left: &mut [u64],
@@ -30,7 +30,7 @@ fn take_granules<C: CapRep>(
     requires within { span.end ≤ 64 * length left.old }
     requires opens { (g : ℕ) → IsBetween span.first span.end g → OpensGranule (C.value cap) (ram_base + 16 * g) }
     ensures kept { OnOk result (take (length members.old.items) members.new.items ≡ members.old.items) }
-    ensures added { OnOk result (All (IsBehindMember C.value memory.now (C.value cap) from)
+    ensures added { OnOk result (All (IsMemberThrough C.value memory.now (C.value cap) from)
         (drop (length members.old.items) members.new.items)) }
     ensures opened { OnOk result (IsOpened memory.now (C.value cap)
         (map (λ m. C.value m.cap) members.old.items) (map (λ m. C.value m.cap) members.new.items) left.old left.new
@@ -56,7 +56,7 @@ fn take_granules<C: CapRep>(
     Ok(())
 }
 
-/// Takes the tags that are left in the granules that a capability opens, puts what they hold behind the members, and answers a span in
+/// Takes the tags that are left in the granules that a capability opens, appends what they hold to the members, and answers a span in
 /// which no tag is left. Such a span is given, so that nothing is looked for in it.
 pub(crate) fn open_granules<C: CapRep>(
     members: &mut Vec<Member<C>>,
@@ -71,7 +71,7 @@ pub(crate) fn open_granules<C: CapRep>(
     requires tags { AreLeft memory.now left.old }
     requires bare { IsBare bare.first bare.end left.old }
     ensures kept { OnOk result (take (length members.old.items) members.new.items ≡ members.old.items) }
-    ensures added { OnOk result (All (IsBehindMember C.value memory.now (C.value cap) from)
+    ensures added { OnOk result (All (IsMemberThrough C.value memory.now (C.value cap) from)
         (drop (length members.old.items) members.new.items)) }
     ensures opened { OnOk result (IsOpened memory.now (C.value cap)
         (map (λ m. C.value m.cap) members.old.items) (map (λ m. C.value m.cap) members.new.items) left.old left.new

@@ -19,11 +19,11 @@ use tagged_memory::Memory;
 struct Opened {
     /// Whether the special registers are among the members.
     system: bool,
-    /// Granules that no longer have a tag.
+    /// Granules of which no tag is left.
     bare: Span,
 }
 
-/// Looks behind one member, and answers what has been opened by now.
+/// Looks through one member, and answers what has been opened by now.
 fn visit<C: CapRep>(
     members: &mut Vec<Member<C>>,
     left: &mut [u64],

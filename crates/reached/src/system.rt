@@ -21,7 +21,7 @@ fn place_among(special: bool, number: usize) -> Place
     }
 }
 
-/// Puts the tagged ones of some capabilities behind the members.
+/// Appends the tagged ones of some capabilities to the members.
 pub(crate) fn add_tagged<C: CapRep>(
     members: &mut Vec<Member<C>>,
     caps: &[C],
@@ -47,7 +47,7 @@ pub(crate) fn add_tagged<C: CapRep>(
     Ok(())
 }
 
-/// Puts the tagged special registers behind the members, if the capability opens them and they aren't there, and answers whether they are.
+/// Appends the tagged special registers to the members, if the capability opens them and they aren't there, and answers whether they are.
 pub(crate) fn open_system<C: CapRep>(
     members: &mut Vec<Member<C>>,
     specials: &[C],

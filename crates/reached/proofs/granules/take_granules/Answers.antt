@@ -5,7 +5,7 @@ use Rattle.base.specs.Ram.{ram_base}
 use Rattle.cap_bounds.specs.CapValue.{value_of}
 use Rattle.tagged_memory.specs.Memory.{word_at}
 use Rattle.tagged_memory.specs.MemoryLaws.{in_ram-from}
-use Rattle.reached.specs.Links.{IsBehindMember}
+use Rattle.reached.specs.Links.{IsMemberThrough}
 use Rattle.reached.specs.Search.{held, IsBetween}
 use Rattle.reached.proofs.Opening.{place_fault-none, none_added, IsOpened-none, IsOpened-more}
 use Rattle.reached.proofs.granules.take_granules.Goals as goal
@@ -27,7 +27,7 @@ loop-next-init g c =
       opened = IsOpened-none c.args.memory.now (value c.args.cap) (map (λ m. value m.cap) items) c.args.left.now
           (IsBetween c.args.span.first c.args.span.first) (λ k place. absurd (omega (arith, place.0, place.1)));
       kept = take_all (length items) items (omega arith);
-      added = none_added (IsBehindMember value c.args.memory.now (value c.args.cap) c.args.from) items;
+      added = none_added (IsMemberThrough value c.args.memory.now (value c.args.cap) c.args.from) items;
     }
 
 pub loop-next-preserved : goal.loop-next-preserved
@@ -59,7 +59,7 @@ loop-next-preserved g c =
           opens value c.clear_tag.ensures.len c.clear_tag.ensures.value);
       kept = rw (c.in_ok-push.ensures.items) (take-append-le (length old) items _ some ∙ kept);
       added = rw (c.in_ok-push.ensures.items, drop-append-le (length old) items _ some)
-          (All-push (IsBehindMember g.C.CapRep.value m (g.C.CapRep.value c.args.cap) c.args.from) (drop (length old) items) _
+          (All-push (IsMemberThrough g.C.CapRep.value m (g.C.CapRep.value c.args.cap) c.args.from) (drop (length old) items) _
           c.loop-next.invariant.added
           (record {
             from_is = refl;

@@ -1,6 +1,6 @@
 use Rattle.std.proofs.Common.{◌≡◌, ◌-◌, ◌≤◌, map, take, drop, length}
 use Rattle.std.specs.List.{All}
-use Rattle.reached.specs.Links.{IsBehindMember}
+use Rattle.reached.specs.Links.{IsMemberThrough}
 use Rattle.reached.specs.Search.{IsBetween, IsOpened}
 use Rattle.reached.proofs.granules.take_granules.Given as goal
 
@@ -12,7 +12,7 @@ invariant-loop-next g l = record {
       (map (λ m. g.C.CapRep.value m.cap) l.members.items) l.fn.left l.left (IsBetween l.span.first l.next);
   kept : take (length l.fn.members.items) l.members.items ≡ l.fn.members.items;
   added :
-      All (IsBehindMember g.C.CapRep.value l.memory (g.C.CapRep.value l.fn.cap) l.from) (drop (length l.fn.members.items) l.members.items);
+      All (IsMemberThrough g.C.CapRep.value l.memory (g.C.CapRep.value l.fn.cap) l.from) (drop (length l.fn.members.items) l.members.items);
 }
 
 abbrev pub decreases-loop-next : goal.decreases-loop-next

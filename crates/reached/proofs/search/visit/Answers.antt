@@ -2,9 +2,9 @@ use Rattle.std.proofs.Common.{◌≡◌, ◌<◌, true, map, length, get_or, ap,
 use Rattle.std.proofs.lemmas.List.{get_or-map, length-map}
 use Rattle.cap_bounds.specs.CapValue.{CapValue}
 use Rattle.cap_rights.specs.Rights.{OpensSystem}
-use Rattle.reached.specs.Links.{IsAmong, IsBehindMember, AreLinked, values}
-use Rattle.reached.proofs.Linking.{linked-special, linked-behind, AreLinked-added, at_kept, not_fewer}
-use Rattle.reached.proofs.Searching.{IsSearch-behind}
+use Rattle.reached.specs.Links.{IsAmong, IsMemberThrough, AreLinked, values}
+use Rattle.reached.proofs.Linking.{linked-special, linked-through, AreLinked-added, at_kept, not_fewer}
+use Rattle.reached.proofs.Searching.{IsSearch-through}
 use Rattle.reached.proofs.search.visit.Goals as goal
 
 pub returns-clause-linked : goal.returns-clause-linked
@@ -24,16 +24,16 @@ returns-clause-linked g c =
     AreLinked-added value roots specials m (λ x. OpensSystem cap × IsAmong value specials true c.args.index x) items more c.args.index cap
     c.requires.linked kept below first c.in_ok-system.ensures.added (linked-special value roots specials m cap c.args.index) in
     let below_more : c.args.index < length more = omega (arith, not_fewer value roots specials m items more kept) in
-    AreLinked-added value roots specials m (IsBehindMember value m cap c.args.index) more c.open_granules.new.members.items c.args.index
+    AreLinked-added value roots specials m (IsMemberThrough value m cap c.args.index) more c.open_granules.new.members.items c.args.index
     cap linked c.in_ok-bare.ensures.kept below_more (at_kept value roots specials m items more kept c.args.index below cap first)
-    c.in_ok-bare.ensures.added (linked-behind value roots specials m cap c.args.index)
+    c.in_ok-bare.ensures.added (linked-through value roots specials m cap c.args.index)
 
 pub returns-clause-search : goal.returns-clause-search
 returns-clause-search g c =
     let value = g.C.CapRep.value in
     let items = c.args.members.now.items in
     let below : c.args.index < length items = omega arith in
-    IsSearch-behind (map value c.args.roots.now) (map value c.args.specials.now) c.args.memory.now (map (λ m. value m.cap) items)
+    IsSearch-through (map value c.args.roots.now) (map value c.args.specials.now) c.args.memory.now (map (λ m. value m.cap) items)
     (map (λ m. value m.cap) c.open_system.new.members.items) (map (λ m. value m.cap) c.open_granules.new.members.items)
     c.args.left.now c.open_granules.new.left c.args.opened.system c.in_ok-system.system c.args.opened.bare.first c.args.opened.bare.end
     c.in_ok-bare.bare.first c.in_ok-bare.bare.end c.args.index (value c.index.result.now.cap) c.is_sound.ensures c.requires.search
