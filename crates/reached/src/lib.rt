@@ -1,4 +1,4 @@
-//! The reachable set, computed: what whatever code can come to hold from these roots, where each was found, and the way there.
+//! The capabilities that code can come to hold from given roots, whatever it does, with where each was found and the chain that leads there.
 #![tactic(auto)]
 
 mod granules;

@@ -50,6 +50,7 @@ fn visit<C: CapRep>(
 }
 
 /// The capabilities that are reachable from these roots, over these special registers and this memory, each with where it was found.
+/// `Err` is out of memory.
 pub fn closure<C: CapRep>(
     alloc: Global,
     roots: &[C],

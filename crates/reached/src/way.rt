@@ -17,6 +17,7 @@ fn is_root(place: Place) -> bool
 }
 
 /// The numbers of the members that lead to a member: a root first, each one opens the next, and the member is the last.
+/// `Err` is out of memory.
 pub fn chain<C: CapRep>(
     alloc: Global,
     members: &[Member<C>],
