@@ -1,0 +1,4 @@
+-- What to read
+pub mod Opens
+pub mod First
+pub mod Ranges
