@@ -1,2 +1,4 @@
 pub mod Places
 pub mod Merging
+pub mod Reaches
+pub mod Meaning

@@ -3,11 +3,13 @@
 
 mod device_answers;
 mod first;
+pub mod laws;
 mod question;
 mod range;
 mod ranges;
 mod reach;
 mod right;
+mod roots;
 mod sealed;
 
 pub use range::Range;

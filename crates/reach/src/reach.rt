@@ -1,8 +1,13 @@
 //! The reach of a state.
-ghost use Rattle.std.specs.Prelude.{◌≡◌};
+ghost use Rattle.std.specs.Prelude.{◌≡◌, IfOk};
+ghost use Rattle.reached.specs.Links.{values, AreLinked};
+ghost use Rattle.reach.specs.Reach.{AreReachable, roots_of, specials_of};
 
+use crate::roots::{roots, specials};
 use cap_bounds::CapRep;
-use reached::Member;
+use hart::Hart;
+use reached::{Member, closure};
+use std::alloc::{AllocError, Global};
 use std::marker::Model;
 
 /// Whatever code can come to hold from a state on, without a trap, an unsealing or a sealed jump.
@@ -21,6 +26,20 @@ impl<C: CapRep> Model for Reach<C> {
 }
 
 impl<C: CapRep> Reach<C> {
+    /// The reach of a hart's state: exactly the values that are reachable in it, each with its link to where it was found.
+    ///
+    /// `AllocError` is out of memory.
+    pub fn of(alloc: Global, hart: &Hart<C>) -> Result<Self, AllocError>
+        ensures exact { IfOk result (λ reach. AreReachable hart.now (values C.value reach)) }
+        ensures linked { IfOk result (λ reach.
+            AreLinked C.value (roots_of hart.now) (specials_of hart.now.scrs) hart.now.memory reach) }
+    {
+        let first = roots(alloc, hart)?;
+        let guarded = specials(alloc, hart)?;
+        let members = closure(alloc, &first, &guarded, hart.memory())?;
+        Ok(Reach { members })
+    }
+
     /// The reachable capabilities, each with where it was found: the roots first, and then what members open, in their order.
     pub fn members(&self) -> &[Member<C>]
         ensures { result.now ≡ self.now }
