@@ -2,3 +2,4 @@ pub mod Places
 pub mod Merging
 pub mod Reaches
 pub mod Meaning
+pub mod Unsealing

@@ -42,7 +42,7 @@ pub record OpensUnsealing (c : CapValue) (otype : ℕ) : Type 0 where
   pub top : otype < value_top c
 
 -- sealed with the object type
-pub record IsSealedWith (c : CapValue) (otype : ℕ) : Type 0 where
+pub record IsSealedAs (c : CapValue) (otype : ℕ) : Type 0 where
   pub sealed : is_sealed c ≡ true
   pub is_type : value_otype c ≡ otype
 
@@ -52,4 +52,4 @@ Answers (AsksBytes right address size) c = OpensSome right c address size
 Answers System c = OpensSystem c
 Answers (Seals otype) c = OpensType c otype
 Answers (Unseals otype) c = OpensUnsealing c otype
-Answers (IsSealed otype) c = IsSealedWith c otype
+Answers (IsSealed otype) c = IsSealedAs c otype

@@ -1,5 +1,5 @@
 -- The reach of a state.
-use Rattle.std.specs.Prelude.{ℕ, List, [], ◌∷◌, ◌++◌, Contains}
+use Rattle.std.specs.Prelude.{List, [], ◌∷◌, ◌++◌, Contains}
 use Rattle.cap_bounds.specs.CapValue.{CapValue}
 use Rattle.cap_rights.specs.Rights.{IsInRightsOf}
 use Rattle.special_regs.specs.Scrs.{Scrs}

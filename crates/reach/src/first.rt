@@ -3,7 +3,7 @@ ghost use Rattle.std.specs.Prelude.{IfNone, IfSome};
 ghost use Rattle.cap_rights.specs.Rights.{OpensSystem, OpensType};
 ghost use Rattle.reached.specs.Links.{values};
 ghost use Rattle.reach.specs.First.{IsFirst, HoldsOfNone};
-ghost use Rattle.reach.specs.Opens.{OpensSome, OpensUnsealing, IsSealedWith, Answers};
+ghost use Rattle.reach.specs.Opens.{OpensSome, OpensUnsealing, IsSealedAs, Answers};
 
 use crate::question::{Question, answers};
 use crate::reach::Reach;
@@ -91,8 +91,8 @@ impl<C: CapRep> Reach<C> {
 
     /// The first member that is sealed with the type.
     pub fn holds_sealed(&self, otype: OType) -> Option<usize>
-        ensures some { IfSome result (IsFirst (λ v. IsSealedWith v otype) (values C.value self.now)) }
-        ensures none { IfNone result (HoldsOfNone (λ v. IsSealedWith v otype) (values C.value self.now)) }
+        ensures some { IfSome result (IsFirst (λ v. IsSealedAs v otype) (values C.value self.now)) }
+        ensures none { IfNone result (HoldsOfNone (λ v. IsSealedAs v otype) (values C.value self.now)) }
     {
         first(self.members(), &Question::IsSealed(otype))
     }

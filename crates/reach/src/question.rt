@@ -2,7 +2,7 @@
 ghost use Rattle.std.specs.Prelude.{◌≡◌, ◌↔◌, ◌<◌, ◌≤◌, IsTrue, not};
 ghost use Rattle.cap_bounds.specs.CapValue.{is_sealed, value_base, value_top};
 ghost use Rattle.cap_rights.specs.Rights.{OpensSystem, OpensType};
-ghost use Rattle.reach.specs.Opens.{Permits, Allows, OpensSome, OpensUnsealing, IsSealedWith, Answers};
+ghost use Rattle.reach.specs.Opens.{Permits, Allows, OpensSome, OpensUnsealing, IsSealedAs, Answers};
 
 use crate::right::Right;
 use cap_bounds::CapRep;
@@ -92,8 +92,8 @@ fn opens_unsealing<C: CapRep>(c: C, otype: OType) -> bool
 }
 
 /// Whether it is sealed with the type.
-fn is_sealed_with<C: CapRep>(c: C, otype: OType) -> bool
-    ensures { IsTrue result ↔ IsSealedWith (C.value c) otype }
+fn is_sealed_as<C: CapRep>(c: C, otype: OType) -> bool
+    ensures { IsTrue result ↔ IsSealedAs (C.value c) otype }
 {
     !is_unsealed(c) && c.otype() == otype.number()
 }
@@ -107,6 +107,6 @@ pub(crate) fn answers<C: CapRep>(c: C, question: &Question) -> bool
         Question::System => opens_system(c),
         Question::Seals(otype) => opens_sealing(c, otype),
         Question::Unseals(otype) => opens_unsealing(c, otype),
-        Question::IsSealed(otype) => is_sealed_with(c, otype),
+        Question::IsSealed(otype) => is_sealed_as(c, otype),
     }
 }

@@ -1,4 +1,4 @@
-use Rattle.std.proofs.Common.{◌≡◌, ℕ, ◌+◌, ◌<◌, ◌≤◌, map, take, length, get_or, ap, subst, arith}
+use Rattle.std.proofs.Common.{ℕ, ◌+◌, ap, subst, arith}
 use Rattle.std.proofs.lemmas.List.{take_all, get_or_default}
 use Rattle.std.specs.Prelude.{◌↔◌}
 use Rattle.reach.specs.declared.range.Range.{Range}

@@ -1,4 +1,4 @@
-use Rattle.std.proofs.Common.{◌≡◌, ℕ, ◌<◌, take, length, get_or}
+use Rattle.std.proofs.Common.{ℕ, ◌<◌, take, length, get_or}
 use Rattle.std.specs.Prelude.{◌↔◌}
 use Rattle.reach.specs.declared.range.Range.{Range}
 use Rattle.reach.specs.Ranges.{IsInOne, AreApart, AreBegunBy}

@@ -1,8 +1,7 @@
-use Rattle.std.proofs.Common.{◌≡◌, ℕ, ◌+◌, ◌<◌, List, map, take, length, sym, subst, arith}
+use Rattle.std.proofs.Common.{ℕ, ◌+◌, ◌<◌, map, take, sym, subst, arith}
 use Rattle.std.proofs.lemmas.List.{take_all}
 use Rattle.std.proofs.lemmas.List.Elements.{All-push}
 use Rattle.std.specs.Prelude.{◌↔◌}
-use Rattle.reach.specs.declared.range.Range.{Range}
 use Rattle.reach.specs.Ranges.{IsInOne, IsOpen, AreFilled}
 use Rattle.reach.proofs.Merging.{opened-more, opened-no_more}
 use Rattle.reach.proofs.ranges.opened.Goals as goal

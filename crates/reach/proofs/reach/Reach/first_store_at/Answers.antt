@@ -3,7 +3,7 @@ use Rattle.cap_rights.specs.Rights.{OpensStore}
 use Rattle.reached.specs.Links.{values}
 use Rattle.reach.specs.declared.right.Right.TheVariants.{Store}
 use Rattle.reach.specs.Opens.{OpensSome}
-use Rattle.std.proofs.Common.{◌≡◌, ℕ, Option, Some, None}
+use Rattle.std.proofs.Common.{ℕ, Option, Some, None}
 use Rattle.std.specs.Prelude.{IfSome, IfNone, List}
 use Rattle.reach.specs.First.{IsFirst, HoldsOfNone}
 use Rattle.reach.proofs.Places.{IsFirst-other, HoldsOfNone-other, store-some, some-store}

@@ -1,4 +1,4 @@
-use Rattle.std.proofs.Common.{◌≡◌, ◌∙◌, map, ap, sym, subst}
+use Rattle.std.proofs.Common.{◌∙◌, map, ap, sym, subst}
 use Rattle.hart.specs.State.{HoldsCapabilities}
 use Rattle.reach.proofs.Reaches.{reach_of_search, links_of_search}
 use Rattle.reach.proofs.reach.Reach.of.Goals as goal

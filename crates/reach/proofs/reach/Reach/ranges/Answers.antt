@@ -1,4 +1,4 @@
-use Rattle.std.proofs.Common.{◌≡◌, ℕ, ◌<◌, rules, sym, subst, ap, ◌∙◌}
+use Rattle.std.proofs.Common.{◌<◌, rules, sym, subst}
 use Rattle.std.proofs.lemmas.List.Sorted.{All-permutation, IsNonDecreasingBy-from_sort, IsPermutation-sym, answers_always}
 use Rattle.std.specs.List.Sorted.{IsNonDecreasingBy}
 use Rattle.reach.specs.declared.range.Range.{Range}
