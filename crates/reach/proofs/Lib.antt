@@ -3,3 +3,4 @@ pub mod Merging
 pub mod Reaches
 pub mod Meaning
 pub mod Unsealing
+pub mod Determined

@@ -1,16 +1,17 @@
 -- Ranges: one more, one that grows, and the same in another order.
-use Rattle.std.proofs.Common.{◌≡◌, ℕ, ◌+◌, ◌<◌, ◌≤◌, ◌++◌, List, [], ◌∷◌, length, get_or, set, map, take, max, ap, sym, subst, ◌∙◌, arith, inl, inr, ◌⊎◌}
+use Rattle.std.proofs.Common.{◌≡◌, ℕ, ◌+◌, ◌<◌, ◌≤◌, ◌++◌, List, [], ◌∷◌, length, get_or, set, map, take, max, ◌∙◌, ◌⊎◌}
+use Rattle.std.proofs.Common.{ap, sym, subst, arith, inl, inr}
 use Rattle.std.proofs.lemmas.Bool.{cases_eq, cases_lt}
-use Rattle.std.proofs.lemmas.List.{take_more, get_or-set_same, get_or-set_other, length-set, get_or_default, map-append}
-use Rattle.std.proofs.lemmas.List.Elements.{Contains-push, Contains-push_cases, Contains-append_left}
-use Rattle.std.proofs.lemmas.List.Sorted.{Contains-permutation}
+use Rattle.std.proofs.lemmas.List.{take_more, get_or-set_same, get_or-set_other, length-set, get_or_default, map-append, take_all}
+use Rattle.std.proofs.lemmas.List.Elements.{Contains-push, Contains-push_cases, Contains-append_left, All-push}
+use Rattle.std.proofs.lemmas.List.Sorted.{All-permutation, Contains-permutation, IsPermutation-sym}
 use Rattle.std.specs.List.Sorted.{IsPermutation}
 use Rattle.std.specs.Prelude.{◌↔◌}
 use Rattle.cap_bounds.specs.CapValue.{CapValue}
 use Rattle.reach.specs.declared.range.Range.{Range}
 use Rattle.reach.specs.declared.right.Right.{Right}
 use Rattle.reach.specs.Opens.{Opens}
-use Rattle.reach.specs.Ranges.{IsIn, IsInOne, IsOpen}
+use Rattle.reach.specs.Ranges.{IsIn, IsInOne, IsOpen, AreFilled}
 
 -- ---- one range more
 
@@ -54,16 +55,19 @@ module _ {X : Type 0} (right : Right) (f : X → CapValue) (items : List X) (i :
       ap (map f) (take_more items i x below ∙ ap (λ y. take i items ++ y ∷ []) (sym read)) ∙ map-append f (take i items) (x ∷ [])
 
   -- the value opens a range
-  pub opened-more : (range : Range) → ((a : ℕ) → IsIn range a ↔ Opens right (f x) a) → (a : ℕ)
-      → IsInOne (ranges ++ range ∷ []) a ↔ IsOpen right (map f (take (i + 1) items)) a
-  opened-more range same a = (
+  pub opened-more : (range : Range) (grown : List Range) → grown ≡ ranges ++ range ∷ []
+      → ((a : ℕ) → IsIn range a ↔ Opens right (f x) a) → (a : ℕ) → IsInOne grown a ↔ IsOpen right (map f (take (i + 1) items)) a
+  opened-more range grown is same a = (
     λ one. subst (λ vs. IsOpen right vs a) (sym more) (push-is_open right (map f (take i items)) (f x) a
-        (elim (in_one-push ranges range a one) [ inl old ↦ inl ((before a).0 old) | inr new ↦ inr ((same a).0 new) ])),
-    λ there. push-in_one ranges range a
+        (elim (in_one-push ranges range a (subst (λ rs. IsInOne rs a) is one)) [
+          | inl old ↦ inl ((before a).0 old)
+          | inr new ↦ inr ((same a).0 new)
+        ])),
+    λ there. subst (λ rs. IsInOne rs a) (sym is) (push-in_one ranges range a
         (elim (is_open-push right (map f (take i items)) (f x) a (subst (λ vs. IsOpen right vs a) more there)) [
           | inl old ↦ inl ((before a).1 old)
           | inr new ↦ inr ((same a).1 new)
-        ]),
+        ])),
   )
 
   -- the value opens nothing
@@ -75,6 +79,17 @@ module _ {X : Type 0} (right : Right) (f : X → CapValue) (items : List X) (i :
       | inr new ↦ absurd (none a new)
     ],
   )
+
+-- the ranges of the first values, where those are all
+pub opened-all : {X : Type 0} (right : Right) (f : X → CapValue) (items : List X) (n : ℕ) → length items ≤ n → (ranges : List Range)
+    → ((a : ℕ) → IsInOne ranges a ↔ IsOpen right (map f (take n items)) a) → (a : ℕ) → IsInOne ranges a ↔ IsOpen right (map f items) a
+opened-all right f items n all ranges same =
+    subst (λ xs. (a : ℕ) → IsInOne ranges a ↔ IsOpen right (map f xs) a) (take_all n items all) same
+
+pub filled-push : (ranges grown : List Range) (range : Range) → grown ≡ ranges ++ range ∷ [] → AreFilled ranges
+    → range.from < range.to → AreFilled grown
+filled-push ranges grown range is filled some =
+    subst AreFilled (sym is) (All-push (λ r. r.from < r.to) ranges range filled some)
 
 -- ---- a range that grows
 
@@ -162,9 +177,24 @@ merged-more ranges i d below found grown before step a =
 
 -- ---- the same ranges in another order
 
-pub in_one-permutation : (ranges others : List Range) → IsPermutation ranges others → (a : ℕ) → IsInOne ranges a → IsInOne others a
+pub filled-permutation : (ranges others read : List Range) → IsPermutation ranges others → read ≡ others → AreFilled ranges
+    → AreFilled read
+filled-permutation ranges others read moved is filled =
+    subst AreFilled (sym is) (All-permutation (λ r. r.from < r.to) ranges others moved filled)
+
+in_one-permutation : (ranges others : List Range) → IsPermutation ranges others → (a : ℕ) → IsInOne ranges a → IsInOne others a
 in_one-permutation ranges others moved a one = record {
   range = one.range;
   is_one = Contains-permutation ranges others one.range moved one.is_one;
   inside = one.inside;
 }
+
+-- what the ranges of the values have after they are sorted and merged
+pub merged-opened : (right : Right) (vs : List CapValue) (opened sorted read found : List Range) → IsPermutation opened sorted
+    → read ≡ sorted → ((a : ℕ) → IsInOne opened a ↔ IsOpen right vs a) → ((a : ℕ) → IsInOne found a ↔ IsInOne read a)
+    → (a : ℕ) → IsInOne found a ↔ IsOpen right vs a
+merged-opened right vs opened sorted read found moved is before merged a = (
+  λ one. (before a).0
+      (in_one-permutation sorted opened (IsPermutation-sym opened sorted moved) a (subst (λ rs. IsInOne rs a) is ((merged a).0 one))),
+  λ there. (merged a).1 (subst (λ rs. IsInOne rs a) (sym is) (in_one-permutation opened sorted moved a ((before a).1 there))),
+)

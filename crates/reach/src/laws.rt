@@ -15,11 +15,13 @@ ghost use Rattle.authority.specs.Reachable.{IsReachable};
 ghost use Rattle.authority.specs.Worlds.{IsReadable, Agree};
 ghost use Rattle.machine.specs.Run.{run_after, run_sent};
 ghost use Rattle.machine.specs.Stretch.{ArePlain, IsPlainRun, IsTwin};
+ghost use Rattle.reach.specs.declared.range.Range.{Range};
+ghost use Rattle.reach.specs.declared.right.Right.{Right};
 ghost use Rattle.reach.specs.declared.right.Right.TheVariants.{Store, Load, Execute, Capabilities};
 ghost use Rattle.reach.specs.Differs.{KeepsBytes, DiffersWithin};
 ghost use Rattle.reach.specs.First.{HoldsOfNone};
 ghost use Rattle.reach.specs.Opens.{Opens, OpensSome, OpensUnsealing, IsSealedAs};
-ghost use Rattle.reach.specs.Ranges.{IsOpen};
+ghost use Rattle.reach.specs.Ranges.{IsInOne, IsOpen, AreApart};
 ghost use Rattle.reach.specs.Reach.{AreReachable, IsWithinOne};
 
 use machine::laws::{plain_runs_are_the_same_in_both_worlds, plain_runs_keep_authority};
@@ -92,3 +94,10 @@ pub fn unsealing_needs_a_member()
 {
     plain_runs_keep_authority();
 }
+
+/// The ranges that members open are the state's: whatever the order of the members, they are the same list.
+pub fn a_state_has_its_ranges()
+    ensures { (s : State) (right : Right) (us vs : List CapValue) (xs ys : List Range) → AreReachable s us → AreReachable s vs
+        → AreApart xs → AreApart ys → ((a : ℕ) → IsInOne xs a ↔ IsOpen right us a) → ((a : ℕ) → IsInOne ys a ↔ IsOpen right vs a)
+        → xs ≡ ys }
+{}

@@ -13,7 +13,7 @@ use std::marker::Model;
 /// Whatever code can come to hold from a state on, without a trap, an unsealing or a sealed jump.
 #[derive(Drop)]
 pub struct Reach<C: CapRep> {
-    pub(crate) members: Vec<Member<C>>,
+    members: Vec<Member<C>>,
 }
 
 impl<C: CapRep> Model for Reach<C> {
@@ -40,7 +40,7 @@ impl<C: CapRep> Reach<C> {
         Ok(Reach { members })
     }
 
-    /// The reachable capabilities, each with where it was found: the roots first, and then what members open, in their order.
+    /// The reachable capabilities, each with where it was found: behind the member that opened its place, but for the roots.
     pub fn members(&self) -> &[Member<C>]
         ensures { result.now ≡ self.now }
     {

@@ -5,7 +5,7 @@ use cap_bounds::CapRep;
 use cap_rights::OType;
 use reached::Member;
 
-/// Whether a member is sealed: it opens nothing until it is unsealed or jumped to.
+/// Whether a member is sealed: then it opens nothing by itself. `members().iter().filter(..)` with it gives the sealed ones.
 pub fn is_sealed<C: CapRep>(member: &Member<C>) -> bool
     ensures { result ≡ is_sealed (C.value member.now.cap) }
 {
