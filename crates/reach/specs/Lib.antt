@@ -4,3 +4,6 @@ pub mod Opens
 pub mod First
 pub mod Ranges
 pub mod Differs
+-- Inner words
+pub mod Questions
+pub mod Merging

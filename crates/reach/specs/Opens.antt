@@ -3,9 +3,6 @@ use Rattle.std.specs.Prelude.{◌≡◌, ℕ, ◌+◌, ◌<◌, ◌≤◌, true,
 use Rattle.cap_bounds.specs.CapValue.{CapValue, is_sealed, value_base, value_top, value_otype}
 use Rattle.cap_rights.specs.declared.permission.Permission.TheVariants as permission
 use Rattle.cap_rights.specs.Permission.{permits}
-use Rattle.cap_rights.specs.Rights.{OpensSystem, OpensType}
-use Rattle.reach.specs.declared.question.Question.{Question}
-use Rattle.reach.specs.declared.question.Question.TheVariants.{Opens as AsksBytes, System, Seals, Unseals, IsSealed}
 use Rattle.reach.specs.declared.right.Right.{Right}
 use Rattle.reach.specs.declared.right.Right.TheVariants.{Store, Load, Execute, Capabilities}
 
@@ -45,11 +42,3 @@ pub record OpensUnsealing (c : CapValue) (otype : ℕ) : Type 0 where
 pub record IsSealedAs (c : CapValue) (otype : ℕ) : Type 0 where
   pub sealed : is_sealed c ≡ true
   pub is_type : value_otype c ≡ otype
-
--- what is asked of a capability
-abbrev pub Answers : Question → CapValue → Type 0
-Answers (AsksBytes right address size) c = OpensSome right c address size
-Answers System c = OpensSystem c
-Answers (Seals otype) c = OpensType c otype
-Answers (Unseals otype) c = OpensUnsealing c otype
-Answers (IsSealed otype) c = IsSealedAs c otype

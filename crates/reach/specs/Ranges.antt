@@ -1,6 +1,5 @@
 -- Ranges of addresses, and those that members open.
-use Rattle.std.specs.Prelude.{ℕ, ◌+◌, ◌-◌, ◌<◌, ◌≤◌, List, length, All, Contains, slice_index_or}
-use Rattle.std.specs.List.{HoldsAt}
+use Rattle.std.specs.Prelude.{ℕ, ◌+◌, ◌<◌, ◌≤◌, List, length, All, Contains, slice_index_or}
 use Rattle.cap_bounds.specs.CapValue.{CapValue}
 use Rattle.reach.specs.declared.range.Range.{Range}
 use Rattle.reach.specs.declared.right.Right.{Right}
@@ -31,12 +30,3 @@ AreFilled ranges = All (λ range. range.from < range.to) ranges
 pub record AreApart (ranges : List Range) : Type 0 where
   pub filled : AreFilled ranges
   pub gaps : (k : ℕ) (d : Range) → k + 1 < length ranges → (slice_index_or ranges k d).to < (slice_index_or ranges (k + 1) d).from
-
--- all begin at an address or below it
-abbrev pub AreBegunBy : ℕ → List Range → Type 0
-AreBegunBy a ranges = All (λ range. range.from ≤ a) ranges
-
--- the last range ends at an address or above it
-pub record LastReaches (ranges : List Range) (a : ℕ) : Type 0 where
-  pub some : 0 < length ranges
-  pub last : HoldsAt (λ range. a ≤ range.to) ranges (length ranges - 1)

@@ -3,7 +3,8 @@ ghost use Rattle.std.specs.Prelude.{IfNone, IfSome};
 ghost use Rattle.cap_rights.specs.Rights.{OpensSystem, OpensType};
 ghost use Rattle.reached.specs.Links.{values};
 ghost use Rattle.reach.specs.First.{IsFirst, HoldsOfNone};
-ghost use Rattle.reach.specs.Opens.{OpensSome, OpensUnsealing, IsSealedAs, Answers};
+ghost use Rattle.reach.specs.Opens.{OpensSome, OpensUnsealing, IsSealedAs};
+ghost use Rattle.reach.specs.Questions.{Answers};
 
 use crate::question::{Question, answers};
 use crate::reach::Reach;

@@ -74,7 +74,7 @@ pub fn what_no_member_reads_is_not_learned()
     plain_runs_are_the_same_in_both_worlds();
 }
 
-/// What is reachable behind any plain run is within the rights of a member. With a type that no member is sealed with and none may seal
+/// What is reachable after any plain run is within the rights of a member. With a type that no member is sealed with and none may seal
 /// with, nothing is sealed there, but for sentries.
 pub fn members_bound_what_comes()
     ensures rights { (events : List Event) (s : State) (vs : List CapValue) → AreReachable s vs → IsPlainRun events s
@@ -86,7 +86,7 @@ pub fn members_bound_what_comes()
     plain_runs_keep_authority();
 }
 
-/// Behind any plain run no reachable capability unseals a value whose type no member may unseal: the result has no tag.
+/// After any plain run no reachable capability unseals a value whose type no member may unseal: the result has no tag.
 pub fn unsealing_needs_a_member()
     ensures { (events : List Event) (s : State) (vs : List CapValue) (sealed authority : CapValue) → AreReachable s vs
         → IsPlainRun events s → HoldsOfNone (λ v. OpensUnsealing v (value_otype sealed)) vs

@@ -2,7 +2,8 @@
 ghost use Rattle.std.specs.Prelude.{◌≡◌, ◌↔◌, ◌<◌, ◌≤◌, IsTrue, not};
 ghost use Rattle.cap_bounds.specs.CapValue.{is_sealed, value_base, value_top};
 ghost use Rattle.cap_rights.specs.Rights.{OpensSystem, OpensType};
-ghost use Rattle.reach.specs.Opens.{Permits, Allows, OpensSome, OpensUnsealing, IsSealedAs, Answers};
+ghost use Rattle.reach.specs.Opens.{Permits, Allows, OpensSome, OpensUnsealing, IsSealedAs};
+ghost use Rattle.reach.specs.Questions.{Answers};
 
 use crate::right::Right;
 use cap_bounds::CapRep;

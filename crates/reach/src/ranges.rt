@@ -3,7 +3,8 @@ ghost use Rattle.std.specs.Prelude.{◌↔◌, ◌⊎◌, ℕ, ◌<◌, ◌≤�
 ghost use Rattle.std.specs.List.Sorted.{IsNonDecreasingBy};
 ghost use Rattle.reached.specs.Links.{values};
 ghost use Rattle.reach.specs.Opens.{Opens};
-ghost use Rattle.reach.specs.Ranges.{IsIn, IsInOne, IsOpen, AreFilled, AreApart, AreBegunBy, LastReaches};
+ghost use Rattle.reach.specs.Ranges.{IsIn, IsInOne, IsOpen, AreFilled, AreApart};
+ghost use Rattle.reach.specs.Merging.{AreBegunBy, LastReaches};
 
 use crate::question::allows;
 use crate::range::Range;

@@ -40,7 +40,7 @@ impl<C: CapRep> Reach<C> {
         Ok(Reach { members })
     }
 
-    /// The reachable capabilities, each with where it was found: behind the member that opened its place, but for the roots.
+    /// The reachable capabilities, each with where it was found: after the member that opened its place, but for the roots.
     pub fn members(&self) -> &[Member<C>]
         ensures { result.now ≡ self.now }
     {

@@ -1,7 +1,7 @@
 use Rattle.std.proofs.Common.{◌<◌, map, length, sym, ◌∙◌, arith}
 use Rattle.std.proofs.lemmas.Bool.{false≢true}
 use Rattle.std.proofs.lemmas.List.{length-map}
-use Rattle.reach.specs.Opens.{Answers}
+use Rattle.reach.specs.Questions.{Answers}
 use Rattle.reach.proofs.Places.{below-more, first-here, none-all}
 use Rattle.reach.proofs.first.first.Goals as goal
 

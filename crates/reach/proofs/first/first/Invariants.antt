@@ -1,5 +1,5 @@
 use Rattle.std.proofs.Common.{map}
-use Rattle.reach.specs.Opens.{Answers}
+use Rattle.reach.specs.Questions.{Answers}
 use Rattle.reach.proofs.Places.{HoldsBelow}
 use Rattle.reach.proofs.first.first.Given as goal
 

@@ -1,7 +1,7 @@
 use Rattle.std.proofs.Common.{◌≡◌, ℕ, ◌-◌, ◌<◌, ◌≤◌, length, get_or, max, ap, refl, sym, subst, ◌∙◌, arith}
 use Rattle.std.proofs.lemmas.List.{get_or_default}
 use Rattle.reach.specs.declared.range.Range.{Range}
-use Rattle.reach.specs.Ranges.{LastReaches}
+use Rattle.reach.specs.Merging.{LastReaches}
 use Rattle.reach.proofs.Merging.{in_one-grown, grown-in_one}
 use Rattle.reach.proofs.ranges.add_range.Goals as goal
 

@@ -1,7 +1,8 @@
 use Rattle.std.proofs.Common.{ℕ, ◌<◌, take, length, get_or}
 use Rattle.std.specs.Prelude.{◌↔◌}
 use Rattle.reach.specs.declared.range.Range.{Range}
-use Rattle.reach.specs.Ranges.{IsInOne, AreApart, AreBegunBy}
+use Rattle.reach.specs.Ranges.{IsInOne, AreApart}
+use Rattle.reach.specs.Merging.{AreBegunBy}
 use Rattle.reach.proofs.ranges.merged.Given as goal
 
 abbrev pub invariant-loop-range : goal.invariant-loop-range
