@@ -1,0 +1,6 @@
+pub mod Places
+pub mod Merging
+pub mod Reaches
+pub mod Meaning
+pub mod Unsealing
+pub mod Determined

@@ -1,0 +1,92 @@
+-- What is reached from the roots of a state is what is reachable in it.
+use Rattle.std.proofs.Common.{◌≡◌, ℕ, ◌<◌, true, List, [], ◌∷◌, length, get_or, zero, suc, sym, ap, ◌∙◌, subst, arith, inl, inr}
+use Rattle.std.proofs.lemmas.Bool.{false≢true, cases_lt}
+use Rattle.std.proofs.lemmas.List.{get_or_default, get_or_past}
+use Rattle.std.proofs.lemmas.List.Elements.{Contains-append_left, Contains-append_right, Contains-append_cases, Contains-get_or}
+use Rattle.std.specs.List.{Contains}
+use Rattle.cap_bounds.specs.CapValue.{CapValue, is_tagged}
+use Rattle.tagged_memory.specs.Memory.{Memory}
+use Rattle.registers.specs.Registers.{null}
+use Rattle.hart.specs.State.{State}
+use Rattle.authority.specs.Reachable.{IsRoot, in_register, in_pcc, in_ddc, IsSpecial, in_mtcc, in_mtdc, in_mscratchc, in_mepcc}
+use Rattle.authority.specs.Reachable.{IsReachable, from_root as reachable-root, from_special as reachable-special}
+use Rattle.authority.specs.Reachable.{from_granule as reachable-granule}
+use Rattle.reached.specs.Links.{AreLinked}
+use Rattle.reached.specs.Reached.{IsReachedFrom, from_root, from_special, from_granule}
+use Rattle.reached.specs.declared.member.Member.{Member}
+use Rattle.reach.specs.Reach.{AreReachable, roots_of, specials_of}
+
+root_there : (s : State) (v : CapValue) → Contains (roots_of s) v → IsRoot s v
+root_there s v there = elim (Contains-append_cases s.registers (s.scrs.pcc ∷ s.scrs.ddc ∷ []) v there) [
+  | inl in_registers ↦ in_register in_registers.0 (sym in_registers.2 ∙ get_or_default s.registers in_registers.0 v null in_registers.1)
+  | inr last ↦ one_of_two last.0 last.1 last.2
+]
+  where
+    one_of_two : (k : ℕ) → k < 2 → get_or (s.scrs.pcc ∷ s.scrs.ddc ∷ []) k v ≡ v → IsRoot s v
+    one_of_two zero below same = in_pcc (sym same)
+    one_of_two (suc zero) below same = in_ddc (sym same)
+    one_of_two (suc (suc k)) below same = absurd (omega arith)
+
+there_root : (s : State) (v : CapValue) → is_tagged v ≡ true → IsRoot s v → Contains (roots_of s) v
+there_root s v tagged (in_register n same) = elim (cases_lt n (length s.registers)) [
+  | inl below ↦ Contains-append_left s.registers (s.scrs.pcc ∷ s.scrs.ddc ∷ []) v
+      (subst (Contains s.registers) (sym same) (Contains-get_or s.registers n null below))
+  | inr past ↦ absurd (false≢true (sym (ap is_tagged (same ∙ get_or_past s.registers n null past)) ∙ tagged))
+]
+there_root s v tagged (in_pcc same) = Contains-append_right s.registers (s.scrs.pcc ∷ s.scrs.ddc ∷ []) v (0, omega arith, sym same)
+there_root s v tagged (in_ddc same) = Contains-append_right s.registers (s.scrs.pcc ∷ s.scrs.ddc ∷ []) v (1, omega arith, sym same)
+
+special_there : (s : State) (v : CapValue) → Contains (specials_of s.scrs) v → IsSpecial s v
+special_there s v there = one_of_four there.0 there.1 there.2
+  where
+    one_of_four : (k : ℕ) → k < 4 → get_or (specials_of s.scrs) k v ≡ v → IsSpecial s v
+    one_of_four zero below same = in_mtcc (sym same)
+    one_of_four (suc zero) below same = in_mtdc (sym same)
+    one_of_four (suc (suc zero)) below same = in_mscratchc (sym same)
+    one_of_four (suc (suc (suc zero))) below same = in_mepcc (sym same)
+    one_of_four (suc (suc (suc (suc k)))) below same = absurd (omega arith)
+
+there_special : (s : State) (v : CapValue) → IsSpecial s v → Contains (specials_of s.scrs) v
+there_special s v (in_mtcc same) = (0, omega arith, sym same)
+there_special s v (in_mtdc same) = (1, omega arith, sym same)
+there_special s v (in_mscratchc same) = (2, omega arith, sym same)
+there_special s v (in_mepcc same) = (3, omega arith, sym same)
+
+reachable-reached : (s : State) (v : CapValue) → IsReachedFrom (roots_of s) (specials_of s.scrs) s.memory v → IsReachable s v
+reachable-reached s v (from_root tagged there) = reachable-root tagged (root_there s v there)
+reachable-reached s v (from_special {c = c} before opens tagged there) =
+    reachable-special (reachable-reached s c before) opens tagged (special_there s v there)
+reachable-reached s v (from_granule {c = c} granule before opens here) =
+    reachable-granule granule (reachable-reached s c before) opens (record { tagged = here.tagged; value = here.value })
+
+reached-reachable : (s : State) (v : CapValue) → IsReachable s v → IsReachedFrom (roots_of s) (specials_of s.scrs) s.memory v
+reached-reachable s v (reachable-root tagged root) = from_root tagged (there_root s v tagged root)
+reached-reachable s v (reachable-special {c = c} before opens tagged special) =
+    from_special (reached-reachable s c before) opens tagged (there_special s v special)
+reached-reachable s v (reachable-granule {c = c} granule before opens here) =
+    from_granule granule (reached-reachable s c before) opens (record { tagged = here.tagged; value = here.value })
+
+-- what a search over a state's roots, special registers and memory finds
+module _ (s : State) (roots specials : List CapValue) (m : Memory) (same_roots : roots ≡ roots_of s)
+    (same_specials : specials ≡ specials_of s.scrs) (same_memory : m ≡ s.memory) where
+  -- is what is reachable
+  pub reach_of_search : (vs : List CapValue) → ((v : CapValue) → Contains vs v → IsReachedFrom roots specials m v)
+      → ((v : CapValue) → IsReachedFrom roots specials m v → Contains vs v) → AreReachable s vs
+  reach_of_search vs sound complete = record {
+    sound = λ v there. reachable-reached s v
+        (subst (λ n. IsReachedFrom (roots_of s) (specials_of s.scrs) n v) same_memory
+        (subst (λ x. IsReachedFrom (roots_of s) x m v) same_specials
+        (subst (λ r. IsReachedFrom r specials m v) same_roots (sound v there))));
+    complete = λ v reachable. complete v
+        (subst (λ r. IsReachedFrom r specials m v) (sym same_roots)
+        (subst (λ x. IsReachedFrom (roots_of s) x m v) (sym same_specials)
+        (subst (λ n. IsReachedFrom (roots_of s) (specials_of s.scrs) n v) (sym same_memory) (reached-reachable s v reachable))));
+  }
+
+  -- and each has its link
+  pub links_of_search : {X : Type 0} (value : X → CapValue) (members : List (Member X)) → AreLinked value roots specials m members
+      → AreLinked value (roots_of s) (specials_of s.scrs) s.memory members
+  links_of_search value members linked =
+      subst (λ n. AreLinked value (roots_of s) (specials_of s.scrs) n members) same_memory
+      (subst (λ x. AreLinked value (roots_of s) x m members) same_specials
+      (subst (λ r. AreLinked value r specials m members) same_roots linked))

@@ -1,0 +1,11 @@
+use Rattle.reach.proofs.Meaning.{store-opens, opens-store, byte-opens, opens-byte, granule-opens}
+use Rattle.reach.proofs.laws.rights_open_their_bytes.Goals as goal
+
+pub returns-clause-store : goal.returns-clause-store
+returns-clause-store c = λ v a. (opens-store v a, store-opens v a)
+
+pub returns-clause-byte : goal.returns-clause-byte
+returns-clause-byte c = λ v a. (byte-opens v a, opens-byte v a)
+
+pub returns-clause-granule : goal.returns-clause-granule
+returns-clause-granule c = granule-opens

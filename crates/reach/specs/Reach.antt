@@ -1,0 +1,26 @@
+-- The reach of a state.
+use Rattle.std.specs.Prelude.{List, [], ◌∷◌, ◌++◌, Contains}
+use Rattle.cap_bounds.specs.CapValue.{CapValue}
+use Rattle.cap_rights.specs.Rights.{IsInRightsOf}
+use Rattle.special_regs.specs.Scrs.{Scrs}
+use Rattle.hart.specs.State.{State}
+use Rattle.authority.specs.Reachable.{IsReachable}
+
+-- where a search begins: the 32 registers, PCC and DDC
+abbrev pub roots_of : State → List CapValue
+roots_of s = s.registers ++ (s.scrs.pcc ∷ s.scrs.ddc ∷ [])
+
+-- what Access_System_Registers guards
+abbrev pub specials_of : Scrs → List CapValue
+specials_of x = x.mtcc ∷ x.mtdc ∷ x.mscratchc ∷ x.mepcc ∷ []
+
+-- the values are those that are reachable in a state, no more and no fewer
+pub record AreReachable (s : State) (vs : List CapValue) : Type 0 where
+  pub sound : (v : CapValue) → Contains vs v → IsReachable s v
+  pub complete : (v : CapValue) → IsReachable s v → Contains vs v
+
+-- the value is within the rights of one of the values
+pub record IsWithinOne (vs : List CapValue) (v : CapValue) : Type 0 where
+  pub source : CapValue
+  pub is_one : Contains vs source
+  pub within : IsInRightsOf v source
