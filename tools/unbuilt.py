@@ -35,6 +35,8 @@ shift 2
 cd {own} && exec {program} "$@"
 """
 SECONDS = 600
+# How much of what differs is said.
+SHOWN = 400
 
 
 def listed():
@@ -84,9 +86,9 @@ def stand_in(room, program):
 
 def is_same(command, wanted, came):
     """Whether a command did what the program does; says it if not."""
-    for what, left, right in zip(("the status", "standard output", "the files"), wanted, came):
+    for what, left, right in zip(("status", "standard output", "files"), wanted, came):
         if left != right:
-            print(f"{command}: {what} isn't that of the program\nwanted {left}\ncame   {right}")
+            print(f"{command}: not the program's {what}\nwanted {str(left)[:SHOWN]}\ncame   {str(right)[:SHOWN]}")
             return False
     return True
 
