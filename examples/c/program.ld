@@ -1,8 +1,8 @@
-/* A flat program for 16 pages of RAM (`cherisim image --pages 16`): _start is its first byte, and the stack begins at the end of RAM. */
+/* A flat program for 256 pages of RAM, those of `cherisim image`: _start is its first byte, and the stack begins at the end of RAM. */
 OUTPUT_ARCH(riscv)
 ENTRY(_start)
 
-MEMORY { RAM : ORIGIN = 0x80000000, LENGTH = 16 * 4096 }
+MEMORY { RAM : ORIGIN = 0x80000000, LENGTH = 256 * 4096 }
 
 /* what is loaded, with the permissions that the linker writes down (1 execute, 2 write, 4 read) */
 PHDRS { code PT_LOAD FLAGS(5); data PT_LOAD FLAGS(6); }

@@ -121,7 +121,7 @@ def shown(base, length, address):
     return "".join(f"{line}\n" for line in bounds_text(base, length, address))
 
 
-def flat_image(data, pages=1, at=RAM, entry=RAM, mode=0, version=1):
+def flat_image(data, pages=256, at=RAM, entry=RAM, mode=0, version=1):
     """The file of an image of one section, with no capability."""
     file = header(pages, entry, 1, mode) + section(at, data)
     if version == 1:
@@ -181,6 +181,10 @@ def not_begun():
         yield refused(words, [FILE, TEXT])
     yield "# a file that is written over another of the command is refused before anything is opened"
     for words in ("asm a.s a.s", "asm a.s a.img --symbols a.s", "asm a.s a.img --symbols a.img", "image first.img first.img"):
+        yield refused(words, [FILE, TEXT])
+    yield "# by whichever name it is called, and be it there or not"
+    for words in ("asm a.s ./a.s", "asm a.s a.img --symbols ././a.s", "asm a.s a.img --symbols ./a.img", "image first.img ./first.img",
+                  "run first.img 5 --trace ./first.img", "run first.img 5 --input a.s --trace ./a.s"):
         yield refused(words, [FILE, TEXT])
     yield "# help is sent"
     for words in ("--help", "help", "run --help", "help image"):
@@ -247,13 +251,16 @@ def traces():
 
 
 def images():
-    yield "# an image of the bytes of a file: of one page at RAM's beginning, or where the options say"
+    yield "# an image of the bytes of a file: at RAM's beginning in 256 pages or as many more as hold it, or where the options say"
     flat = b"\x13\0\0\0\x93"
     file = f"flat {quoted(flat)}"
     opened = "open flat, make out.img"
     yield case("image flat out.img", [file], 0, opened, made=flat_image(flat))
     yield case("image flat out.img --pages 2 --mode 1", [file], 0, opened, made=flat_image(flat, 2, mode=1))
-    yield case("image flat out.img --at 0x80000ffc", [file], 0, opened, made=flat_image(flat, 2, RAM + 4092, RAM + 4092))
+    yield case("image flat out.img --pages 1", [file], 0, opened, made=flat_image(flat, 1))
+    last = RAM + 256 * 4096 - 4
+    yield case(f"image flat out.img --at {last - 1} --entry {RAM}", [file], 0, opened, made=flat_image(flat, 256, last - 1))
+    yield case(f"image flat out.img --at {last:#x}", [file], 0, opened, made=flat_image(flat, 257, last, last))
     yield case("image flat out.img --at 2147487740 --entry 0x80000008 --pages 3", [file], 0, opened,
                made=flat_image(flat, 3, RAM + 4092, RAM + 8))
     yield case("image flat out.img --pages 4097", [file], 0, opened, made=flat_image(flat, 4097, version=2))
@@ -317,7 +324,9 @@ def tables_refused(table):
     yield "# the table is read after the image, and refused as that of a listing"
     for wrong, line in ((table.replace(" halt", "  halt"), 2), (table.replace(" start", " 80000000"), 1),
                         (table.replace("C halt", "C h:"), 2),
-                        ('t "start 0000000080000000"', 1), ('t "\\n"', 1)):
+                        ('t "start 0000000080000000"', 1), ('t "\\n"', 1), ('t "80000000 T start"', 1),
+                        (table.replace(" start", " T\\tstart"), 1), (table.replace(" halt", " TT halt"), 2),
+                        ('t "                 U start\\n                 U"', 2), ('t "                  U start"', 1)):
         yield case("debug first.img --symbols t", [FILE, wrong], 3, "open first.img, open t",
                    told=f"cherisim: line {line}: no address and label\n  t:{line}\n")
     yield case("debug first.img --symbols none", [FILE], 3, "open first.img, open none",
@@ -340,6 +349,19 @@ def named():
     yield case("dis first.img --symbols t", [FILE, table], 0, "open first.img, open t",
                "".join(["start:\n", *lines[:3], "halt:\n", *lines[3:]]))
     yield case("dis first.img --symbols t", [FILE, 't ""'], 0, "open first.img, open t", LISTED)
+    yield "# a table may be what nm prints, in any order: what is no label there, and what has no address, is passed over"
+    nm = quoted(b"000000008000000c T halt\n                 U printf\n0000000080000004 D __global_pointer$\n                 w _\n"
+                b"0000000080000000 t start\n0000000080000004 t \n0000000080000000 T begin\n")
+    yield case("dis first.img --symbols t", [FILE, f"t {nm}"], 0, "open first.img, open t",
+               "".join(["start:\n", *lines[:3], "halt:\n", *lines[3:]]))
+    yield case("debug first.img --symbols t", [FILE, f"t {nm}", 'input "mem halt 1\\nmem printf 1"'], 0, "open first.img, open t",
+               "000000008000000c: b7\nfault B2\n")
+    yield "# in whichever order a table stands, a place is that of the nearest address below, and of an address' names the first"
+    jumps = f"jumps.img {quoted(image(0x00c0006f, 0x13, 0x13, 0xffdff06f))}"
+    unsorted = 't "0000000080000008 b\\n0000000080000000 a\\n0000000080000008 c\\n0000000080000010 d\\n0000000080000000 e\\n"'
+    yield case("dis jumps.img --symbols t", [jumps, unsorted], 0, "open jumps.img, open t",
+               "a:\n0000000080000000 00c0006f jal zero, .+12 <b+4>\n0000000080000004 00000013 addi zero, zero, 0\n"
+               "b:\n0000000080000008 00000013 addi zero, zero, 0\n000000008000000c ffdff06f jal zero, .-4 <b>\n")
     yield case("dis first.img --symbols t", [FILE, table.replace(" halt", "  halt")], 3, "open first.img, open t",
                told="cherisim: line 2: no address and label\n  t:2\n")
     yield case("dis first.img --symbols none", [FILE], 3, "open first.img, open none",

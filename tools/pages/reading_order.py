@@ -46,7 +46,7 @@ REST = [
     ("sessions", "debug_commands/specs/Command; debugger/specs/SessionState, Reply, Answers, Conversation, Talk"),
     ("the command line and runs on a schedule",
      "command_line/specs/CommandLine; sim_run/specs/Schedule, Trace, Verdict, Ending, Listing"),
-    ("what commands do with files", "commands/specs/Files, Assembling, Imaging, Listing, Running, Debugging, Carrying"),
+    ("what commands do with files", "commands/specs/Files, Assembling, Imaging, Listing, Running, Debugging, Overwriting, Carrying"),
     ("capabilities and the machine for C", "c_types/specs/Halves, Words; cheri_c/specs/Insns; cherisim_c/specs/Status, Made, Running"),
 ]
 

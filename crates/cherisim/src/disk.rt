@@ -3,6 +3,7 @@
 use commands::Folder;
 use std::fs::{self, File};
 use std::io;
+use std::os::unix::fs::MetadataExt;
 
 /// The files of the host, by their paths. What they hold is known to no clause.
 #[derive(Clone, Copy)]
@@ -17,10 +18,45 @@ impl<'a> Disk<'a> {
     }
 }
 
+/// The folder of a file's name, and its name there.
+fn parted(name: &str) -> (&str, &str) {
+    match name.rsplit_once('/') {
+        Some(("", last)) => ("/", last),
+        Some((folder, last)) => (folder, last),
+        None => (".", name),
+    }
+}
+
+impl Disk<'_> {
+    /// Whether two names of files that aren't there are one name in one folder.
+    fn is_same_place(&self, name: &str, other: &str) -> bool {
+        let (name, other) = (parted(name), parted(other));
+        name.1 == other.1
+            && match (
+                fs::metadata(self.rt, name.0),
+                fs::metadata(self.rt, other.0),
+            ) {
+                (Ok(one), Ok(two)) => one.dev() == two.dev() && one.ino() == two.ino(),
+                _ => false,
+            }
+    }
+}
+
 impl Folder for Disk<'_> {
     type Opened = File;
 
     type Made = File;
+
+    fn is_same(&self, name: &str, other: &str) -> bool {
+        match (fs::metadata(self.rt, name), fs::metadata(self.rt, other)) {
+            // Nothing of a device, as /dev/null, is lost.
+            (Ok(one), Ok(two)) => {
+                one.is_file() && one.dev() == two.dev() && one.ino() == two.ino()
+            }
+            (Err(_), Err(_)) => self.is_same_place(name, other),
+            _ => false,
+        }
+    }
 
     fn open(&self, name: &str) -> io::Result<File> {
         // The system opens a directory, and refuses to read it.

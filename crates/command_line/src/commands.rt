@@ -17,7 +17,7 @@ const EXAMPLE: &str = "Examples:
       assembles the text hello.s, and writes the image to hello.img
   cherisim run hello.img 1000 --input keys.txt --gap 50
       runs hello.img for at most 1000 steps, and gives it a byte of keys.txt every 50 steps
-  cherisim image hello.bin hello.img --pages 16
+  cherisim image hello.bin hello.img
       makes an image of the bytes of hello.bin, from RAM's first address on
   cherisim dis hello.img
       lists hello.img: for each word its address, its number and its instruction
@@ -26,7 +26,8 @@ const EXAMPLE: &str = "Examples:
   cherisim bounds 0x80000000 0x1001
       says what setting these bounds gives
 
-Without a command the program runs a first image of five instructions, which prints A.
+Without a command the program runs a first image of five instructions, which prints A; with
+--version alone it prints its version.
 
 The status is 0 where all went well, for `run` where the machine halted with 0; 1 where `run` ended
 otherwise; 2 for a command line that is no command; 3 for any other fault.";
@@ -70,7 +71,8 @@ fn with_layout<'a>(alloc: Global, image: Command<'a>) -> Result<Command<'a>, All
 {
     let at = "The address of the first byte, by default 0x80000000";
     let entry = "The address of the first instruction, by default that of the first byte";
-    let pages = "Pages of 4096 bytes of RAM, 1 to 65536; by default the fewest that hold the bytes";
+    let pages =
+        "Pages of 4096 bytes of RAM, 1 to 65536; by default 256, or as many more as hold the bytes";
     let mode = "0 for integer mode, the default, and 1 for capability mode";
     let image = with_argument(image, named(alloc, "at", "ADDRESS", at))?;
     let image = with_argument(image, named(alloc, "entry", "ADDRESS", entry))?;

@@ -5,7 +5,7 @@ pub struct Layout {
     pub at: Option<u64>,
     /// The address of the first instruction; by default that of the first byte.
     pub entry: Option<u64>,
-    /// How many pages of 4096 bytes RAM has; by default the fewest that hold the bytes.
+    /// How many pages of 4096 bytes RAM has; by default 256, or as many more as hold the bytes.
     pub pages: Option<u64>,
     /// The encoding mode, 0 for integer and 1 for capability; by default 0.
     pub mode: Option<u64>,

@@ -11,7 +11,7 @@ use Rattle.image.specs.declared.fault.ImageFault.{ImageFault}
 use Rattle.image.specs.declared.fault.ImageFault.TheVariants.{L4, L6, L11}
 use Rattle.image.specs.Image.{Image, Section, Builds, build_fault, image_of, is_version, is_good_header}
 use Rattle.image.specs.ImageLaws.{header_ranges}
-use Rattle.commands.specs.Imaging.{given, fewest_pages, most_read, header_number, version_of, flat_sections, flat_fault, at_of, entry_of}
+use Rattle.commands.specs.Imaging.{given, default_pages, most_read, header_number, version_of, flat_sections, flat_fault, at_of, entry_of}
 use Rattle.commands.specs.Imaging.{mode_of, pages_of, fault_for, image_for, IsFlatFault, MakesImage}
 use Rattle.commands.specs.Files.{File, Gains, whole, IsOfSystem}
 use Rattle.commands.specs.declared.fault.ProgramFault.{ProgramFault}
@@ -74,17 +74,17 @@ too_large v pages entry mode at bytes version good large =
     rw (version, good, outside) refl
 
 -- where even the bytes that are read are too many, so are all pages
-pub full : (at count : ℕ) → most_pages * page_bytes < count → fewest_pages at count ≡ most_pages
+pub full : (at count : ℕ) → most_pages * page_bytes < count → default_pages at count ≡ most_pages
 full at count large = omega arith
 
 pub pages_same : (at count : ℕ) (named : Option ℕ) → most_read named ≤ count
-    → given (fewest_pages at count) named ≡ given (fewest_pages at (most_read named)) named
+    → given (default_pages at count) named ≡ given (default_pages at (most_read named)) named
 pages_same at count None large = full at count (omega (arith, large)) ∙ sym (full at (most_read None) (omega arith))
 pages_same at count (Some pages) large = refl
 
 -- more bytes are read than so many pages have room for
-pub read_enough : (at count : ℕ) (named : Option ℕ) → given (fewest_pages at count) named ≤ most_pages
-    → page_bytes * given (fewest_pages at count) named < most_read named
+pub read_enough : (at count : ℕ) (named : Option ℕ) → given (default_pages at count) named ≤ most_pages
+    → page_bytes * given (default_pages at count) named < most_read named
 read_enough at count None few = omega (arith, few)
 read_enough at count (Some pages) few = rw (min_small pages most_pages few) (omega arith)
 

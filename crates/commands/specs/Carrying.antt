@@ -1,5 +1,5 @@
 -- The status of a command line that was carried out, and what then holds of its files.
-use Rattle.std.specs.Prelude.{◌≡◌, ◌≤◌, ℕ, List, Option, IfSome, Bool, false, bytes_eq, codes, [], ◌∷◌}
+use Rattle.std.specs.Prelude.{◌≡◌, ◌≤◌, ℕ, List, Option, IfSome, Bool, true, false, bytes_eq, codes, [], ◌∷◌}
 use Rattle.command_line.specs.declared.plans.Plan.{Plan}
 use Rattle.command_line.specs.declared.plans.Plan.TheVariants.{Asm, Image, Run, Dis, Debug, Bounds, First}
 use Rattle.clap.specs.Words.{subcommand_of}
@@ -12,6 +12,7 @@ use Rattle.commands.specs.Files.{File, Text, bytes_of}
 use Rattle.commands.specs.Assembling.{Assembles}
 use Rattle.commands.specs.Imaging.{MakesImage}
 use Rattle.commands.specs.Listing.{ListsFile}
+use Rattle.commands.specs.Overwriting.{Overwrites, Sameness}
 use Rattle.commands.specs.Running.{RunsFile}
 
 -- 0 for what was done, and of a run what its end comes to
@@ -40,10 +41,17 @@ abbrev pub asks_version : List Text → Bool
 asks_version (name ∷ word ∷ []) = bytes_eq word (codes "--version")
 asks_version words = false
 
--- The words are a plan, which was carried out with this status.
-abbrev pub IsCarriedOut : List Text → Option (List ℕ) → Option (List File) → Option (List File) → ℕ → Type 0
-IsCarriedOut words sent old new status =
-    (plan : Plan) × IsTaken words × IsPlanOf (subcommand_of program words) plan × IsSound plan × HasStatus plan sent old new status
+-- The words are a plan, which writes no file over another of its own where it is known which names lead to one file, and was carried
+-- out with this status.
+abbrev pub IsCarriedOut : List Text → Option Sameness → Option (List ℕ) → Option (List File) → Option (List File) → ℕ → Type 0
+IsCarriedOut words same sent old new status =
+    (plan : Plan) × IsTaken words × IsPlanOf (subcommand_of program words) plan × IsSound plan × Overwrites same plan false
+    × HasStatus plan sent old new status
+
+-- The words are a plan that would write a file over another of its own, and no file is written.
+abbrev pub IsKept : List Text → Option Sameness → Option (List File) → Option (List File) → Type 0
+IsKept words same old new =
+    (plan : Plan) × IsTaken words × IsPlanOf (subcommand_of program words) plan × Overwrites same plan true × (new ≡ old)
 
 -- Clap doesn't take the words, or nothing that it finds in them is a sound plan.
 abbrev pub IsRefused : List Text → Type 0

@@ -15,9 +15,9 @@ abbrev pub given : ℕ → Option ℕ → ℕ
 given default None = default
 given default (Some number) = number
 
--- the fewest pages, one at least and no more than there can be, that hold so many bytes from an address on
-abbrev pub fewest_pages : ℕ → ℕ → ℕ
-fewest_pages at count = min most_pages (max 1 ((at - ram_base + count + (page_bytes - 1)) / page_bytes))
+-- 256 pages, or as many more as hold so many bytes from an address on, but no more than there can be
+abbrev pub default_pages : ℕ → ℕ → ℕ
+default_pages at count = min most_pages (max 256 ((at - ram_base + count + (page_bytes - 1)) / page_bytes))
 
 -- Of a flat file a byte more is read than RAM has room for.
 abbrev pub most_read : Option ℕ → ℕ
@@ -41,7 +41,7 @@ abbrev pub flat_fault : ℕ → ℕ → ℕ → ℕ → List ℕ → Option Imag
 flat_fault pages entry mode at bytes = build_fault (version_of pages) pages entry mode (flat_sections at bytes) []
 
 -- What stands for a number that isn't named: for the address of the first byte that of RAM's first, for the first instruction that of the
--- first byte, for the mode integer mode, and for the pages the fewest that hold the bytes.
+-- first byte, for the mode integer mode, and for the pages 256 or as many more as hold the bytes.
 abbrev pub at_of : Layout → ℕ
 at_of layout = given ram_base layout.at
 
@@ -52,7 +52,7 @@ abbrev pub mode_of : Layout → ℕ
 mode_of layout = given 0 layout.mode
 
 abbrev pub pages_of : Layout → ℕ → ℕ
-pages_of layout count = given (fewest_pages (at_of layout) count) layout.pages
+pages_of layout count = given (default_pages (at_of layout) count) layout.pages
 
 abbrev pub image_for : Layout → List ℕ → Image
 image_for layout bytes = flat_image (pages_of layout (length bytes)) (entry_of layout) (mode_of layout) (at_of layout) bytes

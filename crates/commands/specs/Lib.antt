@@ -5,4 +5,5 @@ pub mod Imaging
 pub mod Listing
 pub mod Running
 pub mod Debugging
+pub mod Overwriting
 pub mod Carrying

@@ -4,7 +4,8 @@ ghost use Rattle.command_line.specs.CommandLine.{AreInRange, IsSound};
 ghost use Rattle.std.specs.Prelude.{◌≡◌, ◌≤◌, ◌⊎◌, false, true, map, IfOk};
 ghost use Rattle.sim_run.specs.Schedule.{IsInRange};
 ghost use Rattle.sim_run.specs.Verdict.{status_of as status_of_run};
-ghost use Rattle.commands.specs.Carrying.{HasStatus, IsCarriedOut, IsRefused, asks_version, status_of_done};
+ghost use Rattle.commands.specs.Carrying.{HasStatus, IsCarriedOut, IsKept, IsRefused, asks_version, status_of_done};
+ghost use Rattle.commands.specs.Overwriting.{Overwrites};
 
 use crate::assembling::assemble_file;
 use crate::bounding::show_bounds;
@@ -13,6 +14,7 @@ use crate::fault::ProgramFault;
 use crate::files::Folder;
 use crate::imaging::image_file;
 use crate::listing::list_file;
+use crate::overwriting::overwrites;
 use crate::running::{Ended, run_file, run_first};
 use command_line::{Plan, PlanFault, plan};
 use image::DeviceFailed;
@@ -25,6 +27,9 @@ const REFUSED: u8 = 2;
 
 /// The status of another fault.
 pub const FAULT: u8 = 3;
+
+/// What is told of a command that would write a file over another of its own.
+const SAME_FILE: &str = "error: a file that is written cannot be another file of the command\n";
 
 /// What `--version` writes.
 const VERSION: &str = "cherisim 0.1.0\n";
@@ -152,6 +157,27 @@ fn carry<'a, F: Folder, I: Read + Drop, O: Write + Drop, E: Write>(
     }
 }
 
+/// Does what the plan says, unless a file would be written over another of the command, and answers the status.
+fn carry_apart<'a, F: Folder, I: Read + Drop, O: Write + Drop, E: Write>(
+    alloc: Global,
+    folder: &mut F,
+    input: I,
+    output: O,
+    errors: &mut E,
+    plan: Plan<'a>,
+) -> u8
+    requires { IsSound plan }
+    ensures done { result ≤ 1 → HasStatus plan.entry (O.contents output) (F.files folder.old) (F.files folder.new) result }
+    ensures apart { result ≤ 1 → Overwrites (F.same folder.old) plan.entry false }
+    ensures refused { result ≡ 2 → Overwrites (F.same folder.old) plan.entry true × (F.files folder.new ≡ F.files folder.old) }
+    ensures most { result ≤ 3 }
+{
+    if overwrites(folder, plan) {
+        return refuse(errors, SAME_FILE);
+    }
+    carry(alloc, folder, input, output, errors, plan)
+}
+
 /// Whether the words ask for the version alone.
 fn asks_version(words: &[&str]) -> bool
     ensures { result ≡ asks_version (map (λ word. word.now) words.entry.now) }
@@ -193,7 +219,8 @@ fn tell_no_plan<O: Write + Drop, E: Write>(output: O, errors: &mut E, fault: Pla
 /// from `input`, what is sent, listed, answered or helped with to `output`, and what is told of refusals, faults and ends to `errors`.
 ///
 /// Answers the status: 0 for what was done, the version shown among it, and of a run where the machine halted with 0; 1 for a run
-/// that ended otherwise; 2 for a command line that was refused or asks for help; 3 for another fault.
+/// that ended otherwise; 2 for a command line that was refused or asks for help, and where a file would be written over another of the
+/// command; 3 for another fault.
 pub fn status_of<F: Folder, I: Read + Drop, O: Write + Drop, E: Write>(
     alloc: Global,
     folder: &mut F,
@@ -205,16 +232,18 @@ pub fn status_of<F: Folder, I: Read + Drop, O: Write + Drop, E: Write>(
     ensures version { asks_version (map (λ word. word.now) words.entry.now) ≡ true → (result ≡ 0) ⊎ (result ≡ 3) }
     // At 0 and 1 a plan that the words are was carried out wholly.
     ensures done { asks_version (map (λ word. word.now) words.entry.now) ≡ false → result ≤ 1
-        → IsCarriedOut (map (λ word. word.now) words.entry.now) (O.contents output) (F.files folder.old) (F.files folder.new) result }
-    // At 2 clap doesn't take the words, or finds no sound plan in them.
-    ensures refused { result ≡ 2 → IsRefused (map (λ word. word.now) words.entry.now) }
+        → IsCarriedOut (map (λ word. word.now) words.entry.now) (F.same folder.old) (O.contents output) (F.files folder.old)
+        (F.files folder.new) result }
+    // At 2 clap doesn't take the words, or finds no sound plan in them, or a file would be written over another of the command.
+    ensures refused { result ≡ 2 → IsRefused (map (λ word. word.now) words.entry.now)
+        ⊎ IsKept (map (λ word. word.now) words.entry.now) (F.same folder.old) (F.files folder.old) (F.files folder.new) }
     ensures most { result ≤ 3 }
 {
     if asks_version(words) {
         return show(output, errors, VERSION, 0);
     }
     match plan(alloc, words) {
-        Ok(plan) => carry(alloc, folder, input, output, errors, plan),
+        Ok(plan) => carry_apart(alloc, folder, input, output, errors, plan),
         Err(fault) => tell_no_plan(output, errors, fault),
     }
 }

@@ -4,6 +4,7 @@ ghost use Rattle.std.specs.Prelude.{◌≡◌, List, [], ◌∷◌, Option, None
 ghost use Rattle.image.specs.Grammar.{spelling, reading};
 ghost use Rattle.symbols.specs.Symbols.{faulty_line, symbols_of};
 ghost use Rattle.commands.specs.Files.{File, begun, ended, whole, Gains, IsNew, IsOfSystem, bytes_of};
+ghost use Rattle.commands.specs.Overwriting.{Sameness};
 
 use crate::fault::{ProgramFault, opening_fault, reading_fault};
 use crate::writing::Writing;
@@ -23,6 +24,13 @@ pub trait Folder {
 
     // What became of the files, in order, where that is known: each that was made, and then what it held when it was closed.
     ghost files: { Self → Option (List File) } = { λ _. None };
+
+    // Whether two names lead to one file, where that is known.
+    ghost same: { Self → Option Sameness } = { λ _. None };
+
+    /// Whether two names lead to one file, or will where none is there yet.
+    fn is_same(&self, name: &str, other: &str) -> bool
+        ensures { IfSome (same self.now) (λ same. result ≡ same name.now other.now) };
 
     /// Opens the file of this name for reading; of a directory it answers `IsADirectory`.
     fn open(&self, name: &str) -> io::Result<Self::Opened>

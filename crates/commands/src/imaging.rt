@@ -3,7 +3,7 @@
 ghost use Rattle.std.specs.Prelude.{◌≡◌, IfErr, OnOk, IfSome};
 ghost use Rattle.image.specs.Image.{Builds};
 ghost use Rattle.commands.specs.Files.{bytes_of};
-ghost use Rattle.commands.specs.Imaging.{fault_for, fewest_pages, flat_fault, flat_image, header_number, image_for as image_for_layout};
+ghost use Rattle.commands.specs.Imaging.{default_pages, fault_for, flat_fault, flat_image, header_number, image_for as image_for_layout};
 ghost use Rattle.commands.specs.Imaging.{most_read, IsFlatFault, MakesImage};
 
 use crate::fault::ProgramFault;
@@ -13,6 +13,9 @@ use command_line::Layout;
 use image::{Image, ImageFault};
 use std::alloc::Global;
 
+/// The pages of RAM of an image for which none are said and whose bytes need no more.
+const DEFAULT_PAGES: u64 = 256;
+
 /// How many bytes of a flat file are read: one more than RAM has room for, so that a file that is too large is known by it.
 fn most_bytes(pages: Option<u64>) -> u64
     ensures { result ≡ most_read pages }
@@ -21,13 +24,14 @@ fn most_bytes(pages: Option<u64>) -> u64
     pages.unwrap_or(most).min(most) * ram::PAGE_BYTES + 1
 }
 
-/// The fewest pages of RAM that hold so many bytes from an address on: at least one, and no more than there can be.
-fn fewest_pages(at: u64, count: u64) -> u64
-    ensures { result ≡ fewest_pages at count }
+/// The pages of RAM where none are said: so many that a compiled program has a stack (1 MiB), or as many more as hold so many bytes from
+/// an address on, but no more than there can be.
+fn default_pages(at: u64, count: u64) -> u64
+    ensures { result ≡ default_pages at count }
 {
     let end = at.saturating_sub(ram::BASE).saturating_add(count);
     end.div_ceil(ram::PAGE_BYTES)
-        .clamp(1, u64::from(ram::MOST_PAGES))
+        .clamp(DEFAULT_PAGES, u64::from(ram::MOST_PAGES))
 }
 
 /// A number of an image's header, which has 32 bits; the greatest stands for those beyond it, which are refused as it is.
@@ -64,7 +68,7 @@ fn image_for(alloc: Global, layout: Layout, bytes: &[u8]) -> Result<Image, Image
     let at = layout.at.unwrap_or(ram::BASE);
     let pages = match layout.pages {
         Some(pages) => pages,
-        None => fewest_pages(at, bytes.len() as u64),
+        None => default_pages(at, bytes.len() as u64),
     };
     let entry = layout.entry.unwrap_or(at);
     let mode = layout.mode.unwrap_or(0);

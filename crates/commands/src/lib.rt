@@ -9,6 +9,7 @@ mod fault;
 mod files;
 mod imaging;
 mod listing;
+mod overwriting;
 mod running;
 mod writing;
 

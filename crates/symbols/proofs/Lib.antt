@@ -1,3 +1,4 @@
 mod LineLemmas
+mod PlaceLemmas
 mod TableLemmas
 mod WrittenLemmas

@@ -1,12 +1,12 @@
 -- Lines that are cut off a text, and the digits of an address.
-use Rattle.std.proofs.Common.{◌≡◌, ℕ, zero, suc, ◌+◌, ◌<◌, ◌≤◌, Bool, true, false, ◌&&◌, List, [], ◌∷◌, refl, ap, arith, length, take, drop}
+use Rattle.std.proofs.Common.{◌≡◌, ℕ, zero, suc, ◌+◌, ◌<◌, ◌≤◌, Bool, true, false, ◌&&◌, List, [], ◌∷◌, ◌++◌, refl, ap, arith, length, take, drop}
 use Rattle.std.specs.Prelude.{◌==◌, not, IsTrue}
 use Rattle.std.specs.List.{prefix_len}
 use Rattle.std.specs.Char.{digit_value}
 use Rattle.std.specs.Str.Parse.{AllDigits, digits_value}
 use Rattle.std.proofs.lemmas.Bool.Decides.{nat_tests}
 use Rattle.std.proofs.lemmas.Int.Digits.{digits_value-lt}
-use Rattle.symbols.specs.Symbols.{lines_of, onto_first, is_symbol, is_label, is_hexadecimal_digit}
+use Rattle.symbols.specs.Symbols.{lines_of, onto_first, has_address, is_symbol, is_label, is_hexadecimal_digit, name_of, symbols_in}
 
 -- the length of the first line
 abbrev pub line_length : List ℕ → ℕ
@@ -69,7 +69,7 @@ front_length (suc k) (b ∷ bs) h =
 
 -- 16 digits are a number of 64 bits
 pub address_fits : (line : List ℕ) → IsTrue (is_symbol line) → digits_value 16 (take 16 line) < 18446744073709551616
-unfolding is_symbol
+unfolding is_symbol has_address
 address_fits line h =
     let count : prefix_len is_hexadecimal_digit line ≡ 16 = grind (arith, nat_tests) in
     let below = digits_value-lt 16 (take 16 line) (digits_in_front 16 line (omega (arith, count))) in
@@ -80,7 +80,15 @@ and_right true b h = h
 and_right false true h = refl
 and_right false false h = h
 
--- after the blank there is a label
-pub name_is_label : (line : List ℕ) → IsTrue (is_symbol line) → is_label (drop 17 line) ≡ true
+-- its name is a label
+pub name_is_label : (line : List ℕ) → IsTrue (is_symbol line) → is_label (name_of line) ≡ true
 unfolding is_symbol
-name_is_label line symbol = and_right _ _ (and_right _ _ symbol)
+name_is_label line symbol = and_right _ _ symbol
+
+-- the symbols of a line before those of the others
+pub first_symbols : (line : List ℕ) (lines : List (List ℕ)) → symbols_in (line ∷ lines) ≡ symbols_in (line ∷ []) ++ symbols_in lines
+first_symbols line lines =
+    elim (is_symbol line) as (λ t. is_symbol line ≡ t → symbols_in (line ∷ lines) ≡ symbols_in (line ∷ []) ++ symbols_in lines) [
+      | true ↦ λ e. rw e refl
+      | false ↦ λ e. rw e refl
+    ] refl

@@ -1,7 +1,7 @@
 -- What is written as lines is read as the same symbols.
 use Rattle.std.proofs.Common.{◌≡◌, ℕ, zero, suc, ◌+◌, ◌/◌, ◌%◌, ◌^◌, ◌<◌, Bool, true, false, not, ◌&&◌, List, [], ◌∷◌, ◌++◌, refl, ap}
 use Rattle.std.proofs.Common.{sym, ◌∙◌}
-use Rattle.std.proofs.Common.{append_assoc, arith, length, take, drop, None, map, length-append}
+use Rattle.std.proofs.Common.{append_assoc, arith, length, take, drop, None, length-append}
 use Rattle.std.specs.Prelude.{◌==◌, slice_index}
 use Rattle.std.specs.List.{prefix_len, AllByRecursion}
 use Rattle.std.specs.Char.{digit_value}
@@ -11,8 +11,9 @@ use Rattle.std.proofs.lemmas.Bool.Decides.{nat_tests}
 use Rattle.std.proofs.lemmas.Int.Digits.{digits_value_push}
 use Rattle.asm_lines.specs.Text.{begins_name, continues_name, is_name}
 use Rattle.disassembler.specs.Hex.{hex_of}
-use Rattle.symbols.specs.Symbols.{Symbol, HasLine, symbol_line, symbol_of, symbols_of, table_text, lines_of, is_symbol, is_label}
-use Rattle.symbols.specs.Symbols.{is_hexadecimal_digit, faulty_from, faulty_line}
+use Rattle.symbols.specs.Symbols.{Symbol, HasLine, symbol_line, symbol_of, symbols_in, symbols_of, table_text}
+use Rattle.symbols.specs.Symbols.{faulty_from, faulty_line, has_address, has_letter, is_hexadecimal_digit, is_label, is_line, is_symbol, lines_of}
+use Rattle.symbols.specs.Symbols.{name_of}
 
 -- each byte passes a test
 abbrev every : (ℕ → Bool) → List ℕ → Bool
@@ -131,6 +132,11 @@ and_left : (a b : Bool) → (a && b) ≡ true → a ≡ true
 and_left true b h = refl
 and_left false b h = h
 
+and_right : (a b : Bool) → (a && b) ≡ true → b ≡ true
+and_right true b h = h
+and_right false true h = refl
+and_right false false h = h
+
 label_inside : (name : List ℕ) → is_label name ≡ true → every inside name ≡ true
 unfolding is_label
 label_inside name h = every_weaker continues_name inside name name_inside (is_name_every name (and_left _ _ h))
@@ -139,23 +145,47 @@ label_inside name h = every_weaker continues_name inside name name_inside (is_na
 abbrev written_line : Symbol → List ℕ
 written_line s = hex_of 16 s.address ++ 32 ∷ s.name
 
+at_second : (xs : List ℕ) (y : ℕ) (ys : List ℕ) → slice_index (xs ++ y ∷ ys) (suc (suc (length xs))) ≡ slice_index ys 1
+at_second [] y ys = refl
+at_second (x ∷ xs) y ys = at_second xs y ys
+
+name_solid : (b : ℕ) → continues_name b ≡ true → (b == 32) ≡ false
+name_solid b h = grind (arith, nat_tests)
+
+-- a name has no blank in second place
+second_solid : (name : List ℕ) → every continues_name name ≡ true → (slice_index name 1 == 32) ≡ false
+second_solid [] h = refl
+second_solid (a ∷ []) h = refl
+second_solid (a ∷ b ∷ bs) h =
+    let rest = and_right _ _ h in
+    name_solid b (and_left _ _ rest)
+
+no_letter : (s : Symbol) → HasLine s → has_letter (written_line s) ≡ false
+unfolding has_letter is_label
+no_letter s h =
+    let n = digits_length 16 s.address in
+    let at = rw n at (at_second (hex_of 16 s.address) 32 s.name) in
+    rw at (second_solid s.name (is_name_every s.name (and_left _ _ h.name)))
+
 line_is : (s : Symbol) → HasLine s → is_symbol (written_line s) ≡ true
-unfolding is_symbol
+unfolding is_symbol has_address name_of
 line_is s h =
     let n = digits_length 16 s.address in
     let count = prefix_stop is_hexadecimal_digit (hex_of 16 s.address) 32 s.name (digits_every 16 s.address) refl ∙ n in
     let blank = rw n at (at_seam (hex_of 16 s.address) 32 s.name) in
+    let letter = no_letter s h in
     let name = rw n at (drop_behind (hex_of 16 s.address) 32 s.name) in
-    rw (count, blank, name, h.name) refl
+    rw (count, blank, letter, name, h.name) refl
 
 line_says : (s : Symbol) → HasLine s → symbol_of (written_line s) ≡ s
-unfolding symbol_of
+unfolding symbol_of name_of
 line_says s h =
     let n = digits_length 16 s.address in
     let front = rw n at (take_front (hex_of 16 s.address) (32 ∷ s.name)) in
     let name = rw n at (drop_behind (hex_of 16 s.address) 32 s.name) in
+    let letter = no_letter s h in
     let value = digits_number 16 s.address h.address in
-    rw (front, name, value) refl
+    rw (front, letter, name, value) refl
 
 line_inside : (s : Symbol) → HasLine s → every inside (written_line s) ≡ true
 line_inside s h =
@@ -174,11 +204,13 @@ written_lines s rest h =
 pub written_symbols : (symbols : List Symbol) → AllByRecursion HasLine symbols → symbols_of (table_text symbols) ≡ symbols
 written_symbols [] h = refl
 written_symbols (s ∷ ss) h =
-    ap (map symbol_of) (written_lines s (table_text ss) h.0) ∙ ap (λ x. x ∷ symbols_of (table_text ss)) (line_says s h.0)
-    ∙ ap (λ xs. s ∷ xs) (written_symbols ss h.1)
+    let line = line_is s h.0 in
+    ap symbols_in (written_lines s (table_text ss) h.0)
+    ∙ rw line (ap (λ x. x ∷ symbols_of (table_text ss)) (line_says s h.0) ∙ ap (λ xs. s ∷ xs) (written_symbols ss h.1))
 
 written_from : (number : ℕ) (symbols : List Symbol) → AllByRecursion HasLine symbols
     → faulty_from number (lines_of (table_text symbols)) ≡ None
+unfolding is_line
 written_from number [] h = refl
 written_from number (s ∷ ss) h =
     let line = line_is s h.0 in

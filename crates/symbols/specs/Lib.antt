@@ -1,4 +1,5 @@
 -- What to read
 pub mod Symbols
 -- Inner words
+pub mod Places
 pub mod Reads

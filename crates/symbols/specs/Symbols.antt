@@ -1,8 +1,8 @@
 -- Tables of symbols: names and the addresses that they stand for, one a line, and what is looked up in them.
-use Rattle.std.specs.Prelude.{◌≡◌, ℕ, ◌<◌, ◌^◌, Bool, not, ◌&&◌, ◌==◌, nat_le, nat_eq, if◌then◌else◌, List, [], ◌∷◌, ◌++◌, map, length}
+use Rattle.std.specs.Prelude.{◌≡◌, ℕ, ◌<◌, ◌^◌, Bool, not, ◌&&◌, ◌||◌, ◌==◌, nat_le, nat_eq, if◌then◌else◌, List, [], ◌∷◌, ◌++◌, length}
 use Rattle.std.specs.Prelude.{take}
 use Rattle.std.specs.Prelude.{drop, ◌+◌, true, nat_lt, slice_index, Option, Some, None, codes}
-use Rattle.std.specs.List.{prefix_len, flat_map}
+use Rattle.std.specs.List.{prefix_len, starts_with, flat_map}
 use Rattle.std.specs.Char.{digit_value}
 use Rattle.std.specs.Cmp.Lexicographic.{pointwise}
 use Rattle.std.specs.Str.Parse.{digits_value}
@@ -30,27 +30,47 @@ abbrev pub lines_of : List ℕ → List (List ℕ)
 lines_of [] = []
 lines_of (b ∷ bs) = if b == 10 then [] ∷ lines_of bs else onto_first b (lines_of bs)
 
--- a line of a table: 16 hexadecimal digits of the address, a blank, the name
+-- a line of a table: 16 hexadecimal digits of the address, a blank, the name; in what nm prints a letter and a blank before the name
 abbrev pub is_hexadecimal_digit : ℕ → Bool
 is_hexadecimal_digit b = nat_lt (digit_value b) 16
 
+unfoldable pub has_address : List ℕ → Bool
+has_address line = (prefix_len is_hexadecimal_digit line == 16) && (slice_index line 16 == 32)
+
+unfoldable pub has_letter : List ℕ → Bool
+has_letter line = slice_index line 18 == 32
+
+unfoldable pub name_of : List ℕ → List ℕ
+name_of line = drop (if has_letter line then 19 else 17) line
+
 unfoldable pub is_symbol : List ℕ → Bool
-is_symbol line = (prefix_len is_hexadecimal_digit line == 16) && ((slice_index line 16 == 32) && is_label (drop 17 line))
+is_symbol line = has_address line && is_label (name_of line)
 
 unfoldable pub symbol_of : List ℕ → Symbol
-symbol_of line = symbol (digits_value 16 (take 16 line)) (drop 17 line)
+symbol_of line = symbol (digits_value 16 (take 16 line)) (name_of line)
+
+-- nm's lines that say no symbol: of a name that is no label, and of one without an address, for which 16 blanks stand
+unfoldable pub lacks_address : List ℕ → Bool
+lacks_address line = starts_with nat_eq line (codes "                 ")
+
+unfoldable pub is_line : List ℕ → Bool
+is_line line = is_symbol line || (has_letter line && (has_address line || lacks_address line))
 
 -- the first line, counted from a number on, that is no line of a table
 abbrev pub faulty_from : ℕ → List (List ℕ) → Option ℕ
 faulty_from number [] = None
-faulty_from number (line ∷ lines) = if is_symbol line then faulty_from (number + 1) lines else Some number
+faulty_from number (line ∷ lines) = if is_line line then faulty_from (number + 1) lines else Some number
 
 abbrev pub faulty_line : List ℕ → Option ℕ
 faulty_line text = faulty_from 1 (lines_of text)
 
 -- what a text without such a line says
+abbrev pub symbols_in : List (List ℕ) → List Symbol
+symbols_in [] = []
+symbols_in (line ∷ lines) = if is_symbol line then symbol_of line ∷ symbols_in lines else symbols_in lines
+
 abbrev pub symbols_of : List ℕ → List Symbol
-symbols_of text = map symbol_of (lines_of text)
+symbols_of text = symbols_in (lines_of text)
 
 -- what a line can say: an address of 64 bits and a label
 pub record HasLine (s : Symbol) : Type 0 where

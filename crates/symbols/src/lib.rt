@@ -4,6 +4,7 @@
 mod fault;
 pub mod laws;
 mod lines;
+mod places;
 mod symbol;
 mod table;
 mod writing;

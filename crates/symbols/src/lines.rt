@@ -1,8 +1,7 @@
 //! How a table is cut into lines, and what a line says.
-ghost use Rattle.std.specs.Prelude.{◌≡◌, ◌<◌, ◌^◌, ◌==◌, ◌∷◌, length, take, drop, slice_index, IsTrue, SomeIff};
-ghost use Rattle.std.specs.List.{prefix_len};
+ghost use Rattle.std.specs.Prelude.{◌≡◌, ◌<◌, ◌^◌, ◌==◌, ◌∷◌, length, take, slice_index, IsTrue, SomeIff};
 ghost use Rattle.std.specs.Str.Parse.{digits_value};
-ghost use Rattle.symbols.specs.Symbols.{lines_of, is_hexadecimal_digit, is_symbol};
+ghost use Rattle.symbols.specs.Symbols.{has_address, has_letter, is_line, is_symbol, lacks_address, lines_of, name_of};
 
 use crate::symbol::is_label;
 use asm_lines::{Class, digit_value, run_length};
@@ -28,18 +27,25 @@ fn front(line: &[u8]) -> &[u8]
     if line.len() > 16 { &line[..16] } else { line }
 }
 
-/// What stands after the first 17 bytes of a line.
-pub(crate) fn name(line: &[u8]) -> &[u8]
-    ensures { result.now ≡ drop 17 line.now }
+/// Whether a letter stands between a line's address and its name, as in what nm prints.
+#[tactic(auto, unfolding(crate::specs::Symbols::has_letter))]
+fn has_letter(line: &[u8]) -> bool
+    ensures { result ≡ has_letter line.now }
 {
-    if line.len() > 17 { &line[17..] } else { &[] }
+    line.len() > 18 && line[18] == b' '
 }
 
-/// Whether a line begins with 16 hexadecimal digits and no more.
-fn has_address(line: &[u8]) -> bool
-    ensures { result ≡ (prefix_len is_hexadecimal_digit line.now == 16) }
+/// What stands after the address and the letter, if there is one.
+#[tactic(auto, unfolding(crate::specs::Symbols::name_of))]
+pub(crate) fn name(line: &[u8]) -> &[u8]
+    ensures { result.now ≡ name_of line.now }
 {
-    run_length(line, Class::Digit(16)) == 16
+    let start = if has_letter(line) { 19 } else { 17 };
+    if line.len() > start {
+        &line[start..]
+    } else {
+        &[]
+    }
 }
 
 fn has_blank(line: &[u8]) -> bool
@@ -48,12 +54,36 @@ fn has_blank(line: &[u8]) -> bool
     line.len() > 16 && line[16] == b' '
 }
 
-/// Whether a line is one of a table.
+/// Whether a line begins with 16 hexadecimal digits and a blank.
+#[tactic(auto, unfolding(crate::specs::Symbols::has_address))]
+fn has_address(line: &[u8]) -> bool
+    ensures { result ≡ has_address line.now }
+{
+    run_length(line, Class::Digit(16)) == 16 && has_blank(line)
+}
+
+/// Whether a line says a symbol.
 #[tactic(auto, unfolding(crate::specs::Symbols::is_symbol))]
 pub(crate) fn is_symbol(line: &[u8]) -> bool
     ensures { result ≡ is_symbol line.now }
 {
-    has_address(line) && has_blank(line) && is_label(name(line))
+    has_address(line) && is_label(name(line))
+}
+
+/// Whether blanks stand for a line's address, and one more before its letter.
+#[tactic(auto, unfolding(crate::specs::Symbols::lacks_address))]
+fn lacks_address(line: &[u8]) -> bool
+    ensures { result ≡ lacks_address line.now }
+{
+    line.starts_with(b"                 ")
+}
+
+/// Whether a line is one of a table.
+#[tactic(auto, unfolding(crate::specs::Symbols::is_line))]
+pub(crate) fn is_line(line: &[u8]) -> bool
+    ensures { result ≡ is_line line.now }
+{
+    is_symbol(line) || (has_letter(line) && (has_address(line) || lacks_address(line)))
 }
 
 /// The number that digits write, if it is below 2^64.

@@ -1,19 +1,25 @@
 //! A table of symbols: reading one, and looking up in it.
-ghost use Rattle.std.specs.Prelude.{◌≡◌, ◌≤◌, [], ◌∷◌, ◌++◌, None, IfOk, IfErr, IfSome, IsTrue, OnOk, option_map, length};
+ghost use Rattle.std.specs.Prelude.{◌≡◌, ◌≤◌, [], ◌∷◌, ◌++◌, None, IfOk, IfErr, IfSome, OnOk, option_map, length};
 ghost use Rattle.std.specs.Option.{option_copied};
+ghost use Rattle.std.proofs.Props.{props};
+ghost use Rattle.symbols.specs.Places.{IsPlacing};
 ghost use Rattle.symbols.specs.Reads.{IsFaultOf};
-ghost use Rattle.symbols.specs.Symbols.{address_of, faulty_line, is_not_below, is_symbol, name_at, nearest, symbol_of, symbols_of};
+ghost use Rattle.symbols.specs.Symbols.{address_of, faulty_line, name_at, nearest, symbols_in, symbols_of};
 
 use crate::fault::SymbolsFault;
-use crate::lines::{address, is_symbol, name, split_line};
+use crate::lines::{address, is_line, is_symbol, name, split_line};
+use crate::places::{Places, from_end, place_symbols};
 use crate::symbol::Symbol;
 use std::alloc::{AllocError, Global};
+use std::collections::BTreeMap;
 use std::marker::Model;
 
-/// Symbols, in the order of their lines.
+/// Symbols, in the order of their lines, and where the first one of each address stands.
 #[derive(Drop, Debug)]
 pub struct Symbols {
     entries: Vec<Symbol>,
+    places: Places,
+    ghost placed: { IsPlacing places entries.items } by { Prim.hlevel props },
 }
 
 impl Model for Symbols {
@@ -25,18 +31,22 @@ impl Model for Symbols {
     ghost view = { λ s. s.entries.items };
 }
 
-/// Appends the symbol of a line to others.
+/// Appends the symbol of a line to others, if it says one.
 #[tactic(auto, unfolding(crate::specs::Symbols::symbol_of), using(crate::proofs::LineLemmas::name_is_label))]
 fn push_symbol(alloc: Global, entries: &mut Vec<Symbol>, line: &[u8]) -> Result<(), AllocError>
-    requires { IsTrue (is_symbol line.now) }
-    ensures { OnOk result (entries.new.items ≡ entries.old.items ++ symbol_of line.now ∷ []) }
+    ensures { OnOk result (entries.new.items ≡ entries.old.items ++ symbols_in (line.now ∷ [])) }
 {
+    if !is_symbol(line) {
+        return Ok(());
+    }
     let name = Vec::from_slice(alloc, name(line))?;
     entries.push(Symbol::new(address(line), name))?;
     Ok(())
 }
 
-/// Reads a table of symbols: lines of 16 hexadecimal digits, a blank and a label. The last line may lack its line feed.
+/// Reads a table of symbols: lines of 16 hexadecimal digits, a blank and a label, or lines as nm prints them, with a letter and a blank
+/// before the name. Of the latter those are passed over whose name is no label, or that have blanks in place of an address. The last line
+/// may lack its line feed.
 ///
 /// The fault is the first line that is not such a line, or that there is no memory.
 pub fn read_symbols(alloc: Global, text: &[u8]) -> Result<Symbols, SymbolsFault>
@@ -49,40 +59,26 @@ pub fn read_symbols(alloc: Global, text: &[u8]) -> Result<Symbols, SymbolsFault>
     let mut rest = text;
     while !rest.is_empty() {
         let (line, after) = split_line(rest);
-        if !is_symbol(line) {
+        if !is_line(line) {
             return Err(SymbolsFault::Line(number));
         }
         push_symbol(alloc, &mut entries, line)?;
         number += 1;
         rest = after;
     }
-    Ok(Symbols { entries })
+    let places = place_symbols(alloc, &entries)?;
+    Ok(Symbols { entries, places })
 }
 
-/// Whether a symbol isn't below another, if there is one.
-fn is_not_below(symbol: &Symbol, found: Option<&Symbol>) -> bool
-    ensures { result ≡ is_not_below symbol.now (option_copied found.entry) }
+/// The name of a symbol, if there is one.
+fn name_of(symbol: Option<&Symbol>) -> Option<&[u8]>
+    ensures value { option_map (λ name. name.now) result ≡ option_map (λ s. s.name) (option_copied symbol.entry) }
+    ensures bound { IfSome result (λ name. length name.now ≤ 254) }
 {
-    match found {
-        Some(other) => other.address() <= symbol.address(),
-        None => true,
+    match symbol {
+        Some(symbol) => Some(symbol.name()),
+        None => None,
     }
-}
-
-/// The symbol at an address or nearest below it; of several at one address the first.
-fn nearest_in(entries: &[Symbol], address: u64) -> Option<&Symbol>
-    ensures { option_copied result ≡ nearest entries.now address }
-{
-    let mut found: Option<&Symbol> = None;
-    let mut index = entries.len();
-    while index > 0 {
-        index -= 1;
-        let symbol = &entries[index];
-        if symbol.address() <= address && is_not_below(symbol, found) {
-            found = Some(symbol);
-        }
-    }
-    found
 }
 
 impl Symbols {
@@ -92,6 +88,7 @@ impl Symbols {
     {
         Symbols {
             entries: Vec::new(alloc),
+            places: BTreeMap::new(alloc),
         }
     }
 
@@ -107,12 +104,10 @@ impl Symbols {
         ensures value { option_map (λ name. name.now) result ≡ name_at self.now address }
         ensures bound { IfSome result (λ name. length name.now ≤ 254) }
     {
-        for symbol in self.entries() {
-            if symbol.address() == address {
-                return Some(symbol.name());
-            }
+        match self.places.get(&address) {
+            Some(left) => name_of(from_end(self.entries(), *left)),
+            None => None,
         }
-        None
     }
 
     /// The first address of a name.
@@ -131,6 +126,9 @@ impl Symbols {
     pub fn nearest(&self, address: u64) -> Option<&Symbol>
         ensures { option_copied result ≡ nearest self.now address }
     {
-        nearest_in(self.entries(), address)
+        match self.places.range(..=address).next_back() {
+            Some((_, left)) => from_end(self.entries(), *left),
+            None => None,
+        }
     }
 }

@@ -1,0 +1,27 @@
+-- Commands that would write a file over another of their own, under whichever names.
+use Rattle.std.specs.Prelude.{◌≡◌, Bool, false, ◌||◌, Option, Some, None, IfSome}
+use Rattle.std.specs.Borrow.{Bor}
+use Rattle.command_line.specs.declared.plans.Plan.{Plan}
+use Rattle.command_line.specs.declared.plans.Plan.TheVariants.{Asm, Image, Run}
+use Rattle.commands.specs.Files.{Text}
+
+-- whether two names lead to one file
+abbrev pub Sameness : Type 0
+Sameness = Text → Text → Bool
+
+abbrev pub are_same : Sameness → Option (Bor Text) → Option (Bor Text) → Bool
+are_same same None other = false
+are_same same (Some name) None = false
+are_same same (Some name) (Some other) = same name.now other.now
+
+-- a file that is written is another file of the command
+abbrev pub overwrites : Sameness → Plan → Bool
+overwrites same (Asm input output symbols) =
+    (same output.now input.now || are_same same symbols (Some input)) || are_same same symbols (Some output)
+overwrites same (Image flat output layout) = same output.now flat.now
+overwrites same (Run image steps gap tick input quiet trace) = are_same same trace (Some image) || are_same same trace input
+overwrites same other = false
+
+-- the same where it is known which names lead to one file
+abbrev pub Overwrites : Option Sameness → Plan → Bool → Type 0
+Overwrites known plan answer = IfSome known (λ same. answer ≡ overwrites same plan)
