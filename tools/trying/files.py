@@ -61,7 +61,7 @@ FILES = [
     File("listings", command_lines.listing, 21),
     File("worlds", programs.worlds, 14),
     File("schedules", schedules.schedule, 211, piece=8),
-    File("commands", commands.command, 238, piece=20),
+    File("commands", commands.command, 259, piece=20),
     File("told", told.fault, 41, piece=10),
     File("compartments", kernel.meeting, 34),
 ]

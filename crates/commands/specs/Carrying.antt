@@ -17,7 +17,7 @@ use Rattle.commands.specs.Running.{RunsFile}
 -- 0 for what was done, and of a run what its end comes to
 abbrev pub status_of_done : Done → ℕ
 status_of_done done.All = 0
-status_of_done (done.Run ended quiet) = status_of ended.end
+status_of_done (done.Run ended) = status_of ended.end
 
 -- A plan was carried out wholly, with this status, where files and an output were known before.
 abbrev pub HasStatus : Plan → Option (List ℕ) → Option (List File) → Option (List File) → ℕ → Type 0
@@ -28,7 +28,7 @@ HasStatus (Image flat output layout) sent old new status =
 HasStatus (Run image steps gap tick input quiet trace) sent old new status =
     (ended : Ended) × (out : Option (List ℕ)) × (status ≡ status_of ended.end)
     × IfSome (bytes_of image.now old)
-    (λ bytes. RunsFile (record { steps = steps; gap = gap; tick = tick }) input bytes trace old new ended sent out)
+    (λ bytes. RunsFile (record { steps = steps; gap = gap; tick = tick }) input quiet bytes trace old new ended sent out)
 HasStatus (Dis image symbols) sent old new status =
     (out : Option (List ℕ)) × (status ≡ 0) × IfSome (bytes_of image.now old) (λ bytes. ListsFile old bytes symbols sent out)
 HasStatus (Debug image symbols) sent old new status = status ≡ 0

@@ -30,22 +30,21 @@ pub const FAULT: u8 = 3;
 const VERSION: &str = "cherisim 0.1.0\n";
 
 /// What became of a command that was carried out.
-#[derive(Clone, Copy, Debug)]
+#[derive(Debug, Drop)]
 enum Done {
     /// All of it.
     All,
-    /// A run that ended so, and whether where it did is left out.
-    Run(Ended, bool),
+    /// A run that ended so.
+    Run(Ended),
 }
 
-/// Tells how a run ended, and where unless it is to be quiet; and answers the status.
-fn tell_end<E: Write>(errors: &mut E, ended: &Ended, quiet: bool) -> u8
+/// Tells how a run ended, and where; and answers the status.
+fn tell_end<E: Write>(errors: &mut E, ended: &Ended) -> u8
     ensures { result ≡ status_of_run ended.now.end }
 {
     let (status, line) = verdict(ended.end);
-    if status != 0 && writeln!(errors, "{line}").is_ok() && !quiet {
-        let place = ended.place;
-        let _ = writeln!(errors, "{place}");
+    if status != 0 && writeln!(errors, "{line}").is_ok() {
+        let _ = errors.write_all(ended.place.as_bytes());
     }
     status
 }
@@ -82,7 +81,7 @@ fn carry_out<'a, F: Folder, I: Read + Drop, O: Write + Drop>(
     match plan {
         Plan::First => {
             let (ended, _output) = run_first(alloc, output)?;
-            Ok(Done::Run(ended, false))
+            Ok(Done::Run(ended))
         }
         Plan::Run {
             image,
@@ -94,8 +93,10 @@ fn carry_out<'a, F: Folder, I: Read + Drop, O: Write + Drop>(
             trace,
         } => {
             let schedule = schedule_of(steps, gap, tick);
-            let (ended, _output) = run_file(alloc, folder, image, schedule, input, trace, output)?;
-            Ok(Done::Run(ended, quiet))
+            let (ended, _output) = run_file(
+                alloc, folder, image, schedule, input, quiet, trace, output,
+            )?;
+            Ok(Done::Run(ended))
         }
         Plan::Asm {
             input,
@@ -147,7 +148,7 @@ fn carry<'a, F: Folder, I: Read + Drop, O: Write + Drop, E: Write>(
 {
     match carry_out(alloc, folder, input, output, plan) {
         Ok(Done::All) => 0,
-        Ok(Done::Run(ended, quiet)) => tell_end(errors, &ended, quiet),
+        Ok(Done::Run(ended)) => tell_end(errors, &ended),
         Err(fault) => tell_fault(errors, &fault),
     }
 }
