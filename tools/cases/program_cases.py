@@ -162,7 +162,22 @@ def ended_otherwise():
     yield case("run seven.img 9", [seven], 1, "open seven.img", b"", "cherisim: halted with 7\ncherisim: steps 3, pcc 000000008000000c\n")
     yield case("run seven.img 3 --quiet", [seven], 1, "open seven.img", b"", "cherisim: halted with 7\n")
     yield case("run --quiet first.img 5", [FILE], 0, "open first.img", b"A")
+    yield from repeated()
     yield from trapped()
+
+
+def repeated():
+    """Runs of STEPS steps, so many times over."""
+    yield "# as many steps so many times over"
+    yield case("run first.img 1 --times 5", [FILE], 0, "open first.img", b"A")
+    yield case("run first.img 100000000 --times 1000000", [FILE], 0, "open first.img", b"A")
+    yield case("run first.img 2 --times 2", [FILE], 1, "open first.img", b"A",
+               "cherisim: not halted\ncherisim: steps 4, pcc 0000000080000010\n")
+    echo = f"echo.img {quoted(image(*ECHO))}"
+    yield case("run echo.img 11 --times 2 --input keys --gap 7", [echo, 'keys "ABC"'], 0, "open echo.img, open keys", b"ABC")
+    yield case("run echo.img 3 --times 7 --input keys --gap 1", [echo, 'keys "ABC"'], 1, "open echo.img, open keys", b"ABC",
+               "cherisim: not halted\ncherisim: steps 21, pcc 0000000080000024\n")
+    yield case("run first.img 1 --times 5 --trace t", [FILE], 0, "open first.img, make t", b"A", made=TRACE.encode())
 
 
 def special_rw(target, number, source):
@@ -265,7 +280,8 @@ def not_begun():
                   "debug", "debug first.img 5", "image first.img",
                   "image first.img a.img --at x", "image first.img a.img --entry 18446744073709551616",
                   "image first.img a.img --pages -1", "image first.img a.img --mode 0x", "bounds", "bounds 0", "bounds 0 0y",
-                  "bounds 0x10000000000000000 0", "bounds 0 0 --address 1z", "asm first.img", "run first.img 5 --quiet=1"):
+                  "bounds 0x10000000000000000 0", "bounds 0 0 --address 1z", "asm first.img", "run first.img 5 --quiet=1",
+                  "run first.img 5 --times 0", "run first.img 5 --times 1000001", "run first.img 100000001 --times 1"):
         yield refused(words, [FILE, TEXT])
     yield "# a file that is written over another of the command is refused before anything is opened"
     for words in ("asm a.s a.s", "asm a.s a.img --symbols a.s", "asm a.s a.img --symbols a.img", "image first.img first.img"):

@@ -1,8 +1,8 @@
 //! A command line carried out, and the status that it ends with.
 
 ghost use Rattle.command_line.specs.CommandLine.{AreInRange, IsSound};
-ghost use Rattle.std.specs.Prelude.{◌≡◌, ◌≤◌, ◌⊎◌, false, true, map, IfOk};
-ghost use Rattle.sim_run.specs.Schedule.{IsInRange};
+ghost use Rattle.std.specs.Prelude.{◌≡◌, ◌≤◌, ◌*◌, ◌⊎◌, false, true, map, IfOk};
+ghost use Rattle.sim_run.specs.Schedule.{IsRunnable};
 ghost use Rattle.sim_run.specs.Verdict.{status_of as status_of_run};
 ghost use Rattle.commands.specs.Carrying.{HasStatus, IsCarriedOut, IsRefused, asks_version, status_of_done};
 
@@ -58,11 +58,13 @@ pub fn tell_fault<E: Write>(errors: &mut E, fault: &ProgramFault<'_>) -> u8
 }
 
 /// The schedule of a run, whose numbers lie in their ranges.
-fn schedule_of(steps: u64, gap: u64, tick: u64) -> Schedule
-    requires { AreInRange steps gap tick }
-    ensures range { IsInRange result }
-    ensures value { result ≡ record { steps = steps; gap = gap; tick = tick } }
+fn schedule_of(steps: u64, times: u64, gap: u64, tick: u64) -> Schedule
+    requires { AreInRange steps times gap tick }
+    ensures some_step { 1 ≤ result.steps }
+    ensures range { IsRunnable result }
+    ensures value { result ≡ record { steps = steps * times; gap = gap; tick = tick } }
 {
+    let steps = steps * times;
     Schedule { steps, gap, tick }
 }
 
@@ -86,13 +88,14 @@ fn carry_out<'a, F: Folder, I: Read + Drop, O: Write + Drop>(
         Plan::Run {
             image,
             steps,
+            times,
             gap,
             tick,
             input,
             quiet,
             trace,
         } => {
-            let schedule = schedule_of(steps, gap, tick);
+            let schedule = schedule_of(steps, times, gap, tick);
             let (ended, _output) = run_file(
                 alloc, folder, image, schedule, input, quiet, trace, output,
             )?;

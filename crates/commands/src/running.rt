@@ -1,9 +1,9 @@
 //! The command `run`, and the run without a command.
 
-ghost use Rattle.std.specs.Prelude.{◌≡◌, IfOk, IfSome, OnOk};
+ghost use Rattle.std.specs.Prelude.{◌≡◌, ◌≤◌, IfOk, IfSome, OnOk};
 ghost use Rattle.hart.specs.Opening.{opening};
 ghost use Rattle.machine.specs.Run.{run_after, end_of};
-ghost use Rattle.sim_run.specs.Schedule.{IsInRange, steps_in};
+ghost use Rattle.sim_run.specs.Schedule.{IsRunnable, steps_in};
 ghost use Rattle.commands.specs.Files.{Gains, bytes_of, whole};
 ghost use Rattle.commands.specs.Running.{HasEnded, IsTyped, Runs, RunsFile, Traces, events_of, is_told, trace_of};
 
@@ -53,7 +53,7 @@ fn ending<'a>(
     machine: &ProgramMachine,
     ran: Ran,
 ) -> Result<Ended, ProgramFault<'a>>
-    requires range { IsInRange schedule }
+    requires range { IsRunnable schedule }
     requires state { machine.now ≡ run_after (events_of schedule input.now image.now) (opening image.now) }
     requires end { ran.end ≡ end_of machine.now }
     requires steps { ran.steps ≡ steps_in (events_of schedule input.now image.now) }
@@ -80,7 +80,7 @@ fn run_machine<'a, O: Write + Drop>(
     quiet: bool,
     output: O,
 ) -> Result<(Ended, O), ProgramFault<'a>>
-    requires { IsInRange schedule }
+    requires { IsRunnable schedule }
     ensures { IfOk result (λ done. Runs schedule input.now quiet image.now done.0 (O.contents output) (O.contents done.1)) }
 {
     let mut machine: ProgramMachine = Machine::new(alloc, image)?;
@@ -102,7 +102,7 @@ fn trace_machine<'a, F: Folder, O: Write + Drop>(
     trace: &'a str,
     output: O,
 ) -> Result<(Ended, O), ProgramFault<'a>>
-    requires { IsInRange schedule }
+    requires { IsRunnable schedule }
     ensures ok { IfOk result (λ done. Runs schedule input.now quiet image.now done.0 (O.contents output) (O.contents done.1)) }
     ensures files { OnOk result (Gains (F.files folder.old) (F.files folder.new)
         (whole trace.entry.now (trace_of schedule input.now image.now))) }
@@ -132,7 +132,7 @@ fn run_image<'a, F: Folder, O: Write + Drop>(
     trace: Option<&'a str>,
     output: O,
 ) -> Result<(Ended, O), ProgramFault<'a>>
-    requires { IsInRange schedule }
+    requires { IsRunnable schedule }
     ensures ok { IfOk result (λ done. Runs schedule input.now quiet image.now done.0 (O.contents output) (O.contents done.1)) }
     ensures files { OnOk result (Traces trace.entry (trace_of schedule input.now image.now) (F.files folder.old) (F.files folder.new)) }
 {
@@ -149,7 +149,8 @@ fn typed<'a, F: Folder>(
     schedule: Schedule,
     input: Option<&'a str>,
 ) -> Result<Vec<u8>, ProgramFault<'a>>
-    requires { IsInRange schedule }
+    requires some_step { 1 ≤ schedule.steps }
+    requires range { IsRunnable schedule }
     ensures { IfOk result (λ typed. IsTyped schedule input.entry (F.files folder.now) typed.items) }
 {
     match input {
@@ -171,7 +172,8 @@ pub fn run_file<'a, F: Folder, O: Write + Drop>(
     trace: Option<&'a str>,
     output: O,
 ) -> Result<(Ended, O), ProgramFault<'a>>
-    requires { IsInRange schedule }
+    requires some_step { 1 ≤ schedule.steps }
+    requires range { IsRunnable schedule }
     ensures { IfOk result (λ done. IfSome (bytes_of name.entry.now (F.files folder.old)) (λ bytes.
         RunsFile schedule input.entry quiet bytes trace.entry (F.files folder.old) (F.files folder.new) done.0
         (O.contents output) (O.contents done.1))) }

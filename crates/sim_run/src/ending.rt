@@ -9,7 +9,7 @@ ghost use Rattle.hart.specs.declared.effect.Effect.TheVariants.{Trap};
 ghost use Rattle.hart.specs.Opening.{opening};
 ghost use Rattle.machine.specs.Run.{run_after};
 ghost use Rattle.sim_run.specs.Ending.{ending_lines, first_trap, is_trapped, last_trap, since_line, trap_lines, trap_part};
-ghost use Rattle.sim_run.specs.Schedule.{is_halted, scheduled, IsInRange};
+ghost use Rattle.sim_run.specs.Schedule.{is_halted, scheduled, IsRunnable};
 ghost use Rattle.sim_run.specs.Unhandled.{trap_left, Trapped};
 ghost use Rattle.sim_run.specs.Watched.{IsTold};
 ghost use Rattle.sim_run.specs.Verdict.{status_of, verdict_line};
@@ -218,7 +218,7 @@ pub fn ending_lines<C: CapRep>(
     machine: &Machine<C>,
     steps: u64,
 ) -> Result<String, AllocError>
-    requires range { IsInRange schedule }
+    requires range { IsRunnable schedule }
     requires ended { machine.now ≡ run_after (scheduled schedule input.now (opening image.now)) (opening image.now) }
     ensures { IfOk result (λ text. string_bytes text
         ≡ ending_lines steps (trap_left (scheduled schedule input.now (opening image.now)) (opening image.now)) machine.now) }

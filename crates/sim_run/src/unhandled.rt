@@ -11,7 +11,7 @@ ghost use Rattle.hart.specs.declared.effect.Effect.TheVariants.{Trap};
 ghost use Rattle.hart.specs.declared.event.Event.{Event};
 ghost use Rattle.hart.specs.declared.event.Event.TheVariants.{Step};
 ghost use Rattle.machine.specs.Run.{run_after};
-ghost use Rattle.sim_run.specs.Schedule.{block, is_halted, scheduled, up_to_halt, IsInRange};
+ghost use Rattle.sim_run.specs.Schedule.{block, is_halted, scheduled, up_to_halt, IsRunnable};
 ghost use Rattle.sim_run.specs.Unhandled.{after_step, first_of, trap_left, unfetched_in, unhandled, Trapped};
 ghost use Rattle.sim_run.specs.Watched.{trap_in, IsTold};
 
@@ -135,7 +135,7 @@ fn watch<C: CapRep>(
     input: &[u8],
     text: &mut String,
 ) -> Result<Option<u64>, AllocError>
-    requires range { IsInRange schedule }
+    requires range { IsRunnable schedule }
     requires running { is_halted machine.old ≡ false }
     ensures { IfOk result (λ left. IsTold left (string_bytes text.new)
         (trap_left (scheduled schedule input.now machine.old) machine.old)) }
@@ -180,7 +180,7 @@ pub(crate) fn trap_left<C: CapRep>(
     machine: &Machine<C>,
     text: &mut String,
 ) -> Result<Option<u64>, AllocError>
-    requires range { IsInRange schedule }
+    requires range { IsRunnable schedule }
     requires ended { machine.now ≡ run_after (scheduled schedule input.now (opening image.now)) (opening image.now) }
     ensures { IfOk result (λ left. IsTold left (string_bytes text.new)
         (trap_left (scheduled schedule input.now (opening image.now)) (opening image.now))) }
