@@ -112,7 +112,7 @@ fn with_options<'a>(alloc: Global, run: Command<'a>) -> Result<Command<'a>, Allo
     ensures app { IfOk result (λ c. app_of c ≡ with_options (app_of run.entry)) }
     ensures local { IfOk result (λ c. (out-Command c).has_globals ≡ false) }
 {
-    let quiet = "Leaves out the line that says where a run ended";
+    let quiet = "Leaves out the lines that say where a run ended";
     let trace = "The file that a line for each step is written to";
     let run = with_schedule(alloc, run)?;
     let run = with_argument(run, flag(alloc, "quiet", quiet))?;
