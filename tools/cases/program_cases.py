@@ -162,12 +162,115 @@ def ended_otherwise():
     yield case("run seven.img 9", [seven], 1, "open seven.img", b"", "cherisim: halted with 7\ncherisim: steps 3, pcc 000000008000000c\n")
     yield case("run seven.img 3 --quiet", [seven], 1, "open seven.img", b"", "cherisim: halted with 7\n")
     yield case("run --quiet first.img 5", [FILE], 0, "open first.img", b"A")
-    yield "# the last trap, where one was taken"
-    trapped = "cherisim: not halted\ncherisim: steps 1, pcc 0000000000000000; last trap: "
-    yield case("run trap.img 1", [f"trap.img {quoted(image(*LOADS_NOTHING))}"], 1, "open trap.img", b"",
-               trapped + "load access fault, mtval 0000000000000000, mepc 0000000080000000\n")
-    yield case("run trap.img 1", [f"trap.img {quoted(image(*LOADS_BY_NULL))}"], 1, "open trap.img", b"",
-               trapped + "CHERI exception, tag violation at ca1, mepc 0000000080000000\n")
+    yield from repeated()
+    yield from trapped()
+
+
+def repeated():
+    """Runs of STEPS steps, so many times over."""
+    yield "# as many steps so many times over"
+    yield case("run first.img 1 --times 5", [FILE], 0, "open first.img", b"A")
+    yield case("run first.img 100000000 --times 1000000", [FILE], 0, "open first.img", b"A")
+    yield case("run first.img 2 --times 2", [FILE], 1, "open first.img", b"A",
+               "cherisim: not halted\ncherisim: steps 4, pcc 0000000080000010\n")
+    echo = f"echo.img {quoted(image(*ECHO))}"
+    yield case("run echo.img 11 --times 2 --input keys --gap 7", [echo, 'keys "ABC"'], 0, "open echo.img, open keys", b"ABC")
+    yield case("run echo.img 3 --times 7 --input keys --gap 1", [echo, 'keys "ABC"'], 1, "open echo.img, open keys", b"ABC",
+               "cherisim: not halted\ncherisim: steps 21, pcc 0000000080000024\n")
+    yield case("run first.img 1 --times 5 --trace t", [FILE], 0, "open first.img, make t", b"A", made=TRACE.encode())
+
+
+def special_rw(target, number, source):
+    return 1 << 25 | number << 20 | source << 15 | target << 7 | 0x5B
+
+
+def capability_immediate(value, base, funct3, target):
+    return value << 20 | base << 15 | funct3 << 12 | target << 7 | 0x5B
+
+
+def csrrw(target, number, source):
+    return number << 20 | source << 15 | 1 << 12 | target << 7 | 0x73
+
+
+def csrr(target, number):
+    return number << 20 | 2 << 12 | target << 7 | 0x73
+
+
+def auipc(target):
+    return target << 7 | 0x17
+
+
+DDC, MTVEC, MEPC = 1, 0x305, 0x341
+ECALL, MRET, NOP, HERE = 0x73, 0x30200073, 0x13, 0x6F
+# loads 8 bytes behind a capability of the first 8 of all addresses
+LOADS_PAST_THE_END = [special_rw(A0, DDC, 0), capability_immediate(8, A0, 2, A0), capability_immediate(8, A0, 1, A0),
+                      0x7D << 25 | 0x0B << 20 | A0 << 15 | A1 << 7 | 0x5B]
+# The handler goes on after the instruction that trapped.
+HANDLER = [csrr(A1, MEPC), addi(A1, A1, 4), csrrw(0, MEPC, A1), MRET]
+IS_HANDLED = [auipc(A0), addi(A0, A0, 24), csrrw(0, MTVEC, A0), ECALL, HERE, NOP, *HANDLER]
+# The second trap has no handler.
+IS_HANDLED_ONCE = [auipc(A0), addi(A0, A0, 24), csrrw(0, MTVEC, A0), ECALL, csrrw(0, MTVEC, 0), ECALL, *HANDLER]
+
+
+def trapped():
+    """The trap that nothing handled: cause and condition by the order of checks, and the trap's entry at 0, where there is no RAM."""
+    nowhere, none = "0" * 16, "0" * 16
+
+    def told(steps, pcc, kind, words, mepc, step=None, more=()):
+        number = "" if step is None else f", step {step}"
+        return (f"cherisim: not halted\ncherisim: steps {steps}, pcc {pcc}; {kind} trap: {words}, mepc {RAM + mepc:016x}{number}\n"
+                + "".join(f"  {line}\n" for line in more))
+
+    def since(count):
+        return [f"traps since then at an entry that can't be fetched: {count}"]
+
+    def runs(steps, words, *expected, options=""):
+        yield case(f"run trap.img {steps}{options}", [f"trap.img {quoted(image(*words))}"], 1, "open trap.img", b"",
+                   told(steps, *expected))
+
+    yield "# the first trap that nothing handled, the condition that failed, and how often the trap's entry could not be fetched since then"
+    load = (nowhere, "first", f"load access fault, mtval {none}", 0, 1)
+    missed = [f"no RAM or a device at {nowhere}"]
+    yield from runs(1, LOADS_NOTHING, *load, missed)
+    yield from runs(2, LOADS_NOTHING, *load, missed + since(1))
+    yield from runs(1, LOADS_BY_NULL, nowhere, "first", "CHERI exception, tag violation at ca1", 0, 1, ["no tag of ca1"])
+    bounds = (nowhere, "first", "CHERI exception, length violation at ca0", 12, 4)
+    missed = [f"no length of ca0: {8:016x} + 8 in {0:016x} to {8:017x}"]
+    yield from runs(4, LOADS_PAST_THE_END, *bounds, missed)
+    yield from runs(5, LOADS_PAST_THE_END, *bounds, missed + since(1))
+    yield from runs(1000, LOADS_PAST_THE_END, *bounds, missed + since(996))
+    yield "# an ECALL, which fails no condition"
+    call = f"environment call, mtval {none}"
+    yield from runs(3, [ECALL], nowhere, "first", call, 0, 1, since(2))
+    yield "# an instruction that is none, and one after the end of RAM's only page"
+    yield from runs(2, [0], nowhere, "first", f"illegal instruction, mtval {none}", 0, 1, ["no the word is an instruction"] + since(1))
+    past = [0] * 1023 + [NOP]
+    start = header(1, RAM + 4092, 1, 0) + section(RAM, b"".join(word.to_bytes(4, "little") for word in past))
+    yield case("run end.img 4", [f"end.img {quoted(start)}"], 1, "open end.img", b"",
+               told(4, nowhere, "first", f"instruction access fault, mtval {RAM + 4096:016x}", 4096, 2,
+                    [f"no RAM at {RAM + 4096:016x}"] + since(2)))
+    yield "# a trap is handled as soon as a step after it is none: the last is told, as the registers then hold it"
+    yield from runs(4, IS_HANDLED, f"{RAM + 24:016x}", "first", call, 12, 4)
+    yield from runs(5, IS_HANDLED, f"{RAM + 28:016x}", "last", call, 12)
+    yield from runs(9, IS_HANDLED, f"{RAM + 16:016x}", "last", call, 16)
+    yield "# the first after those that were handled"
+    yield from runs(13, IS_HANDLED_ONCE, nowhere, "first", call, 20, 10, since(3))
+    yield "# an interrupt, which fails no condition either; one of mtvec's mode 1 begins four bytes a number after the base"
+    timer = f"timer interrupt, mtval {none}"
+    yield from runs(6, IS_INTERRUPTED, nowhere, "first", timer, 20, 6)
+    yield from runs(8, IS_INTERRUPTED, nowhere, "first", timer, 20, 6, since(2))
+    vectored = [addi(A2, 0, 1), csrrw(0, MTVEC, A2), *IS_INTERRUPTED]
+    yield from runs(8, vectored, f"{28:016x}", "first", timer, 28, 8)
+    yield from runs(9, vectored, nowhere, "first", timer, 28, 8, since(1))
+    yield "# a trace changes nothing of it, and --quiet leaves it out"
+    one = "1 0000000080000000 00000073 ecall: trap environment call, mcause 000000000000000b, mtval 0000000000000000\n"
+    ecall = f"trap.img {quoted(image(ECALL))}"
+    yield case("run trap.img 1 --trace t", [ecall], 1, "open trap.img, make t", b"", told(1, nowhere, "first", call, 0, 1), one.encode())
+    yield case("run trap.img 1 --quiet", [ecall], 1, "open trap.img", b"", "cherisim: not halted\n")
+    yield "# a line that can't be written takes the others with it"
+    whole = told(1, nowhere, "first", call, 0, 1)
+    for count in (0, 1, whole.index("\n") + 1, len(whole) - 1):
+        yield case("run trap.img 1", [ecall, f"errors {count}"], 1, "open trap.img", b"", whole[:count])
 
 
 def not_begun():
@@ -177,7 +280,8 @@ def not_begun():
                   "debug", "debug first.img 5", "image first.img",
                   "image first.img a.img --at x", "image first.img a.img --entry 18446744073709551616",
                   "image first.img a.img --pages -1", "image first.img a.img --mode 0x", "bounds", "bounds 0", "bounds 0 0y",
-                  "bounds 0x10000000000000000 0", "bounds 0 0 --address 1z", "asm first.img", "run first.img 5 --quiet=1"):
+                  "bounds 0x10000000000000000 0", "bounds 0 0 --address 1z", "asm first.img", "run first.img 5 --quiet=1",
+                  "run first.img 5 --times 0", "run first.img 5 --times 1000001", "run first.img 100000001 --times 1"):
         yield refused(words, [FILE, TEXT])
     yield "# a file that is written over another of the command is refused before anything is opened"
     for words in ("asm a.s a.s", "asm a.s a.img --symbols a.s", "asm a.s a.img --symbols a.img", "image first.img first.img"):

@@ -57,11 +57,11 @@ FILES = [
     File("sessions", conversations.session, 51, piece=10),
     File("talks", conversations.talk, 171, piece=20),
     File("runs", programs.program, 15),
-    File("plans", command_lines.plan, 78, piece=10),
+    File("plans", command_lines.plan, 82, piece=10),
     File("listings", command_lines.listing, 21),
     File("worlds", programs.worlds, 14),
     File("schedules", schedules.schedule, 211, piece=8),
-    File("commands", commands.command, 254, piece=20),
+    File("commands", commands.command, 284, piece=20),
     File("told", told.fault, 41, piece=10),
     File("compartments", kernel.meeting, 34),
 ]

@@ -52,7 +52,7 @@ pub no_image : (rows : List Row) → ((layout : Layout) → IsLayoutOf rows layo
 no_image rows none (Asm input output symbols) fits sound =
     let bad : 105 ≡ 97 = ap (λ t. slice_index t 0) fits.0 in absurd (omega (arith, bad))
 no_image rows none (Image flat output layout) fits sound = none layout fits.3
-no_image rows none (Run image steps gap tick input quiet trace) fits sound =
+no_image rows none (Run image steps times gap tick input quiet trace) fits sound =
     let bad : 105 ≡ 114 = ap (λ t. slice_index t 0) fits.0 in absurd (omega (arith, bad))
 no_image rows none (Dis image symbols) fits sound =
     let bad : 105 ≡ 100 = ap (λ t. slice_index t 0) fits.0 in absurd (omega (arith, bad))
@@ -63,13 +63,13 @@ no_image rows none (Bounds base length address) fits sound =
 no_image rows none First fits sound = fits
 
 -- a plan of `run` has its numbers, in their ranges
-pub no_run : (rows : List Row) → ((steps gap tick : ℕ) → AreNumbersOf rows steps gap tick → AreInRange steps gap tick → ⊥)
+pub no_run : (rows : List Row) → ((steps times gap tick : ℕ) → AreNumbersOf rows steps times gap tick → AreInRange steps times gap tick → ⊥)
     → NoCommandFits (codes "run") rows
 no_run rows none (Asm input output symbols) fits sound =
     let bad : 114 ≡ 97 = ap (λ t. slice_index t 0) fits.0 in absurd (omega (arith, bad))
 no_run rows none (Image flat output layout) fits sound =
     let bad : 114 ≡ 105 = ap (λ t. slice_index t 0) fits.0 in absurd (omega (arith, bad))
-no_run rows none (Run image steps gap tick input quiet trace) fits sound = none steps gap tick fits.2 sound.0
+no_run rows none (Run image steps times gap tick input quiet trace) fits sound = none steps times gap tick fits.2 sound.0
 no_run rows none (Dis image symbols) fits sound =
     let bad : 114 ≡ 100 = ap (λ t. slice_index t 0) fits.0 in absurd (omega (arith, bad))
 no_run rows none (Debug image symbols) fits sound =
@@ -86,7 +86,7 @@ no_bounds rows none (Asm input output symbols) fits sound =
     let bad : 98 ≡ 97 = ap (λ t. slice_index t 0) fits.0 in absurd (omega (arith, bad))
 no_bounds rows none (Image flat output layout) fits sound =
     let bad : 98 ≡ 105 = ap (λ t. slice_index t 0) fits.0 in absurd (omega (arith, bad))
-no_bounds rows none (Run image steps gap tick input quiet trace) fits sound =
+no_bounds rows none (Run image steps times gap tick input quiet trace) fits sound =
     let bad : 98 ≡ 114 = ap (λ t. slice_index t 0) fits.0 in absurd (omega (arith, bad))
 no_bounds rows none (Dis image symbols) fits sound =
     let bad : 98 ≡ 100 = ap (λ t. slice_index t 0) fits.0 in absurd (omega (arith, bad))

@@ -43,9 +43,13 @@ with_layout app =
 abbrev pub image_command : App
 image_command = with_layout (with_rule (with_rule (new_app (codes "image")) (operand (codes "FLAT"))) (operand (codes "OUT")))
 
--- STEPS of 1 to 100000000; a gap of 1 to 1000000, by default 1000; a tick of 0 to 1000000, by default 100
+-- STEPS of 1 to 100000000, and how many times as many, 1 to 1000000, by default once; a gap of 1 to 1000000, by default 1000; a tick of
+-- 0 to 1000000, by default 100
 abbrev pub steps_rule : Rule
 steps_rule = in_range 1 100000000 (operand (codes "STEPS"))
+
+abbrev pub times_rule : Rule
+times_rule = record (in_range 1 1000000 (named (codes "times"))) { defaults = codes "1" ∷ [] }
 
 abbrev pub gap_rule : Rule
 gap_rule = record (in_range 1 1000000 (named (codes "gap"))) { defaults = codes "1000" ∷ [] }
@@ -53,14 +57,14 @@ gap_rule = record (in_range 1 1000000 (named (codes "gap"))) { defaults = codes 
 abbrev pub tick_rule : Rule
 tick_rule = record (in_range 0 1000000 (named (codes "tick"))) { defaults = codes "100" ∷ [] }
 
--- [--input FILE] [--gap N] [--tick N] [--quiet] [--trace FILE]
+-- [--times N] [--input FILE] [--gap N] [--tick N] [--quiet] [--trace FILE]
 abbrev pub with_schedule : App → App
-with_schedule run = with_rule (with_rule (with_rule run (named (codes "input"))) gap_rule) tick_rule
+with_schedule run = with_rule (with_rule (with_rule (with_rule run times_rule) (named (codes "input"))) gap_rule) tick_rule
 
 abbrev pub with_options : App → App
 with_options run = with_rule (with_rule (with_schedule run) (flag (codes "quiet"))) (named (codes "trace"))
 
--- run IMAGE STEPS [--input FILE] [--gap N] [--tick N] [--quiet] [--trace FILE]
+-- run IMAGE STEPS [--times N] [--input FILE] [--gap N] [--tick N] [--quiet] [--trace FILE]
 abbrev pub run_command : App
 run_command = with_options (with_rule (with_rule (new_app (codes "run")) (operand (codes "IMAGE"))) steps_rule)
 
@@ -100,15 +104,18 @@ pub record IsNumber (id : Text) (rows : List Row) (number : ℕ) : Type 0 where
   pub value : number ≡ digits_value 10 (without_leading_plus text)
 
 -- the numbers of a run are those that clap found
-pub record AreNumbersOf (rows : List Row) (steps gap tick : ℕ) : Type 0 where
+pub record AreNumbersOf (rows : List Row) (steps times gap tick : ℕ) : Type 0 where
   pub steps_found : IsNumber (codes "STEPS") rows steps
+  pub times_found : IsNumber (codes "times") rows times
   pub gap_found : IsNumber (codes "gap") rows gap
   pub tick_found : IsNumber (codes "tick") rows tick
 
 -- and lie in their ranges
-pub record AreInRange (steps gap tick : ℕ) : Type 0 where
+pub record AreInRange (steps times gap tick : ℕ) : Type 0 where
   pub some_step : 1 ≤ steps
   pub most_steps : steps ≤ 100000000
+  pub some_times : 1 ≤ times
+  pub most_times : times ≤ 1000000
   pub some_gap : 1 ≤ gap
   pub most_gap : gap ≤ 1000000
   pub most_tick : tick ≤ 1000000
@@ -161,9 +168,9 @@ IsPlanOfCommand name rows (Image flat output layout) =
     (name ≡ codes "image")
     × (first_of (codes "FLAT") rows ≡ Some flat.now) × (first_of (codes "OUT") rows ≡ Some output.now)
     × IsLayoutOf rows layout
-IsPlanOfCommand name rows (Run image steps gap tick input quiet trace) =
+IsPlanOfCommand name rows (Run image steps times gap tick input quiet trace) =
     (name ≡ codes "run")
-    × (first_of (codes "IMAGE") rows ≡ Some image.now) × AreNumbersOf rows steps gap tick
+    × (first_of (codes "IMAGE") rows ≡ Some image.now) × AreNumbersOf rows steps times gap tick
     × IsFile (codes "input") rows input × (quiet ≡ is_used (codes "quiet") rows) × IsFile (codes "trace") rows trace
 IsPlanOfCommand name rows (Dis image symbols) =
     (name ≡ codes "dis") × (first_of (codes "IMAGE") rows ≡ Some image.now) × IsFile (codes "symbols") rows symbols
@@ -193,8 +200,8 @@ abbrev pub IsSound : Plan → Type 0
 IsSound (Asm input output symbols) =
     IsTrue (not (bytes_eq input.now output.now) && (is_apart input.now symbols && is_apart output.now symbols))
 IsSound (Image flat output layout) = IsTrue (not (bytes_eq flat.now output.now))
-IsSound (Run image steps gap tick input quiet trace) =
-    AreInRange steps gap tick × IsTrue (is_apart image.now trace && are_apart input trace)
+IsSound (Run image steps times gap tick input quiet trace) =
+    AreInRange steps times gap tick × IsTrue (is_apart image.now trace && are_apart input trace)
 IsSound (Dis image symbols) = ⊤
 IsSound (Debug image symbols) = ⊤
 IsSound (Bounds base length address) = ⊤

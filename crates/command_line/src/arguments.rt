@@ -2,9 +2,9 @@
 
 ghost use Rattle.std.specs.Prelude.{◌≡◌, false};
 ghost use Rattle.clap.specs.Words.{rule_of};
-ghost use Rattle.command_line.specs.CommandLine.{operand, named, flag, steps_rule, gap_rule, tick_rule};
+ghost use Rattle.command_line.specs.CommandLine.{operand, named, flag, steps_rule, times_rule, gap_rule, tick_rule};
 
-use crate::limits::{MOST_GAP, MOST_STEPS, MOST_TICK};
+use crate::limits::{MOST_GAP, MOST_STEPS, MOST_TICK, MOST_TIMES};
 use clap::builder::ValueParser;
 use clap::{Arg, ArgAction};
 use std::alloc::Global;
@@ -43,6 +43,17 @@ pub(crate) fn steps<'a>(alloc: Global) -> Arg<'a>
 {
     let help = "The most steps that are done, 1 to 100000000";
     operand(alloc, "STEPS", help).value_parser(ValueParser::unsigned(1, MOST_STEPS))
+}
+
+/// How many times as many steps a run does.
+pub(crate) fn times<'a>(alloc: Global) -> Arg<'a>
+    ensures rule { rule_of result ≡ times_rule }
+    ensures local { result.global ≡ false }
+{
+    let help = "How many times STEPS steps are done at most, 1 to 1000000";
+    named(alloc, "times", "N", help)
+        .value_parser(ValueParser::unsigned(1, MOST_TIMES))
+        .default_value("1")
 }
 
 /// How many steps lie between two bytes of the input.

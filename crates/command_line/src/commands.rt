@@ -7,7 +7,7 @@ ghost use Rattle.command_line.specs.CommandLine.{with_options, with_schedule, wi
 ghost use Rattle.command_line.specs.CommandLine.{asm_command, image_command, run_command, dis_command, debug_command};
 ghost use Rattle.command_line.specs.CommandLine.{bounds_command, making, taking, program};
 
-use crate::arguments::{flag, gap, named, operand, steps, tick};
+use crate::arguments::{flag, gap, named, operand, steps, tick, times};
 use clap::{Arg, Command};
 use std::alloc::{AllocError, Global};
 
@@ -102,6 +102,7 @@ fn with_schedule<'a>(alloc: Global, run: Command<'a>) -> Result<Command<'a>, All
     ensures local { IfOk result (λ c. (out-Command c).has_globals ≡ false) }
 {
     let input = "The file whose bytes come on the console";
+    let run = with_argument(run, times(alloc))?;
     let run = with_argument(run, named(alloc, "input", "FILE", input))?;
     let run = with_argument(run, gap(alloc))?;
     with_argument(run, tick(alloc))
@@ -113,7 +114,7 @@ fn with_options<'a>(alloc: Global, run: Command<'a>) -> Result<Command<'a>, Allo
     ensures app { IfOk result (λ c. app_of c ≡ with_options (app_of run.entry)) }
     ensures local { IfOk result (λ c. (out-Command c).has_globals ≡ false) }
 {
-    let quiet = "Leaves out the line that says where a run ended";
+    let quiet = "Leaves out the lines that say where a run ended";
     let trace = "The file that a line for each step is written to";
     let run = with_schedule(alloc, run)?;
     let run = with_argument(run, flag(alloc, "quiet", quiet))?;

@@ -1,7 +1,10 @@
 //! How far the numbers of a run go.
 
-/// The most steps that a run may do; it does at least one.
+/// The most that STEPS may say, the steps of a run; it does at least one.
 pub(crate) const MOST_STEPS: u64 = 100_000_000;
+
+/// How many times as many steps a run may do at most.
+pub(crate) const MOST_TIMES: u64 = 1_000_000;
 
 /// The most steps from one byte of the input to the next; there is at least one.
 pub(crate) const MOST_GAP: u64 = 1_000_000;

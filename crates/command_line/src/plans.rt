@@ -25,15 +25,17 @@ pub enum Plan<'a> {
     Run {
         /// The file with the image.
         image: &'a str,
-        /// The most steps that are done, 1 to 100000000.
+        /// The most steps that are done, where `times` is 1: 1 to 100000000.
         steps: u64,
+        /// How many times as many are done at most, 1 to 1000000.
+        times: u64,
         /// Steps from one byte of the input to the next, 1 to 1000000.
         gap: u64,
         /// Steps from one tick of the timer to the next, at most 1000000; at 0 there is no tick.
         tick: u64,
         /// The file whose bytes come on the console, if one is named.
         input: Option<&'a str>,
-        /// Whether the line that says where a run ended is left out.
+        /// Whether the lines that say where a run ended are left out.
         quiet: bool,
         /// The file that a line for each step is written to, if one is named.
         trace: Option<&'a str>,

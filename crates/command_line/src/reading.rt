@@ -12,7 +12,7 @@ ghost use Rattle.command_line.specs.declared.layout.Layout.{Layout};
 use crate::commands::program;
 use crate::fault::PlanFault;
 use crate::layout::Layout;
-use crate::limits::{MOST_GAP, MOST_STEPS, MOST_TICK};
+use crate::limits::{MOST_GAP, MOST_STEPS, MOST_TICK, MOST_TIMES};
 use crate::plans::Plan;
 use crate::values::{MISSING, Misfit, is_used, natural_of, needed, number, operand, text};
 use clap::error::ErrorKind;
@@ -22,20 +22,23 @@ use std::alloc::Global;
 /// A file would be written over another of the command.
 const SAME_FILE: Misfit = "a file that is written cannot be another file of the command";
 
-/// The numbers of a run: its most steps, and the steps from one byte and from one tick to the next.
+/// The numbers of a run: its most steps and how many times as many, and the steps from one byte and from one tick to the next.
 #[derive(Clone, Copy)]
 struct RunNumbers {
     steps: u64,
+    times: u64,
     gap: u64,
     tick: u64,
 }
 
 /// Whether the numbers of a run lie in their ranges, as clap's own parsers say of them.
 fn are_in_range(run: RunNumbers) -> bool
-    ensures { IsTrue result ↔ AreInRange run.steps run.gap run.tick }
+    ensures { IsTrue result ↔ AreInRange run.steps run.times run.gap run.tick }
 {
     1 <= run.steps
         && run.steps <= MOST_STEPS
+        && 1 <= run.times
+        && run.times <= MOST_TIMES
         && 1 <= run.gap
         && run.gap <= MOST_GAP
         && run.tick <= MOST_TICK
@@ -43,13 +46,14 @@ fn are_in_range(run: RunNumbers) -> bool
 
 /// The numbers that were found for a run, where they lie in their ranges.
 fn numbers_of(matches: &ArgMatches<'_>) -> Option<RunNumbers>
-    ensures value { IfSome result (λ run. AreNumbersOf (rows_of (found_of matches.now)) run.steps run.gap run.tick) }
-    ensures range { IfSome result (λ run. AreInRange run.steps run.gap run.tick) }
-    ensures none { IfNone result ((steps gap tick : ℕ) → AreNumbersOf (rows_of (found_of matches.now)) steps gap tick
-        → AreInRange steps gap tick → ⊥) }
+    ensures value { IfSome result (λ run. AreNumbersOf (rows_of (found_of matches.now)) run.steps run.times run.gap run.tick) }
+    ensures range { IfSome result (λ run. AreInRange run.steps run.times run.gap run.tick) }
+    ensures none { IfNone result ((steps times gap tick : ℕ) → AreNumbersOf (rows_of (found_of matches.now)) steps times gap tick
+        → AreInRange steps times gap tick → ⊥) }
 {
     let run = RunNumbers {
         steps: number(matches, "STEPS")?,
+        times: number(matches, "times")?,
         gap: number(matches, "gap")?,
         tick: number(matches, "tick")?,
     };
@@ -147,6 +151,7 @@ fn run_plan<'a>(found: &ArgMatches<'a>) -> Result<Plan<'a>, Misfit>
         Some(run) => Ok(Plan::Run {
             image,
             steps: run.steps,
+            times: run.times,
             gap: run.gap,
             tick: run.tick,
             input,

@@ -1,5 +1,5 @@
 -- The status of a command line that was carried out, and what then holds of its files.
-use Rattle.std.specs.Prelude.{◌≡◌, ◌≤◌, ℕ, List, Option, IfSome, Bool, true, false, bytes_eq, codes, [], ◌∷◌}
+use Rattle.std.specs.Prelude.{◌≡◌, ◌≤◌, ◌*◌, ℕ, List, Option, IfSome, Bool, true, false, bytes_eq, codes, [], ◌∷◌}
 use Rattle.command_line.specs.declared.plans.Plan.{Plan}
 use Rattle.command_line.specs.declared.plans.Plan.TheVariants.{Asm, Image, Run, Dis, Debug, Bounds, First}
 use Rattle.clap.specs.Words.{subcommand_of}
@@ -18,7 +18,7 @@ use Rattle.commands.specs.Running.{RunsFile}
 -- 0 for what was done, and of a run what its end comes to
 abbrev pub status_of_done : Done → ℕ
 status_of_done done.All = 0
-status_of_done (done.Run ended quiet) = status_of ended.end
+status_of_done (done.Run ended) = status_of ended.end
 
 -- A plan was carried out wholly, with this status, where files and an output were known before.
 abbrev pub HasStatus : Plan → Option (List ℕ) → Option (List File) → Option (List File) → ℕ → Type 0
@@ -26,10 +26,10 @@ HasStatus (Asm input output symbols) sent old new status =
     (status ≡ 0) × IfSome (bytes_of input.now old) (λ text. Assembles output.now symbols text old new)
 HasStatus (Image flat output layout) sent old new status =
     (status ≡ 0) × IfSome (bytes_of flat.now old) (λ bytes. MakesImage layout output.now bytes old new)
-HasStatus (Run image steps gap tick input quiet trace) sent old new status =
+HasStatus (Run image steps times gap tick input quiet trace) sent old new status =
     (ended : Ended) × (out : Option (List ℕ)) × (status ≡ status_of ended.end)
     × IfSome (bytes_of image.now old)
-    (λ bytes. RunsFile (record { steps = steps; gap = gap; tick = tick }) input bytes trace old new ended sent out)
+    (λ bytes. RunsFile (record { steps = steps * times; gap = gap; tick = tick }) input quiet bytes trace old new ended sent out)
 HasStatus (Dis image symbols) sent old new status =
     (out : Option (List ℕ)) × (status ≡ 0) × IfSome (bytes_of image.now old) (λ bytes. ListsFile old bytes symbols sent out)
 HasStatus (Debug image symbols) sent old new status = status ≡ 0

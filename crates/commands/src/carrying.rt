@@ -1,8 +1,8 @@
 //! A command line carried out, and the status that it ends with.
 
 ghost use Rattle.command_line.specs.CommandLine.{AreInRange, IsSound};
-ghost use Rattle.std.specs.Prelude.{◌≡◌, ◌≤◌, ◌⊎◌, false, true, map, IfOk};
-ghost use Rattle.sim_run.specs.Schedule.{IsInRange};
+ghost use Rattle.std.specs.Prelude.{◌≡◌, ◌≤◌, ◌*◌, ◌⊎◌, false, true, map, IfOk};
+ghost use Rattle.sim_run.specs.Schedule.{IsRunnable};
 ghost use Rattle.sim_run.specs.Verdict.{status_of as status_of_run};
 ghost use Rattle.commands.specs.Carrying.{HasStatus, IsCarriedOut, IsKept, IsRefused, asks_version, status_of_done};
 ghost use Rattle.commands.specs.Overwriting.{Overwrites};
@@ -35,22 +35,21 @@ const SAME_FILE: &str = "error: a file that is written cannot be another file of
 const VERSION: &str = "cherisim 0.1.0\n";
 
 /// What became of a command that was carried out.
-#[derive(Clone, Copy, Debug)]
+#[derive(Debug, Drop)]
 enum Done {
     /// All of it.
     All,
-    /// A run that ended so, and whether where it did is left out.
-    Run(Ended, bool),
+    /// A run that ended so.
+    Run(Ended),
 }
 
-/// Tells how a run ended, and where unless it is to be quiet; and answers the status.
-fn tell_end<E: Write>(errors: &mut E, ended: &Ended, quiet: bool) -> u8
+/// Tells how a run ended, and where; and answers the status.
+fn tell_end<E: Write>(errors: &mut E, ended: &Ended) -> u8
     ensures { result ≡ status_of_run ended.now.end }
 {
     let (status, line) = verdict(ended.end);
-    if status != 0 && writeln!(errors, "{line}").is_ok() && !quiet {
-        let place = ended.place;
-        let _ = writeln!(errors, "{place}");
+    if status != 0 && writeln!(errors, "{line}").is_ok() {
+        let _ = errors.write_all(ended.place.as_bytes());
     }
     status
 }
@@ -64,11 +63,13 @@ pub fn tell_fault<E: Write>(errors: &mut E, fault: &ProgramFault<'_>) -> u8
 }
 
 /// The schedule of a run, whose numbers lie in their ranges.
-fn schedule_of(steps: u64, gap: u64, tick: u64) -> Schedule
-    requires { AreInRange steps gap tick }
-    ensures range { IsInRange result }
-    ensures value { result ≡ record { steps = steps; gap = gap; tick = tick } }
+fn schedule_of(steps: u64, times: u64, gap: u64, tick: u64) -> Schedule
+    requires { AreInRange steps times gap tick }
+    ensures some_step { 1 ≤ result.steps }
+    ensures range { IsRunnable result }
+    ensures value { result ≡ record { steps = steps * times; gap = gap; tick = tick } }
 {
+    let steps = steps * times;
     Schedule { steps, gap, tick }
 }
 
@@ -87,20 +88,23 @@ fn carry_out<'a, F: Folder, I: Read + Drop, O: Write + Drop>(
     match plan {
         Plan::First => {
             let (ended, _output) = run_first(alloc, output)?;
-            Ok(Done::Run(ended, false))
+            Ok(Done::Run(ended))
         }
         Plan::Run {
             image,
             steps,
+            times,
             gap,
             tick,
             input,
             quiet,
             trace,
         } => {
-            let schedule = schedule_of(steps, gap, tick);
-            let (ended, _output) = run_file(alloc, folder, image, schedule, input, trace, output)?;
-            Ok(Done::Run(ended, quiet))
+            let schedule = schedule_of(steps, times, gap, tick);
+            let (ended, _output) = run_file(
+                alloc, folder, image, schedule, input, quiet, trace, output,
+            )?;
+            Ok(Done::Run(ended))
         }
         Plan::Asm {
             input,
@@ -152,7 +156,7 @@ fn carry<'a, F: Folder, I: Read + Drop, O: Write + Drop, E: Write>(
 {
     match carry_out(alloc, folder, input, output, plan) {
         Ok(Done::All) => 0,
-        Ok(Done::Run(ended, quiet)) => tell_end(errors, &ended, quiet),
+        Ok(Done::Run(ended)) => tell_end(errors, &ended),
         Err(fault) => tell_fault(errors, &fault),
     }
 }

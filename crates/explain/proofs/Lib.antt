@@ -1,2 +1,3 @@
 pub mod NoRegister
 pub mod StageTexts
+pub mod FailedLine

@@ -25,7 +25,7 @@ use Rattle.hart.specs.State.{State, pc_of}
 use Rattle.hart.specs.Step.{step_effect}
 use Rattle.effect_texts.specs.ValueText.{value_line}
 use Rattle.effect_texts.specs.EffectText.{effect_text, shown_size}
-use Rattle.explain.specs.Asked.{stages_of}
+use Rattle.explain.specs.Asked.{all_conditions, stages_of}
 
 -- ---- registers as mtval counts them
 
@@ -152,3 +152,14 @@ why_unless None s = running_text s
 -- what the next step will do, and why; a machine that is halted ignores it
 unfoldable pub why_text : State → List ℕ
 why_text s = why_unless s.devices.halted s
+
+-- ---- the condition that fails
+
+-- the line of the first condition that is false; where all hold there is none
+abbrev pub false_line : State → List Condition → List ℕ
+false_line s [] = []
+false_line s (c ∷ cs) = if c.holds then false_line s cs else condition_line s c
+
+-- the line of the condition that fails at the next step; where none does there is none, as at an interrupt or an ECALL
+unfoldable pub failed_line : State → List ℕ
+failed_line s = false_line s (all_conditions (stages_of s))

@@ -93,7 +93,7 @@ fn mark(holds: bool) -> &'static str
 
 /// Appends the line of a condition to a text.
 #[tactic(auto, unfolding(crate::specs::Text::condition_line))]
-fn put_line<C: CapRep>(
+pub(crate) fn put_line<C: CapRep>(
     text: &mut String,
     hart: &Hart<C>,
     condition: Condition,

@@ -2,9 +2,11 @@
 #![tactic(auto)]
 
 mod conditions;
+mod failed;
 mod fault_registers;
 pub mod laws;
 mod stages;
 mod why;
 
+pub use failed::put_failed;
 pub use why::put_why;

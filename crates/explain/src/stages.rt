@@ -169,7 +169,7 @@ fn put_word<C: CapRep>(text: &mut String, hart: &Hart<C>, word: u32) -> Result<(
 }
 
 /// Whether an interrupt is taken in place of the next instruction.
-fn is_interrupted<C: CapRep>(hart: &Hart<C>) -> bool
+pub(crate) fn is_interrupted<C: CapRep>(hart: &Hart<C>) -> bool
     ensures { result ≡ is_some (interrupts.pending hart.now.csrs (interrupts_of hart.now.devices)) }
 {
     pending(hart.csrs(), hart.devices().interrupts()).is_some()

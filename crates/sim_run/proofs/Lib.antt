@@ -4,3 +4,5 @@ pub mod Alone
 pub mod StepsMet
 pub mod Listed
 pub mod TracedSteps
+pub mod LeftTraps
+pub mod Texts

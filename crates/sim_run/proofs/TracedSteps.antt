@@ -127,7 +127,7 @@ sent_at_step t a b written =
 
 -- t is the machine after the byte
 module _ (byte : Option ℕ) (ticks : Bool) (s t : State) (running : is_halted s ≡ false) (at_byte : t ≡ run_after (brought byte) s) where
-  one_block : up_to_halt (block byte 1 ticks) s ≡ brought byte ++ ((Step ∷ []) ++ ticked_after ticks (after Step t))
+  pub one_block : up_to_halt (block byte 1 ticks) s ≡ brought byte ++ ((Step ∷ []) ++ ticked_after ticks (after Step t))
   one_block =
       up_to_halt-block byte 1 ticks s t running at_byte (after Step t) (at_step t (after Step t) refl)
       ∙ ap (λ es. brought byte ++ (es ++ ticked_after ticks (after Step t))) (one_met t)
@@ -189,7 +189,7 @@ module _ (schedule : Schedule) (input : List ℕ) where
         one_is_some : 1 ≤ 1
         one_is_some = omega arith
 
-    met : up_to_halt (first_steps schedule input (m + 1)) s
+    pub met : up_to_halt (first_steps schedule input (m + 1)) s
         ≡ up_to_halt (first_steps schedule input m) s ++ up_to_halt (nth_block schedule input m 1) t
     met =
         ap (λ es. up_to_halt es s) follows

@@ -2,5 +2,8 @@
 pub mod Schedule
 pub mod Trace
 pub mod Verdict
+pub mod Unhandled
 pub mod Ending
 pub mod Listing
+-- Inner words
+pub mod Watched

@@ -18,6 +18,13 @@ pub record IsInRange (schedule : Schedule) : Type 0 where
   pub gap : schedule.gap ≤ 1000000
   pub tick : schedule.tick ≤ 1000000
 
+-- what a run asks of a schedule, which may be a million times as long, or of no step
+pub record IsRunnable (schedule : Schedule) : Type 0 where
+  pub steps : schedule.steps ≤ 100000000000000
+  pub some_gap : 1 ≤ schedule.gap
+  pub gap : schedule.gap ≤ 1000000
+  pub tick : schedule.tick ≤ 1000000
+
 -- Byte i of the input, counted from 0, comes just before step number 1 + i * gap.
 unfoldable pub byte_before : Schedule → List ℕ → ℕ → Option ℕ
 byte_before schedule input step =

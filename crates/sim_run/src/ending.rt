@@ -1,18 +1,31 @@
 //! How a run ended, for whoever called the program.
 
-ghost use Rattle.std.specs.Prelude.{◌≡◌, ◌≤◌, ◌+◌, ◌++◌};
-ghost use Rattle.arrayvec.specs.ArrayString.{array_string_len};
+ghost use Rattle.std.specs.Prelude.{◌≡◌, ◌++◌, OnOk, IfOk, Option, codes, decimal, false, string_bytes};
 ghost use Rattle.cap_bounds.specs.CapValue.{value_address};
+ghost use Rattle.disassembler.specs.Hex.{hex_of};
 ghost use Rattle.hart.specs.State.{pc_of};
-ghost use Rattle.sim_run.specs.Ending.{ending_line, is_trapped, last_trap, trap_part};
+ghost use Rattle.hart.specs.Step.{step_effect};
+ghost use Rattle.hart.specs.declared.effect.Effect.TheVariants.{Trap};
+ghost use Rattle.hart.specs.Opening.{opening};
+ghost use Rattle.machine.specs.Run.{run_after};
+ghost use Rattle.sim_run.specs.Ending.{ending_lines, first_trap, is_trapped, last_trap, since_line, trap_lines, trap_part};
+ghost use Rattle.sim_run.specs.Schedule.{is_halted, scheduled, IsRunnable};
+ghost use Rattle.sim_run.specs.Unhandled.{trap_left, Trapped};
+ghost use Rattle.sim_run.specs.Watched.{IsTold};
 ghost use Rattle.sim_run.specs.Verdict.{status_of, verdict_line};
 
+use crate::schedule::Schedule;
+use crate::unhandled::trap_left;
 use arrayvec::ArrayString;
-use base::{csr, scr};
+use base::{Fault, csr, scr};
 use cap_bounds::CapRep;
 use disassembler::hex_digits;
+use effect_texts::{put, put_decimal, put_hex};
+use explain::put_failed;
+use image::Image;
 use itoa::Buffer;
 use machine::{End, Machine};
+use std::alloc::{AllocError, Global};
 use trap_texts::trap_text;
 
 /// The status of a run that ended so, and the line for standard error, empty at status 0.
@@ -37,7 +50,7 @@ pub fn verdict(end: End) -> (u8, ArrayString<64>)
 
 /// What mcause holds.
 #[tactic(auto, unfolding(special_regs::specs::CsrValues::csr_value))]
-fn mcause<C: CapRep>(machine: &Machine<C>) -> u64
+pub(crate) fn mcause<C: CapRep>(machine: &Machine<C>) -> u64
     ensures { result ≡ machine.now.csrs.mcause }
 {
     machine.csr(csr::MCAUSE)
@@ -59,9 +72,17 @@ fn mepc<C: CapRep>(machine: &Machine<C>) -> u64
     machine.scr(scr::MEPCC).address()
 }
 
+/// MTCC's address.
+#[tactic(auto, unfolding(special_regs::specs::Scrs::scr_value))]
+pub(crate) fn mtvec<C: CapRep>(machine: &Machine<C>) -> u64
+    ensures { result ≡ value_address machine.now.scrs.mtcc }
+{
+    machine.scr(scr::MTCC).address()
+}
+
 /// PCC's address.
 #[tactic(auto, unfolding(special_regs::specs::Scrs::scr_value))]
-fn pc<C: CapRep>(machine: &Machine<C>) -> u64
+pub(crate) fn pc<C: CapRep>(machine: &Machine<C>) -> u64
     ensures { result ≡ pc_of machine.now }
 {
     machine.scr(scr::PCC).address()
@@ -77,11 +98,9 @@ fn is_trapped(mcause: u64, mtval: u64) -> bool
 /// A trap in words, and where it was taken.
 #[tactic(auto, unfolding(crate::specs::Ending::trap_part))]
 fn trap_part(mcause: u64, mtval: u64, mepc: u64) -> ArrayString<192>
-    ensures text { result.bytes ≡ trap_part mcause mtval mepc }
-    ensures length { array_string_len result ≤ 132 }
+    ensures { result.bytes ≡ trap_part mcause mtval mepc }
 {
     let mut part = ArrayString::new();
-    part.push_str("; last trap: ");
     part.push_str(trap_text(mcause, mtval).as_str());
     part.push_str(", mepc ");
     part.push_str(hex_digits(u128::from(mepc), 16).as_str());
@@ -90,27 +109,124 @@ fn trap_part(mcause: u64, mtval: u64, mepc: u64) -> ArrayString<192>
 
 /// Appends the last trap to a text, where one was taken.
 #[tactic(auto, unfolding(crate::specs::Ending::last_trap))]
-fn push_last_trap<C: CapRep>(line: &mut ArrayString<256>, machine: &Machine<C>)
-    requires { array_string_len line.old + 160 ≤ 256 }
-    ensures { line.new.bytes ≡ line.old.bytes ++ last_trap machine.now }
+fn put_last_trap<C: CapRep>(text: &mut String, machine: &Machine<C>) -> Result<(), AllocError>
+    ensures { OnOk result (string_bytes text.new ≡ string_bytes text.old ++ last_trap machine.now) }
 {
     let mcause = mcause(machine);
     let mtval = mtval(machine);
     if is_trapped(mcause, mtval) {
-        line.push_str(trap_part(mcause, mtval, mepc(machine)).as_str());
+        put(text, "; last trap: ")?;
+        put(text, trap_part(mcause, mtval, mepc(machine)).as_str())
+    } else {
+        put(text, "")
     }
 }
 
-/// The line for standard error that says where a run ended, as `cherisim: steps 10000, pcc 0000000080000010`: how many steps were
-/// done, where PCC is, and the last trap where one was taken, with its cause, what mtval says of it, and the address where it was.
-pub fn ending_line<C: CapRep>(machine: &Machine<C>, steps: u64) -> ArrayString<256>
-    ensures { result.bytes ≡ ending_line steps machine.now }
+/// Appends a trap, where it was taken and the number of its step to a text.
+fn put_trap(text: &mut String, fault: Fault, mepc: u64, number: u64) -> Result<(), AllocError>
+    ensures { OnOk result (string_bytes text.new ≡ string_bytes text.old
+        ++ (codes "; first trap: " ++ trap_part fault.mcause fault.mtval mepc ++ codes ", step " ++ decimal number ++ codes "\n")) }
 {
-    let mut line = ArrayString::new();
-    line.push_str("cherisim: steps ");
-    line.push_str(Buffer::new().format(steps));
-    line.push_str(", pcc ");
-    line.push_str(hex_digits(u128::from(pc(machine)), 16).as_str());
-    push_last_trap(&mut line, machine);
-    line
+    put(text, "; first trap: ")?;
+    put(text, trap_part(fault.mcause, fault.mtval, mepc).as_str())?;
+    put(text, ", step ")?;
+    put_decimal(text, number)?;
+    put(text, "\n")
+}
+
+/// Appends the trap of the next step, which was planned, to a text: with the step's number and, on a line of its own, the condition that
+/// fails.
+pub(crate) fn put_first_trap<C: CapRep>(
+    text: &mut String,
+    machine: &Machine<C>,
+    number: u64,
+    fault: Fault,
+) -> Result<(), AllocError>
+    requires running { is_halted machine.now ≡ false }
+    requires traps { step_effect machine.now ≡ Trap fault }
+    ensures { OnOk result (string_bytes text.new ≡ string_bytes text.old ++ first_trap number machine.now) }
+{
+    put_trap(text, fault, pc(machine), number)?;
+    put_failed(text, machine.hart())
+}
+
+/// Appends how many steps since the first trap were traps of the fetch to a text.
+#[tactic(auto, unfolding(crate::specs::Ending::since_line))]
+fn put_since(text: &mut String, count: u64) -> Result<(), AllocError>
+    ensures { OnOk result (string_bytes text.new ≡ string_bytes text.old ++ since_line count) }
+{
+    if count == 0 {
+        return put(text, "");
+    }
+    put(
+        text,
+        "  traps since then at an entry that can't be fetched: ",
+    )?;
+    put_decimal(text, count)?;
+    put(text, "\n")
+}
+
+/// Appends how many steps were done and where PCC is to a text.
+fn put_place<C: CapRep>(
+    text: &mut String,
+    machine: &Machine<C>,
+    steps: u64,
+) -> Result<(), AllocError>
+    ensures { OnOk result (string_bytes text.new ≡ string_bytes text.old
+        ++ (codes "cherisim: steps " ++ decimal steps ++ codes ", pcc " ++ hex_of 16 (pc_of machine.now))) }
+{
+    put(text, "cherisim: steps ")?;
+    put_decimal(text, steps)?;
+    put(text, ", pcc ")?;
+    put_hex(text, 16, u128::from(pc(machine)))
+}
+
+/// Appends the trap that matters to a text: the first that nothing handled, with what was found of it, or else the last.
+fn put_trap_lines<C: CapRep>(
+    text: &mut String,
+    machine: &Machine<C>,
+    unfetched: Option<u64>,
+    first: &str,
+) -> Result<(), AllocError>
+    ensures { OnOk result ((found : Option Trapped) → IsTold unfetched first.now found
+        → string_bytes text.new ≡ string_bytes text.old ++ trap_lines found machine.now) }
+{
+    match unfetched {
+        Some(count) => {
+            put(text, first)?;
+            put_since(text, count)
+        }
+        None => {
+            put_last_trap(text, machine)?;
+            put(text, "\n")
+        }
+    }
+}
+
+/// The lines for standard error that say where a run of an image on a schedule ended: how many steps were done, where PCC is, and the
+/// trap that nothing handled, with its cause, what mtval says of it, the address where it was, the condition that failed, and how often
+/// the fetch of the trap's entry trapped since then. Where every trap was handled it is the last of them, where one was taken.
+///
+/// # Errors
+///
+/// Out of memory: the run is done again step by step where a trap may be left.
+pub fn ending_lines<C: CapRep>(
+    alloc: Global,
+    image: &Image,
+    schedule: Schedule,
+    input: &[u8],
+    machine: &Machine<C>,
+    steps: u64,
+) -> Result<String, AllocError>
+    requires range { IsRunnable schedule }
+    requires ended { machine.now ≡ run_after (scheduled schedule input.now (opening image.now)) (opening image.now) }
+    ensures { IfOk result (λ text. string_bytes text
+        ≡ ending_lines steps (trap_left (scheduled schedule input.now (opening image.now)) (opening image.now)) machine.now) }
+{
+    let mut first = String::new(alloc);
+    let unfetched = trap_left(alloc, image, schedule, input, machine, &mut first)?;
+    let mut text = String::new(alloc);
+    put_place(&mut text, machine, steps)?;
+    put_trap_lines(&mut text, machine, unfetched, &first)?;
+    Ok(text)
 }

@@ -6,8 +6,9 @@ mod listing;
 mod run;
 mod schedule;
 mod traced;
+mod unhandled;
 
-pub use ending::{ending_line, verdict};
+pub use ending::{ending_lines, verdict};
 pub use listing::list;
 pub use run::{Ran, run_counted, run_scheduled};
 pub use schedule::Schedule;

@@ -6,7 +6,7 @@ ghost use Rattle.image.specs.Devices.{Counts};
 ghost use Rattle.hart.specs.declared.event.Event.TheVariants.{Step, Tick, Byte};
 ghost use Rattle.machine.specs.Run.{run_after, run_sent, end_of};
 ghost use Rattle.sim_run.specs.Schedule.{byte_before, is_tick_after, block, AreAlone, is_halted, steps_in};
-ghost use Rattle.sim_run.specs.Schedule.{up_to_halt, scheduled, IsCutShort, IsInRange};
+ghost use Rattle.sim_run.specs.Schedule.{up_to_halt, scheduled, IsCutShort, IsInRange, IsRunnable};
 
 use crate::schedule::Schedule;
 use cap_bounds::CapRep;
@@ -177,14 +177,15 @@ pub struct Ran {
     pub steps: u64,
 }
 
-/// Runs a machine as `run_scheduled` does, and answers with the run's end how many steps were done.
+/// Runs a machine as `run_scheduled` does, for a million times as many steps at most or for none, and answers with the run's end how many
+/// were done.
 pub fn run_counted<C: CapRep, W: Sink>(
     machine: &mut Machine<C>,
     schedule: Schedule,
     input: &[u8],
     sink: &mut W,
 ) -> Result<Ran, DeviceFailed>
-    requires range { IsInRange schedule }
+    requires range { IsRunnable schedule }
     requires running { is_halted machine.old ≡ false }
     requires failed { W.failed sink.old < 2 ^ 64 - 1 }
     ensures state { OnOk result (machine.new ≡ run_after (scheduled schedule input.now machine.old) machine.old) }

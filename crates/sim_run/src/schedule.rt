@@ -1,10 +1,10 @@
 ghost use Rattle.std.specs.Prelude.{ℕ, ◌+◌, ◌*◌, ◌<◌, ◌≤◌, ◌↔◌, IsTrue};
-ghost use Rattle.sim_run.specs.Schedule.{IsInRange};
+ghost use Rattle.sim_run.specs.Schedule.{IsInRange, IsRunnable};
 
 /// When a run ends, and when bytes and ticks come.
 #[derive(Clone, Copy, Debug, PartialEq, Eq)]
 pub struct Schedule {
-    /// The most steps that are done, 1 to 100000000.
+    /// The most steps that are done: 1 to 100000000, or of a run that counts them 0 to 10^14.
     pub steps: u64,
     /// Steps from one byte of the input to the next, 1 to 1000000. The first byte comes before the first step.
     pub gap: u64,
@@ -26,7 +26,8 @@ impl Schedule {
 
     /// How many bytes of its input a run by this schedule can use: each byte comes before a step, and those after them never come.
     pub fn most_bytes(self) -> u64
-        requires { IsInRange self }
+        requires some_step { 1 ≤ self.steps }
+        requires range { IsRunnable self }
         ensures used { (i : ℕ) → i < result → 1 + i * self.gap ≤ self.steps }
         ensures unused { (i : ℕ) → result ≤ i → self.steps < 1 + i * self.gap }
     {

@@ -6,7 +6,7 @@ ghost use Rattle.hart.specs.Event.{after, sent};
 ghost use Rattle.hart.specs.declared.event.Event.TheVariants.{Step};
 ghost use Rattle.machine.specs.Run.{run_after, run_sent, end_of};
 ghost use Rattle.effect_texts.specs.TraceLine.{trace_line as trace_line_of};
-ghost use Rattle.sim_run.specs.Schedule.{block, is_halted, scheduled, steps_in, up_to_halt, IsInRange};
+ghost use Rattle.sim_run.specs.Schedule.{block, is_halted, scheduled, steps_in, up_to_halt, IsRunnable};
 ghost use Rattle.sim_run.specs.Trace.{trace_lines, CountsTraced, WasCut};
 
 use crate::run::{Ran, bring, pass, write_sent};
@@ -99,7 +99,7 @@ pub fn run_traced<C: CapRep, W: Sink, T: Sink>(
     sink: &mut W,
     trace: &mut T,
 ) -> Result<Ran, TraceFault>
-    requires range { IsInRange schedule }
+    requires range { IsRunnable schedule }
     requires running { is_halted machine.old ≡ false }
     requires sink { W.failed sink.old < 2 ^ 64 - 1 }
     requires trace { T.failed trace.old < 2 ^ 64 - 1 }

@@ -7,4 +7,4 @@ pub returns-in-Some : goal.returns-in-Some
 returns-in-Some g c =
     let known = bytes_of c.in-Some.file.now (g.F.Folder.files c.args.folder.now) in
     rw c.in-Some.is (IfOk-weaker c.read_beginning.result _ _ (λ v part. typed-take c.args.schedule c.most_bytes.result known v.items
-    c.requires.some_gap c.most_bytes.ensures.unused part) c.read_beginning.ensures.ok)
+    c.requires.range.some_gap c.most_bytes.ensures.unused part) c.read_beginning.ensures.ok)

@@ -1,0 +1,59 @@
+-- The condition that fails: those of the stages before it all hold.
+use Rattle.std.proofs.Common.{◌≡◌, ℕ, Bool, true, false, List, [], ◌∷◌, ◌++◌, Option, Some, None, Ok, Err, refl, ap, sym, ◌∙◌}
+use Rattle.std.proofs.Common.{append-nil}
+use Rattle.std.specs.Prelude.{is_some, if◌then◌else◌}
+use Rattle.base.specs.declared.fault.Fault.{Fault}
+use Rattle.cap_checks.specs.declared.question.Condition.{Condition}
+use Rattle.cap_checks.specs.declared.question.Question.TheVariants.{Instruction}
+use Rattle.cap_checks.specs.Question.{asks, fault_of, first_false}
+use Rattle.devices.specs.Devices.{interrupts_of}
+use Rattle.special_regs.specs.Interrupts.{pending}
+use Rattle.special_regs.specs.declared.interrupts.Interrupt.{Interrupt}
+use Rattle.isa_rows.specs.declared.operands.Insn.{Insn}
+use Rattle.isa_rows.specs.Kind.{kind_of}
+use Rattle.isa_rows.specs.Decoded.{insn_of}
+use Rattle.hart.specs.State.{State}
+use Rattle.hart.specs.Step.{asked, fetch_asked, fetch, word_unless}
+use Rattle.explain.specs.Asked.{all_conditions, stages_of, stages_unless, word_stages}
+use Rattle.explain.specs.Text.{condition_line, failed_line, false_line}
+
+-- conditions that hold are passed over
+all-hold : (s : State) (cs rest : List Condition) → first_false cs ≡ None → false_line s (cs ++ rest) ≡ false_line s rest
+all-hold s [] rest none = refl
+all-hold s (c ∷ cs) rest none =
+    elim c.holds as (λ b. (if b then first_false cs else Some (fault_of c.question)) ≡ None
+    → (if b then false_line s (cs ++ rest) else condition_line s c) ≡ false_line s rest)
+    [ true ↦ λ e. all-hold s cs rest e | false ↦ λ e. cc ] none
+
+fetched : (f : Option Fault) (s : State) (word : ℕ) → word_unless f s ≡ Ok word → f ≡ None
+fetched None s word e = refl
+fetched (Some fault) s word e = cc
+
+none-is : {T : Type 0} (o : Option T) → is_some o ≡ false → o ≡ None
+none-is None e = refl
+none-is (Some x) e = cc
+
+-- a word that is an instruction
+pub failed-insn : (word : ℕ) (s : State) (insn : Insn) → insn_of word ≡ Some insn
+    → false_line s (asked (kind_of insn.row) word insn s) ≡ false_line s (all_conditions (word_stages (insn_of word) word s))
+failed-insn word s insn some = rw some (ap (false_line s) (sym (append-nil (asked (kind_of insn.row) word insn s))))
+
+-- and one that is none
+pub failed-none : (word : ℕ) (s : State) → insn_of word ≡ None
+    → condition_line s (asks (Instruction word) false) ≡ false_line s (all_conditions (word_stages (insn_of word) word s))
+failed-none word s none = rw none refl
+
+module _ (s : State) (running : is_some (pending s.csrs (interrupts_of s.devices)) ≡ false) where
+  pub failed-word : (word : ℕ) → fetch s ≡ Ok word
+      → false_line s (all_conditions (word_stages (insn_of word) word s)) ≡ failed_line s
+  unfolding failed_line stages_of
+  failed-word word is =
+      rw (none-is (pending s.csrs (interrupts_of s.devices)) running, is)
+      (sym (all-hold s (fetch_asked s) (all_conditions (word_stages (insn_of word) word s))
+      (fetched (first_false (fetch_asked s)) s word is)))
+
+  pub failed-fetch : (fault : Fault) → fetch s ≡ Err fault → false_line s (fetch_asked s) ≡ failed_line s
+  unfolding failed_line stages_of
+  failed-fetch fault is =
+      rw (none-is (pending s.csrs (interrupts_of s.devices)) running, is)
+      (ap (false_line s) (sym (append-nil (fetch_asked s))))

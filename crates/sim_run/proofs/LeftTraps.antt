@@ -1,0 +1,248 @@
+-- The trap that is left after events, one after the other, and where PCC then is.
+use Rattle.std.proofs.Common.{◌≡◌, ℕ, suc, ◌+◌, ◌*◌, ◌/◌, ◌%◌, ◌^◌, ◌≤◌, ◌<◌, Bool, true, false, List, [], ◌∷◌, ◌++◌, Option, Some, None}
+use Rattle.std.proofs.Common.{◌⊎◌, inl, inr, refl, sym, ap, ◌∙◌, subst, arith}
+use Rattle.std.proofs.lemmas.Bool.{cond_both, eqb-true}
+use Rattle.std.specs.Prelude.{◌==◌, is_some, if◌then◌else◌, codes, decimal}
+use Rattle.base.specs.declared.fault.Fault.{Fault}
+use Rattle.cap_bounds.specs.AddressLaws.{value_address-at_address}
+use Rattle.cap_bounds.specs.CapValue.{CapValue, value_address, is_tagged}
+use Rattle.cap_bounds.specs.SetAddress.{at_address}
+use Rattle.special_regs.specs.Mtvec.{is_vectored}
+use Rattle.special_regs.specs.Traps.{entry_address, placed_at, sentry_opened, trap_target, vector_of}
+use Rattle.special_regs.specs.Writes.{has_bit}
+use Rattle.hart.specs.declared.effect.Effect.{Effect}
+use Rattle.hart.specs.declared.effect.Effect.TheVariants as effect
+use Rattle.hart.specs.declared.event.Event.{Event}
+use Rattle.hart.specs.declared.event.Event.TheVariants.{Step, Tick, Byte}
+use Rattle.hart.specs.Effect.{applied}
+use Rattle.hart.specs.Event.{after, outcome}
+use Rattle.hart.specs.Outcome.{Outcome, Plain, Unseal, SealedJump, is_trap, outcome_of, step_outcome, step_outcome_unless}
+use Rattle.hart.specs.State.{State, pc_of}
+use Rattle.hart.specs.Step.{fetch, step_effect, stepped, stepped_unless}
+use Rattle.machine.specs.Run.{run_after}
+use Rattle.explain.specs.Text.{failed_line}
+use Rattle.trap_texts.specs.Text.{trap_text}
+use Rattle.sim_run.specs.declared.schedule.Schedule.{Schedule}
+use Rattle.sim_run.specs.Schedule.{block, first_steps, is_halted, steps_in, up_to_halt}
+use Rattle.sim_run.specs.Ending.{first_trap, trap_part}
+use Rattle.sim_run.specs.Unhandled.{Trapped, first_of, after_step, unfetched_in, unhandled, trap_left}
+use Rattle.sim_run.specs.Watched.{trap_in, IsTold}
+use Rattle.sim_run.proofs.Events.{brought, ticked_after}
+use Rattle.sim_run.proofs.Scheduled.{nth_block}
+use Rattle.sim_run.proofs.TracedSteps.{one_block, met}
+
+-- ---- events, one after the other
+
+unhandled-append : (n : ℕ) (found : Option Trapped) (xs ys : List Event) (s : State)
+    → unhandled n found (xs ++ ys) s ≡ unhandled (n + steps_in xs) (unhandled n found xs s) ys (run_after xs s)
+unhandled-append n found [] ys s =
+    let none : n ≡ n + 0 = omega arith in
+    ap (λ m. unhandled m found ys s) none
+unhandled-append n found (Step ∷ xs) ys s =
+    let one : n + 1 + steps_in xs ≡ n + suc (steps_in xs) = omega arith in
+    let next = after_step (n + 1) s found in
+    unhandled-append (n + 1) next xs ys (after Step s)
+    ∙ ap (λ m. unhandled m (unhandled (n + 1) next xs (after Step s)) ys (run_after xs (after Step s))) one
+unhandled-append n found (Tick ∷ xs) ys s = unhandled-append n found xs ys (after Tick s)
+unhandled-append n found (Byte b ∷ xs) ys s = unhandled-append n found xs ys (after (Byte b) s)
+
+unhandled-brought : (n : ℕ) (found : Option Trapped) (byte : Option ℕ) (es : List Event) (s : State)
+    → unhandled n found (brought byte ++ es) s ≡ unhandled n found es (run_after (brought byte) s)
+unhandled-brought n found None es s = refl
+unhandled-brought n found (Some b) es s = refl
+
+unhandled-ticked : (n : ℕ) (found : Option Trapped) (b : Bool) (s : State) → unhandled n found (if b then Tick ∷ [] else []) s ≡ found
+unhandled-ticked n found true s = refl
+unhandled-ticked n found false s = refl
+
+-- t is the machine after the byte
+module _ (byte : Option ℕ) (ticks : Bool) (s t : State) (running : is_halted s ≡ false) (at_byte : t ≡ run_after (brought byte) s) where
+  -- over a step with a byte before it and a tick after it
+  pub unhandled-block : (n : ℕ) (found : Option Trapped)
+      → after_step (n + 1) t found ≡ unhandled n found (up_to_halt (block byte 1 ticks) s) s
+  unhandled-block n found =
+      let past = ticked_after ticks (after Step t) in
+      sym (ap (λ es. unhandled n found es s) (one_block byte ticks s t running at_byte)
+      ∙ unhandled-brought n found byte ((Step ∷ []) ++ past) s
+      ∙ ap (λ v. unhandled n found ((Step ∷ []) ++ past) v) (sym at_byte)
+      ∙ unhandled-ticked (n + 1) (after_step (n + 1) t found) _ (after Step t))
+
+module _ (schedule : Schedule) (input : List ℕ) (m : ℕ) (s t : State) (running : is_halted s ≡ false)
+    (so_far : t ≡ run_after (up_to_halt (first_steps schedule input m) s) s) (still : is_halted t ≡ false)
+    (few : m + 1 ≤ schedule.steps) (count : steps_in (up_to_halt (first_steps schedule input m) s) ≡ m) where
+  -- over one step more of a schedule
+  pub unhandled-more : unhandled m (trap_left (up_to_halt (first_steps schedule input m) s) s) (up_to_halt (nth_block schedule input m 1) t) t
+      ≡ trap_left (up_to_halt (first_steps schedule input (m + 1)) s) s
+  unhandled-more =
+      let done = up_to_halt (first_steps schedule input m) s in
+      let next = up_to_halt (nth_block schedule input m 1) t in
+      let none : steps_in done ≡ 0 + steps_in done = omega arith in
+      ap (λ k. unhandled k (trap_left done s) next t) (sym count ∙ none)
+      ∙ ap (λ v. unhandled (0 + steps_in done) (trap_left done s) next v) so_far
+      ∙ sym (unhandled-append 0 None done next s)
+      ∙ ap (λ es. unhandled 0 None es s) (sym (met schedule input m s t running so_far still few count))
+
+-- ---- one step
+
+is-trap-in : (e : Effect CapValue) → is_trap (outcome_of e) ≡ is_some (trap_in e)
+unfolding outcome_of
+is-trap-in (effect.Trap fault) = refl
+is-trap-in effect.Nothing = refl
+is-trap-in (effect.Write w) = refl
+is-trap-in (effect.Unseal w) = cond_both (is_tagged w.value) Unseal Plain (λ o. is_trap o ≡ false) (λ _. refl) (λ _. refl)
+is-trap-in (effect.Store w) = refl
+is-trap-in (effect.StoreCapability w) = refl
+is-trap-in (effect.DeviceLoad l) = refl
+is-trap-in (effect.DeviceStore w) = refl
+is-trap-in (effect.Jump target) = refl
+is-trap-in (effect.Link l) = refl
+is-trap-in (effect.Enter e) = cond_both e.sealed SealedJump Plain (λ o. is_trap o ≡ false) (λ _. refl) (λ _. refl)
+is-trap-in (effect.Special w) = refl
+is-trap-in (effect.Csr w) = refl
+is-trap-in (effect.Return sealed) = cond_both sealed SealedJump Plain (λ o. is_trap o ≡ false) (λ _. refl) (λ _. refl)
+
+pub trap-of : (e : Effect CapValue) (f : Fault) → trap_in e ≡ Some f → e ≡ effect.Trap f
+trap-of (effect.Trap fault) f same = cc
+trap-of _ f same = cc
+
+some-fault : (e : Effect CapValue) → is_some (trap_in e) ≡ true → (f : Fault) × (e ≡ effect.Trap f)
+some-fault (effect.Trap fault) some = (fault, refl)
+some-fault _ some = cc
+
+not-halted : (halted : Option ℕ) → is_some halted ≡ false → halted ≡ None
+not-halted None e = refl
+not-halted (Some n) e = cc
+
+module _ (s : State) (running : is_halted s ≡ false) where
+  pub traps : is_trap (outcome Step s) ≡ is_some (trap_in (step_effect s))
+  unfolding step_outcome
+  traps =
+      ap (λ halted. is_trap (step_outcome_unless halted s)) (not-halted s.devices.halted running) ∙ is-trap-in (step_effect s)
+
+  after-trap : (f : Fault) → step_effect s ≡ effect.Trap f → after Step s ≡ applied (effect.Trap f) s
+  unfolding stepped
+  after-trap f is =
+      ap (λ halted. stepped_unless halted s) (not-halted s.devices.halted running) ∙ ap (λ e. applied e s) is
+
+  cause-left : (f : Fault) → step_effect s ≡ effect.Trap f → (after Step s).csrs.mcause ≡ f.mcause
+  unfolding applied
+  cause-left f is = ap (λ (t : State). t.csrs.mcause) (after-trap f is)
+
+  value-left : (f : Fault) → step_effect s ≡ effect.Trap f → (after Step s).csrs.mtval ≡ f.mtval
+  unfolding applied
+  value-left f is = ap (λ (t : State). t.csrs.mtval) (after-trap f is)
+
+  -- the trap that is taken, as it is told
+  pub told-trap : (f : Fault) (number : ℕ) → step_effect s ≡ effect.Trap f
+      → codes "; first trap: " ++ trap_part f.mcause f.mtval (pc_of s) ++ codes ", step " ++ decimal number ++ codes "\n"
+      ++ failed_line s
+      ≡ first_trap number s
+  unfolding first_trap
+  told-trap f number is =
+      ap (λ c. codes "; first trap: " ++ trap_part c f.mtval (pc_of s) ++ codes ", step " ++ decimal number ++ codes "\n"
+      ++ failed_line s) (sym (cause-left f is))
+      ∙ ap (λ v. codes "; first trap: " ++ trap_part (after Step s).csrs.mcause v (pc_of s) ++ codes ", step " ++ decimal number
+      ++ codes "\n" ++ failed_line s) (sym (value-left f is))
+
+  pub trap-taken : (number : ℕ) (found : Option Trapped) (f : Fault) → trap_in (step_effect s) ≡ Some f
+      → Some (first_of number s found) ≡ after_step number s found
+  trap-taken number found f is = rw (traps, is) refl
+
+  pub none-taken : (number : ℕ) (found : Option Trapped) → trap_in (step_effect s) ≡ None → None ≡ after_step number s found
+  none-taken number found is = rw (traps, is) refl
+
+-- ---- the trap that is left, as it is told
+
+pub told-more : (n : ℕ) (text : List ℕ) (number : ℕ) (s : State) (found : Option Trapped) → IsTold (Some n) text found → (m : ℕ)
+    → m ≡ n + unfetched_in (fetch s) → IsTold (Some m) text (Some (first_of number s found))
+told-more n text number s None told m is = absurd told
+told-more n text number s (Some first) told m is = (is ∙ ap (λ k. k + unfetched_in (fetch s)) told.0, told.1)
+
+pub told-first : (number : ℕ) (s : State) (found : Option Trapped) (old new : List ℕ) → IsTold None old found
+    → new ≡ first_trap number s → IsTold (Some 0) new (Some (first_of number s found))
+told-first number s None old new told is = (refl, is)
+told-first number s (Some first) old new told is = absurd told
+
+pub told-none : (unfetched : Option ℕ) (text : List ℕ) (found : Option Trapped) → unfetched ≡ None → IsTold unfetched text found
+    → found ≡ None
+told-none None text None is told = refl
+told-none None text (Some first) is told = absurd told
+told-none (Some n) text found is told = cc
+
+-- ---- where PCC is after a trap
+
+abbrev pub fault_with : ℕ → ℕ → Fault
+fault_with mcause mtval = record { mcause = mcause; mtval = mtval }
+
+abbrev pub IsAtEntry : State → Type 0
+IsAtEntry s = value_address s.scrs.pcc ≡ entry_address (fault_with s.csrs.mcause s.csrs.mtval) (value_address s.scrs.mtcc)
+
+entry-small : (f : Fault) (mtvec : ℕ) → entry_address f mtvec < 2 ^ 64
+unfolding entry_address
+entry-small f mtvec = omega arith
+
+target-address : (f : Fault) (v : CapValue) → value_address (trap_target f v) ≡ entry_address f (value_address v)
+unfolding placed_at
+target-address f v =
+    let entry = entry_address f (value_address v) in
+    let code = sentry_opened v in
+    cond_both (value_address code == entry) code (at_address code entry) (λ w. value_address w ≡ entry)
+    (eqb-true (value_address code) entry) (λ _. value_address-at_address code entry (entry-small f (value_address v)))
+
+at-entry-after : (f : Fault) (s : State) → IsAtEntry (applied (effect.Trap f) s)
+unfolding applied
+at-entry-after f s = target-address f s.scrs.mtcc
+
+halted-plain : (halted : Option ℕ) (s : State) → is_trap (step_outcome_unless halted s) ≡ true → is_some halted ≡ false
+halted-plain None s is = refl
+halted-plain (Some n) s is = cc
+
+trapped-at_entry : (s : State) → is_trap (outcome Step s) ≡ true → IsAtEntry (after Step s)
+unfolding step_outcome
+trapped-at_entry s is =
+    let running = halted-plain s.devices.halted s is in
+    let found = some-fault (step_effect s) (sym (traps s running) ∙ is) in
+    subst IsAtEntry (sym (after-trap s running found.0 found.1)) (at-entry-after found.0 s)
+
+some-taken : (number : ℕ) (s : State) (found : Option Trapped) → is_some (after_step number s found) ≡ true
+    → is_trap (outcome Step s) ≡ true
+some-taken number s found some = go (is_trap (outcome Step s)) some
+  where
+    go : (b : Bool) → is_some (if b then Some (first_of number s found) else None) ≡ true → b ≡ true
+    go true e = refl
+    go false e = cc
+
+at-entry : (n : ℕ) (found : Option Trapped) (events : List Event) (s : State) → (is_some found ≡ true → IsAtEntry s)
+    → is_some (unhandled n found events s) ≡ true → IsAtEntry (run_after events s)
+at-entry n found [] s before some = before some
+at-entry n found (Step ∷ es) s before some =
+    at-entry (n + 1) (after_step (n + 1) s found) es (after Step s) (λ left. trapped-at_entry s (some-taken (n + 1) s found left)) some
+at-entry n found (Tick ∷ es) s before some = at-entry n found es (after Tick s) before some
+at-entry n found (Byte b ∷ es) s before some = at-entry n found es (after (Byte b) s) before some
+
+pub none-some : false ≡ true → ⊥
+none-some e = cc
+
+-- where PCC is at no entry, nothing is left
+pub none-left : (t : State) → (IsAtEntry t → ⊥) → (events : List Event) (s : State) → t ≡ run_after events s → trap_left events s ≡ None
+none-left t elsewhere events s there = go (trap_left events s) refl
+  where
+    go : (left : Option Trapped) → trap_left events s ≡ left → left ≡ None
+    go None is = refl
+    go (Some first) is =
+        absurd (elsewhere (subst IsAtEntry (sym there)
+        (at-entry 0 None events s (λ some. absurd (none-some some)) (ap is_some is))))
+
+-- the two addresses at which a trap may begin
+pub two-entries : (f : Fault) (mtvec : ℕ) → mtvec < 2 ^ 64
+    → (entry_address f mtvec ≡ mtvec / 4 * 4) ⊎ (entry_address f mtvec ≡ (mtvec / 4 * 4 + f.mcause * 4 % 2 ^ 64) % 2 ^ 64)
+unfolding entry_address
+two-entries f mtvec small = go (is_vectored mtvec) (has_bit f.mcause 63)
+  where
+    go : (vectored interrupt : Bool)
+        → ((mtvec / 4 * 4 + (if vectored then 4 * (if interrupt then f.mcause % 2 ^ 63 else 0) else 0)) % 2 ^ 64 ≡ mtvec / 4 * 4)
+        ⊎ ((mtvec / 4 * 4 + (if vectored then 4 * (if interrupt then f.mcause % 2 ^ 63 else 0) else 0)) % 2 ^ 64
+        ≡ (mtvec / 4 * 4 + f.mcause * 4 % 2 ^ 64) % 2 ^ 64)
+    go false interrupt = inl (omega (arith, small))
+    go true false = inl (omega (arith, small))
+    go true true = inr (omega arith)

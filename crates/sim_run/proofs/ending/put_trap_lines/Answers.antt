@@ -1,0 +1,17 @@
+use Rattle.std.proofs.Common.{◌++◌, ap, sym, ◌∙◌}
+use Rattle.std.proofs.lemmas.Result.{on_ok_weaker}
+use Rattle.std.specs.Prelude.{codes, string_bytes}
+use Rattle.sim_run.specs.Ending.{last_trap, trap_lines}
+use Rattle.sim_run.proofs.LeftTraps.{told-none}
+use Rattle.sim_run.proofs.Texts.{text_on}
+use Rattle.sim_run.proofs.ending.put_trap_lines.Goals as goal
+
+pub returns-in_ok-put_last_trap-in-None : goal.returns-in_ok-put_last_trap-in-None
+returns-in_ok-put_last_trap-in-None g c =
+    let s = c.args.machine.now in
+    let old = string_bytes c.args.text.now in
+    on_ok_weaker c.put-in-None.result
+    (λ e found told. text_on old (string_bytes c.put_last_trap.new.text) (string_bytes c.put-in-None.new.text) (last_trap s) (codes "\n")
+    c.in_ok-put_last_trap-in-None.ensures e
+    ∙ ap (λ o. old ++ trap_lines o s) (sym (told-none c.args.unfetched c.args.first.now found c.in-None.is told)))
+    c.put-in-None.ensures.bytes
