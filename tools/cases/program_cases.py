@@ -202,7 +202,7 @@ def auipc(target):
 
 DDC, MTVEC, MEPC = 1, 0x305, 0x341
 ECALL, MRET, NOP, HERE = 0x73, 0x30200073, 0x13, 0x6F
-# loads 8 bytes behind a capability of the first 8 of all addresses
+# loads 8 bytes past a capability of the first 8 of all addresses
 LOADS_PAST_THE_END = [special_rw(A0, DDC, 0), capability_immediate(8, A0, 2, A0), capability_immediate(8, A0, 1, A0),
                       0x7D << 25 | 0x0B << 20 | A0 << 15 | A1 << 7 | 0x5B]
 # The handler goes on after the instruction that trapped.
@@ -222,13 +222,13 @@ def trapped():
                 + "".join(f"  {line}\n" for line in more))
 
     def since(count):
-        return [f"traps since then at an entry that can't be fetched: {count}"]
+        return [f"later traps at an entry that can't be fetched: {count}"]
 
     def runs(steps, words, *expected, options=""):
         yield case(f"run trap.img {steps}{options}", [f"trap.img {quoted(image(*words))}"], 1, "open trap.img", b"",
                    told(steps, *expected))
 
-    yield "# the first trap that nothing handled, the condition that failed, and how often the trap's entry could not be fetched since then"
+    yield "# the first trap that nothing handled, the condition that failed, and how often the trap's entry could not be fetched later"
     load = (nowhere, "first", f"load access fault, mtval {none}", 0, 1)
     missed = [f"no RAM or a device at {nowhere}"]
     yield from runs(1, LOADS_NOTHING, *load, missed)
@@ -242,14 +242,14 @@ def trapped():
     yield "# an ECALL, which fails no condition"
     call = f"environment call, mtval {none}"
     yield from runs(3, [ECALL], nowhere, "first", call, 0, 1, since(2))
-    yield "# an instruction that is none, and one after the end of RAM's only page"
+    yield "# a word that is no instruction, and one after the end of RAM's only page"
     yield from runs(2, [0], nowhere, "first", f"illegal instruction, mtval {none}", 0, 1, ["no the word is an instruction"] + since(1))
     past = [0] * 1023 + [NOP]
     start = header(1, RAM + 4092, 1, 0) + section(RAM, b"".join(word.to_bytes(4, "little") for word in past))
     yield case("run end.img 4", [f"end.img {quoted(start)}"], 1, "open end.img", b"",
                told(4, nowhere, "first", f"instruction access fault, mtval {RAM + 4096:016x}", 4096, 2,
                     [f"no RAM at {RAM + 4096:016x}"] + since(2)))
-    yield "# a trap is handled as soon as a step after it is none: the last is told, as the registers then hold it"
+    yield "# a trap is handled as soon as a step after it is no trap: the last is told, as the registers then hold it"
     yield from runs(4, IS_HANDLED, f"{RAM + 24:016x}", "first", call, 12, 4)
     yield from runs(5, IS_HANDLED, f"{RAM + 28:016x}", "last", call, 12)
     yield from runs(9, IS_HANDLED, f"{RAM + 16:016x}", "last", call, 16)

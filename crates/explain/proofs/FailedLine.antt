@@ -38,7 +38,7 @@ pub failed-insn : (word : ℕ) (s : State) (insn : Insn) → insn_of word ≡ So
     → false_line s (asked (kind_of insn.row) word insn s) ≡ false_line s (all_conditions (word_stages (insn_of word) word s))
 failed-insn word s insn some = rw some (ap (false_line s) (sym (append-nil (asked (kind_of insn.row) word insn s))))
 
--- and one that is none
+-- and a word of no row
 pub failed-none : (word : ℕ) (s : State) → insn_of word ≡ None
     → condition_line s (asks (Instruction word) false) ≡ false_line s (all_conditions (word_stages (insn_of word) word s))
 failed-none word s none = rw none refl

@@ -32,7 +32,7 @@ first_trap number s =
 
 -- how many steps since the first trap were traps of the fetch
 unfoldable pub since_line : ℕ → List ℕ
-since_line n = if n == 0 then [] else codes "  traps since then at an entry that can't be fetched: " ++ decimal n ++ codes "\n"
+since_line n = if n == 0 then [] else codes "  later traps at an entry that can't be fetched: " ++ decimal n ++ codes "\n"
 
 -- the trap that nothing handled; else the last
 abbrev pub trap_lines : Option Trapped → State → List ℕ

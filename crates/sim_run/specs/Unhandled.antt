@@ -9,7 +9,7 @@ use Rattle.hart.specs.Outcome.{is_trap}
 use Rattle.hart.specs.State.{State}
 use Rattle.hart.specs.Step.{fetch}
 
--- a trap: the number of its step, counted from 1, the state before it, and how many steps since then were traps of the fetch
+-- a trap: the number of its step, counted from 1, the state before it, and how many later steps were traps of the fetch
 pub record Trapped : Type 0 where
   pub number : ℕ
   pub before : State

@@ -160,7 +160,7 @@ fn put_since(text: &mut String, count: u64) -> Result<(), AllocError>
     }
     put(
         text,
-        "  traps since then at an entry that can't be fetched: ",
+        "  later traps at an entry that can't be fetched: ",
     )?;
     put_decimal(text, count)?;
     put(text, "\n")
@@ -205,7 +205,7 @@ fn put_trap_lines<C: CapRep>(
 
 /// The lines for standard error that say where a run of an image on a schedule ended: how many steps were done, where PCC is, and the
 /// trap that nothing handled, with its cause, what mtval says of it, the address where it was, the condition that failed, and how often
-/// the fetch of the trap's entry trapped since then. Where every trap was handled it is the last of them, where one was taken.
+/// the fetch of the trap's entry trapped later. Where every trap was handled it is the last of them, where one was taken.
 ///
 /// # Errors
 ///

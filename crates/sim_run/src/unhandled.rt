@@ -73,7 +73,7 @@ fn count_trap<C: CapRep>(
     }
 }
 
-/// Does the step of this number, and answers of the trap that is then left how many steps since then were traps of the fetch. Its lines
+/// Does the step of this number, and answers of the trap that is then left how many later steps were traps of the fetch. Its lines
 /// are `text`.
 fn watch_step<C: CapRep>(
     machine: &mut Machine<C>,
@@ -127,7 +127,7 @@ fn watch_around<C: CapRep>(
     Ok(left)
 }
 
-/// Runs a machine on a schedule step by step, and answers of the trap that is left how many steps since then were traps of the fetch. Its
+/// Runs a machine on a schedule step by step, and answers of the trap that is left how many later steps were traps of the fetch. Its
 /// lines are `text`.
 fn watch<C: CapRep>(
     machine: &mut Machine<C>,
@@ -170,7 +170,7 @@ fn may_be_trapped<C: CapRep>(machine: &Machine<C>) -> bool
     is_entry(pc(machine), mtvec(machine), mcause(machine))
 }
 
-/// Of the trap that is left by a run of an image on a schedule, which ended with this machine, how many steps since then were traps of
+/// Of the trap that is left by a run of an image on a schedule, which ended with this machine, how many later steps were traps of
 /// the fetch. Its lines are `text`. The run is done again, step by step, only where the last step may have been a trap.
 pub(crate) fn trap_left<C: CapRep>(
     alloc: Global,

@@ -10,7 +10,7 @@ pub returns : goal.returns
 unfolding since_line
 returns c =
     let old = string_bytes c.args.text.now in
-    let one = codes "  traps since then at an entry that can't be fetched: " in
+    let one = codes "  later traps at an entry that can't be fetched: " in
     let at_number = text_on old (string_bytes c.put-2.new.text) (string_bytes c.put_decimal.new.text) one (decimal c.args.count)
     c.in_ok-put.ensures.bytes c.in_ok-put_decimal.ensures.bytes in
     rw (ne_eqb c.args.count 0 c.if-count-eq0.false)
