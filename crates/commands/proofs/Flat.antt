@@ -162,7 +162,7 @@ fault_whole layout read bytes found part builds = elim (builds_err _ _ found bui
 pub system_flat : (layout : Layout) (flat bytes : List ℕ) (old new : Option (List File)) (fault : ProgramFault) → IsOfSystem fault
     → IsFlatFault layout flat bytes old new fault
 system_flat layout flat bytes old new (program.File name fault) system = absurd system
-system_flat layout flat bytes old new other system = tt
+system_flat layout flat bytes old new other system = system
 
 pub flat_system : {X : Type 0} (layout : Layout) (flat : List ℕ) (known : Option (List ℕ)) (old new : Option (List File))
     (result : Result X ProgramFault) → IfErr result IsOfSystem

@@ -11,7 +11,7 @@ use Rattle.fault_details.specs.Detail.{detail_of, line_at}
 use Rattle.symbols.specs.Symbols.{Symbol, symbol, table_text}
 use Rattle.commands.specs.declared.fault.ProgramFault.{ProgramFault}
 use Rattle.commands.specs.declared.fault.ProgramFault.TheVariants.{Asm}
-use Rattle.commands.specs.Files.{Text, File, Gains, whole}
+use Rattle.commands.specs.Files.{Text, File, Gains, whole, IsOfSystem}
 
 -- labels and their values, as a table has them
 abbrev pub seen_labels : Symbols → List Symbol
@@ -36,8 +36,8 @@ abbrev pub IsAsmFault : Text → List ℕ → AsmFault → ProgramFault → Type
 IsAsmFault input text found (Asm name fault read) = (name.now ≡ input) × (fault ≡ found) × IsRead text fault read.items
 IsAsmFault input text found other = ⊥
 
--- A fault of the text is its first, unless there was no memory, and no file is written.
+-- A fault of the text is its first, unless there was no memory, and no file is written; any other is the system's.
 abbrev pub IsTextFault : Text → List ℕ → Option (List File) → Option (List File) → ProgramFault → Type 0
 IsTextFault input text old new (Asm name fault read) =
     (name.now ≡ input) × IsFaultOf (text_fault text) fault × IsRead text fault read.items × (new ≡ old)
-IsTextFault input text old new other = ⊤
+IsTextFault input text old new other = IsOfSystem other

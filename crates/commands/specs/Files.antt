@@ -1,7 +1,12 @@
 -- The files of a folder: what became of them, in order.
-use Rattle.std.specs.Prelude.{◌≡◌, ℕ, List, [], ◌∷◌, ◌++◌, bytes_eq, if◌then◌else◌, Option, Some, None, ⊤}
+use Rattle.std.specs.Prelude.{◌≡◌, ◌⊎◌, ℕ, List, [], ◌∷◌, ◌++◌, bytes_eq, if◌then◌else◌, Option, Some, None, Err, IfSome, ⊤}
+use Rattle.std.specs.Borrow.{Bor}
+use Rattle.image.specs.Grammar.{reading}
+use Rattle.image.specs.Reads.{IsOfBytes}
+use Rattle.symbols.specs.Symbols.{faulty_line}
 use Rattle.commands.specs.declared.fault.ProgramFault.{ProgramFault}
 use Rattle.commands.specs.declared.fault.ProgramFault.TheVariants.{NoFile, Directory, Read, Write, CutShort, Memory}
+use Rattle.commands.specs.declared.fault.ProgramFault.TheVariants as program
 
 abbrev pub Text : Type 0
 Text = List ℕ
@@ -50,3 +55,20 @@ IsOfSystem (Write failed) = ⊤
 IsOfSystem (CutShort name) = ⊤
 IsOfSystem Memory = ⊤
 IsOfSystem other = ⊥
+
+-- a fault of a file that is to be an image: what its bytes are refused for, or the system's
+abbrev pub IsImageFault : Text → Option (List File) → ProgramFault → Type 0
+IsImageFault image files (program.File name fault) =
+    (name.now ≡ image) × IfSome (bytes_of image files) (λ bytes. IsOfBytes fault → reading bytes ≡ Err fault)
+IsImageFault image files other = IsOfSystem other
+
+-- a fault of a file that is to be a table of symbols: its first line that is none, or the system's
+abbrev pub IsTableFault : Text → Option (List File) → ProgramFault → Type 0
+IsTableFault table files (program.Symbols name number) =
+    (name.now ≡ table) × IfSome (bytes_of table files) (λ text. faulty_line text ≡ Some number)
+IsTableFault table files other = IsOfSystem other
+
+-- a fault of an image, or of the table that is named beside it
+abbrev pub IsSourceFault : Text → Option (Bor Text) → Option (List File) → ProgramFault → Type 0
+IsSourceFault image None files fault = IsImageFault image files fault
+IsSourceFault image (Some table) files fault = IsImageFault image files fault ⊎ IsTableFault table.now files fault

@@ -9,7 +9,7 @@ use Rattle.image.specs.Grammar.{spelling}
 use Rattle.command_line.specs.declared.layout.Layout.{Layout}
 use Rattle.commands.specs.declared.fault.ProgramFault.{ProgramFault}
 use Rattle.commands.specs.declared.fault.ProgramFault.TheVariants as program
-use Rattle.commands.specs.Files.{Text, File, Gains, whole}
+use Rattle.commands.specs.Files.{Text, File, Gains, whole, IsOfSystem}
 
 abbrev pub given : ℕ → Option ℕ → ℕ
 given default None = default
@@ -65,8 +65,8 @@ abbrev pub MakesImage : Layout → Text → List ℕ → Option (List File) → 
 MakesImage layout output bytes old new =
     (fault_for layout bytes ≡ None) × Gains old new (whole output (spelling (image_for layout bytes)))
 
--- A fault of the image is the first of its build, unless there was no memory, and no file is written.
+-- A fault of the image is the first of its build, unless there was no memory, and no file is written; any other is the system's.
 abbrev pub IsFlatFault : Layout → Text → List ℕ → Option (List File) → Option (List File) → ProgramFault → Type 0
 IsFlatFault layout flat bytes old new (program.File name fault) =
     (name.now ≡ flat) × ((fault ≡ L11) ⊎ (fault_for layout bytes ≡ Some fault)) × (new ≡ old)
-IsFlatFault layout flat bytes old new other = ⊤
+IsFlatFault layout flat bytes old new other = IsOfSystem other

@@ -3,7 +3,7 @@
 ghost use Rattle.std.specs.Prelude.{◌≡◌, List, [], ◌∷◌, Option, None, IfOk, IfErr, OnOk, IfSome, take};
 ghost use Rattle.image.specs.Grammar.{spelling, reading};
 ghost use Rattle.symbols.specs.Symbols.{faulty_line, symbols_of};
-ghost use Rattle.commands.specs.Files.{File, begun, ended, whole, Gains, IsNew, IsOfSystem, bytes_of};
+ghost use Rattle.commands.specs.Files.{File, begun, ended, whole, Gains, IsNew, IsOfSystem, IsImageFault, IsTableFault, bytes_of};
 ghost use Rattle.commands.specs.Overwriting.{Sameness};
 
 use crate::fault::{ProgramFault, opening_fault, reading_fault};
@@ -158,7 +158,8 @@ pub fn read_image<'a, F: Folder>(
     folder: &F,
     name: &'a str,
 ) -> Result<Image, ProgramFault<'a>>
-    ensures { IfOk result (λ image. IfSome (bytes_of name.entry.now (F.files folder.now)) (λ bytes. reading bytes ≡ Ok image)) }
+    ensures ok { IfOk result (λ image. IfSome (bytes_of name.entry.now (F.files folder.now)) (λ bytes. reading bytes ≡ Ok image)) }
+    ensures err { IfErr result (IsImageFault name.entry.now (F.files folder.now)) }
 {
     let file = open_file(folder, name)?;
     match image::read(alloc, &mut FromRead::new(file)) {
@@ -175,6 +176,7 @@ pub fn read_table<'a, F: Folder>(
 ) -> Result<Symbols, ProgramFault<'a>>
     ensures correct { IfOk result (λ _. IfSome (bytes_of name.entry.now (F.files folder.now)) (λ text. faulty_line text ≡ None)) }
     ensures symbols { IfOk result (λ table. IfSome (bytes_of name.entry.now (F.files folder.now)) (λ text. table ≡ symbols_of text)) }
+    ensures err { IfErr result (IsTableFault name.entry.now (F.files folder.now)) }
 {
     let text = read_file(alloc, folder, name)?;
     match read_symbols(alloc, &text) {

@@ -1,10 +1,10 @@
 //! The command `dis`.
 
-ghost use Rattle.std.specs.Prelude.{◌-◌, ◌^◌, ◌<◌, Some, IfOk, IfSome, OnOk};
+ghost use Rattle.std.specs.Prelude.{◌-◌, ◌^◌, ◌<◌, Some, IfOk, IfErr, IfSome, OnOk};
 ghost use Rattle.std.specs.Option.{option_copied};
 ghost use Rattle.std.specs.Io.Buffered.{writer_contents};
 ghost use Rattle.std.specs.Io.KnownBytes.{Appends, Keeps};
-ghost use Rattle.commands.specs.Files.{bytes_of};
+ghost use Rattle.commands.specs.Files.{bytes_of, IsOfSystem, IsSourceFault};
 ghost use Rattle.commands.specs.Listing.{ListsFile, listing_of};
 
 use crate::fault::ProgramFault;
@@ -34,7 +34,8 @@ fn list_on<W: Sink>(
 
 /// Writes what is left of a block of lines, and hands the output back.
 fn finish<'a, O: Write + Drop>(lines: BufWriter<O>) -> Result<O, ProgramFault<'a>>
-    ensures { IfOk result (λ out. Keeps (writer_contents O.contents lines) (O.contents out)) }
+    ensures ok { IfOk result (λ out. Keeps (writer_contents O.contents lines) (O.contents out)) }
+    ensures err { IfErr result IsOfSystem }
 {
     match lines.into_inner() {
         Ok(output) => Ok(output),
@@ -49,7 +50,8 @@ fn list_to<'a, O: Write + Drop>(
     table: Option<&Symbols>,
     output: O,
 ) -> Result<O, ProgramFault<'a>>
-    ensures { IfOk result (λ out. Appends (O.contents output) (O.contents out) (listing_of (option_copied table.entry) image.now)) }
+    ensures ok { IfOk result (λ out. Appends (O.contents output) (O.contents out) (listing_of (option_copied table.entry) image.now)) }
+    ensures err { IfErr result IsOfSystem }
 {
     let lines = match BufWriter::new(alloc, output) {
         Ok(lines) => lines,
@@ -71,8 +73,9 @@ pub fn list_file<'a, F: Folder, O: Write + Drop>(
     symbols: Option<&'a str>,
     output: O,
 ) -> Result<O, ProgramFault<'a>>
-    ensures { IfOk result (λ out. IfSome (bytes_of name.entry.now (F.files folder.now)) (λ bytes.
+    ensures ok { IfOk result (λ out. IfSome (bytes_of name.entry.now (F.files folder.now)) (λ bytes.
         ListsFile (F.files folder.now) bytes symbols.entry (O.contents output) (O.contents out))) }
+    ensures err { IfErr result (IsSourceFault name.entry.now symbols.entry (F.files folder.now)) }
 {
     let image = read_image(alloc, folder, name)?;
     match symbols {
@@ -86,7 +89,9 @@ pub fn list_file<'a, F: Folder, O: Write + Drop>(
 
 /// The fault of a listing that was cut short. What is left of its block is let go: written when the writer is dropped it would stand
 /// after a gap.
-fn cut_short<'a, O: Write + Drop>(lines: BufWriter<O>) -> ProgramFault<'a> {
+fn cut_short<'a, O: Write + Drop>(lines: BufWriter<O>) -> ProgramFault<'a>
+    ensures { IsOfSystem result }
+{
     let _ = lines.into_parts();
     ProgramFault::Write(DeviceFailed)
 }

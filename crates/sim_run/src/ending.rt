@@ -158,10 +158,7 @@ fn put_since(text: &mut String, count: u64) -> Result<(), AllocError>
     if count == 0 {
         return put(text, "");
     }
-    put(
-        text,
-        "  later traps at an entry that can't be fetched: ",
-    )?;
+    put(text, "  later traps at an entry that can't be fetched: ")?;
     put_decimal(text, count)?;
     put(text, "\n")
 }

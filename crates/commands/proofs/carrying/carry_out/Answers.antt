@@ -8,4 +8,4 @@ returns-in_ok-ended-in-Run g c =
 
 pub returns-in_ok-_output-in-Dis : goal.returns-in_ok-_output-in-Dis
 returns-in_ok-_output-in-Dis g c =
-    rw c.in-Dis.is (g.O.Write.contents c.in_ok-_output-in-Dis._output, refl, c.in_ok-_output-in-Dis.ensures)
+    rw c.in-Dis.is (g.O.Write.contents c.in_ok-_output-in-Dis._output, refl, c.in_ok-_output-in-Dis.ensures.ok)
