@@ -33,6 +33,8 @@ STEP = [
 REST = [
     ("runs: the opening state, events, *machine run*, what is set from outside",
      "image/specs/Image; hart/specs/Opening, Outcome, Event, Setting; machine/specs/Run"),
+    ("what code can reach, and what that opens",
+     "reached/specs/Reached, Links, Chain; reach/specs/Reach, Opens, First, Ranges, Differs"),
     ("image files", "image/specs/Grammar, Reads"),
     ("a text: its lines",
      "asm_names/specs/Mnemonic, Registers, SpecialNames, Slots; asm_lines/specs/Text, Number, Operand, Statement, Line"),
@@ -45,7 +47,7 @@ REST = [
     ("names: tables of symbols, listings with names", "symbols/specs/Symbols; image_listing/specs/Named"),
     ("sessions", "debug_commands/specs/Command; debugger/specs/SessionState, Reply, Answers, Conversation, Talk"),
     ("the command line and runs on a schedule",
-     "command_line/specs/CommandLine; sim_run/specs/Schedule, Trace, Verdict, Ending, Listing"),
+     "command_line/specs/CommandLine; sim_run/specs/Schedule, Trace, Verdict, Unhandled, Ending, Listing"),
     ("what commands do with files", "commands/specs/Files, Assembling, Imaging, Listing, Running, Debugging, Overwriting, Carrying"),
     ("capabilities and the machine for C", "c_types/specs/Halves, Words; cheri_c/specs/Insns; cherisim_c/specs/Status, Made, Running"),
 ]
