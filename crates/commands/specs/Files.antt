@@ -62,7 +62,7 @@ IsImageFault image files (program.File name fault) =
     (name.now ≡ image) × IfSome (bytes_of image files) (λ bytes. IsOfBytes fault → reading bytes ≡ Err fault)
 IsImageFault image files other = IsOfSystem other
 
--- a fault of a file that is to be a table of symbols: its first line that is none, or the system's
+-- a fault of a file that is to be a table of symbols: its first invalid line, or the system's
 abbrev pub IsTableFault : Text → Option (List File) → ProgramFault → Type 0
 IsTableFault table files (program.Symbols name number) =
     (name.now ≡ table) × IfSome (bytes_of table files) (λ text. faulty_line text ≡ Some number)
