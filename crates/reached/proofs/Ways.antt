@@ -1,9 +1,16 @@
 -- The way down from a member to a root, which is turned round in the end.
 use Rattle.std.proofs.Common.{◌≡◌, ℕ, ◌+◌, ◌-◌, ◌<◌, ◌++◌, true, List, [], ◌∷◌, length, get_or, refl, sym, ap, ◌∙◌, subst, arith, inl, inr}
-use Rattle.std.proofs.Common.{reverse}
-use Rattle.std.proofs.lemmas.Bool.{cases_lt}
+use Rattle.std.proofs.Common.{reverse, suc, ◌≤◌, false, Some, None, append_assoc, append-nil}
+use Rattle.std.specs.Prelude.{Option, option_map, unwrap_or}
+use Rattle.std.proofs.lemmas.Bool.{cases_lt, true≢false}
 use Rattle.std.proofs.lemmas.List.{length_push, get_or_push, get_or_append_left, length-reverse, get_or-reverse}
+use Rattle.std.proofs.lemmas.Option.{slice_get-get_or}
+use Rattle.std.proofs.lemmas.List.{length-map, get_or-map}
+use Rattle.cap_bounds.specs.CapValue.{CapValue}
 use Rattle.reached.specs.declared.member.Member.{Member}
+use Rattle.reached.specs.declared.member.Place.{Place}
+use Rattle.reached.specs.declared.member.Place.TheVariants.{Root, Special, Granule}
+use Rattle.reached.specs.Order.{Found, seen_member, seen_members, leads_from, above, above_in, way_up, chain_of}
 use Rattle.reached.specs.Chain.{is_root, IsFrom, IsChain}
 
 -- The numbers of members from one down: each was found through the next, and the last is this one.
@@ -85,3 +92,68 @@ module _ {X : Type 0} (ms : List (Member X)) (index : ℕ) where
             let place : length way - 1 - (length (reverse way) - 1) ≡ 0 = omega arith in
             at (length (reverse way) - 1) (omega arith) ∙ ap (λ k. get_or way k 0) place ∙ w.first;
       }
+
+-- ---- the way up, number by number
+
+leads_on : (place : Place) (from : ℕ) → is_root place ≡ false → leads_from place from ≡ Some from
+leads_on (Root n) from other = absurd (true≢false other)
+leads_on (Special n) from other = refl
+leads_on (Granule a) from other = refl
+
+leads_no_further : (place : Place) (from : ℕ) → is_root place ≡ true → leads_from place from ≡ None
+leads_no_further (Root n) from root = refl
+leads_no_further (Special n) from root = absurd (true≢false (sym root))
+leads_no_further (Granule a) from root = absurd (true≢false (sym root))
+
+abbrev pub way_after : ℕ → List Found → Option ℕ → List ℕ
+way_after n members o = unwrap_or (option_map (λ j. way_up n members j) o) []
+
+-- the way up from one of the members, with the members before on the way down
+pub record IsWayUp (members : List Found) (index : ℕ) (way : List ℕ) (last : ℕ) : Type 0 where
+  pub rest : way ++ way_after (index + 1 - length way) members (above members last) ≡ way_up (index + 1) members index
+  pub enough : last + length way ≤ index + 1
+
+pub IsWayUp-begun : (members : List Found) (index : ℕ) → IsWayUp members index (index ∷ []) index
+IsWayUp-begun members index = record {
+  rest = ap (λ n. index ∷ way_after n members (above members index)) less ∙ sym (ap (λ n. way_up n members index) more);
+  enough = omega arith;
+}
+  where
+    less : index + 1 - length (index ∷ []) ≡ index
+    less = omega arith
+
+    more : index + 1 ≡ suc index
+    more = omega arith
+
+module _ {X : Type 0} (value : X → CapValue) (ms : List (Member X)) (index : ℕ) where
+  seen_at : (k : ℕ) (d : Member X) → k < length ms
+      → above (seen_members value ms) k ≡ leads_from (get_or ms k d).place (get_or ms k d).from
+  seen_at k d below =
+      ap above_in (slice_get-get_or (seen_members value ms) k (seen_member value d) (omega (arith, length-map ms (seen_member value)))
+      ∙ ap Some (get_or-map (seen_member value) ms k d (seen_member value d) below))
+
+  pub IsWayUp-more : (way : List ℕ) (last from : ℕ) (d : Member X) → IsWayUp (seen_members value ms) index way last → last < length ms
+      → IsFrom (get_or ms last d) from → from < last → IsWayUp (seen_members value ms) index (way ++ from ∷ []) from
+  IsWayUp-more way last from d w below link earlier =
+      let members = seen_members value ms in
+      let enough = w.enough in
+      let long : length (way ++ from ∷ []) ≡ length way + 1 = length_push way from in
+      let n = index + 1 - length (way ++ from ∷ []) in
+      let fuel : index + 1 - length way ≡ suc n = omega arith in
+      let next : above members last ≡ Some from =
+      seen_at last d below ∙ leads_on (get_or ms last d).place (get_or ms last d).from link.no_root ∙ ap Some link.from_is in
+      record {
+        rest = append_assoc way (from ∷ []) (way_after n members (above members from))
+            ∙ sym (ap (λ o. way ++ way_after (suc n) members o) next)
+            ∙ sym (ap (λ k. way ++ way_after k members (above members last)) fuel) ∙ w.rest;
+        enough = omega arith;
+      }
+
+  pub way-reversed : (way : List ℕ) (last : ℕ) (d : Member X) → IsWayUp (seen_members value ms) index way last → last < length ms
+      → is_root (get_or ms last d).place ≡ true → reverse way ≡ chain_of (seen_members value ms) index
+  unfolding chain_of
+  way-reversed way last d w below root =
+      let members = seen_members value ms in
+      ap reverse (sym (append-nil way)
+      ∙ sym (ap (λ o. way ++ way_after (index + 1 - length way) members o)
+      (seen_at last d below ∙ leads_no_further (get_or ms last d).place (get_or ms last d).from root)) ∙ w.rest)

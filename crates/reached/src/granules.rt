@@ -4,6 +4,8 @@ ghost use Rattle.base.specs.Ram.{ram_base};
 ghost use Rattle.cap_rights.specs.Rights.{OpensGranule};
 ghost use Rattle.reached.specs.Links.{IsMemberThrough};
 ghost use Rattle.reached.specs.Reached.{HoldsCapabilities};
+ghost use Rattle.reached.specs.Order.{seen_members};
+ghost use Rattle.reached.specs.Findings.{AreFound, is_between, opens_granule};
 ghost use Rattle.reached.specs.Search.{AreLeft, IsBare, IsBetween, IsOpened};
 
 use crate::member::{Member, Place};
@@ -35,6 +37,8 @@ fn take_granules<C: CapRep>(
     ensures opened { OnOk result (IsOpened memory.now (C.value cap)
         (map (λ m. C.value m.cap) members.old.items) (map (λ m. C.value m.cap) members.new.items) left.old left.new
         (IsBetween span.first span.end)) }
+    ensures found { OnOk result (AreFound memory.now from (seen_members C.value members.old.items) (seen_members C.value members.new.items)
+        left.old left.new (is_between span.first span.end)) }
 {
     memory.is_sound();
     let mut next = span.first;
@@ -76,6 +80,8 @@ pub(crate) fn open_granules<C: CapRep>(
     ensures opened { OnOk result (IsOpened memory.now (C.value cap)
         (map (λ m. C.value m.cap) members.old.items) (map (λ m. C.value m.cap) members.new.items) left.old left.new
         (λ g. OpensGranule (C.value cap) (ram_base + 16 * g))) }
+    ensures found { OnOk result (AreFound memory.now from (seen_members C.value members.old.items) (seen_members C.value members.new.items)
+        left.old left.new (opens_granule (C.value cap))) }
     ensures bare { IfOk result (λ span. IsBare span.first span.end left.new) }
 {
     memory.is_sound();

@@ -1,10 +1,12 @@
 //! The search.
-ghost use Rattle.std.specs.Prelude.{ℕ, ◌+◌, ◌<◌, Contains, map, IfOk, OnOk, vec_len};
+ghost use Rattle.std.specs.Prelude.{◌≡◌, ℕ, ◌+◌, ◌<◌, Contains, map, IfOk, OnOk, vec_len};
 ghost use Rattle.cap_bounds.specs.CapValue.{CapValue};
 ghost use Rattle.reached.specs.Chain.{AreInOrder};
 ghost use Rattle.reached.specs.Links.{AreLinked};
 ghost use Rattle.reached.specs.Reached.{HoldsCapabilities, IsReachedFrom};
 ghost use Rattle.reached.specs.Search.{IsSearch};
+ghost use Rattle.reached.specs.Order.{members_of, seen_members};
+ghost use Rattle.reached.specs.Findings.{IsFoundBehind, IsLeftBy};
 
 use crate::granules::open_granules;
 use crate::member::Member;
@@ -37,7 +39,12 @@ fn visit<C: CapRep>(
     requires search { IsSearch (map C.value roots.now) (map C.value specials.now) memory.now
         (map (λ m. C.value m.cap) members.old.items) left.old opened.system opened.bare.first opened.bare.end index }
     requires linked { AreLinked C.value (map C.value roots.now) (map C.value specials.now) memory.now members.old.items }
+    requires left { IsLeftBy (map C.value specials.now) memory.now (seen_members C.value members.old.items) left.old opened.system }
     requires some { index < vec_len members.old }
+    ensures found { OnOk result (IsFoundBehind (map C.value specials.now) memory.now (seen_members C.value members.old.items) index
+        (seen_members C.value members.new.items)) }
+    ensures left { IfOk result (λ now.
+        IsLeftBy (map C.value specials.now) memory.now (seen_members C.value members.new.items) left.new now.system) }
     ensures linked { OnOk result (AreLinked C.value (map C.value roots.now) (map C.value specials.now) memory.now members.new.items) }
     ensures search { IfOk result (λ now. IsSearch (map C.value roots.now) (map C.value specials.now) memory.now
         (map (λ m. C.value m.cap) members.new.items) left.new now.system now.bare.first now.bare.end (index + 1)) }
@@ -49,7 +56,8 @@ fn visit<C: CapRep>(
     Ok(Opened { system, bare })
 }
 
-/// The capabilities that are reachable from these roots, over these special registers and this memory, each with where it was found.
+/// The capabilities that are reachable from these roots, over these special registers and this memory, each with where it was found, in
+/// the order in which they are found.
 /// `Err` is out of memory.
 pub fn closure<C: CapRep>(
     alloc: Global,
@@ -58,6 +66,8 @@ pub fn closure<C: CapRep>(
     memory: &Memory,
 ) -> Result<Vec<Member<C>>, AllocError>
     requires capabilities { HoldsCapabilities memory.now }
+    ensures members { IfOk result (λ members.
+        seen_members C.value members.items ≡ members_of (map C.value roots.now) (map C.value specials.now) memory.now) }
     ensures linked { IfOk result (λ members.
         AreLinked C.value (map C.value roots.now) (map C.value specials.now) memory.now members.items) }
     ensures order { IfOk result (λ members. AreInOrder members.items) }

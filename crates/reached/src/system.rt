@@ -4,6 +4,8 @@ ghost use Rattle.cap_bounds.specs.CapValue.{is_tagged};
 ghost use Rattle.cap_rights.specs.Rights.{OpensSystem};
 ghost use Rattle.reached.specs.Links.{IsAmong};
 ghost use Rattle.reached.specs.Search.{IsSystemOpened};
+ghost use Rattle.reached.specs.Order.{among, seen_members, tagged_from};
+ghost use Rattle.reached.specs.Findings.{IsSystemFound};
 
 use crate::member::{Member, Place};
 use crate::opens::opens_system;
@@ -33,6 +35,8 @@ pub(crate) fn add_tagged<C: CapRep>(
         (drop (length members.old.items) members.new.items)) }
     ensures values { OnOk result (map (λ m. C.value m.cap) members.new.items
         ≡ map (λ m. C.value m.cap) members.old.items ++ filter is_tagged (map C.value caps.now)) }
+    ensures found { OnOk result (seen_members C.value members.new.items
+        ≡ seen_members C.value members.old.items ++ tagged_from (among special) from 0 (map C.value caps.now)) }
 {
     for (number, cap) in caps.iter().enumerate() {
         if !cap.tag() {
@@ -60,6 +64,8 @@ pub(crate) fn open_system<C: CapRep>(
         (drop (length members.old.items) members.new.items)) }
     ensures opened { IfOk result (IsSystemOpened (C.value cap) (map C.value specials.now)
         (map (λ m. C.value m.cap) members.old.items) opened (map (λ m. C.value m.cap) members.new.items)) }
+    ensures found { IfOk result (IsSystemFound (C.value cap) (map C.value specials.now) from (seen_members C.value members.old.items)
+        (seen_members C.value members.new.items) opened) }
 {
     if opened || !opens_system(cap) {
         return Ok(opened);

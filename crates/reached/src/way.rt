@@ -4,6 +4,7 @@ ghost use Rattle.cap_bounds.specs.CapValue.{CapValue};
 ghost use Rattle.tagged_memory.specs.Memory.{Memory};
 ghost use Rattle.reached.specs.Links.{AreLinked};
 ghost use Rattle.reached.specs.Chain.{is_root, AreInOrder, IsChain, LinksOpen};
+ghost use Rattle.reached.specs.Order.{chain_of, seen_members};
 
 use crate::member::{Member, Place};
 use cap_bounds::CapRep;
@@ -25,6 +26,7 @@ pub fn chain<C: CapRep>(
 ) -> Result<Vec<usize>, AllocError>
     requires some { index < length members.now }
     requires order { AreInOrder members.now }
+    ensures way { IfOk result (λ way. way.items ≡ chain_of (seen_members C.value members.now) index) }
     ensures chain { IfOk result (λ way. IsChain members.now index way.items) }
     ensures opens { IfOk result (λ way. (roots specials : List CapValue) (m : Memory)
         → AreLinked C.value roots specials m members.now → LinksOpen C.value members.now way.items) }

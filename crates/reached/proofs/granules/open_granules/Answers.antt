@@ -1,7 +1,10 @@
-use Rattle.std.proofs.Common.{◌≡◌, ◌+◌, ◌*◌, map, length, ap, sym, subst, arith, inl, inr, ⊎_elim}
+use Rattle.std.proofs.Common.{◌≡◌, ◌+◌, ◌*◌, map, length, ap, sym, subst, arith, inl, inr, ⊎_elim, ◌∙◌}
+use Rattle.std.proofs.lemmas.Bool.{false≢true}
 use Rattle.base.specs.Ram.{ram_base}
 use Rattle.cap_rights.specs.Rights.{OpensGranule}
 use Rattle.reached.specs.Reached.{OpensCapabilities}
+use Rattle.reached.specs.Order.{seen_members}
+use Rattle.reached.proofs.Finding.{AreFound-none, AreFound-opened}
 use Rattle.reached.specs.Search.{IsBetween, granules_of}
 use Rattle.reached.proofs.Opening.{IsOpened-these, opened_granule, granule_opened, IsBare-either, IsBare-fewer}
 use Rattle.reached.proofs.granules.open_granules.Goals as goal
@@ -44,3 +47,27 @@ returns-clause-bare g c =
     IsBare-either bare.first bare.end rest.first rest.end joined.first joined.end new
     (IsBare-fewer bare.first bare.end c.args.left.now new opened.fewer c.requires.bare) opened.taken
     (λ k place. ⊎_elim (λ there. inl there) (λ there. c.beside.ensures.rest k there) (c.joined.ensures k place))
+
+pub returns-clause-found : goal.returns-clause-found
+returns-clause-found g c =
+    let value = g.C.CapRep.value in
+    let left = c.args.left.now in
+    let cap = value c.args.cap in
+    let span = c.of-span.result in
+    let rest = c.beside.result in
+    let opens : OpensCapabilities cap = c.opens_capabilities.ensures.0 c.if-not-opens_capabilities.false in
+    AreFound-opened c.args.memory.now c.args.from (seen_members value c.args.members.now.items)
+    (seen_members value c.take_granules.new.members.items) left c.take_granules.new.left cap rest.first rest.end
+    c.in_ok-take_granules.ensures.found
+    (λ k place. opened_granule cap (64 * length left) k opens
+    (subst (λ s. IsBetween s.first s.end k) c.of-span.ensures (c.beside.ensures.part k place)))
+    (λ k inside granule.
+    let place : IsBetween span.first span.end k =
+    subst (λ s. IsBetween s.first s.end k) (sym c.of-span.ensures) (granule_opened cap (64 * length left) k inside granule) in
+    ⊎_elim (λ there. inl (c.requires.bare k there)) (λ there. inr there) (c.beside.ensures.rest k place))
+
+pub returns-then-not-opens_capabilities-clause-found : goal.returns-then-not-opens_capabilities-clause-found
+returns-then-not-opens_capabilities-clause-found g c =
+    AreFound-none c.args.memory.now c.args.from (seen_members g.C.CapRep.value c.args.members.now.items) c.args.left.now
+    (g.C.CapRep.value c.args.cap)
+    (λ opens. false≢true (sym c.if-not-opens_capabilities.true ∙ c.opens_capabilities.ensures.1 opens))

@@ -1,4 +1,5 @@
-use Rattle.std.proofs.Common.{◌≡◌, ◌+◌, ◌*◌, ◌<◌, ◌≤◌, map, length, true, arith, ap, ◌∙◌, drop, refl}
+use Rattle.std.proofs.Common.{◌≡◌, ◌+◌, ◌*◌, ◌<◌, ◌≤◌, map, length, true, arith, ap, ◌∙◌, drop, refl, ⊎_elim}
+use Rattle.std.proofs.lemmas.Bool.{cases_lt}
 use Rattle.std.proofs.lemmas.List.{map-append, length-take, take-append-le, drop-append-le, take_all}
 use Rattle.std.proofs.lemmas.List.Elements.{All-push}
 use Rattle.base.specs.Ram.{ram_base}
@@ -6,6 +7,8 @@ use Rattle.cap_bounds.specs.CapValue.{value_of}
 use Rattle.tagged_memory.specs.Memory.{word_at}
 use Rattle.tagged_memory.specs.MemoryLaws.{in_ram-from}
 use Rattle.reached.specs.Links.{IsMemberThrough}
+use Rattle.reached.specs.Order.{seen_members}
+use Rattle.reached.proofs.Finding.{IsTaking-begun, IsTaking-more, AreFound-taken}
 use Rattle.reached.specs.Search.{held, IsBetween}
 use Rattle.reached.proofs.Opening.{place_fault-none, none_added, IsOpened-none, IsOpened-more}
 use Rattle.reached.proofs.granules.take_granules.Goals as goal
@@ -28,6 +31,7 @@ loop-next-init g c =
           (IsBetween c.args.span.first c.args.span.first) (λ k place. absurd (omega (arith, place.0, place.1)));
       kept = take_all (length items) items (omega arith);
       added = none_added (IsMemberThrough value c.args.memory.now (value c.args.cap) c.args.from) items;
+      found = IsTaking-begun c.args.memory.now c.args.from (seen_members value items) c.args.left.now c.args.span.first c.args.span.end;
     }
 
 pub loop-next-preserved : goal.loop-next-preserved
@@ -68,4 +72,23 @@ loop-next-preserved g c =
             opens = opens;
             here = record { tagged = here; value = value };
           }));
+      found = rw (c.in_ok-push.ensures.items, map-append, value)
+          (IsTaking-more m c.args.from (seen_members g.C.CapRep.value old) (seen_members g.C.CapRep.value items) c.args.left.now now
+          c.args.span.first c.args.span.end c.loop-next.invariant.found c.loop-next.next granule c.clear_tag.new.planes inv.taken
+          c.next_tag-granule.ensures from_first (omega arith) inside c.clear_tag.ensures.len c.clear_tag.ensures.value);
     }
+
+pub returns-then-granule-span-clause-found : goal.returns-then-granule-span-clause-found
+returns-then-granule-span-clause-found g c =
+    let inv = c.loop-next.invariant in
+    AreFound-taken c.args.memory.now c.args.from (seen_members g.C.CapRep.value c.args.members.now.items)
+    (seen_members g.C.CapRep.value c.loop-next.members.items) c.args.left.now c.loop-next.left c.args.span.first c.args.span.end inv.found
+    (λ k place. ⊎_elim (λ early. inv.opened.taken k (place.0, early))
+    (λ late. c.next_tag-granule.ensures.none_between k late (omega (arith, place.1))) (cases_lt k c.loop-next.next))
+
+pub returns-clause-found : goal.returns-clause-found
+returns-clause-found g c =
+    let inv = c.loop-next.invariant in
+    AreFound-taken c.args.memory.now c.args.from (seen_members g.C.CapRep.value c.args.members.now.items)
+    (seen_members g.C.CapRep.value c.loop-next.members.items) c.args.left.now c.loop-next.left c.args.span.first c.args.span.end inv.found
+    (λ k place. inv.opened.taken k (place.0, omega (arith, place.1)))

@@ -1,6 +1,8 @@
 use Rattle.std.proofs.Common.{◌≡◌, ◌-◌, ◌≤◌, map, take, drop, length}
 use Rattle.std.specs.List.{All}
 use Rattle.reached.specs.Links.{IsMemberThrough}
+use Rattle.reached.specs.Order.{seen_members}
+use Rattle.reached.proofs.Finding.{IsTaking}
 use Rattle.reached.specs.Search.{IsBetween, IsOpened}
 use Rattle.reached.proofs.granules.take_granules.Given as goal
 
@@ -13,6 +15,9 @@ invariant-loop-next g l = record {
   kept : take (length l.fn.members.items) l.members.items ≡ l.fn.members.items;
   added :
       All (IsMemberThrough g.C.CapRep.value l.memory (g.C.CapRep.value l.fn.cap) l.from) (drop (length l.fn.members.items) l.members.items);
+  found :
+      IsTaking l.memory l.from (seen_members g.C.CapRep.value l.fn.members.items) (seen_members g.C.CapRep.value l.members.items) l.fn.left
+      l.left l.span.first l.span.end;
 }
 
 abbrev pub decreases-loop-next : goal.decreases-loop-next
