@@ -18,7 +18,8 @@ use Rattle.debug_commands.specs.declared.command.Events.TheVariants.{Steps, Tick
 use Rattle.debug_commands.specs.declared.command.Stop.{Stop}
 use Rattle.debug_commands.specs.declared.command.Stop.TheVariants.{Address, Trap}
 use Rattle.debug_commands.specs.declared.command.View.TheVariants.{Register, Registers, SpecialRegisters, ControlRegisters, Capabilities}
-use Rattle.debug_commands.specs.declared.command.View.TheVariants.{Memory, Words, Why, Help}
+use Rattle.debug_commands.specs.declared.command.View.TheVariants.{Memory, Words, Why, Reach, ReachMembers, ReachGraph, May, Help}
+use Rattle.debug_commands.specs.declared.command.May.TheVariants.{Store, Load, Execute, Learn, Send, Halt, System, Timer, Hold}
 
 -- the address at which a command stops, if it stops at one
 abbrev pub stop_address : Stop → Option ℕ
@@ -74,12 +75,13 @@ address_and_number symbols multiple high (a ∷ n ∷ m ∷ rest) = Err B2
 -- ---- the table
 
 -- how operands are written: none; a number of these limits; an address that is such a multiple and a number from 1 on; a register's name.
--- And the command of what they say.
+-- And the command of what they say. Or a word of a table of its own, and then that word's operands.
 pub data Operands : Type 0 where
   nothing : Command → Operands
   number : ℕ → ℕ → (ℕ → Command) → Operands
   place : ℕ → ℕ → (ℕ → ℕ → Command) → Operands
   a_register : (ℕ → Command) → Operands
+  a_verb : (List Symbol → List (List ℕ) → Result Command DebugFault) → Operands
 
 -- a command's name, its operands as `help` shows them, and how they are written
 pub record Line : Type 0 where
@@ -89,6 +91,51 @@ pub record Line : Type 0 where
 
 abbrev pub line : List ℕ → List ℕ → Operands → Line
 line name usage operands = record { name = name; usage = usage; operands = operands }
+
+abbrev pub made : {A : Type 0} → (A → Command) → Result A DebugFault → Result Command DebugFault
+made make (Ok said) = Ok (make said)
+made make (Err fault) = Err fault
+
+-- the command of what operands say, or B2
+abbrev pub said_by : List Symbol → Operands → List (List ℕ) → Result Command DebugFault
+said_by symbols (nothing command) [] = Ok command
+said_by symbols (nothing command) (w ∷ rest) = Err B2
+said_by symbols (number low high make) words = made make (one_number low high words)
+said_by symbols (place multiple high make) words = made (λ p. make p.0 p.1) (address_and_number symbols multiple high words)
+said_by symbols (a_register make) words = made make (one_register words)
+said_by symbols (a_verb read) words = read symbols words
+
+-- the command of the line that has the name, or a fault
+abbrev pub command_among : DebugFault → List Symbol → List Line → List ℕ → List (List ℕ) → Result Command DebugFault
+command_among fault symbols [] name operands = Err fault
+command_among fault symbols (l ∷ ls) name operands =
+    if is_word name l.name then said_by symbols l.operands operands else command_among fault symbols ls name operands
+
+-- what may follow `reach`: nothing, or a word
+abbrev pub reaches : List Line
+reaches = line (codes "members") [] (nothing (Shows ReachMembers)) ∷ line (codes "dot") [] (nothing (Shows ReachGraph)) ∷ []
+
+abbrev pub reach_of : List Symbol → List (List ℕ) → Result Command DebugFault
+reach_of symbols [] = Ok (Shows Reach)
+reach_of symbols (word ∷ operands) = command_among B2 symbols reaches word operands
+
+-- what follows `may`: a question, of bytes from an address on or of the machine
+abbrev pub questions : List Line
+questions =
+    line (codes "store") [] (place 1 (2 ^ 64 - 1) (λ address n. Shows (May (Store address n))))
+    ∷ line (codes "load") [] (place 1 (2 ^ 64 - 1) (λ address n. Shows (May (Load address n))))
+    ∷ line (codes "execute") [] (place 1 (2 ^ 64 - 1) (λ address n. Shows (May (Execute address n))))
+    ∷ line (codes "learn") [] (place 1 (2 ^ 64 - 1) (λ address n. Shows (May (Learn address n))))
+    ∷ line (codes "send") [] (nothing (Shows (May Send)))
+    ∷ line (codes "halt") [] (nothing (Shows (May Halt)))
+    ∷ line (codes "system") [] (nothing (Shows (May System)))
+    ∷ line (codes "timer") [] (nothing (Shows (May Timer)))
+    ∷ line (codes "hold") [] (number 0 0x3FFFF (λ n. Shows (May (Hold n))))
+    ∷ []
+
+abbrev pub may_of : List Symbol → List (List ℕ) → Result Command DebugFault
+may_of symbols [] = Err B2
+may_of symbols (word ∷ operands) = command_among B2 symbols questions word operands
 
 abbrev pub commands : List Line
 commands =
@@ -105,6 +152,8 @@ commands =
     ∷ line (codes "mem") (codes " ADDR LEN") (place 1 4096 (λ address n. Shows (Memory address n)))
     ∷ line (codes "dis") (codes " ADDR N") (place 4 1024 (λ address n. Shows (Words address n)))
     ∷ line (codes "why") [] (nothing (Shows Why))
+    ∷ line (codes "reach") (codes " [members|dot]") (a_verb reach_of)
+    ∷ line (codes "may") (codes " store|load|execute|learn ADDR LEN\nmay send|halt|system|timer\nmay hold TYPE") (a_verb may_of)
     ∷ line (codes "help") [] (nothing (Shows Help))
     ∷ line (codes "quit") [] (nothing Quit)
     ∷ []
@@ -115,26 +164,8 @@ help_text = flat_map (λ l. l.name ++ l.usage ++ codes "\n") commands
 
 -- ---- what a line writes
 
-abbrev pub made : {A : Type 0} → (A → Command) → Result A DebugFault → Result Command DebugFault
-made make (Ok said) = Ok (make said)
-made make (Err fault) = Err fault
-
--- the command of what operands say, or B2
-abbrev pub said_by : List Symbol → Operands → List (List ℕ) → Result Command DebugFault
-said_by symbols (nothing command) [] = Ok command
-said_by symbols (nothing command) (w ∷ rest) = Err B2
-said_by symbols (number low high make) words = made make (one_number low high words)
-said_by symbols (place multiple high make) words = made (λ p. make p.0 p.1) (address_and_number symbols multiple high words)
-said_by symbols (a_register make) words = made make (one_register words)
-
--- the command of the line that has the name, or B1
-abbrev pub command_among : List Symbol → List Line → List ℕ → List (List ℕ) → Result Command DebugFault
-command_among symbols [] name operands = Err B1
-command_among symbols (l ∷ ls) name operands =
-    if is_word name l.name then said_by symbols l.operands operands else command_among symbols ls name operands
-
 abbrev pub command_named : List Symbol → List ℕ → List (List ℕ) → Result Command DebugFault
-command_named symbols name operands = command_among symbols commands name operands
+command_named symbols name operands = command_among B1 symbols commands name operands
 
 abbrev pub command_of_words : List Symbol → List (List ℕ) → Result Command DebugFault
 command_of_words symbols [] = Err B1

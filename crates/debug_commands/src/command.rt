@@ -36,6 +36,29 @@ pub enum Events {
     Until { stop: Stop, most: u64 },
 }
 
+/// What is asked of the code that runs from here on.
+#[derive(Clone, Copy)]
+pub enum May {
+    /// Whether it may store to some of so many bytes from an address.
+    Store { address: u64, count: u64 },
+    /// Whether it may load some of them.
+    Load { address: u64, count: u64 },
+    /// Whether it may execute some of them.
+    Execute { address: u64, count: u64 },
+    /// Whether it may learn anything of them.
+    Learn { address: u64, count: u64 },
+    /// Whether it may send a byte on the console.
+    Send,
+    /// Whether it may halt the machine.
+    Halt,
+    /// Whether it may use the system registers.
+    System,
+    /// Whether it may set the timer.
+    Timer,
+    /// Whether it holds a capability that is sealed with this type, 0 to 262143.
+    Hold(u64),
+}
+
 /// What a command shows.
 #[derive(Clone, Copy)]
 pub enum View {
@@ -55,6 +78,14 @@ pub enum View {
     Words { address: u64, count: u64 },
     /// What the next step will do, and why.
     Why,
+    /// What the code that runs from here on can reach, in sum.
+    Reach,
+    /// Each capability of it, with where it was found.
+    ReachMembers,
+    /// The same as a graph, a text for Graphviz.
+    ReachGraph,
+    /// Whether the code that runs from here on may do something.
+    May(May),
     /// The commands with their operands.
     Help,
 }

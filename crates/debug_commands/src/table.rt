@@ -4,7 +4,7 @@ ghost use Rattle.debug_commands.specs.Command.{words_of};
 ghost use Rattle.debug_commands.specs.Command as spec;
 ghost use Rattle.debug_commands.specs.Limits.{IsWithinLimits};
 
-use crate::command::{Command, Events, Stop, View};
+use crate::command::{Command, Events, May, Stop, View};
 use crate::fault::DebugFault;
 use crate::operands::{address_and_number, one_number, one_register};
 use crate::words::split_word;
@@ -22,6 +22,12 @@ const MOST_SHOWN: u64 = 4096;
 
 /// The most words that a command disassembles.
 const MOST_WORDS: u64 = 1024;
+
+/// The most bytes that a question is about: all that a number of 64 bits counts.
+const MOST_ASKED: u64 = u64::MAX;
+
+/// The greatest object type, of 18 bits.
+const MOST_TYPE: u64 = 0x3ffff;
 
 // The table. Of each command: its name, its operands as `help` shows them, how they are read, and the command of what they say.
 macro_rules! commands {
@@ -41,8 +47,38 @@ macro_rules! commands {
             "mem" " ADDR LEN" (place 1 MOST_SHOWN) p => Command::Shows(View::Memory { address: p.0, count: p.1 });
             "dis" " ADDR N" (place 4 MOST_WORDS) p => Command::Shows(View::Words { address: p.0, count: p.1 });
             "why" "" (nothing) n => Command::Shows(View::Why);
+            "reach" " [members|dot]" (verb reach_of) n => ();
+            "may" " store|load|execute|learn ADDR LEN\nmay send|halt|system|timer\nmay hold TYPE" (verb may_of) n => ();
             "help" "" (nothing) n => Command::Shows(View::Help);
             "quit" "" (nothing) n => Command::Quit;
+        }
+    };
+}
+
+// What may follow `reach`, and `may`: a word, and then operands as a command has them.
+macro_rules! reaches {
+    ($reading:ident $($what:ident)*) => {
+        $reading! {
+            $($what)*;
+            "members" "" (nothing) n => Command::Shows(View::ReachMembers);
+            "dot" "" (nothing) n => Command::Shows(View::ReachGraph);
+        }
+    };
+}
+
+macro_rules! questions {
+    ($reading:ident $($what:ident)*) => {
+        $reading! {
+            $($what)*;
+            "store" "" (place 1 MOST_ASKED) p => Command::Shows(View::May(May::Store { address: p.0, count: p.1 }));
+            "load" "" (place 1 MOST_ASKED) p => Command::Shows(View::May(May::Load { address: p.0, count: p.1 }));
+            "execute" "" (place 1 MOST_ASKED) p => Command::Shows(View::May(May::Execute { address: p.0, count: p.1 }));
+            "learn" "" (place 1 MOST_ASKED) p => Command::Shows(View::May(May::Learn { address: p.0, count: p.1 }));
+            "send" "" (nothing) n => Command::Shows(View::May(May::Send));
+            "halt" "" (nothing) n => Command::Shows(View::May(May::Halt));
+            "system" "" (nothing) n => Command::Shows(View::May(May::System));
+            "timer" "" (nothing) n => Command::Shows(View::May(May::Timer));
+            "hold" "" (number 0 MOST_TYPE) n => Command::Shows(View::May(May::Hold(n)));
         }
     };
 }
@@ -66,6 +102,7 @@ macro_rules! made_of {
         let $said = one_register($operands)?;
         Ok($made)
     }};
+    ((verb $read:ident) $said:ident $made:expr, $symbols:ident $operands:ident) => { $read($symbols, $operands) };
     ((nothing) $said:ident $made:expr, $symbols:ident $operands:ident) => {
         match split_word($operands) {
             Some(_) => Err(DebugFault::B2),
@@ -74,13 +111,13 @@ macro_rules! made_of {
     };
 }
 
-// The command of the line that has this name, or B1.
+// The command of the line that has this name, or a fault.
 macro_rules! named {
-    ($sought:ident $symbols:ident $operands:ident; $($name:literal $usage:literal $form:tt $said:ident => $made:expr;)*) => {{
+    ($sought:ident $symbols:ident $operands:ident $fault:ident; $($name:literal $usage:literal $form:tt $said:ident => $made:expr;)*) => {{
         $(if $sought == $name.as_bytes() {
             return made_of!($form $said $made, $symbols $operands);
         })*
-        Err(DebugFault::B1)
+        Err(DebugFault::$fault)
     }};
 }
 
@@ -93,13 +130,35 @@ pub fn help_text() -> &'static str
     HELP
 }
 
+/// The command of what follows `reach`, over a table of labels, or B2.
+fn reach_of(symbols: &Symbols, operands: &[u8]) -> Result<Command, DebugFault>
+    ensures value { result ≡ spec.reach_of symbols.now (words_of operands.now) }
+    ensures limits { IfOk result IsWithinLimits }
+{
+    let Some((word, rest)) = split_word(operands) else {
+        return Ok(Command::Shows(View::Reach));
+    };
+    reaches!(named word symbols rest B2)
+}
+
+/// The command of what follows `may`, over a table of labels, or B2.
+fn may_of(symbols: &Symbols, operands: &[u8]) -> Result<Command, DebugFault>
+    ensures value { result ≡ spec.may_of symbols.now (words_of operands.now) }
+    ensures limits { IfOk result IsWithinLimits }
+{
+    let Some((word, rest)) = split_word(operands) else {
+        return Err(DebugFault::B2);
+    };
+    questions!(named word symbols rest B2)
+}
+
 /// The command of a name and operands, over a table of labels: B1 where no command has that name, and else B2 where the operands are
 /// not its own.
 fn command_named(symbols: &Symbols, name: &[u8], operands: &[u8]) -> Result<Command, DebugFault>
     ensures value { result ≡ spec.command_named symbols.now name.now (words_of operands.now) }
     ensures limits { IfOk result IsWithinLimits }
 {
-    commands!(named name symbols operands)
+    commands!(named name symbols operands B1)
 }
 
 /// The command that a line writes, over a table of labels: B2 where the line has more than 255 bytes or one of 128 or more; else B1

@@ -41,17 +41,17 @@ kept_command symbols line = kept_at symbols line (nat_lt 255 (length line)) refl
 
 -- ---- the line that ends a conversation
 
-last_command : (c : Command) (s : State) → is_end (answer_to c s) ≡ true → run_after (events_of c s) s ≡ s
+last_command : (c : Command) (s : SessionState) → is_end (answer_to c s) ≡ true → run_after (events_of c s.machine) s.machine ≡ s.machine
 last_command (Gives events) s h = absurd (false≢true h)
 last_command (Shows what) s h = refl
 last_command Quit s h = refl
 
-last_by : (r : Result Command DebugFault) (s : State) → ends_by r s ≡ true → state_by r s ≡ s
+last_by : (r : Result Command DebugFault) (s : SessionState) → ends_by r s ≡ true → state_by r s.machine ≡ s.machine
 last_by (Ok c) s h = last_command c s h
 last_by (Err fault) s h = absurd (false≢true h)
 
 pub same_after_last : (line : List ℕ) (s : SessionState) → is_last line s ≡ true → state_after line s ≡ s
-same_after_last line s h = ap (λ machine. session_state machine s.symbols) (last_by (command_in line s) s.machine h)
+same_after_last line s h = ap (λ machine. session_state machine s.symbols) (last_by (command_in line s) s h)
 
 -- ---- lines that go on
 

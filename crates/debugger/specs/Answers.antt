@@ -14,4 +14,4 @@ seen_reply Quit = ended
 pub record IsAnswer (line : List ℕ) (s : SessionState) (answer : Answer) : Type 0 where
   pub command : Command
   pub is_written : command_in line s ≡ Ok command
-  pub is_its_answer : answer ≡ answer_to command s.machine
+  pub is_its_answer : answer ≡ answer_to command s

@@ -1,7 +1,6 @@
 -- A conversation: the replies to the lines of an input, up to `quit` or its end.
 use Rattle.std.specs.Prelude.{ℕ, Bool, true, false, List, [], ◌∷◌, ◌++◌, length, Result, Ok, Err, codes, if◌then◌else◌, ◌==◌}
 use Rattle.std.specs.List.{slice_split, join_by}
-use Rattle.hart.specs.State.{State}
 use Rattle.debug_commands.specs.declared.fault.DebugFault.{DebugFault}
 use Rattle.debug_commands.specs.declared.fault.DebugFault.TheVariants.{B1, B2, B3, B4}
 use Rattle.debug_commands.specs.declared.command.Command.{Command}
@@ -19,25 +18,25 @@ abbrev pub answer_text : Answer → List ℕ
 answer_text (told text) = text
 answer_text ended = []
 
-abbrev pub reply_by : Result Command DebugFault → State → List ℕ
+abbrev pub reply_by : Result Command DebugFault → SessionState → List ℕ
 reply_by (Ok command) s = answer_text (answer_to command s)
 reply_by (Err fault) s = fault_text fault
 
 -- the text that a line is answered with
 abbrev pub reply_to : List ℕ → SessionState → List ℕ
-reply_to line s = reply_by (command_in line s) s.machine
+reply_to line s = reply_by (command_in line s) s
 
 abbrev pub is_end : Answer → Bool
 is_end (told text) = false
 is_end ended = true
 
-abbrev pub ends_by : Result Command DebugFault → State → Bool
+abbrev pub ends_by : Result Command DebugFault → SessionState → Bool
 ends_by (Ok command) s = is_end (answer_to command s)
 ends_by (Err fault) s = false
 
 -- whether a line ends the conversation
 abbrev pub is_last : List ℕ → SessionState → Bool
-is_last line s = ends_by (command_in line s) s.machine
+is_last line s = ends_by (command_in line s) s
 
 -- The lines of an input: between line feeds; an empty rest after the last line feed is no line.
 abbrev pub replies_to : List (List ℕ) → SessionState → List ℕ

@@ -33,6 +33,7 @@ use Rattle.debug_commands.specs.declared.command.Events.TheVariants.{Steps, Tick
 use Rattle.debug_commands.specs.declared.command.View.{View}
 use Rattle.debug_commands.specs.declared.command.View.TheVariants as view
 use Rattle.debug_commands.specs.Command.{help_text, command_of}
+use Rattle.symbols.specs.Symbols.{Symbol}
 use Rattle.debugger.specs.SessionState.{SessionState}
 
 -- ---- commands that give events
@@ -122,26 +123,26 @@ abbrev pub is_outside : Command → State → Bool
 is_outside (Shows what) s = is_view_outside what s
 is_outside other s = false
 
--- what is shown
-unfoldable pub view_text : View → State → List ℕ
-view_text (view.Register n) s = value_line (name_or [] (register_name true n)) (register s.registers n)
-view_text view.Registers s = register_lines s 0 capability_names
-view_text view.SpecialRegisters s = scr_lines (scr_values s.scrs)
-view_text view.ControlRegisters s = csr_lines (csr_values s.csrs s.scrs (interrupts_of s.devices))
-view_text view.Capabilities s = cap_lines s.memory
-view_text (view.Memory address n) s = byte_lines n address (bytes_at s.memory address n)
-view_text (view.Words address n) s = word_lines (value_flag s.scrs.pcc) s.memory n address
-view_text view.Why s = why_text s
-view_text view.Help s = help_text
+-- what is shown, with the labels of a table
+unfoldable pub view_text : List Symbol → View → State → List ℕ
+view_text symbols (view.Register n) s = value_line (name_or [] (register_name true n)) (register s.registers n)
+view_text symbols view.Registers s = register_lines s 0 capability_names
+view_text symbols view.SpecialRegisters s = scr_lines (scr_values s.scrs)
+view_text symbols view.ControlRegisters s = csr_lines (csr_values s.csrs s.scrs (interrupts_of s.devices))
+view_text symbols view.Capabilities s = cap_lines s.memory
+view_text symbols (view.Memory address n) s = byte_lines n address (bytes_at s.memory address n)
+view_text symbols (view.Words address n) s = word_lines (value_flag s.scrs.pcc) s.memory n address
+view_text symbols view.Why s = why_text s
+view_text symbols view.Help s = help_text
 
 -- what a session answers: a text of lines, or that it ends
 pub data Answer : Type 0 where
   told : List ℕ → Answer
   ended : Answer
 
-abbrev pub answer_to : Command → State → Answer
-answer_to (Gives events) s = told (events_line (given events s) s)
-answer_to (Shows what) s = told (view_text what s)
+abbrev pub answer_to : Command → SessionState → Answer
+answer_to (Gives events) s = told (events_line (given events s.machine) s.machine)
+answer_to (Shows what) s = told (view_text s.symbols what s.machine)
 answer_to Quit s = ended
 
 -- what a line is refused by in a state: what it writes, then addresses outside RAM

@@ -6,6 +6,7 @@ ghost use Rattle.machine.specs.Run.{run_after};
 ghost use Rattle.debug_commands.specs.Limits.{IsWithinLimits, IsShownWithinLimits};
 ghost use Rattle.debugger.specs.Reply.{told, events_of, is_outside, is_view_outside, view_text, answer_to};
 ghost use Rattle.debugger.specs.Answers.{seen_reply};
+ghost use Rattle.debugger.specs.SessionState.{session_state};
 
 use crate::caps::put_caps;
 use crate::ram::{put_memory, put_words};
@@ -18,6 +19,7 @@ use effect_texts::put;
 use explain::put_why;
 use machine::Machine;
 use std::alloc::{AllocError, Global};
+use symbols::Symbols;
 
 /// The number of PCC.
 const PCC: u8 = 0;
@@ -52,11 +54,12 @@ fn put_view<C: CapRep>(
     text: &mut String,
     alloc: Global,
     machine: &Machine<C>,
+    symbols: &Symbols,
     view: View,
 ) -> Result<(), AllocError>
     requires limits { IsShownWithinLimits view }
     requires inside { is_view_outside view machine.now ≡ false }
-    ensures { OnOk result (string_bytes text.new ≡ string_bytes text.old ++ view_text view machine.now) }
+    ensures { OnOk result (string_bytes text.new ≡ string_bytes text.old ++ view_text symbols.now view machine.now) }
 {
     match view {
         View::Register(n) => put_register(text, machine, n),
@@ -76,14 +79,19 @@ fn put_view<C: CapRep>(
 }
 
 /// The text of what is to be shown, or B4.
-fn shown<C: CapRep>(alloc: Global, machine: &Machine<C>, view: View) -> Result<String, DebugFault>
+fn shown<C: CapRep>(
+    alloc: Global,
+    machine: &Machine<C>,
+    symbols: &Symbols,
+    view: View,
+) -> Result<String, DebugFault>
     requires limits { IsShownWithinLimits view }
     requires inside { is_view_outside view machine.now ≡ false }
-    ensures text { IfOk result (λ text. string_bytes text ≡ view_text view machine.now) }
+    ensures text { IfOk result (λ text. string_bytes text ≡ view_text symbols.now view machine.now) }
     ensures err { IfErr result (λ fault. fault ≡ DebugFault.B4) }
 {
     let mut text = String::new(alloc);
-    put_view(&mut text, alloc, machine, view)?;
+    put_view(&mut text, alloc, machine, symbols, view)?;
     Ok(text)
 }
 
@@ -91,18 +99,19 @@ fn shown<C: CapRep>(alloc: Global, machine: &Machine<C>, view: View) -> Result<S
 pub(crate) fn answer<C: CapRep>(
     alloc: Global,
     machine: &mut Machine<C>,
+    symbols: &Symbols,
     command: Command,
 ) -> Result<Reply, DebugFault>
     requires limits { IsWithinLimits command }
     requires inside { is_outside command machine.old ≡ false }
-    ensures reply { IfOk result (λ reply. seen_reply reply ≡ answer_to command machine.old) }
+    ensures reply { IfOk result (λ reply. seen_reply reply ≡ answer_to command (session_state machine.old symbols.now)) }
     ensures state { OnOk result (machine.new ≡ run_after (events_of command machine.old) machine.old) }
     ensures err { IfErr result (λ fault. fault ≡ DebugFault.B4) }
     ensures same { OnErr result (machine.new ≡ machine.old) }
 {
     match command {
         Command::Gives(events) => Ok(Reply::Text(told_events(alloc, machine, events)?)),
-        Command::Shows(view) => Ok(Reply::Text(shown(alloc, machine, view)?)),
+        Command::Shows(view) => Ok(Reply::Text(shown(alloc, machine, symbols, view)?)),
         Command::Quit => Ok(Reply::Quit),
     }
 }

@@ -98,7 +98,7 @@ impl<C: CapRep> Session<C> {
         ensures same { OnErr result (self.new ≡ self.old) }
     {
         let command = accepted(&self.machine, &self.symbols, line)?;
-        answer(self.alloc, &mut self.machine, command)
+        answer(self.alloc, &mut self.machine, &self.symbols, command)
     }
 
     /// The machine.

@@ -5,5 +5,5 @@ use Rattle.debugger.proofs.session.Session.command_bytes.Goals as goal
 
 pub returns-clause-ok : goal.returns-clause-ok
 returns-clause-ok g c =
-    answered c.args.line.now c.args.self.now _ _ c.answer.result (ap (λ s. s.machine) (sym c.self.view_is))
+    answered c.args.line.now c.args.self.now _ _ c.answer.result (sym c.self.view_is)
     (ap (command_in c.args.line.now) (sym c.self.view_is) ∙ sym c.in_ok-command.ensures.value) c.answer.ensures.reply

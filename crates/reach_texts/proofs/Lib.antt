@@ -1,0 +1,3 @@
+pub mod Labels
+pub mod Numbered
+pub mod Specials

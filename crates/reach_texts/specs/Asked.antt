@@ -1,0 +1,37 @@
+-- What may be asked of the code that runs from here on, as a truth value of each capability that it can come to hold.
+use Rattle.std.specs.Prelude.{ℕ, ◌+◌, Bool, not, ◌&&◌, ◌||◌, ◌==◌, nat_lt, nat_le, min, max, List, Option, position, map}
+use Rattle.cap_bounds.specs.CapValue.{CapValue, is_sealed, value_base, value_top, value_otype}
+use Rattle.cap_rights.specs.declared.permission.Permission.{Permission}
+use Rattle.cap_rights.specs.declared.permission.Permission.TheVariants as permission
+use Rattle.cap_rights.specs.Permission.{permits}
+use Rattle.devices.specs.Devices.{halt, timer_compare, transmit}
+use Rattle.debug_commands.specs.declared.command.May.{May}
+use Rattle.debug_commands.specs.declared.command.May.TheVariants.{Store, Load, Execute, Learn, Send, Halt, System, Timer, Hold}
+use Rattle.reached.specs.Order.{Found}
+
+-- unsealed, with the permission, and one of the `size` bytes from an address on lies in the bounds
+abbrev pub opens : Permission → ℕ → ℕ → CapValue → Bool
+opens p address size c =
+    (not (is_sealed c) && permits c p) && nat_lt (max (value_base c) address) (min (value_top c) (address + size))
+
+abbrev pub opens_the_system : CapValue → Bool
+opens_the_system c = not (is_sealed c) && (permits c permission.Execute && permits c permission.AccessSystemRegisters)
+
+abbrev pub is_sealed_as : ℕ → CapValue → Bool
+is_sealed_as otype c = is_sealed c && (value_otype c == otype)
+
+-- whether a capability lets code do it; of bytes anything is learned by a load or a fetch
+abbrev pub lets : May → CapValue → Bool
+lets (Store address size) c = opens permission.Store address size c
+lets (Load address size) c = opens permission.Load address size c
+lets (Execute address size) c = opens permission.Execute address size c
+lets (Learn address size) c = opens permission.Load address size c || opens permission.Execute address size c
+lets Send c = opens permission.Store transmit 1 c
+lets Halt c = opens permission.Store halt 1 c
+lets System c = opens_the_system c
+lets Timer c = opens permission.Store timer_compare 1 c
+lets (Hold otype) c = is_sealed_as otype c
+
+-- the number of the first member that does
+abbrev pub first_that : May → List Found → Option ℕ
+first_that may xs = position (λ x. lets may x.value) xs

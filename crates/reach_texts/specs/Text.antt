@@ -1,0 +1,109 @@
+-- What code can reach, as texts: the members of a reach, the same as a graph, and the chain of links that leads to one of them.
+use Rattle.std.specs.Prelude.{ℕ, ◌+◌, ◌-◌, Bool, if◌then◌else◌, List, [], ◌∷◌, ◌++◌, Option, Some, None, slice_get, codes, decimal}
+use Rattle.base.specs.declared.registers.scr.TheConstants.{MTCC}
+use Rattle.cap_bounds.specs.CapValue.{CapValue, is_sealed, value_base, value_top, value_perms}
+use Rattle.disassembler.specs.Hex.{hex_of}
+use Rattle.reach_texts.specs.Letters.{permission_letters}
+use Rattle.disassembler.specs.Shown.{name_or}
+use Rattle.trap_texts.specs.Names.{register_at_fault}
+use Rattle.effect_texts.specs.ValueText.{shown_value}
+use Rattle.symbols.specs.Symbols.{Symbol, nearest}
+use Rattle.image_listing.specs.Named.{place_text}
+use Rattle.reached.specs.declared.member.Place.{Place}
+use Rattle.reached.specs.declared.member.Place.TheVariants.{Root, Special, Granule}
+use Rattle.reached.specs.Order.{Found, chain_of}
+
+-- ---- places
+
+-- an address, and behind it the label at it or below it, if there is one
+unfoldable pub labelled : List Symbol → ℕ → List ℕ
+labelled symbols address = hex_of 16 address ++ place_text (nearest symbols address) address
+
+-- a register's name, of the general ones as a capability register; PCC and DDC come after the general registers; or a granule's address
+unfoldable pub place_name : List Symbol → Place → List ℕ
+place_name symbols (Root n) = name_or [] (register_at_fault n)
+place_name symbols (Special n) = name_or [] (register_at_fault (32 + MTCC + n))
+place_name symbols (Granule address) = labelled symbols address
+
+-- ---- members
+
+-- permissions in letters, and every field
+abbrev pub capability_text : CapValue → List ℕ
+capability_text v = permission_letters (value_perms v) ++ codes " " ++ shown_value v
+
+-- the member that led to a place; a root needs none
+abbrev pub from_text : Place → ℕ → List ℕ
+from_text (Root n) from = []
+from_text other from = codes " from " ++ decimal from
+
+unfoldable pub member_line : List Symbol → ℕ → Found → List ℕ
+member_line symbols number x =
+    decimal number ++ codes " " ++ place_name symbols x.place ++ from_text x.place x.from ++ codes " " ++ capability_text x.value
+    ++ codes "\n"
+
+-- what each of some members says, numbered from a number on
+abbrev pub numbered : (ℕ → Found → List ℕ) → ℕ → List Found → List ℕ
+numbered said number [] = []
+numbered said number (x ∷ xs) = said number x ++ numbered said (number + 1) xs
+
+abbrev pub members_text : List Symbol → List Found → List ℕ
+members_text symbols xs = numbered (member_line symbols) 0 xs
+
+-- ---- the graph: a node a member, an edge a link with its place; what is sealed is dashed
+
+abbrev pub dashed : Bool → List ℕ
+dashed sealed = if sealed then codes ", style=dashed" else []
+
+abbrev pub node_text : CapValue → List ℕ
+node_text v =
+    permission_letters (value_perms v) ++ codes "\\n" ++ hex_of 16 (value_base v) ++ codes " to " ++ hex_of 17 (value_top v)
+
+abbrev pub node_line : ℕ → CapValue → List ℕ
+node_line number v =
+    codes "  n" ++ decimal number ++ codes " [label=\"" ++ node_text v ++ codes "\"" ++ dashed (is_sealed v) ++ codes "];\n"
+
+-- where a link begins
+abbrev pub begin_text : Place → ℕ → List ℕ
+begin_text (Root n) from = codes "registers"
+begin_text other from = codes "n" ++ decimal from
+
+abbrev pub edge_line : List Symbol → ℕ → Place → ℕ → List ℕ
+edge_line symbols number place from =
+    codes "  " ++ begin_text place from ++ codes " -> n" ++ decimal number ++ codes " [label=\"" ++ place_name symbols place ++ codes "\"];\n"
+
+unfoldable pub link_lines : List Symbol → ℕ → Found → List ℕ
+link_lines symbols number x = node_line number x.value ++ edge_line symbols number x.place x.from
+
+abbrev pub graph_text : List Symbol → List Found → List ℕ
+graph_text symbols xs =
+    codes "digraph reach {\n  rankdir=LR;\n  node [shape=box, fontname=monospace];\n  registers [shape=plaintext];\n"
+    ++ numbered (link_lines symbols) 0 xs ++ codes "}\n"
+
+-- ---- whether code may do something: where it may, by which member, and the chain of places that leads to it
+
+-- where the member of a number was found, and what it is
+abbrev pub place_in : List Symbol → Option Found → List ℕ
+place_in symbols None = []
+place_in symbols (Some x) = place_name symbols x.place
+
+abbrev pub place_at : List Symbol → List Found → ℕ → List ℕ
+place_at symbols xs n = place_in symbols (slice_get xs n)
+
+abbrev pub capability_in : Option Found → List ℕ
+capability_in None = []
+capability_in (Some x) = capability_text x.value
+
+-- places in order, each after the one that leads there
+abbrev pub later_places : List Symbol → List Found → List ℕ → List ℕ
+later_places symbols xs [] = []
+later_places symbols xs (n ∷ ns) = (codes " -> " ++ place_at symbols xs n) ++ later_places symbols xs ns
+
+abbrev pub chain_text : List Symbol → List Found → List ℕ → List ℕ
+chain_text symbols xs [] = []
+chain_text symbols xs (n ∷ ns) = place_at symbols xs n ++ later_places symbols xs ns
+
+-- what *no* means: it holds up to there, whatever the code is
+unfoldable pub answer_text : List Symbol → List Found → Option ℕ → List ℕ
+answer_text symbols xs None = codes "no, until the next trap, unsealing or sealed jump\n"
+answer_text symbols xs (Some k) =
+    codes "yes: " ++ chain_text symbols xs (chain_of xs k) ++ codes " " ++ capability_in (slice_get xs k) ++ codes "\n"

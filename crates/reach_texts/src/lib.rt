@@ -1,0 +1,13 @@
+//! What code can reach, as texts.
+#![tactic(auto)]
+
+mod answer;
+mod graph;
+mod letters;
+mod members;
+mod places;
+
+pub use answer::put_answer;
+pub use graph::put_graph;
+pub use members::{put_capability, put_members};
+pub use places::{put_labelled, put_place};
