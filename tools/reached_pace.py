@@ -19,7 +19,8 @@ NAME = "reached_pace"
 NEEDS = ["base", "cap_format", "cap_bounds", "word_cap", "tagged_memory", "reached"]
 
 # Pages, tags, what each capability opens, and how many searches are timed.
-KINDS = ["256 bytes at its own place", "all of RAM", "the next one's granule", "all up to the next one", "three eighths of RAM, two in turns"]
+KINDS = ["256 bytes at its own place", "all of RAM", "the next one's granule", "all up to the next one",
+         "three eighths of RAM, two in turns"]
 SEARCHES = [(16, 32, 0, 20000), (16, 32, 1, 20000), (16, 32, 2, 20000), (16, 4096, 1, 200), (16, 4096, 4, 200), (4096, 64, 0, 2000),
             (4096, 100000, 0, 10), (4096, 100000, 1, 10), (4096, 100000, 2, 10), (4096, 100000, 4, 2),
             (4096, 1048576, 0, 2), (4096, 1048576, 1, 2), (4096, 1048576, 2, 2), (4096, 1048576, 4, 1)]
@@ -75,7 +76,8 @@ def main(words):
                 searched, members = seconds(room, pages, tags, kind, turns)
                 times.append((searched - made) / turns)
             size = f"{pages * 4} KB" if pages < 256 else f"{pages // 256} MB"
-            print(f"{size}, {tags} capabilities, each opens {KINDS[kind]}: {members} members, {min(times) * 1e6:.1f} microseconds", flush=True)
+            taken = f"{min(times) * 1e6:.1f} microseconds"
+            print(f"{size}, {tags} capabilities, each opens {KINDS[kind]}: {members} members, {taken}", flush=True)
 
 
 if __name__ == "__main__":

@@ -1,5 +1,6 @@
 -- What to read
 pub mod SessionState
+pub mod Reaching
 pub mod Reply
 pub mod Conversation
 pub mod Answers

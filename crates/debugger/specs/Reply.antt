@@ -35,6 +35,7 @@ use Rattle.debug_commands.specs.declared.command.View.TheVariants as view
 use Rattle.debug_commands.specs.Command.{help_text, command_of}
 use Rattle.symbols.specs.Symbols.{Symbol}
 use Rattle.debugger.specs.SessionState.{SessionState}
+use Rattle.debugger.specs.Reaching.{graph_reply, may_reply, members_reply, reach_reply}
 
 -- ---- commands that give events
 
@@ -133,6 +134,10 @@ view_text symbols view.Capabilities s = cap_lines s.memory
 view_text symbols (view.Memory address n) s = byte_lines n address (bytes_at s.memory address n)
 view_text symbols (view.Words address n) s = word_lines (value_flag s.scrs.pcc) s.memory n address
 view_text symbols view.Why s = why_text s
+view_text symbols view.Reach s = reach_reply symbols s
+view_text symbols view.ReachMembers s = members_reply symbols s
+view_text symbols view.ReachGraph s = graph_reply symbols s
+view_text symbols (view.May may) s = may_reply symbols may s
 view_text symbols view.Help s = help_text
 
 -- what a session answers: a text of lines, or that it ends

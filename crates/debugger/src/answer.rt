@@ -10,6 +10,7 @@ ghost use Rattle.debugger.specs.SessionState.{session_state};
 
 use crate::caps::put_caps;
 use crate::ram::{put_memory, put_words};
+use crate::reaching::{put_may, put_reach, put_reach_graph, put_reach_members};
 use crate::reply::Reply;
 use crate::run::told_events;
 use crate::state::{put_csrs, put_register, put_registers, put_scrs};
@@ -74,6 +75,10 @@ fn put_view<C: CapRep>(
             put_words(text, machine.memory(), mode(machine), address, count)
         }
         View::Why => put_why(text, machine.hart()),
+        View::Reach => put_reach(text, alloc, symbols, machine.hart()),
+        View::ReachMembers => put_reach_members(text, alloc, symbols, machine.hart()),
+        View::ReachGraph => put_reach_graph(text, alloc, symbols, machine.hart()),
+        View::May(may) => put_may(text, alloc, symbols, machine.hart(), may),
         View::Help => put(text, help_text()),
     }
 }

@@ -5,6 +5,7 @@ mod answer;
 mod caps;
 mod fault;
 mod ram;
+mod reaching;
 mod reply;
 mod run;
 mod session;

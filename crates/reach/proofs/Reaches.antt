@@ -14,7 +14,8 @@ use Rattle.authority.specs.Reachable.{from_granule as reachable-granule}
 use Rattle.reached.specs.Links.{AreLinked}
 use Rattle.reached.specs.Reached.{IsReachedFrom, from_root, from_special, from_granule}
 use Rattle.reached.specs.declared.member.Member.{Member}
-use Rattle.reach.specs.Reach.{AreReachable, roots_of, specials_of}
+use Rattle.reached.specs.Order.{Found, members_of}
+use Rattle.reach.specs.Reach.{AreReachable, members_in, roots_of, specials_of}
 
 root_there : (s : State) (v : CapValue) → Contains (roots_of s) v → IsRoot s v
 root_there s v there = elim (Contains-append_cases s.registers (s.scrs.pcc ∷ s.scrs.ddc ∷ []) v there) [
@@ -90,3 +91,8 @@ module _ (s : State) (roots specials : List CapValue) (m : Memory) (same_roots :
       subst (λ n. AreLinked value (roots_of s) (specials_of s.scrs) n members) same_memory
       (subst (λ x. AreLinked value (roots_of s) x m members) same_specials
       (subst (λ r. AreLinked value r specials m members) same_roots linked))
+
+-- and its members are the state's
+pub members_of_search : (s : State) (roots specials : List CapValue) (m : Memory) → roots ≡ roots_of s → specials ≡ specials_of s.scrs
+    → m ≡ s.memory → (xs : List Found) → xs ≡ members_of roots specials m → xs ≡ members_in s
+members_of_search s roots specials m are_roots are_specials is_memory xs are = rw (are_roots, are_specials, is_memory) at are

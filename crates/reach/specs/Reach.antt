@@ -5,6 +5,7 @@ use Rattle.cap_rights.specs.Rights.{IsInRightsOf}
 use Rattle.special_regs.specs.Scrs.{Scrs}
 use Rattle.hart.specs.State.{State}
 use Rattle.authority.specs.Reachable.{IsReachable}
+use Rattle.reached.specs.Order.{Found, members_of}
 
 -- where a search begins: the 32 registers, PCC and DDC
 abbrev pub roots_of : State → List CapValue
@@ -13,6 +14,10 @@ roots_of s = s.registers ++ (s.scrs.pcc ∷ s.scrs.ddc ∷ [])
 -- what Access_System_Registers guards
 abbrev pub specials_of : Scrs → List CapValue
 specials_of x = x.mtcc ∷ x.mtdc ∷ x.mscratchc ∷ x.mepcc ∷ []
+
+-- the members of a state's reach, in the order in which they are found
+abbrev pub members_in : State → List Found
+members_in s = members_of (roots_of s) (specials_of s.scrs) s.memory
 
 -- the values are those that are reachable in a state, no more and no fewer
 pub record AreReachable (s : State) (vs : List CapValue) : Type 0 where

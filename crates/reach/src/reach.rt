@@ -1,7 +1,9 @@
 //! The reach of a state.
 ghost use Rattle.std.specs.Prelude.{◌≡◌, IfOk};
 ghost use Rattle.reached.specs.Links.{values, AreLinked};
-ghost use Rattle.reach.specs.Reach.{AreReachable, roots_of, specials_of};
+ghost use Rattle.reached.specs.Chain.{AreInOrder};
+ghost use Rattle.reached.specs.Order.{seen_members};
+ghost use Rattle.reach.specs.Reach.{AreReachable, members_in, roots_of, specials_of};
 
 use crate::roots::{roots, specials};
 use cap_bounds::CapRep;
@@ -33,6 +35,8 @@ impl<C: CapRep> Reach<C> {
         ensures exact { IfOk result (λ reach. AreReachable hart.now (values C.value reach)) }
         ensures linked { IfOk result (λ reach.
             AreLinked C.value (roots_of hart.now) (specials_of hart.now.scrs) hart.now.memory reach) }
+        ensures members { IfOk result (λ reach. seen_members C.value reach ≡ members_in hart.now) }
+        ensures order { IfOk result (λ reach. AreInOrder reach) }
     {
         let first = roots(alloc, hart)?;
         let guarded = specials(alloc, hart)?;

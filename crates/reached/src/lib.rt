@@ -1,4 +1,5 @@
-//! The capabilities that code can come to hold from given roots, whatever it does, with where each was found and the chain that leads there.
+//! The capabilities that code can come to hold from given roots, whatever it does, with where each was found and the chain that leads
+//! there.
 #![tactic(auto)]
 
 mod granules;

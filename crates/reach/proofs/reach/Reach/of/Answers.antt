@@ -1,6 +1,6 @@
 use Rattle.std.proofs.Common.{◌∙◌, map, ap, sym, subst}
 use Rattle.hart.specs.State.{HoldsCapabilities}
-use Rattle.reach.proofs.Reaches.{reach_of_search, links_of_search}
+use Rattle.reach.proofs.Reaches.{reach_of_search, links_of_search, members_of_search}
 use Rattle.reach.proofs.reach.Reach.of.Goals as goal
 
 pub closure-requires : goal.closure-requires
@@ -22,3 +22,11 @@ returns-clause-linked g c =
     (ap (map value) c.deref.ensures.value ∙ c.in_ok-first.ensures.value)
     (ap (map value) c.deref-2.ensures.value ∙ c.in_ok-guarded.ensures)
     c.memory.ensures.value value c.in_ok-members.members.items c.in_ok-members.ensures.linked
+
+pub returns-clause-members : goal.returns-clause-members
+returns-clause-members g c =
+    let value = g.C.CapRep.value in
+    members_of_search c.args.hart.now (map value c.deref.result.now) (map value c.deref-2.result.now) c.memory.result.now
+    (ap (map value) c.deref.ensures.value ∙ c.in_ok-first.ensures.value)
+    (ap (map value) c.deref-2.ensures.value ∙ c.in_ok-guarded.ensures)
+    c.memory.ensures.value _ c.in_ok-members.ensures.members

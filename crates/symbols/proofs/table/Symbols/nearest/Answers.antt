@@ -33,4 +33,5 @@ returns-in-None c =
     let address = c.args.address in
     let placed = c.self.inside.placed in
     let none = (c.range.ensures.in_range tt).5 c.in-None.ensures.steps.0 in
-    rw (sym c.self.view_is) (sym (nearest_none c.self.inside.entries.items address (λ q l. sym (placed q) ∙ none q (tt, at_most q address l))))
+    rw (sym c.self.view_is)
+    (sym (nearest_none c.self.inside.entries.items address (λ q l. sym (placed q) ∙ none q (tt, at_most q address l))))
