@@ -15,7 +15,7 @@ use Rattle.reached.specs.Order.{Found, chain_of}
 
 -- ---- places
 
--- an address, and behind it the label at it or below it, if there is one
+-- an address, and after it the label at it or below it, if there is one
 unfoldable pub labelled : List Symbol → ℕ → List ℕ
 labelled symbols address = hex_of 16 address ++ place_text (nearest symbols address) address
 

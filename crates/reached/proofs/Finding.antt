@@ -315,7 +315,7 @@ found_left_at m from left these g =
       | inr fails ↦ granule_not_found m from r (range_with_len 0 (64 * length left)) g fails ∙ sym fails
     ]
 
--- ---- what is new behind a member
+-- ---- what is new through a member
 
 abbrev pub is_new : List Found → Found → Bool
 is_new members x = not (is_found_at members x.place)

@@ -1,4 +1,4 @@
--- The members of a reach in the order in which they are found: the tagged roots; then behind each member in turn, from the first on, what
+-- The members of a reach in the order in which they are found: the tagged roots; then through each member in turn, from the first on, what
 -- it opens that no member was found at yet, the special registers before the granules, these in ascending order.
 use Rattle.std.specs.Prelude.{ℕ, zero, suc, ◌+◌, ◌-◌, ◌^◌, Bool, true, false, not, ◌&&◌, ◌==◌, if◌then◌else◌, List, [], ◌∷◌, ◌++◌, map}
 use Rattle.std.specs.Prelude.{filter, reverse, Option, Some, None, slice_get, option_map, unwrap_or}
