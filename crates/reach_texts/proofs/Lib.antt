@@ -1,3 +1,5 @@
+pub mod Asking
 pub mod Labels
 pub mod Numbered
+pub mod Seen
 pub mod Specials

@@ -102,8 +102,11 @@ abbrev pub chain_text : List Symbol → List Found → List ℕ → List ℕ
 chain_text symbols xs [] = []
 chain_text symbols xs (n ∷ ns) = place_at symbols xs n ++ later_places symbols xs ns
 
+-- a member that does, with the places that lead to it
+abbrev pub yes_text : List Symbol → List Found → List ℕ → ℕ → List ℕ
+yes_text symbols xs way k = codes "yes: " ++ chain_text symbols xs way ++ codes " " ++ capability_in (slice_get xs k) ++ codes "\n"
+
 -- what *no* means: it holds up to there, whatever the code is
 unfoldable pub answer_text : List Symbol → List Found → Option ℕ → List ℕ
 answer_text symbols xs None = codes "no, until the next trap, unsealing or sealed jump\n"
-answer_text symbols xs (Some k) =
-    codes "yes: " ++ chain_text symbols xs (chain_of xs k) ++ codes " " ++ capability_in (slice_get xs k) ++ codes "\n"
+answer_text symbols xs (Some k) = yes_text symbols xs (chain_of xs k) k

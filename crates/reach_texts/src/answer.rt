@@ -1,8 +1,8 @@
 //! Whether code may do something, as a text.
-ghost use Rattle.std.specs.Prelude.{◌≡◌, ◌<◌, ◌++◌, length, IfSome, OnOk, string_bytes, slice_get, option_map, None, Some};
+ghost use Rattle.std.specs.Prelude.{◌≡◌, ◌<◌, ◌++◌, codes, length, IfSome, OnOk, string_bytes, slice_get};
 ghost use Rattle.reached.specs.Chain.{AreInOrder};
 ghost use Rattle.reached.specs.Order.{seen_members};
-ghost use Rattle.reach_texts.specs.Text.{answer_text, capability_in, chain_text, later_places, place_at};
+ghost use Rattle.reach_texts.specs.Text.{answer_text, capability_in, chain_text, later_places, place_at, yes_text};
 
 use crate::members::put_capability;
 use crate::places::put_place;
@@ -13,6 +13,7 @@ use std::alloc::{AllocError, Global};
 use symbols::Symbols;
 
 /// Appends where the member of a number was found.
+#[tactic(auto, using(crate::proofs::Seen::seen_at))]
 fn put_place_at<C: CapRep>(
     text: &mut String,
     symbols: &Symbols,
@@ -28,6 +29,54 @@ fn put_place_at<C: CapRep>(
     }
 }
 
+/// Appends the capability of the member of a number.
+#[tactic(auto, using(crate::proofs::Seen::seen_at))]
+fn put_capability_at<C: CapRep>(
+    text: &mut String,
+    members: &[Member<C>],
+    number: usize,
+) -> Result<(), AllocError>
+    ensures { OnOk result (string_bytes text.new
+        ≡ string_bytes text.old ++ capability_in (slice_get (seen_members C.value members.now) number)) }
+{
+    match members.get(number) {
+        Some(member) => put_capability(text, member.cap),
+        None => put(text, ""),
+    }
+}
+
+/// Appends the place of a member that a link leads to.
+fn put_later_place<C: CapRep>(
+    text: &mut String,
+    symbols: &Symbols,
+    members: &[Member<C>],
+    number: usize,
+) -> Result<(), AllocError>
+    ensures { OnOk result (string_bytes text.new
+        ≡ string_bytes text.old ++ (codes " -> " ++ place_at symbols.now (seen_members C.value members.now) number)) }
+{
+    put(text, " -> ")?;
+    put_place_at(text, symbols, members, number)
+}
+
+/// Appends the places after a root's.
+fn put_later<C: CapRep>(
+    text: &mut String,
+    symbols: &Symbols,
+    members: &[Member<C>],
+    way: &[usize],
+) -> Result<(), AllocError>
+    ensures { OnOk result (string_bytes text.new
+        ≡ string_bytes text.old ++ later_places symbols.now (seen_members C.value members.now) way.now) }
+{
+    let mut next = 0;
+    while next < way.len() {
+        put_later_place(text, symbols, members, way[next])?;
+        next += 1;
+    }
+    Ok(())
+}
+
 /// Appends the places that lead from a root to a member.
 fn put_chain<C: CapRep>(
     text: &mut String,
@@ -38,15 +87,31 @@ fn put_chain<C: CapRep>(
     ensures { OnOk result (string_bytes text.new
         ≡ string_bytes text.old ++ chain_text symbols.now (seen_members C.value members.now) way.now) }
 {
-    let Some((first, later)) = way.split_first() else {
-        return put(text, "");
-    };
-    put_place_at(text, symbols, members, *first)?;
-    for number in later {
-        put(text, " -> ")?;
-        put_place_at(text, symbols, members, *number)?;
+    match way.split_first() {
+        Some((first, later)) => {
+            put_place_at(text, symbols, members, *first)?;
+            put_later(text, symbols, members, later)
+        }
+        None => put(text, ""),
     }
-    Ok(())
+}
+
+/// Appends that the member of a number opens what is asked for, and the places that lead there.
+fn put_yes<C: CapRep>(
+    text: &mut String,
+    symbols: &Symbols,
+    members: &[Member<C>],
+    way: &[usize],
+    number: usize,
+) -> Result<(), AllocError>
+    ensures { OnOk result (string_bytes text.new
+        ≡ string_bytes text.old ++ yes_text symbols.now (seen_members C.value members.now) way.now number) }
+{
+    put(text, "yes: ")?;
+    put_chain(text, symbols, members, way)?;
+    put(text, " ")?;
+    put_capability_at(text, members, number)?;
+    put(text, "\n")
 }
 
 /// Appends what is answered where a member of a number, or none, opens what is asked for.
@@ -63,13 +128,11 @@ pub fn put_answer<C: CapRep>(
     ensures { OnOk result (string_bytes text.new
         ≡ string_bytes text.old ++ answer_text symbols.now (seen_members C.value members.now) answer) }
 {
-    let Some(number) = answer else {
-        return put(text, "no, until the next trap, unsealing or sealed jump\n");
-    };
-    let way = chain(alloc, members, number)?;
-    put(text, "yes: ")?;
-    put_chain(text, symbols, members, &way)?;
-    put(text, " ")?;
-    put_capability(text, members[number].cap)?;
-    put(text, "\n")
+    match answer {
+        Some(number) => {
+            let way = chain(alloc, members, number)?;
+            put_yes(text, symbols, members, &way, number)
+        }
+        None => put(text, "no, until the next trap, unsealing or sealed jump\n"),
+    }
 }

@@ -4,10 +4,10 @@ ghost use Rattle.cap_bounds.specs.CapValue.{is_sealed};
 ghost use Rattle.reached.specs.Order.{seen_member, seen_members};
 ghost use Rattle.reach_texts.specs.Text.{begin_text, dashed, edge_line, graph_text, link_lines, node_line, node_text, numbered};
 
+use crate::asked::is_sealed;
 use crate::letters::permission_letters;
 use crate::places::put_place;
 use cap_bounds::CapRep;
-use cap_rights::OType;
 use effect_texts::{put, put_decimal, put_hex};
 use reached::{Member, Place};
 use std::alloc::AllocError;
@@ -20,10 +20,10 @@ const HEAD: &str =
 fn put_dashed<C: CapRep>(text: &mut String, cap: C) -> Result<(), AllocError>
     ensures { OnOk result (string_bytes text.new ≡ string_bytes text.old ++ dashed (is_sealed (C.value cap))) }
 {
-    if cap.otype() == OType::UNSEALED.number() {
-        put(text, "")
-    } else {
+    if is_sealed(cap) {
         put(text, ", style=dashed")
+    } else {
+        put(text, "")
     }
 }
 

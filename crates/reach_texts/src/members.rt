@@ -1,5 +1,5 @@
 //! The members of a reach, a line each.
-ghost use Rattle.std.specs.Prelude.{◌≡◌, ◌++◌, OnOk, string_bytes, map};
+ghost use Rattle.std.specs.Prelude.{◌≡◌, ◌++◌, OnOk, string_bytes};
 ghost use Rattle.reached.specs.Order.{seen_member, seen_members};
 ghost use Rattle.reach_texts.specs.Text.{capability_text, from_text, member_line, members_text};
 

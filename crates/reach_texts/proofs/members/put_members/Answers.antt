@@ -1,5 +1,5 @@
 use Rattle.std.proofs.Common.{arith}
-use Rattle.reach_texts.proofs.Numbered.{next, after}
+use Rattle.reach_texts.proofs.Numbered.{after}
 use Rattle.reach_texts.specs.Text.{member_line}
 use Rattle.reach_texts.proofs.members.put_members.Goals as goal
 

@@ -1,0 +1,93 @@
+//! What may be asked of the code that runs from here on.
+ghost use Rattle.std.specs.Prelude.{◌≡◌, ◌+◌, ◌<◌, IfSome, length, max, min, nat_lt};
+ghost use Rattle.cap_bounds.specs.CapValue.{is_sealed, value_base, value_top};
+ghost use Rattle.reached.specs.Order.{seen_members};
+ghost use Rattle.reach_texts.specs.Asked.{first_that, is_sealed_as, lets, opens, opens_the_system};
+
+use cap_bounds::CapRep;
+use cap_rights::{OType, Permission, permits};
+use debug_commands::May;
+use reached::Member;
+
+/// A store of 4 bytes there may halt the machine.
+const HALT: u64 = 0x0010_0000;
+
+/// A store of 8 bytes there sets mtimecmp.
+const TIMER_COMPARE: u64 = 0x0200_4000;
+
+/// A store of 1 byte there sends it.
+const TRANSMIT: u64 = 0x1000_0000;
+
+/// Whether a capability is sealed.
+pub(crate) fn is_sealed<C: CapRep>(cap: C) -> bool
+    ensures { result ≡ is_sealed (C.value cap) }
+{
+    cap.otype() != OType::UNSEALED.number()
+}
+
+/// Whether one of the `count` bytes from an address on lies in the bounds.
+fn meets<C: CapRep>(cap: C, address: u64, count: u64) -> bool
+    ensures { result ≡ nat_lt (max (value_base (C.value cap)) address) (min (value_top (C.value cap)) (address + count)) }
+{
+    let low = cap.base().max(address);
+    let high = cap.top().min(u128::from(address) + u128::from(count));
+    u128::from(low) < high
+}
+
+/// Whether a capability opens one of the `count` bytes from an address on to a permission.
+fn opens<C: CapRep>(cap: C, permission: Permission, address: u64, count: u64) -> bool
+    ensures { result ≡ opens permission address count (C.value cap) }
+{
+    !is_sealed(cap) && permits(cap, permission) && meets(cap, address, count)
+}
+
+/// Whether code that jumps there may use the system registers.
+fn opens_the_system<C: CapRep>(cap: C) -> bool
+    ensures { result ≡ opens_the_system (C.value cap) }
+{
+    !is_sealed(cap)
+        && permits(cap, Permission::Execute)
+        && permits(cap, Permission::AccessSystemRegisters)
+}
+
+/// Whether a capability is sealed with a type.
+fn is_sealed_as<C: CapRep>(cap: C, otype: u64) -> bool
+    ensures { result ≡ is_sealed_as otype (C.value cap) }
+{
+    is_sealed(cap) && u64::from(cap.otype()) == otype
+}
+
+/// Whether a capability lets code do what is asked.
+fn lets<C: CapRep>(cap: C, may: May) -> bool
+    ensures { result ≡ lets may (C.value cap) }
+{
+    match may {
+        May::Store { address, count } => opens(cap, Permission::Store, address, count),
+        May::Load { address, count } => opens(cap, Permission::Load, address, count),
+        May::Execute { address, count } => opens(cap, Permission::Execute, address, count),
+        May::Learn { address, count } => {
+            opens(cap, Permission::Load, address, count)
+                || opens(cap, Permission::Execute, address, count)
+        }
+        May::Send => opens(cap, Permission::Store, TRANSMIT, 1),
+        May::Halt => opens(cap, Permission::Store, HALT, 1),
+        May::System => opens_the_system(cap),
+        May::Timer => opens(cap, Permission::Store, TIMER_COMPARE, 1),
+        May::Hold(otype) => is_sealed_as(cap, otype),
+    }
+}
+
+/// The number of the first member that lets code do what is asked, or `None` where none does.
+pub fn first_that<C: CapRep>(members: &[Member<C>], may: May) -> Option<usize>
+    ensures first { result ≡ first_that may (seen_members C.value members.now) }
+    ensures inside { IfSome result (λ k. k < length members.now) }
+{
+    let mut number = 0;
+    while number < members.len() {
+        if lets(members[number].cap, may) {
+            return Some(number);
+        }
+        number += 1;
+    }
+    None
+}
