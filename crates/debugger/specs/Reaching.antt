@@ -10,14 +10,18 @@ use Rattle.reach_texts.specs.Asked.{first_that}
 use Rattle.reach_texts.specs.Text.{answer_text, graph_text, members_text}
 use Rattle.std.specs.Prelude.{ℕ}
 
+-- how many members there are
+unfoldable pub count_line : List Found → List ℕ
+count_line xs = codes "members " ++ decimal (length xs) ++ codes "\n"
+
 -- whether some member lets code do it
-abbrev pub yes_line : List ℕ → May → List Found → List ℕ
+unfoldable pub yes_line : List ℕ → May → List Found → List ℕ
 yes_line name may xs = name ++ (if is_some (first_that may xs) then codes " yes\n" else codes " no\n")
 
 -- how many members there are, what they let code do beside loads and stores, and each of them
 unfoldable pub summary_text : List Symbol → List Found → List ℕ
 summary_text symbols xs =
-    codes "members " ++ decimal (length xs) ++ codes "\n" ++ yes_line (codes "system registers") System xs ++ yes_line (codes "sends") Send xs
+    count_line xs ++ yes_line (codes "system registers") System xs ++ yes_line (codes "sends") Send xs
     ++ yes_line (codes "halts") Halt xs ++ yes_line (codes "sets the timer") Timer xs ++ members_text symbols xs
 
 abbrev pub reach_reply : List Symbol → State → List ℕ

@@ -1,7 +1,7 @@
 //! What the code that runs from here on can reach, as replies.
 ghost use Rattle.std.specs.Prelude.{◌≡◌, ◌++◌, OnOk, string_bytes};
 ghost use Rattle.reached.specs.Order.{seen_members};
-ghost use Rattle.debugger.specs.Reaching.{graph_reply, may_reply, members_reply, reach_reply, summary_text, yes_line};
+ghost use Rattle.debugger.specs.Reaching.{count_line, graph_reply, may_reply, members_reply, reach_reply, summary_text, yes_line};
 
 use cap_bounds::CapRep;
 use debug_commands::May;
@@ -14,6 +14,7 @@ use std::alloc::{AllocError, Global};
 use symbols::Symbols;
 
 /// Appends whether some member lets code do something.
+#[tactic(auto, unfolding(crate::specs::Reaching::yes_line))]
 fn put_yes<C: CapRep>(
     text: &mut String,
     members: &[Member<C>],
@@ -28,6 +29,16 @@ fn put_yes<C: CapRep>(
     put(text, if yes { " yes\n" } else { " no\n" })
 }
 
+/// Appends how many members there are.
+#[tactic(auto, unfolding(crate::specs::Reaching::count_line), using(crate::proofs::Answering::seen_length))]
+fn put_count<C: CapRep>(text: &mut String, members: &[Member<C>]) -> Result<(), AllocError>
+    ensures { OnOk result (string_bytes text.new ≡ string_bytes text.old ++ count_line (seen_members C.value members.now)) }
+{
+    put(text, "members ")?;
+    put_decimal(text, members.len() as u64)?;
+    put(text, "\n")
+}
+
 /// Appends what members let code do beside loads and stores, and each of them.
 #[tactic(auto, unfolding(crate::specs::Reaching::summary_text))]
 fn put_summary<C: CapRep>(
@@ -38,9 +49,7 @@ fn put_summary<C: CapRep>(
     ensures { OnOk result (string_bytes text.new
         ≡ string_bytes text.old ++ summary_text symbols.now (seen_members C.value members.now)) }
 {
-    put(text, "members ")?;
-    put_decimal(text, members.len() as u64)?;
-    put(text, "\n")?;
+    put_count(text, members)?;
     put_yes(text, members, "system registers", May::System)?;
     put_yes(text, members, "sends", May::Send)?;
     put_yes(text, members, "halts", May::Halt)?;

@@ -1,5 +1,6 @@
 -- What may be asked of the code that runs from here on, as a truth value of each capability that it can come to hold.
-use Rattle.std.specs.Prelude.{ℕ, ◌+◌, Bool, not, ◌&&◌, ◌||◌, ◌==◌, nat_lt, min, max, List, Option, position}
+use Rattle.std.specs.Prelude.{ℕ, ◌+◌, Bool, not, ◌&&◌, ◌||◌, ◌==◌, nat_lt, nat_le, if◌then◌else◌, min, max, List, Option, position}
+use Rattle.base.specs.ObjectType.{sentry_type}
 use Rattle.cap_bounds.specs.CapValue.{CapValue, is_sealed, value_base, value_top, value_otype}
 use Rattle.cap_rights.specs.declared.permission.Permission.{Permission}
 use Rattle.cap_rights.specs.declared.permission.Permission.TheVariants as permission
@@ -20,6 +21,13 @@ opens_the_system c = not (is_sealed c) && (permits c permission.Execute && permi
 abbrev pub is_sealed_as : ℕ → CapValue → Bool
 is_sealed_as otype c = is_sealed c && (value_otype c == otype)
 
+-- values may be sealed with the type through it; of sentries code makes its own
+abbrev pub may_seal_as : ℕ → CapValue → Bool
+may_seal_as otype c =
+    not (is_sealed c)
+    && (if otype == sentry_type then permits c permission.Execute
+    else permits c permission.Seal && (nat_le (value_base c) otype && nat_lt otype (value_top c)))
+
 -- whether a capability lets code do it; of bytes anything is learned by a load or a fetch
 abbrev pub lets : May → CapValue → Bool
 lets (Store address size) c = opens permission.Store address size c
@@ -30,7 +38,7 @@ lets Send c = opens permission.Store transmit 1 c
 lets Halt c = opens permission.Store halt 1 c
 lets System c = opens_the_system c
 lets Timer c = opens permission.Store timer_compare 1 c
-lets (Hold otype) c = is_sealed_as otype c
+lets (Hold otype) c = is_sealed_as otype c || may_seal_as otype c
 
 -- the number of the first member that does
 abbrev pub first_that : May → List Found → Option ℕ

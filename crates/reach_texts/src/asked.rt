@@ -1,8 +1,8 @@
 //! What may be asked of the code that runs from here on.
-ghost use Rattle.std.specs.Prelude.{◌≡◌, ◌+◌, ◌<◌, IfSome, length, max, min, nat_lt};
+ghost use Rattle.std.specs.Prelude.{◌≡◌, ◌+◌, ◌<◌, ◌&&◌, IfSome, length, max, min, nat_le, nat_lt};
 ghost use Rattle.cap_bounds.specs.CapValue.{is_sealed, value_base, value_top};
 ghost use Rattle.reached.specs.Order.{seen_members};
-ghost use Rattle.reach_texts.specs.Asked.{first_that, is_sealed_as, lets, opens, opens_the_system};
+ghost use Rattle.reach_texts.specs.Asked.{first_that, is_sealed_as, lets, may_seal_as, opens, opens_the_system};
 
 use cap_bounds::CapRep;
 use cap_rights::{OType, Permission, permits};
@@ -57,6 +57,27 @@ fn is_sealed_as<C: CapRep>(cap: C, otype: u64) -> bool
     is_sealed(cap) && u64::from(cap.otype()) == otype
 }
 
+/// Whether an object type lies in the bounds.
+fn spans<C: CapRep>(cap: C, otype: u64) -> bool
+    ensures { result ≡ (nat_le (value_base (C.value cap)) otype && nat_lt otype (value_top (C.value cap))) }
+{
+    cap.base() <= otype && u128::from(otype) < cap.top()
+}
+
+/// Whether values may be sealed with a type through a capability; of sentries code makes its own.
+fn may_seal_as<C: CapRep>(cap: C, otype: u64) -> bool
+    ensures { result ≡ may_seal_as otype (C.value cap) }
+{
+    if is_sealed(cap) {
+        return false;
+    }
+    if otype == u64::from(OType::SENTRY.number()) {
+        permits(cap, Permission::Execute)
+    } else {
+        permits(cap, Permission::Seal) && spans(cap, otype)
+    }
+}
+
 /// Whether a capability lets code do what is asked.
 fn lets<C: CapRep>(cap: C, may: May) -> bool
     ensures { result ≡ lets may (C.value cap) }
@@ -73,7 +94,7 @@ fn lets<C: CapRep>(cap: C, may: May) -> bool
         May::Halt => opens(cap, Permission::Store, HALT, 1),
         May::System => opens_the_system(cap),
         May::Timer => opens(cap, Permission::Store, TIMER_COMPARE, 1),
-        May::Hold(otype) => is_sealed_as(cap, otype),
+        May::Hold(otype) => is_sealed_as(cap, otype) || may_seal_as(cap, otype),
     }
 }
 
