@@ -1,5 +1,5 @@
 -- What may be asked of the code that runs from here on, as a truth value of each capability that it can come to hold.
-use Rattle.std.specs.Prelude.{ℕ, ◌+◌, Bool, not, ◌&&◌, ◌||◌, ◌==◌, nat_lt, nat_le, if◌then◌else◌, min, max, List, Option, position}
+use Rattle.std.specs.Prelude.{ℕ, ◌+◌, Bool, not, ◌&&◌, ◌||◌, ◌==◌, nat_lt, nat_le, if◌then◌else◌, min, max, List, map, Option, position}
 use Rattle.base.specs.ObjectType.{sentry_type}
 use Rattle.cap_bounds.specs.CapValue.{CapValue, is_sealed, value_base, value_top, value_otype}
 use Rattle.cap_rights.specs.declared.permission.Permission.{Permission}
@@ -39,6 +39,10 @@ lets Halt c = opens permission.Store halt 1 c
 lets System c = opens_the_system c
 lets Timer c = opens permission.Store timer_compare 1 c
 lets (Hold otype) c = is_sealed_as otype c || may_seal_as otype c
+
+-- the values of members
+abbrev pub values_of : List Found → List CapValue
+values_of xs = map (λ x. x.value) xs
 
 -- the number of the first member that does
 abbrev pub first_that : May → List Found → Option ℕ

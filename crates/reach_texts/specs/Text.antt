@@ -1,5 +1,5 @@
 -- What code can reach, as texts: the members of a reach, the same as a graph, and the chain of links that leads to one of them.
-use Rattle.std.specs.Prelude.{ℕ, ◌+◌, ◌-◌, Bool, if◌then◌else◌, List, [], ◌∷◌, ◌++◌, Option, Some, None, slice_get, codes, decimal}
+use Rattle.std.specs.Prelude.{ℕ, ◌+◌, Bool, if◌then◌else◌, List, [], ◌∷◌, ◌++◌, Option, Some, None, slice_get, codes, decimal}
 use Rattle.base.specs.declared.registers.scr.TheConstants.{MTCC}
 use Rattle.cap_bounds.specs.CapValue.{CapValue, is_sealed, value_base, value_top, value_perms}
 use Rattle.disassembler.specs.Hex.{hex_of}
@@ -69,7 +69,8 @@ begin_text other from = codes "n" ++ decimal from
 
 abbrev pub edge_line : List Symbol → ℕ → Place → ℕ → List ℕ
 edge_line symbols number place from =
-    codes "  " ++ begin_text place from ++ codes " -> n" ++ decimal number ++ codes " [label=\"" ++ place_name symbols place ++ codes "\"];\n"
+    codes "  " ++ begin_text place from ++ codes " -> n" ++ decimal number ++ codes " [label=\"" ++ place_name symbols place
+    ++ codes "\"];\n"
 
 unfoldable pub link_lines : List Symbol → ℕ → Found → List ℕ
 link_lines symbols number x = node_line number x.value ++ edge_line symbols number x.place x.from

@@ -91,7 +91,8 @@ fn put_lines<C: CapRep>(
     number: usize,
     member: &Member<C>,
 ) -> Result<(), AllocError>
-    ensures { OnOk result (string_bytes text.new ≡ string_bytes text.old ++ link_lines symbols.now number (seen_member C.value member.now)) }
+    ensures { OnOk result (string_bytes text.new
+        ≡ string_bytes text.old ++ link_lines symbols.now number (seen_member C.value member.now)) }
 {
     put_node(text, number, member.cap)?;
     put_edge(text, symbols, number, member.place, member.from)

@@ -4,6 +4,7 @@
 mod answer;
 mod asked;
 mod graph;
+pub mod laws;
 mod letters;
 mod members;
 mod places;

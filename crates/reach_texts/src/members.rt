@@ -41,7 +41,8 @@ fn put_member<C: CapRep>(
     number: usize,
     member: &Member<C>,
 ) -> Result<(), AllocError>
-    ensures { OnOk result (string_bytes text.new ≡ string_bytes text.old ++ member_line symbols.now number (seen_member C.value member.now)) }
+    ensures { OnOk result (string_bytes text.new
+        ≡ string_bytes text.old ++ member_line symbols.now number (seen_member C.value member.now)) }
 {
     put_decimal(text, number as u64)?;
     put(text, " ")?;

@@ -18,5 +18,5 @@ returns-then-lets-clause-first g c =
 
 pub returns-clause-first : goal.returns-clause-first
 returns-clause-first g c =
-    none g.C.CapRep.value c.args.may c.args.members.now c.loop-number.number (omega (arith, c.loop-number-test.false, c.loop-number.invariant.within))
-    c.loop-number.invariant.before
+    none g.C.CapRep.value c.args.may c.args.members.now c.loop-number.number
+    (omega (arith, c.loop-number-test.false, c.loop-number.invariant.within)) c.loop-number.invariant.before

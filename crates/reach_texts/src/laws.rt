@@ -1,0 +1,45 @@
+//! What the answer *no* means for every plain run from a state, one without a trap, an unsealing or a sealed jump.
+
+ghost use Rattle.std.specs.Prelude.{◌≡◌, ℕ, List, [], None};
+ghost use Rattle.debug_commands.specs.declared.command.May.TheVariants.{Store, Learn, Send, Halt, System, Timer};
+ghost use Rattle.hart.specs.declared.event.Event.{Event};
+ghost use Rattle.hart.specs.State.{State};
+ghost use Rattle.authority.specs.Authority.{SameScrs, SameCsrs};
+ghost use Rattle.machine.specs.Run.{run_after, run_sent};
+ghost use Rattle.machine.specs.Stretch.{ArePlain, IsPlainRun, IsTwin};
+ghost use Rattle.reach.specs.Differs.{KeepsBytes, DiffersWithin};
+ghost use Rattle.reach.specs.Reach.{AreReachable};
+ghost use Rattle.reached.specs.Order.{Found};
+ghost use Rattle.reach_texts.specs.Asked.{first_that, values_of};
+
+use reach::laws::{what_no_member_opens_stays, what_no_member_reads_is_not_learned};
+
+/// Where no member lets code do it, it isn't done over any plain run: bytes of RAM that it may not store, the halt register, the timer
+/// and the system registers stay as they are, and nothing is sent.
+pub fn what_code_may_not_do_is_not_done()
+    ensures store { (events : List Event) (s : State) (xs : List Found) (address size : ℕ) → AreReachable s (values_of xs)
+        → IsPlainRun events s → first_that (Store address size) xs ≡ None
+        → KeepsBytes s.memory (run_after events s).memory address size }
+    ensures send { (events : List Event) (s : State) (xs : List Found) → AreReachable s (values_of xs) → IsPlainRun events s
+        → first_that Send xs ≡ None → run_sent events s ≡ [] }
+    ensures halt { (events : List Event) (s : State) (xs : List Found) → AreReachable s (values_of xs) → IsPlainRun events s
+        → first_that Halt xs ≡ None → (run_after events s).devices.halted ≡ s.devices.halted }
+    ensures timer { (events : List Event) (s : State) (xs : List Found) → AreReachable s (values_of xs) → IsPlainRun events s
+        → first_that Timer xs ≡ None → (run_after events s).devices.mtimecmp ≡ s.devices.mtimecmp }
+    ensures special { (events : List Event) (s : State) (xs : List Found) → AreReachable s (values_of xs) → IsPlainRun events s
+        → first_that System xs ≡ None → SameScrs s.scrs (run_after events s).scrs }
+    ensures control_and_status { (events : List Event) (s : State) (xs : List Found) → AreReachable s (values_of xs)
+        → IsPlainRun events s → first_that System xs ≡ None → SameCsrs s.csrs (run_after events s).csrs }
+{
+    what_no_member_opens_stays();
+}
+
+/// Of bytes of which no member lets code learn anything nothing is learned: from every state that differs in those bytes alone the same
+/// events are plain, send the same, and end in states that agree.
+pub fn what_code_may_not_learn_is_not_learned()
+    ensures { (events : List Event) (s t : State) (xs : List Found) (address size : ℕ) → AreReachable s (values_of xs)
+        → IsPlainRun events s → first_that (Learn address size) xs ≡ None → DiffersWithin s t address size
+        → ArePlain events t × IsTwin events s t }
+{
+    what_no_member_reads_is_not_learned();
+}
