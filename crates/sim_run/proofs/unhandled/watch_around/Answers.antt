@@ -11,9 +11,13 @@ use Rattle.sim_run.proofs.unhandled.watch_around.Goals.{then-ticks, else-ticks}
 pub watch_step-requires : goal.watch_step-requires
 watch_step-requires g c = (
   search rules,
-  c.requires.few,
-  omega arith,
-  still c.args.byte 1 c.args.ticks c.args.machine.now c.bring.new.machine c.requires.running c.bring.ensures,
+  (
+    c.requires.few,
+    (
+      omega arith,
+      still c.args.byte 1 c.args.ticks c.args.machine.now c.bring.new.machine c.requires.running c.bring.ensures,
+    ),
+  ),
 )
 
 pub returns-clause-state : goal.returns-clause-state
