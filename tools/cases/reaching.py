@@ -90,12 +90,15 @@ def answered(found, line, labels=()):
     return answer_text(found, question, [named[word] if word in named else int(word, 0) for word in numbers], labels)
 
 
-def after(program, steps, lines):
-    """A conversation's text: so many steps, and these lines with their answers."""
-    machine = Straight(program).steps(steps)
-    done = [f"> step {steps}", f"events {steps} out - pc {machine.special['pcc'][1]:016x} running"] if steps else []
-    found = machine.members()
-    return "\n".join([*done, *(part for line in lines for part in (f"> {line}", *answered(found, line)))])
+def after(program, steps, lines, *more):
+    """A conversation's text: so many steps, and these lines with their answers; and then the same with more steps and lines."""
+    machine, text = Straight(program), []
+    for count, asked in zip((steps, *more[::2]), (lines, *more[1::2])):
+        machine.steps(count)
+        text += [f"> step {count}", f"events {count} out - pc {machine.special['pcc'][1]:016x} running"] if count else []
+        found = machine.members()
+        text += [part for line in asked for part in (f"> {line}", *answered(found, line))]
+    return "\n".join(text)
 
 
 # ---- programs
@@ -104,15 +107,16 @@ def cap(start, length, perms, flag=0):
     return f".cap {start:#x}, {length}, {perms:#x}, {flag}"
 
 
-def narrowed(*made, code=0x7, keep=(), data=()):
-    """A program that makes capabilities with `made`, of root in ca0, and jumps to code with these permissions; of the registers that hold
-    capabilities those in `keep` stay, and PCC. RAM from 0x80000100 on holds the data. And how many steps it takes."""
+def narrowed(*made, code=0x7, keep=(), then=(), data=()):
+    """A program that makes capabilities with `made`, of root in ca0, and jumps to `then` with these permissions; of the registers that hold
+    capabilities those in `keep` stay, and ca1, which is PCC. RAM from 0x80000100 on holds the data. And how many steps it takes."""
     begun = ["cspecialrw ca0, pcc, cnull"]
     given_up = [f"cmove {name}, cnull" for name in ("ca0", "ca2", "ca3", "ca4") if name not in keep]
     ended = ["csetboundsimm ca1, ca0, 256", f"addi a5, zero, {code}", "candperm ca1, ca1, a5", "cspecialrw cnull, ddc, ca7"]
     count = sum(map(len, (begun, made, ended, given_up))) + 2
     jump = [f"cincoffsetimm ca1, ca1, {4 * count}", *given_up, "jalr.cap cnull, ca1"]
-    return "; ".join([*begun, *made, *ended, *jump, f".org {RAM + 0x100:#x}", *data] if data else [*begun, *made, *ended, *jump]), count
+    held = [f".org {RAM + 0x100:#x}", *data] if data else []
+    return "; ".join([*begun, *made, *ended, *jump, *then, *held]), count
 
 
 def bounded(register, offset, length, perms):
@@ -161,6 +165,16 @@ LEFT_PROGRAM, LEFT_STEPS = narrowed(
     *bounded("ca2", 0x110, 16, 0x7F), "sc.cap ca7, (ca2)", "cincoffsetimm ca3, ca0, 0", "addi a5, zero, 0x402", "candperm ca3, ca3, a5",
     "ccleartag ca4, ca0", keep=("ca3", "ca4"), data=[cap(DATA, 16, 0x4), cap(DATA, 16, 0x4)])
 
+# Code that loads the first capability of a table, and gives the table up.
+LOADING_PROGRAM, LOADING_STEPS = narrowed(
+    *bounded("ca3", 0x100, 32, LOADS), keep=("ca3",), then=["lc.cap ca4, (ca3)", "cmove ca3, cnull"],
+    data=[cap(DATA + 0x20, 16, LOADS), cap(HALT, 8, 0x8), cap(TRANSMIT, 8, 0x8)])
+
+# Code without rights but its own, and a kernel to which its trap leads: a word of zeros isn't an instruction.
+TRAPPED_PROGRAM, TRAPPED_STEPS = narrowed(
+    *bounded("ca2", 0x100, 16, LOADS), "cspecialrw cnull, mtdc, ca2", *bounded("ca2", 0x40, 32, 0x402), "cspecialrw cnull, mtcc, ca2",
+    data=[cap(TRANSMIT, 8, 0x8)])
+
 # 16 bytes from 0x80000100 on may be stored, the next 16 loaded, and the 16 after these executed.
 BYTES_PROGRAM, BYTES_STEPS = narrowed(*bounded("ca2", 0x100, 16, 0x8), *bounded("ca3", 0x110, 16, 0x4), *bounded("ca4", 0x120, 16, 0x2),
                                       keep=("ca2", "ca3", "ca4"))
@@ -196,6 +210,8 @@ def conversations():
     yield ("With Access_System_Registers the special registers are reachable, and what they lead to: each kind of place in one chain",
            KERNEL_PROGRAM, KERNEL_STEPS, [*SEEN, f"may load {DATA + 0x1F:#x} 1", f"may store {DATA + 0x1F:#x} 1", "may hold 262142"])
     yield ("One register that was left is enough", LEFT_PROGRAM, LEFT_STEPS, [*SEEN, "may load 0 1", "may learn 0 1"])
+    yield ("As code goes on it reaches the same or less", LOADING_PROGRAM, LOADING_STEPS, SEEN, 1, SEEN, 1, SEEN)
+    yield ("An answer is about the code up to a trap: after it the kernel's own capabilities are reachable", TRAPPED_PROGRAM, TRAPPED_STEPS, SEEN, 1, SEEN)
     yield ("Each question of bytes, at the ends of what may be stored, loaded and executed", BYTES_PROGRAM, BYTES_STEPS, [*SEEN, *BYTES])
     for question, address in (("send", TRANSMIT), ("halt", HALT), ("timer", TIMER_COMPARE)):
         for about, (program, steps) in zip(("with the byte before", "after it", "without Store", "of no byte"), edges(address)):
@@ -218,6 +234,6 @@ REFUSED_NAMES = ["store 0x80000000 1", "send", "reaches", "Reach", "MAY send", "
 # The whole state, in which nothing has changed.
 UNCHANGED = "\n> csr\n! csr\n> scr\n! scr 80000000\n> regs\n! regs"
 
-CONVERSATIONS = [(about, program, after(program, steps, lines)) for about, program, steps, lines in conversations()]
+CONVERSATIONS = [(about, program, after(program, *asked)) for about, program, *asked in conversations()]
 CONVERSATIONS += [("Without a capability in RAM; asking changes nothing", "nop", after("nop", 0, [
     "reach", " reach\\tmembers\\r", "reach  dot", "may  hold\\t0", "may execute 0 1"]) + UNCHANGED)]

@@ -54,7 +54,7 @@ FILES = [
     File("shown", instructions.shown, 701),
     File("digits", instructions.digits, 3),
     File("bounds", command_lines.bounds, 81, piece=20),
-    File("sessions", conversations.session, 73, piece=10),
+    File("sessions", conversations.session, 75, piece=10),
     File("talks", conversations.talk, 171, piece=20),
     File("runs", programs.program, 15),
     File("plans", command_lines.plan, 82, piece=10),
