@@ -211,7 +211,7 @@ def conversations():
            KERNEL_PROGRAM, KERNEL_STEPS, [*SEEN, f"may load {DATA + 0x1F:#x} 1", f"may store {DATA + 0x1F:#x} 1", "may hold 262142"])
     yield ("One register that was left is enough", LEFT_PROGRAM, LEFT_STEPS, [*SEEN, "may load 0 1", "may learn 0 1"])
     yield ("As code goes on it reaches the same or less", LOADING_PROGRAM, LOADING_STEPS, SEEN, 1, SEEN, 1, SEEN)
-    yield ("An answer is about the code up to a trap: after it the kernel's own capabilities are reachable", TRAPPED_PROGRAM, TRAPPED_STEPS, SEEN, 1, SEEN)
+    yield ("An answer ends with a trap: after it what the kernel keeps is reachable", TRAPPED_PROGRAM, TRAPPED_STEPS, SEEN, 1, SEEN)
     yield ("Each question of bytes, at the ends of what may be stored, loaded and executed", BYTES_PROGRAM, BYTES_STEPS, [*SEEN, *BYTES])
     for question, address in (("send", TRANSMIT), ("halt", HALT), ("timer", TIMER_COMPARE)):
         for about, (program, steps) in zip(("with the byte before", "after it", "without Store", "of no byte"), edges(address)):
