@@ -182,6 +182,7 @@ ROOMS = [(DATA - 1, 1), (DATA - 1, 2), (DATA, 1), (DATA + 15, 1), (DATA + 16, 1)
          (DATA + 48, 1), (0, RAM), (0, RAM + 1), (DATA + 1, ONES), (ONES, ONES), (0, ONES), (DATA, 0x30)]
 BYTES = [f"may {what} {address:#x} {size}" for what in ("store", "load", "execute", "learn") for address, size in ROOMS]
 MACHINE = ["may send", "may halt", "may system", "may timer"]
+# Asked only where no member may seal with the type: what code seals itself is not held yet.
 TYPES = ["may hold 7", "may hold 8", "may hold 0", f"may hold {SENTRY}", f"may hold {UNSEALED}", "may hold 0x0007"]
 
 SEEN = ["reach", "reach members", "reach dot", *MACHINE]
@@ -196,7 +197,7 @@ def edges(address):
 
 def conversations():
     yield ("What is reachable as a machine begins: root, from PCC the special registers, and then what RAM holds",
-           OPENING, 0, [*SEEN, *TYPES, "may learn 0 18446744073709551615"])
+           OPENING, 0, [*SEEN, "may learn 0 18446744073709551615"])
     yield ("A chain of three links leads to a device; a capability beside a device's register doesn't open it",
            CHAIN_PROGRAM, CHAIN_STEPS, [*SEEN, "may store 0x100001 1", "may store 0x100001 0x7", "may store 0x100000 1",
                                         f"may load {RECEIVE:#x} 8", f"may load {RECEIVE - 1:#x} 1", f"may store {CONTROL:#x} 8",
@@ -208,7 +209,7 @@ def conversations():
     yield ("What is sealed opens nothing; its type is held, and a sentry's", SEALING_PROGRAM, SEALING_STEPS,
            [*SEEN, *TYPES, f"may store {DATA:#x} 1", f"may store {DATA + 16:#x} 1"])
     yield ("With Access_System_Registers the special registers are reachable, and what they lead to: each kind of place in one chain",
-           KERNEL_PROGRAM, KERNEL_STEPS, [*SEEN, f"may load {DATA + 0x1F:#x} 1", f"may store {DATA + 0x1F:#x} 1", "may hold 262142"])
+           KERNEL_PROGRAM, KERNEL_STEPS, [*SEEN, f"may load {DATA + 0x1F:#x} 1", f"may store {DATA + 0x1F:#x} 1"])
     yield ("One register that was left is enough", LEFT_PROGRAM, LEFT_STEPS, [*SEEN, "may load 0 1", "may learn 0 1"])
     yield ("As code goes on it reaches the same or less", LOADING_PROGRAM, LOADING_STEPS, SEEN, 1, SEEN, 1, SEEN)
     yield ("An answer ends with a trap: after it what the kernel keeps is reachable", TRAPPED_PROGRAM, TRAPPED_STEPS, SEEN, 1, SEEN)
@@ -236,4 +237,4 @@ UNCHANGED = "\n> csr\n! csr\n> scr\n! scr 80000000\n> regs\n! regs"
 
 CONVERSATIONS = [(about, program, after(program, *asked)) for about, program, *asked in conversations()]
 CONVERSATIONS += [("Without a capability in RAM; asking changes nothing", "nop", after("nop", 0, [
-    "reach", " reach\\tmembers\\r", "reach  dot", "may  hold\\t0", "may execute 0 1"]) + UNCHANGED)]
+    "reach", " reach\\tmembers\\r", "reach  dot", f"may  hold\\t{UNSEALED}", "may execute 0 1"]) + UNCHANGED)]

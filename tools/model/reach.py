@@ -85,6 +85,7 @@ def learns(value, address, size):
     return opens_bytes(value, LOAD, address, size) or opens_bytes(value, EXECUTE, address, size)
 
 
+# `hold` asks for what is sealed already: what code may seal itself isn't counted.
 QUESTIONS = {
     "store": lambda value, address, size: opens_bytes(value, STORE, address, size),
     "load": lambda value, address, size: opens_bytes(value, LOAD, address, size),
