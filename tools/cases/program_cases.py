@@ -5,8 +5,10 @@ The statuses, the order of faults and the texts are those of the program's descr
 
 from cases.bounds_texts import text as bounds_text
 from cases.quoting import quoted
+from cases.reaching import answered
+from cases.straight import Straight
 from model.devices import RAM
-from model.images import FIRST, header, section
+from model.images import FIRST, file_v2, header, section
 from model.words import ONES, SPACE
 
 A0, A1, A2 = 10, 11, 12
@@ -444,6 +446,51 @@ def tables_refused(table):
     yield refused("debug --symbols t", [FILE, table])
 
 
+# Gives up root but for a capability, in ca0 and PCC, that loads all; then capabilities in RAM of two pages, by their places.
+GIVES_UP = {
+    "cspecialrw ca0, pcc, cnull": immediate(0x20, 0, 0, A0, 0x5B), "addi a2, zero, 23": addi(A2, 0, 23),
+    "candperm ca0, ca0, a2": immediate(0x1A0 | A2, A0, 0, A0, 0x5B), "cincoffsetimm ca0, ca0, 24": immediate(24, A0, 1, A0, 0x5B),
+    "cspecialrw cnull, ddc, ca7": immediate(0x21, 17, 0, 0, 0x5B), "jalr.cap cnull, ca0": immediate(0xFEC, A0, 0, 0, 0x5B),
+}
+GRANTS = [(RAM + 0xF0, 0x10000000, 1, 0x8, 0), (RAM + 0x100, RAM, 16, 0x5, 0), (RAM + 0x110, RAM, 0x120, 0xFBFF, 1),
+          (RAM + 0x1100, 0x100000, 8, 0x9, 0), (RAM + 0x1110, 0, 0, 0, 0)]
+# Labels: two of one address, of which the first counts; none within 4096 bytes of the last place, and then one there.
+LABELS = [(RAM + 0x104, "table"), (RAM + 0x100, "first"), (RAM + 0x100, "second"), (RAM + 0x2000, "after")]
+MORE_LABELS = [*LABELS, (RAM + 0x1100, "first")]
+
+
+def reached():
+    """Sessions that ask what is reachable, with labels."""
+    code = b"".join(word.to_bytes(4, "little") for word in GIVES_UP.values())
+    file = f"caps.img {quoted(file_v2(2, RAM, 0, GRANTS, [(RAM, code)]))}"
+    held = [f".org {place:#x}; .cap {start:#x}, {length}, {perms:#x}, {flag}" for place, start, length, perms, flag in GRANTS]
+    program = "; ".join([".pages 2", *GIVES_UP, *held])
+
+    def asked(labels, typed, answer):
+        table = "t " + quoted("".join(f"{address:016x} {name}\n" for address, name in labels))
+        return case("debug caps.img --symbols t", [file, table, f"input {quoted(typed)}"], 0, "open caps.img, open t", answer)
+
+    def session(labels, *lines, steps=6):
+        members = Straight(program).steps(steps).members()
+        done = f"events {steps} out - pc {RAM + 4 * steps:016x} running\n" if steps else ""
+        answer = "".join(f"{line}\n" for typed in lines for line in answered(members, typed, labels))
+        return asked(labels, (f"step {steps}\n" if steps else "") + "\n".join(lines), done + answer)
+
+    yield "# what is reachable is shown with the label at a granule's address or fewer than 4096 bytes below it"
+    for line in ("reach", "reach members", "reach dot"):
+        yield session(LABELS, line)
+    yield session(MORE_LABELS, "reach members")
+    yield session(LABELS, "reach members", steps=0)
+    yield session([], "reach members", "may send")
+    yield session(LABELS, "may send", "may halt", "may system", "may timer", "may hold 0")
+    yield "# a question takes a label where it takes an address"
+    yield session(MORE_LABELS, "may load table 1", "may store second 1", "may store table 4096", "may execute first 1",
+                  "may learn after 4096")
+    for typed in ("may load tabel 1", "may load table+4 1", "may load table", "may load table table", "may hold table", "may table 1",
+                  "reach table"):
+        yield asked(LABELS, typed, "fault B2\n")
+
+
 def named():
     yield "# labels: those of a text are written after its image, and a listing shows those of a table"
     yield case("asm a.s out.img --symbols a.sym", [TEXT], 3, "open a.s, make out.img, make a.sym",
@@ -472,6 +519,7 @@ def named():
                told="cherisim: file none\n  No such file or directory\n")
     yield case("dis bad.img --symbols none", [BAD], 3, "open bad.img", told="cherisim: L1 short header\n  bad.img\n")
     yield from debugged(table)
+    yield from reached()
     yield from tables_refused(table)
     yield "# what setting bounds gives"
     yield case("bounds 0x80000000 4097 --address 2147487744", [], 0, sent=shown(0x80000000, 4097, 0x80001000))

@@ -5,7 +5,7 @@ one that begins with `< ` is typed and left unread, and every other line is answ
 In the texts here a line that begins with `! ` stands for lines of the state.
 """
 
-from cases import explanations
+from cases import explanations, reaching
 from cases.programs import machines
 from cases.quoting import escaped, quoted
 from model.words import SPACE
@@ -25,6 +25,10 @@ caps
 mem ADDR LEN
 dis ADDR N
 why
+reach [members|dot]
+may store|load|execute|learn ADDR LEN
+may send|halt|system|timer
+may hold TYPE
 help
 quit
 """
@@ -52,11 +56,11 @@ REFUSED = [
         "mem 0x80000000 0x1001", "mem 0x80000000 1 1", "mem 0x80000000 -1", "mem -1 1",
         "mem 0x10000000000000000 1", "mem 18446744073709551616 1", "mem 0 0", "mem 0 4097", "mem .text 1", "dis", "dis 0x80000000",
         "dis 0x80000000 0", "dis 0x80000000 0x401", "dis 0x80000000 1 1", "dis 0x80000001 1", "dis 0x80000003 1", "dis 2 1", "dis 1 1025",
-        "dis 0xfffffffffffffffd 1", "dis 0x10000000000000000 1", "dis -4 1", "reg ca0\x0c",
+        "dis 0xfffffffffffffffd 1", "dis 0x10000000000000000 1", "dis -4 1", "reg ca0\x0c", *reaching.REFUSED_OPERANDS,
     ]),
     ("B1", [
         "", " ", "cap", "caps1", "CAPS", "STEP 1", "Quit", "quit#", "#", "step,1", "steps 1", "ste 1", "reg\x0bca0", "regs\0", "step\x7f1",
-        "\t \r",
+        "\t \r", *reaching.REFUSED_NAMES,
     ]),
     ("B2", [
         "\xe9", "regs \xe9",
@@ -576,7 +580,7 @@ def cases():
     yield from conversation("lines that are refused; then the whole state, in which nothing has changed", FIRST_IMAGE,
                             replies(first) + "\n" + rest)
     yield from conversation("lines of 255 bytes and of 256", FIRST_IMAGE, replies(LONG))
-    for about, program, text in CONVERSATIONS + explanations.CONVERSATIONS:
+    for about, program, text in CONVERSATIONS + explanations.CONVERSATIONS + reaching.CONVERSATIONS:
         yield from conversation(about, program, text)
     yield from conversation("the first image is stepped and shown", FIRST_IMAGE, replies(STEPPED))
     yield from conversation("a byte waits while everything is shown", RECEIVES, WAITING)

@@ -8,6 +8,7 @@ has a name has it in one module.
     worked.py        rows over capabilities that are worked by hand, of which cases and tests are made
     integers.py      what each row over integers gives (RISC-V unprivileged manual)
     faults.py        what mcause and mtval tell
+    reach.py         what code can reach (docs/AUTHORITY.md)
     devices.py       where the devices' registers lie
     images.py        image files, byte by byte
 

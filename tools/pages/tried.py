@@ -25,7 +25,7 @@ PROGRAM = os.path.join(TOP, "crates", "cherisim", "out", "cherisim")
 ELSEWHERE = ["docs/COMPILED.md"]
 
 # The page that tells sessions of the debugger, and their files in examples/, in order.
-WALK, SESSIONS = os.path.join("docs", "DEBUGGER.md"), ("bounds", "list")
+WALK, SESSIONS = os.path.join("docs", "DEBUGGER.md"), ("bounds", "list", "compartments")
 
 # How long a command may take, and the status of `timeout` where it takes longer.
 SECONDS = 600

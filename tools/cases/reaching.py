@@ -1,0 +1,240 @@
+"""What `reach` and `may` answer: the members of the model's reach as texts, in states that short programs leave.
+
+A program gives up root: it keeps a PCC for its own code and what else it is about, and jumps.
+"""
+
+from cases.straight import Straight
+from model import reach
+from model.capabilities import base, flag, is_unsealed, otype, perms, top
+from model.devices import CONTROL, HALT, RAM, RECEIVE, TIMER, TIMER_COMPARE, TRANSMIT
+from model.rights import ALL, SENTRY, STORE, UNSEALED
+from model.words import ONES, SPACE
+from trying.names import CAPABILITY_NAMES
+
+LETTERS = "GXRWcCLsiuSd"
+ROOTS = [*CAPABILITY_NAMES, "pcc", "ddc"]
+SPECIALS = ["mtcc", "mtdc", "mscratchc", "mepcc"]
+NO = "no, until the next trap, unsealing or sealed jump"
+HEAD = ["digraph reach {", "  rankdir=LR;", "  node [shape=box, fontname=monospace];", "  registers [shape=plaintext];"]
+
+
+# ---- texts
+
+def letters(value):
+    """The hardware permissions, a letter each."""
+    return "".join(letter if perms(value) >> bit & 1 else "-" for bit, letter in enumerate(LETTERS))
+
+
+def text(value):
+    """A capability with its permissions in letters, and every field."""
+    view = perms(value) & 0xFFF | perms(value) >> 12 << 15
+    return (f"{letters(value)} v:{value[2]:d} a:{value[1]:016x} b:{base(value):016x} t:{top(value):017x} p:{view:05x} f:{flag(value)} "
+            f"o:{otype(value):05x}")
+
+
+def place_name(place, labels=()):
+    """A register's name, or a granule's address with the label at it or fewer than 4096 bytes below it."""
+    kind, n = place
+    if kind != reach.GRANULE:
+        return {reach.ROOT: ROOTS, reach.SPECIAL: SPECIALS}[kind][n]
+    below = [(address, name) for address, name in labels if address <= n]
+    # of several names of one address the first counts
+    nearest = max(below, key=lambda label: label[0], default=None)
+    if nearest is None or n - nearest[0] >= 4096:
+        return f"{n:016x}"
+    distance = n - nearest[0]
+    return f"{n:016x} <{nearest[1]}" + (f"+{distance}>" if distance else ">")
+
+
+def members_text(found, labels=()):
+    return [f"{number} {place_name(member.place, labels)}" + ("" if member.source is None else f" from {member.source}")
+            + f" {text(member.value)}" for number, member in enumerate(found)]
+
+
+def graph_text(found, labels=()):
+    lines = []
+    for number, (value, place, source) in enumerate(found):
+        dashed = "" if is_unsealed(value) else ", style=dashed"
+        start = "registers" if source is None else f"n{source}"
+        lines += [f'  n{number} [label="{letters(value)}\\n{base(value):016x} to {top(value):017x}"{dashed}];',
+                  f'  {start} -> n{number} [label="{place_name(place, labels)}"];']
+    return [*HEAD, *lines, "}"]
+
+
+def answer_text(found, question, numbers, labels=()):
+    number = reach.first(found, question, *numbers)
+    if number is None:
+        return [NO]
+    way = " -> ".join(place_name(found[link].place, labels) for link in reach.chain(found, number))
+    return [f"yes: {way} {text(found[number].value)}"]
+
+
+def summary(found, labels=()):
+    """How many members there are, what they open, and the members."""
+    asked = [("system registers", "system"), ("sends", "send"), ("halts", "halt"), ("sets the timer", "timer")]
+    return [f"members {len(found)}", f"sealed {sum(not is_unsealed(member.value) for member in found)}",
+            *(f"{words} {'no' if reach.first(found, question) is None else 'yes'}" for words, question in asked),
+            *members_text(found, labels)]
+
+
+VIEWS = {"reach": summary, "reach members": members_text, "reach dot": graph_text}
+
+
+def answered(found, line, labels=()):
+    """What a line of these commands is answered with."""
+    words = " ".join(line.replace("\\t", " ").replace("\\r", " ").split())
+    if words in VIEWS:
+        return VIEWS[words](found, labels)
+    _, question, *numbers = words.split()
+    named = {name: address for address, name in reversed(labels)}
+    return answer_text(found, question, [named[word] if word in named else int(word, 0) for word in numbers], labels)
+
+
+def after(program, steps, lines, *more):
+    """A conversation's text: so many steps, and these lines with their answers; and then the same with more steps and lines."""
+    machine, text = Straight(program), []
+    for count, asked in zip((steps, *more[::2]), (lines, *more[1::2])):
+        machine.steps(count)
+        text += [f"> step {count}", f"events {count} out - pc {machine.special['pcc'][1]:016x} running"] if count else []
+        found = machine.members()
+        text += [part for line in asked for part in (f"> {line}", *answered(found, line))]
+    return "\n".join(text)
+
+
+# ---- programs
+
+def cap(start, length, perms, flag=0):
+    return f".cap {start:#x}, {length}, {perms:#x}, {flag}"
+
+
+def narrowed(*made, code=0x7, keep=(), then=(), data=()):
+    """A program that makes capabilities with `made`, of root in ca0, and jumps to `then` with these permissions; of the registers that hold
+    capabilities those in `keep` stay, and ca1, which is PCC. RAM from 0x80000100 on holds the data. And how many steps it takes."""
+    begun = ["cspecialrw ca0, pcc, cnull"]
+    given_up = [f"cmove {name}, cnull" for name in ("ca0", "ca2", "ca3", "ca4") if name not in keep]
+    ended = ["csetboundsimm ca1, ca0, 256", f"addi a5, zero, {code}", "candperm ca1, ca1, a5", "cspecialrw cnull, ddc, ca7"]
+    count = sum(map(len, (begun, made, ended, given_up))) + 2
+    jump = [f"cincoffsetimm ca1, ca1, {4 * count}", *given_up, "jalr.cap cnull, ca1"]
+    held = [f".org {RAM + 0x100:#x}", *data] if data else []
+    return "; ".join([*begun, *made, *ended, *jump, *then, *held]), count
+
+
+def bounded(register, offset, length, perms):
+    """The capability of so many bytes at an offset from RAM's beginning."""
+    return [f"cincoffsetimm {register}, ca0, {offset}", f"csetboundsimm {register}, {register}, {length}", f"addi a5, zero, {perms}",
+            f"candperm {register}, {register}, a5"]
+
+
+LOADS = 0x15
+DATA = RAM + 0x100
+
+# A machine as it begins, with three capabilities in RAM.
+OPENING = "; ".join(["nop", f".org {DATA:#x}", cap(DATA, 64, LOADS), cap(0x10, 1, 0xFFFF, 1), f".org {DATA + 0x30:#x}", cap(0, 0, 0)])
+
+# A table leads to two tables, and one of these to a third and to devices: transmit and mtimecmp, and halt but for its first byte.
+CHAIN_PROGRAM, CHAIN_STEPS = narrowed(*bounded("ca3", 0x100, 32, LOADS), keep=("ca3",), data=[
+    cap(DATA + 0x40, 64, LOADS), cap(DATA + 0x80, 16, LOADS),
+    f".org {DATA + 0x40:#x}", cap(DATA + 0xC0, 16, LOADS), cap(TRANSMIT, 1, 0x8), cap(HALT + 1, 7, 0x8), cap(TIMER_COMPARE, 8, 0x8),
+    f".org {DATA + 0x80:#x}", cap(HALT, 8, 0x4), f".org {DATA + 0xC0:#x}", cap(RECEIVE, 8, 0xC), cap(0x1234, 0, 0xFFFF)])
+
+# Four granules: the first and the last two are opened by registers, the second by the first alone; each leads to others and to itself.
+CYCLE_PROGRAM, CYCLE_STEPS = narrowed(*bounded("ca2", 0x100, 16, LOADS), *bounded("ca3", 0x120, 32, LOADS), keep=("ca2", "ca3"), data=[
+    cap(DATA, 64, 0x7F, 1), cap(DATA, 32, LOADS), cap(DATA, 64, LOADS), cap(RAM, 4096, 0xFBFF)])
+
+# ca2 lacks the first byte of a granule, ca3 the last byte of one, ca4 Load_Capability; of what ca3 opens one lacks Load, and one
+# Load_Capability.
+SHORT_PROGRAM, SHORT_STEPS = narrowed(*bounded("ca2", 0x101, 31, LOADS), *bounded("ca3", 0x120, 47, LOADS), *bounded("ca4", 0x100, 64, 0x4),
+                                      keep=("ca2", "ca3", "ca4"), data=[
+    cap(0x1000, 1, 1), cap(0x1010, 1, 2), cap(DATA, 64, 0x410), cap(DATA, 64, 0x6F), cap(0x1040, 1, 3)])
+
+# ca2 is sealed with type 7 and lies in RAM too, ca3 is a sentry of code with Access_System_Registers, ca4 loads the sealed one.
+SEALING_PROGRAM, SEALING_STEPS = narrowed(
+    *bounded("ca2", 0x100, 32, 0x7F), "cincoffsetimm ca4, ca0, 0", "addi a6, zero, 7", "csetaddr ca4, ca4, a6", "cseal ca2, ca2, ca4",
+    "csealentry ca3, ca0", *bounded("ca4", 0x110, 16, 0x7F), "sc.cap ca2, (ca4)", keep=("ca2", "ca3", "ca4"),
+    data=[cap(TRANSMIT, 8, 0x8)])
+
+# A kernel: PCC has Execute and Access_System_Registers, MTDC leads to a table of devices, MScratchC to a frame.
+KERNEL_PROGRAM, KERNEL_STEPS = narrowed(
+    *bounded("ca2", 0x100, 16, LOADS), "cspecialrw cnull, mtdc, ca2", *bounded("ca2", 0x110, 32, 0x7C), "cspecialrw cnull, mscratchc, ca2",
+    "cspecialrw cnull, mepcc, ca7", *bounded("ca2", 0x40, 32, 0x402), "cspecialrw cnull, mtcc, ca2", code=0x402,
+    data=[cap(TIMER_COMPARE + 8, 8, 0x8), cap(TIMER_COMPARE, 1, 0x8), cap(DATA + 0x10, 16, LOADS)])
+
+# One capability in a register is enough: ca3 has Execute and Access_System_Registers. What has no tag isn't one: ca4 is root's bits,
+# and over the second granule null is stored.
+LEFT_PROGRAM, LEFT_STEPS = narrowed(
+    *bounded("ca2", 0x110, 16, 0x7F), "sc.cap ca7, (ca2)", "cincoffsetimm ca3, ca0, 0", "addi a5, zero, 0x402", "candperm ca3, ca3, a5",
+    "ccleartag ca4, ca0", keep=("ca3", "ca4"), data=[cap(DATA, 16, 0x4), cap(DATA, 16, 0x4)])
+
+# Code that loads the first capability of a table, and gives the table up.
+LOADING_PROGRAM, LOADING_STEPS = narrowed(
+    *bounded("ca3", 0x100, 32, LOADS), keep=("ca3",), then=["lc.cap ca4, (ca3)", "cmove ca3, cnull"],
+    data=[cap(DATA + 0x20, 16, LOADS), cap(HALT, 8, 0x8), cap(TRANSMIT, 8, 0x8)])
+
+# Code without rights but its own, and a kernel to which its trap leads: a word of zeros isn't an instruction.
+TRAPPED_PROGRAM, TRAPPED_STEPS = narrowed(
+    *bounded("ca2", 0x100, 16, LOADS), "cspecialrw cnull, mtdc, ca2", *bounded("ca2", 0x40, 32, 0x402), "cspecialrw cnull, mtcc, ca2",
+    data=[cap(TRANSMIT, 8, 0x8)])
+
+# 16 bytes from 0x80000100 on may be stored, the next 16 loaded, and the 16 after these executed.
+BYTES_PROGRAM, BYTES_STEPS = narrowed(*bounded("ca2", 0x100, 16, 0x8), *bounded("ca3", 0x110, 16, 0x4), *bounded("ca4", 0x120, 16, 0x2),
+                                      keep=("ca2", "ca3", "ca4"))
+ROOMS = [(DATA - 1, 1), (DATA - 1, 2), (DATA, 1), (DATA + 15, 1), (DATA + 16, 1), (DATA + 31, 1), (DATA + 32, 1), (DATA + 47, 16),
+         (DATA + 48, 1), (0, RAM), (0, RAM + 1), (DATA + 1, ONES), (ONES, ONES), (0, ONES), (DATA, 0x30)]
+BYTES = [f"may {what} {address:#x} {size}" for what in ("store", "load", "execute", "learn") for address, size in ROOMS]
+MACHINE = ["may send", "may halt", "may system", "may timer"]
+# Asked only where no member may seal with the type: what code seals itself is not held yet.
+TYPES = ["may hold 7", "may hold 8", "may hold 0", f"may hold {SENTRY}", f"may hold {UNSEALED}", "may hold 0x0007"]
+
+SEEN = ["reach", "reach members", "reach dot", *MACHINE]
+
+
+def edges(address):
+    """Programs about a device's first byte: one that may store it and the byte before, one from after it on, one all of the register but
+    without Store, and one no byte."""
+    for start, length, perms in ((address - 1, 2, STORE), (address + 1, 7, STORE), (address, 8, ALL ^ STORE), (address, 0, STORE)):
+        yield narrowed(*bounded("ca3", 0x100, 16, LOADS), keep=("ca3",), data=[cap(start, length, perms)])
+
+
+def conversations():
+    yield ("What is reachable as a machine begins: root, from PCC the special registers, and then what RAM holds",
+           OPENING, 0, [*SEEN, "may learn 0 18446744073709551615"])
+    yield ("A chain of three links leads to a device; a capability beside a device's register doesn't open it",
+           CHAIN_PROGRAM, CHAIN_STEPS, [*SEEN, "may store 0x100001 1", "may store 0x100001 0x7", "may store 0x100000 1",
+                                        f"may load {RECEIVE:#x} 8", f"may load {RECEIVE - 1:#x} 1", f"may store {CONTROL:#x} 8",
+                                        f"may execute {RAM:#x} 256", f"may execute {DATA:#x} 16", "may hold 7"])
+    yield ("Tables that lead to each other and to themselves: each granule is found once, through the first member that opens it",
+           CYCLE_PROGRAM, CYCLE_STEPS, [*SEEN, f"may store {RAM + 4095:#x} 1", f"may store {RAM + 4096:#x} 1"])
+    yield ("A granule is opened by bounds that have all of it, and by Load and Load_Capability together",
+           SHORT_PROGRAM, SHORT_STEPS, SEEN)
+    yield ("What is sealed opens nothing; its type is held, and a sentry's", SEALING_PROGRAM, SEALING_STEPS,
+           [*SEEN, *TYPES, f"may store {DATA:#x} 1", f"may store {DATA + 16:#x} 1"])
+    yield ("With Access_System_Registers the special registers are reachable, and what they lead to: each kind of place in one chain",
+           KERNEL_PROGRAM, KERNEL_STEPS, [*SEEN, f"may load {DATA + 0x1F:#x} 1", f"may store {DATA + 0x1F:#x} 1"])
+    yield ("One register that was left is enough", LEFT_PROGRAM, LEFT_STEPS, [*SEEN, "may load 0 1", "may learn 0 1"])
+    yield ("As code goes on it reaches the same or less", LOADING_PROGRAM, LOADING_STEPS, SEEN, 1, SEEN, 1, SEEN)
+    yield ("An answer ends with a trap: after it what the kernel keeps is reachable", TRAPPED_PROGRAM, TRAPPED_STEPS, SEEN, 1, SEEN)
+    yield ("Each question of bytes, at the ends of what may be stored, loaded and executed", BYTES_PROGRAM, BYTES_STEPS, [*SEEN, *BYTES])
+    for question, address in (("send", TRANSMIT), ("halt", HALT), ("timer", TIMER_COMPARE)):
+        for about, (program, steps) in zip(("with the byte before", "after it", "without Store", "of no byte"), edges(address)):
+            yield f"`may {question}` asks for the register's first byte: {about}", program, steps, ["may " + question, "reach"]
+    yield ("The timer's count is no comparison", *narrowed(*bounded("ca3", 0x100, 16, LOADS), keep=("ca3",), data=[cap(TIMER, 8, 0x8)]),
+           ["may timer"])
+
+
+# Operands of `reach` and `may` that are refused, and names that are no commands.
+REFUSED_OPERANDS = [
+    "reach x", "reach members 1", "reach members dot", "reach dot 1", "reach 1", "reach Members", "reach member", "may", "may x",
+    "may Store", "may send 1", "may send send", "may halt 1", "may system 1", "may timer 1", "may hold", "may hold 262144",
+    "may hold 0x40000", "may hold -1", "may hold 7 7", "may hold x", "may reach",
+    *(line.format(what) for what in ("store", "load", "execute", "learn") for line in (
+        "may {}", "may {} 0x80000000", "may {} 0x80000000 0", "may {} 0x80000000 -1", "may {} 0x80000000 1 1", "may {} x 1",
+        "may {} -1 1", "may {} 0x10000000000000000 1", "may {} 0 18446744073709551616")),
+]
+REFUSED_NAMES = ["store 0x80000000 1", "send", "reaches", "Reach", "MAY send", "may: send", "members", "dot"]
+
+# The whole state, in which nothing has changed.
+UNCHANGED = "\n> csr\n! csr\n> scr\n! scr 80000000\n> regs\n! regs"
+
+CONVERSATIONS = [(about, program, after(program, *asked)) for about, program, *asked in conversations()]
+CONVERSATIONS += [("Without a capability in RAM; asking changes nothing", "nop", after("nop", 0, [
+    "reach", " reach\\tmembers\\r", "reach  dot", f"may  hold\\t{UNSEALED}", "may execute 0 1"]) + UNCHANGED)]

@@ -1,0 +1,1 @@
+"""The tests of what makes cases, worked by hand."""

@@ -1,0 +1,104 @@
+"""What code can reach, by the words of docs/AUTHORITY.md: the members of a reach with the place where each was found, and what is asked
+of them.
+
+A place is what it is in and a number: a root's (the general registers, then PCC and DDC), a special register's (MTCC, MTDC, MScratchC,
+MEPCC), or a granule's address.
+"""
+
+from typing import NamedTuple, Optional
+
+from model.capabilities import base, has, is_unsealed, otype, top
+from model.devices import HALT, RAM, TIMER_COMPARE, TRANSMIT
+from model.rights import ACCESS_SYSTEM_REGISTERS, EXECUTE, LOAD, LOAD_CAPABILITY, STORE
+from model.words import NULL_HIGH
+
+ROOT, SPECIAL, GRANULE = "root", "special", "granule"
+WORD = 16
+
+
+class State(NamedTuple):
+    """What a reach looks at: the values of registers, RAM's bytes from its beginning on, and the addresses of its tagged granules."""
+    registers: list
+    pcc: tuple
+    ddc: tuple
+    specials: list
+    ram: bytes
+    tags: frozenset
+
+    def granule(self, address):
+        """The capability that a tagged granule holds: in memory null is sixteen zero bytes."""
+        word = self.ram[address - RAM:][:WORD]
+        return int.from_bytes(word[8:], "little") ^ NULL_HIGH, int.from_bytes(word[:8], "little"), True
+
+    def held(self):
+        """The tagged values by their places: roots, special registers, and granules in ascending order."""
+        registers = [*((ROOT, n, value) for n, value in enumerate([*self.registers, self.pcc, self.ddc])),
+                     *((SPECIAL, n, value) for n, value in enumerate(self.specials))]
+        return {**{(kind, n): value for kind, n, value in registers if value[2]},
+                **{(GRANULE, address): self.granule(address) for address in sorted(self.tags)}}
+
+
+class Member(NamedTuple):
+    """A capability that code can come to hold, where it was found, and the number of the member that leads there; a root needs none."""
+    value: tuple
+    place: tuple
+    source: Optional[int]
+
+
+def opens_system(value):
+    return is_unsealed(value) and has(value, EXECUTE) and has(value, ACCESS_SYSTEM_REGISTERS)
+
+
+def opens(value, place):
+    """Whether what lies at a place can be had through a value. Nothing leads to a root."""
+    kind, n = place
+    if kind == SPECIAL:
+        return opens_system(value)
+    return (kind == GRANULE and is_unsealed(value) and has(value, LOAD) and has(value, LOAD_CAPABILITY)
+            and base(value) <= n and n + WORD <= top(value))
+
+
+def members(state):
+    """The roots, and then what each member in turn opens that was not found before."""
+    held = state.held()
+    found = [Member(value, place, None) for place, value in held.items() if place[0] == ROOT]
+    for number, member in enumerate(found):
+        before = {other.place for other in found}
+        found += [Member(value, place, number) for place, value in held.items() if place not in before and opens(member.value, place)]
+    return found
+
+
+def chain(found, number):
+    """The numbers of the members that lead to one, a root's first."""
+    source = found[number].source
+    return [number] if source is None else [*chain(found, source), number]
+
+
+# ---- what is asked
+
+def opens_bytes(value, permission, address, size):
+    """Whether it is unsealed, has the permission, and has one of the bytes from an address on in its bounds."""
+    return is_unsealed(value) and has(value, permission) and max(base(value), address) < min(top(value), address + size)
+
+
+def learns(value, address, size):
+    return opens_bytes(value, LOAD, address, size) or opens_bytes(value, EXECUTE, address, size)
+
+
+# `hold` asks for what is sealed already: what code may seal itself isn't counted.
+QUESTIONS = {
+    "store": lambda value, address, size: opens_bytes(value, STORE, address, size),
+    "load": lambda value, address, size: opens_bytes(value, LOAD, address, size),
+    "execute": lambda value, address, size: opens_bytes(value, EXECUTE, address, size),
+    "learn": learns,
+    "send": lambda value: opens_bytes(value, STORE, TRANSMIT, 1),
+    "halt": lambda value: opens_bytes(value, STORE, HALT, 1),
+    "system": opens_system,
+    "timer": lambda value: opens_bytes(value, STORE, TIMER_COMPARE, 1),
+    "hold": lambda value, number: not is_unsealed(value) and otype(value) == number,
+}
+
+
+def first(found, question, *numbers):
+    """The number of the first member that lets code do it, or None."""
+    return next((n for n, member in enumerate(found) if QUESTIONS[question](member.value, *numbers)), None)
