@@ -72,7 +72,7 @@ def answer_text(found, question, numbers, labels=()):
 def summary(found, labels=()):
     """How many members there are, what they open, and the members."""
     asked = [("system registers", "system"), ("sends", "send"), ("halts", "halt"), ("sets the timer", "timer")]
-    return [f"members {len(found)}", f"sealed {sum(not is_unsealed(member.value) for member in found)}",
+    return [f"members {len(found)}",
             *(f"{words} {'no' if reach.first(found, question) is None else 'yes'}" for words, question in asked),
             *members_text(found, labels)]
 

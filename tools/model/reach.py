@@ -9,7 +9,7 @@ from typing import NamedTuple, Optional
 
 from model.capabilities import base, has, is_unsealed, otype, top
 from model.devices import HALT, RAM, TIMER_COMPARE, TRANSMIT
-from model.rights import ACCESS_SYSTEM_REGISTERS, EXECUTE, LOAD, LOAD_CAPABILITY, STORE
+from model.rights import ACCESS_SYSTEM_REGISTERS, EXECUTE, LOAD, LOAD_CAPABILITY, SEAL, SENTRY, STORE
 from model.words import NULL_HIGH
 
 ROOT, SPECIAL, GRANULE = "root", "special", "granule"
@@ -85,7 +85,13 @@ def learns(value, address, size):
     return opens_bytes(value, LOAD, address, size) or opens_bytes(value, EXECUTE, address, size)
 
 
-# `hold` asks for what is sealed already: what code may seal itself isn't counted.
+def may_seal(value, number):
+    """Whether values may be sealed with the type through it; of sentries code makes its own."""
+    if not is_unsealed(value):
+        return False
+    return has(value, EXECUTE) if number == SENTRY else has(value, SEAL) and base(value) <= number < top(value)
+
+
 QUESTIONS = {
     "store": lambda value, address, size: opens_bytes(value, STORE, address, size),
     "load": lambda value, address, size: opens_bytes(value, LOAD, address, size),
@@ -95,7 +101,7 @@ QUESTIONS = {
     "halt": lambda value: opens_bytes(value, STORE, HALT, 1),
     "system": opens_system,
     "timer": lambda value: opens_bytes(value, STORE, TIMER_COMPARE, 1),
-    "hold": lambda value, number: not is_unsealed(value) and otype(value) == number,
+    "hold": lambda value, number: not is_unsealed(value) and otype(value) == number or may_seal(value, number),
 }
 
 

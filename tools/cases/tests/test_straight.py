@@ -76,5 +76,5 @@ class Texts(unittest.TestCase):
                          [f"yes: ca3 -> 0000000080000100 <entry> {held}"])
         self.assertEqual(answered(found, "may halt"), ["no, until the next trap, unsealing or sealed jump"])
         self.assertEqual(answered(found, "reach members")[3], f"3 0000000080000100 from 1 {held}")
-        self.assertEqual(answered(found, "reach")[:6], ["members 4", "sealed 0", "system registers no", "sends yes", "halts no",
+        self.assertEqual(answered(found, "reach")[:5], ["members 4", "system registers no", "sends yes", "halts no",
                                                         "sets the timer no"])
