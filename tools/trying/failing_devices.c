@@ -15,7 +15,7 @@ enum { MOST = 16, NONE = -1, EPIPE = 32, ENOENT = 2, EISDIR = 21, O_CREAT = 0100
 #define NEXT ((void *)-1l)
 
 static const char *devices = "";
-static int opened = NONE, has_made, is_full, is_read, noted;
+static int opened = NONE, has_made, is_full, is_read;
 /* Of each descriptor the calls until it fails: NONE where it is no device of the list. */
 static long left[MOST];
 static int takes_none[MOST];
@@ -79,19 +79,9 @@ static void note(const char *deed, const char *name) {
     }
 }
 
-/* A file is looked at before it is opened: that is noted once. */
-int statx(int folder, const char *name, int flags, unsigned mask, void *seen) {
-    note(" open ", name);
-    noted = 1;
-    return ((int (*)(int, const char *, int, unsigned, void *))dlsym(NEXT, "statx"))(folder, name, flags, mask, seen);
-}
-
 int open(const char *name, int flags, int mode) {
     int makes = (flags & O_CREAT) != 0, (*plain)(const char *, int, int) = (int (*)(const char *, int, int))dlsym(NEXT, "open");
-    if (makes || !noted) {
-        note(makes ? " make " : " open ", name);
-    }
-    noted = 0;
+    note(makes ? " make " : " open ", name);
     /* where none can be made, a directory is still one */
     if (makes && (is_full || has_made)) {
         int file = plain(name, 1, 0);

@@ -59,11 +59,12 @@ impl Folder for Disk<'_> {
     }
 
     fn open(&self, name: &str) -> io::Result<File> {
+        let file = fs::open(self.rt, name)?;
         // The system opens a directory, and refuses to read it.
-        if fs::metadata(self.rt, name)?.is_dir() {
+        if file.metadata()?.is_dir() {
             return Err(io::Error::from(io::ErrorKind::IsADirectory));
         }
-        fs::open(self.rt, name)
+        Ok(file)
     }
 
     fn make(&mut self, name: &str) -> io::Result<File> {
