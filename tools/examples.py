@@ -5,7 +5,7 @@
 
 PROGRAM is the proved program, as the gate leaves it: crates/cherisim/out/cherisim. An example is a text NAME.s in examples/, with what
 it sends in NAME.out, and NAME.in where bytes come in; it must halt with 0 within 100000 steps. Where a page shows a session with it,
-what is typed stands in NAME.commands and what is answered in NAME.replies.
+what is typed stands in NAME.commands and what is answered in NAME.replies; a session has the text's labels.
 """
 import glob
 import os
@@ -46,11 +46,12 @@ def wrong(program, name, room):
     """What is wrong with an example, or nothing."""
     beside = os.path.join(EXAMPLES, name)
     image = os.path.join(room, f"{name}.img")
-    came([program, "asm", f"{beside}.s", image])
+    labels = ["--symbols", os.path.join(room, f"{name}.sym")]
+    came([program, "asm", f"{beside}.s", image, *labels])
     typed = ["--input", f"{beside}.in"] if stands(f"{beside}.in") else []
     if came([program, "run", image, STEPS, *typed, *OPTIONS.get(name, [])]) != read(f"{beside}.out"):
         return "doesn't send what it is to send"
-    if stands(f"{beside}.commands") and came([program, "debug", image], read(f"{beside}.commands")) != read(f"{beside}.replies"):
+    if stands(f"{beside}.commands") and came([program, "debug", image, *labels], read(f"{beside}.commands")) != read(f"{beside}.replies"):
         return "isn't answered as it is to be answered"
     return ""
 

@@ -24,7 +24,8 @@ LISTED = re.compile(r"    (\./cherisim\b[^#\n]*)")
 
 # What a command line may also look like.
 OTHERS = ("./cherisim asm --symbols=labels.sym examples/list.s list.img", "./cherisim dis --symbols=labels.sym -- list.img",
-          "./cherisim run --trace=steps.trace --quiet list.img 30", "./cherisim run examples/none.img 5")
+          "./cherisim run --trace=steps.trace --quiet list.img 30", "./cherisim run --why list.img 30",
+          "./cherisim run examples/none.img 5")
 
 # The command that is called with `rt` itself.
 WHOLE = "./cherisim asm examples/bounds.s whole.img --symbols whole.sym"

@@ -2,8 +2,8 @@
  *
  * A machine is held by a handle. Each function below has a contract that the library's code is proved to meet; it stands here in words.
  * Every call is total and returns. All but cherisim_free, cherisim_version and cherisim_disassemble answer a status; what such a call
- * writes it writes whole, or not at all where the status isn't CHERISIM_OK, but for the line of a faulty text, and the length that
- * cherisim_why would have needed.
+ * writes it writes whole, or not at all where the status isn't CHERISIM_OK, but for the line of a faulty text, and the length or the
+ * count that cherisim_why or cherisim_reach would have needed.
  *
  * What C owes: a pointer points to what its type says and to nothing else that the call is given, and none is null, be its length 0; a
  * handle begins as CHERISIM_NONE and is never copied; it is used by one call at a time, and by the thread that made it; a tagged
@@ -139,6 +139,44 @@ cherisim_status cherisim_next_ends(cherisim_t *machine, uint32_t *why);
 cherisim_status cherisim_why(cherisim_t *machine, uint8_t *text, size_t room, size_t *length);
 /* The text of an instruction word, as cheri_disassemble() gives it: how many bytes of `text` it has, at most 64. */
 size_t cherisim_disassemble(uint32_t word, bool capability_mode, char text[64]);
+
+/* ---- reach: what the code that runs from here on can come to hold, and what it may do, whatever its instructions are, up to the next
+ * trap, unsealing or jump through a seal */
+
+/* Where a member was found. */
+enum {
+    CHERISIM_IN_REGISTER = 0, /* a general register, 0 to 31, PCC 32, DDC 33 */
+    CHERISIM_IN_SPECIAL = 1,  /* a special register that Access_System_Registers guards: MTCC 0, MTDC 1, MScratchC 2, MEPCC 3 */
+    CHERISIM_IN_MEMORY = 2    /* the granule at an address */
+};
+/* A member: a capability that the code can come to hold, which of the registers or granules of this kind it was found in, and the number
+ * of the member, before it, through which it is had: 0 in a register. */
+typedef struct { cherisim_cap_t value; uint64_t place, from; uint32_t kind; } cherisim_member_t;
+/* All members, *count of them at the beginning of `members`, numbered from 0 on: the tagged registers, and then what each member in turn
+ * leads to that was not found before. Where there is no room for all, CHERISIM_FULL, and *count is how many there are. */
+cherisim_status cherisim_reach(cherisim_t *machine, cherisim_member_t *members, size_t room, size_t *count);
+
+/* Whether some member allows what was asked, and the number of the first that does, else 0. */
+typedef struct { uint64_t member; bool may; } cherisim_answer_t;
+/* May the code store to some of `length` bytes from an address on? If not, those of RAM stay as they are. Here and in the next three the
+ * bytes go on past address 2^64 - 1, and of none it may nothing. */
+cherisim_status cherisim_may_store(cherisim_t *machine, uint64_t address, uint64_t length, cherisim_answer_t *answer);
+/* May it load some of them? May it execute some? If not, no member allows it. */
+cherisim_status cherisim_may_load(cherisim_t *machine, uint64_t address, uint64_t length, cherisim_answer_t *answer);
+cherisim_status cherisim_may_execute(cherisim_t *machine, uint64_t address, uint64_t length, cherisim_answer_t *answer);
+/* May it learn anything of them, by a load or by executing them? If not, whatever those of RAM are, it does the same. */
+cherisim_status cherisim_may_learn(cherisim_t *machine, uint64_t address, uint64_t length, cherisim_answer_t *answer);
+/* May it send a byte? If not, none is sent. */
+cherisim_status cherisim_may_send(cherisim_t *machine, cherisim_answer_t *answer);
+/* May it halt the machine? If not, it is not halted. */
+cherisim_status cherisim_may_halt(cherisim_t *machine, cherisim_answer_t *answer);
+/* May it use the system registers? If not, MTCC, MTDC, MScratchC, MEPCC and the control and status registers stay, but for the counts of
+ * cycles and instructions. */
+cherisim_status cherisim_may_system(cherisim_t *machine, cherisim_answer_t *answer);
+/* May it set mtimecmp? If not, that stays. */
+cherisim_status cherisim_may_timer(cherisim_t *machine, cherisim_answer_t *answer);
+/* Is a member sealed with this object type (below 2^18), or may seal with it? (Of sentries any code may.) If not, no member allows it. */
+cherisim_status cherisim_may_hold(cherisim_t *machine, uint32_t otype, cherisim_answer_t *answer);
 
 #ifdef __cplusplus
 }

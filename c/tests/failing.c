@@ -51,6 +51,19 @@ static cherisim_status call_why(cherisim_t *m) {
     if (status) ROW(length == 99 && shown[0] == 0xee);
     return status;
 }
+static cherisim_status call_reach(cherisim_t *m) {
+    cherisim_member_t members[64] = {{.place = 0xee}};
+    size_t count = 99;
+    cherisim_status status = cherisim_reach(m, members, COUNT_OF(members), &count);
+    if (status) ROW(count == 99 && members[0].place == 0xee);
+    return status;
+}
+static cherisim_status call_may(cherisim_t *m) {
+    cherisim_answer_t answer = {99, false};
+    cherisim_status status = cherisim_may_store(m, RAM, 1, &answer);
+    ROW(answer.member == (status ? 99 : 0) && answer.may == !status);
+    return status;
+}
 
 /* each allocation of the call fails in turn, into a handle with a machine or without one */
 static void each_fails(const char *name, cherisim_status (*call)(cherisim_t *), bool has_machine) {
@@ -104,10 +117,11 @@ static void takes_none(void) {
 int main(void) {
     call_new(&source);
     steps(&source, 1);
-    const struct { const char *name; cherisim_status (*call)(cherisim_t *); } calls[] = {
-        {"new", call_new}, {"new_flat", call_new_flat}, {"assemble", call_assemble}, {"copy", call_copy}, {"why", call_why}};
+    const struct { const char *name; cherisim_status (*call)(cherisim_t *); bool makes; } calls[] = {
+        {"new", call_new, true}, {"new_flat", call_new_flat, true}, {"assemble", call_assemble, true}, {"copy", call_copy, true},
+        {"why", call_why, false}, {"reach", call_reach, false}, {"may_store", call_may, false}};
     for (size_t i = 0; i < COUNT_OF(calls); i += 1) {
-        if (calls[i].call != call_why) each_fails(calls[i].name, calls[i].call, false);
+        if (calls[i].makes) each_fails(calls[i].name, calls[i].call, false);
         each_fails(calls[i].name, calls[i].call, true);
     }
     takes_none();

@@ -24,11 +24,13 @@ from typing import Any, Dict, Generic, Iterator, List, NamedTuple, Optional, Tup
 from . import _library as c
 from ._faults import CherisimError, Closed, ImageFault, OutOfMemory, OutOfRange, TextFault, WrongThread, in_range, refusal
 from ._library import lib
+from ._reach import Answer, Questions, Reach, ReachMember
 
 __version__ = "0.1.0"
-__all__ = ["CSRS", "Cap", "CherisimError", "Closed", "Console", "ImageFault", "Insn", "Machine", "Memory", "NULL_UPPER", "OutOfMemory",
-           "OutOfRange", "PAGE", "Perms", "RAM", "REGISTERS", "Ran", "Registers", "SCRS", "SENTRY", "SpecialRegisters", "StatusRegisters",
-           "Stop", "TextFault", "Timer", "UNSEALED", "WrongThread", "decode", "disassemble", "encode", "execute"]
+__all__ = ["Answer", "CSRS", "Cap", "CherisimError", "Closed", "Console", "ImageFault", "Insn", "Machine", "Memory", "NULL_UPPER",
+           "OutOfMemory", "OutOfRange", "PAGE", "Perms", "RAM", "REGISTERS", "Ran", "Reach", "ReachMember", "Registers", "SCRS", "SENTRY",
+           "SpecialRegisters", "StatusRegisters", "Stop", "TextFault", "Timer", "UNSEALED", "WrongThread", "decode", "disassemble",
+           "encode", "execute"]
 
 RAM = 0x80000000
 """Where RAM begins."""
@@ -54,7 +56,8 @@ CSRS: Dict[str, int] = {
 
 _ALL = (1 << 64) - 1
 _ROOT_UPPER = 0xFFFF << 48 | NULL_UPPER
-_ROOM = {"sent": 65536, "why": 4096}  # the bytes of a buffer, which a run or a text may need more than once
+_PLACES = ((*_SHOWN, *tuple(SCRS)[:2]), tuple(SCRS)[2:])  # where members are found: registers, and special registers
+_ROOM = {"sent": 65536, "why": 4096, "reach": 64}  # the room of a buffer, which a call may need more than once
 _BUFFER, _FULL = 2, 67
 
 
@@ -508,9 +511,15 @@ class Memory:
         self._machine._do(lib.cherisim_write, begin, data, length)
 
 
+def _member(number: int, member: c.Member) -> ReachMember:
+    """A member of a reach as C gives it."""
+    where = _PLACES[member.kind][member.place] if member.kind < len(_PLACES) else member.place
+    return ReachMember(number, Cap._of(member.value), where, member.from_ if member.kind else None)
+
+
 # ---- machines
 
-class Machine:
+class Machine(Questions):
     """A machine in the opening state of an image's bytes, or of the image of a text in the assembly language.
 
         Machine(Path("hello.img").read_bytes())
@@ -762,6 +771,18 @@ class Machine:
         if status:
             raise refusal(status, "cherisim_why")
         return room.raw[:length.value].decode("ascii")
+
+    def reach(self) -> Reach:
+        """What the code that runs from here on can come to hold, whatever its instructions are, up to the next trap, unsealing or sealed
+        jump: the members of docs/AUTHORITY.md's *reachable*, as the debugger's command `reach members` shows them."""
+        count, status = c_size_t(_ROOM["reach"]), _FULL
+        self._own()
+        while status == _FULL:
+            room = (c.Member * count.value)()
+            status = lib.cherisim_reach(self._at, room, len(room), byref(count))
+        if status:
+            raise refusal(status, "cherisim_reach")
+        return Reach(_member(number, room[number]) for number in range(count.value))
 
     def __repr__(self) -> str:
         state = "closed" if not self._handle.at else "on another thread" if get_ident() != self._thread else (

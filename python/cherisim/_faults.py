@@ -55,9 +55,9 @@ _TEXT_FAULTS = {
     7: "place", 8: "byte not ASCII", 9: "line too long", 10: "no memory", 11: "capability not exact"}
 
 
-def in_range(what: str, number: int, bits: int) -> None:
+def in_range(what: str, number: int, bits: int, least: int = 0) -> None:
     """ctypes cuts a number that is too long for C: it is refused here."""
-    if not 0 <= number < 1 << bits:
+    if not least <= number < 1 << bits:
         raise OutOfRange(f"no {what} {number:#x}")
 
 

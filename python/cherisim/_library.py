@@ -57,6 +57,14 @@ class Console(ctypes.Structure):
     _fields_ = [("waiting", c_uint64), ("overrun", c_bool), ("control", c_bool)]
 
 
+class Member(ctypes.Structure):
+    _fields_ = [("value", Cap), ("place", c_uint64), ("from_", c_uint64), ("kind", c_uint32)]
+
+
+class Answer(ctypes.Structure):
+    _fields_ = [("member", c_uint64), ("may", c_bool)]
+
+
 M = POINTER(Handle)
 CALLS: Dict[str, Tuple[Any, ...]] = {  # what each answers, and what it is given
     "cheri_cap": (Cap, Word, c_bool), "cheri_is_well_formed": (c_bool, Word), "cheri_base": (c_uint64, Word),
@@ -80,7 +88,11 @@ CALLS: Dict[str, Tuple[Any, ...]] = {  # what each answers, and what it is given
     "cherisim_set_scr": (c_uint32, M, c_uint8, Cap), "cherisim_set_csr": (c_uint32, M, c_uint16, c_uint64),
     "cherisim_write": (c_uint32, M, c_uint64, c_char_p, c_size_t), "cherisim_write_cap": (c_uint32, M, c_uint64, Cap),
     "cherisim_next_ends": (c_uint32, M, POINTER(c_uint32)), "cherisim_why": (c_uint32, M, c_char_p, c_size_t, POINTER(c_size_t)),
-    "cherisim_disassemble": (c_size_t, c_uint32, c_bool, c_char_p)}
+    "cherisim_disassemble": (c_size_t, c_uint32, c_bool, c_char_p),
+    "cherisim_reach": (c_uint32, M, POINTER(Member), c_size_t, POINTER(c_size_t)),
+    **{f"cherisim_may_{what}": (c_uint32, M, c_uint64, c_uint64, POINTER(Answer)) for what in ("store", "load", "execute", "learn")},
+    **{f"cherisim_may_{what}": (c_uint32, M, POINTER(Answer)) for what in ("send", "halt", "system", "timer")},
+    "cherisim_may_hold": (c_uint32, M, c_uint32, POINTER(Answer))}
 
 
 def found() -> ctypes.CDLL:

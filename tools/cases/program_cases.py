@@ -3,13 +3,18 @@
 The statuses, the order of faults and the texts are those of the program's description; images and words are made here, field by field.
 """
 
+from cases.bounds_texts import length_text
 from cases.bounds_texts import text as bounds_text
+from cases.bounds_texts import word_text
+from cases.explanations import access, begun, fetch, number as held_number, reply, trapped as trap_effect
 from cases.quoting import quoted
 from cases.reaching import answered
+from cases.sessions import ECHO_THREE
 from cases.straight import Straight
 from model.devices import RAM
 from model.images import FIRST, file_v2, header, section
-from model.words import ONES, SPACE
+from model.sessions import Schedule, Session
+from model.words import ONES, ROOT_HIGH, SPACE
 
 A0, A1, A2 = 10, 11, 12
 
@@ -118,9 +123,13 @@ def refused(words, parts):
     return case(words, parts, 2, told=TEXT_OF_CLAP)
 
 
+def joined(lines):
+    return "".join(f"{line}\n" for line in lines)
+
+
 def shown(base, length, address):
     """What the command `bounds` sends."""
-    return "".join(f"{line}\n" for line in bounds_text(base, length, address))
+    return joined(bounds_text(base, length, address))
 
 
 def flat_image(data, pages=256, at=RAM, entry=RAM, mode=0, version=1):
@@ -166,6 +175,7 @@ def ended_otherwise():
     yield case("run --quiet first.img 5", [FILE], 0, "open first.img", b"A")
     yield from repeated()
     yield from trapped()
+    yield from stopped()
 
 
 def repeated():
@@ -194,6 +204,14 @@ def csrrw(target, number, source):
     return number << 20 | source << 15 | 1 << 12 | target << 7 | 0x73
 
 
+def csrrs(target, number, source):
+    return csrrw(target, number, source) + (1 << 12)
+
+
+def csrrsi(target, number, value):
+    return csrrw(target, number, value) + (5 << 12)
+
+
 def csrr(target, number):
     return number << 20 | 2 << 12 | target << 7 | 0x73
 
@@ -202,7 +220,7 @@ def auipc(target):
     return target << 7 | 0x17
 
 
-DDC, MTVEC, MEPC = 1, 0x305, 0x341
+DDC, MSTATUS, MIE, MTVEC, MEPC = 1, 0x300, 0x304, 0x305, 0x341
 ECALL, MRET, NOP, HERE = 0x73, 0x30200073, 0x13, 0x6F
 # loads 8 bytes past a capability of the first 8 of all addresses
 LOADS_PAST_THE_END = [special_rw(A0, DDC, 0), capability_immediate(8, A0, 2, A0), capability_immediate(8, A0, 1, A0),
@@ -275,13 +293,77 @@ def trapped():
         yield case("run trap.img 1", [ecall, f"errors {count}"], 1, "open trap.img", b"", whole[:count])
 
 
+# The handler of a load by a capability register that is null.
+LOAD_IS_HANDLED = [auipc(A0), addi(A0, A0, 24), csrrw(0, MTVEC, A0), *LOADS_BY_NULL, HERE, NOP, *HANDLER]
+# sends the byte that came, and then asks the environment
+SENDS_AND_CALLS = [lui(A1, 0x10000), ld(A0, A1, 8), sb(A0, A1), ECALL]
+# takes the byte that came; then one that waits asks for the external interrupt, and it may be taken
+ASKS_FOR_BYTES = [lui(A1, 0x10000), ld(A2, A1, 8), addi(A0, 0, 1), sd(A0, A1) | 24 << 7, lui(A0, 1), addi(A0, A0, -2048), csrrs(0, MIE, A0),
+                  csrrsi(0, MSTATUS, 8), NOP, HERE]
+
+
+def stopped():
+    """Runs that end before a trap, and why the next step traps, by the order of conditions."""
+    ecall = "effect: trap environment call, mcause 000000000000000b, mtval 0000000000000000"
+    null = access("load of 1 byte", held_number("ca1", 0), "ca1", "load", 0, 1, 0, SPACE, False, rights=(False, True, True))
+    violation = (trap_effect(28, "CHERI exception, tag violation at ca1", 32 * 11 + 2),)
+
+    def told(steps, pcc, *parts):
+        return f"cherisim: not halted\ncherisim: steps {steps}, pcc {pcc:016x}\n{reply(*parts)}\n"
+
+    def stops(words, steps, program, *expected, sent=b"", parts=(), made=b"", opened=""):
+        yield case(f"run trap.img {steps}{words}", [f"trap.img {quoted(image(*program))}", *parts], 1, f"open trap.img{opened}", sent,
+                   told(*expected), made)
+
+    yield "# a run that is to stop before a trap, and meets none, is as any other"
+    for why in ("--why", "--why=all"):
+        yield case(f"run first.img 9 {why}", [FILE], 0, "open first.img", b"A")
+        yield case(f"run first.img 4 {why}", [FILE], 1, "open first.img", b"A",
+                   "cherisim: not halted\ncherisim: steps 4, pcc 0000000080000010\n")
+    echo = f"echo.img {quoted(image(*ECHO))}"
+    yield case("run echo.img 22 --input keys --gap 7 --why=all", [echo, 'keys "ABC"'], 0, "open echo.img, open keys", b"ABC")
+    yield "# before its first step: the trap's entry can't be fetched"
+    yield from stops(" --why", 9, [ECALL], 0, RAM, begun(RAM, "00000073 ecall"), ecall)
+    null = list(null)
+    for why in (" --why", " --why=all"):
+        yield from stops(why, 9, LOADS_BY_NULL, 0, RAM, begun(RAM, f"{LOADS_BY_NULL[0]:08x} lb.cap a0, (ca1)"), null, *violation)
+    yield "# with --why=all an ECALL is no stop, but the fetch of its entry is, if the run comes so far"
+    nowhere = trap_effect(1, "instruction access fault", 0)
+    yield from stops(" --why=all", 2, [ECALL], 1, 0, fetch(0, False), nowhere)
+    call = f"environment call, mtval {0:016x}"
+    yield case("run trap.img 1 --why=all", [f"trap.img {quoted(image(ECALL))}"], 1, "open trap.img", b"",
+               f"cherisim: not halted\ncherisim: steps 1, pcc {0:016x}; first trap: {call}, mepc {RAM:016x}, step 1\n")
+    yield "# a trap that is handled, and one after it that isn't"
+    yield from stops(" --why", 13, IS_HANDLED_ONCE, 9, RAM + 20, begun(RAM + 20, "00000073 ecall"), ecall)
+    yield case("run trap.img 9 --why", [f"trap.img {quoted(image(*IS_HANDLED_ONCE))}"], 1, "open trap.img", b"",
+               f"cherisim: not halted\ncherisim: steps 9, pcc {RAM + 20:016x}; last trap: {call}, mepc {RAM + 16:016x}\n")
+    yield "# a violation that is handled is a stop only with --why=all"
+    word = f"{LOADS_BY_NULL[0]:08x} lb.cap a0, (ca1)"
+    yield from stops(" --why=all", 9, LOAD_IS_HANDLED, 3, RAM + 12, begun(RAM + 12, word), null, *violation)
+    yield case("run trap.img 9 --why", [f"trap.img {quoted(image(*LOAD_IS_HANDLED))}"], 1, "open trap.img", b"",
+               f"cherisim: not halted\ncherisim: steps 9, pcc {RAM + 16:016x}; last trap: CHERI exception, tag violation at ca1,"
+               f" mepc {RAM + 16:016x}\n")
+    yield "# what was sent before it, and the byte that comes just before it: here it makes the interrupt that is taken"
+    yield from stops(" --input keys --gap 3 --why", 9, SENDS_AND_CALLS, 3, RAM + 12, begun(RAM + 12, "00000073 ecall"), ecall, sent=b"A",
+                     parts=['keys "AB"'], opened=", open keys")
+    taken = "effect: take external interrupt, mcause 800000000000000b, mtval 0000000000000000"
+    yield from stops(" --input keys --gap 8 --why", 9, ASKS_FOR_BYTES, 8, RAM + 32, f"{RAM + 32:016x} {NOP:08x} addi zero, zero, 0", taken,
+                     parts=['keys "AB"'], opened=", open keys")
+    yield "# --quiet leaves the texts out, and a trace has the lines of the steps before it"
+    ecalls = f"trap.img {quoted(image(ECALL))}"
+    yield case("run trap.img 9 --why --quiet", [ecalls], 1, "open trap.img", b"", "cherisim: not halted\n")
+    yield case("run trap.img 9 --why --quiet --trace t", [ecalls], 1, "open trap.img, make t", b"", "cherisim: not halted\n")
+    lines = f"1 {RAM:016x} 00000073 ecall: trap environment call, mcause 000000000000000b, mtval 0000000000000000\n"
+    yield from stops(" --why=all --trace t", 9, [ECALL], 1, 0, fetch(0, False), nowhere, made=lines.encode(), opened=", make t")
+
+
 def not_begun():
     yield "# a command line that is refused, or asks for help: status 2, a text of clap's, and no file is opened"
     for words in ("frob", "asm a.s", "asm a.s a.img b.img", "run first.img", "run first.img 0", "run none.img 100000001",
                   "run first.img 5 --gap 0", "run first.img 5 --gap 1000001", "run first.img 5 --tick 1000001", "run first.img x", "dis",
                   "debug", "debug first.img 5", "image first.img",
                   "image first.img a.img --at x", "image first.img a.img --entry 18446744073709551616",
-                  "image first.img a.img --pages -1", "image first.img a.img --mode 0x", "bounds", "bounds 0", "bounds 0 0y",
+                  "image first.img a.img --pages -1", "image first.img a.img --mode 0x", "bounds", "bounds 0y", "bounds 0 0y", "word 0",
                   "bounds 0x10000000000000000 0", "bounds 0 0 --address 1z", "asm first.img", "run first.img 5 --quiet=1",
                   "run first.img 5 --times 0", "run first.img 5 --times 1000001", "run first.img 100000001 --times 1"):
         yield refused(words, [FILE, TEXT])
@@ -339,11 +421,29 @@ def traces():
                "cherisim: not halted\n", trap.encode())
     yield case("run time.img 6 --quiet --trace t", [f"time.img {quoted(image(*IS_INTERRUPTED))}"], 1, "open time.img, make t", b"",
                "cherisim: not halted\n", INTERRUPTED.encode())
-    yield "# a trace that can't be made, or written to its end: a step whose line is not written is not done"
+    yield "# of its lines those from a step on, the last so many, and the last so many of those from a step on"
+    lines = TRACE.splitlines(True)
+    for options, kept in (("--trace-from 1", lines), ("--trace-from 3", lines[2:]), ("--trace-from 5", lines[4:]),
+                          ("--trace-from 6", []), ("--trace-from 100000000000000", []), ("--trace-last 1", lines[4:]),
+                          ("--trace-last 4", lines[1:]), ("--trace-last 5", lines), ("--trace-last 1000000", lines),
+                          ("--trace-from 2 --trace-last 3", lines[2:]), ("--trace-from 4 --trace-last 3", lines[3:]),
+                          ("--trace-from 6 --trace-last 3", [])):
+        yield case(f"run first.img 9 --trace t {options}", [FILE], 0, opened, b"A", made="".join(kept).encode())
+    yield case("run first.img 4 --trace t --trace-last 2 --quiet", [FILE], 1, opened, b"A", "cherisim: not halted\n",
+               "".join(lines[2:4]).encode())
+    yield "# of a run that stops before a trap, the last before it"
+    call = traced((f"0000000080000000 {SENDS_AND_CALLS[0]:08x} lui a1, 0x10000", f"ca1 = {integer(0x10000000)}"),
+                  (f"0000000080000004 {SENDS_AND_CALLS[1]:08x} ld a0, 8(a1)", f"ca0 = {integer(0x41)} from device 0000000010000008"),
+                  (f"0000000080000008 {SENDS_AND_CALLS[2]:08x} sb a0, 0(a1)", "device store 1 byte at 0000000010000000: 41"))
+    for options, kept in (("", 3), (" --trace-last 2", 2), (" --trace-from 3", 1), (" --trace-from 4", 0)):
+        yield case(f"run call.img 9 --input keys --why --quiet --trace t{options}",
+                   [f"call.img {quoted(image(*SENDS_AND_CALLS))}", 'keys "A"'], 1, "open call.img, open keys, make t", b"A",
+                   "cherisim: not halted\n", "".join(call.splitlines(True)[3 - kept:]).encode())
+    yield "# a trace that can't be made, or written to its end: it is written in blocks, so the run is done by then"
     yield case("run first.img 5 --trace t", [FILE, "full"], 3, opened, told="cherisim: file t\n  No such file or directory\n")
     yield case("run first.img 5 --trace d", [FILE, "directory d"], 3, "open first.img, make d", told="cherisim: file d\n  Is a directory\n")
     for call in (0, 1, len(three) - 1, len(three), len(TRACE) - 1):
-        yield case("run first.img 5 --trace t", [FILE, f"made {call}"], 3, opened, b"A" if call >= len(three) else b"",
+        yield case("run first.img 5 --trace t", [FILE, f"made {call}"], 3, opened, b"A",
                    "cherisim: L10 device failed\n  t: the file is cut short\n", TRACE[:call].encode())
     yield case("run first.img 5 --trace t", [FILE, f"made {len(TRACE)}"], 0, opened, b"A", made=TRACE.encode())
     yield "# where a byte can't be written, the line of the step that sent it is"
@@ -403,11 +503,13 @@ def debugged(table):
 
     yield "# a session takes a label where it takes an address; a label that the table lacks is an operand of another form"
     yield session("until halt 9", "events 3 out 41 pc 000000008000000c running\n")
+    yield session("stop at halt\nstop at start\ngo\nstops", "at 000000008000000c\nat 000000008000000c\nat 0000000080000000\n"
+                  "events 3 out 41 pc 000000008000000c running\nat 000000008000000c\nat 0000000080000000\n")
     yield session("mem start 5\nmem 2147483660 1", "0000000080000000: b7 05 00 10 13\n000000008000000c: b7\n")
     yield session("dis halt 1\nmem halt 1", "000000008000000c 001005b7 lui a1, 0x100\n000000008000000c: b7\n")
     for typed in ("until stop 9", "mem stop 1", "dis stop 1", "mem Start 1", "mem star 1", "mem starts 1", "mem start: 1", "mem start+0 1",
                   "mem start start", "until halt halt", "step start", "tick halt", "trap start", "byte start", "reg start", "mem start",
-                   "dis halt"):
+                  "dis halt", "stop at stop", "stop at halt halt", "stop halt", "go halt", "stops halt", "help halt"):
         yield session(typed + "\nmem start 1", "fault B2\n0000000080000000: b7\n")
     yield session("start 1\nhalt", "fault B1\nfault B1\n")
     yield "# of a name that stands twice the first address counts; a number is a number beside any labels"
@@ -423,6 +525,33 @@ def debugged(table):
     yield session("mem start 1\nmem 0x80000000 1", "fault B2\n0000000080000000: b7\n", 't ""')
     yield case("debug first.img", [FILE, table, 'input "mem start 1\\nmem 0x80000000 1"'], 0, "open first.img",
                "fault B2\n0000000080000000: b7\n")
+
+
+def replayed():
+    """Sessions on a schedule: what isn't given is as of `run`."""
+    echo = f"echo.img {quoted(image(*ECHO))}"
+
+    def session(words, typed, gap, tick, keys):
+        model = Session(ECHO_THREE, Schedule(gap, tick, keys))
+        files = [f"keys {quoted(keys)}"] if keys else []
+        lines = "".join(f"{line}\n" for line in typed)
+        return case(f"debug echo.img {words}", [echo, *files, f"input {quoted(lines.encode())}"], 0,
+                    "open echo.img, open keys" if keys else "open echo.img", "".join(map(model.answer, typed)))
+
+    yield "# a session on a schedule does the steps of a run, as many as halt it; what isn't given is as there"
+    yield session("--input keys --gap 1", ["step 22"], 1, 100, b"ABC")
+    yield session("--gap 7 --input keys --tick 3", ["step 10", "until 0x80000024 100", "go", "step 1"], 7, 3, b"ABC")
+    yield session("--input keys", ["step 1100", "reg a0", "go", "reg a2"], 1000, 100, b"ABC")
+    yield session("--gap 1", ["step 1000"], 1, 100, b"")
+    yield session("--tick 0", ["step 1000"], 1000, 0, b"")
+    yield session("--tick 1000000 --gap 1000000 --input keys", ["step 1000000", "step 1000000", "step 1"], 1000000, 1000000, b"ABC")
+    yield "# the input is read after the table"
+    yield case("debug echo.img --input none", [echo], 3, "open echo.img, open none", told="cherisim: file none\n  No such file or directory\n")
+    yield case("debug echo.img --input d", [echo, "directory d"], 3, "open echo.img, open d", told="cherisim: file d\n  Is a directory\n")
+    yield case("debug echo.img --symbols none --input keys", [echo, 'keys "A"'], 3, "open echo.img, open none",
+               told="cherisim: file none\n  No such file or directory\n")
+    for words in ("--gap 0", "--gap 1000001", "--tick 1000001", "--gap x", "--input", "--tick", "--tick 1 --tick 1"):
+        yield refused(f"debug echo.img {words}", [echo])
 
 
 def tables_refused(table):
@@ -519,12 +648,19 @@ def named():
                told="cherisim: file none\n  No such file or directory\n")
     yield case("dis bad.img --symbols none", [BAD], 3, "open bad.img", told="cherisim: L1 short header\n  bad.img\n")
     yield from debugged(table)
+    yield from replayed()
     yield from reached()
     yield from tables_refused(table)
     yield "# what setting bounds gives"
     yield case("bounds 0x80000000 4097 --address 2147487744", [], 0, sent=shown(0x80000000, 4097, 0x80001000))
     yield case("bounds 18446744073709551615 2", [], 0, sent=shown(ONES, 2, None))
     yield case("bounds 0 1", ["output 0"], 3, told="cherisim: write failed\n")
+    yield "# what an allocator asks of a length, and what a word means"
+    yield case("bounds 4097", [], 0, sent=joined(length_text(4097)))
+    yield case("bounds 0x1001", ["output 20"], 3, sent=joined(length_text(4097))[:20], told="cherisim: write failed\n")
+    yield case("word 0xffff1ffffc018004 0x80000000", [], 0, sent=joined(word_text(ROOT_HIGH, 0x80000000)))
+    yield case("word --memory 0xffff000000000000 0x80000000", [], 0, sent=joined(word_text(ROOT_HIGH, 0x80000000)))
+    yield case("word 0 0", ["output 0"], 3, told="cherisim: write failed\n")
     yield "# what was read of a faulty line stands on a line of its own after the fault, with the file and the line"
     for line, told in (("addi a0, a0, 4096", "A3 immediate out of range: 4096 (-2048 to 2047)"), ("j lop", "A5 label unknown: lop"),
                        ("x: nop\\nx: nop", "A4 label twice: x"), ("addi a0", "A2 operands: addi takes rd, rs1, imm"),
@@ -598,6 +734,39 @@ def failing():
     yield case("dis none", ["errors 9"], 3, "open none", told="cherisim:")
 
 
+def read_so_far():
+    """Texts and tables that are read up to their first faulty line, each with the call that fails after it."""
+    foreign, long = "nop\\n\\x7f\\nnop\\n", f"nop\\n{' ' * 256}\\nnop\\n"
+    yield "# a text is read up to a line that its bytes alone make the first faulty one: the call after it, which fails, isn't made"
+    for call, text, told in ((5, foreign, "A8 byte not ASCII: 0x7f at column 1"), (261, long, "A9 line too long: 256 bytes")):
+        yield case("asm a.s out.img", [f'a.s {call} "{text}"'], 3, "open a.s", told=faulty_line(2, told))
+        yield case("asm a.s out.img", [f'a.s {call - 1} "{text}"'], 3, "open a.s", told="cherisim: read failed\n  a.s: Broken pipe\n")
+    yield "# where a line before it has a fault that a later label may mend, it is read to its end"
+    blanks = " " * 300
+    for number, text, told in ((2, "j x\\n\\x7f\\nx: nop\\n", "A8 byte not ASCII: 0x7f at column 1"),
+                                (1, "j x\\n\\x7f\\nnop\\n", "A5 label unknown: x"),
+                                (1, "frob\\n\\x7f\\nnop\\n", "A1 unknown mnemonic: frob"),
+                                (2, f"j x\\n{blanks}\\nx: nop\\n", "A9 line too long: 300 bytes"),
+                                (1, f"j x\\n{blanks}\\nnop\\n", "A5 label unknown: x"),
+                                (2, f"nop\\n{blanks}", "A9 line too long: 300 bytes"),
+                                (2, f"nop\\n{blanks}\\x7f\\xff\\n", "A8 byte not ASCII: 0x7f at column 301"),
+                                (2, f"nop\\nx\\x01{blanks}\\n\\x7f", "A8 byte not ASCII: 0x01 at column 2")):
+        yield case("asm a.s out.img", [f'a.s "{text}"'], 3, "open a.s", told=faulty_line(number, told))
+    yield case("asm a.s out.img", ['a.s 5 "j x\\n\\x7f\\nx: nop\\n"'], 3, "open a.s", told="cherisim: read failed\n  a.s: Broken pipe\n")
+    yield "# a table is read up to its first faulty line, of which 19 bytes or its line feed have come"
+    for call, text, line in ((21, "0000000080000000 x\\nx\\n0000000080000000 y\\n", 2), (19, "start 0000000080000000\\n", 1)):
+        yield case("dis first.img --symbols t", [FILE, f't {call} "{text}"'], 3, "open first.img, open t",
+                   told=f"cherisim: line {line}: no address and label\n  t:{line}\n")
+        yield case("dis first.img --symbols t", [FILE, f't {call - 1} "{text}"'], 3, "open first.img, open t",
+                   told="cherisim: read failed\n  t: Broken pipe\n")
+    yield "# so what has no end ends at once"
+    yield case("asm /dev/zero out.img", [], 3, "open /dev/zero",
+               told="cherisim: line 1: A8 byte not ASCII\n  /dev/zero:1: 0x00 at column 1\n")
+    for command in ("dis", "debug"):
+        yield case(f"{command} first.img --symbols /dev/zero", [FILE], 3, "open first.img, open /dev/zero",
+                   told="cherisim: line 1: no address and label\n  /dev/zero:1\n")
+
+
 # The words of each code, and of the faults without one; files are `a.s`, and a text's fault is that of its line 7.
 TEXTS_OF_CODES = {
     "line 7: ": ("A1 unknown mnemonic", "A2 operands", "A3 immediate out of range", "A4 label twice", "A5 label unknown",
@@ -613,7 +782,9 @@ OTHER_TEXTS = [
     ("memory", "no memory"), ("words", "read failed"), ("no file", "file a.s"),
     ("broken file", "read failed"), ("directory", "file a.s"),
     ("cut short", "L10 device failed"), ("symbols", "line 7: no address and label"),
-    ("file L2", "L2 magic"), ("foreign word", "error: a word of the command line is not UTF-8"),
+    ("file L2", "L2 magic"), ("far A8", "line 20001: A8 byte not ASCII"), ("far A5", "line 2: A5 label unknown"),
+    ("mended A8", "line 20001: A8 byte not ASCII"), ("far symbols", "line 4001: no address and label"),
+    ("foreign word", "error: a word of the command line is not UTF-8"),
 ]
 
 
@@ -626,6 +797,6 @@ def fault_texts():
 
 def files():
     lines = ["# a command line, files and streams => the status, what is opened and made, sent, told, and what stands in the file made"]
-    lines += [*ends(), *ended_otherwise(), *not_begun(), *traces(), *images(), *named(), *faults(), *failing()]
+    lines += [*ends(), *ended_otherwise(), *not_begun(), *traces(), *images(), *named(), *faults(), *failing(), *read_so_far()]
     yield "commands.txt", lines
     yield "told.txt", fault_texts()

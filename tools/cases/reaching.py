@@ -3,11 +3,13 @@
 A program gives up root: it keeps a PCC for its own code and what else it is about, and jumps.
 """
 
+from collections import Counter
+
 from cases.straight import Straight
 from model import reach
 from model.capabilities import base, flag, is_unsealed, otype, perms, top
-from model.devices import CONTROL, HALT, RAM, RECEIVE, TIMER, TIMER_COMPARE, TRANSMIT
-from model.rights import ALL, SENTRY, STORE, UNSEALED
+from model.devices import CONTROL, HALT, RAM, RECEIVE, STATUS, TIMER, TIMER_COMPARE, TRANSMIT
+from model.rights import ACCESS_SYSTEM_REGISTERS, ALL, SEAL, SENTRY, STORE, UNSEAL, UNSEALED
 from model.words import ONES, SPACE
 from trying.names import CAPABILITY_NAMES
 
@@ -70,11 +72,24 @@ def answer_text(found, question, numbers, labels=()):
 
 
 def summary(found, labels=()):
-    """How many members there are, what they open, and the members."""
-    asked = [("system registers", "system"), ("sends", "send"), ("halts", "halt"), ("sets the timer", "timer")]
-    return [f"members {len(found)}",
-            *(f"{words} {'no' if reach.first(found, question) is None else 'yes'}" for words, question in asked),
-            *members_text(found, labels)]
+    """How many members there are, what they open, and those that are sealed."""
+    places = Counter(member.place[0] for member in found)
+    are_sealed = [not is_unsealed(member.value) for member in found]
+    bytes_open = {name: [f"{place_name((reach.GRANULE, first), labels)} to {end:017x}" for first, end in reach.opened(found, permissions)]
+                  for name, permissions in reach.BYTES.items()}
+    registers = [f"{name} {'R' if loads else '-'}{'W' if stores else '-'}" for name, (loads, stores) in reach.accesses(found).items()]
+    types_open = {name: [f"{first:05x} to {end:05x}" for first, end in reach.sealing(found, permission)]
+                  for name, permission in reach.TYPES.items()}
+    system = "no" if reach.first(found, "system") is None else "yes"
+    return [f"members {len(found)}: registers {places[reach.ROOT]}, special registers {places[reach.SPECIAL]}, "
+            f"memory {places[reach.GRANULE]}, sealed {sum(are_sealed)}",
+            *listed({**bytes_open, "device": registers}), f"system registers {system}", *listed(types_open),
+            *(line for line, is_sealed in zip(members_text(found, labels), are_sealed) if is_sealed)]
+
+
+def listed(things):
+    """What there is of each, a line a thing, or that there is none."""
+    return [f"{name} {thing}" for name, some in things.items() for thing in some or ["none"]]
 
 
 VIEWS = {"reach": summary, "reach members": members_text, "reach dot": graph_text}
@@ -181,6 +196,33 @@ BYTES_PROGRAM, BYTES_STEPS = narrowed(*bounded("ca2", 0x100, 16, 0x8), *bounded(
 ROOMS = [(DATA - 1, 1), (DATA - 1, 2), (DATA, 1), (DATA + 15, 1), (DATA + 16, 1), (DATA + 31, 1), (DATA + 32, 1), (DATA + 47, 16),
          (DATA + 48, 1), (0, RAM), (0, RAM + 1), (DATA + 1, ONES), (ONES, ONES), (0, ONES), (DATA, 0x30)]
 BYTES = [f"may {what} {address:#x} {size}" for what in ("store", "load", "execute", "learn") for address, size in ROOMS]
+
+
+def table(*held):
+    """A program that keeps a table of these capabilities and its own code."""
+    return narrowed(*bounded("ca3", 0x100, 16 * len(held), LOADS), keep=("ca3",), data=[cap(*one) for one in held])
+
+
+# Ranges for stores, not in ascending order: each meets or touches others at its beginning, its end or both, lies in one or around one, or
+# lies a byte apart; and beside them ranges for loads and fetches, which are not joined with those.
+MEETING = table((0x1040, 16, 8), (0x1000, 16, 8), (0x1010, 16, 8), (0x1030, 16, 8), (0x1004, 4, 8), (0x104F, 2, 8), (0x1020, 16, 4),
+                (0x2000, 64, 8), (0x1FFF, 2, 8), (0x2041, 1, 8), (0x1FFD, 1, 8), (0x3000, 16, 8), (0x3020, 16, 8), (0x3010, 16, 8))
+AROUND = table((0x4000, 4, 8), (0x3FF0, 64, 8), (0x5000, 8, 8), (0x5000, 8, 8), (0x5010, 8, 8), (0x5020, 8, 8), (0x5004, 32, 8),
+               (0x6000, 8, 2), (0x6008, 8, 2), (0x7000, 16, 0x14), (0x7010, 16, 0x10), (0x7010, 16, 4), (0x7020, 16, 0x14))
+# Bounds that end with the address space, and empty ones, also at the end of others and between two.
+LAST = table((SPACE - 4096, 4096, 8), (SPACE - 8192, 4096, 12), (SPACE - 1, 1, 2), (0, 1, 4))
+EMPTY = table((0x1234, 0, 0xFBFF), (0, 0, 0xFBFF), (0x1000, 16, 8), (0x1010, 0, 8), (0x1011, 16, 8), (ONES, 0, 0xFBFF))
+# Types to seal and to unseal with: some, the last ones before the reserved ones, reserved ones alone, and those on both sides.
+SEALS = table((1, 2, SEAL), (2, 1, UNSEAL), (0x1000, 16, ALL ^ SEAL ^ UNSEAL ^ ACCESS_SYSTEM_REGISTERS))
+SEVERAL = table((5, 2, SEAL | UNSEAL), (7, 1, SEAL), (9, 1, SEAL), (0x3FFFB, 1, UNSEAL), (0x3FFFD, 1, UNSEAL))
+RESERVED = table((0x3FFFC, 4, SEAL), (0x40000, 16, SEAL), (0x3FFF0, 32, UNSEAL), (SPACE - 16, 16, UNSEAL))
+EVERY_TYPE = table((0, ONES // 2 + 1, SEAL), (0x20000, 0x40000, UNSEAL))
+# Registers that are loaded alone, stored alone, and both by two capabilities; or opened but for their first bytes.
+LOADED = table(*((address, 8, 4) for address in reach.REGISTERS.values()))
+STORED = table(*((address, 8, 8) for address in reach.REGISTERS.values()))
+DEVICES = table((TIMER, 8, 4), (RECEIVE, 1, 4), (STATUS - 1, 2, 8), (CONTROL, 8, 4), (CONTROL, 8, 8), (HALT + 1, 7, 12),
+                (TRANSMIT, 8, 2), (TIMER_COMPARE - 8, 8, 12))
+
 MACHINE = ["may send", "may halt", "may system", "may timer"]
 # Asked only where no member may seal with the type: what code seals itself is not held yet.
 TYPES = ["may hold 7", "may hold 8", "may hold 0", f"may hold {SENTRY}", f"may hold {UNSEALED}", "may hold 0x0007"]
@@ -217,6 +259,14 @@ def conversations():
     for question, address in (("send", TRANSMIT), ("halt", HALT), ("timer", TIMER_COMPARE)):
         for about, (program, steps) in zip(("with the byte before", "after it", "without Store", "of no byte"), edges(address)):
             yield f"`may {question}` asks for the register's first byte: {about}", program, steps, ["may " + question, "reach"]
+    for about, asked in (
+            ("Of ranges that meet or touch one is shown", MEETING), ("Ranges around others, and two that a third joins", AROUND),
+            ("The last byte of the address space", LAST), ("Empty bounds open nothing", EMPTY),
+            ("Sealing and unsealing are asked for each by its permission", SEALS), ("Ranges of types", SEVERAL),
+            ("Reserved types are left out", RESERVED), ("All types", EVERY_TYPE),
+            ("Registers that are loaded alone", LOADED), ("Registers that are stored alone", STORED),
+            ("A register is open by its first byte", DEVICES)):
+        yield about, *asked, ["reach"]
     yield ("The timer's count is no comparison", *narrowed(*bounded("ca3", 0x100, 16, LOADS), keep=("ca3",), data=[cap(TIMER, 8, 0x8)]),
            ["may timer"])
 

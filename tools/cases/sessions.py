@@ -1,13 +1,15 @@
 """Conversations of the debugger, with what is answered by the rules of its commands.
 
 A conversation stands after its machine's program, `@` and statements: a line that begins with `> ` is typed after that, with escapes,
-one that begins with `< ` is typed and left unread, and every other line is answered. An empty line ends the conversation.
+one that begins with `< ` is typed and left unread, one that begins with `% ` has the gap, the tick and the input of the session's
+schedule, each `-` where it isn't given, and every other line is answered. An empty line ends the conversation.
 In the texts here a line that begins with `! ` stands for lines of the state.
 """
 
 from cases import explanations, reaching
 from cases.programs import machines
 from cases.quoting import escaped, quoted
+from model.sessions import Schedule, Session
 from model.words import SPACE
 
 # What `help` answers.
@@ -17,6 +19,9 @@ tick N
 byte B
 until ADDR N
 trap N
+go
+stop at ADDR|trap|off
+stops
 reg R
 regs
 scr
@@ -29,9 +34,17 @@ reach [members|dot]
 may store|load|execute|learn ADDR LEN
 may send|halt|system|timer
 may hold TYPE
-help
+help [B1|B2|B3|B4]
 quit
 """
+
+# What the codes of refusals mean.
+CODES = {
+    "B1": "B1 no such command, or no word on the line",
+    "B2": "B2 operands of another count, form or range, no such label, or a line too long or not ASCII",
+    "B3": "B3 some byte to be shown lies outside RAM",
+    "B4": "B4 no memory for the reply",
+}
 
 # Sends `A` and halts with 0.
 FIRST_IMAGE = "; ".join(machines.FIRST_IMAGE)
@@ -52,7 +65,9 @@ REFUSED = [
         "until x 1", "until . 1", "trap", "trap 0", "trap -1", "trap 1 1", "trap x", "trap 0xf4241", "trap 0x80000004 1", "reg",
         "reg a0 a1", "reg a0,", "reg 10", "reg X1", "reg A0", "reg x01", "reg c32", "reg x-1", "reg s12", "reg t7",
         "reg a8", "reg czero", "reg cx5", "reg cc5", "reg null", "reg pcc", "reg ddc", "reg mstatus", "reg c", "reg x", "regs a0",
-        "scr pcc", "csr mstatus", "caps 1", "why 1", "help 1", "help step", "quit 0", "mem", "mem 0x80000000", "mem 0x80000000 0",
+        "scr pcc", "csr mstatus", "caps 1", "why 1", "help 1", "help step", "help B9", "help b1", "help B", "help B1 B2", "help B2 1", "help fault",
+        "go 5", "go 0x80000004", "stop", "stop at", "stop at nolabel", "stop at 1 2", "stop at -1", "stop at 0x10000000000000000", "stop trap 1",
+        "stop off 1", "stop 0x80000004", "stop on", "stop At 4", "stop traps", "stops 1", "stops off", "quit 0", "mem", "mem 0x80000000", "mem 0x80000000 0",
         "mem 0x80000000 0x1001", "mem 0x80000000 1 1", "mem 0x80000000 -1", "mem -1 1",
         "mem 0x10000000000000000 1", "mem 18446744073709551616 1", "mem 0 0", "mem 0 4097", "mem .text 1", "dis", "dis 0x80000000",
         "dis 0x80000000 0", "dis 0x80000000 0x401", "dis 0x80000000 1 1", "dis 0x80000001 1", "dis 0x80000003 1", "dis 2 1", "dis 1 1025",
@@ -66,7 +81,7 @@ REFUSED = [
         "\xe9", "regs \xe9",
     ]),
     ("B1", [
-        "frob 0xffffffffffffffffffff", "load 0x80000000", "helps", "Help", "traps 1", "TRAP 1",
+        "frob 0xffffffffffffffffffff", "load 0x80000000", "helps", "Help", "traps 1", "TRAP 1", "goes", "GO", "stopped", "Stops", "at 4", "off",
     ]),
 ]
 
@@ -140,6 +155,15 @@ def conversation(about, program, text):
     yield f"@ {program}".rstrip()
     for line in text.strip("\n").split("\n") if text else []:
         yield from state(line[2:]) if line.startswith("! ") else [line]
+
+
+def modelled(about, program, commands, schedule=None):
+    """A conversation of commands that give events or set stops, by the model; on a schedule of a gap, a tick and the bytes of the input."""
+    session, lines = Session(program, Schedule(*schedule) if schedule else None), []
+    for command in commands:
+        lines += [typed(command), *session.answer(command).splitlines()]
+    first = [f"% {schedule[0]} {schedule[1]} {escaped(bytes(schedule[2])) or '-'}"] if schedule else []
+    return about, program, "\n".join(first + lines)
 
 
 def replies(rows):
@@ -478,6 +502,66 @@ cra v:1 a:0000000080000014 b:0000000000000000 t:10000000000000000 p:78fff f:0 o:
 """),
 ]
 
+# Echoes the bytes that come.
+ECHO = "lui a1, 0x10000; loop: ld a0, 16(a1); beq a0, zero, loop; ld a0, 8(a1); sb a0, 0(a1); j loop"
+# Echoes three, and halts.
+ECHO_THREE = ("lui a1, 0x10000; addi a2, zero, 3; loop: ld a0, 16(a1); beq a0, zero, loop; ld a0, 8(a1); sb a0, 0(a1); addi a2, a2, -1; "
+              "bne a2, zero, loop; lui a1, 0x100; sd zero, 0(a1)")
+# Reads the timer.
+CLOCK = "lui a1, 0x200c; loop: ld a0, -8(a1); j loop"
+# Takes a byte, and then waits for the interrupt of the next.
+AWAITS = ("lui a1, 0x10000; ld a0, 8(a1); addi a0, zero, 1; sd a0, 24(a1); lui a2, 0x1; addi a2, a2, -2048; csrrs zero, mie, a2; "
+          "csrrsi zero, mstatus, 8; loop: addi a3, a3, 1; j loop")
+# Lets the timer interrupt at its third tick, and waits.
+AWAITS_TICK = ("lui a1, 0x2004; addi a0, zero, 3; sd a0, 0(a1); addi a2, zero, 128; csrrs zero, mie, a2; csrrsi zero, mstatus, 8; "
+               "loop: addi a3, a3, 1; j loop")
+# Sends four letters, and ends in a call that traps.
+SENDS = ("lui a1, 0x10000; addi a0, zero, 64; addi a2, zero, 4; loop: addi a0, a0, 1; sb a0, 0(a1); addi a2, a2, -1; bne a2, zero, loop; "
+         "ecall")
+
+REPLAYED = [
+    modelled("Steps on a schedule come with the byte before them and the tick after them, numbered over the session", ECHO, [
+        "step 1", "step 1", "step 1", "step 1", "step 2", "step 20", "until 0x80000010 10", "until 0x80000010 10", "step 1",
+        "until 0x80000010 10", "step 60", "reg a0"], (7, 2, b"ABC")),
+    modelled("The same steps at once", ECHO, ["step 100", "reg a0"], (7, 2, b"ABC")),
+    modelled("A byte before each step and a tick after it", ECHO, ["step 3", "step 5", "until 0x80000004 30"], (1, 1, b"0123456789")),
+    modelled("Of an echo that halts nothing comes after the step that halts, and then nothing is given", ECHO_THREE, [
+        "step 10", "step 100", "step 1", "step 1000000", "until 0 1", "until 0x80000028 1", "trap 1", "go", "tick 2", "byte 0x41", "step 1"],
+        (1, 5, b"ABC")),
+    modelled("The halt comes before the tick of its step", FIRST_IMAGE, ["step 3", "step 5", "step 1"], (1000, 1, b"")),
+    modelled("Ticks and bytes beside the schedule change neither its place nor the numbers of its steps", CLOCK, [
+        "step 3", "tick 5", "step 1", "reg a0", "byte 0x41", "step 2", "reg a0", "tick 1", "step 4", "reg a0"], (3, 4, b"ABCDE")),
+    modelled("Without ticks", CLOCK, ["step 1000", "reg a0"], (1000, 0, b"A")),
+    modelled("Steps that stop at an address have the byte of the step before which they stop", CLOCK, [
+        "step 3", "until 0x80000004 10", "until 0x80000004 10", "step 1", "until 0x80000004 10", "until 0x80000004 10", "step 1"],
+        (3, 4, b"ABCDE")),
+    modelled("An interrupt that a byte asks for is not passed over: the byte comes, and its step doesn't", AWAITS, [
+        "trap 1000", "trap 1000", "trap 1", "step 1", "step 1"], (20, 7, b"AB")),
+    modelled("The same with the steps of `step`, which take it", AWAITS, ["step 20", "step 1"], (20, 7, b"AB")),
+    modelled("The same with `go` and a stop", AWAITS, ["stop trap", "go", "go", "stops"], (20, 0, b"AB")),
+    modelled("An interrupt of the timer that a tick asks for", AWAITS_TICK, ["trap 1000", "trap 1000", "step 1"], (1000, 5, b"")),
+]
+
+STOPPED = [
+    modelled("Stops are set, shown and taken away; none stands twice", FIRST_IMAGE, [
+        "stops", "stop at 0x80000008", "stop trap", "stop at 0x80000008", "stop trap", "stop at 2147483660", "stops", "stop at 0",
+        "stop at 0xffffffffffffffff", "stop off", "stops", "stop off", "stop trap", "stops"]),
+    modelled("Without a stop `go` goes to the halt, and a halted machine gives nothing", FIRST_IMAGE, [
+        "go", "go", "stop at 0x80000014", "go", "stop trap", "go", "step 1"]),
+    modelled("`go` gives one step wherever it is, and then steps up to a stop", SENDS, [
+        "stop at 0x8000000c", "go", "go", "go", "stop at 0x80000014", "go", "go", "go", "stop off", "stop at 0x8000001c", "go", "step 1"]),
+    modelled("Before a step that would trap, which `go` then takes", SENDS, [
+        "stop trap", "go", "go", "go", "go"]),
+    modelled("A stop at the address of each step", CLOCK, ["stop at 0x80000004", "stop at 0x80000008", "go", "go", "go", "go"]),
+    modelled("A stop before a trap and one at an address, whichever comes first", SENDS, [
+        "stop trap", "stop at 0x8000000c", "go", "go", "go", "go", "go", "go"]),
+    modelled("A stop where the machine is: it goes round once", ECHO, [
+        "byte 0x41", "stop at 0x80000004", "go", "go", "byte 0x42", "go", "go"]),
+    modelled("On a schedule", ECHO_THREE, [
+        "stop at 0x80000014", "stops", "go", "go", "go", "go", "go"], (11, 4, b"ABC")),
+    modelled("On a schedule without a stop, up to the halt", ECHO_THREE, ["step 3", "go", "go", "step 1"], (11, 4, b"ABC")),
+]
+
 # What is typed at a machine of the first image, and what is answered.
 STEPPED = [
     ("until 0x80000000 5", "events 0 out - pc 0000000080000000 running"),
@@ -580,7 +664,9 @@ def cases():
     yield from conversation("lines that are refused; then the whole state, in which nothing has changed", FIRST_IMAGE,
                             replies(first) + "\n" + rest)
     yield from conversation("lines of 255 bytes and of 256", FIRST_IMAGE, replies(LONG))
-    for about, program, text in CONVERSATIONS + explanations.CONVERSATIONS + reaching.CONVERSATIONS:
+    yield from conversation("what the codes of refusals mean", FIRST_IMAGE,
+                            replies([(f"help {code}", meaning) for code, meaning in CODES.items()] + [(" help\tB2 ", CODES["B2"])]))
+    for about, program, text in CONVERSATIONS + REPLAYED + STOPPED + explanations.CONVERSATIONS + reaching.CONVERSATIONS:
         yield from conversation(about, program, text)
     yield from conversation("the first image is stepped and shown", FIRST_IMAGE, replies(STEPPED))
     yield from conversation("a byte waits while everything is shown", RECEIVES, WAITING)

@@ -7,9 +7,9 @@ MEPCC), or a granule's address.
 
 from typing import NamedTuple, Optional
 
-from model.capabilities import base, has, is_unsealed, otype, top
-from model.devices import HALT, RAM, TIMER_COMPARE, TRANSMIT
-from model.rights import ACCESS_SYSTEM_REGISTERS, EXECUTE, LOAD, LOAD_CAPABILITY, SEAL, SENTRY, STORE
+from model.capabilities import base, has, is_unsealed, otype, perms, top
+from model.devices import CONTROL, HALT, RAM, RECEIVE, STATUS, TIMER, TIMER_COMPARE, TRANSMIT
+from model.rights import ACCESS_SYSTEM_REGISTERS, EXECUTE, GREATEST_SEALING_TYPE, LOAD, LOAD_CAPABILITY, SEAL, SENTRY, STORE, UNSEAL
 from model.words import NULL_HIGH
 
 ROOT, SPECIAL, GRANULE = "root", "special", "granule"
@@ -108,3 +108,40 @@ QUESTIONS = {
 def first(found, question, *numbers):
     """The number of the first member that lets code do it, or None."""
     return next((n for n, member in enumerate(found) if QUESTIONS[question](member.value, *numbers)), None)
+
+
+# ---- in sum
+
+# What opens numbers, and the permissions that it takes: bytes, and object types.
+BYTES = {"load": LOAD, "load capabilities": LOAD | LOAD_CAPABILITY, "store": STORE, "execute": EXECUTE}
+TYPES = {"seal": SEAL, "unseal": UNSEAL}
+
+# The devices' registers in the order of their addresses.
+REGISTERS = {"halt": HALT, "mtimecmp": TIMER_COMPARE, "mtime": TIMER, "transmit": TRANSMIT, "receive": RECEIVE, "status": STATUS,
+             "control": CONTROL}
+
+
+def opened(found, permissions):
+    """The numbers in the bounds of the unsealed members with all of these permissions, as pairs of the first and the one after the last:
+    over the ends of all bounds in ascending order, how many bounds a number lies in, and where that begins or ends to be none. Of two at
+    one number the beginning comes first, so that bounds that touch are one range."""
+    values = [member.value for member in found if is_unsealed(member.value) and perms(member.value) & permissions == permissions]
+    ends = sorted((number, is_end) for value in values if base(value) < top(value)
+                  for number, is_end in ((base(value), False), (top(value), True)))
+    depth, outer = 0, []
+    for number, is_end in ends:
+        before, depth = depth, depth + (-1 if is_end else 1)
+        outer += [number] if 0 in (before, depth) else []
+    return list(zip(outer[::2], outer[1::2]))
+
+
+def sealing(found, permission):
+    """Those of object types, up to the greatest that values are sealed with."""
+    return [(first, min(end, GREATEST_SEALING_TYPE + 1)) for first, end in opened(found, permission) if first <= GREATEST_SEALING_TYPE]
+
+
+def accesses(found):
+    """The registers of which some member opens the first byte to loads or to stores, each with whether one does to either."""
+    asked = {name: [any(opens_bytes(member.value, permission, address, 1) for member in found) for permission in (LOAD, STORE)]
+             for name, address in REGISTERS.items()}
+    return {name: given for name, given in asked.items() if any(given)}

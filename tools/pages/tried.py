@@ -7,8 +7,8 @@ PROGRAM is the proved program, as the gate leaves it: crates/cherisim/out/cheris
 each with what the command prints after it, on standard output and standard error. Lines `> ` directly after a command go on with it.
 A page's commands run one after the other in a folder of their own, which has a copy of examples/ and the program, as `cherisim` and as
 `./cherisim`. What they print has to be what stands there, word for word; a command that prints nothing has to end with 0.
-docs/COMPILED.md needs a compiler, and is tried by tools/pages/compiled.py. The sessions that docs/DEBUGGER.md tells line by line, set
-in by four blanks, have to be those of examples/, which tools/examples.py tries.
+docs/COMPILED.md needs a compiler, and is tried by tools/pages/compiled.py. The sessions that docs/DEBUGGER.md and docs/REACH.md tell line
+by line, set in by four blanks, have to be those of examples/, which tools/examples.py tries.
 """
 import glob
 import os
@@ -24,8 +24,8 @@ PROGRAM = os.path.join(TOP, "crates", "cherisim", "out", "cherisim")
 # The pages that another script tries.
 ELSEWHERE = ["docs/COMPILED.md"]
 
-# The page that tells sessions of the debugger, and their files in examples/, in order.
-WALK, SESSIONS = os.path.join("docs", "DEBUGGER.md"), ("bounds", "list", "compartments")
+# The pages that tell sessions of the debugger, and their files in examples/, in order.
+WALKS = {os.path.join("docs", "DEBUGGER.md"): ("bounds", "list"), os.path.join("docs", "REACH.md"): ("compartments",)}
 
 # How long a command may take, and the status of `timeout` where it takes longer.
 SECONDS = 600
@@ -115,20 +115,20 @@ def set_in(page):
                 yield line[4:]
 
 
-def lines_of(ending):
+def lines_of(sessions, ending):
     """The lines of the sessions' files with an ending, one session after the other."""
-    for name in SESSIONS:
+    for name in sessions:
         with open(os.path.join(TOP, "examples", name + ending), encoding="utf-8") as file:
             yield from file.read().splitlines()
 
 
-def told():
-    """Whether docs/DEBUGGER.md tells the sessions as they stand in examples/, after the commands that begin them."""
-    lines = [line for line in set_in(WALK) if not line.startswith("cherisim ")]
+def told(page, sessions):
+    """Whether a page tells its sessions as they stand in examples/, after the commands that begin them."""
+    lines = [line for line in set_in(page) if not line.startswith("cherisim ")]
     typed = [line[2:] for line in lines if line.startswith("> ")]
     answered = [line for line in lines if not line.startswith("> ")]
-    same = typed == list(lines_of(".commands")) and answered == list(lines_of(".replies"))
-    print(f"{WALK}: {len(typed)} lines of sessions{'' if same else ', which examples/ has otherwise'}")
+    same = typed == list(lines_of(sessions, ".commands")) and answered == list(lines_of(sessions, ".replies"))
+    print(f"{page}: {len(typed)} lines of sessions{'' if same else ', which examples/ has otherwise'}")
     return same
 
 
@@ -138,7 +138,7 @@ def main():
         print(f"no program {os.path.relpath(program, TOP)}: the gate leaves it there")
         return 1
     pages = ["README.md"] + sorted(os.path.relpath(page, TOP) for page in glob.glob(os.path.join(TOP, "docs", "*.md")))
-    return 0 if all([told(), *[tried(page, program) for page in pages if page not in ELSEWHERE]]) else 1
+    return 0 if all([*[told(*walk) for walk in WALKS.items()], *[tried(page, program) for page in pages if page not in ELSEWHERE]]) else 1
 
 
 if __name__ == "__main__":

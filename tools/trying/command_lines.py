@@ -78,13 +78,22 @@ def words_of_plan(plan):
         line = ["run", image, steps, "--gap", gap, "--tick", tick, *named("--input", given)]
         if rest[:1] == ["quiet"]:
             line, rest = [*line, "--quiet"], rest[1:]
-        return [*line, {"trace": "--trace"}[rest[0]], rest[1]] if rest else line
+        for name, value in zip(rest[::2], rest[1::2]):
+            line += {"why": [f"--why={value}" if value == "all" else "--why"]}.get(name, [f"--{name}", value])
+        return line
     if command == "image":
         flat, output, *layout = words
         options = zip(("--at", "--entry", "--pages", "--mode"), layout)
         return ["image", flat, output, *(word for option, value in options for word in named(option, value))]
     if command == "bounds":
-        return ["bounds", *words[:2], *named("--address", words[2])]
+        base = [] if words[0] == "-" else words[:1]
+        return ["bounds", *base, words[1], *named("--address", words[2])]
+    if command == "word":
+        return ["word", *words[:2], *(["--memory"] if words[2:] else [])]
+    if command == "debug":
+        image, *options = words
+        options = zip(("--symbols", "--input", "--gap", "--tick"), options)
+        return ["debug", image, *(word for option, value in options for word in named(option, value))]
     last = named("--symbols", words[-1])
     return [command, *words[:-1], *last]
 
@@ -124,6 +133,19 @@ def bounds(bench, case):
     base, length, address = case.inputs.split()
     option = [] if address == "-" else ["--address", f"0x{address}"]
     status, sent, told = bench.run("bounds", f"0x{base}", f"0x{length}", *option)
+    return quoted(sent) if status == 0 else told.decode()
+
+
+def length(bench, case):
+    """A length: the text in quotes."""
+    status, sent, told = bench.run("bounds", f"0x{case.inputs}")
+    return quoted(sent) if status == 0 else told.decode()
+
+
+def word(bench, case):
+    """The halves of a word, and whether they are those of its logical form or stand in memory: the text in quotes."""
+    high, low, form = case.inputs.split()
+    status, sent, told = bench.run("word", f"0x{high}", f"0x{low}", *{"logical": [], "memory": ["--memory"]}[form])
     return quoted(sent) if status == 0 else told.decode()
 
 

@@ -11,10 +11,11 @@ from .reading import unescaped, unquoted
 
 
 class Conversation:
-    """A block of lines: what is typed after `>`, or after `<` and left unread, over the program after `@`, and what is answered."""
+    """A block of lines: what is typed after `>`, or after `<` and left unread, over the program after `@`, and what is answered. After `%`
+    stand the gap, the tick and the bytes of the input of a session on a schedule, each `-` where it isn't given."""
 
     def __init__(self, block):
-        self.statements, self.typed, self.left, self.answers = "", b"", 0, ""
+        self.statements, self.typed, self.left, self.answers, self.schedule = "", b"", 0, "", None
         for line in block.removesuffix("\n").split("\n"):
             self.take(line)
 
@@ -26,6 +27,8 @@ class Conversation:
             typed = unescaped(rest) + b"\n"
             self.typed += typed
             self.left += len(typed) if mark == "<" else 0
+        elif mark == "%":
+            self.schedule = rest.split(" ", 2)
         elif mark != "#":
             self.answers += line + "\n"
 
@@ -34,10 +37,20 @@ class Conversation:
         return self.typed if self.typed.endswith(b"\n\n") or self.typed in (b"\n", b"") else self.typed[:-1]
 
 
-def conversed(bench, typed):
+def options(bench, schedule):
+    """The options of a session on a schedule."""
+    gap, tick, keys = schedule or ("-", "-", "-")
+    if keys != "-":
+        bench.file("keys", unescaped(keys))
+    given = (("--gap", gap, gap), ("--tick", tick, tick), ("--input", keys, "keys"))
+    return [word for name, value, said in given if value != "-" for word in (name, said)]
+
+
+def conversed(bench, typed, schedule=None):
     """What a session over the image answers to what is typed, and how many bytes it leaves unread; or what it tells of a fault."""
     with open(bench.file("typed", typed), "rb", buffering=0) as given:
-        ran = subprocess.run([bench.program, "debug", "a.img"], stdin=given, capture_output=True, cwd=bench.folder, timeout=60, check=False)
+        ran = subprocess.run([bench.program, "debug", "a.img", *options(bench, schedule)], stdin=given, capture_output=True,
+                             cwd=bench.folder, timeout=60, check=False)
         left = len(typed) - os.lseek(given.fileno(), 0, os.SEEK_CUR)
     if ran.returncode or ran.stderr:
         raise ValueError(f"status {ran.returncode}: {ran.stderr.decode()}")
@@ -62,7 +75,7 @@ def session(bench, case):
         return told
     for typed in (conversation.typed, conversation.without_end()):
         left = max(conversation.left - (len(conversation.typed) - len(typed)), 0)
-        said, unread = conversed(bench, typed)
+        said, unread = conversed(bench, typed, conversation.schedule)
         if said != conversation.answers:
             return difference(said, conversation.answers)
         if unread != left:

@@ -2,7 +2,7 @@
 from typing import Callable, NamedTuple
 
 from . import (capabilities, checks, command_lines, commands, conversations, devices, image_cases, instructions, kernel, lines, memory,
-               naming, paths, programs, registers, schedules, texts, told)
+               naming, paths, programs, reaching, registers, schedules, texts, told)
 from .reading import blocks_of, lines_of
 
 
@@ -54,14 +54,17 @@ FILES = [
     File("shown", instructions.shown, 701),
     File("digits", instructions.digits, 3),
     File("bounds", command_lines.bounds, 81, piece=20),
-    File("sessions", conversations.session, 75, piece=10),
+    File("lengths", command_lines.length, 69, piece=20),
+    File("word_texts", command_lines.word, 126, piece=20),
+    File("sessions", conversations.session, 108, piece=10),
     File("talks", conversations.talk, 171, piece=20),
     File("runs", programs.program, 15),
-    File("plans", command_lines.plan, 82, piece=10),
+    File("plans", command_lines.plan, 133, piece=10),
     File("listings", command_lines.listing, 21),
     File("worlds", programs.worlds, 14),
     File("schedules", schedules.schedule, 211, piece=8),
-    File("commands", commands.command, 299, piece=20),
-    File("told", told.fault, 41, piece=10),
+    File("commands", commands.command, 384, piece=20),
+    File("told", told.fault, 45, piece=10),
     File("compartments", kernel.meeting, 34),
+    File("reaches", reaching.reach, 30, piece=8),
 ]

@@ -72,6 +72,15 @@ class Console(Structure):
     _fields_ = [("waiting", c_uint64), ("overrun", c_bool), ("control", c_bool)]
 
 
+class Member(Structure):
+    """A capability that code can come to hold, with its place and the number of the member that leads there."""
+    _fields_ = [("value", Cap), ("place", c_uint64), ("from_", c_uint64), ("kind", c_uint32)]
+
+
+class Answer(Structure):
+    _fields_ = [("member", c_uint64), ("may", c_bool)]
+
+
 BYTES, MACHINE, CAP = POINTER(c_uint8), POINTER(Handle), POINTER(Cap)
 
 # What each function answers, and what it takes.
@@ -128,6 +137,10 @@ MACHINES = {
     "cherisim_next_ends": (c_uint32, MACHINE, POINTER(c_uint32)),
     "cherisim_why": (c_uint32, MACHINE, BYTES, c_size_t, POINTER(c_size_t)),
     "cherisim_disassemble": (c_size_t, c_uint32, c_bool, POINTER(c_char)),
+    "cherisim_reach": (c_uint32, MACHINE, POINTER(Member), c_size_t, POINTER(c_size_t)),
+    **{f"cherisim_may_{what}": (c_uint32, MACHINE, c_uint64, c_uint64, POINTER(Answer)) for what in ("store", "load", "execute", "learn")},
+    **{f"cherisim_may_{what}": (c_uint32, MACHINE, POINTER(Answer)) for what in ("send", "halt", "system", "timer")},
+    "cherisim_may_hold": (c_uint32, MACHINE, c_uint32, POINTER(Answer)),
 }
 
 

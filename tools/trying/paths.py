@@ -14,6 +14,8 @@ PROVED_CASES = below("crates", "conformance", "data")
 # The kernel with two compartments, and other pieces of compartments.
 KERNEL = below("examples", "compartments.s")
 COMPARTMENTS = below("cases", "kernel")
+# Programs that fill memories with capabilities.
+REACHES = below("cases", "reaches")
 # The table of instructions.
 ROWS = below("crates", "isa_rows", "src", "table.rt")
 # The library in front of the C library's calls.

@@ -13,6 +13,7 @@ MOST_GROWTHS = 200
 OUTSIDE, BEFORE = section(RAM - 1, b""), section(RAM + 4, b"\1") + section(RAM, b"")
 LONG = b" " * 256
 TEXT = b"lui a1, 0x10000\n"
+PAGES = b".pages 64\n"
 
 # Of a fault of a text the lines before the seventh, and the seventh.
 TEXTS = {
@@ -39,6 +40,10 @@ OTHERS = {
     "cut short": ("asm b.s a.s", {"b.s": TEXT}, b"", [], {"made": 3}),
     "symbols": ("dis a.img --symbols a.s", {"a.img": FIRST, "a.s": b"0000000080000000 x\n" * 6 + b"x\n"}, b"", [], {}),
     "file L2": ("run a.s 5", {"a.s": FILES["L2"]}, b"", [], {}),
+    "far A8": ("asm a.s a.img", {"a.s": PAGES + b"nop\n" * 19999 + b"\x7f\n" + b"nop\n" * 9999}, b"", [], {}),
+    "far A5": ("asm a.s a.img", {"a.s": PAGES + b"j x\n" + b"nop\n" * 19998 + b"\x7f\n" + b"nop\n" * 9999}, b"", [], {}),
+    "mended A8": ("asm a.s a.img", {"a.s": PAGES + b"j x\n" + b"nop\n" * 19998 + b"\x7f\n" + b"nop\n" * 9999 + b"x:"}, b"", [], {}),
+    "far symbols": ("dis a.img --symbols a.s", {"a.img": FIRST, "a.s": b"0000000080000000 x\n" * 4000 + b"x\n" * 40000}, b"", [], {}),
 }
 # That there is no memory the command line, what is typed, and the text that a refused growth has.
 GROWTHS = {

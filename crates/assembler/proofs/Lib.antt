@@ -13,3 +13,4 @@ pub mod SectionLemmas
 pub mod BuildLemmas
 pub mod PieceLemmas
 pub mod WorthLemmas
+pub mod BeginningLemmas

@@ -62,7 +62,7 @@ label-kept (Some other) place symbols name v h =
       | false ↦ value-kept symbols ((other, place) ∷ []) name v h
     ]
 
-all-kept : (lines : List Line) (p : Places) (name : List ℕ) (v : ℕ) → value_in p.symbols name ≡ Some v
+pub all-kept : (lines : List Line) (p : Places) (name : List ℕ) (v : ℕ) → value_in p.symbols name ≡ Some v
     → value_in (all_places lines p).symbols name ≡ Some v
 all-kept [] p name v h = h
 all-kept (l ∷ ls) p name v h = all-kept ls (places_after l p) name v (label-kept l.label p.place p.symbols name v h)

@@ -38,7 +38,7 @@ unfolding rounded_top
 rounded_top-near base top = omega (arith, rounding_granule-positive base top, rounding_granule-high base top)
 
 -- the exponent that stands in a word is the one that it was encoded with
-exponent_of-encoded_at : (e : ℕ) (ie : Bool) (r : Record) → e ≤ 52 → (ie ≡ false → e ≡ 0) → r.otype < 2 ^ 18 → r.address < 2 ^ 64
+pub exponent_of-encoded_at : (e : ℕ) (ie : Bool) (r : Record) → e ≤ 52 → (ie ≡ false → e ≡ 0) → r.otype < 2 ^ 18 → r.address < 2 ^ 64
     → exponent_of (encoded_at e ie r) ≡ e
 unfolding exponent_of encoded_at joined
 exponent_of-encoded_at e true r high clear otype_fits fits =

@@ -1,13 +1,19 @@
-//! What setting bounds gives, as a text: *rounding out*, *set bounds* and the window in numbers and as a picture.
+//! Texts on bounds: what setting them gives, what a length alone needs, and what a capability's word means.
 #![tactic(auto)]
 
 mod bounds;
 pub mod laws;
+mod length;
+mod letters;
 mod lines;
 mod picture;
 mod set;
 mod text;
 mod window;
+mod word;
 
 pub use bounds::bounds_text;
+pub use length::length_text;
+pub use letters::permission_letters;
 pub use text::Text;
+pub use word::word_text;

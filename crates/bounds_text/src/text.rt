@@ -8,7 +8,7 @@ use arrayvec::ArrayString;
 use disassembler::hex_digits;
 use itoa::Buffer;
 
-/// The text: 13 lines of at most 80 bytes.
+/// The text: at most 13 lines of at most 80 bytes.
 pub type Text = ArrayString<1040>;
 
 /// Appends the lowest `width` hexadecimal digits of a number, at most 17, to a text.
@@ -26,6 +26,16 @@ pub(crate) fn put_decimal(text: &mut Text, n: u64)
     requires { array_string_len text.old + 20 ≤ 1040 }
     ensures bytes { text.new.bytes ≡ text.old.bytes ++ decimal n }
     ensures within { array_string_len text.new ≤ array_string_len text.old + 20 }
+{
+    let mut buffer = Buffer::new();
+    text.push_str(buffer.format(n));
+}
+
+/// Appends a number of up to 128 bits in decimal to a text: 40 digits at most.
+pub(crate) fn put_wide(text: &mut Text, n: u128)
+    requires { array_string_len text.old + 40 ≤ 1040 }
+    ensures bytes { text.new.bytes ≡ text.old.bytes ++ decimal n }
+    ensures within { array_string_len text.new ≤ array_string_len text.old + 40 }
 {
     let mut buffer = Buffer::new();
     text.push_str(buffer.format(n));

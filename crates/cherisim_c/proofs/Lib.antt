@@ -1,3 +1,4 @@
 pub mod RamBytes
+pub mod Reaches
 pub mod Runs
 pub mod Values

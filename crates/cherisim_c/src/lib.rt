@@ -8,9 +8,10 @@ mod life;
 mod machine_registers;
 mod memory;
 mod peripherals;
+mod reaching;
 mod running;
 mod status;
 mod types;
 
 pub use handle::Handle;
-pub use types::{Asked, Console, Halted, Ran, Sent, Timer};
+pub use types::{Answer, Asked, Console, Halted, Member, Ran, Sent, Timer};

@@ -1,5 +1,7 @@
 //! What crosses to C and back, besides capabilities.
 
+use c_types::CheriCap;
+
 /// A byte that was sent, if one was.
 #[repr(C)]
 #[derive(Clone, Copy, Debug, PartialEq, Eq)]
@@ -70,4 +72,29 @@ pub struct Console {
     pub overrun: bool,
     /// Whether a byte that waits interrupts.
     pub control: bool,
+}
+
+/// A capability that code can come to hold, and where it was found.
+#[repr(C)]
+#[derive(Clone, Copy)]
+pub struct Member {
+    /// The capability.
+    pub value: CheriCap,
+    /// Its place there: a register's number (0 to 31, PCC 32, DDC 33), a special register's (MTCC 0, MTDC 1, MScratchC 2, MEPCC 3), or
+    /// the address of a granule.
+    pub place: u64,
+    /// The number of the member that led there, or 0 in a register.
+    pub from: u64,
+    /// What it was found in: a register (0), a special register (1), or memory (2).
+    pub kind: u32,
+}
+
+/// Whether code may do something.
+#[repr(C)]
+#[derive(Clone, Copy, Debug, PartialEq, Eq)]
+pub struct Answer {
+    /// The number of the first member that lets it, or 0.
+    pub member: u64,
+    /// Whether one does.
+    pub may: bool,
 }

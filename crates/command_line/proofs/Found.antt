@@ -1,13 +1,15 @@
 -- What is read of clap's matches.
 use Rattle.std.proofs.Common.{◌≡◌, ◌∙◌, ℕ, ◌<◌, ◌^◌, List, refl, sym, ap, subst, codes, slice_index, arith}
-use Rattle.std.specs.Prelude.{Option, Some, None, IfSome, IfNone, IfErr, Result, Ok, Err}
+use Rattle.std.specs.Prelude.{Option, Some, None, IfSome, IfNone, IfErr, Result, Ok, Err, unwrap_or, is_some, true, false}
 use Rattle.std.specs.Str.Parse.{IsNumeral, digits_value, without_leading_plus}
-use Rattle.clap.specs.Words.{ReadsOne, Row, one_text, rows_of}
+use Rattle.std.specs.Borrow.{Bor}
+use Rattle.clap.specs.Words.{ReadsOne, Row, Text, first_of, one_text, rows_of}
 use Rattle.clap.specs.declared.parser.matches.Found.{Found}
 use Rattle.clap.proofs.WalkLemmas.{one_text-rows}
-use Rattle.command_line.specs.declared.plans.Plan.TheVariants.{Asm, Image, Run, Dis, Debug, Bounds, First}
+use Rattle.command_line.specs.declared.plans.Plan.TheVariants.{Asm, Image, Run, Dis, Debug, Bounds, Word, First}
 use Rattle.command_line.specs.declared.layout.Layout.{Layout}
-use Rattle.command_line.specs.CommandLine.{IsNumber, IsNatural, IsLayoutOf, AreNumbersOf, AreInRange, NoCommandFits}
+use Rattle.command_line.specs.CommandLine.{IsNumber, IsNatural, IsOptional, IsLayoutOf, AreNumbersOf, AreInRange, IsTraceOf, IsTraceInRange}
+use Rattle.command_line.specs.CommandLine.{IsInputInRange, IsWithin, AreBoundsOf, NoCommandFits}
 
 pub if_err : {T E : Type 0} (r : Result T E) (P : Type 0) → P → IfErr r (λ _. P)
 if_err (Ok x) P p = tt
@@ -44,53 +46,121 @@ number_none f id G says None reads = λ n small number.
     let read = reads number.text (one_text-rows f id ∙ number.found) in
     says number.text read.0 read.1 number.numeral (subst (λ m. m < 2 ^ 64) number.value small)
 
+-- a first step that lies in its range is typed in its range, or not typed
+pub first_within : (first : Option ℕ) (from : ℕ) → from ≡ unwrap_or first 1 → IsWithin 1 100000000000000 (Some from)
+    → IsWithin 1 100000000000000 first
+first_within None from is range = tt
+first_within (Some n) from is range = (omega (arith, is, range.0), omega (arith, is, range.1))
+
+-- `bounds` with one number, and with two
+pub one_number : (rows : List Row) → first_of (codes "LENGTH") rows ≡ None
+    → ((length : ℕ) → IsNatural (codes "BASE") rows (Some length) → ⊥)
+    → (base : Option ℕ) (length : ℕ) (address : Option ℕ) → AreBoundsOf rows base length address → ⊥
+one_number rows one none None length address fits = none length fits.0
+one_number rows one none (Some base) length address fits = let bad = fits.1.1 in cc
+
+pub both_numbers : (rows : List Row) → is_some (first_of (codes "LENGTH") rows) ≡ true
+    → ((base length : ℕ) (address : Option ℕ) → IsNatural (codes "BASE") rows (Some base) → IsNatural (codes "LENGTH") rows (Some length)
+    → IsNatural (codes "address") rows address → ⊥)
+    → (base : Option ℕ) (length : ℕ) (address : Option ℕ) → AreBoundsOf rows base length address → ⊥
+both_numbers rows both none None length address fits = let bad : is_some (first_of (codes "LENGTH") rows) ≡ false = ap is_some fits.1 in cc
+both_numbers rows both none (Some base) length address fits = none base length address fits.0 fits.1 fits.2
+
 -- ---- plans
 
 -- a plan of `image` has a layout
-pub no_image : (rows : List Row) → ((layout : Layout) → IsLayoutOf rows layout → ⊥)
+pub no_image : (rows : List Row)
+    → ((layout : Layout) → IsLayoutOf rows layout → ⊥)
     → NoCommandFits (codes "image") rows
 no_image rows none (Asm input output symbols) fits sound =
     let bad : 105 ≡ 97 = ap (λ t. slice_index t 0) fits.0 in absurd (omega (arith, bad))
 no_image rows none (Image flat output layout) fits sound = none layout fits.3
-no_image rows none (Run image steps times gap tick input quiet trace) fits sound =
+no_image rows none (Run image steps times gap tick input quiet why trace from last) fits sound =
     let bad : 105 ≡ 114 = ap (λ t. slice_index t 0) fits.0 in absurd (omega (arith, bad))
 no_image rows none (Dis image symbols) fits sound =
     let bad : 105 ≡ 100 = ap (λ t. slice_index t 0) fits.0 in absurd (omega (arith, bad))
-no_image rows none (Debug image symbols) fits sound =
+no_image rows none (Debug image symbols input gap tick) fits sound =
     let bad : 105 ≡ 100 = ap (λ t. slice_index t 0) fits.0 in absurd (omega (arith, bad))
 no_image rows none (Bounds base length address) fits sound =
     let bad : 105 ≡ 98 = ap (λ t. slice_index t 0) fits.0 in absurd (omega (arith, bad))
+no_image rows none (Word high low memory) fits sound =
+    let bad : 105 ≡ 119 = ap (λ t. slice_index t 0) fits.0 in absurd (omega (arith, bad))
 no_image rows none First fits sound = fits
 
--- a plan of `run` has its numbers, in their ranges
-pub no_run : (rows : List Row) → ((steps times gap tick : ℕ) → AreNumbersOf rows steps times gap tick → AreInRange steps times gap tick → ⊥)
+-- a plan of `run` has its numbers, in their ranges, and what is traced
+pub no_run : (rows : List Row)
+    → ((steps times gap tick : ℕ) (file : Option (Bor Text)) (from : ℕ) (last : Option ℕ)
+    → AreNumbersOf rows steps times gap tick → AreInRange steps times gap tick → IsTraceOf rows file from last
+    → IsTraceInRange from last → ⊥)
     → NoCommandFits (codes "run") rows
 no_run rows none (Asm input output symbols) fits sound =
     let bad : 114 ≡ 97 = ap (λ t. slice_index t 0) fits.0 in absurd (omega (arith, bad))
 no_run rows none (Image flat output layout) fits sound =
     let bad : 114 ≡ 105 = ap (λ t. slice_index t 0) fits.0 in absurd (omega (arith, bad))
-no_run rows none (Run image steps times gap tick input quiet trace) fits sound = none steps times gap tick fits.2 sound.0
+no_run rows none (Run image steps times gap tick input quiet why trace from last) fits sound = none steps times gap tick trace from last fits.2 sound.0 fits.6 sound.1
 no_run rows none (Dis image symbols) fits sound =
     let bad : 114 ≡ 100 = ap (λ t. slice_index t 0) fits.0 in absurd (omega (arith, bad))
-no_run rows none (Debug image symbols) fits sound =
+no_run rows none (Debug image symbols input gap tick) fits sound =
     let bad : 114 ≡ 100 = ap (λ t. slice_index t 0) fits.0 in absurd (omega (arith, bad))
 no_run rows none (Bounds base length address) fits sound =
     let bad : 114 ≡ 98 = ap (λ t. slice_index t 0) fits.0 in absurd (omega (arith, bad))
+no_run rows none (Word high low memory) fits sound =
+    let bad : 114 ≡ 119 = ap (λ t. slice_index t 0) fits.0 in absurd (omega (arith, bad))
 no_run rows none First fits sound = fits
 
--- a plan of `bounds` has a base and a length
+-- a plan of `debug` has its gap and its tick, in their ranges
+pub no_debug : (rows : List Row)
+    → ((gap tick : Option ℕ) → IsOptional (codes "gap") rows gap → IsOptional (codes "tick") rows tick → IsInputInRange gap tick → ⊥)
+    → NoCommandFits (codes "debug") rows
+no_debug rows none (Asm input output symbols) fits sound =
+    let bad : 100 ≡ 97 = ap (λ t. slice_index t 0) fits.0 in absurd (omega (arith, bad))
+no_debug rows none (Image flat output layout) fits sound =
+    let bad : 100 ≡ 105 = ap (λ t. slice_index t 0) fits.0 in absurd (omega (arith, bad))
+no_debug rows none (Run image steps times gap tick input quiet why trace from last) fits sound =
+    let bad : 100 ≡ 114 = ap (λ t. slice_index t 0) fits.0 in absurd (omega (arith, bad))
+no_debug rows none (Dis image symbols) fits sound =
+    let bad : 101 ≡ 105 = ap (λ t. slice_index t 1) fits.0 in absurd (omega (arith, bad))
+no_debug rows none (Debug image symbols input gap tick) fits sound = none gap tick fits.4 fits.5 sound
+no_debug rows none (Bounds base length address) fits sound =
+    let bad : 100 ≡ 98 = ap (λ t. slice_index t 0) fits.0 in absurd (omega (arith, bad))
+no_debug rows none (Word high low memory) fits sound =
+    let bad : 100 ≡ 119 = ap (λ t. slice_index t 0) fits.0 in absurd (omega (arith, bad))
+no_debug rows none First fits sound = fits
+
+-- a plan of `bounds` has its numbers
 pub no_bounds : (rows : List Row)
-    → ((base length : ℕ) → IsNatural (codes "BASE") rows (Some base) → IsNatural (codes "LENGTH") rows (Some length) → ⊥)
+    → ((base : Option ℕ) (length : ℕ) (address : Option ℕ) → AreBoundsOf rows base length address → ⊥)
     → NoCommandFits (codes "bounds") rows
 no_bounds rows none (Asm input output symbols) fits sound =
     let bad : 98 ≡ 97 = ap (λ t. slice_index t 0) fits.0 in absurd (omega (arith, bad))
 no_bounds rows none (Image flat output layout) fits sound =
     let bad : 98 ≡ 105 = ap (λ t. slice_index t 0) fits.0 in absurd (omega (arith, bad))
-no_bounds rows none (Run image steps times gap tick input quiet trace) fits sound =
+no_bounds rows none (Run image steps times gap tick input quiet why trace from last) fits sound =
     let bad : 98 ≡ 114 = ap (λ t. slice_index t 0) fits.0 in absurd (omega (arith, bad))
 no_bounds rows none (Dis image symbols) fits sound =
     let bad : 98 ≡ 100 = ap (λ t. slice_index t 0) fits.0 in absurd (omega (arith, bad))
-no_bounds rows none (Debug image symbols) fits sound =
+no_bounds rows none (Debug image symbols input gap tick) fits sound =
     let bad : 98 ≡ 100 = ap (λ t. slice_index t 0) fits.0 in absurd (omega (arith, bad))
-no_bounds rows none (Bounds base length address) fits sound = none base length fits.1 fits.2
+no_bounds rows none (Bounds base length address) fits sound = none base length address fits.1
+no_bounds rows none (Word high low memory) fits sound =
+    let bad : 98 ≡ 119 = ap (λ t. slice_index t 0) fits.0 in absurd (omega (arith, bad))
 no_bounds rows none First fits sound = fits
+
+-- a plan of `word` has two halves
+pub no_word : (rows : List Row)
+    → ((high low : ℕ) → IsNatural (codes "HIGH") rows (Some high) → IsNatural (codes "LOW") rows (Some low) → ⊥)
+    → NoCommandFits (codes "word") rows
+no_word rows none (Asm input output symbols) fits sound =
+    let bad : 119 ≡ 97 = ap (λ t. slice_index t 0) fits.0 in absurd (omega (arith, bad))
+no_word rows none (Image flat output layout) fits sound =
+    let bad : 119 ≡ 105 = ap (λ t. slice_index t 0) fits.0 in absurd (omega (arith, bad))
+no_word rows none (Run image steps times gap tick input quiet why trace from last) fits sound =
+    let bad : 119 ≡ 114 = ap (λ t. slice_index t 0) fits.0 in absurd (omega (arith, bad))
+no_word rows none (Dis image symbols) fits sound =
+    let bad : 119 ≡ 100 = ap (λ t. slice_index t 0) fits.0 in absurd (omega (arith, bad))
+no_word rows none (Debug image symbols input gap tick) fits sound =
+    let bad : 119 ≡ 100 = ap (λ t. slice_index t 0) fits.0 in absurd (omega (arith, bad))
+no_word rows none (Bounds base length address) fits sound =
+    let bad : 119 ≡ 98 = ap (λ t. slice_index t 0) fits.0 in absurd (omega (arith, bad))
+no_word rows none (Word high low memory) fits sound = none high low fits.1 fits.2
+no_word rows none First fits sound = fits

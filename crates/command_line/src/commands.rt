@@ -1,13 +1,16 @@
 //! The commands, and the program that they are of.
 
 ghost use Rattle.std.specs.Prelude.{◌≡◌, IfOk, false};
-ghost use Rattle.clap.specs.Words.{app_of, rule_of, with_rule};
+ghost use Rattle.clap.specs.Words.{app_of, rule_of, with_rule, with_subcommand};
 ghost use Rattle.clap.specs.declared.builder.command.Command.TheViews.{out-Command};
-ghost use Rattle.command_line.specs.CommandLine.{with_options, with_schedule, with_layout};
+ghost use Rattle.command_line.specs.CommandLine.{with_pace, with_schedule, with_ends, with_trace, with_input, with_layout};
 ghost use Rattle.command_line.specs.CommandLine.{asm_command, image_command, run_command, dis_command, debug_command};
-ghost use Rattle.command_line.specs.CommandLine.{bounds_command, making, taking, program};
+ghost use Rattle.command_line.specs.CommandLine.{bounds_command, word_command, making, taking, program};
 
-use crate::arguments::{flag, gap, named, operand, steps, tick, times};
+use crate::arguments::{
+    flag, gap, named, operand, optional, run_gap, run_tick, steps, tick, times, trace_from,
+    trace_last, why,
+};
 use clap::{Arg, Command};
 use std::alloc::{AllocError, Global};
 
@@ -25,6 +28,10 @@ const EXAMPLE: &str = "Examples:
       loads hello.img and does one command a line, as `step 5`, `regs`, `mem 0x80000000 64` or `quit`
   cherisim bounds 0x80000000 0x1001
       says what setting these bounds gives
+  cherisim bounds 0x1001
+      says how many bytes an allocator reserves for so many, and at which addresses
+  cherisim word 0xffff1ffffc018004 0x80000000
+      says what a capability means whose halves are these
 
 Without a command the program runs a first image of five instructions, which prints A; with
 --version alone it prints its version.
@@ -40,6 +47,14 @@ fn with_argument<'a>(command: Command<'a>, argument: Arg<'a>) -> Result<Command<
     ensures local { IfOk result (λ c. (out-Command c).has_globals ≡ false) }
 {
     command.arg(argument)
+}
+
+/// Adds a command, of which no argument is global, to the program.
+fn with_command<'a>(program: Command<'a>, command: Command<'a>) -> Result<Command<'a>, AllocError>
+    requires { (out-Command command).has_globals ≡ false }
+    ensures { IfOk result (λ c. app_of c ≡ with_subcommand (app_of program.entry) (app_of command.entry).top) }
+{
+    program.subcommand(command)
 }
 
 fn asm_command<'a>(alloc: Global) -> Result<Command<'a>, AllocError>
@@ -95,6 +110,16 @@ fn image_command<'a>(alloc: Global) -> Result<Command<'a>, AllocError>
     with_layout(alloc, image)
 }
 
+/// Adds the options of `run` that say how many steps lie between two bytes and two ticks.
+fn with_pace<'a>(alloc: Global, run: Command<'a>) -> Result<Command<'a>, AllocError>
+    requires { (out-Command run).has_globals ≡ false }
+    ensures app { IfOk result (λ c. app_of c ≡ with_pace (app_of run.entry)) }
+    ensures local { IfOk result (λ c. (out-Command c).has_globals ≡ false) }
+{
+    let run = with_argument(run, run_gap(alloc))?;
+    with_argument(run, run_tick(alloc))
+}
+
 /// Adds the options of `run` that say what comes when.
 fn with_schedule<'a>(alloc: Global, run: Command<'a>) -> Result<Command<'a>, AllocError>
     requires { (out-Command run).has_globals ≡ false }
@@ -104,25 +129,34 @@ fn with_schedule<'a>(alloc: Global, run: Command<'a>) -> Result<Command<'a>, All
     let input = "The file whose bytes come on the console";
     let run = with_argument(run, times(alloc))?;
     let run = with_argument(run, named(alloc, "input", "FILE", input))?;
-    let run = with_argument(run, gap(alloc))?;
-    with_argument(run, tick(alloc))
+    with_pace(alloc, run)
 }
 
-/// Adds the options of `run`.
-fn with_options<'a>(alloc: Global, run: Command<'a>) -> Result<Command<'a>, AllocError>
+/// Adds the options of `run` that say what is told of its end; `all` says that the words have `--why=all`.
+fn with_ends<'a>(alloc: Global, all: bool, run: Command<'a>) -> Result<Command<'a>, AllocError>
     requires { (out-Command run).has_globals ≡ false }
-    ensures app { IfOk result (λ c. app_of c ≡ with_options (app_of run.entry)) }
+    ensures app { IfOk result (λ c. app_of c ≡ with_ends all (app_of run.entry)) }
     ensures local { IfOk result (λ c. (out-Command c).has_globals ≡ false) }
 {
     let quiet = "Leaves out the lines that say where a run ended";
-    let trace = "The file that a line for each step is written to";
-    let run = with_schedule(alloc, run)?;
     let run = with_argument(run, flag(alloc, "quiet", quiet))?;
-    with_argument(run, named(alloc, "trace", "FILE", trace))
+    with_argument(run, why(alloc, all))
 }
 
-fn run_command<'a>(alloc: Global) -> Result<Command<'a>, AllocError>
-    ensures app { IfOk result (λ c. app_of c ≡ run_command) }
+/// Adds the options of `run` that say what is traced.
+fn with_trace<'a>(alloc: Global, run: Command<'a>) -> Result<Command<'a>, AllocError>
+    requires { (out-Command run).has_globals ≡ false }
+    ensures app { IfOk result (λ c. app_of c ≡ with_trace (app_of run.entry)) }
+    ensures local { IfOk result (λ c. (out-Command c).has_globals ≡ false) }
+{
+    let trace = "The file that a line for each step is written to";
+    let run = with_argument(run, named(alloc, "trace", "FILE", trace))?;
+    let run = with_argument(run, trace_from(alloc))?;
+    with_argument(run, trace_last(alloc))
+}
+
+fn run_command<'a>(alloc: Global, all: bool) -> Result<Command<'a>, AllocError>
+    ensures app { IfOk result (λ c. app_of c ≡ run_command all) }
     ensures local { IfOk result (λ c. (out-Command c).has_globals ≡ false) }
 {
     let run = Command::new(alloc, "run").about(
@@ -130,7 +164,9 @@ fn run_command<'a>(alloc: Global) -> Result<Command<'a>, AllocError>
     );
     let run = with_argument(run, operand(alloc, "IMAGE", "The file with the image"))?;
     let run = with_argument(run, steps(alloc))?;
-    with_options(alloc, run)
+    let run = with_schedule(alloc, run)?;
+    let run = with_ends(alloc, all, run)?;
+    with_trace(alloc, run)
 }
 
 fn dis_command<'a>(alloc: Global) -> Result<Command<'a>, AllocError>
@@ -150,6 +186,18 @@ fn dis_command<'a>(alloc: Global) -> Result<Command<'a>, AllocError>
     )
 }
 
+/// Adds the options of `debug` that say what comes when.
+fn with_input<'a>(alloc: Global, debug: Command<'a>) -> Result<Command<'a>, AllocError>
+    requires { (out-Command debug).has_globals ≡ false }
+    ensures app { IfOk result (λ c. app_of c ≡ with_input (app_of debug.entry)) }
+    ensures local { IfOk result (λ c. (out-Command c).has_globals ≡ false) }
+{
+    let input = "The file whose bytes come on the console";
+    let debug = with_argument(debug, named(alloc, "input", "FILE", input))?;
+    let debug = with_argument(debug, gap(alloc))?;
+    with_argument(debug, tick(alloc))
+}
+
 fn debug_command<'a>(alloc: Global) -> Result<Command<'a>, AllocError>
     ensures app { IfOk result (λ c. app_of c ≡ debug_command) }
     ensures local { IfOk result (λ c. (out-Command c).has_globals ≡ false) }
@@ -159,7 +207,8 @@ fn debug_command<'a>(alloc: Global) -> Result<Command<'a>, AllocError>
         "Debugs an image: commands from standard input, replies to standard output",
     );
     let debug = with_argument(debug, operand(alloc, "IMAGE", "The file with the image"))?;
-    with_argument(debug, named(alloc, "symbols", "FILE", labels))
+    let debug = with_argument(debug, named(alloc, "symbols", "FILE", labels))?;
+    with_input(alloc, debug)
 }
 
 fn bounds_command<'a>(alloc: Global) -> Result<Command<'a>, AllocError>
@@ -172,13 +221,37 @@ fn bounds_command<'a>(alloc: Global) -> Result<Command<'a>, AllocError>
     );
     let bounds = with_argument(
         bounds,
-        operand(alloc, "BASE", "The first address that is asked for"),
+        operand(
+            alloc,
+            "BASE",
+            "The first address that is asked for; a number alone is LENGTH",
+        ),
     )?;
     let bounds = with_argument(
         bounds,
-        operand(alloc, "LENGTH", "How many bytes are asked for"),
+        optional(alloc, "LENGTH", "How many bytes are asked for"),
     )?;
     with_argument(bounds, named(alloc, "address", "ADDRESS", address))
+}
+
+fn word_command<'a>(alloc: Global) -> Result<Command<'a>, AllocError>
+    ensures app { IfOk result (λ c. app_of c ≡ word_command) }
+    ensures local { IfOk result (λ c. (out-Command c).has_globals ≡ false) }
+{
+    let memory = "The halves are those of the word as it stands in memory";
+    let word = Command::new(alloc, "word").about(
+        "Says what the word of a capability means; numbers are decimal, or hexadecimal behind 0x",
+    );
+    let word = with_argument(
+        word,
+        operand(
+            alloc,
+            "HIGH",
+            "The upper half: permissions, object type, flag and bounds",
+        ),
+    )?;
+    let word = with_argument(word, operand(alloc, "LOW", "The lower half: the address"))?;
+    with_argument(word, flag(alloc, "memory", memory))
 }
 
 /// The program with the commands that make an image.
@@ -193,18 +266,20 @@ fn making<'a>(alloc: Global) -> Result<Command<'a>, AllocError>
 }
 
 /// Adds the commands that take an image.
-fn taking<'a>(alloc: Global, program: Command<'a>) -> Result<Command<'a>, AllocError>
-    ensures { IfOk result (λ c. app_of c ≡ taking (app_of program.entry)) }
+fn taking<'a>(alloc: Global, all: bool, program: Command<'a>) -> Result<Command<'a>, AllocError>
+    ensures { IfOk result (λ c. app_of c ≡ taking all (app_of program.entry)) }
 {
-    program
-        .subcommand(run_command(alloc)?)?
-        .subcommand(dis_command(alloc)?)?
-        .subcommand(debug_command(alloc)?)
+    let program = with_command(program, run_command(alloc, all)?)?;
+    let program = with_command(program, dis_command(alloc)?)?;
+    with_command(program, debug_command(alloc)?)
 }
 
-/// The command line of the program.
-pub(crate) fn program<'a>(alloc: Global) -> Result<Command<'a>, AllocError>
-    ensures { IfOk result (λ c. app_of c ≡ program) }
+/// The command line of the program; `all` says that the words have `--why=all`.
+pub(crate) fn program<'a>(alloc: Global, all: bool) -> Result<Command<'a>, AllocError>
+    ensures { IfOk result (λ c. app_of c ≡ program all) }
 {
-    taking(alloc, making(alloc)?)?.subcommand(bounds_command(alloc)?)
+    let program = making(alloc)?;
+    let program = taking(alloc, all, program)?;
+    let program = with_command(program, bounds_command(alloc)?)?;
+    with_command(program, word_command(alloc)?)
 }

@@ -13,5 +13,5 @@ mod values;
 
 pub use fault::PlanFault;
 pub use layout::Layout;
-pub use plans::Plan;
+pub use plans::{Plan, Why};
 pub use reading::plan;

@@ -1,5 +1,14 @@
 use crate::layout::Layout;
 
+/// Which ends of a run are explained.
+#[derive(Clone, Copy, Debug, PartialEq, Eq)]
+pub enum Why {
+    /// Those where an instruction was not fetched.
+    Unfetched,
+    /// All.
+    All,
+}
+
 /// What the command line asks for.
 #[derive(Clone, Copy, Debug, PartialEq, Eq)]
 pub enum Plan<'a> {
@@ -37,8 +46,14 @@ pub enum Plan<'a> {
         input: Option<&'a str>,
         /// Whether the lines that say where a run ended are left out.
         quiet: bool,
+        /// Which ends are explained, if any.
+        why: Option<Why>,
         /// The file that a line for each step is written to, if one is named.
         trace: Option<&'a str>,
+        /// The first step that has a line there, 1 to 100000000000000.
+        trace_from: u64,
+        /// How many of the lines are left there in the end, the last ones, 1 to 1000000; else all are.
+        trace_last: Option<u64>,
     },
     /// List an image.
     Dis {
@@ -53,15 +68,30 @@ pub enum Plan<'a> {
         image: &'a str,
         /// The file with its labels, if one is named.
         symbols: Option<&'a str>,
+        /// The file whose bytes come on the console, if one is named.
+        input: Option<&'a str>,
+        /// Steps from one byte of the input to the next, 1 to 1000000, where it is said.
+        gap: Option<u64>,
+        /// Steps from one tick of the timer to the next, at most 1000000, where it is said.
+        tick: Option<u64>,
     },
-    /// Say what setting bounds gives.
+    /// Say what setting bounds gives, or how a length is rounded where no base is named.
     Bounds {
-        /// The address from which they are asked.
-        base: u64,
+        /// The address from which they are asked, if one is named.
+        base: Option<u64>,
         /// How many bytes they are asked to hold.
         length: u64,
         /// An address to be placed against them, if one is named.
         address: Option<u64>,
+    },
+    /// Say what the word of a capability means.
+    Word {
+        /// The upper half: its permissions, object type, flag and bounds.
+        high: u64,
+        /// The lower half: its address.
+        low: u64,
+        /// Whether these are the halves of the word as it stands in memory.
+        memory: bool,
     },
     /// Run the first image, which the program holds itself.
     First,

@@ -1,26 +1,45 @@
 //! The plan that a command line asks for.
 
 ghost use Rattle.std.specs.Prelude.{◌≡◌, ◌<◌, ◌^◌, ◌↔◌, ℕ, IsTrue, Option, IfOk, IfNone, IfErr, OnOk, IfSome, map};
-ghost use Rattle.std.specs.Prelude.{codes};
-ghost use Rattle.clap.specs.Words.{found_of, rows_of, kind_of, subcommand_of, subcommand_rows_of};
+ghost use Rattle.std.specs.Prelude.{codes, is_some, None, true};
+ghost use Rattle.std.specs.Borrow.{Bor};
+ghost use Rattle.clap.specs.Words.{Text, first_of, found_of, rows_of, kind_of, subcommand_rows_of};
 ghost use Rattle.clap.specs.declared.error.kind.ErrorKind.{ErrorKind};
-ghost use Rattle.command_line.specs.CommandLine.{program, IsSound, IsTaken, IsLayoutOf, IsPlanOf, IsPlanOfCommand};
-ghost use Rattle.command_line.specs.CommandLine.{AreNumbersOf, AreInRange, NoCommandFits, NoPlanFits, are_apart, is_apart};
+ghost use Rattle.command_line.specs.CommandLine.{found_in, IsSound, IsTaken, IsLayoutOf, IsPlanOf, IsPlanOfCommand, IsTraceOf, AreBoundsOf};
+ghost use Rattle.command_line.specs.CommandLine.{AreNumbersOf, AreInRange, IsTraceInRange, NoCommandFits, NoPlanFits, are_apart, is_apart};
+ghost use Rattle.command_line.specs.CommandLine.{asks_all};
 ghost use Rattle.command_line.specs.declared.fault.PlanFault.TheVariants.{Memory};
 ghost use Rattle.command_line.specs.declared.layout.Layout.{Layout};
 
 use crate::commands::program;
 use crate::fault::PlanFault;
 use crate::layout::Layout;
-use crate::limits::{MOST_GAP, MOST_STEPS, MOST_TICK, MOST_TIMES};
+use crate::limits::{
+    MOST_GAP, MOST_STEPS, MOST_TICK, MOST_TIMES, MOST_TRACE_FROM, MOST_TRACE_LAST,
+};
 use crate::plans::Plan;
-use crate::values::{MISSING, Misfit, is_used, natural_of, needed, number, operand, text};
+use crate::values::{
+    MISSING, Misfit, is_used, natural_of, needed, number, operand, optional, text, why_of,
+};
 use clap::error::ErrorKind;
 use clap::{ArgMatches, Error};
 use std::alloc::Global;
 
 /// A file would be written over another of the command.
 const SAME_FILE: Misfit = "a file that is written cannot be another file of the command";
+
+/// A trace is described that isn't asked for.
+const UNTRACED: Misfit = "--trace-from and --trace-last go with --trace";
+
+/// An address is to be placed against no bounds.
+const UNPLACED: Misfit = "--address goes with BASE and LENGTH";
+
+/// What BASE, LENGTH and the address of `bounds` are, where they are no such number.
+const NO_BASE: Misfit = "BASE is a number of 0 to 18446744073709551615";
+
+const NO_LENGTH: Misfit = "LENGTH is a number of 0 to 18446744073709551615";
+
+const NO_ADDRESS: Misfit = "--address takes a number of 0 to 18446744073709551615";
 
 /// The numbers of a run: its most steps and how many times as many, and the steps from one byte and from one tick to the next.
 #[derive(Clone, Copy)]
@@ -58,6 +77,34 @@ fn numbers_of(matches: &ArgMatches<'_>) -> Option<RunNumbers>
         tick: number(matches, "tick")?,
     };
     if are_in_range(run) { Some(run) } else { None }
+}
+
+/// What is traced: the file, the first step and how many lines are left.
+#[derive(Clone, Copy)]
+struct TraceAsked<'a> {
+    file: Option<&'a str>,
+    from: u64,
+    last: Option<u64>,
+}
+
+/// What was found of a trace, where its numbers lie in their ranges.
+fn traced<'a>(found: &ArgMatches<'a>) -> Result<TraceAsked<'a>, Misfit>
+    ensures value { IfOk result (λ t. IsTraceOf (rows_of (found_of found.now)) t.file t.from t.last) }
+    ensures range { IfOk result (λ t. IsTraceInRange t.from t.last) }
+    ensures err { IfErr result (λ _. (file : Option (Bor Text)) (from : ℕ) (last : Option ℕ)
+        → IsTraceOf (rows_of (found_of found.now)) file from last → IsTraceInRange from last → ⊥) }
+{
+    let file = text(found, "trace");
+    let first = optional(found, "trace-from", 1, MOST_TRACE_FROM)?;
+    let last = optional(found, "trace-last", 1, MOST_TRACE_LAST)?;
+    if file.is_none() && (first.is_some() || last.is_some()) {
+        return Err(UNTRACED);
+    }
+    Ok(TraceAsked {
+        file,
+        from: first.unwrap_or(1),
+        last,
+    })
 }
 
 /// Where the bytes of a flat file go.
@@ -145,9 +192,9 @@ fn run_plan<'a>(found: &ArgMatches<'a>) -> Result<Plan<'a>, Misfit>
 {
     let image = operand(found, "IMAGE")?;
     let input = text(found, "input");
-    let trace = text(found, "trace");
+    let trace = traced(found)?;
     match numbers_of(found) {
-        Some(_) if !(is_apart(image, trace) && are_apart(input, trace)) => Err(SAME_FILE),
+        Some(_) if !(is_apart(image, trace.file) && are_apart(input, trace.file)) => Err(SAME_FILE),
         Some(run) => Ok(Plan::Run {
             image,
             steps: run.steps,
@@ -156,7 +203,10 @@ fn run_plan<'a>(found: &ArgMatches<'a>) -> Result<Plan<'a>, Misfit>
             tick: run.tick,
             input,
             quiet: is_used(found, "quiet"),
-            trace,
+            why: why_of(found),
+            trace: trace.file,
+            trace_from: trace.from,
+            trace_last: trace.last,
         }),
         None => Err(MISSING),
     }
@@ -181,6 +231,52 @@ fn debug_plan<'a>(found: &ArgMatches<'a>) -> Result<Plan<'a>, Misfit>
     Ok(Plan::Debug {
         image: operand(found, "IMAGE")?,
         symbols: text(found, "symbols"),
+        input: text(found, "input"),
+        gap: optional(found, "gap", 1, MOST_GAP)?,
+        tick: optional(found, "tick", 0, MOST_TICK)?,
+    })
+}
+
+/// The numbers of `bounds`: its base, if there is one, its length, and the address that is placed.
+#[derive(Clone, Copy)]
+struct BoundsAsked {
+    base: Option<u64>,
+    length: u64,
+    address: Option<u64>,
+}
+
+/// What the only number of `bounds` asks for.
+fn length_alone(found: &ArgMatches<'_>) -> Result<BoundsAsked, Misfit>
+    requires { first_of (codes "LENGTH") (rows_of (found_of found.now)) ≡ None }
+    ensures ok { IfOk result (λ a. AreBoundsOf (rows_of (found_of found.now)) a.base a.length a.address) }
+    ensures err { IfErr result (λ _. (base : Option ℕ) (length : ℕ) (address : Option ℕ)
+        → AreBoundsOf (rows_of (found_of found.now)) base length address → ⊥) }
+{
+    let length = needed(found, "BASE", NO_LENGTH)?;
+    if text(found, "address").is_some() {
+        return Err(UNPLACED);
+    }
+    Ok(BoundsAsked {
+        base: None,
+        length,
+        address: None,
+    })
+}
+
+/// What both numbers of `bounds` ask for.
+fn base_and_length(found: &ArgMatches<'_>) -> Result<BoundsAsked, Misfit>
+    requires { is_some (first_of (codes "LENGTH") (rows_of (found_of found.now))) ≡ true }
+    ensures ok { IfOk result (λ a. AreBoundsOf (rows_of (found_of found.now)) a.base a.length a.address) }
+    ensures err { IfErr result (λ _. (base : Option ℕ) (length : ℕ) (address : Option ℕ)
+        → AreBoundsOf (rows_of (found_of found.now)) base length address → ⊥) }
+{
+    let base = needed(found, "BASE", NO_BASE)?;
+    let length = needed(found, "LENGTH", NO_LENGTH)?;
+    let address = natural_of(found, "address", NO_ADDRESS)?;
+    Ok(BoundsAsked {
+        base: Some(base),
+        length,
+        address,
     })
 }
 
@@ -189,25 +285,32 @@ fn bounds_plan<'a>(found: &ArgMatches<'a>) -> Result<Plan<'a>, Misfit>
     ensures sound { IfOk result IsSound }
     ensures none { IfErr result (λ _. NoCommandFits (codes "bounds") (rows_of (found_of found.now))) }
 {
-    let base = needed(
-        found,
-        "BASE",
-        "BASE is a number of 0 to 18446744073709551615",
-    )?;
-    let length = needed(
-        found,
-        "LENGTH",
-        "LENGTH is a number of 0 to 18446744073709551615",
-    )?;
-    let address = natural_of(
-        found,
-        "address",
-        "--address takes a number of 0 to 18446744073709551615",
-    )?;
+    let asked = match text(found, "LENGTH") {
+        None => length_alone(found)?,
+        Some(_) => base_and_length(found)?,
+    };
     Ok(Plan::Bounds {
-        base,
-        length,
-        address,
+        base: asked.base,
+        length: asked.length,
+        address: asked.address,
+    })
+}
+
+fn word_plan<'a>(found: &ArgMatches<'a>) -> Result<Plan<'a>, Misfit>
+    ensures value { IfOk result (IsPlanOfCommand (codes "word") (rows_of (found_of found.now))) }
+    ensures sound { IfOk result IsSound }
+    ensures none { IfErr result (λ _. NoCommandFits (codes "word") (rows_of (found_of found.now))) }
+{
+    let high = needed(
+        found,
+        "HIGH",
+        "HIGH is a number of 0 to 18446744073709551615",
+    )?;
+    let low = needed(found, "LOW", "LOW is a number of 0 to 18446744073709551615")?;
+    Ok(Plan::Word {
+        high,
+        low,
+        memory: is_used(found, "memory"),
     })
 }
 
@@ -228,6 +331,8 @@ fn plan_of_command<'a>(name: &str, found: &ArgMatches<'a>) -> Result<Plan<'a>, M
         debug_plan(found)
     } else if name == "bounds" {
         bounds_plan(found)
+    } else if name == "word" {
+        word_plan(found)
     } else {
         Err(MISSING)
     }
@@ -259,21 +364,37 @@ fn fault_of(alloc: Global, error: Error) -> PlanFault
     }
 }
 
+/// Whether one of the words is `--why=all`, before any `--`.
+fn asks_all(words: &[&str]) -> bool
+    ensures { result ≡ asks_all (map (λ word. word.now) words.entry.now) }
+{
+    for word in words {
+        if *word == "--" {
+            return false;
+        }
+        if *word == "--why=all" {
+            return true;
+        }
+    }
+    false
+}
+
 /// Reads the words of a command line, the program's name first.
 ///
-/// A file that is written may not bear the name of another file of the command; a number of 64 bits is typed in decimal digits,
+/// A file that is written may not bear the name of another file of the command; `--trace-from` and `--trace-last` go with `--trace`;
+/// with one number `bounds` has a length and no address. A number of 64 bits is typed in decimal digits,
 /// or in hexadecimal digits after `0x`. `Help` and `Refused` hold the text for whoever typed the words; `Memory` says that there
 /// was none.
 pub fn plan<'a>(alloc: Global, words: &'a [&'a str]) -> Result<Plan<'a>, PlanFault>
     ensures taken { OnOk result (IsTaken (map (λ word. word.now) words.entry.now)) }
-    ensures ok { IfOk result (IsPlanOf (subcommand_of program (map (λ word. word.now) words.entry.now))) }
+    ensures ok { IfOk result (IsPlanOf (found_in (map (λ word. word.now) words.entry.now))) }
     ensures sound { IfOk result IsSound }
     // Where clap takes the words and finds a sound plan, only memory can be wanting.
     ensures err { IfErr result (λ fault. IsTaken (map (λ word. word.now) words.entry.now)
-        → (NoPlanFits (subcommand_of program (map (λ word. word.now) words.entry.now)) → ⊥)
+        → (NoPlanFits (found_in (map (λ word. word.now) words.entry.now)) → ⊥)
         → fault ≡ Memory) }
 {
-    let mut command = program(alloc)?;
+    let mut command = program(alloc, asks_all(words))?;
     let matches = match command.try_get_matches_from_mut(words) {
         Ok(matches) => matches,
         Err(error) => return Err(fault_of(alloc, error)),

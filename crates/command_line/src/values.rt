@@ -2,9 +2,10 @@
 
 ghost use Rattle.std.specs.Prelude.{◌≡◌, ◌<◌, ◌^◌, ℕ, Option, IfOk, IfErr, IfSome, IfNone, Some, None, option_map};
 ghost use Rattle.clap.specs.Words.{found_of, rows_of, first_of};
-ghost use Rattle.command_line.specs.CommandLine.{IsNumber, IsNatural, is_used};
+ghost use Rattle.command_line.specs.CommandLine.{IsNumber, IsNatural, IsOptional, IsWithin, is_used, why_of};
 
 use crate::numbers::written_number;
+use crate::plans::Why;
 use clap::ArgMatches;
 
 /// Why what clap found is no plan: a text for whoever typed it.
@@ -19,6 +20,27 @@ pub(crate) fn number(matches: &ArgMatches<'_>, id: &str) -> Option<u64>
     ensures none { IfNone result ((n : ℕ) → n < 2 ^ 64 → IsNumber id.now (rows_of (found_of matches.now)) n → ⊥) }
 {
     matches.get_one::<u64>(id)
+}
+
+/// The number from `least` to `most` that was found for `id`; none where the argument isn't used.
+pub(crate) fn optional(
+    found: &ArgMatches<'_>,
+    id: &str,
+    least: u64,
+    most: u64,
+) -> Result<Option<u64>, Misfit>
+    ensures ok { IfOk result (IsOptional id.now (rows_of (found_of found.now))) }
+    ensures range { IfOk result (IsWithin least most) }
+    ensures err { IfErr result (λ _. (number : Option ℕ) → IsOptional id.now (rows_of (found_of found.now)) number
+        → IsWithin least most number → ⊥) }
+{
+    match text(found, id) {
+        None => Ok(None),
+        Some(_) => match number(found, id) {
+            Some(number) if least <= number && number <= most => Ok(Some(number)),
+            _ => Err(MISSING),
+        },
+    }
 }
 
 /// The text that was found for `id`.
@@ -43,6 +65,17 @@ pub(crate) fn is_used(found: &ArgMatches<'_>, id: &str) -> bool
     match text(found, id) {
         Some(value) => value == "true",
         None => false,
+    }
+}
+
+/// Which ends of a run are explained.
+pub(crate) fn why_of(found: &ArgMatches<'_>) -> Option<Why>
+    ensures { result ≡ why_of (rows_of (found_of found.now)) }
+{
+    match text(found, "why") {
+        Some(value) if value == "true" => Some(Why::Unfetched),
+        Some(value) if value == "all" => Some(Why::All),
+        _ => None,
     }
 }
 

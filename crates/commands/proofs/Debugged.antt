@@ -1,34 +1,36 @@
--- What a conversation over an image says of the file that the image is of, and of the file of its labels.
-use Rattle.std.specs.Prelude.{◌≡◌, ℕ, List, [], Option, Some, None, Result, Ok, Err, IfSome, IfOk}
+-- What a conversation over an image says of the files that the image, the labels and the bytes on its console are of.
+use Rattle.std.specs.Prelude.{◌≡◌, ℕ, Bool, List, Option, Some, None, Result, Ok, Err, IfSome, IfOk, is_some}
+use Rattle.std.proofs.Common.{ap, subst, ◌∙◌}
+use Rattle.std.specs.Borrow.{Bor}
 use Rattle.std.specs.Io.KnownBytes.{Appends}
 use Rattle.debugger.specs.Conversation.{conversation}
-use Rattle.debugger.specs.SessionState.{session_state}
 use Rattle.debugger.specs.Talk.{heard}
 use Rattle.hart.specs.Opening.{opening}
 use Rattle.image.specs.Grammar.{reading}
 use Rattle.image.specs.Image.{Image}
-use Rattle.symbols.specs.Symbols.{Symbol, faulty_line, symbols_of}
-use Rattle.commands.specs.Debugging.{Debugs}
+use Rattle.sim_run.specs.declared.schedule.Schedule.{Schedule}
+use Rattle.symbols.specs.Symbols.{Symbol}
+use Rattle.commands.specs.Debugging.{AreKeys, DebugsFile, IsTable, begun, schedule_asked}
+use Rattle.commands.specs.Files.{Text, File}
 
--- the conversation was written
-abbrev pub IsWritten : Image → List Symbol → Option (List ℕ) → Option (List ℕ) → Option (List ℕ) → Type 0
-IsWritten image symbols input old new =
-    IfSome input (λ typed. Appends old new (conversation (heard typed) (session_state (opening image) symbols)))
-
-module _ {X E : Type 0} (contents : X → Option (List ℕ)) (image : Image) (symbols : List Symbol) (input old : Option (List ℕ)) where
-  pub debugged : (r : Result X E) (known : Option (List ℕ)) → IfSome known (λ bytes. reading bytes ≡ Ok image) → symbols ≡ []
-      → IfOk r (λ out. IsWritten image symbols input old (contents out))
-      → IfOk r (λ out. IfSome known (λ bytes. Debugs [] bytes input old (contents out)))
-  debugged (Err e) known read none told = tt
-  debugged (Ok out) None read none told = tt
-  debugged (Ok out) (Some bytes) read none told = (image, read, rw none at told)
-
-  pub debugged_with : (r : Result X E) (known text : Option (List ℕ)) → IfSome known (λ bytes. reading bytes ≡ Ok image)
-      → IfSome text (λ t. faulty_line t ≡ None) → IfSome text (λ t. symbols ≡ symbols_of t)
-      → IfOk r (λ out. IsWritten image symbols input old (contents out))
-      → IfOk r (λ out. IfSome known (λ bytes. IfSome text (λ t.
-      (faulty_line t ≡ None) × Debugs (symbols_of t) bytes input old (contents out))))
-  debugged_with (Err e) known text read correct same told = tt
-  debugged_with (Ok out) None text read correct same told = tt
-  debugged_with (Ok out) (Some bytes) None read correct same told = tt
-  debugged_with (Ok out) (Some bytes) (Some t) read correct same told = (correct, (image, read, rw same at told))
+module _ {X E : Type 0} (contents : X → Option (List ℕ)) (files : Option (List File)) (symbols keys : Option (Bor Text))
+    (gap tick : Option ℕ) (input old : Option (List ℕ)) (image : Image) (table : List Symbol) (typed : List ℕ) where
+  pub debugged : (r : Result X E) (known : Option (List ℕ)) (schedule : Option Schedule) (is_typed : Bool)
+      → IfSome known (λ bytes. reading bytes ≡ Ok image) → IsTable symbols files table → AreKeys keys files typed
+      → is_typed ≡ is_some keys → schedule ≡ schedule_asked is_typed gap tick
+      → IfOk r (λ out. IfSome input (λ lines. Appends old (contents out)
+      (conversation (heard lines) (begun schedule typed (opening image) table))))
+      → IfOk r (λ out. IfSome known (λ bytes. DebugsFile files bytes symbols keys gap tick input old (contents out)))
+  debugged (Err e) known schedule is_typed read labels console typed_is asked told = tt
+  debugged (Ok out) None schedule is_typed read labels console typed_is asked told = tt
+  debugged (Ok out) (Some bytes) schedule is_typed read labels console typed_is asked told =
+      let same : schedule ≡ schedule_asked (is_some keys) gap tick = asked ∙ ap (λ t. schedule_asked t gap tick) typed_is in (
+        image,
+        table,
+        typed,
+        read,
+        labels,
+        console,
+        subst (λ s. IfSome input (λ lines. Appends old (contents out)
+            (conversation (heard lines) (begun s typed (opening image) table)))) same told,
+      )

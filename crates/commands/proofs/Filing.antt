@@ -1,12 +1,13 @@
 -- A file that is made, written and closed is a whole file.
 use Rattle.std.specs.Prelude.{◌≡◌, ℕ, List, [], ◌∷◌, ◌++◌, Option, Some, None, refl}
 use Rattle.std.proofs.Common.{◌∙◌, ap, append_assoc}
-use Rattle.std.specs.Io.KnownBytes.{Appends}
+use Rattle.std.specs.Io.KnownBytes.{Appends, append_known}
+use Rattle.std.proofs.KnownBytes.{Appends-kept}
 use Rattle.std.specs.declared.vec.Vec.{Vec}
 use Rattle.assembler.specs.Labels as text
 use Rattle.symbols.specs.Reads as table
 use Rattle.commands.specs.Assembling.{seen_labels}
-use Rattle.commands.specs.Files.{File, begun, ended, whole, Gains, IsNew}
+use Rattle.commands.specs.Files.{File, begun, ended, whole, Closes, Gains, IsNew}
 
 -- empty, and then grown by bytes
 pub grown_from_empty : (held new : Option (List ℕ)) (bytes : List ℕ) → held ≡ Some [] → Appends held new bytes → new ≡ Some bytes
@@ -20,6 +21,18 @@ gains_whole None made new name bytes empty held first is_new more last = tt
 gains_whole (Some files) made new name bytes empty held first is_new more last =
     let full : held ≡ Some bytes = grown_from_empty empty held bytes is_new more in
     (rw (first, full) at last) ∙ ap Some (append_assoc files (begun name ∷ []) (ended name (Some bytes) ∷ []))
+
+-- a file that is written in blocks
+pub new_in_blocks : (old : Option (List File)) (held : Option (List ℕ)) (buffered : List ℕ) → IsNew old held → buffered ≡ []
+    → IsNew old (append_known held buffered)
+new_in_blocks None held buffered is_new none = tt
+new_in_blocks (Some files) held buffered is_new none = rw (is_new, none) refl
+
+pub gains_closed : (old made new : Option (List File)) (name bytes : List ℕ) (empty held : Option (List ℕ))
+    → Gains old made (begun name ∷ []) → IsNew old empty → Appends empty held bytes → Closes name held made new
+    → Gains old new (whole name bytes)
+gains_closed old made new name bytes empty held first is_new more last =
+    gains_whole old made new name bytes empty last.0 first is_new (Appends-kept empty held last.0 bytes more last.1) last.2
 
 -- labels as a map of names holds them, as a table has them
 pub seen_labels-entries : {A : Type 0} → (entries : List (Vec ℕ A × ℕ))

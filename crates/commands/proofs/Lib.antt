@@ -1,4 +1,5 @@
 pub mod Filing
+pub mod Beginnings
 pub mod Flat
 pub mod Typed
 pub mod Debugged

@@ -1,19 +1,21 @@
 -- The status of a command line that was carried out, and what then holds of its files.
 use Rattle.std.specs.Prelude.{◌≡◌, ◌≤◌, ◌*◌, ℕ, List, Option, IfSome, Bool, true, false, bytes_eq, codes, [], ◌∷◌}
 use Rattle.command_line.specs.declared.plans.Plan.{Plan}
-use Rattle.command_line.specs.declared.plans.Plan.TheVariants.{Asm, Image, Run, Dis, Debug, Bounds, First}
-use Rattle.clap.specs.Words.{subcommand_of}
-use Rattle.command_line.specs.CommandLine.{IsPlanOf, IsSound, IsTaken, NoPlanFits, program}
+use Rattle.command_line.specs.declared.plans.Plan.TheVariants.{Asm, Image, Run, Dis, Debug, Bounds, Word, First}
+use Rattle.command_line.specs.CommandLine.{IsPlanOf, IsSound, IsTaken, NoPlanFits, found_in}
+use Rattle.std.specs.Io.KnownBytes.{Appends}
+use Rattle.bounds_text.specs.WordText.{word_of_halves}
 use Rattle.sim_run.specs.Verdict.{status_of}
 use Rattle.commands.specs.declared.carrying.Done.{Done}
 use Rattle.commands.specs.declared.carrying.Done.TheVariants as done
 use Rattle.commands.specs.declared.running.Ended.{Ended}
 use Rattle.commands.specs.Files.{File, Text, bytes_of}
 use Rattle.commands.specs.Assembling.{Assembles}
+use Rattle.commands.specs.Bounding.{WritesWord, bounds_answer}
 use Rattle.commands.specs.Imaging.{MakesImage}
 use Rattle.commands.specs.Listing.{ListsFile}
 use Rattle.commands.specs.Overwriting.{Overwrites, Sameness}
-use Rattle.commands.specs.Running.{RunsFile}
+use Rattle.commands.specs.Running.{RunsFile, stop_at}
 
 -- 0 for what was done, and of a run what its end comes to
 abbrev pub status_of_done : Done → ℕ
@@ -26,14 +28,18 @@ HasStatus (Asm input output symbols) sent old new status =
     (status ≡ 0) × IfSome (bytes_of input.now old) (λ text. Assembles output.now symbols text old new)
 HasStatus (Image flat output layout) sent old new status =
     (status ≡ 0) × IfSome (bytes_of flat.now old) (λ bytes. MakesImage layout output.now bytes old new)
-HasStatus (Run image steps times gap tick input quiet trace) sent old new status =
+HasStatus (Run image steps times gap tick input quiet why trace trace_from trace_last) sent old new status =
     (ended : Ended) × (out : Option (List ℕ)) × (status ≡ status_of ended.end)
     × IfSome (bytes_of image.now old)
-    (λ bytes. RunsFile (record { steps = steps * times; gap = gap; tick = tick }) input quiet bytes trace old new ended sent out)
+    (λ bytes. RunsFile (stop_at why) (record { steps = steps * times; gap = gap; tick = tick }) input quiet bytes trace
+    (record { from = trace_from; last = trace_last }) old new ended sent out)
 HasStatus (Dis image symbols) sent old new status =
     (out : Option (List ℕ)) × (status ≡ 0) × IfSome (bytes_of image.now old) (λ bytes. ListsFile old bytes symbols sent out)
-HasStatus (Debug image symbols) sent old new status = status ≡ 0
-HasStatus (Bounds base length address) sent old new status = status ≡ 0
+HasStatus (Debug image symbols input gap tick) sent old new status = status ≡ 0
+HasStatus (Bounds base length address) sent old new status =
+    (out : Option (List ℕ)) × (status ≡ 0) × Appends sent out (bounds_answer base length address)
+HasStatus (Word high low memory) sent old new status =
+    (out : Option (List ℕ)) × (status ≡ 0) × WritesWord (word_of_halves high low memory) sent out
 HasStatus First sent old new status = status ≤ 1
 
 -- the program's name, and --version alone
@@ -45,14 +51,14 @@ asks_version words = false
 -- out with this status.
 abbrev pub IsCarriedOut : List Text → Option Sameness → Option (List ℕ) → Option (List File) → Option (List File) → ℕ → Type 0
 IsCarriedOut words same sent old new status =
-    (plan : Plan) × IsTaken words × IsPlanOf (subcommand_of program words) plan × IsSound plan × Overwrites same plan false
+    (plan : Plan) × IsTaken words × IsPlanOf (found_in words) plan × IsSound plan × Overwrites same plan false
     × HasStatus plan sent old new status
 
 -- The words are a plan that would write a file over another of its own, and no file is written.
 abbrev pub IsKept : List Text → Option Sameness → Option (List File) → Option (List File) → Type 0
 IsKept words same old new =
-    (plan : Plan) × IsTaken words × IsPlanOf (subcommand_of program words) plan × Overwrites same plan true × (new ≡ old)
+    (plan : Plan) × IsTaken words × IsPlanOf (found_in words) plan × Overwrites same plan true × (new ≡ old)
 
 -- Clap doesn't take the words, or nothing that it finds in them is a sound plan.
 abbrev pub IsRefused : List Text → Type 0
-IsRefused words = IsTaken words → (NoPlanFits (subcommand_of program words) → ⊥) → ⊥
+IsRefused words = IsTaken words → (NoPlanFits (found_in words) → ⊥) → ⊥

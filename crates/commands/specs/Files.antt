@@ -1,6 +1,7 @@
 -- The files of a folder: what became of them, in order.
 use Rattle.std.specs.Prelude.{◌≡◌, ◌⊎◌, ℕ, List, [], ◌∷◌, ◌++◌, bytes_eq, if◌then◌else◌, Option, Some, None, Err, IfSome, ⊤}
 use Rattle.std.specs.Borrow.{Bor}
+use Rattle.std.specs.Io.KnownBytes.{Keeps}
 use Rattle.image.specs.Grammar.{reading}
 use Rattle.image.specs.Reads.{IsOfBytes}
 use Rattle.symbols.specs.Symbols.{faulty_line}
@@ -31,6 +32,10 @@ whole name bytes = begun name ∷ ended name (Some bytes) ∷ []
 abbrev pub Gains : Option (List File) → Option (List File) → List File → Type 0
 Gains None new more = ⊤
 Gains (Some files) new more = new ≡ Some (files ++ more)
+
+-- A file is closed that holds these bytes, where they are known.
+abbrev pub Closes : Text → Option (List ℕ) → Option (List File) → Option (List File) → Type 0
+Closes name held old new = (now : Option (List ℕ)) × Keeps held now × Gains old new (ended name now ∷ [])
 
 -- Where files are known, a new one is empty.
 abbrev pub IsNew : Option (List File) → Option (List ℕ) → Type 0

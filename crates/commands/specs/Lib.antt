@@ -2,8 +2,11 @@
 pub mod Files
 pub mod Assembling
 pub mod Imaging
+pub mod Bounding
 pub mod Listing
 pub mod Running
 pub mod Debugging
 pub mod Overwriting
 pub mod Carrying
+-- Inner words
+pub mod Beginnings

@@ -1,5 +1,6 @@
 -- What `run` writes of a file, and where the run ends.
-use Rattle.std.specs.Prelude.{◌≡◌, ℕ, Bool, not, ◌==◌, ◌&&◌, if◌then◌else◌, List, [], Option, Some, None, Ok, IfSome, string_bytes}
+use Rattle.std.specs.Prelude.{◌≡◌, ℕ, Bool, true, false, not, is_some, ◌==◌, ◌&&◌, if◌then◌else◌, List, [], Option, Some, None, Ok}
+use Rattle.std.specs.Prelude.{IfSome, string_bytes}
 use Rattle.std.specs.Borrow.{Bor}
 use Rattle.std.specs.Io.KnownBytes.{Appends}
 use Rattle.hart.specs.declared.event.Event.{Event}
@@ -12,38 +13,61 @@ use Rattle.machine.specs.Run.{run_after, run_sent, end_of}
 use Rattle.sim_run.specs.declared.schedule.Schedule.{Schedule}
 use Rattle.sim_run.specs.Ending.{ending_lines}
 use Rattle.sim_run.specs.Schedule.{scheduled, steps_in}
-use Rattle.sim_run.specs.Trace.{trace_lines}
+use Rattle.sim_run.specs.declared.stopping.StopAt.{StopAt}
+use Rattle.sim_run.specs.declared.stopping.StopAt.TheVariants as stop
+use Rattle.sim_run.specs.Stopping.{events_met, stop_met, stopped_lines}
+use Rattle.sim_run.specs.Trace.{trace_text}
 use Rattle.sim_run.specs.Unhandled.{trap_left}
 use Rattle.sim_run.specs.Verdict.{status_of}
+use Rattle.command_line.specs.declared.plans.Why.{Why}
+use Rattle.command_line.specs.declared.plans.Why.TheVariants.{Unfetched, All}
 use Rattle.commands.specs.declared.running.Ended.{Ended}
+use Rattle.commands.specs.declared.running.Kept.{Kept}
 use Rattle.commands.specs.Files.{Text, File, Gains, bytes_of, whole}
 
--- the events of a run of an image's machine on a schedule, with these bytes on its console
-abbrev pub events_of : Schedule → List ℕ → Image → List Event
-events_of schedule input image = scheduled schedule input (opening image)
+-- which trap a run stops before that is to be explained
+abbrev pub stop_at : Option Why → Option StopAt
+stop_at None = None
+stop_at (Some Unfetched) = Some stop.Unfetched
+stop_at (Some All) = Some stop.Violation
+
+-- the events of a run of an image's machine on a schedule, with these bytes on its console: those before the trap that it stops at
+abbrev pub events_of : Option StopAt → Schedule → List ℕ → Image → List Event
+events_of at schedule input image = events_met at (scheduled schedule input (opening image)) (opening image)
+
+-- whether it meets such a trap
+abbrev pub stops : Option StopAt → Schedule → List ℕ → Image → Bool
+stops at schedule input image = is_some (stop_met at (scheduled schedule input (opening image)) (opening image))
 
 -- Where a run ended is told unless it is quiet, or it halted with 0.
 abbrev pub is_told : Bool → End → Bool
 is_told quiet end = not quiet && not (status_of end == 0)
 
-abbrev pub place_of : Bool → List Event → State → List ℕ
-place_of quiet events s =
-    if is_told quiet (end_of (run_after events s)) then ending_lines (steps_in events) (trap_left events s) (run_after events s) else []
+-- of a run that stopped before a trap, why its next step traps
+abbrev pub place_lines : Bool → List Event → State → List ℕ
+place_lines true events s = stopped_lines (steps_in events) (run_after events s)
+place_lines false events s = ending_lines (steps_in events) (trap_left events s) (run_after events s)
+
+abbrev pub place_of : Bool → Bool → List Event → State → List ℕ
+place_of quiet stopped events s = if is_told quiet (end_of (run_after events s)) then place_lines stopped events s else []
 
 -- how a run ended that met these events, and the lines that say where
-abbrev pub HasEnded : Bool → List Event → State → Ended → Type 0
-HasEnded quiet events s ended =
-    (ended.end ≡ end_of (run_after events s)) × (string_bytes ended.place ≡ place_of quiet events s)
+abbrev pub HasEnded : Bool → Bool → List Event → State → Ended → Type 0
+HasEnded quiet stopped events s ended =
+    (ended.end ≡ end_of (run_after events s)) × (string_bytes ended.place ≡ place_of quiet stopped events s)
 
--- An output grows by what the machine of an image sends, and the run ends as it does.
-abbrev pub Runs : Schedule → List ℕ → Bool → Image → Ended → Option (List ℕ) → Option (List ℕ) → Type 0
-Runs schedule input quiet image ended old new =
-    Appends old new (run_sent (events_of schedule input image) (opening image))
-    × HasEnded quiet (events_of schedule input image) (opening image) ended
+-- An output grows by what the machine of an image sends that meets these events, and the run ends as it does.
+abbrev pub Meets : Bool → List Event → Bool → Image → Ended → Option (List ℕ) → Option (List ℕ) → Type 0
+Meets stopped events quiet image ended old new =
+    Appends old new (run_sent events (opening image)) × HasEnded quiet stopped events (opening image) ended
 
--- the lines of a run's trace
-abbrev pub trace_of : Schedule → List ℕ → Image → List ℕ
-trace_of schedule input image = trace_lines 0 (events_of schedule input image) (opening image)
+abbrev pub Runs : Option StopAt → Schedule → List ℕ → Bool → Image → Ended → Option (List ℕ) → Option (List ℕ) → Type 0
+Runs at schedule input quiet image ended old new =
+    Meets (stops at schedule input image) (events_of at schedule input image) quiet image ended old new
+
+-- the lines of a run's trace that are kept
+abbrev pub trace_of : Option StopAt → Schedule → List ℕ → Kept → Image → List ℕ
+trace_of at schedule input kept image = trace_text kept.from kept.last (events_of at schedule input image) (opening image)
 
 -- A trace is written to a file, if one is named, and no other file is.
 abbrev pub Traces : Option (Bor Text) → List ℕ → Option (List File) → Option (List File) → Type 0
@@ -51,11 +75,11 @@ Traces None lines old new = new ≡ old
 Traces (Some name) lines old new = Gains old new (whole name.now lines)
 
 -- The bytes are an image, and it is run with these on its console.
-abbrev pub RunsWith : Schedule → List ℕ → Bool → List ℕ → Option (Bor Text) → Option (List File) → Option (List File) → Ended
-    → Option (List ℕ) → Option (List ℕ) → Type 0
-RunsWith schedule input quiet bytes trace files_old files_new ended old new =
-    (image : Image) × (reading bytes ≡ Ok image) × Runs schedule input quiet image ended old new
-    × Traces trace (trace_of schedule input image) files_old files_new
+abbrev pub RunsWith : Option StopAt → Schedule → List ℕ → Bool → List ℕ → Option (Bor Text) → Kept → Option (List File)
+    → Option (List File) → Ended → Option (List ℕ) → Option (List ℕ) → Type 0
+RunsWith at schedule input quiet bytes trace kept files_old files_new ended old new =
+    (image : Image) × (reading bytes ≡ Ok image) × Runs at schedule input quiet image ended old new
+    × Traces trace (trace_of at schedule input kept image) files_old files_new
 
 -- What is read of a file that is typed: no more than can come.
 abbrev pub IsTyped : Schedule → Option (Bor Text) → Option (List File) → List ℕ → Type 0
@@ -64,9 +88,9 @@ IsTyped schedule (Some name) files typed =
     IfSome (bytes_of name.now files) (λ input. (s : State) → scheduled schedule typed s ≡ scheduled schedule input s)
 
 -- The bytes on the console are those of a file, if one is named, and else none come.
-abbrev pub RunsFile : Schedule → Option (Bor Text) → Bool → List ℕ → Option (Bor Text) → Option (List File) → Option (List File) → Ended
-    → Option (List ℕ) → Option (List ℕ) → Type 0
-RunsFile schedule None quiet bytes trace files_old files_new ended old new =
-    RunsWith schedule [] quiet bytes trace files_old files_new ended old new
-RunsFile schedule (Some name) quiet bytes trace files_old files_new ended old new =
-    IfSome (bytes_of name.now files_old) (λ input. RunsWith schedule input quiet bytes trace files_old files_new ended old new)
+abbrev pub RunsFile : Option StopAt → Schedule → Option (Bor Text) → Bool → List ℕ → Option (Bor Text) → Kept → Option (List File)
+    → Option (List File) → Ended → Option (List ℕ) → Option (List ℕ) → Type 0
+RunsFile at schedule None quiet bytes trace kept files_old files_new ended old new =
+    RunsWith at schedule [] quiet bytes trace kept files_old files_new ended old new
+RunsFile at schedule (Some name) quiet bytes trace kept files_old files_new ended old new =
+    IfSome (bytes_of name.now files_old) (λ input. RunsWith at schedule input quiet bytes trace kept files_old files_new ended old new)

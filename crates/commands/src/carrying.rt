@@ -8,14 +8,14 @@ ghost use Rattle.commands.specs.Carrying.{HasStatus, IsCarriedOut, IsKept, IsRef
 ghost use Rattle.commands.specs.Overwriting.{Overwrites};
 
 use crate::assembling::assemble_file;
-use crate::bounding::show_bounds;
+use crate::bounding::{show_bounds, show_word};
 use crate::debugging::debug_file;
 use crate::fault::ProgramFault;
 use crate::files::Folder;
 use crate::imaging::image_file;
 use crate::listing::list_file;
 use crate::overwriting::overwrites;
-use crate::running::{Ended, run_file, run_first};
+use crate::running::{Ended, Kept, run_file, run_first, stop_at};
 use command_line::{Plan, PlanFault, plan};
 use image::DeviceFailed;
 use sim_run::{Schedule, verdict};
@@ -98,11 +98,19 @@ fn carry_out<'a, F: Folder, I: Read + Drop, O: Write + Drop>(
             tick,
             input,
             quiet,
+            why,
             trace,
+            trace_from,
+            trace_last,
         } => {
             let schedule = schedule_of(steps, times, gap, tick);
+            let at = stop_at(why);
+            let kept = Kept {
+                from: trace_from,
+                last: trace_last,
+            };
             let (ended, _output) = run_file(
-                alloc, folder, image, schedule, input, quiet, trace, output,
+                alloc, folder, image, at, schedule, input, quiet, trace, kept, output,
             )?;
             Ok(Done::Run(ended))
         }
@@ -126,8 +134,16 @@ fn carry_out<'a, F: Folder, I: Read + Drop, O: Write + Drop>(
             let _output = list_file(alloc, folder, image, symbols, output)?;
             Ok(Done::All)
         }
-        Plan::Debug { image, symbols } => {
-            let _output = debug_file(alloc, folder, image, symbols, input, output)?;
+        Plan::Debug {
+            image,
+            symbols,
+            input: typed,
+            gap,
+            tick,
+        } => {
+            let _output = debug_file(
+                alloc, folder, image, symbols, typed, gap, tick, input, output,
+            )?;
             Ok(Done::All)
         }
         Plan::Bounds {
@@ -136,6 +152,10 @@ fn carry_out<'a, F: Folder, I: Read + Drop, O: Write + Drop>(
             address,
         } => {
             let _output = show_bounds(base, length, address, output)?;
+            Ok(Done::All)
+        }
+        Plan::Word { high, low, memory } => {
+            let _output = show_word(high, low, memory, output)?;
             Ok(Done::All)
         }
     }

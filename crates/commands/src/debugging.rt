@@ -1,38 +1,108 @@
 //! The command `debug`.
 
-ghost use Rattle.std.specs.Prelude.{IfOk, IfSome};
+ghost use Rattle.std.specs.Prelude.{◌≡◌, ◌≤◌, IfOk, IfSome, is_some};
 ghost use Rattle.std.specs.Io.KnownBytes.{Appends};
 ghost use Rattle.debugger.specs.Conversation.{conversation};
-ghost use Rattle.debugger.specs.SessionState.{session_state};
 ghost use Rattle.debugger.specs.Talk.{heard};
 ghost use Rattle.hart.specs.Opening.{opening};
-ghost use Rattle.commands.specs.Debugging.{DebugsFile};
+ghost use Rattle.commands.specs.Debugging.{AreKeys, DebugsFile, IsTable, begun, schedule_asked};
 ghost use Rattle.commands.specs.Files.{bytes_of};
 
 use crate::fault::ProgramFault;
-use crate::files::{Folder, read_image, read_table};
+use crate::files::{Folder, read_file, read_image, read_table};
 use crate::running::ProgramMachine;
 use crate::writing::Writing;
 use debugger::{Session, talk};
 use image::{FromRead, Image};
 use machine::Machine;
+use sim_run::Schedule;
 use std::alloc::Global;
 use std::io::{Read, Write};
 use symbols::Symbols;
+use word_cap::WordCap;
+
+/// Steps from one byte to the next where no other number is asked for.
+const GAP: u64 = 1000;
+
+/// Steps from one tick to the next.
+const TICK: u64 = 100;
+
+/// The labels of the file `symbols`, or none where no file is named.
+fn table_of<'a, F: Folder>(
+    alloc: Global,
+    folder: &F,
+    symbols: Option<&'a str>,
+) -> Result<Symbols, ProgramFault<'a>>
+    ensures { IfOk result (λ table. IsTable symbols.entry (F.files folder.now) table) }
+{
+    match symbols {
+        Some(name) => read_table(alloc, folder, name),
+        None => Ok(Symbols::new(alloc)),
+    }
+}
+
+/// The bytes of the file `keys`, or none where no file is named.
+fn keys_of<'a, F: Folder>(
+    alloc: Global,
+    folder: &F,
+    keys: Option<&'a str>,
+) -> Result<Vec<u8>, ProgramFault<'a>>
+    ensures { IfOk result (λ read. AreKeys keys.entry (F.files folder.now) read.items) }
+{
+    match keys {
+        Some(name) => read_file(alloc, folder, name),
+        None => Ok(Vec::new(alloc)),
+    }
+}
+
+/// The schedule of a session, if a file of input, a gap or a tick is asked for.
+fn schedule_asked(is_typed: bool, gap: Option<u64>, tick: Option<u64>) -> Option<Schedule>
+    requires { IfSome gap (λ gap. 1 ≤ gap) }
+    ensures value { result ≡ schedule_asked is_typed gap tick }
+    ensures gap { IfSome result (λ schedule. 1 ≤ schedule.gap) }
+{
+    if is_typed || gap.is_some() || tick.is_some() {
+        let steps = u64::MAX;
+        let gap = gap.unwrap_or(GAP);
+        let tick = tick.unwrap_or(TICK);
+        return Some(Schedule { steps, gap, tick });
+    }
+    None
+}
+
+/// A session with a machine and labels: on a schedule with these bytes on its console, if there is one.
+fn begin(
+    alloc: Global,
+    machine: ProgramMachine,
+    table: Symbols,
+    schedule: Option<Schedule>,
+    keys: Vec<u8>,
+) -> Session<WordCap>
+    requires { IfSome schedule (λ schedule. 1 ≤ schedule.gap) }
+    ensures { result ≡ begun schedule keys.items machine table }
+{
+    match schedule {
+        Some(schedule) => Session::replaying(alloc, machine, table, schedule, keys),
+        None => Session::with_symbols(alloc, machine, table),
+    }
+}
 
 /// Debugs an image: commands from `input`, which may name the labels of a table, replies to `output`, which is handed back.
 fn debug_image<'a, I: Read + Drop, O: Write + Drop>(
     alloc: Global,
     image: &Image,
     table: Symbols,
+    schedule: Option<Schedule>,
+    keys: Vec<u8>,
     input: I,
     output: O,
 ) -> Result<O, ProgramFault<'a>>
+    requires { IfSome schedule (λ schedule. 1 ≤ schedule.gap) }
     ensures { IfOk result (λ out. IfSome (I.remaining input) (λ typed. Appends (O.contents output) (O.contents out)
-        (conversation (heard typed) (session_state (opening image.now) table)))) }
+        (conversation (heard typed) (begun schedule keys.items (opening image.now) table)))) }
 {
     let machine: ProgramMachine = Machine::new(alloc, image)?;
-    let mut session = Session::with_symbols(alloc, machine, table);
+    let mut session = begin(alloc, machine, table, schedule, keys);
     let mut source = FromRead::new(input);
     let mut sink = Writing::new(output);
     talk(&mut session, &mut source, &mut sink)?;
@@ -41,23 +111,28 @@ fn debug_image<'a, I: Read + Drop, O: Write + Drop>(
 
 /// Debugs the image of a file: commands from `input`, which may name the labels of the file `symbols` if there is one, replies to
 /// `output`, which is handed back.
+///
+/// Where a file `keys`, a gap or a tick is given, the session has the schedule of a run with these; what isn't given is as of `run`: no
+/// input, a gap of 1000, a tick of 100.
 pub fn debug_file<'a, F: Folder, I: Read + Drop, O: Write + Drop>(
     alloc: Global,
     folder: &F,
     name: &'a str,
     symbols: Option<&'a str>,
+    keys: Option<&'a str>,
+    gap: Option<u64>,
+    tick: Option<u64>,
     input: I,
     output: O,
 ) -> Result<O, ProgramFault<'a>>
+    requires { IfSome gap (λ gap. 1 ≤ gap) }
     ensures { IfOk result (λ out. IfSome (bytes_of name.entry.now (F.files folder.now)) (λ bytes.
-        DebugsFile (F.files folder.now) bytes symbols.entry (I.remaining input) (O.contents output) (O.contents out))) }
+        DebugsFile (F.files folder.now) bytes symbols.entry keys.entry gap tick (I.remaining input) (O.contents output)
+        (O.contents out))) }
 {
     let image = read_image(alloc, folder, name)?;
-    match symbols {
-        Some(table) => {
-            let table = read_table(alloc, folder, table)?;
-            debug_image(alloc, &image, table, input, output)
-        }
-        None => debug_image(alloc, &image, Symbols::new(alloc), input, output),
-    }
+    let table = table_of(alloc, folder, symbols)?;
+    let schedule = schedule_asked(keys.is_some(), gap, tick);
+    let typed = keys_of(alloc, folder, keys)?;
+    debug_image(alloc, &image, table, schedule, typed, input, output)
 }

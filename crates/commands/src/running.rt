@@ -1,24 +1,36 @@
 //! The command `run`, and the run without a command.
 
-ghost use Rattle.std.specs.Prelude.{◌≡◌, ◌≤◌, IfOk, IfSome, OnOk};
+ghost use Rattle.std.specs.Prelude.{◌≡◌, ◌≤◌, [], ◌∷◌, IfOk, IfSome, OnOk, is_some, string_bytes};
+ghost use Rattle.std.specs.Io.Buffered.{writer_contents};
 ghost use Rattle.hart.specs.Opening.{opening};
 ghost use Rattle.machine.specs.Run.{run_after, end_of};
 ghost use Rattle.sim_run.specs.Schedule.{IsRunnable, steps_in};
-ghost use Rattle.commands.specs.Files.{Gains, bytes_of, whole};
-ghost use Rattle.commands.specs.Running.{HasEnded, IsTyped, Runs, RunsFile, Traces, events_of, is_told, trace_of};
+ghost use Rattle.sim_run.specs.Stopped.{IsPlaceOf};
+ghost use Rattle.sim_run.specs.Stopping.{events_before};
+ghost use Rattle.sim_run.specs.Trace.{lines_past, trace_text};
+ghost use Rattle.commands.specs.Files.{Closes, Gains, IsNew, begun, bytes_of, whole};
+ghost use Rattle.commands.specs.Running.{HasEnded, IsTyped, Meets, Runs, RunsFile, Traces};
+ghost use Rattle.commands.specs.Running.{events_of, is_told, place_lines, stop_at, stops, trace_of};
 
 use crate::fault::ProgramFault;
 use crate::files::{Folder, make_file, read_beginning, read_image};
 use crate::writing::Writing;
+use command_line::Why;
 use image::{DeviceFailed, Image};
 use machine::{End, Machine};
-use sim_run::{Ran, Schedule, TraceFault, ending_lines, run_counted, run_traced};
-use std::alloc::Global;
-use std::io::Write;
+use sim_run::{
+    Ran, Schedule, StopAt, TraceFault, count_steps, ending_lines, find_stop, lines_skipped,
+    run_before, run_traced_before, stopped_lines,
+};
+use std::alloc::{AllocError, Global};
+use std::io::{BufWriter, Write};
 use word_cap::WordCap;
 
 /// Where the first image begins.
 const ENTRY: u64 = base::ram::BASE;
+
+/// How many bytes of a trace are written at once.
+const BLOCK: usize = 0x1_0000;
 
 /// lui a1, 0x10000; addi a0, zero, 65; sb a0, 0(a1); lui a1, 0x100; sd zero, 0(a1)
 const FIRST: [u8; 20] = [
@@ -36,11 +48,54 @@ pub struct Ended {
     pub place: String,
 }
 
+/// Which lines of a trace are kept.
+#[derive(Clone, Copy, Debug, PartialEq, Eq)]
+pub struct Kept {
+    /// The number of the first step that has one.
+    pub from: u64,
+    /// How many of the last of those are kept, where not all are.
+    pub last: Option<u64>,
+}
+
+/// Which trap a run stops before, where one is to be explained.
+pub fn stop_at(why: Option<Why>) -> Option<StopAt>
+    ensures { result ≡ stop_at why }
+{
+    match why {
+        None => None,
+        Some(Why::Unfetched) => Some(StopAt::Unfetched),
+        Some(Why::All) => Some(StopAt::Violation),
+    }
+}
+
 /// Whether the lines that say where a run ended are told: not where it halted with 0, nor where they are to be left out.
 fn is_told(end: End, quiet: bool) -> bool
     ensures { result ≡ is_told quiet end }
 {
     !quiet && !matches!(end, End::Halted(0))
+}
+
+/// The lines that say where a run of an image on a schedule ended, which left this machine: before the step of a number, where one is
+/// given.
+fn place(
+    alloc: Global,
+    image: &Image,
+    schedule: Schedule,
+    input: &[u8],
+    stop: Option<u64>,
+    machine: &ProgramMachine,
+    steps: u64,
+) -> Result<String, AllocError>
+    requires range { IsRunnable schedule }
+    requires state { machine.now ≡ run_after (events_before stop schedule input.now (opening image.now)) (opening image.now) }
+    requires steps { steps ≡ steps_in (events_before stop schedule input.now (opening image.now)) }
+    ensures { IfOk result (λ text. string_bytes text ≡ place_lines (is_some stop)
+        (events_before stop schedule input.now (opening image.now)) (opening image.now)) }
+{
+    match stop {
+        Some(_) => stopped_lines(alloc, machine, steps),
+        None => ending_lines(alloc, image, schedule, input, machine, steps),
+    }
 }
 
 /// How a run of an image on a schedule ended, which left this machine, and where.
@@ -49,19 +104,21 @@ fn ending<'a>(
     image: &Image,
     schedule: Schedule,
     input: &[u8],
+    stop: Option<u64>,
     quiet: bool,
     machine: &ProgramMachine,
     ran: Ran,
 ) -> Result<Ended, ProgramFault<'a>>
     requires range { IsRunnable schedule }
-    requires state { machine.now ≡ run_after (events_of schedule input.now image.now) (opening image.now) }
+    requires state { machine.now ≡ run_after (events_before stop schedule input.now (opening image.now)) (opening image.now) }
     requires end { ran.end ≡ end_of machine.now }
-    requires steps { ran.steps ≡ steps_in (events_of schedule input.now image.now) }
-    ensures { IfOk result (HasEnded quiet (events_of schedule input.now image.now) (opening image.now)) }
+    requires steps { ran.steps ≡ steps_in (events_before stop schedule input.now (opening image.now)) }
+    ensures { IfOk result
+        (HasEnded quiet (is_some stop) (events_before stop schedule input.now (opening image.now)) (opening image.now)) }
 {
     let end = ran.end;
     if is_told(end, quiet) {
-        match ending_lines(alloc, image, schedule, input, machine, ran.steps) {
+        match place(alloc, image, schedule, input, stop, machine, ran.steps) {
             Ok(place) => Ok(Ended { end, place }),
             Err(_) => Err(ProgramFault::Memory),
         }
@@ -71,75 +128,222 @@ fn ending<'a>(
     }
 }
 
-/// Runs a machine from its image, writes to `output` what it sends, and hands it back.
+/// Runs a machine from its image, up to before the step of a number, where one is given; writes to `output` what it sends, and hands it
+/// back.
 fn run_machine<'a, O: Write + Drop>(
     alloc: Global,
     image: &Image,
     schedule: Schedule,
     input: &[u8],
+    stop: Option<u64>,
     quiet: bool,
     output: O,
 ) -> Result<(Ended, O), ProgramFault<'a>>
-    requires { IsRunnable schedule }
-    ensures { IfOk result (λ done. Runs schedule input.now quiet image.now done.0 (O.contents output) (O.contents done.1)) }
+    requires range { IsRunnable schedule }
+    requires stop { IfSome stop (IsPlaceOf schedule) }
+    ensures { IfOk result (λ done. Meets (is_some stop) (events_before stop schedule input.now (opening image.now)) quiet image.now
+        done.0 (O.contents output) (O.contents done.1)) }
 {
     let mut machine: ProgramMachine = Machine::new(alloc, image)?;
     let mut sink = Writing::new(output);
-    let ran = run_counted(&mut machine, schedule, input, &mut sink)?;
-    let ended = ending(alloc, image, schedule, input, quiet, &machine, ran)?;
+    let ran = run_before(&mut machine, schedule, input, stop, &mut sink)?;
+    let ended = ending(alloc, image, schedule, input, stop, quiet, &machine, ran)?;
     Ok((ended, sink.into_inner()))
 }
 
-/// Runs a machine from its image, writes to `output` what it sends, and to the file `trace`, which is made first, a line for each step;
-/// and hands the output back.
+/// A new file of this name, or the one that there is, emptied, that is written in blocks.
+fn make_trace<'a, F: Folder>(
+    alloc: Global,
+    folder: &mut F,
+    name: &'a str,
+) -> Result<BufWriter<F::Made>, ProgramFault<'a>>
+    ensures files { OnOk result (Gains (F.files folder.old) (F.files folder.new) (begun name.entry.now ∷ [])) }
+    ensures empty { IfOk result (λ file. IsNew (F.files folder.old) (writer_contents F.Made.contents file)) }
+{
+    let file = make_file(folder, name)?;
+    match BufWriter::with_capacity(alloc, BLOCK, file) {
+        Ok(trace) => Ok(trace),
+        Err(_) => Err(ProgramFault::Memory),
+    }
+}
+
+/// Closes a file of this name that was written in blocks, with what is left of them.
+fn close_trace<'a, F: Folder>(
+    folder: &mut F,
+    name: &'a str,
+    trace: BufWriter<F::Made>,
+) -> Result<(), ProgramFault<'a>>
+    ensures { OnOk result (Closes name.entry.now (writer_contents F.Made.contents trace) (F.files folder.old) (F.files folder.new)) }
+{
+    match trace.into_inner() {
+        Ok(file) => {
+            folder.close(name, file);
+            Ok(())
+        }
+        Err(error) => {
+            // What could not be written is not tried again.
+            drop(error.into_inner().into_parts());
+            Err(ProgramFault::CutShort(name))
+        }
+    }
+}
+
+/// Runs a machine from its image, up to before the step of a number, where one is given; writes to `output` what it sends, and to the
+/// file `trace`, which is made first, a line for each step past the first `skipped`; and hands the output back.
 fn trace_machine<'a, F: Folder, O: Write + Drop>(
     alloc: Global,
     folder: &mut F,
     image: &Image,
     schedule: Schedule,
     input: &[u8],
+    stop: Option<u64>,
     quiet: bool,
     trace: &'a str,
+    skipped: u64,
     output: O,
 ) -> Result<(Ended, O), ProgramFault<'a>>
-    requires { IsRunnable schedule }
-    ensures ok { IfOk result (λ done. Runs schedule input.now quiet image.now done.0 (O.contents output) (O.contents done.1)) }
-    ensures files { OnOk result (Gains (F.files folder.old) (F.files folder.new)
-        (whole trace.entry.now (trace_of schedule input.now image.now))) }
+    requires range { IsRunnable schedule }
+    requires stop { IfSome stop (IsPlaceOf schedule) }
+    ensures ok { IfOk result (λ done. Meets (is_some stop) (events_before stop schedule input.now (opening image.now)) quiet image.now
+        done.0 (O.contents output) (O.contents done.1)) }
+    ensures files { OnOk result (Gains (F.files folder.old) (F.files folder.new) (whole trace.entry.now
+        (lines_past skipped 0 (events_before stop schedule input.now (opening image.now)) (opening image.now)))) }
 {
     let mut machine: ProgramMachine = Machine::new(alloc, image)?;
-    let mut lines = Writing::new(make_file(folder, trace)?);
+    let mut lines = Writing::new(make_trace(alloc, folder, trace)?);
     let mut sink = Writing::new(output);
-    match run_traced(&mut machine, schedule, input, &mut sink, &mut lines) {
+    match run_traced_before(
+        &mut machine,
+        schedule,
+        input,
+        stop,
+        skipped,
+        &mut sink,
+        &mut lines,
+    ) {
         Ok(ran) => {
-            folder.close(trace, lines.into_inner());
-            let ended = ending(alloc, image, schedule, input, quiet, &machine, ran)?;
+            close_trace(folder, trace, lines.into_inner())?;
+            let ended = ending(alloc, image, schedule, input, stop, quiet, &machine, ran)?;
             Ok((ended, sink.into_inner()))
         }
-        Err(TraceFault::Output) => Err(ProgramFault::Write(DeviceFailed)),
-        Err(TraceFault::Trace) => Err(ProgramFault::CutShort(trace)),
+        Err(TraceFault::Output) => {
+            // The lines up to there are written, if they can be.
+            let _ = close_trace(folder, trace, lines.into_inner());
+            Err(ProgramFault::Write(DeviceFailed))
+        }
+        Err(TraceFault::Trace) => {
+            drop(lines.into_inner().into_parts());
+            Err(ProgramFault::CutShort(trace))
+        }
     }
 }
 
-/// Runs an image with these bytes on its console, and writes a line for each step to the file `trace` where one is named.
+/// How many of the first steps of a run have no line in its trace: where the last lines are to be kept, the run is done for it on a
+/// machine of its own.
+fn skipped<'a>(
+    alloc: Global,
+    image: &Image,
+    schedule: Schedule,
+    input: &[u8],
+    stop: Option<u64>,
+    kept: Kept,
+) -> Result<u64, ProgramFault<'a>>
+    requires range { IsRunnable schedule }
+    requires stop { IfSome stop (IsPlaceOf schedule) }
+    ensures { IfOk result (λ skipped.
+        trace_text kept.from kept.last (events_before stop schedule input.now (opening image.now)) (opening image.now)
+        ≡ lines_past skipped 0 (events_before stop schedule input.now (opening image.now)) (opening image.now)) }
+{
+    match kept.last {
+        None => Ok(kept.from.saturating_sub(1)),
+        Some(last) => {
+            let mut machine: ProgramMachine = Machine::new(alloc, image)?;
+            let steps = count_steps(&mut machine, schedule, input, stop);
+            Ok(lines_skipped(kept.from, last, steps))
+        }
+    }
+}
+
+/// Runs an image with these bytes on its console, up to before the step of a number, where one is given; and writes the lines that are
+/// kept of its steps to the file `trace`, where one is named.
 fn run_image<'a, F: Folder, O: Write + Drop>(
     alloc: Global,
     folder: &mut F,
     image: &Image,
     schedule: Schedule,
     input: &[u8],
+    stop: Option<u64>,
     quiet: bool,
     trace: Option<&'a str>,
+    kept: Kept,
+    output: O,
+) -> Result<(Ended, O), ProgramFault<'a>>
+    requires range { IsRunnable schedule }
+    requires stop { IfSome stop (IsPlaceOf schedule) }
+    ensures ok { IfOk result (λ done. Meets (is_some stop) (events_before stop schedule input.now (opening image.now)) quiet image.now
+        done.0 (O.contents output) (O.contents done.1)) }
+    ensures files { OnOk result (Traces trace.entry
+        (trace_text kept.from kept.last (events_before stop schedule input.now (opening image.now)) (opening image.now))
+        (F.files folder.old) (F.files folder.new)) }
+{
+    match trace {
+        Some(name) => {
+            let skipped = skipped(alloc, image, schedule, input, stop, kept)?;
+            trace_machine(
+                alloc, folder, image, schedule, input, stop, quiet, name, skipped, output,
+            )
+        }
+        None => run_machine(alloc, image, schedule, input, stop, quiet, output),
+    }
+}
+
+/// The number of the step that a run of an image is to stop before, where it is to stop at a trap and meets one: the run is done for it
+/// step by step on a machine of its own.
+fn stop_of<'a>(
+    alloc: Global,
+    image: &Image,
+    at: Option<StopAt>,
+    schedule: Schedule,
+    input: &[u8],
+) -> Result<Option<u64>, ProgramFault<'a>>
+    requires { IsRunnable schedule }
+    ensures stops { IfOk result (λ stop. is_some stop ≡ stops at schedule input.now image.now) }
+    ensures events { IfOk result (λ stop. events_before stop schedule input.now (opening image.now)
+        ≡ events_of at schedule input.now image.now) }
+    ensures place { IfOk result (λ stop. IfSome stop (IsPlaceOf schedule)) }
+{
+    match at {
+        None => Ok(None),
+        Some(at) => {
+            let mut machine: ProgramMachine = Machine::new(alloc, image)?;
+            Ok(find_stop(&mut machine, at, schedule, input))
+        }
+    }
+}
+
+/// Runs an image with these bytes on its console, up to before the trap that it is to stop at; and writes the lines that are kept of its
+/// steps to the file `trace`, where one is named.
+fn run_to_stop<'a, F: Folder, O: Write + Drop>(
+    alloc: Global,
+    folder: &mut F,
+    image: &Image,
+    at: Option<StopAt>,
+    schedule: Schedule,
+    input: &[u8],
+    quiet: bool,
+    trace: Option<&'a str>,
+    kept: Kept,
     output: O,
 ) -> Result<(Ended, O), ProgramFault<'a>>
     requires { IsRunnable schedule }
-    ensures ok { IfOk result (λ done. Runs schedule input.now quiet image.now done.0 (O.contents output) (O.contents done.1)) }
-    ensures files { OnOk result (Traces trace.entry (trace_of schedule input.now image.now) (F.files folder.old) (F.files folder.new)) }
+    ensures ok { IfOk result (λ done. Runs at schedule input.now quiet image.now done.0 (O.contents output) (O.contents done.1)) }
+    ensures files { OnOk result
+        (Traces trace.entry (trace_of at schedule input.now kept image.now) (F.files folder.old) (F.files folder.new)) }
 {
-    match trace {
-        Some(name) => trace_machine(alloc, folder, image, schedule, input, quiet, name, output),
-        None => run_machine(alloc, image, schedule, input, quiet, output),
-    }
+    let stop = stop_of(alloc, image, at, schedule, input)?;
+    run_image(
+        alloc, folder, image, schedule, input, stop, quiet, trace, kept, output,
+    )
 }
 
 /// The bytes of the file `input` that a run by a schedule has room for, or none where no file is named.
@@ -160,28 +364,30 @@ fn typed<'a, F: Folder>(
 }
 
 /// Runs the image of a file, with the bytes of the file `input` on its console: no more of them are read than the schedule has room for.
-/// Where a file `trace` is named, a line for each step is written to it. A run that is `quiet` doesn't say where it ended. Hands the
-/// output back.
+/// It ends before the trap that it is to stop `at`, if any. Where a file `trace` is named, the lines that are `kept` of its steps are
+/// written to it, in blocks of 64 KiB. A run that is `quiet` doesn't say where it ended. Hands the output back.
 pub fn run_file<'a, F: Folder, O: Write + Drop>(
     alloc: Global,
     folder: &mut F,
     name: &'a str,
+    at: Option<StopAt>,
     schedule: Schedule,
     input: Option<&'a str>,
     quiet: bool,
     trace: Option<&'a str>,
+    kept: Kept,
     output: O,
 ) -> Result<(Ended, O), ProgramFault<'a>>
     requires some_step { 1 ≤ schedule.steps }
     requires range { IsRunnable schedule }
     ensures { IfOk result (λ done. IfSome (bytes_of name.entry.now (F.files folder.old)) (λ bytes.
-        RunsFile schedule input.entry quiet bytes trace.entry (F.files folder.old) (F.files folder.new) done.0
+        RunsFile at schedule input.entry quiet bytes trace.entry kept (F.files folder.old) (F.files folder.new) done.0
         (O.contents output) (O.contents done.1))) }
 {
     let image = read_image(alloc, folder, name)?;
     let bytes = typed(alloc, folder, schedule, input)?;
-    run_image(
-        alloc, folder, &image, schedule, &bytes, quiet, trace, output,
+    run_to_stop(
+        alloc, folder, &image, at, schedule, &bytes, quiet, trace, kept, output,
     )
 }
 
@@ -196,5 +402,5 @@ pub fn run_first<'a, O: Write + Drop>(
         gap: 1000,
         tick: 100,
     };
-    run_machine(alloc, &image, schedule, &[], false, output)
+    run_machine(alloc, &image, schedule, &[], None, false, output)
 }

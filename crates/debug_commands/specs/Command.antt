@@ -11,14 +11,16 @@ use Rattle.asm_lines.specs.Number.{number_of}
 use Rattle.asm_lines.specs.Operand.{ranged, wrapped}
 use Rattle.symbols.specs.Symbols.{Symbol, address_of}
 use Rattle.debug_commands.specs.declared.fault.DebugFault.{DebugFault}
-use Rattle.debug_commands.specs.declared.fault.DebugFault.TheVariants.{B1, B2}
+use Rattle.debug_commands.specs.declared.fault.DebugFault.TheVariants.{B1, B2, B3, B4}
 use Rattle.debug_commands.specs.declared.command.Command.{Command}
-use Rattle.debug_commands.specs.declared.command.Command.TheVariants.{Gives, Shows, Quit}
-use Rattle.debug_commands.specs.declared.command.Events.TheVariants.{Steps, Ticks, Byte, Until}
+use Rattle.debug_commands.specs.declared.command.Command.TheVariants.{Gives, Shows, Sets, Quit}
+use Rattle.debug_commands.specs.declared.command.Events.TheVariants.{Steps, Ticks, Byte, Until, Go}
+use Rattle.debug_commands.specs.declared.command.SetStops.TheVariants.{Add, Clear}
 use Rattle.debug_commands.specs.declared.command.Stop.{Stop}
 use Rattle.debug_commands.specs.declared.command.Stop.TheVariants.{Address, Trap}
 use Rattle.debug_commands.specs.declared.command.View.TheVariants.{Register, Registers, SpecialRegisters, ControlRegisters, Capabilities}
-use Rattle.debug_commands.specs.declared.command.View.TheVariants.{Memory, Words, Why, Reach, ReachMembers, ReachGraph, May, Help}
+use Rattle.debug_commands.specs.declared.command.View.TheVariants.{Memory, Words, Why, Reach, ReachMembers, ReachGraph, May}
+use Rattle.debug_commands.specs.declared.command.View.TheVariants.{Stops, Help, Code}
 use Rattle.debug_commands.specs.declared.command.May.TheVariants.{Store, Load, Execute, Learn, Send, Halt, System, Timer, Hold}
 
 -- the address at which a command stops, if it stops at one
@@ -55,6 +57,11 @@ one_number low high [] = Err B2
 one_number low high (n ∷ []) = or_B2 (read_number (number_between low high n))
 one_number low high (n ∷ m ∷ rest) = Err B2
 
+abbrev pub one_address : List Symbol → List (List ℕ) → Result ℕ DebugFault
+one_address symbols [] = Err B2
+one_address symbols (a ∷ []) = or_B2 (address_in symbols a)
+one_address symbols (a ∷ b ∷ rest) = Err B2
+
 abbrev pub one_register : List (List ℕ) → Result ℕ DebugFault
 one_register [] = Err B2
 one_register (r ∷ []) = or_B2 (register_named r)
@@ -74,12 +81,13 @@ address_and_number symbols multiple high (a ∷ n ∷ m ∷ rest) = Err B2
 
 -- ---- the table
 
--- how operands are written: none; a number of these limits; an address that is such a multiple and a number from 1 on; a register's name.
--- And the command of what they say. Or a word of a table of its own, and then that word's operands.
+-- how operands are written: none; a number of these limits; an address that is such a multiple and a number from 1 on; an address; a
+-- register's name. And the command of what they say. Or a word of a table of its own, and then that word's operands.
 pub data Operands : Type 0 where
   nothing : Command → Operands
   number : ℕ → ℕ → (ℕ → Command) → Operands
   place : ℕ → ℕ → (ℕ → ℕ → Command) → Operands
+  an_address : (ℕ → Command) → Operands
   a_register : (ℕ → Command) → Operands
   a_verb : (List Symbol → List (List ℕ) → Result Command DebugFault) → Operands
 
@@ -102,6 +110,7 @@ said_by symbols (nothing command) [] = Ok command
 said_by symbols (nothing command) (w ∷ rest) = Err B2
 said_by symbols (number low high make) words = made make (one_number low high words)
 said_by symbols (place multiple high make) words = made (λ p. make p.0 p.1) (address_and_number symbols multiple high words)
+said_by symbols (an_address make) words = made make (one_address symbols words)
 said_by symbols (a_register make) words = made make (one_register words)
 said_by symbols (a_verb read) words = read symbols words
 
@@ -137,6 +146,31 @@ abbrev pub may_of : List Symbol → List (List ℕ) → Result Command DebugFaul
 may_of symbols [] = Err B2
 may_of symbols (word ∷ operands) = command_among B2 symbols questions word operands
 
+-- what follows `stop`: a stop that is set, or that none is left
+abbrev pub settings : List Line
+settings =
+    line (codes "at") [] (an_address (λ address. Sets (Add (Address address))))
+    ∷ line (codes "trap") [] (nothing (Sets (Add Trap)))
+    ∷ line (codes "off") [] (nothing (Sets Clear))
+    ∷ []
+
+abbrev pub stop_of : List Symbol → List (List ℕ) → Result Command DebugFault
+stop_of symbols [] = Err B2
+stop_of symbols (word ∷ operands) = command_among B2 symbols settings word operands
+
+-- what may follow `help`: nothing, or a code
+abbrev pub explained : List Line
+explained =
+    line (codes "B1") [] (nothing (Shows (Code B1)))
+    ∷ line (codes "B2") [] (nothing (Shows (Code B2)))
+    ∷ line (codes "B3") [] (nothing (Shows (Code B3)))
+    ∷ line (codes "B4") [] (nothing (Shows (Code B4)))
+    ∷ []
+
+abbrev pub help_on : List Symbol → List (List ℕ) → Result Command DebugFault
+help_on symbols [] = Ok (Shows Help)
+help_on symbols (word ∷ operands) = command_among B2 symbols explained word operands
+
 abbrev pub commands : List Line
 commands =
     line (codes "step") (codes " N") (number 1 1000000 (λ n. Gives (Steps n)))
@@ -144,6 +178,9 @@ commands =
     ∷ line (codes "byte") (codes " B") (number 0 255 (λ n. Gives (Byte n)))
     ∷ line (codes "until") (codes " ADDR N") (place 1 1000000 (λ address n. Gives (Until (Address address) n)))
     ∷ line (codes "trap") (codes " N") (number 1 1000000 (λ n. Gives (Until Trap n)))
+    ∷ line (codes "go") [] (nothing (Gives Go))
+    ∷ line (codes "stop") (codes " at ADDR|trap|off") (a_verb stop_of)
+    ∷ line (codes "stops") [] (nothing (Shows Stops))
     ∷ line (codes "reg") (codes " R") (a_register (λ n. Shows (Register n)))
     ∷ line (codes "regs") [] (nothing (Shows Registers))
     ∷ line (codes "scr") [] (nothing (Shows SpecialRegisters))
@@ -154,7 +191,7 @@ commands =
     ∷ line (codes "why") [] (nothing (Shows Why))
     ∷ line (codes "reach") (codes " [members|dot]") (a_verb reach_of)
     ∷ line (codes "may") (codes " store|load|execute|learn ADDR LEN\nmay send|halt|system|timer\nmay hold TYPE") (a_verb may_of)
-    ∷ line (codes "help") [] (nothing (Shows Help))
+    ∷ line (codes "help") (codes " [B1|B2|B3|B4]") (a_verb help_on)
     ∷ line (codes "quit") [] (nothing Quit)
     ∷ []
 

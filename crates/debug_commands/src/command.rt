@@ -2,6 +2,8 @@
 ghost use Rattle.std.specs.Prelude.{◌≡◌};
 ghost use Rattle.debug_commands.specs.Command.{stop_address};
 
+use crate::fault::DebugFault;
+
 /// Where steps that a command gives stop.
 #[derive(Clone, Copy)]
 pub enum Stop {
@@ -34,6 +36,17 @@ pub enum Events {
     Byte(u8),
     /// Steps until the machine is where they stop, at most so many, 1 to 1000000.
     Until { stop: Stop, most: u64 },
+    /// Steps until the machine is at a stop of the session, the first of them wherever it is.
+    Go,
+}
+
+/// What is made of the stops of a session.
+#[derive(Clone, Copy)]
+pub enum SetStops {
+    /// One more, unless it is one of them already.
+    Add(Stop),
+    /// None is left.
+    Clear,
 }
 
 /// What is asked of the code that runs from here on.
@@ -86,8 +99,12 @@ pub enum View {
     ReachGraph,
     /// Whether the code that runs from here on may do something.
     May(May),
+    /// The stops of the session.
+    Stops,
     /// The commands with their operands.
     Help,
+    /// What a refusal's code means.
+    Code(DebugFault),
 }
 
 /// A command of a session. The ranges are those of a command that [`command_of`](crate::command_of) reads.
@@ -97,6 +114,8 @@ pub enum Command {
     Gives(Events),
     /// It shows, and changes nothing.
     Shows(View),
+    /// It sets the stops, and changes nothing of the machine.
+    Sets(SetStops),
     /// The end.
     Quit,
 }

@@ -44,6 +44,19 @@ pub(crate) fn one_number(operands: &[u8], low: u64, high: u64) -> Result<u64, De
     number(word, low, high).ok_or(DebugFault::B2)
 }
 
+/// The only operand, an address, or B2.
+pub(crate) fn one_address(symbols: &Symbols, operands: &[u8]) -> Result<u64, DebugFault>
+    ensures { result ≡ spec.one_address symbols.now (words_of operands.now) }
+{
+    let Some((word, rest)) = split_word(operands) else {
+        return Err(DebugFault::B2);
+    };
+    if split_word(rest).is_some() {
+        return Err(DebugFault::B2);
+    }
+    address_in(symbols, word).ok_or(DebugFault::B2)
+}
+
 /// The only two operands, an address that is a multiple of `multiple` and a number of 1 to `high`, or B2.
 pub(crate) fn address_and_number(
     symbols: &Symbols,

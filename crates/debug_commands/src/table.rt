@@ -4,9 +4,9 @@ ghost use Rattle.debug_commands.specs.Command.{words_of};
 ghost use Rattle.debug_commands.specs.Command as spec;
 ghost use Rattle.debug_commands.specs.Limits.{IsWithinLimits};
 
-use crate::command::{Command, Events, May, Stop, View};
+use crate::command::{Command, Events, May, SetStops, Stop, View};
 use crate::fault::DebugFault;
-use crate::operands::{address_and_number, one_number, one_register};
+use crate::operands::{address_and_number, one_address, one_number, one_register};
 use crate::words::split_word;
 use asm_lines::{Class, run_length};
 use symbols::Symbols;
@@ -39,6 +39,9 @@ macro_rules! commands {
             "byte" " B" (number 0 255) n => Command::Gives(Events::Byte(n as u8));
             "until" " ADDR N" (place 1 MOST_EVENTS) p => Command::Gives(Events::Until { stop: Stop::Address(p.0), most: p.1 });
             "trap" " N" (number 1 MOST_EVENTS) n => Command::Gives(Events::Until { stop: Stop::Trap, most: n });
+            "go" "" (nothing) n => Command::Gives(Events::Go);
+            "stop" " at ADDR|trap|off" (verb stop_of) n => ();
+            "stops" "" (nothing) n => Command::Shows(View::Stops);
             "reg" " R" (register) n => Command::Shows(View::Register(n));
             "regs" "" (nothing) n => Command::Shows(View::Registers);
             "scr" "" (nothing) n => Command::Shows(View::SpecialRegisters);
@@ -49,13 +52,13 @@ macro_rules! commands {
             "why" "" (nothing) n => Command::Shows(View::Why);
             "reach" " [members|dot]" (verb reach_of) n => ();
             "may" " store|load|execute|learn ADDR LEN\nmay send|halt|system|timer\nmay hold TYPE" (verb may_of) n => ();
-            "help" "" (nothing) n => Command::Shows(View::Help);
+            "help" " [B1|B2|B3|B4]" (verb help_on) n => ();
             "quit" "" (nothing) n => Command::Quit;
         }
     };
 }
 
-// What may follow `reach`, and `may`: a word, and then operands as a command has them.
+// What may follow `reach`, `may`, `stop` and `help`: a word, and then operands as a command has them.
 macro_rules! reaches {
     ($reading:ident $($what:ident)*) => {
         $reading! {
@@ -83,6 +86,29 @@ macro_rules! questions {
     };
 }
 
+macro_rules! settings {
+    ($reading:ident $($what:ident)*) => {
+        $reading! {
+            $($what)*;
+            "at" "" (address) a => Command::Sets(SetStops::Add(Stop::Address(a)));
+            "trap" "" (nothing) n => Command::Sets(SetStops::Add(Stop::Trap));
+            "off" "" (nothing) n => Command::Sets(SetStops::Clear);
+        }
+    };
+}
+
+macro_rules! explained {
+    ($reading:ident $($what:ident)*) => {
+        $reading! {
+            $($what)*;
+            "B1" "" (nothing) n => Command::Shows(View::Code(DebugFault::B1));
+            "B2" "" (nothing) n => Command::Shows(View::Code(DebugFault::B2));
+            "B3" "" (nothing) n => Command::Shows(View::Code(DebugFault::B3));
+            "B4" "" (nothing) n => Command::Shows(View::Code(DebugFault::B4));
+        }
+    };
+}
+
 // The lines of all commands, as `help` shows them.
 macro_rules! help_of {
     (; $($name:literal $usage:literal $form:tt $said:ident => $made:expr;)*) => { concat!($($name, $usage, "\n"),*) };
@@ -96,6 +122,10 @@ macro_rules! made_of {
     }};
     ((place $multiple:literal $high:tt) $said:ident $made:expr, $symbols:ident $operands:ident) => {{
         let $said = address_and_number($symbols, $operands, $multiple, $high)?;
+        Ok($made)
+    }};
+    ((address) $said:ident $made:expr, $symbols:ident $operands:ident) => {{
+        let $said = one_address($symbols, $operands)?;
         Ok($made)
     }};
     ((register) $said:ident $made:expr, $symbols:ident $operands:ident) => {{
@@ -150,6 +180,28 @@ fn may_of(symbols: &Symbols, operands: &[u8]) -> Result<Command, DebugFault>
         return Err(DebugFault::B2);
     };
     questions!(named word symbols rest B2)
+}
+
+/// The command of what follows `stop`, over a table of labels, or B2.
+fn stop_of(symbols: &Symbols, operands: &[u8]) -> Result<Command, DebugFault>
+    ensures value { result ≡ spec.stop_of symbols.now (words_of operands.now) }
+    ensures limits { IfOk result IsWithinLimits }
+{
+    let Some((word, rest)) = split_word(operands) else {
+        return Err(DebugFault::B2);
+    };
+    settings!(named word symbols rest B2)
+}
+
+/// The command of what follows `help`, over a table of labels, or B2.
+fn help_on(symbols: &Symbols, operands: &[u8]) -> Result<Command, DebugFault>
+    ensures value { result ≡ spec.help_on symbols.now (words_of operands.now) }
+    ensures limits { IfOk result IsWithinLimits }
+{
+    let Some((word, rest)) = split_word(operands) else {
+        return Ok(Command::Shows(View::Help));
+    };
+    explained!(named word symbols rest B2)
 }
 
 /// The command of a name and operands, over a table of labels: B1 where no command has that name, and else B2 where the operands are

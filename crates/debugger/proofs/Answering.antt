@@ -1,12 +1,9 @@
 -- Replies about the members of a state.
-use Rattle.std.proofs.Common.{◌≡◌, ℕ, List, Option, Result, ◌++◌, ap, ◌∙◌, subst, length}
+use Rattle.std.proofs.Common.{◌≡◌, ℕ, List, Option, Result, ◌++◌, ap, ◌∙◌, subst}
 use Rattle.std.specs.Prelude.{OnOk}
 use Rattle.symbols.specs.Symbols.{Symbol}
 use Rattle.debug_commands.specs.declared.command.May.{May}
-use Rattle.cap_bounds.specs.CapValue.{CapValue}
-use Rattle.std.proofs.lemmas.List.{append_assoc, length-map}
-use Rattle.reached.specs.declared.member.Member.{Member}
-use Rattle.reached.specs.Order.{Found, seen_member, seen_members}
+use Rattle.reached.specs.Order.{Found}
 use Rattle.reach_texts.specs.Asked.{first_that}
 use Rattle.reach_texts.specs.Text.{answer_text}
 
@@ -21,27 +18,3 @@ pub answered_of : {X E : Type 0} (symbols : List Symbol) (may : May) (xs ys zs :
 answered_of symbols may xs ys zs answer r text old asked same is told =
     subst (λ a. OnOk r (text ≡ old ++ answer_text symbols zs a)) (is ∙ ap (first_that may) asked)
     (subst (λ ms. OnOk r (text ≡ old ++ answer_text symbols ms answer)) same told)
-
-pub seen_length : {A : Type 0} (value : A → CapValue) (ms : List (Member A)) → length (seen_members value ms) ≡ length ms
-seen_length value ms = length-map ms (seen_member value)
-
--- six parts after a text, and the six as one
-after_two : (o a b : List ℕ) → (o ++ a) ++ b ≡ o ++ (a ++ b)
-after_two o a b = append_assoc o a b
-
-after_three : (o a b c : List ℕ) → ((o ++ a) ++ b) ++ c ≡ o ++ ((a ++ b) ++ c)
-after_three o a b c = ap (λ t. t ++ c) (after_two o a b) ∙ append_assoc o (a ++ b) c
-
-after_four : (o a b c d : List ℕ) → (((o ++ a) ++ b) ++ c) ++ d ≡ o ++ (((a ++ b) ++ c) ++ d)
-after_four o a b c d = ap (λ t. t ++ d) (after_three o a b c) ∙ append_assoc o ((a ++ b) ++ c) d
-
-after_five : (o a b c d e : List ℕ) → ((((o ++ a) ++ b) ++ c) ++ d) ++ e ≡ o ++ ((((a ++ b) ++ c) ++ d) ++ e)
-after_five o a b c d e = ap (λ t. t ++ e) (after_four o a b c d) ∙ append_assoc o (((a ++ b) ++ c) ++ d) e
-
-after_six : (o a b c d e f : List ℕ)
-    → (((((o ++ a) ++ b) ++ c) ++ d) ++ e) ++ f ≡ o ++ (((((a ++ b) ++ c) ++ d) ++ e) ++ f)
-after_six o a b c d e f = ap (λ t. t ++ f) (after_five o a b c d e) ∙ append_assoc o ((((a ++ b) ++ c) ++ d) ++ e) f
-
-pub told_after : {X E : Type 0} (r : Result X E) (text o a b c d e f : List ℕ)
-    → OnOk r (text ≡ (((((o ++ a) ++ b) ++ c) ++ d) ++ e) ++ f) → OnOk r (text ≡ o ++ (((((a ++ b) ++ c) ++ d) ++ e) ++ f))
-told_after r text o a b c d e f told = subst (λ t. OnOk r (text ≡ t)) (after_six o a b c d e f) told

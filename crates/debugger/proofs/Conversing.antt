@@ -7,16 +7,14 @@ use Rattle.std.proofs.lemmas.Bool.Decides.{nat_tests}
 use Rattle.std.proofs.lemmas.List.{length-take-le}
 use Rattle.std.proofs.lemmas.List.Splits.{length-slice_split}
 use Rattle.std.specs.List.{slice_split, join_by}
-use Rattle.hart.specs.State.{State}
 use Rattle.symbols.specs.Symbols.{Symbol}
-use Rattle.machine.specs.Run.{run_after}
 use Rattle.debug_commands.specs.declared.fault.DebugFault.{DebugFault}
 use Rattle.debug_commands.specs.declared.fault.DebugFault.TheVariants.{B2}
 use Rattle.debug_commands.specs.declared.command.Command.{Command}
-use Rattle.debug_commands.specs.declared.command.Command.TheVariants.{Gives, Shows, Quit}
+use Rattle.debug_commands.specs.declared.command.Command.TheVariants.{Gives, Shows, Sets, Quit}
 use Rattle.debug_commands.specs.Command.{command_of}
-use Rattle.debugger.specs.SessionState.{SessionState, session_state}
-use Rattle.debugger.specs.Reply.{answer_to, events_of, command_in, state_by, state_after}
+use Rattle.debugger.specs.SessionState.{SessionState}
+use Rattle.debugger.specs.Reply.{answer_to, command_in, session_after, state_by, state_after}
 use Rattle.debugger.specs.Conversation.{reply_to, is_end, ends_by, is_last, replies_to, state_after_lines, unread_lines, conversation}
 use Rattle.debugger.specs.Conversation.{state_after_conversation, unread}
 use Rattle.debugger.specs.Talk.{is_feed, fed, replies, state_after_all, goes_on}
@@ -41,17 +39,18 @@ kept_command symbols line = kept_at symbols line (nat_lt 255 (length line)) refl
 
 -- ---- the line that ends a conversation
 
-last_command : (c : Command) (s : SessionState) → is_end (answer_to c s) ≡ true → run_after (events_of c s.machine) s.machine ≡ s.machine
+last_command : (c : Command) (s : SessionState) → is_end (answer_to c s) ≡ true → session_after c s ≡ s
 last_command (Gives events) s h = absurd (false≢true h)
 last_command (Shows what) s h = refl
+last_command (Sets set) s h = absurd (false≢true h)
 last_command Quit s h = refl
 
-last_by : (r : Result Command DebugFault) (s : SessionState) → ends_by r s ≡ true → state_by r s.machine ≡ s.machine
+last_by : (r : Result Command DebugFault) (s : SessionState) → ends_by r s ≡ true → state_by r s ≡ s
 last_by (Ok c) s h = last_command c s h
 last_by (Err fault) s h = absurd (false≢true h)
 
 pub same_after_last : (line : List ℕ) (s : SessionState) → is_last line s ≡ true → state_after line s ≡ s
-same_after_last line s h = ap (λ machine. session_state machine s.symbols) (last_by (command_in line s) s h)
+same_after_last line s h = last_by (command_in line s) s h
 
 -- ---- lines that go on
 

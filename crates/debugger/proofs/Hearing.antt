@@ -14,7 +14,7 @@ use Rattle.debugger.specs.declared.fault.TalkFault.{TalkFault}
 use Rattle.debugger.specs.declared.fault.TalkFault.TheVariants.{Read, Write, Memory}
 use Rattle.debug_commands.specs.Command.{command_of}
 use Rattle.debugger.specs.Reply.{state_after, allowed, state_by}
-use Rattle.debugger.specs.SessionState.{SessionState, session_state}
+use Rattle.debugger.specs.SessionState.{SessionState}
 use Rattle.debugger.specs.Standing.{Standing, standing_with}
 use Rattle.debugger.specs.Conversation.{reply_by, ends_by, reply_to, is_last, conversation, state_after_conversation, unread}
 use Rattle.debugger.specs.Talk.{most_heard, heard, is_feed, fed, replies, state_after_all, Ends, IsTold, IsRead, IsCutInLine, LeavesOff}
@@ -36,7 +36,7 @@ module _ (line part : List ℕ) (kept : line ≡ take 256 part) (s : SessionStat
   same_last = ap (λ r. ends_by (allowed r s.machine) s) command
 
   pub same_state : state_after line s ≡ state_after part s
-  same_state = ap (λ r. session_state (state_by (allowed r s.machine) s.machine) s.symbols) command
+  same_state = ap (λ r. state_by (allowed r s.machine) s) command
 
 -- ---- the beginning
 

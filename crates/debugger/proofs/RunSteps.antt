@@ -1,8 +1,8 @@
 -- A run goes on by one event.
 use Rattle.std.proofs.Common.{◌≡◌, ℕ, zero, suc, ◌+◌, ◌-◌, ◌<◌, ◌≤◌, Bool, true, false, List, []}
-use Rattle.std.proofs.Common.{◌∷◌, ◌++◌, refl, sym, ap, subst, ◌∙◌, append_assoc}
+use Rattle.std.proofs.Common.{◌∷◌, ◌++◌, get_or, refl, sym, ap, subst, ◌∙◌, append_assoc}
 use Rattle.std.proofs.Common.{arith}
-use Rattle.std.specs.Prelude.{Option, option_to_list, replicate, length, not, ◌==◌, ◌&&◌, ◌||◌, nat_lt, is_some}
+use Rattle.std.specs.Prelude.{Option, None, option_to_list, replicate, length, not, ◌==◌, ◌&&◌, ◌||◌, nat_lt, if◌then◌else◌}
 use Rattle.std.proofs.lemmas.Bool.Decides.{nat_tests}
 use Rattle.hart.specs.declared.event.Event.{Event}
 use Rattle.hart.specs.declared.event.Event.TheVariants.{Step}
@@ -13,7 +13,7 @@ use Rattle.machine.specs.Run.{run_after, run_sent}
 use Rattle.debug_commands.specs.declared.command.Stop.{Stop}
 use Rattle.debug_commands.specs.declared.command.Stop.TheVariants.{Address, Trap}
 use Rattle.debug_commands.specs.Command.{stop_address}
-use Rattle.debugger.specs.Reply.{is_stop, steps_until}
+use Rattle.debugger.specs.Stepping.{is_any_stop, is_at_end, is_stop, steps_while}
 use Rattle.debugger.specs.Lines.{goes_on}
 
 module _ (es : List Event) (e : Event) (rest : List Event) (first : es ≡ e ∷ rest) (s n : State) (step : n ≡ after e s) where
@@ -65,29 +65,41 @@ bytes_many (suc n) (suc k) s few =
 some_left : (n : ℕ) → nat_lt 0 (suc n) ≡ true
 some_left n = grind (arith, nat_tests)
 
-both : (p q : Bool) → p && not q ≡ true → q ≡ false
-both true true h = absurd (cc)
-both true false h = refl
-both false true h = absurd (cc)
-both false false h = refl
+pub if_not : {A : Type 0} (b : Bool) (x y : A) → b ≡ false → (if b then x else y) ≡ y
+if_not true x y h = absurd (cc)
+if_not false x y h = refl
 
-not_both : (q : Bool) → not q ≡ false → q ≡ true
-not_both true h = refl
-not_both false h = absurd (cc)
+neither : (l e p : Bool) → l && (not e && not p) ≡ true → (e ≡ false) × (p ≡ false)
+neither true false false h = (refl, refl)
+neither true false true h = absurd (cc)
+neither true true p h = absurd (cc)
+neither false e p h = absurd (cc)
+
+either : (l e p : Bool) (x : List Event) → l ≡ true → l && (not e && not p) ≡ false → (if e then [] else (if p then [] else x)) ≡ []
+either true true p x is h = refl
+either true false true x is h = refl
+either true false false x is h = absurd (cc)
+either false e p x is h = absurd (cc)
+
+-- how many bytes may still be sent after a step
+abbrev pub room_after : ℕ → State → ℕ
+room_after room s = room - length (option_to_list (sent Step s))
 
 -- one step more, or none
-pub one_step : (stop : Stop) (n : ℕ) (s m : State) → m ≡ after Step s → goes_on stop n s ≡ true
-    → steps_until stop n s ≡ Step ∷ steps_until stop (n - 1) m
-one_step stop zero s m e h = absurd (cc)
-one_step stop (suc n) s m e h =
-    let other : (is_stop stop s || is_some s.devices.halted) ≡ false = both (nat_lt 0 (suc n)) _ h in
-    rw (other, less_one n, e) refl
+pub one_step : (first later : List Stop) (n room : ℕ) (s m : State) → m ≡ after Step s → goes_on first n room s ≡ true
+    → steps_while first later None n room s ≡ Step ∷ steps_while later later None (n - 1) (room_after room s) m
+one_step first later zero room s m e h = absurd (cc)
+one_step first later (suc n) room s m e h =
+    let both = neither (nat_lt 0 (suc n)) (is_at_end None room s) (is_any_stop first s) h in
+    if_not (is_at_end None room s) [] _ both.0 ∙ if_not (is_any_stop first s) [] _ both.1
+    ∙ ap (λ t. Step ∷ steps_while later later None n (room_after room s) t) (sym e)
+    ∙ ap (λ k. Step ∷ steps_while later later None k (room_after room s) m) (sym (less_one n))
 
-pub no_step : (stop : Stop) (n : ℕ) (s : State) → goes_on stop n s ≡ false → steps_until stop n s ≡ []
-no_step stop zero s h = refl
-no_step stop (suc n) s h =
-    let other : (is_stop stop s || is_some s.devices.halted) ≡ true = not_both _ (rw (some_left n) at h) in
-    rw other refl
+pub no_step : (first later : List Stop) (n room : ℕ) (s : State) → goes_on first n room s ≡ false
+    → steps_while first later None n room s ≡ []
+no_step first later zero room s h = refl
+no_step first later (suc n) room s h =
+    either (nat_lt 0 (suc n)) (is_at_end None room s) (is_any_stop first s) _ (some_left n) h
 
 -- ---- steps of a run towards a stop
 
@@ -111,45 +123,91 @@ by_count (suc k) rest = let less = by_count k rest in omega (arith, less)
 elsewhere-not : (a b : ℕ) → (a ≡ b → ⊥) → a == b ≡ false
 elsewhere-not a b other = grind (arith, nat_tests, other)
 
-goes-on-by : (stop : Stop) (s : State) → GoesBy (stop_address stop) s → (is_stop stop s || is_some s.devices.halted) ≡ false
-goes-on-by (Address address) s by = rw (elsewhere-not (pc_of s) address by.elsewhere, by.running) refl
-goes-on-by Trap s by = rw (by.plain, by.running) refl
+or_false : (b : Bool) → (b || false) ≡ b
+or_false true = refl
+or_false false = refl
 
-steps_by : (stop : Stop) (n k : ℕ) (s : State) → k ≤ n
-    → ((j : ℕ) → j < k → GoesBy (stop_address stop) (run_after (replicate j Step) s))
-    → steps_until stop n s ≡ replicate k Step ++ steps_until stop (n - k) (run_after (replicate k Step) s)
-steps_by stop n zero s few by =
-    let all : n - 0 ≡ n = omega arith in
-    ap (λ m. steps_until stop m s) (sym all)
-steps_by stop zero (suc k) s few by = absurd (too_many k few)
-steps_by stop (suc n) (suc k) s few by =
-    let less : suc n - suc k ≡ n - k = omega arith in
-    rw (goes-on-by stop s (by 0 (omega arith))) (ap (λ steps. Step ∷ steps)
-    (steps_by stop n k (after Step s) (omega arith) (λ j below. by (suc j) (omega arith))
-    ∙ ap (λ m. replicate k Step ++ steps_until stop m (run_after (replicate k Step) (after Step s))) (sym less)))
+pub goes-on-by : (stop : Stop) (s : State) → GoesBy (stop_address stop) s → is_any_stop (stop ∷ []) s ≡ false
+goes-on-by (Address address) s by = or_false (is_stop (Address address) s) ∙ elsewhere-not (pc_of s) address by.elsewhere
+goes-on-by Trap s by = or_false (is_stop Trap s) ∙ by.plain
 
-module _ (stop : Stop) (at : Option ℕ) (is : at ≡ stop_address stop) (n k : ℕ) (s m : State) (few : k ≤ n)
-    (state : m ≡ run_after (replicate k Step) s) (by : (j : ℕ) → j < k → GoesBy at (run_after (replicate j Step) s)) where
-  by-stop : (j : ℕ) → j < k → GoesBy (stop_address stop) (run_after (replicate j Step) s)
-  by-stop j below = subst (λ a. GoesBy a (run_after (replicate j Step) s)) is (by j below)
+pub passes-none : (stops : List Stop) → length stops < 1 → (s : State) → GoesBy None s → is_any_stop stops s ≡ false
+passes-none [] few s by = refl
+passes-none (stop ∷ stops) few s by = absurd (omega (arith, few))
 
-  towards : steps_until stop n s ≡ replicate k Step ++ steps_until stop (n - k) m
-  towards = steps_by stop n k s few by-stop ∙ ap (λ t. replicate k Step ++ steps_until stop (n - k) t) (sym state)
+pub passes-one : (d : Stop) (stops : List Stop) → 1 ≤ length stops → length stops < 2 → (at : Option ℕ)
+    → at ≡ stop_address (get_or stops 0 d)
+    → (s : State) → GoesBy at s → is_any_stop stops s ≡ false
+passes-one d [] some few at is s by = absurd (omega (arith, some))
+passes-one d (stop ∷ []) some few at is s by = goes-on-by stop s (subst (λ a. GoesBy a s) is by)
+passes-one d (stop ∷ other ∷ stops) some few at is s by = absurd (omega (arith, few))
 
-  pub state_towards : run_after (steps_until stop (n - k) m) m ≡ run_after (steps_until stop n s) s
-  state_towards =
-      ap (run_after (steps_until stop (n - k) m)) state ∙ sym (by_state k (steps_until stop (n - k) m) s)
-      ∙ ap (λ steps. run_after steps s) (sym towards)
+pub positive : (n : ℕ) → (n ≡ 0 → ⊥) → 0 < n
+positive zero other = absurd (other refl)
+positive (suc n) other = omega arith
 
-  pub bytes_towards : run_sent (replicate k Step) s ≡ [] → run_sent (steps_until stop (n - k) m) m ≡ run_sent (steps_until stop n s) s
-  bytes_towards silent =
-      ap (run_sent (steps_until stop (n - k) m)) state
-      ∙ ap (λ bytes. bytes ++ run_sent (steps_until stop (n - k) m) (run_after (replicate k Step) s)) (sym silent)
-      ∙ sym (by_bytes k (steps_until stop (n - k) m) s) ∙ ap (λ steps. run_sent steps s) (sym towards)
+not-at-end : (room : ℕ) (s : State) → 0 < room → s.devices.halted ≡ None → is_at_end None room s ≡ false
+not-at-end zero s some running = absurd (omega (arith, some))
+not-at-end (suc room) s some running = rw (running, not_zero room) refl
+  where
+    not_zero : (n : ℕ) → (suc n == 0) ≡ false
+    not_zero n = grind (arith, nat_tests)
 
-  pub count_towards : k + length (steps_until stop (n - k) m) ≡ length (steps_until stop n s)
-  count_towards = sym (by_count k (steps_until stop (n - k) m)) ∙ ap length (sym towards)
+first_nil : (xs ys : List ℕ) → xs ++ ys ≡ [] → xs ≡ []
+first_nil [] ys h = refl
+first_nil (x ∷ xs) ys h = absurd (cc)
 
-pub some_step : (stop : Stop) (n : ℕ) (s : State) → goes_on stop n s ≡ true → 0 < n
-some_step stop zero s h = absurd (cc)
-some_step stop (suc n) s h = omega arith
+second_nil : (xs ys : List ℕ) → xs ++ ys ≡ [] → ys ≡ []
+second_nil [] ys h = h
+second_nil (x ∷ xs) ys h = absurd (cc)
+
+same_room : (room : ℕ) (s : State) → option_to_list (sent Step s) ≡ [] → room_after room s ≡ room
+same_room room s silent =
+    let none : room - 0 ≡ room = omega arith in
+    ap (λ (bytes : List ℕ). room - length bytes) silent ∙ none
+
+module _ (stops : List Stop) (at : Option ℕ) (by : (s : State) → GoesBy at s → is_any_stop stops s ≡ false) (room : ℕ) (some : 0 < room)
+  where
+    steps_by : (n k : ℕ) (s : State) → k ≤ n → run_sent (replicate k Step) s ≡ []
+        → ((j : ℕ) → j < k → GoesBy at (run_after (replicate j Step) s))
+        → steps_while stops stops None n room s
+        ≡ replicate k Step ++ steps_while stops stops None (n - k) room (run_after (replicate k Step) s)
+    steps_by n zero s few silent goes =
+        let all : n - 0 ≡ n = omega arith in
+        ap (λ m. steps_while stops stops None m room s) (sym all)
+    steps_by zero (suc k) s few silent goes = absurd (too_many k few)
+    steps_by (suc n) (suc k) s few silent goes =
+        let less : suc n - suc k ≡ n - k = omega arith in
+        let now = goes 0 (omega arith) in
+        let none = first_nil (option_to_list (sent Step s)) (run_sent (replicate k Step) (after Step s)) silent in
+        let later = second_nil (option_to_list (sent Step s)) (run_sent (replicate k Step) (after Step s)) silent in
+        if_not (is_at_end None room s) [] _ (not-at-end room s some now.running) ∙ if_not (is_any_stop stops s) [] _ (by s now)
+        ∙ ap (λ r. Step ∷ steps_while stops stops None n r (after Step s)) (same_room room s none)
+        ∙ ap (λ steps. Step ∷ steps)
+        (steps_by n k (after Step s) (omega arith) later (λ j below. goes (suc j) (omega arith))
+        ∙ ap (λ m. replicate k Step ++ steps_while stops stops None m room (run_after (replicate k Step) (after Step s))) (sym less))
+
+    module _ (n k : ℕ) (s m : State) (few : k ≤ n) (state : m ≡ run_after (replicate k Step) s)
+        (silent : run_sent (replicate k Step) s ≡ []) (goes : (j : ℕ) → j < k → GoesBy at (run_after (replicate j Step) s)) where
+      towards : steps_while stops stops None n room s ≡ replicate k Step ++ steps_while stops stops None (n - k) room m
+      towards =
+          steps_by n k s few silent goes ∙ ap (λ t. replicate k Step ++ steps_while stops stops None (n - k) room t) (sym state)
+
+      pub state_towards : run_after (steps_while stops stops None (n - k) room m) m ≡ run_after (steps_while stops stops None n room s) s
+      state_towards =
+          ap (run_after (steps_while stops stops None (n - k) room m)) state
+          ∙ sym (by_state k (steps_while stops stops None (n - k) room m) s)
+          ∙ ap (λ steps. run_after steps s) (sym towards)
+
+      pub bytes_towards : run_sent (steps_while stops stops None (n - k) room m) m ≡ run_sent (steps_while stops stops None n room s) s
+      bytes_towards =
+          ap (run_sent (steps_while stops stops None (n - k) room m)) state
+          ∙ ap (λ bytes. bytes ++ run_sent (steps_while stops stops None (n - k) room m) (run_after (replicate k Step) s)) (sym silent)
+          ∙ sym (by_bytes k (steps_while stops stops None (n - k) room m) s) ∙ ap (λ steps. run_sent steps s) (sym towards)
+
+      pub count_towards : k + length (steps_while stops stops None (n - k) room m) ≡ length (steps_while stops stops None n room s)
+      count_towards = sym (by_count k (steps_while stops stops None (n - k) room m)) ∙ ap length (sym towards)
+
+pub some_step : (stops : List Stop) (n room : ℕ) (s : State) → goes_on stops n room s ≡ true → 0 < n
+some_step stops zero room s h = absurd (cc)
+some_step stops (suc n) room s h = omega arith

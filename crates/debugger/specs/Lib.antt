@@ -1,10 +1,12 @@
 -- What to read
 pub mod SessionState
+pub mod Stepping
 pub mod Reaching
 pub mod Reply
 pub mod Conversation
 pub mod Answers
 pub mod Talk
+pub mod OnSchedule
 -- Inner words
 pub mod Lines
 pub mod Standing

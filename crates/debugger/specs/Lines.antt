@@ -1,12 +1,12 @@
 -- One line of each kind of register, by its number.
-use Rattle.std.specs.Prelude.{ℕ, Bool, true, not, ◌&&◌, ◌||◌, nat_lt, is_some, List, [], ◌++◌, Option, Some, None, codes, decimal}
+use Rattle.std.specs.Prelude.{ℕ, Bool, true, not, ◌&&◌, nat_lt, List, [], ◌++◌, Option, Some, None, codes, decimal}
 use Rattle.cap_bounds.specs.CapValue.{CapValue}
 use Rattle.special_regs.specs.declared.csrs.Csrs.{Csrs}
 use Rattle.special_regs.specs.Scrs.{Scrs, scr_value}
 use Rattle.special_regs.specs.CsrValues.{csr_value}
 use Rattle.hart.specs.State.{State, pc_of}
 use Rattle.debug_commands.specs.declared.command.Events.{Events}
-use Rattle.debug_commands.specs.declared.command.Events.TheVariants.{Steps, Ticks, Byte, Until}
+use Rattle.debug_commands.specs.declared.command.Events.TheVariants.{Steps, Ticks, Byte, Until, Go}
 use Rattle.debug_commands.specs.declared.command.Stop.{Stop}
 use Rattle.registers.specs.Registers.{register}
 use Rattle.asm_names.specs.Registers.{register_name}
@@ -14,7 +14,8 @@ use Rattle.asm_names.specs.SpecialNames.{csr_name, scr_name}
 use Rattle.disassembler.specs.Hex.{hex_of}
 use Rattle.disassembler.specs.Shown.{name_or}
 use Rattle.effect_texts.specs.ValueText.{value_line}
-use Rattle.debugger.specs.Reply.{shown_sent, shown_end, is_stop}
+use Rattle.debugger.specs.Stepping.{is_any_stop, is_at_end, most_sent}
+use Rattle.debugger.specs.Reply.{shown_sent, shown_end}
 
 abbrev pub register_line : State → ℕ → List ℕ
 register_line s n = value_line (name_or [] (register_name true n)) (register s.registers n)
@@ -45,13 +46,14 @@ given_part count bytes = codes "events " ++ decimal count ++ codes " out " ++ sh
 abbrev pub place_part : State → List ℕ
 place_part s = codes " pc " ++ hex_of 16 (pc_of s) ++ codes " " ++ shown_end s.devices.halted ++ codes "\n"
 
--- whether `until` or `trap` gives one more step
-abbrev pub goes_on : Stop → ℕ → State → Bool
-goes_on stop left s = nat_lt 0 left && not (is_stop stop s || is_some s.devices.halted)
+-- whether one more step is given without a schedule
+abbrev pub goes_on : List Stop → ℕ → ℕ → State → Bool
+goes_on stops left room s = nat_lt 0 left && (not (is_at_end None room s) && not (is_any_stop stops s))
 
--- the most events that a command gives
+-- the most bytes that a command's events send
 abbrev pub most_of : Events → ℕ
 most_of (Steps n) = n
 most_of (Ticks n) = n
 most_of (Byte b) = 1
 most_of (Until stop n) = n
+most_of Go = most_sent

@@ -1,7 +1,7 @@
 -- The replies of a session, and the state after a command, as functions of the state and the command.
-use Rattle.std.specs.Prelude.{ℕ, zero, suc, ◌+◌, ◌*◌, Bool, true, false, not, ◌||◌, ◌==◌, if◌then◌else◌, List, [], ◌∷◌, ◌++◌, length, take}
-use Rattle.std.specs.Prelude.{drop, replicate, Option, Some, None, is_some, Result, Ok, Err, codes, decimal}
-use Rattle.std.specs.List.{flat_map}
+use Rattle.std.specs.Prelude.{ℕ, zero, suc, ◌+◌, ◌*◌, Bool, true, false, not, ◌==◌, if◌then◌else◌, List, [], ◌∷◌, ◌++◌, length, take}
+use Rattle.std.specs.Prelude.{drop, replicate, Option, Some, None, option_map, Result, Ok, Err, codes, decimal}
+use Rattle.std.specs.List.{flat_map, list_any}
 use Rattle.base.specs.Ram.{ram_base}
 use Rattle.cap_bounds.specs.CapValue.{CapValue, value_of, value_flag}
 use Rattle.tagged_memory.specs.Memory.{Memory, is_in_ram, bytes_at, number_at, word_at, has_tag, tagged_between}
@@ -12,54 +12,53 @@ use Rattle.hart.specs.declared.event.Event.{Event}
 use Rattle.hart.specs.declared.event.Event.TheVariants as event
 use Rattle.hart.specs.State.{State, pc_of}
 use Rattle.registers.specs.Registers.{register}
-use Rattle.hart.specs.Event.{after}
-use Rattle.hart.specs.Outcome.{step_outcome}
-use Rattle.hart.specs.Outcome.{is_trap}
 use Rattle.machine.specs.Run.{run_after, run_sent}
 use Rattle.explain.specs.Text.{why_text}
 use Rattle.asm_names.specs.Registers.{capability_names, register_name}
 use Rattle.asm_names.specs.SpecialNames.{csr_name, scr_name}
 use Rattle.debug_commands.specs.declared.fault.DebugFault.{DebugFault}
-use Rattle.debug_commands.specs.declared.fault.DebugFault.TheVariants.{B3}
+use Rattle.debug_commands.specs.declared.fault.DebugFault.TheVariants.{B1, B2, B3, B4}
 use Rattle.disassembler.specs.Hex.{hex_of}
 use Rattle.disassembler.specs.Shown.{name_or, word_line}
 use Rattle.effect_texts.specs.ValueText.{value_line}
 use Rattle.debug_commands.specs.declared.command.Stop.{Stop}
 use Rattle.debug_commands.specs.declared.command.Stop.TheVariants.{Address, Trap}
 use Rattle.debug_commands.specs.declared.command.Command.{Command}
-use Rattle.debug_commands.specs.declared.command.Command.TheVariants.{Gives, Shows, Quit}
+use Rattle.debug_commands.specs.declared.command.Command.TheVariants.{Gives, Shows, Sets, Quit}
 use Rattle.debug_commands.specs.declared.command.Events.{Events}
-use Rattle.debug_commands.specs.declared.command.Events.TheVariants.{Steps, Ticks, Byte, Until}
+use Rattle.debug_commands.specs.declared.command.Events.TheVariants.{Steps, Ticks, Byte, Until, Go}
+use Rattle.debug_commands.specs.declared.command.SetStops.{SetStops}
+use Rattle.debug_commands.specs.declared.command.SetStops.TheVariants.{Add, Clear}
 use Rattle.debug_commands.specs.declared.command.View.{View}
 use Rattle.debug_commands.specs.declared.command.View.TheVariants as view
 use Rattle.debug_commands.specs.Command.{help_text, command_of}
 use Rattle.symbols.specs.Symbols.{Symbol}
-use Rattle.debugger.specs.SessionState.{SessionState}
+use Rattle.debugger.specs.SessionState.{SessionState, ReplayState}
+use Rattle.debugger.specs.Stepping.{counted_steps, most_gone, most_sent, replayed, steps_while}
 use Rattle.debugger.specs.Reaching.{graph_reply, may_reply, members_reply, reach_reply}
 
 -- ---- commands that give events
 
--- whether a state is one before which a command stops
-abbrev pub is_stop : Stop → State → Bool
-is_stop (Address address) s = pc_of s == address
-is_stop Trap s = is_trap (step_outcome s)
+-- the events of a command, with the schedule and the stops of its session
+unfoldable pub given : Events → Option ReplayState → List Stop → State → List Event
+given (Steps n) replay stops s = counted_steps replay n s
+given (Ticks n) replay stops s = replicate n event.Tick
+given (Byte b) replay stops s = event.Byte b ∷ []
+given (Until stop n) replay stops s = steps_while (stop ∷ []) (stop ∷ []) replay n n s
+given Go replay stops s = steps_while [] stops replay most_gone most_sent s
 
--- the steps of `until` and of `trap`: given while they don't stop, the machine is not halted, and fewer than the most were
-abbrev pub steps_until : Stop → ℕ → State → List Event
-steps_until stop zero s = []
-steps_until stop (suc n) s =
-    if is_stop stop s || is_some s.devices.halted then [] else (event.Step ∷ steps_until stop n (after event.Step s))
+abbrev pub given_in : Events → SessionState → List Event
+given_in events s = given events s.replay s.stops s.machine
 
-unfoldable pub given : Events → State → List Event
-given (Steps n) s = replicate n event.Step
-given (Ticks n) s = replicate n event.Tick
-given (Byte b) s = event.Byte b ∷ []
-given (Until stop n) s = steps_until stop n s
+-- whether the events are those of the schedule, if there is one; those of `tick` and `byte` come beside it
+abbrev pub are_scheduled : Events → Bool
+are_scheduled (Ticks n) = false
+are_scheduled (Byte b) = false
+are_scheduled other = true
 
--- the events that a command gives; a command that only shows gives none
-abbrev pub events_of : Command → State → List Event
-events_of (Gives events) s = given events s
-events_of other s = []
+-- where the schedule stands after a command's events
+unfoldable pub replay_after : Events → List Event → Option ReplayState → Option ReplayState
+replay_after events given replay = if are_scheduled events then option_map (replayed given) replay else replay
 
 -- the bytes that were sent, two digits each, or `-` for none
 abbrev pub shown_sent : List ℕ → List ℕ
@@ -124,21 +123,50 @@ abbrev pub is_outside : Command → State → Bool
 is_outside (Shows what) s = is_view_outside what s
 is_outside other s = false
 
--- what is shown, with the labels of a table
-unfoldable pub view_text : List Symbol → View → State → List ℕ
-view_text symbols (view.Register n) s = value_line (name_or [] (register_name true n)) (register s.registers n)
-view_text symbols view.Registers s = register_lines s 0 capability_names
-view_text symbols view.SpecialRegisters s = scr_lines (scr_values s.scrs)
-view_text symbols view.ControlRegisters s = csr_lines (csr_values s.csrs s.scrs (interrupts_of s.devices))
-view_text symbols view.Capabilities s = cap_lines s.memory
-view_text symbols (view.Memory address n) s = byte_lines n address (bytes_at s.memory address n)
-view_text symbols (view.Words address n) s = word_lines (value_flag s.scrs.pcc) s.memory n address
-view_text symbols view.Why s = why_text s
-view_text symbols view.Reach s = reach_reply symbols s
-view_text symbols view.ReachMembers s = members_reply symbols s
-view_text symbols view.ReachGraph s = graph_reply symbols s
-view_text symbols (view.May may) s = may_reply symbols may s
-view_text symbols view.Help s = help_text
+-- a stop, as it stands after `stop`
+abbrev pub stop_line : Stop → List ℕ
+stop_line (Address address) = codes "at " ++ hex_of 16 address ++ codes "\n"
+stop_line Trap = codes "trap\n"
+
+abbrev pub stops_text : List Stop → List ℕ
+stops_text stops = flat_map stop_line stops
+
+-- what a refusal's code means
+abbrev pub code_text : DebugFault → List ℕ
+code_text B1 = codes "B1 no such command, or no word on the line\n"
+code_text B2 = codes "B2 operands of another count, form or range, no such label, or a line too long or not ASCII\n"
+code_text B3 = codes "B3 some byte to be shown lies outside RAM\n"
+code_text B4 = codes "B4 no memory for the reply\n"
+
+-- what is shown
+unfoldable pub view_text : List Symbol → List Stop → View → State → List ℕ
+view_text symbols stops (view.Register n) s = value_line (name_or [] (register_name true n)) (register s.registers n)
+view_text symbols stops view.Registers s = register_lines s 0 capability_names
+view_text symbols stops view.SpecialRegisters s = scr_lines (scr_values s.scrs)
+view_text symbols stops view.ControlRegisters s = csr_lines (csr_values s.csrs s.scrs (interrupts_of s.devices))
+view_text symbols stops view.Capabilities s = cap_lines s.memory
+view_text symbols stops (view.Memory address n) s = byte_lines n address (bytes_at s.memory address n)
+view_text symbols stops (view.Words address n) s = word_lines (value_flag s.scrs.pcc) s.memory n address
+view_text symbols stops view.Why s = why_text s
+view_text symbols stops view.Reach s = reach_reply symbols s
+view_text symbols stops view.ReachMembers s = members_reply symbols s
+view_text symbols stops view.ReachGraph s = graph_reply symbols s
+view_text symbols stops (view.May may) s = may_reply symbols may s
+view_text symbols stops view.Stops s = stops_text stops
+view_text symbols stops view.Help s = help_text
+view_text symbols stops (view.Code fault) s = code_text fault
+
+-- whether two stops are the same
+abbrev pub is_same_stop : Stop → Stop → Bool
+is_same_stop (Address a) (Address b) = a == b
+is_same_stop (Address a) Trap = false
+is_same_stop Trap (Address b) = false
+is_same_stop Trap Trap = true
+
+-- one stop more after the others, unless it is one of them; or none
+abbrev pub stops_after : SetStops → List Stop → List Stop
+stops_after (Add stop) stops = if list_any (is_same_stop stop) stops then stops else (stops ++ stop ∷ [])
+stops_after Clear stops = []
 
 -- what a session answers: a text of lines, or that it ends
 pub data Answer : Type 0 where
@@ -146,8 +174,9 @@ pub data Answer : Type 0 where
   ended : Answer
 
 abbrev pub answer_to : Command → SessionState → Answer
-answer_to (Gives events) s = told (events_line (given events s.machine) s.machine)
-answer_to (Shows what) s = told (view_text s.symbols what s.machine)
+answer_to (Gives events) s = told (events_line (given_in events s) s.machine)
+answer_to (Shows what) s = told (view_text s.symbols s.stops what s.machine)
+answer_to (Sets set) s = told (stops_text (stops_after set s.stops))
 answer_to Quit s = ended
 
 -- what a line is refused by in a state: what it writes, then addresses outside RAM
@@ -161,10 +190,20 @@ allowed (Err fault) s = Err fault
 abbrev pub command_in : List ℕ → SessionState → Result Command DebugFault
 command_in line s = allowed (command_of s.symbols line) s.machine
 
--- the session after a line: a refused line changes nothing, and none changes the labels
-abbrev pub state_by : Result Command DebugFault → State → State
-state_by (Ok command) s = run_after (events_of command s) s
+-- the session after a command; none changes the labels
+abbrev pub session_after : Command → SessionState → SessionState
+session_after (Gives events) s = record s {
+  machine = run_after (given_in events s) s.machine;
+  replay = replay_after events (given_in events s) s.replay;
+}
+session_after (Shows what) s = s
+session_after (Sets set) s = record s { stops = stops_after set s.stops }
+session_after Quit s = s
+
+-- the session after a line: a refused line changes nothing
+abbrev pub state_by : Result Command DebugFault → SessionState → SessionState
+state_by (Ok command) s = session_after command s
 state_by (Err fault) s = s
 
 abbrev pub state_after : List ℕ → SessionState → SessionState
-state_after line s = record s { machine = state_by (command_in line s) s.machine }
+state_after line s = state_by (command_in line s) s

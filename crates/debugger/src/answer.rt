@@ -2,20 +2,21 @@
 ghost use Rattle.std.specs.Prelude.{◌≡◌, ◌++◌, false, IfOk, IfErr, OnOk, OnErr, string_bytes};
 ghost use Rattle.cap_bounds.specs.CapValue.{value_flag};
 ghost use Rattle.special_regs.specs.Scrs.{scr_value};
-ghost use Rattle.machine.specs.Run.{run_after};
 ghost use Rattle.debug_commands.specs.Limits.{IsWithinLimits, IsShownWithinLimits};
-ghost use Rattle.debugger.specs.Reply.{told, events_of, is_outside, is_view_outside, view_text, answer_to};
+ghost use Rattle.debugger.specs.Reply.{told, code_text, is_outside, is_view_outside, session_after, view_text, answer_to};
 ghost use Rattle.debugger.specs.Answers.{seen_reply};
-ghost use Rattle.debugger.specs.SessionState.{session_state};
+ghost use Rattle.debugger.specs.SessionState.{session_with};
 
 use crate::caps::put_caps;
 use crate::ram::{put_memory, put_words};
 use crate::reaching::{put_may, put_reach, put_reach_graph, put_reach_members};
+use crate::replay::Replay;
 use crate::reply::Reply;
 use crate::run::told_events;
 use crate::state::{put_csrs, put_register, put_registers, put_scrs};
+use crate::stops::{put_stops, set_stops};
 use cap_bounds::CapRep;
-use debug_commands::{Command, DebugFault, View, help_text};
+use debug_commands::{Command, DebugFault, Stop, View, help_text};
 use effect_texts::put;
 use explain::put_why;
 use machine::Machine;
@@ -49,6 +50,21 @@ pub(crate) fn is_outside<C: CapRep>(machine: &Machine<C>, command: Command) -> b
     }
 }
 
+/// Appends what a refusal's code means to a text.
+fn put_code(text: &mut String, fault: DebugFault) -> Result<(), AllocError>
+    ensures { OnOk result (string_bytes text.new ≡ string_bytes text.old ++ code_text fault) }
+{
+    let meaning = match fault {
+        DebugFault::B1 => "B1 no such command, or no word on the line\n",
+        DebugFault::B2 => {
+            "B2 operands of another count, form or range, no such label, or a line too long or not ASCII\n"
+        }
+        DebugFault::B3 => "B3 some byte to be shown lies outside RAM\n",
+        DebugFault::B4 => "B4 no memory for the reply\n",
+    };
+    put(text, meaning)
+}
+
 /// Appends what is to be shown to a text.
 #[tactic(auto, unfolding(crate::specs::Reply::view_text))]
 fn put_view<C: CapRep>(
@@ -56,11 +72,12 @@ fn put_view<C: CapRep>(
     alloc: Global,
     machine: &Machine<C>,
     symbols: &Symbols,
+    stops: &[Stop],
     view: View,
 ) -> Result<(), AllocError>
     requires limits { IsShownWithinLimits view }
     requires inside { is_view_outside view machine.now ≡ false }
-    ensures { OnOk result (string_bytes text.new ≡ string_bytes text.old ++ view_text symbols.now view machine.now) }
+    ensures { OnOk result (string_bytes text.new ≡ string_bytes text.old ++ view_text symbols.now stops.now view machine.now) }
 {
     match view {
         View::Register(n) => put_register(text, machine, n),
@@ -79,7 +96,9 @@ fn put_view<C: CapRep>(
         View::ReachMembers => put_reach_members(text, alloc, symbols, machine.hart()),
         View::ReachGraph => put_reach_graph(text, alloc, symbols, machine.hart()),
         View::May(may) => put_may(text, alloc, symbols, machine.hart(), may),
+        View::Stops => put_stops(text, stops),
         View::Help => put(text, help_text()),
+        View::Code(fault) => put_code(text, fault),
     }
 }
 
@@ -88,15 +107,16 @@ fn shown<C: CapRep>(
     alloc: Global,
     machine: &Machine<C>,
     symbols: &Symbols,
+    stops: &[Stop],
     view: View,
 ) -> Result<String, DebugFault>
     requires limits { IsShownWithinLimits view }
     requires inside { is_view_outside view machine.now ≡ false }
-    ensures text { IfOk result (λ text. string_bytes text ≡ view_text symbols.now view machine.now) }
+    ensures text { IfOk result (λ text. string_bytes text ≡ view_text symbols.now stops.now view machine.now) }
     ensures err { IfErr result (λ fault. fault ≡ DebugFault.B4) }
 {
     let mut text = String::new(alloc);
-    put_view(&mut text, alloc, machine, symbols, view)?;
+    put_view(&mut text, alloc, machine, symbols, stops, view)?;
     Ok(text)
 }
 
@@ -105,18 +125,26 @@ pub(crate) fn answer<C: CapRep>(
     alloc: Global,
     machine: &mut Machine<C>,
     symbols: &Symbols,
+    replay: &mut Option<Replay>,
+    stops: &mut Vec<Stop>,
     command: Command,
 ) -> Result<Reply, DebugFault>
     requires limits { IsWithinLimits command }
     requires inside { is_outside command machine.old ≡ false }
-    ensures reply { IfOk result (λ reply. seen_reply reply ≡ answer_to command (session_state machine.old symbols.now)) }
-    ensures state { OnOk result (machine.new ≡ run_after (events_of command machine.old) machine.old) }
+    ensures reply { IfOk result (λ reply. seen_reply reply
+        ≡ answer_to command (session_with machine.old symbols.now replay.old stops.old.items)) }
+    ensures state { OnOk result (session_with machine.new symbols.now replay.new stops.new.items
+        ≡ session_after command (session_with machine.old symbols.now replay.old stops.old.items)) }
     ensures err { IfErr result (λ fault. fault ≡ DebugFault.B4) }
-    ensures same { OnErr result (machine.new ≡ machine.old) }
+    ensures same { OnErr result (session_with machine.new symbols.now replay.new stops.new.items
+        ≡ session_with machine.old symbols.now replay.old stops.old.items) }
 {
     match command {
-        Command::Gives(events) => Ok(Reply::Text(told_events(alloc, machine, events)?)),
-        Command::Shows(view) => Ok(Reply::Text(shown(alloc, machine, symbols, view)?)),
+        Command::Gives(events) => Ok(Reply::Text(told_events(
+            alloc, machine, replay, stops, events,
+        )?)),
+        Command::Shows(view) => Ok(Reply::Text(shown(alloc, machine, symbols, stops, view)?)),
+        Command::Sets(set) => Ok(Reply::Text(set_stops(alloc, stops, set)?)),
         Command::Quit => Ok(Reply::Quit),
     }
 }

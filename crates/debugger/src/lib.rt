@@ -6,11 +6,15 @@ mod caps;
 mod fault;
 mod ram;
 mod reaching;
+mod replay;
 mod reply;
 mod run;
+pub mod scheduled;
 mod session;
 mod shown;
 mod state;
+mod stepping;
+mod stops;
 mod talking;
 
 pub use debug_commands::{DebugFault, laws};

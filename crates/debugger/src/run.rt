@@ -1,38 +1,25 @@
 //! The events that a command gives, and the line that tells of them.
 ghost use Rattle.std.specs.Prelude.{◌≡◌, ◌+◌, ◌-◌, ◌*◌, ◌<◌, ◌≤◌, ◌++◌, IfOk, IfErr, OnOk, OnErr, replicate, length, vec_len, vec_capacity};
-ghost use Rattle.std.specs.Prelude.{string_bytes, string_len, string_capacity, true, false, IfSome, IfNone, OnSome, None};
+ghost use Rattle.std.specs.Prelude.{string_bytes, string_len, string_capacity, option_map};
 ghost use Rattle.std.specs.List.{flat_map};
-ghost use Rattle.special_regs.specs.Scrs.{scr_value};
 ghost use Rattle.hart.specs.declared.event.Event.TheVariants.{Step};
-ghost use Rattle.hart.specs.State.{pc_of};
-ghost use Rattle.hart.specs.Applying.{meant, IsPlanned};
-ghost use Rattle.hart.specs.Outcome.{is_trap, outcome_of};
 ghost use Rattle.machine.specs.Run.{run_after, run_sent};
 ghost use Rattle.disassembler.specs.Hex.{hex_of};
-ghost use Rattle.debugger.specs.Reply.{is_stop, steps_until as until_steps, given, events_line, shown_sent, shown_end};
-ghost use Rattle.debugger.specs.Lines.{given_part, place_part, goes_on, most_of};
+ghost use Rattle.debugger.specs.Reply.{given, replay_after, events_line, shown_sent, shown_end};
+ghost use Rattle.debugger.specs.Stepping.{counted_steps, most_gone, most_sent, replayed};
+ghost use Rattle.debugger.specs.Lines.{given_part, place_part, most_of};
 ghost use Rattle.debug_commands.specs.Limits.{AreWithinLimits};
 
+use crate::replay::Replay;
+use crate::stepping::{pc, steps_while};
 use cap_bounds::CapRep;
 use debug_commands::{DebugFault, Events, Stop};
 use effect_texts::{put, put_decimal, put_hex};
-use hart::Effect;
-use machine::{Event, Machine, Planned, emit};
+use machine::{Event, Machine, emit};
 use std::alloc::{AllocError, Global};
-
-/// The number of PCC.
-const PCC: u8 = 0;
 
 /// The bytes that a line of events has at most, besides two for each byte that was sent.
 const LINE_ROOM: usize = 200;
-
-/// PCC's address.
-#[tactic(auto, unfolding(special_regs::specs::Scrs::scr_value))]
-fn pc<C: CapRep>(machine: &Machine<C>) -> u64
-    ensures { result ≡ pc_of machine.now }
-{
-    machine.scr(PCC).address()
-}
 
 /// Gives an event so many times, and appends what is sent to the other bytes, for which there is room.
 fn repeat<C: CapRep>(machine: &mut Machine<C>, event: Event, times: u64, sent: &mut Vec<u8>)
@@ -64,82 +51,26 @@ fn steps<C: CapRep>(machine: &mut Machine<C>, times: u64, sent: &mut Vec<u8>)
     }
 }
 
-/// Whether an effect is a trap.
-#[tactic(auto, unfolding(hart::specs::Outcome::outcome_of))]
-fn is_trap_effect<C: CapRep>(effect: &Effect<C>) -> bool
-    ensures { result ≡ is_trap (outcome_of (meant C.value effect.now)) }
+/// The most steps that `go` gives.
+#[tactic(auto, unfolding(crate::specs::Stepping::most_gone))]
+fn most_gone() -> u64
+    ensures value { result ≡ most_gone }
+    ensures bound { result ≤ 1000000000000 }
 {
-    matches!(effect, Effect::Trap(_))
+    1_000_000_000_000
 }
 
-/// Whether a machine that isn't halted, and whose next step was planned, is where steps stop.
-#[tactic(auto, unfolding(hart::specs::Outcome::step_outcome))]
-fn is_stop<C: CapRep>(machine: &Machine<C>, stop: Stop, planned: &Planned<C>) -> bool
-    requires planned { IsPlanned C.value planned.now.effect machine.now }
-    requires running { machine.now.devices.halted ≡ None }
-    ensures { result ≡ is_stop stop machine.now }
+/// The most bytes that these steps send.
+#[tactic(auto, unfolding(crate::specs::Stepping::most_sent))]
+fn most_sent() -> u64
+    ensures value { result ≡ most_sent }
+    ensures bound { result ≤ 1000000 }
 {
-    match stop {
-        Stop::Address(address) => pc(machine) == address,
-        Stop::Trap => is_trap_effect(&planned.effect),
-    }
+    1_000_000
 }
 
-/// The next step that is given, planned: there is one while fewer than the most were, the machine isn't halted, and it isn't where steps
-/// stop.
-fn next_given<C: CapRep>(machine: &Machine<C>, stop: Stop, left: u64) -> Option<Planned<C>>
-    ensures planned { IfSome result (λ planned. IsPlanned C.value planned.effect machine.now) }
-    ensures given { OnSome result (goes_on stop left machine.now ≡ true) }
-    ensures stopped { IfNone result (goes_on stop left machine.now ≡ false) }
-    ensures few { OnSome result (0 < left) }
-{
-    if left == 0 || machine.halted().is_some() {
-        return None;
-    }
-    let planned = machine.next();
-    if is_stop(machine, stop, &planned) {
-        return None;
-    }
-    Some(planned)
-}
-
-/// Gives steps of one run while they don't stop, at most so many, and answers how many there were. They send nothing.
-fn run_towards<C: CapRep>(machine: &mut Machine<C>, stop: Stop, most: u64) -> u64
-    ensures few { result ≤ most }
-    ensures state { run_after (until_steps stop (most - result) machine.new) machine.new
-        ≡ run_after (until_steps stop most machine.old) machine.old }
-    ensures bytes { run_sent (until_steps stop (most - result) machine.new) machine.new
-        ≡ run_sent (until_steps stop most machine.old) machine.old }
-    ensures count { result + length (until_steps stop (most - result) machine.new) ≡ length (until_steps stop most machine.old) }
-{
-    machine.advance_short_of(stop.address(), most)
-}
-
-/// Gives steps until the machine is where they stop or is halted, at most so many, and answers how many there were.
-fn steps_until<C: CapRep>(
-    machine: &mut Machine<C>,
-    stop: Stop,
-    most: u64,
-    sent: &mut Vec<u8>,
-) -> u64
-    requires { vec_len sent.old + most ≤ vec_capacity sent.old }
-    ensures state { machine.new ≡ run_after (until_steps stop most machine.old) machine.old }
-    ensures bytes { sent.new.items ≡ sent.old.items ++ run_sent (until_steps stop most machine.old) machine.old }
-    ensures count { result ≡ length (until_steps stop most machine.old) }
-    ensures len { vec_len sent.new ≤ vec_len sent.old + most }
-{
-    let mut left = most;
-    while let Some(planned) = next_given(machine, stop, left) {
-        let out = machine.apply(planned);
-        emit(sent, out.byte);
-        left -= 1;
-        left -= run_towards(machine, stop, left);
-    }
-    most - left
-}
-
-/// The most events that a command gives.
-fn most_events(events: Events) -> u64
+/// The most bytes that a command's events send.
+fn most_bytes(events: Events) -> u64
     requires { AreWithinLimits events }
     ensures value { result ≡ most_of events }
     ensures bound { result ≤ 1000000 }
@@ -148,24 +79,52 @@ fn most_events(events: Events) -> u64
         Events::Steps(n) | Events::Ticks(n) => n,
         Events::Until { most, .. } => most,
         Events::Byte(_) => 1,
+        Events::Go => most_sent(),
     }
+}
+
+/// Gives so many steps, with the schedule of a session, if there is one, or without, and answers how many events there were.
+fn give_steps<C: CapRep>(
+    machine: &mut Machine<C>,
+    replay: &mut Option<Replay>,
+    times: u64,
+    sent: &mut Vec<u8>,
+) -> u64
+    requires room { vec_len sent.old + times ≤ vec_capacity sent.old }
+    requires few { times ≤ 1000000 }
+    ensures state { machine.new ≡ run_after (counted_steps replay.old times machine.old) machine.old }
+    ensures bytes { sent.new.items ≡ sent.old.items ++ run_sent (counted_steps replay.old times machine.old) machine.old }
+    ensures replay { replay.new ≡ option_map (replayed (counted_steps replay.old times machine.old)) replay.old }
+    ensures count { result ≡ length (counted_steps replay.old times machine.old) }
+    ensures len { vec_len sent.new ≤ vec_len sent.old + times }
+{
+    if replay.is_some() {
+        return steps_while(machine, replay, &[], &[], times, times, sent);
+    }
+    steps(machine, times, sent);
+    times
 }
 
 /// Gives the events of a command, appends what is sent to the other bytes, for which there is room, and answers how many there
 /// were.
-#[tactic(auto, unfolding(crate::specs::Reply::given))]
-fn give<C: CapRep>(machine: &mut Machine<C>, events: Events, sent: &mut Vec<u8>) -> u64
-    requires { vec_len sent.old + most_of events ≤ vec_capacity sent.old }
-    ensures state { machine.new ≡ run_after (given events machine.old) machine.old }
-    ensures bytes { sent.new.items ≡ sent.old.items ++ run_sent (given events machine.old) machine.old }
-    ensures count { result ≡ length (given events machine.old) }
+#[tactic(auto, unfolding(crate::specs::Reply::given, crate::specs::Reply::replay_after))]
+fn give<C: CapRep>(
+    machine: &mut Machine<C>,
+    replay: &mut Option<Replay>,
+    stops: &[Stop],
+    events: Events,
+    sent: &mut Vec<u8>,
+) -> u64
+    requires room { vec_len sent.old + most_of events ≤ vec_capacity sent.old }
+    requires limits { AreWithinLimits events }
+    ensures state { machine.new ≡ run_after (given events replay.old stops.now machine.old) machine.old }
+    ensures bytes { sent.new.items ≡ sent.old.items ++ run_sent (given events replay.old stops.now machine.old) machine.old }
+    ensures replay { replay.new ≡ replay_after events (given events replay.old stops.now machine.old) replay.old }
+    ensures count { result ≡ length (given events replay.old stops.now machine.old) }
     ensures len { vec_len sent.new ≤ vec_len sent.old + most_of events }
 {
     match events {
-        Events::Steps(n) => {
-            steps(machine, n, sent);
-            n
-        }
+        Events::Steps(n) => give_steps(machine, replay, n, sent),
         Events::Ticks(n) => {
             repeat(machine, Event::Tick, n, sent);
             n
@@ -174,7 +133,14 @@ fn give<C: CapRep>(machine: &mut Machine<C>, events: Events, sent: &mut Vec<u8>)
             repeat(machine, Event::Byte(byte), 1, sent);
             1
         }
-        Events::Until { stop, most } => steps_until(machine, stop, most, sent),
+        Events::Until { stop, most } => {
+            let stops = [stop];
+            steps_while(machine, replay, &stops, &stops, most, most, sent)
+        }
+        Events::Go => {
+            let (most, room) = (most_gone(), most_sent());
+            steps_while(machine, replay, &[], stops, most, room, sent)
+        }
     }
 }
 
@@ -265,18 +231,23 @@ fn put_run_line<C: CapRep>(
 pub(crate) fn told_events<C: CapRep>(
     alloc: Global,
     machine: &mut Machine<C>,
+    replay: &mut Option<Replay>,
+    stops: &[Stop],
     events: Events,
 ) -> Result<String, DebugFault>
     requires { AreWithinLimits events }
-    ensures text { IfOk result (λ text. string_bytes text ≡ events_line (given events machine.old) machine.old) }
-    ensures state { OnOk result (machine.new ≡ run_after (given events machine.old) machine.old) }
+    ensures text { IfOk result (λ text. string_bytes text
+        ≡ events_line (given events replay.old stops.now machine.old) machine.old) }
+    ensures state { OnOk result (machine.new ≡ run_after (given events replay.old stops.now machine.old) machine.old) }
+    ensures replay { OnOk result (replay.new ≡ replay_after events (given events replay.old stops.now machine.old) replay.old) }
     ensures err { IfErr result (λ fault. fault ≡ DebugFault.B4) }
     ensures same { OnErr result (machine.new ≡ machine.old) }
+    ensures same_replay { OnErr result (replay.new ≡ replay.old) }
 {
-    let most = most_events(events) as usize;
+    let most = most_bytes(events) as usize;
     let mut sent = Vec::with_capacity(alloc, most)?;
     let mut text = String::with_capacity(alloc, 2 * most + LINE_ROOM)?;
-    let count = give(machine, events, &mut sent);
+    let count = give(machine, replay, stops, events, &mut sent);
     match put_run_line(&mut text, machine, count, &sent) {
         Ok(()) => Ok(text),
         Err(_) => unreachable!(),

@@ -1,25 +1,30 @@
 //! Sessions.
-ghost use Rattle.std.specs.Prelude.{◌≡◌, ◌⊎◌, [], false, Err, IfOk, IfErr, OnOk, OnErr};
-ghost use Rattle.debugger.specs.Reply.{command_in, state_after, is_outside};
-ghost use Rattle.debugger.specs.SessionState.{session_state};
+ghost use Rattle.std.specs.Prelude.{◌≡◌, ◌≤◌, ◌⊎◌, [], false, Err, IfOk, IfErr, OnOk, OnErr};
+ghost use Rattle.debugger.specs.Reply.{allowed, command_in, state_after, is_outside};
+ghost use Rattle.debugger.specs.SessionState.{replaying_state, session_state, session_with};
+ghost use Rattle.debug_commands.specs.Command.{command_of as command_of_line};
 ghost use Rattle.debug_commands.specs.Limits.{IsWithinLimits};
 ghost use Rattle.debugger.specs.Answers.{seen_reply, IsAnswer};
 
 use crate::answer::{answer, is_outside};
+use crate::replay::Replay;
 use crate::reply::Reply;
 use cap_bounds::CapRep;
-use debug_commands::{Command, DebugFault, command_of};
+use debug_commands::{Command, DebugFault, Stop, command_of};
 use machine::Machine;
+use sim_run::Schedule;
 use std::alloc::Global;
 use std::marker::Model;
 use symbols::Symbols;
 
-/// A machine that is driven by commands, with labels that these may name.
+/// A machine that is driven by commands, with labels that these may name, stops, and a schedule if one is given.
 #[derive(Drop)]
 pub struct Session<C: CapRep> {
     alloc: Global,
     machine: Machine<C>,
     symbols: Symbols,
+    replay: Option<Replay>,
+    stops: Vec<Stop>,
 }
 
 impl<C: CapRep> Model for Session<C> {
@@ -31,7 +36,7 @@ impl<C: CapRep> Model for Session<C> {
 
     ghost coded = { Prim.hlevel (codes, memory_code) };
 
-    ghost view = { λ s. record { machine = s.machine; symbols = s.symbols } };
+    ghost view = { λ s. record { machine = s.machine; symbols = s.symbols; replay = s.replay; stops = s.stops.items } };
 }
 
 /// The command that a line writes, if it may be done: of a command's faults B1 comes before B2 and B2 before B3.
@@ -40,7 +45,7 @@ fn accepted<C: CapRep>(
     symbols: &Symbols,
     line: &[u8],
 ) -> Result<Command, DebugFault>
-    ensures value { result ≡ command_in line.now (session_state machine.now symbols.now) }
+    ensures value { result ≡ allowed (command_of_line symbols.now line.now) machine.now }
     ensures limits { IfOk result IsWithinLimits }
     ensures inside { IfOk result (λ command. is_outside command machine.now ≡ false) }
 {
@@ -64,18 +69,44 @@ impl<C: CapRep> Session<C> {
     pub fn with_symbols(alloc: Global, machine: Machine<C>, symbols: Symbols) -> Self
         ensures { result ≡ session_state machine symbols }
     {
+        Session::begun(alloc, machine, symbols, None)
+    }
+
+    /// The same with a schedule, before its first step. The steps of `step`, `until`, `trap` and `go` are then those of a run on this
+    /// schedule with this input: each comes with the byte before it and the tick after it, counted over the whole session, and nothing
+    /// comes after the halt, nor after the schedule's last step.
+    pub fn replaying(
+        alloc: Global,
+        machine: Machine<C>,
+        symbols: Symbols,
+        schedule: Schedule,
+        input: Vec<u8>,
+    ) -> Self
+        requires { 1 ≤ schedule.gap }
+        ensures { result ≡ replaying_state machine symbols schedule input.items }
+    {
+        Session::begun(alloc, machine, symbols, Some(Replay::new(schedule, input)))
+    }
+
+    /// A session with these, and without stops.
+    fn begun(alloc: Global, machine: Machine<C>, symbols: Symbols, replay: Option<Replay>) -> Self
+        ensures { result ≡ session_with machine symbols replay [] }
+    {
         Session {
             alloc,
             machine,
             symbols,
+            replay,
+            stops: Vec::new(alloc),
         }
     }
 
     /// Does what a line asks for, and answers its reply.
     ///
-    /// Commands are `step N`, `tick N`, `byte B`, `until ADDR N`, `trap N`, `reg R`, `regs`, `scr`, `csr`, `caps`, `mem ADDR LEN`,
-    /// `dis ADDR N`, `why`, `help` and `quit`; numbers are those of the assembly language, and ADDR is a number or, if it is not one, a
-    /// label of the session. Only the first five change anything, and none changes the labels.
+    /// Commands are `step N`, `tick N`, `byte B`, `until ADDR N`, `trap N`, `go`, `stop at ADDR`, `stop trap`, `stop off`, `stops`,
+    /// `reg R`, `regs`, `scr`, `csr`, `caps`, `mem ADDR LEN`, `dis ADDR N`, `why`, `reach`, `may`, `help` and `quit`; numbers are those of
+    /// the assembly language, and ADDR is a number or, if it is not one, a label of the session. Only the first six change the machine, the
+    /// next three the stops, and none changes the labels.
     ///
     /// Refused with B1 where the line has no word or its first is no command; with B2 where its operands are others, and where the
     /// line has more than 255 bytes or one of 128 or more, whatever its words; with B3 where some byte to be shown is outside RAM;
@@ -98,7 +129,14 @@ impl<C: CapRep> Session<C> {
         ensures same { OnErr result (self.new ≡ self.old) }
     {
         let command = accepted(&self.machine, &self.symbols, line)?;
-        answer(self.alloc, &mut self.machine, &self.symbols, command)
+        answer(
+            self.alloc,
+            &mut self.machine,
+            &self.symbols,
+            &mut self.replay,
+            &mut self.stops,
+            command,
+        )
     }
 
     /// The machine.

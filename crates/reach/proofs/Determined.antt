@@ -13,10 +13,10 @@ use Rattle.reach.specs.Reach.{AreReachable}
 -- ---- the first range and the others
 
 module _ (r : Range) (rs : List Range) where
-  head-in : (a : ℕ) → IsIn r a → IsInOne (r ∷ rs) a
+  pub head-in : (a : ℕ) → IsIn r a → IsInOne (r ∷ rs) a
   head-in a inside = record { range = r; is_one = (0, omega arith, refl); inside = inside }
 
-  rest-in : (a : ℕ) → IsInOne rs a → IsInOne (r ∷ rs) a
+  pub rest-in : (a : ℕ) → IsInOne rs a → IsInOne (r ∷ rs) a
   rest-in a one =
       let place : ℕ = one.is_one.0 in
       let below : place < length rs = one.is_one.1 in
@@ -26,14 +26,14 @@ module _ (r : Range) (rs : List Range) where
   in_at zero x below at a inside = inl (subst (λ y. IsIn y a) (sym at) inside)
   in_at (suc k) x below at a inside = inr (record { range = x; is_one = (k, omega arith, at); inside = inside })
 
-  in-cases : (a : ℕ) → IsInOne (r ∷ rs) a → IsIn r a ⊎ IsInOne rs a
+  pub in-cases : (a : ℕ) → IsInOne (r ∷ rs) a → IsIn r a ⊎ IsInOne rs a
   in-cases a one = in_at one.is_one.0 one.range one.is_one.1 one.is_one.2 a one.inside
 
   module _ (apart : AreApart (r ∷ rs)) where
-    filled : r.from < r.to
+    pub filled : r.from < r.to
     filled = apart.filled 0 r (omega arith)
 
-    apart-rest : AreApart rs
+    pub apart-rest : AreApart rs
     apart-rest = record {
       filled = λ k d below. apart.filled (suc k) d (omega arith);
       gaps = λ k d below.
@@ -51,14 +51,14 @@ module _ (r : Range) (rs : List Range) where
         let gap : (get_or rs k d).to < (get_or rs (k + 1) d).from = apart-rest.gaps k d (omega arith) in
         subst (λ n. r.to < (get_or rs n d).from) next (omega arith)
 
-    rest-after : (a : ℕ) → IsInOne rs a → r.to < a
+    pub rest-after : (a : ℕ) → IsInOne rs a → r.to < a
     rest-after a one =
         let begins : r.to < one.range.from =
         subst (λ y. r.to < y.from) one.is_one.2 (after one.is_one.0 one.range one.is_one.1) in
         let low = one.inside.low in
         omega arith
 
-    first-low : (a : ℕ) → IsInOne (r ∷ rs) a → r.from ≤ a
+    pub first-low : (a : ℕ) → IsInOne (r ∷ rs) a → r.from ≤ a
     first-low a one = elim (in-cases a one) [
       | inl inside ↦ inside.low
       | inr rest ↦ let past : r.to < a = rest-after a rest in let some = filled in omega arith
@@ -117,7 +117,7 @@ module _ (r : Range) (rs : List Range) (q : Range) (qs : List Range) (left : Are
     | inr rest ↦ rest
   ]
 
-none-in : (a : ℕ) → IsInOne [] a → ⊥
+pub none-in : (a : ℕ) → IsInOne [] a → ⊥
 none-in a one = let below : one.is_one.0 < 0 = one.is_one.1 in absurd (omega arith)
 
 same-range : (r q : Range) → r.from ≡ q.from → r.to ≡ q.to → r ≡ q

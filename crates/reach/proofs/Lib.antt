@@ -4,3 +4,4 @@ pub mod Reaches
 pub mod Meaning
 pub mod Unsealing
 pub mod Determined
+pub mod Putting

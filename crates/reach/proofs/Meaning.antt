@@ -2,14 +2,14 @@
 use Rattle.std.proofs.Common.{ℕ, ◌+◌, ◌<◌, ◌≤◌, List, ap, inl, inr, ◌⊎◌, arith}
 use Rattle.std.proofs.lemmas.Bool.{cases_lt}
 use Rattle.cap_bounds.specs.CapValue.{CapValue}
-use Rattle.cap_rights.specs.Rights.{OpensSystem, OpensGranule, OpensStore, OpensByte}
+use Rattle.cap_rights.specs.Rights.{OpensSystem, OpensGranule, OpensStore, OpensByte, OpensType}
 use Rattle.hart.specs.State.{State}
 use Rattle.authority.specs.Authority.{IsWritable, HasSystem}
 use Rattle.authority.specs.Worlds.{IsReadable, Agree}
-use Rattle.reach.specs.declared.right.Right.TheVariants.{Store, Load, Execute, Capabilities}
+use Rattle.reach.specs.declared.right.Right.TheVariants.{Store, Load, Execute, Capabilities, Seal, Unseal}
 use Rattle.reach.specs.Differs.{DiffersWithin}
 use Rattle.reach.specs.First.{HoldsOfNone}
-use Rattle.reach.specs.Opens.{Opens, OpensSome}
+use Rattle.reach.specs.Opens.{Opens, OpensSome, OpensUnsealing}
 use Rattle.reach.specs.Ranges.{IsOpen}
 use Rattle.reach.specs.Reach.{AreReachable}
 
@@ -59,6 +59,36 @@ granule-opens c g opens a low high =
       base = omega arith;
       top = omega arith;
     }
+
+pub opens-type : (c : CapValue) (otype : ℕ) → Opens Seal c otype → OpensType c otype
+opens-type c otype opens = record {
+  unsealed = opens.allows.unsealed;
+  seals = opens.allows.permitted;
+  base = opens.base;
+  top = opens.top;
+}
+
+pub type-opens : (c : CapValue) (otype : ℕ) → OpensType c otype → Opens Seal c otype
+type-opens c otype opens = record {
+  allows = record { unsealed = opens.unsealed; permitted = opens.seals };
+  base = opens.base;
+  top = opens.top;
+}
+
+pub opens-unsealing : (c : CapValue) (otype : ℕ) → Opens Unseal c otype → OpensUnsealing c otype
+opens-unsealing c otype opens = record {
+  unsealed = opens.allows.unsealed;
+  unseals = opens.allows.permitted;
+  base = opens.base;
+  top = opens.top;
+}
+
+pub unsealing-opens : (c : CapValue) (otype : ℕ) → OpensUnsealing c otype → Opens Unseal c otype
+unsealing-opens c otype opens = record {
+  allows = record { unsealed = opens.unsealed; permitted = opens.unseals };
+  base = opens.base;
+  top = opens.top;
+}
 
 -- ---- answers
 

@@ -1,5 +1,5 @@
 -- What is reached from the roots of a state is what is reachable in it.
-use Rattle.std.proofs.Common.{◌≡◌, ℕ, ◌<◌, true, List, [], ◌∷◌, length, get_or, zero, suc, sym, ap, ◌∙◌, subst, arith, inl, inr}
+use Rattle.std.proofs.Common.{◌≡◌, ℕ, ◌<◌, true, List, [], ◌∷◌, length, map, get_or, zero, suc, refl, sym, ap, ◌∙◌, subst, arith, inl, inr}
 use Rattle.std.proofs.lemmas.Bool.{false≢true, cases_lt}
 use Rattle.std.proofs.lemmas.List.{get_or_default, get_or_past}
 use Rattle.std.proofs.lemmas.List.Elements.{Contains-append_left, Contains-append_right, Contains-append_cases, Contains-get_or}
@@ -11,10 +11,10 @@ use Rattle.hart.specs.State.{State}
 use Rattle.authority.specs.Reachable.{IsRoot, in_register, in_pcc, in_ddc, IsSpecial, in_mtcc, in_mtdc, in_mscratchc, in_mepcc}
 use Rattle.authority.specs.Reachable.{IsReachable, from_root as reachable-root, from_special as reachable-special}
 use Rattle.authority.specs.Reachable.{from_granule as reachable-granule}
-use Rattle.reached.specs.Links.{AreLinked}
+use Rattle.reached.specs.Links.{AreLinked, values}
 use Rattle.reached.specs.Reached.{IsReachedFrom, from_root, from_special, from_granule}
 use Rattle.reached.specs.declared.member.Member.{Member}
-use Rattle.reached.specs.Order.{Found, members_of}
+use Rattle.reached.specs.Order.{Found, members_of, seen_members}
 use Rattle.reach.specs.Reach.{AreReachable, members_in, roots_of, specials_of}
 
 root_there : (s : State) (v : CapValue) → Contains (roots_of s) v → IsRoot s v
@@ -96,3 +96,14 @@ module _ (s : State) (roots specials : List CapValue) (m : Memory) (same_roots :
 pub members_of_search : (s : State) (roots specials : List CapValue) (m : Memory) → roots ≡ roots_of s → specials ≡ specials_of s.scrs
     → m ≡ s.memory → (xs : List Found) → xs ≡ members_of roots specials m → xs ≡ members_in s
 members_of_search s roots specials m are_roots are_specials is_memory xs are = rw (are_roots, are_specials, is_memory) at are
+
+-- the values of members as they are seen
+pub values_seen : {X : Type 0} (value : X → CapValue) (ms : List (Member X)) → map (λ x. x.value) (seen_members value ms) ≡ values value ms
+values_seen value [] = refl
+values_seen value (m ∷ ms) = ap (λ vs. value m.cap ∷ vs) (values_seen value ms)
+
+-- where the members are the state's, so are their values
+pub reach_of_members : (s : State) {X : Type 0} (value : X → CapValue) (ms : List (Member X)) → AreReachable s (values value ms)
+    → seen_members value ms ≡ members_in s → AreReachable s (map (λ x. x.value) (members_in s))
+reach_of_members s value ms are seen =
+    subst (AreReachable s) (sym (values_seen value ms) ∙ ap (map (λ x. x.value)) seen) are

@@ -4,7 +4,7 @@ use Rattle.cap_bounds.specs.CapValue.{CapValue, is_sealed, value_base, value_top
 use Rattle.cap_rights.specs.declared.permission.Permission.TheVariants as permission
 use Rattle.cap_rights.specs.Permission.{permits}
 use Rattle.reach.specs.declared.right.Right.{Right}
-use Rattle.reach.specs.declared.right.Right.TheVariants.{Store, Load, Execute, Capabilities}
+use Rattle.reach.specs.declared.right.Right.TheVariants.{Store, Load, Execute, Capabilities, Seal, Unseal}
 
 -- the permissions that a right asks for
 abbrev pub Permits : Right → CapValue → Type 0
@@ -12,13 +12,15 @@ Permits Store c = permits c permission.Store ≡ true
 Permits Load c = permits c permission.Load ≡ true
 Permits Execute c = permits c permission.Execute ≡ true
 Permits Capabilities c = (permits c permission.Load ≡ true) × (permits c permission.LoadCapability ≡ true)
+Permits Seal c = permits c permission.Seal ≡ true
+Permits Unseal c = permits c permission.Unseal ≡ true
 
 -- unsealed, with the permissions of the right
 pub record Allows (right : Right) (c : CapValue) : Type 0 where
   pub unsealed : is_sealed c ≡ false
   pub permitted : Permits right c
 
--- the capability allows it, and the address lies in its bounds
+-- the capability allows it, and the number, an address or an object type, lies in its bounds
 pub record Opens (right : Right) (c : CapValue) (address : ℕ) : Type 0 where
   pub allows : Allows right c
   pub base : value_base c ≤ address

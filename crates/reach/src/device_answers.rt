@@ -9,16 +9,22 @@ use crate::reach::Reach;
 use cap_bounds::CapRep;
 
 /// Where halt begins: a store halts the machine.
-const HALT: u64 = 0x0010_0000;
+pub const HALT: u64 = 0x0010_0000;
 
 /// Where mtimecmp begins: a store sets the time from which the timer interrupts.
-const TIMER_COMPARE: u64 = 0x0200_4000;
+pub const TIMER_COMPARE: u64 = 0x0200_4000;
+
+/// Where mtime begins: the timer's count.
+pub const TIMER: u64 = 0x0200_bff8;
 
 /// Where transmit begins: a store sends a byte.
-const TRANSMIT: u64 = 0x1000_0000;
+pub const TRANSMIT: u64 = 0x1000_0000;
+
+/// Where status begins: whether a byte waits, and whether one was lost.
+pub const STATUS: u64 = 0x1000_0010;
 
 /// Where control begins: a store says whether a byte that waits interrupts.
-const CONTROL: u64 = 0x1000_0018;
+pub const CONTROL: u64 = 0x1000_0018;
 
 impl<C: CapRep> Reach<C> {
     /// The first member through which a byte may be stored where a register begins.

@@ -7,7 +7,7 @@ ghost use Rattle.cap_bounds.specs.CapValue.{CapValue, is_tagged, value_otype};
 ghost use Rattle.cap_rights.specs.Derivations.{unseal};
 ghost use Rattle.cap_rights.specs.Rights.{OpensSystem, OpensGranule, OpensStore, OpensByte, OpensType};
 ghost use Rattle.tagged_memory.specs.Memory.{has_tag};
-ghost use Rattle.devices.specs.Devices.{halt, timer_compare, transmit, control_register};
+ghost use Rattle.devices.specs.Devices.{halt, timer_compare, timer, transmit, status, control_register};
 ghost use Rattle.hart.specs.declared.event.Event.{Event};
 ghost use Rattle.hart.specs.State.{State};
 ghost use Rattle.authority.specs.Authority.{IsWritable, HasSystem, SameScrs, SameCsrs};
@@ -17,20 +17,34 @@ ghost use Rattle.machine.specs.Run.{run_after, run_sent};
 ghost use Rattle.machine.specs.Stretch.{ArePlain, IsPlainRun, IsTwin};
 ghost use Rattle.reach.specs.declared.range.Range.{Range};
 ghost use Rattle.reach.specs.declared.right.Right.{Right};
-ghost use Rattle.reach.specs.declared.right.Right.TheVariants.{Store, Load, Execute, Capabilities};
+ghost use Rattle.reach.specs.declared.right.Right.TheVariants.{Store, Load, Execute, Capabilities, Seal, Unseal};
 ghost use Rattle.reach.specs.Differs.{KeepsBytes, DiffersWithin};
 ghost use Rattle.reach.specs.First.{HoldsOfNone};
 ghost use Rattle.reach.specs.Opens.{Opens, OpensSome, OpensUnsealing, IsSealedAs};
 ghost use Rattle.reach.specs.Ranges.{IsInOne, IsOpen, AreApart};
 ghost use Rattle.reach.specs.Reach.{AreReachable, IsWithinOne};
 
+use crate::device_answers::{CONTROL, HALT, STATUS, TIMER, TIMER_COMPARE, TRANSMIT};
 use machine::laws::{plain_runs_are_the_same_in_both_worlds, plain_runs_keep_authority};
 
-/// What a right opens, in the words of cap_rights: stores, bytes that are read, and granules whose capabilities are loaded.
+/// The constants of the devices' registers are the places of the map.
+pub fn places_of_registers()
+    ensures halt { HALT ≡ halt }
+    ensures timer_compare { TIMER_COMPARE ≡ timer_compare }
+    ensures timer { TIMER ≡ timer }
+    ensures transmit { TRANSMIT ≡ transmit }
+    ensures status { STATUS ≡ status }
+    ensures control { CONTROL ≡ control_register }
+{}
+
+/// What a right opens, in the words of cap_rights: stores, bytes that are read, granules whose capabilities are loaded, and object types
+/// to seal and to unseal with.
 pub fn rights_open_their_bytes()
     ensures store { (c : CapValue) (a : ℕ) → Opens Store c a ↔ OpensStore c a }
     ensures byte { (c : CapValue) (a : ℕ) → OpensByte c a ↔ (Opens Load c a ⊎ Opens Execute c a) }
     ensures granule { (c : CapValue) (g : ℕ) → OpensGranule c g → (a : ℕ) → g ≤ a → a < g + 16 → Opens Capabilities c a }
+    ensures seal { (c : CapValue) (otype : ℕ) → Opens Seal c otype ↔ OpensType c otype }
+    ensures unseal { (c : CapValue) (otype : ℕ) → Opens Unseal c otype ↔ OpensUnsealing c otype }
 {}
 
 /// The members' ranges are the state's: an address is writable exactly if a member opens it to stores, and readable exactly if one opens

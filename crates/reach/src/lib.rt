@@ -6,13 +6,15 @@ mod first;
 pub mod laws;
 mod question;
 mod range;
-mod ranges;
 mod reach;
 mod right;
 mod roots;
 mod sealed;
+mod spans;
 
+pub use device_answers::{CONTROL, HALT, STATUS, TIMER, TIMER_COMPARE, TRANSMIT};
 pub use range::Range;
 pub use reach::Reach;
 pub use right::Right;
 pub use sealed::is_sealed;
+pub use spans::ranges;

@@ -42,6 +42,8 @@ fn permits_right<C: CapRep>(c: C, right: Right) -> bool
         Right::Capabilities => {
             permits(c, Permission::Load) && permits(c, Permission::LoadCapability)
         }
+        Right::Seal => permits(c, Permission::Seal),
+        Right::Unseal => permits(c, Permission::Unseal),
     }
 }
 

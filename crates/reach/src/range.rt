@@ -1,4 +1,4 @@
-/// The addresses from `from` on and below `to`.
+/// The numbers from `from` on and below `to`: addresses, or object types.
 #[derive(Clone, Copy, Debug, PartialEq, Eq)]
 pub struct Range {
     pub from: u64,

@@ -1,5 +1,5 @@
 //! The reach of a state.
-ghost use Rattle.std.specs.Prelude.{◌≡◌, IfOk};
+ghost use Rattle.std.specs.Prelude.{◌≡◌, map, IfOk};
 ghost use Rattle.reached.specs.Links.{values, AreLinked};
 ghost use Rattle.reached.specs.Chain.{AreInOrder};
 ghost use Rattle.reached.specs.Order.{seen_members};
@@ -37,6 +37,7 @@ impl<C: CapRep> Reach<C> {
             AreLinked C.value (roots_of hart.now) (specials_of hart.now.scrs) hart.now.memory reach) }
         ensures members { IfOk result (λ reach. seen_members C.value reach ≡ members_in hart.now) }
         ensures order { IfOk result (λ reach. AreInOrder reach) }
+        ensures of_state { IfOk result (λ _. AreReachable hart.now (map (λ x. x.value) (members_in hart.now))) }
     {
         let first = roots(alloc, hart)?;
         let guarded = specials(alloc, hart)?;

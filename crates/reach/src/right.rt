@@ -1,4 +1,4 @@
-/// What a capability lets code do with the bytes in its bounds.
+/// What a capability lets code do with the numbers in its bounds: the bytes at these addresses, or these object types.
 #[derive(Clone, Copy, Debug, PartialEq, Eq)]
 pub enum Right {
     /// Data is stored.
@@ -9,4 +9,8 @@ pub enum Right {
     Execute,
     /// Capabilities are loaded with their tags.
     Capabilities,
+    /// Values are sealed with the object type.
+    Seal,
+    /// Values that are sealed with the object type are unsealed.
+    Unseal,
 }

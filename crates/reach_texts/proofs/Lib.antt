@@ -1,6 +1,9 @@
 pub mod Asking
+pub mod Counting
 pub mod Labels
 pub mod Numbered
+pub mod RangeLines
 pub mod Refused
 pub mod Seen
 pub mod Specials
+pub mod Writing

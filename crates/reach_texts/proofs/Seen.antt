@@ -1,11 +1,13 @@
 -- Members as they are seen.
 use Rattle.std.proofs.Common.{◌≡◌, ℕ, zero, suc, ◌+◌, ◌<◌, List, [], ◌∷◌, ◌++◌, drop, length, refl, ap, sym, ◌∙◌}
-use Rattle.std.proofs.lemmas.List.{append_assoc, drop_more}
+use Rattle.std.proofs.lemmas.List.{append_assoc, drop_more, length-map}
 use Rattle.std.specs.Prelude.{slice_index, slice_get, option_map, codes}
 use Rattle.cap_bounds.specs.CapValue.{CapValue}
 use Rattle.reached.specs.declared.member.Member.{Member}
+use Rattle.reached.specs.Links.{values}
 use Rattle.reached.specs.Order.{Found, seen_member, seen_members}
 use Rattle.symbols.specs.Symbols.{Symbol}
+use Rattle.reach_texts.specs.Asked.{values_of}
 use Rattle.reach_texts.specs.Text.{place_at, later_places}
 
 -- the member of a number as it is seen
@@ -25,3 +27,10 @@ after symbols xs ns k text new whole inside written rest =
     let here : later_places symbols xs (drop k ns) ≡ place ++ later_places symbols xs (drop (k + 1) ns) =
     ap (λ l. later_places symbols xs l) (drop_more ns k 0 inside) in
     rw written (append_assoc text place (later_places symbols xs (drop (k + 1) ns)) ∙ ap (λ t. text ++ t) (sym here) ∙ rest)
+
+pub seen_length : {X : Type 0} (value : X → CapValue) (ms : List (Member X)) → length (seen_members value ms) ≡ length ms
+seen_length value ms = length-map ms (seen_member value)
+
+pub seen_values : {X : Type 0} (value : X → CapValue) (ms : List (Member X)) → values_of (seen_members value ms) ≡ values value ms
+seen_values value [] = refl
+seen_values value (m ∷ ms) = ap (λ vs. value m.cap ∷ vs) (seen_values value ms)

@@ -1,3 +1,3 @@
-pub mod Letters
 pub mod Text
 pub mod Asked
+pub mod Summary

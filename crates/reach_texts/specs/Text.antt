@@ -2,8 +2,8 @@
 use Rattle.std.specs.Prelude.{ℕ, ◌+◌, Bool, if◌then◌else◌, List, [], ◌∷◌, ◌++◌, Option, Some, None, slice_get, codes, decimal}
 use Rattle.base.specs.declared.registers.scr.TheConstants.{MTCC}
 use Rattle.cap_bounds.specs.CapValue.{CapValue, is_sealed, value_base, value_top, value_perms}
+use Rattle.bounds_text.specs.Letters.{permission_letters}
 use Rattle.disassembler.specs.Hex.{hex_of}
-use Rattle.reach_texts.specs.Letters.{permission_letters}
 use Rattle.disassembler.specs.Shown.{name_or}
 use Rattle.trap_texts.specs.Names.{register_at_fault}
 use Rattle.effect_texts.specs.ValueText.{shown_value}

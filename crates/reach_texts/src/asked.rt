@@ -7,16 +7,8 @@ ghost use Rattle.reach_texts.specs.Asked.{first_that, is_sealed_as, lets, may_se
 use cap_bounds::CapRep;
 use cap_rights::{OType, Permission, permits};
 use debug_commands::May;
+use reach::{HALT, TIMER_COMPARE, TRANSMIT};
 use reached::Member;
-
-/// A store of 4 bytes there may halt the machine.
-const HALT: u64 = 0x0010_0000;
-
-/// A store of 8 bytes there sets mtimecmp.
-const TIMER_COMPARE: u64 = 0x0200_4000;
-
-/// A store of 1 byte there sends it.
-const TRANSMIT: u64 = 0x1000_0000;
 
 /// Whether a capability is sealed.
 pub(crate) fn is_sealed<C: CapRep>(cap: C) -> bool

@@ -5,8 +5,8 @@ ghost use Rattle.reached.specs.Order.{seen_member, seen_members};
 ghost use Rattle.reach_texts.specs.Text.{begin_text, dashed, edge_line, graph_text, link_lines, node_line, node_text, numbered};
 
 use crate::asked::is_sealed;
-use crate::letters::permission_letters;
 use crate::places::put_place;
+use bounds_text::permission_letters;
 use cap_bounds::CapRep;
 use effect_texts::{put, put_decimal, put_hex};
 use reached::{Member, Place};

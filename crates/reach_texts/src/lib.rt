@@ -3,14 +3,18 @@
 
 mod answer;
 mod asked;
+mod counts;
 mod graph;
 pub mod laws;
-mod letters;
 mod members;
+mod open_devices;
+mod opened;
 mod places;
+mod summary;
 
 pub use answer::put_answer;
 pub use asked::first_that;
 pub use graph::put_graph;
 pub use members::{put_capability, put_members};
 pub use places::{put_labelled, put_place};
+pub use summary::put_summary;

@@ -3,8 +3,8 @@ ghost use Rattle.std.specs.Prelude.{◌≡◌, ◌++◌, OnOk, string_bytes};
 ghost use Rattle.reached.specs.Order.{seen_member, seen_members};
 ghost use Rattle.reach_texts.specs.Text.{capability_text, from_text, member_line, members_text};
 
-use crate::letters::permission_letters;
 use crate::places::put_place;
+use bounds_text::permission_letters;
 use cap_bounds::CapRep;
 use effect_texts::{put, put_decimal, value_text};
 use reached::{Member, Place};
@@ -35,7 +35,7 @@ fn put_from(text: &mut String, place: Place, from: usize) -> Result<(), AllocErr
 
 /// Appends the line of a member: its number, where it was found, the member that led there, and the capability.
 #[tactic(auto, unfolding(crate::specs::Text::member_line))]
-fn put_member<C: CapRep>(
+pub(crate) fn put_member<C: CapRep>(
     text: &mut String,
     symbols: &Symbols,
     number: usize,

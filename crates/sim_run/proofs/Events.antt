@@ -58,7 +58,7 @@ up_to_halt-append (x ∷ xs) ys s running = go (is_halted (after x s)) refl (up_
 -- ---- runs that are cut short
 
 -- more events before and after
-cut_within : (before events more : List Event) (old new : State) (a b c : Option (List ℕ))
+pub cut_within : (before events more : List Event) (old new : State) (a b c : Option (List ℕ))
     → Appends a b (run_sent before old) → IsCutShort events (run_after before old) new b c
     → IsCutShort (before ++ (events ++ more)) old new a c
 cut_within before events more old new a b c written cut = record {
@@ -222,7 +222,7 @@ run_sent-ticked : (b : Bool) (s : State) → run_sent (if b then Tick ∷ [] els
 run_sent-ticked true s = refl
 run_sent-ticked false s = refl
 
-steps_in-brought : (byte : Option ℕ) → steps_in (brought byte) ≡ 0
+pub steps_in-brought : (byte : Option ℕ) → steps_in (brought byte) ≡ 0
 steps_in-brought None = refl
 steps_in-brought (Some b) = refl
 

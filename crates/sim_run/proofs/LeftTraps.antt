@@ -71,7 +71,8 @@ module _ (schedule : Schedule) (input : List ℕ) (m : ℕ) (s t : State) (runni
     (so_far : t ≡ run_after (up_to_halt (first_steps schedule input m) s) s) (still : is_halted t ≡ false)
     (few : m + 1 ≤ schedule.steps) (count : steps_in (up_to_halt (first_steps schedule input m) s) ≡ m) where
   -- over one step more of a schedule
-  pub unhandled-more : unhandled m (trap_left (up_to_halt (first_steps schedule input m) s) s) (up_to_halt (nth_block schedule input m 1) t) t
+  pub unhandled-more : unhandled m (trap_left (up_to_halt (first_steps schedule input m) s) s)
+      (up_to_halt (nth_block schedule input m 1) t) t
       ≡ trap_left (up_to_halt (first_steps schedule input (m + 1)) s) s
   unhandled-more =
       let done = up_to_halt (first_steps schedule input m) s in

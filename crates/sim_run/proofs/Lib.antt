@@ -6,3 +6,5 @@ pub mod Listed
 pub mod TracedSteps
 pub mod LeftTraps
 pub mod Texts
+pub mod Stops
+pub mod FirstSteps

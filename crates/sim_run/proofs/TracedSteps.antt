@@ -1,8 +1,12 @@
 -- The lines of a traced run, and what is left of it where a sink fails.
-use Rattle.std.proofs.Common.{◌≡◌, ℕ, suc, ◌+◌, ◌-◌, ◌<◌, ◌≤◌, Bool, true, false, List, [], ◌∷◌, ◌++◌, replicate, refl, sym, ap, ◌∙◌}
+use Rattle.std.proofs.Common.{◌≡◌, ℕ, suc, ◌+◌, ◌-◌, ◌<◌, ◌≤◌, Bool, true, false, List, [], ◌∷◌, ◌++◌, length, drop}
+use Rattle.std.proofs.Common.{replicate, refl, sym, ap, ◌∙◌}
 use Rattle.std.proofs.Common.{append_assoc, append-nil, subst, arith}
 use Rattle.std.specs.Prelude.{Option, Some, None, is_some, option_to_list, if◌then◌else◌}
 use Rattle.std.specs.Io.KnownBytes.{Appends, Keeps}
+use Rattle.std.specs.List.{concat}
+use Rattle.std.proofs.lemmas.List.{drop-append-le, drop_all}
+use Rattle.std.proofs.lemmas.List.Folds.{concat-append}
 use Rattle.std.proofs.KnownBytes.{Appends-nil, Appends-trans, Appends-kept}
 use Rattle.image.specs.Devices.{AppendsBeginning}
 use Rattle.image.specs.BeginningLaws.{beginning_after}
@@ -16,23 +20,22 @@ use Rattle.sim_run.specs.declared.schedule.Schedule.{Schedule}
 use Rattle.sim_run.specs.declared.traced.TraceFault.{TraceFault}
 use Rattle.sim_run.specs.declared.traced.TraceFault.TheVariants.{Output, Trace}
 use Rattle.sim_run.specs.Schedule.{block, byte_before, is_tick_after, first_steps, is_halted, scheduled, steps_in, up_to_halt, AreAlone}
-use Rattle.sim_run.specs.Trace.{trace_lines, WasCut}
+use Rattle.sim_run.specs.Trace.{trace_lines, lines_past, WasCut}
 use Rattle.sim_run.proofs.Events.{brought, ticked_after, run_after-append, run_sent-append, run_sent-brought, goes_on}
 use Rattle.sim_run.proofs.Events.{up_to_halt-append, up_to_halt-block, then_up_to_halt, no_more, count_in_block, steps_in-append}
 use Rattle.sim_run.proofs.Scheduled.{nth_block, block_follows, more_follow, steps_from}
 
 -- ---- lines of events, one after the other
 
-trace_lines-append : (n : ℕ) (xs ys : List Event) (s : State)
+pub trace_lines-append : (n : ℕ) (xs ys : List Event) (s : State)
     → trace_lines n (xs ++ ys) s ≡ trace_lines n xs s ++ trace_lines (n + steps_in xs) ys (run_after xs s)
 trace_lines-append n [] ys s =
     let none : n ≡ n + 0 = omega arith in
     ap (λ m. trace_lines m ys s) none
 trace_lines-append n (Step ∷ xs) ys s =
     let one : n + 1 + steps_in xs ≡ n + suc (steps_in xs) = omega arith in
-    ap (λ lines. trace_line (n + 1) s ++ lines) (trace_lines-append (n + 1) xs ys (after Step s))
-    ∙ sym (append_assoc (trace_line (n + 1) s) (trace_lines (n + 1) xs (after Step s)) _)
-    ∙ ap (λ m. (trace_line (n + 1) s ++ trace_lines (n + 1) xs (after Step s)) ++ trace_lines m ys (run_after xs (after Step s))) one
+    ap (λ lines. trace_line (n + 1) s ∷ lines) (trace_lines-append (n + 1) xs ys (after Step s))
+    ∙ ap (λ m. (trace_line (n + 1) s ∷ trace_lines (n + 1) xs (after Step s)) ++ trace_lines m ys (run_after xs (after Step s))) one
 trace_lines-append n (Tick ∷ xs) ys s = trace_lines-append n xs ys (after Tick s)
 trace_lines-append n (Byte b ∷ xs) ys s = trace_lines-append n xs ys (after (Byte b) s)
 
@@ -45,21 +48,45 @@ trace_lines-ticked : (n : ℕ) (b : Bool) (s : State) → trace_lines n (if b th
 trace_lines-ticked n true s = refl
 trace_lines-ticked n false s = refl
 
+-- a line for each step
+pub length_lines : (n : ℕ) (xs : List Event) (s : State) → length (trace_lines n xs s) ≡ steps_in xs
+length_lines n [] s = refl
+length_lines n (Step ∷ xs) s = ap suc (length_lines (n + 1) xs (after Step s))
+length_lines n (Tick ∷ xs) s = length_lines n xs (after Tick s)
+length_lines n (Byte b ∷ xs) s = length_lines n xs (after (Byte b) s)
+
+-- where no more lines are left out than come before
+pub lines_past-append : (k n : ℕ) (xs ys : List Event) (s : State) → k ≤ steps_in xs
+    → lines_past k n (xs ++ ys) s ≡ lines_past k n xs s ++ lines_past 0 (n + steps_in xs) ys (run_after xs s)
+lines_past-append k n xs ys s few =
+    let lines = trace_lines n xs s in
+    let more = trace_lines (n + steps_in xs) ys (run_after xs s) in
+    let enough : k ≤ length lines = rw (length_lines n xs s) few in
+    ap (λ (all : List (List ℕ)). concat (drop k all)) (trace_lines-append n xs ys s)
+    ∙ ap concat (drop-append-le k lines more enough) ∙ concat-append (drop k lines) more
+
+-- and where all are
+pub no_lines_past : (k n : ℕ) (xs : List Event) (s : State) → steps_in xs ≤ k → lines_past k n xs s ≡ []
+no_lines_past k n xs s many =
+    let all : length (trace_lines n xs s) ≤ k = rw (length_lines n xs s) many in
+    ap concat (drop_all k (trace_lines n xs s) all)
+
 -- ---- runs that are cut short
 
 -- the lines of events after others
-lines_behind : (n : ℕ) (before done last : List Event) (old : State)
-    → trace_lines n before old ++ trace_lines (n + steps_in before) (done ++ last) (run_after before old)
-    ≡ trace_lines n ((before ++ done) ++ last) old
-lines_behind n before done last old =
-    sym (trace_lines-append n before (done ++ last) old) ∙ ap (λ es. trace_lines n es old) (sym (append_assoc before done last))
+lines_behind : (k n : ℕ) (before done last : List Event) (old : State) → k ≤ steps_in before
+    → lines_past k n before old ++ lines_past 0 (n + steps_in before) (done ++ last) (run_after before old)
+    ≡ lines_past k n ((before ++ done) ++ last) old
+lines_behind k n before done last old few =
+    sym (lines_past-append k n before (done ++ last) old few)
+    ∙ ap (λ es. lines_past k n es old) (sym (append_assoc before done last))
 
 -- more events before and after
-traced_within : (n : ℕ) (fault : TraceFault) (before events more : List Event) (old new : State) (a b c d e f : Option (List ℕ))
-    → Appends a b (run_sent before old) → Appends d e (trace_lines n before old)
-    → WasCut fault (n + steps_in before) events (run_after before old) new b c e f
-    → WasCut fault n (before ++ (events ++ more)) old new a c d f
-traced_within n Output before events more old new a b c d e f written traced cut = record {
+pub traced_within : (k n : ℕ) (fault : TraceFault) (before events more : List Event) (old new : State) (a b c d e f : Option (List ℕ))
+    → k ≤ steps_in before → Appends a b (run_sent before old) → Appends d e (lines_past k n before old)
+    → WasCut fault 0 (n + steps_in before) events (run_after before old) new b c e f
+    → WasCut fault k n (before ++ (events ++ more)) old new a c d f
+traced_within k n Output before events more old new a b c d e f few written traced cut = record {
   done = before ++ cut.done;
   last = cut.last;
   rest = cut.rest ++ more;
@@ -69,9 +96,9 @@ traced_within n Output before events more old new a b c d e f written traced cut
   state = cut.state ∙ ap (after cut.last) (sym (run_after-append before cut.done old));
   unwritten = rw (run_after-append before cut.done old) cut.unwritten;
   held = rw (run_sent-append before cut.done old) (Appends-trans a b c _ _ written cut.held);
-  lines = subst (Appends d f) (lines_behind n before cut.done (cut.last ∷ []) old) (Appends-trans d e f _ _ traced cut.lines);
+  lines = subst (Appends d f) (lines_behind k n before cut.done (cut.last ∷ []) old few) (Appends-trans d e f _ _ traced cut.lines);
 }
-traced_within n Trace before events more old new a b c d e f written traced cut = record {
+traced_within k n Trace before events more old new a b c d e f few written traced cut = record {
   done = before ++ cut.done;
   rest = cut.rest ++ more;
   order = ap (λ es. before ++ (es ++ more)) cut.order
@@ -79,7 +106,7 @@ traced_within n Trace before events more old new a b c d e f written traced cut 
       ∙ sym (append_assoc before cut.done (Step ∷ (cut.rest ++ more)));
   state = cut.state ∙ sym (run_after-append before cut.done old);
   held = rw (run_sent-append before cut.done old) (Appends-trans a b c _ _ written cut.held);
-  lines = subst (AppendsBeginning d f) (lines_behind n before cut.done (Step ∷ []) old)
+  lines = subst (AppendsBeginning d f) (lines_behind k n before cut.done (Step ∷ []) old few)
       (beginning_after d e f _ _ traced cut.lines);
 }
 
@@ -88,7 +115,7 @@ traced_within n Trace before events more old new a b c d e f written traced cut 
 -- the byte of a step was not written
 pub step_unwritten : (n : ℕ) (s u : State) (sent_byte : Option ℕ) (a b d e : Option (List ℕ)) → u ≡ after Step s
     → sent_byte ≡ sent Step s → is_some sent_byte ≡ true → Keeps a b → Appends d e (trace_line (n + 1) s)
-    → WasCut Output n (Step ∷ []) s u a b d e
+    → WasCut Output 0 n (Step ∷ []) s u a b d e
 step_unwritten n s u sent_byte a b d e there is some kept line = record {
   done = [];
   last = Step;
@@ -102,7 +129,7 @@ step_unwritten n s u sent_byte a b d e there is some kept line = record {
 
 -- the line of a step was not written
 pub step_untraced : (n : ℕ) (s : State) (a d e : Option (List ℕ)) → AppendsBeginning d e (trace_line (n + 1) s)
-    → WasCut Trace n (Step ∷ []) s s a a d e
+    → WasCut Trace 0 n (Step ∷ []) s s a a d e
 step_untraced n s a d e line = record {
   done = [];
   rest = [];
@@ -137,32 +164,32 @@ module _ (byte : Option ℕ) (ticks : Bool) (s t : State) (running : is_halted s
       count_in_block byte 1 ticks s t running at_byte (after Step t) (at_step t (after Step t) refl) ∙ ap steps_in (one_met t)
 
   pub lines_of_block : (n : ℕ) (a b : Option (List ℕ)) → Appends a b (trace_line (n + 1) t)
-      → Appends a b (trace_lines n (up_to_halt (block byte 1 ticks) s) s)
+      → Appends a b (lines_past 0 n (up_to_halt (block byte 1 ticks) s) s)
   lines_of_block n a b line =
-      let lines : trace_lines n (up_to_halt (block byte 1 ticks) s) s ≡ trace_line (n + 1) t =
-      ap (λ es. trace_lines n es s) one_block
-      ∙ trace_lines-brought n byte ((Step ∷ []) ++ ticked_after ticks (after Step t)) s
-      ∙ ap (λ v. trace_lines n ((Step ∷ []) ++ ticked_after ticks (after Step t)) v) (sym at_byte)
-      ∙ ap (λ more. trace_line (n + 1) t ++ more) (trace_lines-ticked (n + 1) _ (after Step t))
+      let lines : lines_past 0 n (up_to_halt (block byte 1 ticks) s) s ≡ trace_line (n + 1) t =
+      ap (λ es. lines_past 0 n es s) one_block
+      ∙ ap concat (trace_lines-brought n byte ((Step ∷ []) ++ ticked_after ticks (after Step t)) s)
+      ∙ ap (λ v. lines_past 0 n ((Step ∷ []) ++ ticked_after ticks (after Step t)) v) (sym at_byte)
+      ∙ ap (λ more. trace_line (n + 1) t ++ concat more) (trace_lines-ticked (n + 1) _ (after Step t))
       ∙ append-nil (trace_line (n + 1) t) in
       subst (Appends a b) (sym lines) line
 
   pub cut_in_one_block : (n : ℕ) (fault : TraceFault) (u : State) (a b d e : Option (List ℕ))
-      → WasCut fault n (Step ∷ []) t u a b d e → WasCut fault n (up_to_halt (block byte 1 ticks) s) s u a b d e
+      → WasCut fault 0 n (Step ∷ []) t u a b d e → WasCut fault 0 n (up_to_halt (block byte 1 ticks) s) s u a b d e
   cut_in_one_block n fault u a b d e cut =
       let none : n ≡ n + steps_in (brought byte) = steps_before n byte in
-      subst (λ es. WasCut fault n es s u a b d e) (sym one_block)
-      (traced_within n fault (brought byte) (Step ∷ []) (ticked_after ticks (after Step t)) s u a a b d d e
+      subst (λ es. WasCut fault 0 n es s u a b d e) (sym one_block)
+      (traced_within 0 n fault (brought byte) (Step ∷ []) (ticked_after ticks (after Step t)) s u a a b d d e (omega arith)
       (subst (Appends a a) (sym (run_sent-brought byte s)) (Appends-nil a))
       (subst (Appends d d) (sym (no_lines n byte s)) (Appends-nil d))
-      (subst (λ m. WasCut fault m (Step ∷ []) (run_after (brought byte) s) u a b d e) none
-      (subst (λ v. WasCut fault n (Step ∷ []) v u a b d e) at_byte cut)))
+      (subst (λ m. WasCut fault 0 m (Step ∷ []) (run_after (brought byte) s) u a b d e) none
+      (subst (λ v. WasCut fault 0 n (Step ∷ []) v u a b d e) at_byte cut)))
     where
       steps_before : (m : ℕ) (byte : Option ℕ) → m ≡ m + steps_in (brought byte)
       steps_before m None = omega arith
       steps_before m (Some b) = omega arith
 
-      no_lines : (m : ℕ) (byte : Option ℕ) (s : State) → trace_lines m (brought byte) s ≡ []
+      no_lines : (m : ℕ) (byte : Option ℕ) (s : State) → lines_past 0 m (brought byte) s ≡ []
       no_lines m None s = refl
       no_lines m (Some b) s = refl
 
@@ -205,35 +232,47 @@ module _ (schedule : Schedule) (input : List ℕ) where
         let both : steps_in (done ++ next) ≡ steps_in done + steps_in next = steps_in-append done next in
         ap steps_in met ∙ omega (arith, both, one, count)
 
-    pub more_lines : (a b c : Option (List ℕ)) → Appends a b (trace_lines 0 (up_to_halt (first_steps schedule input m) s) s)
-        → Appends b c (trace_lines m (up_to_halt (nth_block schedule input m 1) t) t)
-        → Appends a c (trace_lines 0 (up_to_halt (first_steps schedule input (m + 1)) s) s)
-    more_lines a b c before more =
+    -- all events of the schedule, past that step
+    pub more_whole : (past : List Event) × (up_to_halt (first_steps schedule input m) s
+        ++ (up_to_halt (nth_block schedule input m 1) t ++ past) ≡ scheduled schedule input s)
+    more_whole =
+        let done = up_to_halt (first_steps schedule input m) s in
+        let next = up_to_halt (nth_block schedule input m 1) t in
+        let past = steps_from schedule input (m + 1) (schedule.steps - (m + 1)) in
+        let later = then_up_to_halt past (run_after (up_to_halt (first_steps schedule input (m + 1)) s) s) in (
+          later,
+          sym (append_assoc done next later) ∙ ap (λ es. es ++ later) (sym met)
+              ∙ sym (up_to_halt-append (first_steps schedule input (m + 1)) past s running)
+              ∙ ap (λ es. up_to_halt es s) (sym (more_follow schedule input (m + 1) few)),
+        )
+
+    pub more_lines : (k : ℕ) (a b c : Option (List ℕ)) → k ≤ m
+        → Appends a b (lines_past k 0 (up_to_halt (first_steps schedule input m) s) s)
+        → Appends b c (lines_past 0 m (up_to_halt (nth_block schedule input m 1) t) t)
+        → Appends a c (lines_past k 0 (up_to_halt (first_steps schedule input (m + 1)) s) s)
+    more_lines k a b c past before more =
         let done = up_to_halt (first_steps schedule input m) s in
         let next = up_to_halt (nth_block schedule input m 1) t in
         let none : steps_in done ≡ 0 + steps_in done = omega arith in
-        let lines : trace_lines 0 done s ++ trace_lines m next t ≡ trace_lines 0 (up_to_halt (first_steps schedule input (m + 1)) s) s =
-        ap (λ k. trace_lines 0 done s ++ trace_lines k next t) (sym count ∙ none)
-        ∙ ap (λ v. trace_lines 0 done s ++ trace_lines (0 + steps_in done) next v) so_far
-        ∙ sym (trace_lines-append 0 done next s) ∙ ap (λ es. trace_lines 0 es s) (sym met) in
+        let enough : k ≤ steps_in done = rw count past in
+        let lines : lines_past k 0 done s ++ lines_past 0 m next t
+        ≡ lines_past k 0 (up_to_halt (first_steps schedule input (m + 1)) s) s =
+        ap (λ n. lines_past k 0 done s ++ lines_past 0 n next t) (sym count ∙ none)
+        ∙ ap (λ v. lines_past k 0 done s ++ lines_past 0 (0 + steps_in done) next v) so_far
+        ∙ sym (lines_past-append k 0 done next s enough) ∙ ap (λ es. lines_past k 0 es s) (sym met) in
         subst (Appends a c) lines (Appends-trans a b c _ _ before more)
 
-    pub more_cut : (fault : TraceFault) (u : State) (a b c d e f : Option (List ℕ))
+    pub more_cut : (k : ℕ) (fault : TraceFault) (u : State) (a b c d e f : Option (List ℕ)) → k ≤ m
         → Appends a b (run_sent (up_to_halt (first_steps schedule input m) s) s)
-        → Appends d e (trace_lines 0 (up_to_halt (first_steps schedule input m) s) s)
-        → WasCut fault m (up_to_halt (nth_block schedule input m 1) t) t u b c e f
-        → WasCut fault 0 (scheduled schedule input s) s u a c d f
-    more_cut fault u a b c d e f written traced cut =
+        → Appends d e (lines_past k 0 (up_to_halt (first_steps schedule input m) s) s)
+        → WasCut fault 0 m (up_to_halt (nth_block schedule input m 1) t) t u b c e f
+        → WasCut fault k 0 (scheduled schedule input s) s u a c d f
+    more_cut k fault u a b c d e f past written traced cut =
         let done = up_to_halt (first_steps schedule input m) s in
         let next = up_to_halt (nth_block schedule input m 1) t in
         let none : steps_in done ≡ 0 + steps_in done = omega arith in
-        let past = steps_from schedule input (m + 1) (schedule.steps - (m + 1)) in
-        let later = then_up_to_halt past (run_after (up_to_halt (first_steps schedule input (m + 1)) s) s) in
-        let whole : done ++ (next ++ later) ≡ scheduled schedule input s =
-        sym (append_assoc done next later) ∙ ap (λ es. es ++ later) (sym met)
-        ∙ sym (up_to_halt-append (first_steps schedule input (m + 1)) past s running)
-        ∙ ap (λ es. up_to_halt es s) (sym (more_follow schedule input (m + 1) few)) in
-        subst (λ es. WasCut fault 0 es s u a c d f) whole
-        (traced_within 0 fault done next later s u a b c d e f written traced
-        (subst (λ k. WasCut fault k next (run_after done s) u b c e f) (sym count ∙ none)
-        (subst (λ v. WasCut fault m next v u b c e f) so_far cut)))
+        let enough : k ≤ steps_in done = rw count past in
+        subst (λ es. WasCut fault k 0 es s u a c d f) more_whole.1
+        (traced_within k 0 fault done next more_whole.0 s u a b c d e f enough written traced
+        (subst (λ n. WasCut fault 0 n next (run_after done s) u b c e f) (sym count ∙ none)
+        (subst (λ v. WasCut fault 0 m next v u b c e f) so_far cut)))

@@ -4,6 +4,8 @@ pub mod Trace
 pub mod Verdict
 pub mod Unhandled
 pub mod Ending
+pub mod Stopping
 pub mod Listing
 -- Inner words
 pub mod Watched
+pub mod Stopped

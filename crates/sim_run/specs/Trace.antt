@@ -1,5 +1,6 @@
 -- A run with a trace: the lines that its steps leave, and what is done and written where a call of a sink fails.
-use Rattle.std.specs.Prelude.{◌≡◌, ℕ, ◌+◌, true, List, [], ◌∷◌, ◌++◌, Option, Result, Ok, Err, is_some}
+use Rattle.std.specs.Prelude.{◌≡◌, ℕ, ◌+◌, ◌-◌, true, List, [], ◌∷◌, ◌++◌, length, drop, Option, Some, None, Result, Ok, Err, is_some}
+use Rattle.std.specs.List.{concat}
 use Rattle.std.specs.Io.KnownBytes.{Appends}
 use Rattle.image.specs.Devices.{AppendsBeginning}
 use Rattle.hart.specs.declared.event.Event.{Event}
@@ -12,15 +13,29 @@ use Rattle.sim_run.specs.declared.traced.TraceFault.{TraceFault}
 use Rattle.sim_run.specs.declared.traced.TraceFault.TheVariants.{Output, Trace}
 
 -- a line for each step among the events, numbered after the steps that came before
-abbrev pub trace_lines : ℕ → List Event → State → List ℕ
+abbrev pub trace_lines : ℕ → List Event → State → List (List ℕ)
 trace_lines before [] s = []
-trace_lines before (Step ∷ es) s = trace_line (before + 1) s ++ trace_lines (before + 1) es (after Step s)
+trace_lines before (Step ∷ es) s = trace_line (before + 1) s ∷ trace_lines (before + 1) es (after Step s)
 trace_lines before (Tick ∷ es) s = trace_lines before es (after Tick s)
 trace_lines before (Byte b ∷ es) s = trace_lines before es (after (Byte b) s)
 
+-- but for the first so many, as one text
+abbrev pub lines_past : ℕ → ℕ → List Event → State → List ℕ
+lines_past skipped before events s = concat (drop skipped (trace_lines before events s))
+
+-- the last so many of lines, where not all are kept
+abbrev pub last_lines : Option ℕ → List (List ℕ) → List (List ℕ)
+last_lines None lines = lines
+last_lines (Some n) lines = drop (length lines - n) lines
+
+-- the text of a run's trace: the lines of the steps from a number on, counted from 1, and of those the last so many
+abbrev pub trace_text : ℕ → Option ℕ → List Event → State → List ℕ
+trace_text from last events s = concat (last_lines last (drop (from - 1) (trace_lines 0 events s)))
+
 -- The output failed: the machine met the events up to the one whose byte was not written. The bytes before it are written, and the
--- lines with that of the last step.
-pub record IsOutputCut (before : ℕ) (events : List Event) (old new : State) (held_old held_new traced_old traced_new : Option (List ℕ))
+-- lines with that of the last step, but for the first so many.
+pub record IsOutputCut (skipped before : ℕ) (events : List Event) (old new : State)
+    (held_old held_new traced_old traced_new : Option (List ℕ))
     : Type 0 where
   pub done : List Event
   pub last : Event
@@ -29,26 +44,27 @@ pub record IsOutputCut (before : ℕ) (events : List Event) (old new : State) (h
   pub state : new ≡ after last (run_after done old)
   pub unwritten : is_some (sent last (run_after done old)) ≡ true
   pub held : Appends held_old held_new (run_sent done old)
-  pub lines : Appends traced_old traced_new (trace_lines before (done ++ last ∷ []) old)
+  pub lines : Appends traced_old traced_new (lines_past skipped before (done ++ last ∷ []) old)
 
 -- The trace failed: the machine met the events up to a step that is not done. What they sent is written, and of the lines with that of
--- the step a beginning.
-pub record IsTraceCut (before : ℕ) (events : List Event) (old new : State) (held_old held_new traced_old traced_new : Option (List ℕ))
+-- the step a beginning. A sink that writes in blocks holds what it has not written yet: its file then has a beginning of that.
+pub record IsTraceCut (skipped before : ℕ) (events : List Event) (old new : State)
+    (held_old held_new traced_old traced_new : Option (List ℕ))
     : Type 0 where
   pub done : List Event
   pub rest : List Event
   pub order : events ≡ done ++ Step ∷ rest
   pub state : new ≡ run_after done old
   pub held : Appends held_old held_new (run_sent done old)
-  pub lines : AppendsBeginning traced_old traced_new (trace_lines before (done ++ Step ∷ []) old)
+  pub lines : AppendsBeginning traced_old traced_new (lines_past skipped before (done ++ Step ∷ []) old)
 
 -- what a fault left
-abbrev pub WasCut : TraceFault → ℕ → List Event → State → State → Option (List ℕ) → Option (List ℕ) → Option (List ℕ) → Option (List ℕ)
-    → Type 0
-WasCut Output before events old new held_old held_new traced_old traced_new =
-    IsOutputCut before events old new held_old held_new traced_old traced_new
-WasCut Trace before events old new held_old held_new traced_old traced_new =
-    IsTraceCut before events old new held_old held_new traced_old traced_new
+abbrev pub WasCut : TraceFault → ℕ → ℕ → List Event → State → State → Option (List ℕ) → Option (List ℕ) → Option (List ℕ)
+    → Option (List ℕ) → Type 0
+WasCut Output skipped before events old new held_old held_new traced_old traced_new =
+    IsOutputCut skipped before events old new held_old held_new traced_old traced_new
+WasCut Trace skipped before events old new held_old held_new traced_old traced_new =
+    IsTraceCut skipped before events old new held_old held_new traced_old traced_new
 
 -- The count of failures of the sink that failed rises by one, and no other.
 abbrev pub CountsTraced : {T : Type 0} → Result T TraceFault → ℕ → ℕ → ℕ → ℕ → Type 0

@@ -164,7 +164,7 @@ fn put_since(text: &mut String, count: u64) -> Result<(), AllocError>
 }
 
 /// Appends how many steps were done and where PCC is to a text.
-fn put_place<C: CapRep>(
+pub(crate) fn put_place<C: CapRep>(
     text: &mut String,
     machine: &Machine<C>,
     steps: u64,

@@ -1,15 +1,19 @@
 //! A machine that is run on a schedule, and the listing of an image.
 #![tactic(auto)]
 
+mod before;
 mod ending;
 mod listing;
 mod run;
 mod schedule;
+mod stopping;
 mod traced;
 mod unhandled;
 
+pub use before::{count_steps, lines_skipped, run_before, run_traced_before};
 pub use ending::{ending_lines, verdict};
 pub use listing::list;
 pub use run::{Ran, run_counted, run_scheduled};
 pub use schedule::Schedule;
+pub use stopping::{StopAt, find_stop, stopped_lines};
 pub use traced::{TraceFault, run_traced};

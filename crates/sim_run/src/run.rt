@@ -6,7 +6,7 @@ ghost use Rattle.image.specs.Devices.{Counts};
 ghost use Rattle.hart.specs.declared.event.Event.TheVariants.{Step, Tick, Byte};
 ghost use Rattle.machine.specs.Run.{run_after, run_sent, end_of};
 ghost use Rattle.sim_run.specs.Schedule.{byte_before, is_tick_after, block, AreAlone, is_halted, steps_in};
-ghost use Rattle.sim_run.specs.Schedule.{up_to_halt, scheduled, IsCutShort, IsInRange, IsRunnable};
+ghost use Rattle.sim_run.specs.Schedule.{first_steps, up_to_halt, scheduled, IsCutShort, IsInRange, IsRunnable};
 
 use crate::schedule::Schedule;
 use cap_bounds::CapRep;
@@ -16,7 +16,7 @@ use machine::{End, Event, Machine};
 impl Schedule {
     /// The byte that comes just before this step, counted from 1.
     #[tactic(auto, unfolding(crate::specs::Schedule::byte_before))]
-    pub(crate) fn byte_before(self, input: &[u8], step: u64) -> Option<u8>
+    pub fn byte_before(self, input: &[u8], step: u64) -> Option<u8>
         requires gap { 1 ≤ self.gap }
         requires step { 1 ≤ step }
         ensures { result ≡ byte_before self input.now step }
@@ -30,7 +30,7 @@ impl Schedule {
 
     /// Whether a tick comes after this step, counted from 1.
     #[tactic(auto, unfolding(crate::specs::Schedule::is_tick_after))]
-    pub(crate) fn is_tick_after(self, step: u64) -> bool
+    pub fn is_tick_after(self, step: u64) -> bool
         ensures { result ≡ is_tick_after self step }
     {
         self.tick != 0 && step % self.tick == 0
@@ -212,6 +212,31 @@ pub fn run_counted<C: CapRep, W: Sink>(
     }
     let end = End::Running;
     Ok(Ran { end, steps })
+}
+
+/// Does the first so many steps of a schedule.
+pub(crate) fn skip<C: CapRep, W: Sink>(
+    machine: &mut Machine<C>,
+    schedule: Schedule,
+    input: &[u8],
+    count: u64,
+    sink: &mut W,
+) -> Result<Ran, DeviceFailed>
+    requires range { IsRunnable schedule }
+    requires few { count ≤ schedule.steps }
+    requires running { is_halted machine.old ≡ false }
+    requires failed { W.failed sink.old < 2 ^ 64 - 1 }
+    ensures state { OnOk result (machine.new ≡ run_after (up_to_halt (first_steps schedule input.now count) machine.old) machine.old) }
+    ensures bytes { OnOk result (Appends (W.held sink.old) (W.held sink.new)
+        (run_sent (up_to_halt (first_steps schedule input.now count) machine.old) machine.old)) }
+    ensures end { IfOk result (λ ran. ran.end ≡ end_of machine.new) }
+    ensures steps { IfOk result (λ ran. ran.steps ≡ steps_in (up_to_halt (first_steps schedule input.now count) machine.old)) }
+    ensures cut { OnErr result (IsCutShort (up_to_halt (first_steps schedule input.now count) machine.old) machine.old machine.new
+        (W.held sink.old) (W.held sink.new)) }
+    ensures count { Counts (W.failed sink.old) (W.failed sink.new) result }
+{
+    let first = schedule.first(count);
+    run_counted(machine, first, input, sink)
 }
 
 /// Runs a machine that is not halted by a schedule, gives it the bytes of `input`, and writes each byte that it sends at once.

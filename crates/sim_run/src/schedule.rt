@@ -1,4 +1,4 @@
-ghost use Rattle.std.specs.Prelude.{ℕ, ◌+◌, ◌*◌, ◌<◌, ◌≤◌, ◌↔◌, IsTrue};
+ghost use Rattle.std.specs.Prelude.{ℕ, ◌≡◌, ◌+◌, ◌*◌, ◌<◌, ◌≤◌, ◌↔◌, IsTrue};
 ghost use Rattle.sim_run.specs.Schedule.{IsInRange, IsRunnable};
 
 /// When a run ends, and when bytes and ticks come.
@@ -32,5 +32,19 @@ impl Schedule {
         ensures unused { (i : ℕ) → result ≤ i → self.steps < 1 + i * self.gap }
     {
         (self.steps - 1) / self.gap + 1
+    }
+
+    /// The schedule of its first steps, at most all of them.
+    pub(crate) fn first(self, count: u64) -> Self
+        requires range { IsRunnable self }
+        requires few { count ≤ self.steps }
+        ensures range { IsRunnable result }
+        ensures value { result ≡ record self { steps = count } }
+    {
+        Schedule {
+            steps: count,
+            gap: self.gap,
+            tick: self.tick,
+        }
     }
 }

@@ -7,9 +7,9 @@ ghost use Rattle.hart.specs.declared.event.Event.TheVariants.{Step};
 ghost use Rattle.machine.specs.Run.{run_after, run_sent, end_of};
 ghost use Rattle.effect_texts.specs.TraceLine.{trace_line as trace_line_of};
 ghost use Rattle.sim_run.specs.Schedule.{block, is_halted, scheduled, steps_in, up_to_halt, IsRunnable};
-ghost use Rattle.sim_run.specs.Trace.{trace_lines, CountsTraced, WasCut};
+ghost use Rattle.sim_run.specs.Trace.{lines_past, CountsTraced, WasCut};
 
-use crate::run::{Ran, bring, pass, write_sent};
+use crate::run::{Ran, bring, pass, skip, write_sent};
 use crate::schedule::Schedule;
 use cap_bounds::CapRep;
 use effect_texts::trace_line;
@@ -38,7 +38,7 @@ fn meet_step<C: CapRep, W: Sink, T: Sink>(
     ensures state { OnOk result (machine.new ≡ after Step machine.old) }
     ensures bytes { OnOk result (Appends (W.held sink.old) (W.held sink.new) (option_to_list (sent Step machine.old))) }
     ensures lines { OnOk result (Appends (T.held trace.old) (T.held trace.new) (trace_line_of (before + 1) machine.old)) }
-    ensures cut { IfErr result (λ fault. WasCut fault before (Step ∷ []) machine.old machine.new (W.held sink.old) (W.held sink.new)
+    ensures cut { IfErr result (λ fault. WasCut fault 0 before (Step ∷ []) machine.old machine.new (W.held sink.old) (W.held sink.new)
         (T.held trace.old) (T.held trace.new)) }
     ensures count { CountsTraced result (W.failed sink.old) (W.failed sink.new) (T.failed trace.old) (T.failed trace.new) }
 {
@@ -72,8 +72,8 @@ fn meet_around<C: CapRep, W: Sink, T: Sink>(
     ensures bytes { OnOk result (Appends (W.held sink.old) (W.held sink.new)
         (run_sent (up_to_halt (block byte 1 ticks) machine.old) machine.old)) }
     ensures lines { OnOk result (Appends (T.held trace.old) (T.held trace.new)
-        (trace_lines before (up_to_halt (block byte 1 ticks) machine.old) machine.old)) }
-    ensures cut { IfErr result (λ fault. WasCut fault before (up_to_halt (block byte 1 ticks) machine.old) machine.old machine.new
+        (lines_past 0 before (up_to_halt (block byte 1 ticks) machine.old) machine.old)) }
+    ensures cut { IfErr result (λ fault. WasCut fault 0 before (up_to_halt (block byte 1 ticks) machine.old) machine.old machine.new
         (W.held sink.old) (W.held sink.new) (T.held trace.old) (T.held trace.new)) }
     ensures count { CountsTraced result (W.failed sink.old) (W.failed sink.new) (T.failed trace.old) (T.failed trace.new) }
 {
@@ -87,8 +87,9 @@ fn meet_around<C: CapRep, W: Sink, T: Sink>(
     Ok(())
 }
 
-/// Runs a machine as `run_counted` does, step by step, and writes a line for each step to `trace`: the step's number, counted from 1,
-/// PCC's address, the word of the instruction there with its text, and what the step comes to.
+/// Runs a machine as `run_counted` does, and past the first `skipped` steps step by step: of each of those steps it writes a line to
+/// `trace`, with the step's number, counted from 1, PCC's address, the word of the instruction there with its text, and what the step
+/// comes to.
 ///
 /// The line of a step is written before the step is done. Where it could not be written, the step is not done and the run ends there;
 /// where a byte could not be written, it ends after the step that sent it, as an untraced run does. It takes no memory.
@@ -96,6 +97,7 @@ pub fn run_traced<C: CapRep, W: Sink, T: Sink>(
     machine: &mut Machine<C>,
     schedule: Schedule,
     input: &[u8],
+    skipped: u64,
     sink: &mut W,
     trace: &mut T,
 ) -> Result<Ran, TraceFault>
@@ -107,14 +109,23 @@ pub fn run_traced<C: CapRep, W: Sink, T: Sink>(
     ensures bytes { OnOk result (Appends (W.held sink.old) (W.held sink.new)
         (run_sent (scheduled schedule input.now machine.old) machine.old)) }
     ensures lines { OnOk result (Appends (T.held trace.old) (T.held trace.new)
-        (trace_lines 0 (scheduled schedule input.now machine.old) machine.old)) }
+        (lines_past skipped 0 (scheduled schedule input.now machine.old) machine.old)) }
     ensures end { IfOk result (λ ran. ran.end ≡ end_of machine.new) }
     ensures steps { IfOk result (λ ran. ran.steps ≡ steps_in (scheduled schedule input.now machine.old)) }
-    ensures cut { IfErr result (λ fault. WasCut fault 0 (scheduled schedule input.now machine.old) machine.old machine.new
+    ensures cut { IfErr result (λ fault. WasCut fault skipped 0 (scheduled schedule input.now machine.old) machine.old machine.new
         (W.held sink.old) (W.held sink.new) (T.held trace.old) (T.held trace.new)) }
     ensures count { CountsTraced result (W.failed sink.old) (W.failed sink.new) (T.failed trace.old) (T.failed trace.new) }
 {
-    let mut done = 0;
+    let first = skipped.min(schedule.steps);
+    match skip(machine, schedule, input, first, sink) {
+        Ok(ran) => {
+            if machine.halted().is_some() {
+                return Ok(ran);
+            }
+        }
+        Err(_) => return Err(TraceFault::Output),
+    }
+    let mut done = first;
     while done < schedule.steps {
         let byte = schedule.byte_before(input, done + 1);
         let ticks = schedule.is_tick_after(done + 1);

@@ -26,7 +26,7 @@ use machine::Machine;
 use std::alloc::{AllocError, Global};
 
 /// The fault of a step that traps.
-fn trap_in<C: CapRep>(planned: &Planned<C>) -> Option<Fault>
+pub(crate) fn trap_in<C: CapRep>(planned: &Planned<C>) -> Option<Fault>
     ensures { result ≡ trap_in (meant C.value planned.now.effect) }
 {
     match planned.effect {

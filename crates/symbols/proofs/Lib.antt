@@ -1,3 +1,4 @@
+mod BeginningLemmas
 mod LineLemmas
 mod PlaceLemmas
 mod TableLemmas

@@ -1,17 +1,14 @@
 -- Lines that are cut off a text, and the digits of an address.
 use Rattle.std.proofs.Common.{◌≡◌, ℕ, zero, suc, ◌+◌, ◌<◌, ◌≤◌, Bool, true, false, ◌&&◌, List, [], ◌∷◌, ◌++◌, refl, ap}
 use Rattle.std.proofs.Common.{arith, length, take, drop}
-use Rattle.std.specs.Prelude.{◌==◌, not, IsTrue}
+use Rattle.std.specs.Prelude.{◌==◌, IsTrue}
 use Rattle.std.specs.List.{prefix_len}
 use Rattle.std.specs.Char.{digit_value}
 use Rattle.std.specs.Str.Parse.{AllDigits, digits_value}
 use Rattle.std.proofs.lemmas.Bool.Decides.{nat_tests}
 use Rattle.std.proofs.lemmas.Int.Digits.{digits_value-lt}
+use Rattle.symbols.specs.Reads.{line_length}
 use Rattle.symbols.specs.Symbols.{lines_of, onto_first, has_address, is_symbol, is_label, is_hexadecimal_digit, name_of, symbols_in}
-
--- the length of the first line
-abbrev pub line_length : List ℕ → ℕ
-line_length text = prefix_len (λ b. not (b == 10)) text
 
 pub line_cut : (text : List ℕ) → line_length text < length text
     → lines_of text ≡ take (line_length text) text ∷ lines_of (drop (line_length text + 1) text)

@@ -1,6 +1,7 @@
 //! Tables of symbols: the names of addresses, as lines of a text, and what is looked up in them.
 #![tactic(auto)]
 
+mod beginning;
 mod fault;
 pub mod laws;
 mod lines;
@@ -9,6 +10,7 @@ mod symbol;
 mod table;
 mod writing;
 
+pub use beginning::{Beginning, look_at_beginning};
 pub use fault::SymbolsFault;
 pub use symbol::{Symbol, is_label};
 pub use table::{Symbols, read_symbols};

@@ -76,5 +76,20 @@ class Texts(unittest.TestCase):
                          [f"yes: ca3 -> 0000000080000100 <entry> {held}"])
         self.assertEqual(answered(found, "may halt"), ["no, until the next trap, unsealing or sealed jump"])
         self.assertEqual(answered(found, "reach members")[3], f"3 0000000080000100 from 1 {held}")
-        self.assertEqual(answered(found, "reach")[:5], ["members 4", "system registers no", "sends yes", "halts no",
-                                                        "sets the timer no"])
+
+    def test_a_summary_has_counts_ranges_registers_types_and_what_is_sealed(self):
+        program, steps = narrowed("csealentry ca2, ca0", *bounded("ca3", 0x100, 32, 0x15), keep=("ca2", "ca3"),
+                                  data=[cap(0x10000000, 1, 0x8), cap(1, 2, 0x80)])
+        found = Straight(program).steps(steps).members()
+        self.assertEqual(answered(found, "reach", [(0x80000000, "start")]), [
+            "members 6: registers 4, special registers 0, memory 2, sealed 1",
+            "load 0000000080000000 <start> to 00000000080000120",
+            "load capabilities 0000000080000100 <start+256> to 00000000080000120",
+            "store 0000000010000000 to 00000000010000001",
+            "execute 0000000080000000 <start> to 00000000080000100",
+            "device transmit -W",
+            "system registers no",
+            "seal 00001 to 00003",
+            "unseal none",
+            "1 ca2 GXRWcCLsiuSd v:1 a:0000000080000000 b:0000000000000000 t:10000000000000000 p:78fff f:0 o:3fffe",
+        ])

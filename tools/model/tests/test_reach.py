@@ -6,8 +6,8 @@ from random import Random
 
 from model.capabilities import ONE, capability, integer, seal, untagged
 from model.devices import HALT, RAM, TIMER, TIMER_COMPARE, TRANSMIT
-from model.reach import GRANULE, ROOT, SPECIAL, State, chain, first, members, opens
-from model.rights import ALL, LOAD, LOAD_CAPABILITY, STORE
+from model.reach import GRANULE, ROOT, SPECIAL, Member, State, accesses, chain, first, members, opened, opens, sealing
+from model.rights import ALL, EXECUTE, LOAD, LOAD_CAPABILITY, SEAL, STORE
 from model.tests.begun import in_memory, root
 from model.words import ONES
 
@@ -100,6 +100,9 @@ class Compartments(unittest.TestCase):
         self.assertEqual([first(found, "hold", otype) for otype in (0, 1, 2, 3)], [None, 3, 1, None])
         self.assertEqual([first(found, "store", RAM + number * 4096, 4096) for number in range(8)], [None] * 6 + [0, None])
         self.assertEqual([first(found, "learn", RAM + number * 4096, 4096) for number in range(8)], [None] * 5 + [5, 0, None])
+        pages = [(self.A_CODE, self.A_DATA + 4096)], [(self.A_DATA, self.A_DATA + 4096)]
+        self.assertEqual([opened(found, perms) for perms in (LOAD, LOAD | LOAD_CAPABILITY, STORE)], [*pages, pages[1]])
+        self.assertEqual((opened(found, EXECUTE), sealing(found, SEAL), accesses(found)), ([(self.A_CODE, self.A_DATA)], [], {}))
 
     def test_b_is_called_and_a_is_come_back_to_with_the_doors_alone(self):
         for code, data in ((self.B_CODE, self.B_DATA), (self.A_CODE, self.A_DATA)):
@@ -153,6 +156,45 @@ class Opening(unittest.TestCase):
         found = members(state({4: capability(ONES, ONES + 1, ONES, STORE)}))
         self.assertEqual([first(found, "store", ONES, ONES), first(found, "store", 0, ONES), first(found, "load", ONES, 1)],
                          [0, None, None])
+
+
+def holding(*values):
+    """Members of these values."""
+    return [Member(value, (ROOT, number), None) for number, value in enumerate(values)]
+
+
+def bounds(first, end, perms):
+    return capability(first, end, first, perms)
+
+
+class Opened(unittest.TestCase):
+    """The ranges that members open."""
+
+    def test_ranges_have_the_numbers_in_some_bounds_and_are_apart(self):
+        dice = Random(0)
+        for _ in range(2000):
+            values = [(first, first + dice.randrange(6), dice.choice([LOAD, LOAD, STORE]))
+                      for first in (dice.randrange(24) for _ in range(dice.randrange(7)))]
+            ranges = opened(holding(*(bounds(*value) for value in values)), LOAD)
+            numbers = {number for first, end, perms in values if perms == LOAD for number in range(first, end)}
+            self.assertEqual({number for first, end in ranges for number in range(first, end)}, numbers)
+            ends = [number for pair in ranges for number in pair]
+            self.assertTrue(all(before < after for before, after in zip(ends, ends[1:])))
+
+    def test_all_permissions_are_asked_for_and_what_is_sealed_opens_nothing(self):
+        found = holding(bounds(0, 4, LOAD), bounds(8, 12, LOAD | LOAD_CAPABILITY), bounds(16, 20, LOAD_CAPABILITY),
+                     seal(bounds(24, 28, ALL), root(7)))
+        self.assertEqual([opened(found, perms) for perms in (LOAD, LOAD | LOAD_CAPABILITY, EXECUTE)], [[(0, 4), (8, 12)], [(8, 12)], []])
+
+    def test_reserved_types_are_left_out(self):
+        for first, end, ranges in ((0x3FFF0, 0x40010, [(0x3FFF0, 0x3FFFC)]), (0x3FFFB, 0x3FFFC, [(0x3FFFB, 0x3FFFC)]),
+                                   (0x3FFFC, 0x40000, []), (1, 3, [(1, 3)])):
+            self.assertEqual(sealing(holding(bounds(first, end, SEAL)), SEAL), ranges)
+
+    def test_a_register_is_opened_by_its_first_byte(self):
+        found = holding(bounds(TIMER, TIMER + 8, LOAD), bounds(TRANSMIT, TRANSMIT + 1, STORE), bounds(HALT + 1, HALT + 8, LOAD | STORE),
+                     bounds(TRANSMIT, TRANSMIT + 8, EXECUTE), bounds(TIMER_COMPARE, TIMER_COMPARE, ALL))
+        self.assertEqual(accesses(found), {"mtime": [True, False], "transmit": [False, True]})
 
 
 def least_closed(held):

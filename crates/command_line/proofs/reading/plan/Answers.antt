@@ -1,21 +1,29 @@
-use Rattle.std.proofs.Common.{◌≡◌, List, [], true, refl, ap, ◌∙◌, subst, sym}
+use Rattle.std.proofs.Common.{◌≡◌, Bool, List, [], true, false, map, refl, ap, ◌∙◌, subst, sym}
 use Rattle.std.proofs.Common.{inl, inr}
-use Rattle.clap.specs.Words.{App, HasKind, HasMatchesOf, Text, fault_of, is_simple_and_free, kind_of, subcommand_of, subcommand_rows_of}
+use Rattle.clap.specs.Words.{App, HasKind, HasMatchesOf, Text, fault_of, is_simple, is_simple_and_free, kind_of, subcommand_rows_of}
 use Rattle.clap.specs.declared.parser.matches.ArgMatches.{ArgMatches}
 use Rattle.clap.specs.declared.error.Error.{Error}
 use Rattle.clap.specs.declared.error.kind.ErrorKind.{ErrorKind}
-use Rattle.command_line.specs.CommandLine.{program, IsPlanOf, NoPlanFits}
+use Rattle.command_line.specs.CommandLine.{program, program_of, asks_all, found_in, IsPlanOf, IsTaken, NoPlanFits}
 use Rattle.command_line.proofs.reading.plan.Goals as goal
 
 -- what clap says of errors holds of a command without rules between its arguments, as the program's
-is_free : (app : App) → app ≡ program → is_simple_and_free app ≡ true
-is_free app e = subst (λ a. is_simple_and_free a ≡ true) (sym e) refl
+program_is_free : (all : Bool) → is_simple_and_free (program all) ≡ true
+program_is_free true = refl
+program_is_free false = refl
 
-no_fault : (app : App) (words : List Text) → app ≡ program → fault_of app words ≡ [] → fault_of program words ≡ []
+program_is_simple : (all : Bool) → is_simple (program all) ≡ true
+program_is_simple true = refl
+program_is_simple false = refl
+
+is_free : (app : App) (all : Bool) → app ≡ program all → is_simple_and_free app ≡ true
+is_free app all e = subst (λ a. is_simple_and_free a ≡ true) (sym e) (program_is_free all)
+
+no_fault : (app : App) (words : List Text) → app ≡ program_of words → fault_of app words ≡ [] → IsTaken words
 no_fault app words e h = subst (λ a. fault_of a words ≡ []) e h
 
 -- where nothing is wrong with the words, the error is that there is no memory
-only_memory : (app : App) (words : List Text) (e : Error) → app ≡ program → fault_of program words ≡ [] → HasKind (fault_of app words) e
+only_memory : (app : App) (words : List Text) (e : Error) → app ≡ program_of words → IsTaken words → HasKind (fault_of app words) e
     → kind_of e ≡ ErrorKind.OutOfMemory
 only_memory app words e is none h = go (subst (λ k. HasKind k e) (ap (λ a. fault_of a words) is ∙ none) h)
   where
@@ -24,24 +32,31 @@ only_memory app words e is none h = go (subst (λ k. HasKind k e) (ap (λ a. fau
     go (inr among) = absurd among
 
 -- what clap found in the words
-found_in : (app : App) (words : List Text) (m : ArgMatches) → app ≡ program → HasMatchesOf app words m
-    → subcommand_rows_of m ≡ subcommand_of program words
-found_in app words m is has = (subst (λ a. HasMatchesOf a words m) is has refl).1
+found_is : (app : App) (words : List Text) (m : ArgMatches) → app ≡ program_of words → HasMatchesOf app words m
+    → subcommand_rows_of m ≡ found_in words
+found_is app words m is has = (subst (λ a. HasMatchesOf a words m) is has (program_is_simple (asks_all words))).1
+
+-- the command that was made is the program of the words
+made : (app : App) (all : Bool) (words : List Text) → app ≡ program all → all ≡ asks_all words → app ≡ program_of words
+made app all words is asked = is ∙ ap program asked
 
 pub returns-in-Ok-plan_of-clause-ok : goal.returns-in-Ok-plan_of-clause-ok
 returns-in-Ok-plan_of-clause-ok c =
-    subst (λ found. IsPlanOf found c.in-Ok-plan_of.plan) (found_in _ _ _ c.in_ok-command.ensures c.in-Ok.ensures.ok.2)
-    c.in-Ok-plan_of.ensures.value
+    let is = made _ _ (map (λ word. word.now) c.args.words.now) c.in_ok-command.ensures c.asks_all.ensures in
+    subst (λ found. IsPlanOf found c.in-Ok-plan_of.plan) (found_is _ _ _ is c.in-Ok.ensures.ok.2) c.in-Ok-plan_of.ensures.value
 
 pub returns-clause-err : goal.returns-clause-err
-returns-clause-err c = λ taken fits.
-    absurd (fits (subst (λ found. NoPlanFits found)
-    (found_in _ _ _ c.in_ok-command.ensures c.in-Ok.ensures.ok.2) c.in-Err-plan_of.ensures.none))
+returns-clause-err c =
+    let is = made _ _ (map (λ word. word.now) c.args.words.now) c.in_ok-command.ensures c.asks_all.ensures in
+    λ taken fits. absurd (fits (subst (λ found. NoPlanFits found) (found_is _ _ _ is c.in-Ok.ensures.ok.2) c.in-Err-plan_of.ensures.none))
 
 pub returns-in-Ok-plan_of-clause-taken : goal.returns-in-Ok-plan_of-clause-taken
-returns-in-Ok-plan_of-clause-taken c = no_fault _ _ c.in_ok-command.ensures (c.in-Ok.ensures.kinds (is_free _ c.in_ok-command.ensures))
+returns-in-Ok-plan_of-clause-taken c =
+    let is = made _ _ (map (λ word. word.now) c.args.words.now) c.in_ok-command.ensures c.asks_all.ensures in
+    no_fault _ _ is (c.in-Ok.ensures.kinds (is_free _ _ c.in_ok-command.ensures))
 
 pub returns-in-Err-clause-err : goal.returns-in-Err-clause-err
-returns-in-Err-clause-err c = λ taken fits.
-    c.fault_of.ensures
-    (only_memory _ _ c.in-Err.error c.in_ok-command.ensures taken (c.in-Err.ensures.kinds (is_free _ c.in_ok-command.ensures)))
+returns-in-Err-clause-err c =
+    let is = made _ _ (map (λ word. word.now) c.args.words.now) c.in_ok-command.ensures c.asks_all.ensures in
+    λ taken fits.
+    c.fault_of.ensures (only_memory _ _ c.in-Err.error is taken (c.in-Err.ensures.kinds (is_free _ _ c.in_ok-command.ensures)))

@@ -1,15 +1,9 @@
-use Rattle.commands.proofs.Debugged.{debugged, debugged_with}
+use Rattle.commands.proofs.Debugged.{debugged}
 use Rattle.commands.proofs.debugging.debug_file.Goals as goal
-
-pub returns-in-Some : goal.returns-in-Some
-returns-in-Some g c =
-    let table = c.in_ok-table-in-Some in
-    rw c.in-Some.is (debugged_with g.O.Write.contents c.in_ok-image.image table.table (g.I.Read.remaining c.args.input)
-    (g.O.Write.contents c.args.output) c.debug_image.result _ _ c.in_ok-image.ensures.ok table.ensures.correct table.ensures.symbols
-    c.debug_image.ensures)
 
 pub returns : goal.returns
 returns g c =
-    rw c.in-None.is (debugged g.O.Write.contents c.in_ok-image.image c.new.result (g.I.Read.remaining c.args.input)
-    (g.O.Write.contents c.args.output) c.debug_image-in-None.result _ c.in_ok-image.ensures.ok c.new.ensures
-    c.debug_image-in-None.ensures)
+    debugged g.O.Write.contents (g.F.Folder.files c.args.folder.now) c.args.symbols c.args.keys c.args.gap c.args.tick
+    (g.I.Read.remaining c.args.input) (g.O.Write.contents c.args.output) c.in_ok-image.image c.in_ok-table.table
+    c.in_ok-typed.typed.items c.debug_image.result _ c.schedule_asked-schedule.result c.is_some.result c.in_ok-image.ensures.ok
+    c.in_ok-table.ensures c.in_ok-typed.ensures c.is_some.ensures c.schedule_asked-schedule.ensures.value c.debug_image.ensures

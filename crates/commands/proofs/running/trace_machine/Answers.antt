@@ -1,8 +1,8 @@
-use Rattle.commands.proofs.Filing.{gains_whole}
+use Rattle.commands.proofs.Filing.{gains_closed}
 use Rattle.commands.proofs.running.trace_machine.Goals as goal
 
 pub returns-in-Ok-clause-files : goal.returns-in-Ok-clause-files
 returns-in-Ok-clause-files g c =
     let lines = rw (c.new-lines.ensures.held, c.in_ok-machine.ensures.ok) at c.in-Ok.ensures.lines in
-    gains_whole _ _ _ c.args.trace.now _ _ _ c.in_ok-make_file.ensures.files c.in_ok-make_file.ensures.empty lines
-    (rw c.into_inner.ensures at c.close.ensures)
+    gains_closed _ _ _ c.args.trace.now _ _ _ c.in_ok-make_trace.ensures.files c.in_ok-make_trace.ensures.empty lines
+    (rw c.into_inner.ensures at c.in_ok-close_trace-in-Ok.ensures)

@@ -1,6 +1,6 @@
 use Rattle.std.proofs.Common.{ap, ◌∙◌}
 use Rattle.reached.specs.Order.{seen_members}
-use Rattle.debugger.specs.Reaching.{summary_text}
+use Rattle.reach_texts.specs.Summary.{summary_text}
 use Rattle.debugger.proofs.Answering.{told_of}
 use Rattle.debugger.proofs.reaching.put_reach.Goals as goal
 

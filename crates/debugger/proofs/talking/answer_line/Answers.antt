@@ -19,14 +19,17 @@ returns-in_err-put_refusal-in-Err-clause-count g c =
 
 pub returns-in_ok-put_refusal-in-Err-clause-last : goal.returns-in_ok-put_refusal-in-Err-clause-last
 returns-in_ok-put_refusal-in-Err-clause-last g c =
-    refused-last c.in-Err.fault _ _ (refused-is c.in-Err.fault _ _ c.in_ok-put_refusal-in-Err.ensures.kind c.in-Err.ensures.err)
+    refused-last c.in-Err.fault c.args.line.now c.args.session.now
+    (refused-is c.in-Err.fault c.args.line.now c.args.session.now c.in_ok-put_refusal-in-Err.ensures.kind c.in-Err.ensures.err)
 
 pub returns-in_ok-put_refusal-in-Err-clause-state : goal.returns-in_ok-put_refusal-in-Err-clause-state
 returns-in_ok-put_refusal-in-Err-clause-state g c =
     c.in-Err.ensures.same
-    ∙ refused-state c.in-Err.fault _ _ (refused-is c.in-Err.fault _ _ c.in_ok-put_refusal-in-Err.ensures.kind c.in-Err.ensures.err)
+    ∙ refused-state c.in-Err.fault c.args.line.now c.args.session.now
+    (refused-is c.in-Err.fault c.args.line.now c.args.session.now c.in_ok-put_refusal-in-Err.ensures.kind c.in-Err.ensures.err)
 
 pub returns-in_ok-put_refusal-in-Err-clause-text : goal.returns-in_ok-put_refusal-in-Err-clause-text
 returns-in_ok-put_refusal-in-Err-clause-text g c =
-    rw (← refused-text c.in-Err.fault _ _ (refused-is c.in-Err.fault _ _ c.in_ok-put_refusal-in-Err.ensures.kind c.in-Err.ensures.err))
+    rw (← refused-text c.in-Err.fault c.args.line.now c.args.session.now
+    (refused-is c.in-Err.fault c.args.line.now c.args.session.now c.in_ok-put_refusal-in-Err.ensures.kind c.in-Err.ensures.err))
     c.in_ok-put_refusal-in-Err.ensures.ok

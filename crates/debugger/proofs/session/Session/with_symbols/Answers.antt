@@ -1,5 +1,4 @@
-use Rattle.std.proofs.Common.{refl}
 use Rattle.debugger.proofs.session.Session.with_symbols.Goals as goal
 
 pub returns : goal.returns
-returns g c = refl
+returns g c = c.begun.ensures

@@ -1,6 +1,6 @@
 use Rattle.std.proofs.Common.{◌∙◌, map, ap, sym, subst}
 use Rattle.hart.specs.State.{HoldsCapabilities}
-use Rattle.reach.proofs.Reaches.{reach_of_search, links_of_search, members_of_search}
+use Rattle.reach.proofs.Reaches.{reach_of_search, links_of_search, members_of_search, reach_of_members}
 use Rattle.reach.proofs.reach.Reach.of.Goals as goal
 
 pub closure-requires : goal.closure-requires
@@ -30,3 +30,7 @@ returns-clause-members g c =
     (ap (map value) c.deref.ensures.value ∙ c.in_ok-first.ensures.value)
     (ap (map value) c.deref-2.ensures.value ∙ c.in_ok-guarded.ensures)
     c.memory.ensures.value _ c.in_ok-members.ensures.members
+
+pub returns-clause-of_state : goal.returns-clause-of_state
+returns-clause-of_state g c =
+    reach_of_members c.args.hart.now g.C.CapRep.value c.in_ok-members.members.items (returns-clause-exact g c) (returns-clause-members g c)

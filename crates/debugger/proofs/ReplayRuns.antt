@@ -1,0 +1,90 @@
+-- A session on a schedule stands, after commands, where the run on it stands.
+use Rattle.std.proofs.Common.{◌≡◌, ℕ, suc, ◌+◌, true, false, List, [], ◌∷◌, All, refl, sym, ap, ◌∙◌, append-nil, subst, arith}
+use Rattle.std.specs.Prelude.{Option, Some}
+use Rattle.hart.specs.declared.event.Event.{Event}
+use Rattle.hart.specs.State.{State}
+use Rattle.machine.specs.Run.{run_after}
+use Rattle.sim_run.specs.declared.schedule.Schedule.{Schedule}
+use Rattle.sim_run.specs.Schedule.{first_steps, is_halted, steps_in, up_to_halt}
+use Rattle.debug_commands.specs.declared.command.Command.TheVariants.{Gives}
+use Rattle.debug_commands.specs.declared.command.Events.{Events}
+use Rattle.debug_commands.specs.declared.command.Events.TheVariants.{Steps, Ticks, Byte, Until, Go}
+use Rattle.debug_commands.specs.declared.command.Stop.{Stop}
+use Rattle.debugger.specs.SessionState.{ReplayState, SessionState}
+use Rattle.debugger.specs.Stepping.{most_gone, most_sent, replayed, steps_while}
+use Rattle.debugger.specs.Reply.{are_scheduled, given, given_in, replay_after, session_after}
+use Rattle.debugger.specs.OnSchedule.{IsOnSchedule, events_so_far, session_after_all, steps_of_all}
+use Rattle.debugger.proofs.Replays.{done-counts, follows, input-stays, schedule-stays}
+
+-- the steps of a command on a schedule
+abbrev IsStepping : List Event → ReplayState → State → Type 0
+IsStepping events r s =
+    (first : List Stop) × (later : List Stop) × (n : ℕ) × (room : ℕ) × (events ≡ steps_while first later (Some r) n room s)
+
+is-stepping : (events : Events) (replay : Option ReplayState) (r : ReplayState) (stops : List Stop) (s : State)
+    → are_scheduled events ≡ true → replay ≡ Some r → IsStepping (given events replay stops s) r s
+unfolding given
+is-stepping (Steps n) replay r stops s scheduled is = ([], [], n, n, rw is refl)
+is-stepping (Ticks n) replay r stops s scheduled is = absurd (cc)
+is-stepping (Byte b) replay r stops s scheduled is = absurd (cc)
+is-stepping (Until stop n) replay r stops s scheduled is = (stop ∷ [], stop ∷ [], n, n, rw is refl)
+is-stepping Go replay r stops s scheduled is = ([], stops, most_gone, most_sent, rw is refl)
+
+stands-after : (events : Events) (es : List Event) (replay : Option ReplayState) (r : ReplayState) → are_scheduled events ≡ true
+    → replay ≡ Some r → replay_after events es replay ≡ Some (replayed es r)
+unfolding replay_after
+stands-after events es replay r scheduled is = rw (scheduled, is) refl
+
+add_none : (n : ℕ) → n ≡ n + 0
+add_none n = omega arith
+
+none_add : (n : ℕ) → 0 + n ≡ n
+none_add n = omega arith
+
+add_both : (a b c : ℕ) → a + b + c ≡ a + (b + c)
+add_both a b c = omega arith
+
+module _ (start : State) (schedule : Schedule) (input : List ℕ) where
+  abbrev On : ℕ → SessionState → Type 0
+  On done s = IsOnSchedule start schedule input done s
+
+  module _ (running : is_halted start ≡ false) where
+    pub one-more : (done : ℕ) (events : Events) (s : SessionState) → are_scheduled events ≡ true → On done s
+        → On (done + steps_in (given_in events s)) (session_after (Gives events) s)
+    one-more done events s scheduled on =
+        let r = on.replay in
+        let es = given_in events s in
+        let stepping = is-stepping events s.replay r s.stops s.machine scheduled on.is in
+        record {
+          replay = replayed es r;
+          is = stands-after events es s.replay r scheduled on.is;
+          schedule_is = schedule-stays es r ∙ on.schedule_is;
+          input_is = input-stays es r ∙ on.input_is;
+          done_is = done-counts es r ∙ ap (λ n. n + steps_in es) on.done_is;
+          machine = subst
+              (λ (steps : List Event). run_after steps s.machine ≡ run_after (up_to_halt (events_so_far (replayed steps r)) start) start)
+              (sym stepping.4)
+              (follows start running stepping.2 stepping.0 stepping.1 r stepping.3 s.machine on.machine);
+        }
+
+    pub all-more : (commands : List Events) (done : ℕ) (s : SessionState) → All (λ events. are_scheduled events ≡ true) commands
+        → On done s → On (done + steps_of_all commands s) (session_after_all commands s)
+    all-more [] done s scheduled on = subst (λ n. On n s) (add_none done) on
+    all-more (events ∷ rest) done s scheduled on =
+        subst (λ n. On n (session_after_all rest (session_after (Gives events) s)))
+        (add_both done (steps_in (given_in events s)) (steps_of_all rest (session_after (Gives events) s)))
+        (all-more rest (done + steps_in (given_in events s)) (session_after (Gives events) s)
+        (λ k d below. scheduled (suc k) d (omega (arith, below)))
+        (one-more done events s (scheduled 0 events (omega arith)) on))
+
+    pub from-start : (commands : List Events) (s : SessionState) → All (λ events. are_scheduled events ≡ true) commands → On 0 s
+        → On (steps_of_all commands s) (session_after_all commands s)
+    from-start commands s scheduled on =
+        subst (λ n. On n (session_after_all commands s)) (none_add (steps_of_all commands s)) (all-more commands 0 s scheduled on)
+
+  pub is-the-run : (done : ℕ) (s : SessionState) (on : On done s) → on.replay.brought ≡ false
+      → s.machine ≡ run_after (up_to_halt (first_steps schedule input done) start) start
+  is-the-run done s on none =
+      let r = on.replay in
+      let so_far : events_so_far r ≡ first_steps r.schedule r.input r.done = rw none (append-nil (first_steps r.schedule r.input r.done)) in
+      on.machine ∙ ap (λ es. run_after (up_to_halt es start) start) (so_far ∙ rw (on.schedule_is, on.input_is, on.done_is) refl)

@@ -1,0 +1,94 @@
+//! The stops of a session.
+ghost use Rattle.std.specs.Prelude.{◌≡◌, ◌++◌, IfOk, IfErr, OnOk, OnErr, string_bytes};
+ghost use Rattle.std.specs.List.{list_any};
+ghost use Rattle.debugger.specs.Reply.{is_same_stop, stop_line, stops_after, stops_text};
+
+use debug_commands::{DebugFault, SetStops, Stop};
+use effect_texts::{put, put_hex};
+use std::alloc::{AllocError, Global};
+
+/// Appends the line of a stop to a text.
+fn put_stop(text: &mut String, stop: Stop) -> Result<(), AllocError>
+    ensures { OnOk result (string_bytes text.new ≡ string_bytes text.old ++ stop_line stop) }
+{
+    match stop {
+        Stop::Address(address) => {
+            put(text, "at ")?;
+            put_hex(text, 16, u128::from(address))?;
+            put(text, "\n")
+        }
+        Stop::Trap => put(text, "trap\n"),
+    }
+}
+
+/// Appends the lines of stops to a text.
+pub(crate) fn put_stops(text: &mut String, stops: &[Stop]) -> Result<(), AllocError>
+    ensures { OnOk result (string_bytes text.new ≡ string_bytes text.old ++ stops_text stops.now) }
+{
+    match stops {
+        [] => Ok(()),
+        [first, rest @ ..] => {
+            put_stop(text, *first)?;
+            put_stops(text, rest)
+        }
+    }
+}
+
+/// Whether two stops are the same.
+fn is_same_stop(stop: Stop, other: Stop) -> bool
+    ensures { result ≡ is_same_stop stop other }
+{
+    match (stop, other) {
+        (Stop::Address(a), Stop::Address(b)) => a == b,
+        (Stop::Trap, Stop::Trap) => true,
+        _ => false,
+    }
+}
+
+/// Whether a stop is one of others.
+fn is_one_of(stop: Stop, stops: &[Stop]) -> bool
+    ensures { result ≡ list_any (is_same_stop stop) stops.now }
+{
+    match stops {
+        [] => false,
+        [first, rest @ ..] => is_same_stop(stop, *first) || is_one_of(stop, rest),
+    }
+}
+
+/// One stop more after the others, unless it is one of them; and the text of all.
+fn add_stop(alloc: Global, stops: &mut Vec<Stop>, stop: Stop) -> Result<String, DebugFault>
+    ensures text { IfOk result (λ text. string_bytes text ≡ stops_text (stops_after (SetStops.Add stop) stops.old.items)) }
+    ensures stops { OnOk result (stops.new.items ≡ stops_after (SetStops.Add stop) stops.old.items) }
+    ensures err { IfErr result (λ fault. fault ≡ DebugFault.B4) }
+    ensures same { OnErr result (stops.new.items ≡ stops.old.items) }
+{
+    let mut text = String::new(alloc);
+    put_stops(&mut text, stops)?;
+    if !is_one_of(stop, stops) {
+        put_stop(&mut text, stop)?;
+        if stops.push(stop).is_err() {
+            return Err(DebugFault::B4);
+        }
+    }
+    Ok(text)
+}
+
+/// Sets the stops, and answers the text of all: B4 where there is no memory, and then they stay.
+pub(crate) fn set_stops(
+    alloc: Global,
+    stops: &mut Vec<Stop>,
+    set: SetStops,
+) -> Result<String, DebugFault>
+    ensures text { IfOk result (λ text. string_bytes text ≡ stops_text (stops_after set stops.old.items)) }
+    ensures stops { OnOk result (stops.new.items ≡ stops_after set stops.old.items) }
+    ensures err { IfErr result (λ fault. fault ≡ DebugFault.B4) }
+    ensures same { OnErr result (stops.new.items ≡ stops.old.items) }
+{
+    match set {
+        SetStops::Add(stop) => add_stop(alloc, stops, stop),
+        SetStops::Clear => {
+            stops.clear();
+            Ok(String::new(alloc))
+        }
+    }
+}

@@ -1,0 +1,5 @@
+mod Words
+mod Jumps
+mod Entering
+mod Turns
+mod Events

@@ -1,0 +1,232 @@
+-- The first steps of a schedule, and a byte after them.
+use Rattle.std.proofs.Common.{◌≡◌, ℕ, zero, suc, ◌+◌, ◌-◌, ◌≤◌, Bool, true, false, List, [], ◌∷◌, ◌++◌, length, drop, refl, sym, ap, ap₂}
+use Rattle.std.proofs.Common.{◌∙◌, append_assoc, append-nil, subst, arith}
+use Rattle.std.proofs.lemmas.List.{drop-drop, length-drop}
+use Rattle.std.specs.List.{concat}
+use Rattle.std.specs.Prelude.{Option, Some, None, is_some, max, if◌then◌else◌}
+use Rattle.std.specs.Io.KnownBytes.{Appends}
+use Rattle.std.proofs.KnownBytes.{Appends-nil}
+use Rattle.devices.specs.Devices.{received}
+use Rattle.hart.specs.declared.event.Event.{Event}
+use Rattle.hart.specs.declared.event.Event.TheVariants.{Step, Tick, Byte}
+use Rattle.hart.specs.State.{State}
+use Rattle.hart.specs.Event.{after}
+use Rattle.machine.specs.declared.end.End.{End}
+use Rattle.machine.specs.declared.end.End.TheVariants.{Running}
+use Rattle.machine.specs.Run.{run_after, run_sent, end_of, ended}
+use Rattle.sim_run.specs.declared.schedule.Schedule.{Schedule}
+use Rattle.sim_run.specs.declared.traced.TraceFault.{TraceFault}
+use Rattle.sim_run.specs.declared.traced.TraceFault.TheVariants.{Output, Trace}
+use Rattle.sim_run.specs.Schedule.{around, byte_before, is_tick_after, first_steps, is_halted, scheduled, steps_in, up_to_halt, IsCutShort}
+use Rattle.sim_run.specs.Trace.{trace_lines, lines_past, trace_text, WasCut}
+use Rattle.sim_run.proofs.Events.{brought, run_after-append, run_sent-append, run_sent-brought, steps_in-append, steps_in-brought}
+use Rattle.sim_run.proofs.Events.{cut_within, ends_at_halt, up_to_halt-append, then_up_to_halt}
+use Rattle.sim_run.proofs.Scheduled.{more_follow, steps_from}
+use Rattle.sim_run.proofs.TracedSteps.{length_lines, no_lines_past, trace_lines-append}
+
+-- ---- the schedule of the first steps
+
+byte_before-first : (schedule : Schedule) (input : List ℕ) (k n : ℕ)
+    → byte_before (record schedule { steps = k }) input n ≡ byte_before schedule input n
+unfolding byte_before
+byte_before-first schedule input k n = refl
+
+is_tick_after-first : (schedule : Schedule) (k n : ℕ) → is_tick_after (record schedule { steps = k }) n ≡ is_tick_after schedule n
+unfolding is_tick_after
+is_tick_after-first schedule k n = refl
+
+first_steps-first : (schedule : Schedule) (input : List ℕ) (k n : ℕ)
+    → first_steps (record schedule { steps = k }) input n ≡ first_steps schedule input n
+first_steps-first schedule input k zero = refl
+first_steps-first schedule input k (suc n) =
+    ap₂ (λ es more. es ++ more) (first_steps-first schedule input k n)
+    (ap₂ around (byte_before-first schedule input k (n + 1)) (is_tick_after-first schedule k (n + 1)))
+
+pub first_scheduled : (first schedule : Schedule) (input : List ℕ) (k : ℕ) (s : State) → first ≡ record schedule { steps = k }
+    → scheduled first input s ≡ up_to_halt (first_steps schedule input k) s
+first_scheduled first schedule input k s is =
+    ap (λ (f : Schedule). scheduled f input s) is ∙ ap (λ es. up_to_halt es s) (first_steps-first schedule input k k)
+
+-- ---- how many steps
+
+steps_in-first : (schedule : Schedule) (input : List ℕ) (n : ℕ) → steps_in (first_steps schedule input n) ≡ n
+steps_in-first schedule input zero = refl
+steps_in-first schedule input (suc n) =
+    let both = steps_in-append (first_steps schedule input n)
+    (around (byte_before schedule input (n + 1)) (is_tick_after schedule (n + 1))) in
+    let one = one_around (byte_before schedule input (n + 1)) (is_tick_after schedule (n + 1)) in
+    let before = steps_in-first schedule input n in
+    omega (arith, both, one, before)
+  where
+    one_around : (byte : Option ℕ) (ticks : Bool) → steps_in (around byte ticks) ≡ 1
+    one_around None true = refl
+    one_around None false = refl
+    one_around (Some b) true = refl
+    one_around (Some b) false = refl
+
+no_more_steps : (e : Event) (xs ys : List Event) → steps_in xs ≤ steps_in ys → steps_in (e ∷ xs) ≤ steps_in (e ∷ ys)
+no_more_steps Step xs ys few = omega (arith, few)
+no_more_steps Tick xs ys few = few
+no_more_steps (Byte b) xs ys few = few
+
+steps_in-halt : (xs : List Event) (s : State) → steps_in (up_to_halt xs s) ≤ steps_in xs
+steps_in-halt [] s = omega arith
+steps_in-halt (x ∷ xs) s = go (is_halted (after x s)) (steps_in-halt xs (after x s))
+  where
+    go : (b : Bool) → steps_in (up_to_halt xs (after x s)) ≤ steps_in xs
+        → steps_in (x ∷ (if b then [] else up_to_halt xs (after x s))) ≤ steps_in (x ∷ xs)
+    go true few = no_more_steps x [] xs (omega arith)
+    go false few = no_more_steps x (up_to_halt xs (after x s)) xs few
+
+no_halt : {P : Type 0} → true ≡ false → P
+no_halt e = absurd cc
+
+-- a machine that is not halted has met all
+met_all : (xs : List Event) (s : State) → is_halted (run_after (up_to_halt xs s) s) ≡ false → up_to_halt xs s ≡ xs
+met_all [] s running = refl
+met_all (x ∷ xs) s running = go (is_halted (after x s)) refl running (met_all xs (after x s))
+  where
+    go : (b : Bool) → is_halted (after x s) ≡ b
+        → is_halted (run_after (if b then [] else up_to_halt xs (after x s)) (after x s)) ≡ false
+        → (is_halted (run_after (up_to_halt xs (after x s)) (after x s)) ≡ false → up_to_halt xs (after x s) ≡ xs)
+        → x ∷ (if b then [] else up_to_halt xs (after x s)) ≡ x ∷ xs
+    go true e at later = no_halt (sym e ∙ at)
+    go false e at later = ap (λ es. x ∷ es) (later at)
+
+module _ (schedule : Schedule) (input : List ℕ) (m : ℕ) (s : State) where
+  pub few_steps : steps_in (up_to_halt (first_steps schedule input m) s) ≤ m
+  few_steps =
+      let few = steps_in-halt (first_steps schedule input m) s in
+      let all = steps_in-first schedule input m in
+      omega (arith, few, all)
+
+  pub all_steps : is_halted (run_after (up_to_halt (first_steps schedule input m) s) s) ≡ false
+      → steps_in (up_to_halt (first_steps schedule input m) s) ≡ m
+  all_steps running = ap steps_in (met_all (first_steps schedule input m) s running) ∙ steps_in-first schedule input m
+
+  -- none of their lines, where they are left out
+  pub no_lines_of_first : (k : ℕ) (a : Option (List ℕ)) → m ≤ k
+      → Appends a a (lines_past k 0 (up_to_halt (first_steps schedule input m) s) s)
+  no_lines_of_first k a past =
+      let few = few_steps in
+      subst (Appends a a)
+      (sym (no_lines_past k 0 (up_to_halt (first_steps schedule input m) s) s (omega (arith, few, past)))) (Appends-nil a)
+
+  module _ (few : m ≤ schedule.steps) (running : is_halted s ≡ false) where
+    pub first_ends : is_halted (run_after (up_to_halt (first_steps schedule input m) s) s) ≡ true
+        → up_to_halt (first_steps schedule input m) s ≡ scheduled schedule input s
+    first_ends halted =
+        ends_at_halt (first_steps schedule input m) (steps_from schedule input m (schedule.steps - m)) s running halted
+        ∙ ap (λ es. up_to_halt es s) (sym (more_follow schedule input m few))
+
+    whole : up_to_halt (first_steps schedule input m) s
+        ++ then_up_to_halt (steps_from schedule input m (schedule.steps - m)) (run_after (up_to_halt (first_steps schedule input m) s) s)
+        ≡ scheduled schedule input s
+    whole =
+        sym (up_to_halt-append (first_steps schedule input m) (steps_from schedule input m (schedule.steps - m)) s running)
+        ∙ ap (λ es. up_to_halt es s) (sym (more_follow schedule input m few))
+
+    -- the output failed among them
+    pub first_cut : (k : ℕ) (u : State) (a b d : Option (List ℕ)) → m ≤ k
+        → IsCutShort (up_to_halt (first_steps schedule input m) s) s u a b → WasCut Output k 0 (scheduled schedule input s) s u a b d d
+    first_cut k u a b d past cut =
+        let later = then_up_to_halt (steps_from schedule input m (schedule.steps - m))
+        (run_after (up_to_halt (first_steps schedule input m) s) s) in
+        let done = cut.done ++ cut.last ∷ [] in
+        let parts : up_to_halt (first_steps schedule input m) s ≡ done ++ cut.rest =
+        cut.order ∙ sym (append_assoc cut.done (cut.last ∷ []) cut.rest) in
+        let total = ap steps_in parts ∙ steps_in-append done cut.rest in
+        let few = few_steps in
+        record {
+          done = cut.done;
+          last = cut.last;
+          rest = cut.rest ++ later;
+          order = sym whole ∙ ap (λ es. es ++ later) cut.order ∙ append_assoc cut.done (cut.last ∷ cut.rest) later;
+          state = cut.state;
+          unwritten = cut.unwritten;
+          held = cut.held;
+          lines = subst (Appends d d) (sym (no_lines_past k 0 done s (omega (arith, total, few, past)))) (Appends-nil d);
+        }
+
+-- ---- a byte after events
+
+module _ (xs : List Event) (byte : Option ℕ) (s : State) where
+  pub state-then : (t u : State) → t ≡ run_after xs s → u ≡ run_after (brought byte) t → u ≡ run_after (xs ++ brought byte) s
+  state-then t u there at_byte =
+      at_byte ∙ ap (λ v. run_after (brought byte) v) there ∙ sym (run_after-append xs (brought byte) s)
+
+  pub sent-then : (a b : Option (List ℕ)) → Appends a b (run_sent xs s) → Appends a b (run_sent (xs ++ brought byte) s)
+  sent-then a b =
+      subst (Appends a b)
+      (sym (run_sent-append xs (brought byte) s ∙ ap (λ more. run_sent xs s ++ more) (run_sent-brought byte (run_after xs s))
+      ∙ append-nil (run_sent xs s)))
+
+  pub steps-then : (n : ℕ) → n ≡ steps_in xs → n ≡ steps_in (xs ++ brought byte)
+  steps-then n is =
+      let both = steps_in-append xs (brought byte) in
+      let none = steps_in-brought byte in
+      omega (arith, is, both, none)
+
+  no_lines : (n : ℕ) (byte : Option ℕ) (t : State) → trace_lines n (brought byte) t ≡ []
+  no_lines n None t = refl
+  no_lines n (Some b) t = refl
+
+  pub lines-then : (k : ℕ) (a b : Option (List ℕ)) → Appends a b (lines_past k 0 xs s) → Appends a b (lines_past k 0 (xs ++ brought byte) s)
+  lines-then k a b =
+      subst (Appends a b)
+      (ap (λ (lines : List (List ℕ)). concat (drop k lines))
+      (sym (trace_lines-append 0 xs (brought byte) s
+      ∙ ap (λ (more : List (List ℕ)). trace_lines 0 xs s ++ more) (no_lines (0 + steps_in xs) byte (run_after xs s))
+      ∙ append-nil (trace_lines 0 xs s))))
+
+  pub cut-then : (u : State) (a b : Option (List ℕ)) → IsCutShort xs s u a b → IsCutShort (xs ++ brought byte) s u a b
+  cut-then u a b cut = cut_within [] xs (brought byte) s u a a b (Appends-nil a) cut
+
+  pub traced-then : (k : ℕ) (fault : TraceFault) (u : State) (a b d e : Option (List ℕ)) → WasCut fault k 0 xs s u a b d e
+      → WasCut fault k 0 (xs ++ brought byte) s u a b d e
+  traced-then k Output u a b d e cut = record {
+    done = cut.done;
+    last = cut.last;
+    rest = cut.rest ++ brought byte;
+    order = ap (λ es. es ++ brought byte) cut.order ∙ append_assoc cut.done (cut.last ∷ cut.rest) (brought byte);
+    state = cut.state;
+    unwritten = cut.unwritten;
+    held = cut.held;
+    lines = cut.lines;
+  }
+  traced-then k Trace u a b d e cut = record {
+    done = cut.done;
+    rest = cut.rest ++ brought byte;
+    order = ap (λ es. es ++ brought byte) cut.order ∙ append_assoc cut.done (Step ∷ cut.rest) (brought byte);
+    state = cut.state;
+    held = cut.held;
+    lines = cut.lines;
+  }
+
+end-byte : (b : ℕ) (s : State) → end_of (after (Byte b) s) ≡ end_of s
+unfolding received
+end-byte b s = refl
+
+pub end-then : (byte : Option ℕ) (t u : State) (end : End) → u ≡ run_after (brought byte) t → end ≡ end_of t → end ≡ end_of u
+end-then None t u end at_byte is = is ∙ ap end_of (sym at_byte)
+end-then (Some b) t u end at_byte is = is ∙ sym (end-byte b t) ∙ ap end_of (sym at_byte)
+
+-- ---- a run that ends with its schedule
+
+not-halted : (halted : Option ℕ) → is_some halted ≡ false → halted ≡ None
+not-halted None e = refl
+not-halted (Some n) e = cc
+
+pub ends-running : (s : State) → is_halted s ≡ false → Running ≡ end_of s
+ends-running s running = ap ended (sym (not-halted s.devices.halted running))
+
+-- ---- the lines that a trace leaves out
+
+pub last_kept : (from n skipped steps : ℕ) (events : List Event) (s : State) → skipped ≡ max (from - 1) (steps - n)
+    → steps ≡ steps_in events → trace_text from (Some n) events s ≡ lines_past skipped 0 events s
+last_kept from n skipped steps events s is count =
+    let lines = trace_lines 0 events s in
+    let long : length lines ≡ steps = length_lines 0 events s ∙ sym count in
+    let left = length-drop (from - 1) lines in
+    let place : (from - 1) + (length (drop (from - 1) lines) - n) ≡ skipped = omega (arith, long, left, is) in
+    ap concat (drop-drop (length (drop (from - 1) lines) - n) (from - 1) lines ∙ ap (λ k. drop k lines) place)

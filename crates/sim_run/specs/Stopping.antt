@@ -1,0 +1,66 @@
+-- Where a run ends that is to show why a step traps: before the first step that is such a trap.
+use Rattle.std.specs.Prelude.{ℕ, ◌+◌, ◌-◌, ◌==◌, ◌&&◌, ◌||◌, Bool, if◌then◌else◌, List, [], ◌∷◌, ◌++◌, map, option_to_list, is_err}
+use Rattle.std.specs.Prelude.{Option, Some, None, codes, decimal}
+use Rattle.base.specs.declared.cause.Cause.TheVariants as cause
+use Rattle.base.specs.Fault.{number_of}
+use Rattle.disassembler.specs.Hex.{hex_of}
+use Rattle.hart.specs.declared.event.Event.{Event}
+use Rattle.hart.specs.declared.event.Event.TheVariants.{Step, Tick, Byte}
+use Rattle.hart.specs.Event.{after, outcome}
+use Rattle.hart.specs.Outcome.{is_trap}
+use Rattle.hart.specs.State.{State, pc_of}
+use Rattle.hart.specs.Step.{fetch}
+use Rattle.explain.specs.Text.{why_text}
+use Rattle.sim_run.specs.declared.schedule.Schedule.{Schedule}
+use Rattle.sim_run.specs.declared.stopping.StopAt.{StopAt}
+use Rattle.sim_run.specs.declared.stopping.StopAt.TheVariants.{Unfetched, Violation}
+use Rattle.sim_run.specs.Schedule.{byte_before, first_steps, scheduled, up_to_halt}
+
+-- a CHERI exception, or a fetch, a load or a store where nothing answers
+abbrev pub is_violation : ℕ → Bool
+is_violation mcause =
+    mcause == number_of cause.Cheri
+    || (mcause == number_of cause.FetchAccess || (mcause == number_of cause.LoadAccess || mcause == number_of cause.StoreAccess))
+
+-- whether a trap that left this state is one to stop before: its entry can't be fetched, or it is a violation
+abbrev pub is_asked : StopAt → State → Bool
+is_asked Unfetched s = is_err (fetch s)
+is_asked Violation s = is_violation s.csrs.mcause
+
+-- whether the next step is such a trap
+unfoldable pub is_stop : StopAt → State → Bool
+is_stop at s = is_trap (outcome Step s) && is_asked at (after Step s)
+
+-- the number of the first step among the events that is one, after so many others
+abbrev pub first_stop : StopAt → ℕ → List Event → State → Option ℕ
+first_stop at before [] s = None
+first_stop at before (Step ∷ es) s = if is_stop at s then Some (before + 1) else first_stop at (before + 1) es (after Step s)
+first_stop at before (Tick ∷ es) s = first_stop at before es (after Tick s)
+first_stop at before (Byte b ∷ es) s = first_stop at before es (after (Byte b) s)
+
+-- the events before that step, the byte that comes just before it among them
+abbrev pub up_to_stop : StopAt → List Event → State → List Event
+up_to_stop at [] s = []
+up_to_stop at (Step ∷ es) s = if is_stop at s then [] else Step ∷ up_to_stop at es (after Step s)
+up_to_stop at (Tick ∷ es) s = Tick ∷ up_to_stop at es (after Tick s)
+up_to_stop at (Byte b ∷ es) s = Byte b ∷ up_to_stop at es (after (Byte b) s)
+
+-- of a run that is to stop at no trap, all events
+abbrev pub events_met : Option StopAt → List Event → State → List Event
+events_met None events s = events
+events_met (Some at) events s = up_to_stop at events s
+
+abbrev pub stop_met : Option StopAt → List Event → State → Option ℕ
+stop_met None events s = None
+stop_met (Some at) events s = first_stop at 0 events s
+
+-- the events of a schedule before the step of a number: those of the steps before it, and the byte that comes just before it
+abbrev pub events_before : Option ℕ → Schedule → List ℕ → State → List Event
+events_before None schedule input s = scheduled schedule input s
+events_before (Some number) schedule input s =
+    up_to_halt (first_steps schedule input (number - 1)) s ++ map Byte (option_to_list (byte_before schedule input number))
+
+-- how many steps were done, where PCC is, and what the next step will do, and why
+unfoldable pub stopped_lines : ℕ → State → List ℕ
+stopped_lines steps s =
+    codes "cherisim: steps " ++ decimal steps ++ codes ", pcc " ++ hex_of 16 (pc_of s) ++ codes "\n" ++ why_text s
