@@ -1,10 +1,13 @@
 -- Digits of a number in base 16, the last one first.
-use Rattle.std.proofs.Common.{◌≡◌, ℕ, zero, suc, ◌/◌, ◌%◌, ◌^◌, ◌<◌, ◌≤◌, ◌⊎◌, inl, inr, false, cond, List, [], ◌∷◌, ◌++◌, refl, sym, ap}
+use Rattle.std.proofs.Common.{◌≡◌, ℕ, zero, suc, ◌+◌, ◌/◌, ◌%◌, ◌^◌, ◌<◌, ◌≤◌, ◌⊎◌, inl, inr, false, cond, List, [], ◌∷◌, ◌++◌, refl, sym, ap}
 use Rattle.std.proofs.Common.{◌∙◌, append_assoc, arith}
-use Rattle.std.specs.Prelude.{length}
+use Rattle.std.specs.Prelude.{length, IsUtf8, IsAscii}
 use Rattle.std.specs.Fmt.{digit_glyph, digits_onto, digits}
 use Rattle.std.proofs.Common.{length-append}
 use Rattle.std.proofs.lemmas.Fmt.{hex_one_digit}
+use Rattle.std.proofs.lemmas.Str.{IsAscii-append, IsUtf8-from_ascii}
+use Rattle.std.proofs.lemmas.Bool.Decides.{nat_tests}
+use Rattle.disassembler.specs.Hex.{hex_of}
 use Rattle.std.proofs.lemmas.Bool.{eq-eqb, ne_eqb, cases_order}
 
 abbrev spell : ℕ → ℕ → List ℕ → List ℕ
@@ -70,3 +73,42 @@ length_hex (suc (suc k)) n some fits small = elim (order n 16) [
 
 pub length_hex_16 : (n : ℕ) → n < 2 ^ 64 → length (digits 16 false n) ≤ 16
 length_hex_16 n fits = length_hex 16 n (omega arith) (omega arith) fits
+
+-- so many digits as were asked for
+pub length_of_hex : (k n : ℕ) → length (hex_of k n) ≡ k
+unfolding hex_of
+length_of_hex zero n = refl
+length_of_hex (suc k) n = omega (arith, length-append (hex_of k (n / 16)) (last_glyph n ∷ []), length_of_hex k (n / 16))
+
+-- and each an ASCII byte
+glyph_is_ascii : (d : ℕ) → d < 16 → digit_glyph false d < 128
+glyph_is_ascii d small = grind (arith, nat_tests)
+
+ascii_one : (b : ℕ) → b < 128 → IsAscii (b ∷ [])
+ascii_one b small zero = small
+ascii_one b small (suc i) = omega arith
+
+ascii_hex : (k n : ℕ) → IsAscii (hex_of k n)
+unfolding hex_of
+ascii_hex zero n = λ i. omega arith
+ascii_hex (suc k) n =
+    IsAscii-append (hex_of k (n / 16)) (last_glyph n ∷ []) (ascii_hex k (n / 16)) (ascii_one (last_glyph n) (glyph_is_ascii (n % 16) (omega arith)))
+
+pub hex_is_utf8 : (k n : ℕ) → IsUtf8 (hex_of k n)
+hex_is_utf8 k n = IsUtf8-from_ascii (hex_of k n) (ascii_hex k n)
+
+-- how many digits a number has without leading zeros
+pub hex_one : (n : ℕ) → n < 16 → hex_of 1 n ≡ digits 16 false n
+unfolding hex_of
+hex_one n small = ap (λ d. digit_glyph false d ∷ []) (mod_small n small) ∙ sym (hex_digit n small)
+  where
+    mod_small : (n : ℕ) → n < 16 → n % 16 ≡ n
+    mod_small n small = omega arith
+
+pub hex_more : (k n : ℕ) → 16 ≤ n → n < 2 ^ 64 → hex_of k (n / 16) ≡ digits 16 false (n / 16) → hex_of (k + 1) n ≡ digits 16 false n
+unfolding hex_of
+hex_more k n large small e =
+    ap (λ j. hex_of j n) (one_more k) ∙ ap (λ x. x ++ last_glyph n ∷ []) e ∙ sym (hex_step n large small)
+  where
+    one_more : (k : ℕ) → k + 1 ≡ suc k
+    one_more k = omega arith
