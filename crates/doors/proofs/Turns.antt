@@ -72,7 +72,7 @@ module _ (P : CapValue → Type 0) where
     Bounds-jump s Tick is bounds jump = cc
     Bounds-jump s (Byte b) is bounds jump = cc
 
-    Bounds-after : (s : State) (e : Event) → IsState s → Bounds P s → IsPlainOrJump e s → Bounds P (after e s)
+    pub Bounds-after : (s : State) (e : Event) → IsState s → Bounds P s → IsPlainOrJump e s → Bounds P (after e s)
     Bounds-after s e is bounds (inl plain) = Bounds-plain s e is bounds plain
     Bounds-after s e is bounds (inr jump) = Bounds-jump s e is bounds jump
 

@@ -2,6 +2,7 @@
 pub mod Doors
 pub mod Turn
 pub mod Sets
+pub mod Worlds
 pub mod Closed
 -- Laws
 pub mod PairLaws

@@ -2,7 +2,7 @@
 //!
 //! A turn is a run without a trap or an unsealing. What is reachable through doors is what is reachable, and each door among it without
 //! its seal: a sentry, the two of a pair that CInvoke accepts, and a sealed value with CInvoke to which code may seal a partner. It
-//! bounds what a turn comes to; sealing gives nothing beyond it, because code seals only what it holds.
+//! bounds what a turn comes to and what code can learn in it; sealing gives nothing beyond it, because code seals only what it holds.
 //!
 //! Laws over any set of capabilities take it as a type that is a `CapSet`: an implementation says which values are members.
 #![tactic(auto)]
@@ -10,6 +10,7 @@
 pub mod laws;
 mod set;
 mod turn;
+pub mod worlds;
 
 pub use set::CapSet;
 pub use turn::{Turn, run_turn};
