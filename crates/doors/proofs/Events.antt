@@ -25,14 +25,14 @@ use Rattle.doors.proofs.Turns.{Keeps, Keeps-none, Keeps-after}
 -- ---- outcomes
 
 -- what doesn't end a turn is plain or a sealed jump
-goes_on-outcome : (o : Outcome) → turn_why_of o ≡ None → (o ≡ Plain) ⊎ (o ≡ SealedJump)
+pub goes_on-outcome : (o : Outcome) → turn_why_of o ≡ None → (o ≡ Plain) ⊎ (o ≡ SealedJump)
 goes_on-outcome Plain none = inl refl
 goes_on-outcome SealedJump none = inr refl
 goes_on-outcome Trap none = cc
 goes_on-outcome Unseal none = cc
 
 -- what ends it ends a stretch too
-ends-outcome : (o : Outcome) (w : Why) → turn_why_of o ≡ Some w → why_of o ≡ Some w
+pub ends-outcome : (o : Outcome) (w : Why) → turn_why_of o ≡ Some w → why_of o ≡ Some w
 ends-outcome Plain w ends = cc
 ends-outcome SealedJump w ends = cc
 ends-outcome Trap w ends = ends
@@ -51,18 +51,18 @@ no_jump-outcome Unseal w ends = λ same.
 
 -- ---- one event more
 
-run_after-append : (es : List Event) (e : Event) (s : State) → run_after (es ++ e ∷ []) s ≡ after e (run_after es s)
+pub run_after-append : (es : List Event) (e : Event) (s : State) → run_after (es ++ e ∷ []) s ≡ after e (run_after es s)
 run_after-append [] e s = refl
 run_after-append (x ∷ es) e s = run_after-append es e (after x s)
 
-run_sent-append : (es : List Event) (e : Event) (s : State)
+pub run_sent-append : (es : List Event) (e : Event) (s : State)
     → run_sent (es ++ e ∷ []) s ≡ run_sent es s ++ option_to_list (sent e (run_after es s))
 run_sent-append [] e s = append-nil (option_to_list (sent e s))
 run_sent-append (x ∷ es) e s =
     ap (λ b. option_to_list (sent x s) ++ b) (run_sent-append es e (after x s))
     ∙ sym (append_assoc (option_to_list (sent x s)) (run_sent es (after x s)) (option_to_list (sent e (run_after es (after x s)))))
 
-go_on-append : (es : List Event) (e : Event) (s : State) → ArePlainOrJumps es s → IsPlainOrJump e (run_after es s)
+pub go_on-append : (es : List Event) (e : Event) (s : State) → ArePlainOrJumps es s → IsPlainOrJump e (run_after es s)
     → ArePlainOrJumps (es ++ e ∷ []) s
 go_on-append [] e s all last = (last, tt)
 go_on-append (x ∷ es) e s all last = (all.0, go_on-append es e (after x s) all.1 last)

@@ -4,3 +4,4 @@ mod Entering
 mod Turns
 mod Events
 mod TwoWorlds
+pub mod TurnTwins

@@ -41,11 +41,11 @@ shared (inr stays) was = stays.1 ∙ was ∙ sym stays.0
 
 -- ---- what an event comes to
 
-no_trap : (s : State) (e : Event) → IsPlainOrJump e s → is_trap (outcome e s) ≡ false
+pub no_trap : (s : State) (e : Event) → IsPlainOrJump e s → is_trap (outcome e s) ≡ false
 no_trap s e (inl plain) = ap is_trap plain
 no_trap s e (inr jump) = ap is_trap jump
 
-goes_on-same : (s t : State) (e : Event) → outcome e t ≡ outcome e s → IsPlainOrJump e s → IsPlainOrJump e t
+pub goes_on-same : (s t : State) (e : Event) → outcome e t ≡ outcome e s → IsPlainOrJump e s → IsPlainOrJump e t
 goes_on-same s t e same (inl plain) = inl (same ∙ plain)
 goes_on-same s t e same (inr jump) = inr (same ∙ jump)
 

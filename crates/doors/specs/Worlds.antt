@@ -1,16 +1,19 @@
 -- States that code cannot tell apart until the kernel runs: the words of *authority*'s Worlds, with the members of any set in place of
 -- what is reachable. What no member opens may be anything in the other state.
-use Rattle.std.specs.Prelude.{◌≡◌, ℕ, ◌-◌, ◌≤◌, List, length, slice_index}
+use Rattle.std.specs.Prelude.{◌≡◌, ℕ, ◌-◌, ◌≤◌, List, length, take, drop, slice_index, Option}
 use Rattle.base.specs.Ram.{ram_base}
 use Rattle.cap_bounds.specs.CapValue.{CapValue}
 use Rattle.cap_rights.specs.Rights.{OpensByte, OpensGranule}
 use Rattle.tagged_memory.specs.Memory.{Memory, has_tag}
+use Rattle.hart.specs.declared.ends.Why.{Why}
 use Rattle.hart.specs.declared.event.Event.{Event}
 use Rattle.hart.specs.State.{State}
 use Rattle.authority.specs.Authority.{SameScrs}
 use Rattle.machine.specs.Run.{run_after, run_sent}
+use Rattle.machine.specs.Stretch.{EndsBefore}
 use Rattle.doors.specs.Sets.{HasSystemBy}
 use Rattle.doors.specs.Doors.{IsReachableThroughDoors}
+use Rattle.doors.specs.Turn.{ArePlainOrJumps}
 
 -- ---- over a set
 
@@ -54,3 +57,10 @@ AgreeThroughDoors s t = AgreeBy (IsReachableThroughDoors s) s t
 pub record IsTwinThroughDoors (events : List Event) (s t : State) : Type 0 where
   pub bytes : run_sent events t ≡ run_sent events s
   pub agree : AgreeBy (IsReachableThroughDoors s) (run_after events s) (run_after events t)
+
+-- The second state's turn is the first's: it goes on over as many events and ends for the same reason; and after each of them both have
+-- sent the same bytes, and agree.
+pub record IsSameTurn (events : List Event) (done : ℕ) (why : Option Why) (s t : State) : Type 0 where
+  pub goes_on : ArePlainOrJumps (take done events) t
+  pub end : EndsBefore why (drop done events) (run_after (take done events) t)
+  pub twins : (k : ℕ) → k ≤ done → IsTwinThroughDoors (take k events) s t

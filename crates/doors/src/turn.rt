@@ -7,10 +7,12 @@ ghost use Rattle.hart.specs.declared.event.Event.TheVariants.{Step};
 ghost use Rattle.hart.specs.Event.{after, outcome, sent};
 ghost use Rattle.hart.specs.IsState.{IsState};
 ghost use Rattle.hart.specs.Outcome.{outcome_of, step_outcome};
+ghost use Rattle.hart.specs.State.{State};
 ghost use Rattle.machine.specs.Run.{run_after, run_sent};
 ghost use Rattle.machine.specs.Stretch.{EndsBefore};
 ghost use Rattle.doors.specs.Doors.{NoNewRightsThroughDoors, NewSealsAllowedThroughDoors, LeavesAloneThroughDoors, IsSilentThroughDoors};
 ghost use Rattle.doors.specs.Turn.{turn_why_of, ArePlainOrJumps};
+ghost use Rattle.doors.specs.Worlds.{AgreeThroughDoors, IsSameTurn};
 
 use cap_bounds::CapRep;
 use hart::Effect;
@@ -92,7 +94,8 @@ fn meet<C: CapRep>(machine: &mut Machine<C>, event: Event) -> Result<Out, Why>
 /// Meets events in order, sealed jumps too, up to the first that would trap or unseal, and appends the sent bytes to `out`.
 ///
 /// After each of the events that are met, what is reachable is within the rights of what was reachable through doors at the start, a
-/// seal that is new is a sentry's or one that something so reachable may put on, and what nothing so reachable opens is left alone.
+/// seal that is new is a sentry's or one that something so reachable may put on, and what nothing so reachable opens is left alone. Nor
+/// is that learned: from every state that agrees in all that is so opened the turn is the same.
 ///
 /// Room for one byte an event is made before the first event. M5: there is no room, and then neither machine nor bytes are changed;
 /// where `out` has that room already, nothing is asked for and M5 can't come.
@@ -116,6 +119,9 @@ pub fn run_turn<C: CapRep>(
     ensures left_alone { IfOk result (λ r. (k : ℕ) → k ≤ r.done
         → LeavesAloneThroughDoors machine.old (run_after (take k events.now) machine.old)) }
     ensures silent { IfOk result (λ r. IsSilentThroughDoors machine.old (run_sent (take r.done events.now) machine.old)) }
+
+    ensures two_worlds { IfOk result (λ r. (t : State) → AgreeThroughDoors machine.old t
+        → IsSameTurn events.now r.done r.why machine.old t) }
 
     ensures fault { IfErr result (λ fault. fault ≡ MachineFault.M5) }
     ensures same_state { OnErr result (machine.new ≡ machine.old) }

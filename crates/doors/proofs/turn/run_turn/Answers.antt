@@ -1,15 +1,18 @@
 use Rattle.std.proofs.Common.{◌++◌, ◌+◌, ap, refl, sym, ◌∙◌, arith}
 use Rattle.std.proofs.lemmas.Grind.{common_steps}
 use Rattle.std.proofs.lemmas.List.{append-nil}
-use Rattle.std.specs.Prelude.{option_to_list}
+use Rattle.std.proofs.Math.ListN.{drop_of_length-le}
+use Rattle.std.specs.Prelude.{option_to_list, None, Some}
 use Rattle.doors.proofs.Events.{IsTurnTo-none, IsTurnTo-more, bytes-more, ends-before, ends-no_jump, goes_on-kept, rights-kept, seals-kept}
 use Rattle.doors.proofs.Events.{left-kept, silent-kept}
+use Rattle.doors.proofs.TurnTwins.{HasTwins-none, HasTwins-more, ends-too, same-turn}
 use Rattle.doors.proofs.turn.run_turn.Goals as goal
 
 pub loop-event-init : goal.loop-event-init
 loop-event-init g c = record {
   done = refl;
   turn = IsTurnTo-none c.args.events.now c.args.machine.now;
+  twins = HasTwins-none c.args.events.now c.args.machine.now;
   bytes = c.reserve.ensures.items ∙ sym (append-nil c.args.out.now.items);
   room = grind (arith, common_steps);
 }
@@ -28,6 +31,7 @@ loop-event-preserved g c =
     record {
       done = ap (λ n. n + 1) l.invariant.done;
       turn = IsTurnTo-more events i _ below s l.machine l.invariant.turn c.meet.new.machine state met.was_state goes_on;
+      twins = HasTwins-more events i _ below s l.machine l.invariant.turn l.invariant.twins met.was_state goes_on;
       bytes = bytes-more events i _ below s l.machine l.invariant.turn c.emit.new.out.items l.out.items c.args.out.now.items
           (c.emit.ensures.items ∙ ap (λ b. l.out.items ++ option_to_list b) byte) l.invariant.bytes;
       room = omega (arith, c.emit.ensures.len, c.emit.ensures.room, l.invariant.room);
@@ -94,3 +98,19 @@ pub returns-clause-plain_or_jumps : goal.returns-clause-plain_or_jumps
 returns-clause-plain_or_jumps g c =
     let l = c.loop-event in
     goes_on-kept c.args.events.now c.args.machine.now l.machine l.event-index l.done l.invariant.done l.invariant.turn
+
+pub returns-in-Err-clause-two_worlds : goal.returns-in-Err-clause-two_worlds
+returns-in-Err-clause-two_worlds g c =
+    let l = c.loop-event in
+    let events = c.args.events.now in
+    let s = c.args.machine.now in
+    same-turn events s l.event-index l.done l.invariant.done l.invariant.twins (Some c.in-Err.why)
+    (λ t agree. ends-too events l.event-index _ c.loop-event-test.true s l.machine l.invariant.turn l.invariant.twins t agree c.in-Err.why
+    (rw c.in-Err.is at c.meet.ensures.why))
+
+pub returns-clause-two_worlds : goal.returns-clause-two_worlds
+returns-clause-two_worlds g c =
+    let l = c.loop-event in
+    let events = c.args.events.now in
+    same-turn events c.args.machine.now l.event-index l.done l.invariant.done l.invariant.twins None
+    (λ t agree. drop_of_length-le events (omega (arith, c.loop-event-test.false)))
