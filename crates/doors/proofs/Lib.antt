@@ -3,3 +3,4 @@ mod Jumps
 mod Entering
 mod Turns
 mod Events
+mod Invoking

@@ -8,8 +8,12 @@
 #![tactic(auto)]
 
 pub mod laws;
+mod opening;
 mod set;
+mod start;
 mod turn;
 
+pub use opening::opens;
 pub use set::CapSet;
+pub use start::{roots, specials};
 pub use turn::{Turn, run_turn};
