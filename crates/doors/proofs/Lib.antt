@@ -4,3 +4,5 @@ mod Entering
 mod Turns
 mod Events
 mod Invoking
+mod Rounds
+mod Searched

@@ -11,9 +11,11 @@ pub mod laws;
 mod opening;
 mod set;
 mod start;
+mod through;
 mod turn;
 
 pub use opening::opens;
 pub use set::CapSet;
 pub use start::{roots, specials};
+pub use through::{Door, Found, closure_through_doors};
 pub use turn::{Turn, run_turn};
