@@ -4,4 +4,7 @@ mod Entering
 mod Turns
 mod Events
 mod TwoWorlds
-pub mod TurnTwins
+mod TurnTwins
+mod Invoking
+mod Rounds
+mod Searched

@@ -4,7 +4,12 @@ pub mod Turn
 pub mod Sets
 pub mod Worlds
 pub mod Closed
+pub mod Roots
+pub mod Through
 -- Laws
 pub mod PairLaws
 pub mod SetLaws
 pub mod DoorsLaws
+pub mod RootsLaws
+-- Inner words
+pub mod Rounds

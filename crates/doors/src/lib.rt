@@ -8,9 +8,15 @@
 #![tactic(auto)]
 
 pub mod laws;
+mod opening;
 mod set;
+mod start;
+mod through;
 mod turn;
 pub mod worlds;
 
+pub use opening::opens;
 pub use set::CapSet;
+pub use start::{roots, specials};
+pub use through::{Door, Found, closure_through_doors};
 pub use turn::{Turn, run_turn};

@@ -1,0 +1,61 @@
+use Rattle.std.proofs.Common.{◌∙◌, length, map, ap, sym, subst, arith}
+use Rattle.hart.specs.State.{HoldsCapabilities}
+use Rattle.doors.specs.Rounds.{IsRound}
+use Rattle.doors.proofs.Searched.{IsSearchOf, search_of, opened-none, opened-round, exact-found, linked-found}
+use Rattle.doors.proofs.through.closure_through_doors.Given.{Over}
+use Rattle.doors.proofs.through.closure_through_doors.Goals.{After-len}
+use Rattle.doors.proofs.through.closure_through_doors.Goals as goal
+
+pub loop-doors-init : goal.loop-doors-init
+loop-doors-init g c =
+    let s = c.args.hart.now in
+    rw (c.new-doors.ensures.items, c.in_ok-starts.ensures.value) (opened-none s)
+
+pub closure-requires : goal.closure-requires
+closure-requires g c = record { capabilities = subst HoldsCapabilities (sym c.memory.ensures.value) c.memory.ensures.well_formed }
+
+searched : (g : Over) (c : After-len g)
+    → IsSearchOf g.C.CapRep.value c.args.hart.now c.loop-doors.invariant.behind c.in_ok-members.members.items
+searched g c =
+    let value = g.C.CapRep.value in
+    let found = c.in_ok-members.ensures in
+    search_of value c.args.hart.now c.loop-doors.invariant.behind (map value c.deref.result.now)
+    (map value c.deref-in-loop-doors.result.now) c.memory.result.now
+    (ap (map value) c.deref.ensures.value ∙ c.loop-doors.invariant.roots_are)
+    (ap (map value) c.deref-in-loop-doors.ensures.value ∙ c.in_ok-guarded.ensures)
+    c.memory.ensures.value c.in_ok-members.members.items found.linked found.sound found.complete
+
+round : (g : Over) (c : After-len g)
+    → IsRound g.C.CapRep.value c.in_ok-members.members.items (length c.in_ok-members.members.items)
+    (map g.C.CapRep.value c.loop-doors.starts.items) (map g.C.CapRep.value c.open_doors.new.roots.items) c.loop-doors.doors.items
+    c.open_doors.new.doors.items
+round g c =
+    let value = g.C.CapRep.value in
+    subst (λ ms. IsRound value ms (length ms) (map value c.loop-doors.starts.items) (map value c.open_doors.new.roots.items)
+    c.loop-doors.doors.items c.open_doors.new.doors.items) c.deref-in-loop-doors-2.ensures.value c.in_ok-open_doors.ensures
+
+pub returns-then-len-before-clause-exact : goal.returns-then-len-before-clause-exact
+returns-then-len-before-clause-exact g c =
+    let value = g.C.CapRep.value in
+    let h = (goal.at.returns-then-len-before-clause-exact g c).After-len in
+    let so_far = c.loop-doors.invariant in
+    exact-found value c.args.hart.now so_far.behind c.in_ok-members.members.items (searched g h) c.loop-doors.doors.items so_far.are_doors
+    (map value c.loop-doors.starts.items) (map value c.open_doors.new.roots.items) c.open_doors.new.doors.items so_far.roots_are (round g h)
+    (omega arith)
+
+pub returns-then-len-before-clause-linked : goal.returns-then-len-before-clause-linked
+returns-then-len-before-clause-linked g c =
+    let value = g.C.CapRep.value in
+    let h = (goal.at.returns-then-len-before-clause-linked g c).After-len in
+    let so_far = c.loop-doors.invariant in
+    linked-found value c.args.hart.now so_far.behind c.in_ok-members.members.items (searched g h) c.loop-doors.doors.items so_far.are_doors
+    (map value c.loop-doors.starts.items) (map value c.open_doors.new.roots.items) c.open_doors.new.doors.items so_far.roots_are (round g h)
+    (omega arith)
+
+pub loop-doors-preserved : goal.loop-doors-preserved
+loop-doors-preserved g c =
+    let value = g.C.CapRep.value in
+    let h = (goal.at.loop-doors-preserved g c).After-len in
+    let so_far = c.loop-doors.invariant in
+    opened-round value c.args.hart.now so_far.behind c.in_ok-members.members.items (searched g h) c.loop-doors.doors.items so_far.are_doors
+    (map value c.loop-doors.starts.items) (map value c.open_doors.new.roots.items) c.open_doors.new.doors.items so_far.roots_are (round g h)

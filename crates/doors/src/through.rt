@@ -1,0 +1,115 @@
+//! What is reachable through doors: a search, as often as it finds doors that it has not opened.
+ghost use Rattle.std.specs.Prelude.{◌≡◌, ◌↔◌, ℕ, Contains, map, length, IfOk, OnOk, IfNone, IfSome, IsTrue};
+ghost use Rattle.cap_rights.specs.Opened.{opened};
+ghost use Rattle.reached.specs.declared.member.Member.{Member};
+ghost use Rattle.reached.specs.Links.{values};
+ghost use Rattle.reached.specs.Chain.{AreInOrder};
+ghost use Rattle.doors.specs.Closed.{IsOpenedBy};
+ghost use Rattle.doors.specs.Rounds.{IsOpen, IsDoorAmong, IsRound};
+ghost use Rattle.doors.specs.Through.{AreReachableThroughDoors, AreLinkedThroughDoors};
+
+use crate::opening::{is_sealed, opens};
+use crate::start::{roots, specials};
+use cap_bounds::CapRep;
+use cap_rights::opened;
+use hart::Hart;
+use reached::{Member, Place, closure};
+use std::alloc::{AllocError, Global};
+
+/// A sealed capability among the members, and one that opens it: where they stand.
+#[derive(Clone, Copy, Debug, PartialEq, Eq)]
+pub struct Door {
+    /// Where the sealed one stands.
+    pub sealed: Place,
+    /// Where its key stands: of a sentry, which any key opens, its own place.
+    pub key: Place,
+}
+
+/// What is reachable through doors.
+#[derive(Drop)]
+pub struct Found<C: CapRep> {
+    /// The capabilities, each with its link.
+    pub members: Vec<Member<C>>,
+    /// The doors that lead to them, in the order in which they are opened.
+    pub doors: Vec<Door>,
+}
+
+/// Whether one of the doors is at this place.
+fn is_open(doors: &[Door], place: Place) -> bool
+    ensures { IsTrue result ↔ IsOpen doors.now place }
+{
+    doors.iter().any(|door| door.sealed == place)
+}
+
+/// The door at a member, if a member opens it: a sentry itself, since any key does, and of anything else the first one that does.
+fn door_at<C: CapRep>(members: &[Member<C>], member: &Member<C>) -> Option<Door>
+    requires { Contains members.now member.now }
+    ensures some { IfSome result (λ door. IsDoorAmong C.value members.now door (opened (C.value member.now.cap))) }
+    ensures place { IfSome result (λ door. door.sealed ≡ member.now.place) }
+    ensures none { IfNone result ((key : Member C) → Contains members.now key
+        → IsOpenedBy (C.value member.now.cap) (C.value key.cap) → ⊥) }
+{
+    let sealed = member.place;
+    if opens(member.cap, member.cap) {
+        return Some(Door {
+            sealed,
+            key: sealed,
+        });
+    }
+    for key in members {
+        if opens(member.cap, key.cap) {
+            return Some(Door {
+                sealed,
+                key: key.place,
+            });
+        }
+    }
+    None
+}
+
+/// Opens the doors at members that are not open, and adds what they lead to to the roots.
+fn open_doors<C: CapRep>(
+    members: &[Member<C>],
+    roots: &mut Vec<C>,
+    doors: &mut Vec<Door>,
+) -> Result<(), AllocError>
+    ensures { OnOk result (IsRound C.value members.now (length members.now) (map C.value roots.old.items) (map C.value roots.new.items)
+        doors.old.items doors.new.items) }
+{
+    for member in members {
+        if !is_sealed(member.cap) || is_open(doors, member.place) {
+            continue;
+        }
+        let Some(door) = door_at(members, member) else {
+            continue;
+        };
+        roots.push(opened(member.cap))?;
+        doors.push(door)?;
+    }
+    Ok(())
+}
+
+/// The capabilities that are reachable through doors in a hart's state, each with its link, and the doors that lead to them. The roots are
+/// the 32 registers, PCC and DDC, and after these what each door leads to: root 34 + n is behind door n.
+///
+/// `AllocError` is out of memory.
+pub fn closure_through_doors<C: CapRep>(
+    alloc: Global,
+    hart: &Hart<C>,
+) -> Result<Found<C>, AllocError>
+    ensures exact { IfOk result (λ found. AreReachableThroughDoors hart.now (values C.value found.members.items)) }
+    ensures linked { IfOk result (λ found. AreLinkedThroughDoors C.value hart.now found.members.items found.doors.items) }
+    ensures order { IfOk result (λ found. AreInOrder found.members.items) }
+{
+    let guarded = specials(alloc, hart)?;
+    let mut starts = roots(alloc, hart)?;
+    let mut doors = Vec::new(alloc);
+    loop {
+        let members = closure(alloc, &starts, &guarded, hart.memory())?;
+        let before = doors.len();
+        open_doors(&members, &mut starts, &mut doors)?;
+        if doors.len() == before {
+            return Ok(Found { members, doors });
+        }
+    }
+}
