@@ -1,16 +1,17 @@
 -- What code can reach, in sum: how many members there are and where they were found, what they open, and those that are sealed.
-use Rattle.std.specs.Prelude.{ℕ, Bool, true, false, ◌||◌, nat_lt, if◌then◌else◌, min, List, [], ◌∷◌, ◌++◌, length, is_some, codes, decimal}
+use Rattle.std.specs.Prelude.{ℕ, Bool, true, false, not, ◌||◌, nat_lt, if◌then◌else◌, min, List, [], ◌∷◌, ◌++◌, length, is_some, codes, decimal}
 use Rattle.std.specs.List.{count_by, flat_map}
 use Rattle.base.specs.declared.otype.TheConstants.{FIRST_RESERVED}
 use Rattle.cap_bounds.specs.CapValue.{is_sealed}
 use Rattle.devices.specs.Devices.{halt, timer_compare, timer, transmit, receive, status, control_register}
+use Rattle.debug_commands.specs.declared.command.Horizon.{Horizon}
+use Rattle.debug_commands.specs.declared.command.Horizon.TheVariants.{Stretch, Turn}
 use Rattle.debug_commands.specs.declared.command.May.{May}
 use Rattle.debug_commands.specs.declared.command.May.TheVariants.{Load, Store, System}
 use Rattle.disassembler.specs.Hex.{hex_of}
 use Rattle.symbols.specs.Symbols.{Symbol}
 use Rattle.reached.specs.declared.member.Place.{Place}
 use Rattle.reached.specs.declared.member.Place.TheVariants.{Root, Special, Granule}
-use Rattle.reached.specs.Chain.{is_root}
 use Rattle.reached.specs.Order.{Found}
 use Rattle.reach.specs.declared.range.Range.{Range}
 use Rattle.reach.specs.declared.right.Right.{Right}
@@ -19,9 +20,19 @@ use Rattle.reach.specs.Ranges.{ranges_of}
 use Rattle.reach_texts.specs.declared.counts.Kind.{Kind}
 use Rattle.reach_texts.specs.declared.counts.Kind.TheVariants as kind
 use Rattle.reach_texts.specs.Asked.{first_that, values_of}
-use Rattle.reach_texts.specs.Text.{labelled, member_line, numbered}
+use Rattle.reach_texts.specs.Text.{labelled, member_line, numbered, state_roots}
 
 -- ---- how many members there are, and how many of each kind
+
+abbrev pub is_in_register : Place → Bool
+is_in_register (Root n) = nat_lt n state_roots
+is_in_register (Special n) = false
+is_in_register (Granule address) = false
+
+abbrev pub is_behind_door : Place → Bool
+is_behind_door (Root n) = not (nat_lt n state_roots)
+is_behind_door (Special n) = false
+is_behind_door (Granule address) = false
 
 abbrev pub is_in_special : Place → Bool
 is_in_special (Root n) = false
@@ -34,7 +45,8 @@ is_in_memory (Special n) = false
 is_in_memory (Granule address) = true
 
 abbrev pub is_of : Kind → Found → Bool
-is_of kind.Register x = is_root x.place
+is_of kind.Register x = is_in_register x.place
+is_of kind.Door x = is_behind_door x.place
 is_of kind.SpecialRegister x = is_in_special x.place
 is_of kind.Memory x = is_in_memory x.place
 is_of kind.Sealed x = is_sealed x.value
@@ -42,11 +54,16 @@ is_of kind.Sealed x = is_sealed x.value
 unfoldable pub kind_count : List ℕ → Kind → List Found → List ℕ
 kind_count before kind xs = before ++ decimal (count_by (is_of kind) xs)
 
-unfoldable pub count_line : List Found → List ℕ
-count_line xs =
+-- through doors, how many are behind one
+unfoldable pub door_count : Horizon → List Found → List ℕ
+door_count Stretch xs = []
+door_count Turn xs = kind_count (codes ", behind doors ") kind.Door xs
+
+unfoldable pub count_line : Horizon → List Found → List ℕ
+count_line horizon xs =
     codes "members " ++ decimal (length xs) ++ kind_count (codes ": registers ") kind.Register xs
     ++ kind_count (codes ", special registers ") kind.SpecialRegister xs ++ kind_count (codes ", memory ") kind.Memory xs
-    ++ kind_count (codes ", sealed ") kind.Sealed xs ++ codes "\n"
+    ++ door_count horizon xs ++ kind_count (codes ", sealed ") kind.Sealed xs ++ codes "\n"
 
 -- ---- lines, or that there is none
 
@@ -134,7 +151,7 @@ addresses_text symbols xs =
 unfoldable pub types_text : List Symbol → List Found → List ℕ
 types_text symbols xs = ranges_text symbols right.Seal xs ++ ranges_text symbols right.Unseal xs
 
-unfoldable pub summary_text : List Symbol → List Found → List ℕ
-summary_text symbols xs =
-    count_line xs ++ addresses_text symbols xs ++ devices_text xs ++ system_line xs ++ types_text symbols xs
+unfoldable pub summary_text : Horizon → List Symbol → List Found → List ℕ
+summary_text horizon symbols xs =
+    count_line horizon xs ++ addresses_text symbols xs ++ devices_text xs ++ system_line xs ++ types_text symbols xs
     ++ numbered (sealed_line symbols) 0 xs

@@ -1,5 +1,5 @@
 -- What code can reach, as texts: the members of a reach, the same as a graph, and the chain of links that leads to one of them.
-use Rattle.std.specs.Prelude.{ℕ, ◌+◌, Bool, if◌then◌else◌, List, [], ◌∷◌, ◌++◌, Option, Some, None, slice_get, codes, decimal}
+use Rattle.std.specs.Prelude.{ℕ, ◌+◌, ◌-◌, nat_lt, Bool, if◌then◌else◌, List, [], ◌∷◌, ◌++◌, Option, Some, None, slice_get, codes, decimal}
 use Rattle.base.specs.declared.registers.scr.TheConstants.{MTCC}
 use Rattle.cap_bounds.specs.CapValue.{CapValue, is_sealed, value_base, value_top, value_perms}
 use Rattle.bounds_text.specs.Letters.{permission_letters}
@@ -8,6 +8,9 @@ use Rattle.disassembler.specs.Shown.{name_or}
 use Rattle.trap_texts.specs.Names.{register_at_fault}
 use Rattle.effect_texts.specs.ValueText.{shown_value}
 use Rattle.symbols.specs.Symbols.{Symbol, nearest}
+use Rattle.debug_commands.specs.declared.command.Horizon.{Horizon}
+use Rattle.debug_commands.specs.declared.command.Horizon.TheVariants.{Stretch, Turn}
+use Rattle.doors.specs.declared.through.Door.{Door}
 use Rattle.image_listing.specs.Named.{place_text}
 use Rattle.reached.specs.declared.member.Place.{Place}
 use Rattle.reached.specs.declared.member.Place.TheVariants.{Root, Special, Granule}
@@ -24,6 +27,22 @@ unfoldable pub place_name : List Symbol → Place → List ℕ
 place_name symbols (Root n) = name_or [] (register_at_fault n)
 place_name symbols (Special n) = name_or [] (register_at_fault (32 + MTCC + n))
 place_name symbols (Granule address) = labelled symbols address
+
+-- how many roots a state has: the 32 registers, PCC and DDC. What doors lead to comes after them.
+abbrev pub state_roots : ℕ
+state_roots = 34
+
+-- what is behind a door, by the place of the sealed capability
+abbrev pub behind_text : List Symbol → Option Door → List ℕ
+behind_text symbols None = []
+behind_text symbols (Some door) = codes "behind " ++ place_name symbols door.sealed
+
+-- the place of a member that doors may lead to
+unfoldable pub place_through : List Symbol → List Door → Place → List ℕ
+place_through symbols doors (Root n) =
+    if nat_lt n state_roots then place_name symbols (Root n) else behind_text symbols (slice_get doors (n - state_roots))
+place_through symbols doors (Special n) = place_name symbols (Special n)
+place_through symbols doors (Granule address) = place_name symbols (Granule address)
 
 -- ---- members
 
@@ -83,31 +102,36 @@ graph_text symbols xs =
 -- ---- whether code may do something: where it may, by which member, and the chain of places that leads to it
 
 -- where the member of a number was found, and what it is
-abbrev pub place_in : List Symbol → Option Found → List ℕ
-place_in symbols None = []
-place_in symbols (Some x) = place_name symbols x.place
+abbrev pub place_in : List Symbol → List Door → Option Found → List ℕ
+place_in symbols doors None = []
+place_in symbols doors (Some x) = place_through symbols doors x.place
 
-abbrev pub place_at : List Symbol → List Found → ℕ → List ℕ
-place_at symbols xs n = place_in symbols (slice_get xs n)
+abbrev pub place_at : List Symbol → List Door → List Found → ℕ → List ℕ
+place_at symbols doors xs n = place_in symbols doors (slice_get xs n)
 
 abbrev pub capability_in : Option Found → List ℕ
 capability_in None = []
 capability_in (Some x) = capability_text x.value
 
 -- places in order, each after the one that leads there
-abbrev pub later_places : List Symbol → List Found → List ℕ → List ℕ
-later_places symbols xs [] = []
-later_places symbols xs (n ∷ ns) = (codes " -> " ++ place_at symbols xs n) ++ later_places symbols xs ns
+abbrev pub later_places : List Symbol → List Door → List Found → List ℕ → List ℕ
+later_places symbols doors xs [] = []
+later_places symbols doors xs (n ∷ ns) = (codes " -> " ++ place_at symbols doors xs n) ++ later_places symbols doors xs ns
 
-abbrev pub chain_text : List Symbol → List Found → List ℕ → List ℕ
-chain_text symbols xs [] = []
-chain_text symbols xs (n ∷ ns) = place_at symbols xs n ++ later_places symbols xs ns
+abbrev pub chain_text : List Symbol → List Door → List Found → List ℕ → List ℕ
+chain_text symbols doors xs [] = []
+chain_text symbols doors xs (n ∷ ns) = place_at symbols doors xs n ++ later_places symbols doors xs ns
 
 -- a member that does, with the places that lead to it
-abbrev pub yes_text : List Symbol → List Found → List ℕ → ℕ → List ℕ
-yes_text symbols xs way k = codes "yes: " ++ chain_text symbols xs way ++ codes " " ++ capability_in (slice_get xs k) ++ codes "\n"
+abbrev pub yes_text : List Symbol → List Door → List Found → List ℕ → ℕ → List ℕ
+yes_text symbols doors xs way k =
+    codes "yes: " ++ chain_text symbols doors xs way ++ codes " " ++ capability_in (slice_get xs k) ++ codes "\n"
 
 -- what *no* means: it holds up to there, whatever the code is
-unfoldable pub answer_text : List Symbol → List Found → Option ℕ → List ℕ
-answer_text symbols xs None = codes "no, until the next trap, unsealing or sealed jump\n"
-answer_text symbols xs (Some k) = yes_text symbols xs (chain_of xs k) k
+abbrev pub no_text : Horizon → List ℕ
+no_text Stretch = codes "no, until the next trap, unsealing or sealed jump\n"
+no_text Turn = codes "no, until the next trap or unsealing\n"
+
+unfoldable pub answer_text : Horizon → List Symbol → List Door → List Found → Option ℕ → List ℕ
+answer_text horizon symbols doors xs None = no_text horizon
+answer_text horizon symbols doors xs (Some k) = yes_text symbols doors xs (chain_of xs k) k

@@ -2,11 +2,13 @@
 ghost use Rattle.std.specs.Prelude.{◌≡◌, ◌<◌, ◌++◌, codes, length, IfSome, OnOk, string_bytes, slice_get};
 ghost use Rattle.reached.specs.Chain.{AreInOrder};
 ghost use Rattle.reached.specs.Order.{seen_members};
-ghost use Rattle.reach_texts.specs.Text.{answer_text, capability_in, chain_text, later_places, place_at, yes_text};
+ghost use Rattle.reach_texts.specs.Text.{answer_text, capability_in, chain_text, later_places, no_text, place_at, yes_text};
 
 use crate::members::put_capability;
-use crate::places::put_place;
+use crate::places::put_place_through;
 use cap_bounds::CapRep;
+use debug_commands::Horizon;
+use doors::Door;
 use effect_texts::put;
 use reached::{Member, chain};
 use std::alloc::{AllocError, Global};
@@ -17,14 +19,15 @@ use symbols::Symbols;
 fn put_place_at<C: CapRep>(
     text: &mut String,
     symbols: &Symbols,
+    doors: &[Door],
     members: &[Member<C>],
     number: usize,
 ) -> Result<(), AllocError>
     ensures { OnOk result (string_bytes text.new
-        ≡ string_bytes text.old ++ place_at symbols.now (seen_members C.value members.now) number) }
+        ≡ string_bytes text.old ++ place_at symbols.now doors.now (seen_members C.value members.now) number) }
 {
     match members.get(number) {
-        Some(member) => put_place(text, symbols, member.place),
+        Some(member) => put_place_through(text, symbols, doors, member.place),
         None => put(text, ""),
     }
 }
@@ -49,29 +52,31 @@ fn put_capability_at<C: CapRep>(
 fn put_later_place<C: CapRep>(
     text: &mut String,
     symbols: &Symbols,
+    doors: &[Door],
     members: &[Member<C>],
     number: usize,
 ) -> Result<(), AllocError>
     ensures { OnOk result (string_bytes text.new
-        ≡ string_bytes text.old ++ (codes " -> " ++ place_at symbols.now (seen_members C.value members.now) number)) }
+        ≡ string_bytes text.old ++ (codes " -> " ++ place_at symbols.now doors.now (seen_members C.value members.now) number)) }
 {
     put(text, " -> ")?;
-    put_place_at(text, symbols, members, number)
+    put_place_at(text, symbols, doors, members, number)
 }
 
 /// Appends the places after a root's.
 fn put_later<C: CapRep>(
     text: &mut String,
     symbols: &Symbols,
+    doors: &[Door],
     members: &[Member<C>],
     way: &[usize],
 ) -> Result<(), AllocError>
     ensures { OnOk result (string_bytes text.new
-        ≡ string_bytes text.old ++ later_places symbols.now (seen_members C.value members.now) way.now) }
+        ≡ string_bytes text.old ++ later_places symbols.now doors.now (seen_members C.value members.now) way.now) }
 {
     let mut next = 0;
     while next < way.len() {
-        put_later_place(text, symbols, members, way[next])?;
+        put_later_place(text, symbols, doors, members, way[next])?;
         next += 1;
     }
     Ok(())
@@ -81,16 +86,17 @@ fn put_later<C: CapRep>(
 fn put_chain<C: CapRep>(
     text: &mut String,
     symbols: &Symbols,
+    doors: &[Door],
     members: &[Member<C>],
     way: &[usize],
 ) -> Result<(), AllocError>
     ensures { OnOk result (string_bytes text.new
-        ≡ string_bytes text.old ++ chain_text symbols.now (seen_members C.value members.now) way.now) }
+        ≡ string_bytes text.old ++ chain_text symbols.now doors.now (seen_members C.value members.now) way.now) }
 {
     match way.split_first() {
         Some((first, later)) => {
-            put_place_at(text, symbols, members, *first)?;
-            put_later(text, symbols, members, later)
+            put_place_at(text, symbols, doors, members, *first)?;
+            put_later(text, symbols, doors, members, later)
         }
         None => put(text, ""),
     }
@@ -100,18 +106,29 @@ fn put_chain<C: CapRep>(
 fn put_yes<C: CapRep>(
     text: &mut String,
     symbols: &Symbols,
+    doors: &[Door],
     members: &[Member<C>],
     way: &[usize],
     number: usize,
 ) -> Result<(), AllocError>
     ensures { OnOk result (string_bytes text.new
-        ≡ string_bytes text.old ++ yes_text symbols.now (seen_members C.value members.now) way.now number) }
+        ≡ string_bytes text.old ++ yes_text symbols.now doors.now (seen_members C.value members.now) way.now number) }
 {
     put(text, "yes: ")?;
-    put_chain(text, symbols, members, way)?;
+    put_chain(text, symbols, doors, members, way)?;
     put(text, " ")?;
     put_capability_at(text, members, number)?;
     put(text, "\n")
+}
+
+/// Appends that no member opens what is asked for, and up to where that holds.
+fn put_no(text: &mut String, horizon: Horizon) -> Result<(), AllocError>
+    ensures { OnOk result (string_bytes text.new ≡ string_bytes text.old ++ no_text horizon) }
+{
+    match horizon {
+        Horizon::Stretch => put(text, "no, until the next trap, unsealing or sealed jump\n"),
+        Horizon::Turn => put(text, "no, until the next trap or unsealing\n"),
+    }
 }
 
 /// Appends what is answered where a member of a number, or none, opens what is asked for.
@@ -119,20 +136,22 @@ fn put_yes<C: CapRep>(
 pub fn put_answer<C: CapRep>(
     text: &mut String,
     alloc: Global,
+    horizon: Horizon,
     symbols: &Symbols,
+    doors: &[Door],
     members: &[Member<C>],
     answer: Option<usize>,
 ) -> Result<(), AllocError>
     requires inside { IfSome answer (λ k. k < length members.now) }
     requires order { AreInOrder members.now }
     ensures { OnOk result (string_bytes text.new
-        ≡ string_bytes text.old ++ answer_text symbols.now (seen_members C.value members.now) answer) }
+        ≡ string_bytes text.old ++ answer_text horizon symbols.now doors.now (seen_members C.value members.now) answer) }
 {
     match answer {
         Some(number) => {
             let way = chain(alloc, members, number)?;
-            put_yes(text, symbols, members, &way, number)
+            put_yes(text, symbols, doors, members, &way, number)
         }
-        None => put(text, "no, until the next trap, unsealing or sealed jump\n"),
+        None => put_no(text, horizon),
     }
 }

@@ -4,11 +4,12 @@ ghost use Rattle.std.specs.Option.{option_copied};
 ghost use Rattle.image_listing.specs.Named.{distance_text, place_text};
 ghost use Rattle.base.specs.declared.registers.scr.TheConstants.{MTCC};
 ghost use Rattle.symbols.specs.Symbols.{is_label};
-ghost use Rattle.reach_texts.specs.Text.{labelled, place_name};
+ghost use Rattle.reach_texts.specs.Text.{behind_text, labelled, place_name, place_through, state_roots};
 ghost use Rattle.disassembler.specs.Shown.{name_or};
 ghost use Rattle.trap_texts.specs.Names.{register_at_fault as register_name_of};
 
 use base::scr;
+use doors::Door;
 use effect_texts::{put, put_decimal, put_hex};
 use reached::Place;
 use std::alloc::AllocError;
@@ -17,6 +18,9 @@ use trap_texts::register_at_fault;
 
 /// Where the special registers of a reach begin among those that mtval counts: after the 32 general registers, with MTCC.
 const FIRST_SPECIAL: u64 = 32 + scr::MTCC as u64;
+
+/// How many roots a state has: the 32 registers, PCC and DDC. What doors lead to comes after them.
+pub(crate) const STATE_ROOTS: usize = 34;
 
 /// A label as a text.
 fn name_text(name: &[u8]) -> &str
@@ -101,5 +105,36 @@ pub fn put_place(text: &mut String, symbols: &Symbols, place: Place) -> Result<(
         Place::Root(number) => put_register(text, number as u64),
         Place::Special(number) => put_special(text, number),
         Place::Granule(address) => put_labelled(text, symbols, address),
+    }
+}
+
+/// Appends what is behind a door, by the place of the sealed capability.
+fn put_behind(text: &mut String, symbols: &Symbols, door: Option<&Door>) -> Result<(), AllocError>
+    ensures { OnOk result (string_bytes text.new ≡ string_bytes text.old ++ behind_text symbols.now (option_copied door.entry)) }
+{
+    match door {
+        Some(door) => {
+            put(text, "behind ")?;
+            put_place(text, symbols, door.sealed)
+        }
+        None => put(text, ""),
+    }
+}
+
+/// Appends where a member was found that doors may lead to: what is behind a door comes after the roots of the state.
+#[tactic(auto, unfolding(crate::specs::Text::place_through))]
+pub(crate) fn put_place_through(
+    text: &mut String,
+    symbols: &Symbols,
+    doors: &[Door],
+    place: Place,
+) -> Result<(), AllocError>
+    ensures { OnOk result (string_bytes text.new ≡ string_bytes text.old ++ place_through symbols.now doors.now place) }
+{
+    match place {
+        Place::Root(number) if number >= STATE_ROOTS => {
+            put_behind(text, symbols, doors.get(number - STATE_ROOTS))
+        }
+        place => put_place(text, symbols, place),
     }
 }

@@ -10,7 +10,7 @@ use crate::members::put_member;
 use crate::open_devices::{is_let, put_devices};
 use crate::opened::put_ranges;
 use cap_bounds::CapRep;
-use debug_commands::May;
+use debug_commands::{Horizon, May};
 use effect_texts::put;
 use reach::Right;
 use reached::Member;
@@ -94,8 +94,8 @@ fn put_sealed<C: CapRep>(
     Ok(())
 }
 
-/// Appends the summary of a reach: how many members there are, the ranges, registers and object types that they open, and those that are
-/// sealed.
+/// Appends the summary of a reach, or of what is reachable through doors: how many members there are, the ranges, registers and object
+/// types that they open, and those that are sealed.
 ///
 /// # Errors
 ///
@@ -105,11 +105,12 @@ pub fn put_summary<C: CapRep>(
     alloc: Global,
     symbols: &Symbols,
     members: &[Member<C>],
+    horizon: Horizon,
 ) -> Result<(), AllocError>
     ensures { OnOk result (string_bytes text.new
-        ≡ string_bytes text.old ++ summary_text symbols.now (seen_members C.value members.now)) }
+        ≡ string_bytes text.old ++ summary_text horizon symbols.now (seen_members C.value members.now)) }
 {
-    put_count(text, members)?;
+    put_count(text, members, horizon)?;
     put_addresses(text, alloc, symbols, members)?;
     put_devices(text, alloc, members)?;
     put_system(text, members)?;

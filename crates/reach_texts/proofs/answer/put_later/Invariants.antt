@@ -8,8 +8,8 @@ use Rattle.reach_texts.proofs.answer.put_later.Given as goal
 abbrev pub invariant-loop-next : goal.invariant-loop-next
 invariant-loop-next g l = record {
   within : l.next ≤ length l.way;
-  places : string_bytes l.text ++ later_places l.symbols (seen_members g.C.CapRep.value l.members) (drop l.next l.way)
-      ≡ string_bytes l.fn.text ++ later_places l.symbols (seen_members g.C.CapRep.value l.members) l.way;
+  places : string_bytes l.text ++ later_places l.symbols l.doors (seen_members g.C.CapRep.value l.members) (drop l.next l.way)
+      ≡ string_bytes l.fn.text ++ later_places l.symbols l.doors (seen_members g.C.CapRep.value l.members) l.way;
 }
 
 abbrev pub decreases-loop-next : goal.decreases-loop-next
