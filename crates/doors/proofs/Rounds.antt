@@ -2,8 +2,10 @@
 use Rattle.std.proofs.Common.{◌≡◌, ℕ, ◌+◌, ◌<◌, ◌≤◌, Bool, true, false, ◌↔◌, IsTrue, List, [], ◌∷◌, ◌++◌, length, map, get_or}
 use Rattle.std.proofs.Common.{refl, sym, ap, ◌∙◌, subst, arith, inl, inr, eqb, cond}
 use Rattle.std.proofs.lemmas.Bool.{false≢true, cases_eq, cases_lt}
-use Rattle.std.proofs.lemmas.List.{append_assoc, append-nil, get_or-map, length-map, length-append, map-append, get_or_append_left, get_or-append_right}
+use Rattle.std.proofs.lemmas.List.{append_assoc, append-nil, get_or-map, length-map, length-append, map-append, get_or_append_left}
+use Rattle.std.proofs.lemmas.List.{get_or_default}
 use Rattle.std.proofs.lemmas.List.Elements.{Contains-append_left, Contains-push}
+use Rattle.std.proofs.Math.Seq.{get_or-append_seam}
 use Rattle.std.specs.Bool.{MatchBool}
 use Rattle.std.specs.List.{HoldsAt, AllWithin, Contains}
 use Rattle.base.specs.ObjectType.{unsealed_type}
@@ -13,6 +15,7 @@ use Rattle.reached.specs.declared.member.Place.{Place}
 use Rattle.doors.specs.declared.through.Door.{Door}
 use Rattle.doors.specs.Closed.{IsOpenedBy, entry, as_code, as_data, own_seal}
 use Rattle.doors.specs.PairLaws.{pair-invocable}
+use Rattle.doors.specs.Through.{AreApart}
 use Rattle.doors.specs.Rounds.{IsOpen, IsDoorAmong, AreDoorsAmong, IsRound}
 
 -- only what is sealed is opened
@@ -56,6 +59,27 @@ now_open doors door place at =
     (subst (λ p. Contains (map (λ (d : Door). d.sealed) doors ++ p ∷ []) place) (sym at)
     (Contains-push (map (λ (d : Door). d.sealed) doors) place))
 
+-- the last of a list with one more
+at_seam : {Y : Type 0} (ys : List Y) (y d : Y) (k : ℕ) → k ≡ length ys → get_or (ys ++ y ∷ []) k d ≡ y
+at_seam ys y d k last = ap (λ n. get_or (ys ++ y ∷ []) n d) last ∙ get_or-append_seam ys y [] d
+
+apart-more : (doors : List Door) (door : Door) → AreApart doors → (IsOpen doors door.sealed → ⊥) → AreApart (doors ++ door ∷ [])
+apart-more doors door apart fresh j k d e below within same =
+    let first : j < length doors = omega (arith, length-append doors (door ∷ [])) in
+    let here : (get_or doors j d).sealed ≡ (get_or (doors ++ door ∷ []) k e).sealed =
+    sym (ap (λ (x : Door). x.sealed) (get_or_append_left doors (door ∷ []) d j first)) ∙ same in
+    elim (cases_lt k (length doors)) [
+      | inl before ↦ apart j k d e below before (here ∙ ap (λ (x : Door). x.sealed) (get_or_append_left doors (door ∷ []) e k before))
+      | inr after ↦
+          let last : k ≡ length doors = omega (arith, length-append doors (door ∷ [])) in
+          fresh (
+            j,
+            omega (arith, length-map doors (λ (x : Door). x.sealed)),
+            get_or-map (λ (x : Door). x.sealed) doors j d door.sealed first ∙ here
+                ∙ ap (λ (x : Door). x.sealed) (at_seam doors door e k last),
+          )
+    ]
+
 module _ {X : Type 0} (value : X → CapValue) (members : List (Member X)) where
   -- none of the first members opens the value
   abbrev pub NoKeyBelow : CapValue → ℕ → Type 0
@@ -68,9 +92,6 @@ module _ {X : Type 0} (value : X → CapValue) (members : List (Member X)) where
         (ap (λ n. get_or members n d) same ∙ get_or_default members i d x below ∙ sym read) opens)
     | inr other ↦ before k d (omega (arith, other)) opens
   ]
-    where
-      get_or_default : (xs : List (Member X)) (n : ℕ) (a b : Member X) → n < length xs → get_or xs n a ≡ get_or xs n b
-      get_or_default xs n a b inside = Rattle.std.proofs.lemmas.List.get_or_default xs n a b inside
 
   pub no_key : (c : CapValue) (count : ℕ) → length members ≤ count → NoKeyBelow c count → (key : Member X) → Contains members key
       → IsOpenedBy c (value key.cap) → ⊥
@@ -100,9 +121,6 @@ module _ {X : Type 0} (value : X → CapValue) (members : List (Member X)) where
           (subst (λ y. IsDoorAmong value members door y) (sym (at_seam behind v w k last_behind)) new)
     ];
   }
-    where
-      at_seam : {Y : Type 0} (ys : List Y) (y d : Y) (k : ℕ) → k ≡ length ys → get_or (ys ++ y ∷ []) k d ≡ y
-      at_seam ys y d k last = ap (λ n. get_or (ys ++ y ∷ []) n d) last ∙ Rattle.std.proofs.Math.Seq.get_or-append_seam ys y [] d
 
   -- ---- rounds
 
@@ -113,13 +131,14 @@ module _ {X : Type 0} (value : X → CapValue) (members : List (Member X)) where
     roots_are = sym (append-nil roots);
     doors_are = sym (append-nil doors);
     among = among-none;
+    apart = λ before. before;
     open_now = λ k d key below there opens. absurd (omega arith);
   }
 
   module _ (i : ℕ) (x : Member X) (below : i < length members) (read : x ≡ get_or members i x) (roots new_roots : List CapValue)
       (doors new_doors : List Door) (round : IsRound value members i roots new_roots doors new_doors) where
     at : (k : ℕ) (d : Member X) → k ≡ i → get_or members k d ≡ x
-    at k d same = ap (λ n. get_or members n d) same ∙ Rattle.std.proofs.lemmas.List.get_or_default members i d x below ∙ sym read
+    at k d same = ap (λ n. get_or members n d) same ∙ get_or_default members i d x below ∙ sym read
 
     -- a member that none opens, or whose door is open
     pub round-passed : ((key : Member X) → Contains members key → IsOpenedBy (value x.cap) (value key.cap) → IsOpen new_doors x.place)
@@ -130,6 +149,7 @@ module _ {X : Type 0} (value : X → CapValue) (members : List (Member X)) where
       roots_are = round.roots_are;
       doors_are = round.doors_are;
       among = round.among;
+      apart = round.apart;
       open_now = λ k d key within there opens. elim (cases_eq k i) [
         | inl same ↦
             subst (λ (y : Member X). IsOpen new_doors y.place) (sym (at k d same))
@@ -141,13 +161,15 @@ module _ {X : Type 0} (value : X → CapValue) (members : List (Member X)) where
     -- a member whose door is added
     pub round-opened : (door : Door) (v : CapValue) → IsDoorAmong value members door v → door.sealed ≡ x.place
         → (more_roots : List CapValue) → more_roots ≡ new_roots ++ v ∷ [] → (more_doors : List Door) → more_doors ≡ new_doors ++ door ∷ []
-        → IsRound value members (i + 1) roots more_roots doors more_doors
-    round-opened door v new place more_roots roots_grown more_doors doors_grown = record {
+        → (IsOpen new_doors x.place → ⊥) → IsRound value members (i + 1) roots more_roots doors more_doors
+    round-opened door v new place more_roots roots_grown more_doors doors_grown fresh = record {
       more = round.more ++ door ∷ [];
       behind = round.behind ++ v ∷ [];
       roots_are = roots_grown ∙ ap (λ vs. vs ++ v ∷ []) round.roots_are ∙ append_assoc roots round.behind (v ∷ []);
       doors_are = doors_grown ∙ ap (λ ds. ds ++ door ∷ []) round.doors_are ∙ append_assoc doors round.more (door ∷ []);
       among = among-more round.more round.behind door v round.among new;
+      apart = λ before. subst AreApart (sym doors_grown)
+          (apart-more new_doors door (round.apart before) (subst (λ p. IsOpen new_doors p → ⊥) (sym place) fresh));
       open_now = λ k d key within there opens.
           let place_at = (get_or members k d).place in
           subst (λ ds. IsOpen ds place_at) (sym doors_grown) (elim (cases_eq k i) [

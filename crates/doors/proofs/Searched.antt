@@ -26,7 +26,7 @@ use Rattle.doors.specs.SetLaws.{tagged-opened}
 use Rattle.doors.specs.Roots.{roots_of, specials_of}
 use Rattle.doors.specs.RootsLaws.{root_there, there_root, special_there, there_special}
 use Rattle.doors.specs.Rounds.{IsOpen, IsDoorAmong, AreDoorsAmong, IsRound}
-use Rattle.doors.specs.Through.{AreReachableThroughDoors, IsAt, IsDoor, AreDoors, AreLinkedThroughDoors}
+use Rattle.doors.specs.Through.{AreReachableThroughDoors, IsAt, AreApart, IsDoor, AreDoors, AreLinkedThroughDoors}
 
 -- ---- what is reached from roots
 
@@ -36,7 +36,8 @@ reached-tagged roots specials m v (from_special before opens tagged there) = tag
 reached-tagged roots specials m v (from_granule granule before opens here) = ap is_tagged here.value
 
 -- from roots that are reachable through doors all is
-through-reached : (s : State) (roots : List CapValue) → ((v : CapValue) → is_tagged v ≡ true → Contains roots v → IsReachableThroughDoors s v)
+through-reached : (s : State) (roots : List CapValue)
+    → ((v : CapValue) → is_tagged v ≡ true → Contains roots v → IsReachableThroughDoors s v)
     → (v : CapValue) → IsReachedFrom roots (specials_of s.scrs) s.memory v → IsReachableThroughDoors s v
 through-reached s roots begun v (from_root tagged there) = begun v tagged there
 through-reached s roots begun v (from_special {c = c} before opens tagged there) =
@@ -124,7 +125,11 @@ pub opened-none : (s : State) → IsOpenedSoFar s (roots_of s) []
 opened-none s = record {
   behind = [];
   roots_are = sym (append-nil (roots_of s));
-  are_doors = record { many = refl; each = λ k door v below. absurd (omega arith) };
+  are_doors = record {
+    many = refl;
+    apart = λ j k d e below within same. absurd (omega arith);
+    each = λ k door v below. absurd (omega arith);
+  };
 }
 
 module _ {X : Type 0} (value : X → CapValue) (s : State) (behind : List CapValue) (members : List (Member X))
@@ -177,25 +182,30 @@ module _ {X : Type 0} (value : X → CapValue) (s : State) (behind : List CapVal
     sealed_reachable = through-value (value among.sealed.cap) (contains-value among.sealed among.sealed_in);
     key_reachable = through-value (value among.key.cap) (contains-value among.key among.key_in);
     opens = among.opens;
+    own_key = among.own_key;
     behind_is = among.behind_is;
   }
 
-  doors-more : (more : List Door) (new : List CapValue) → AreDoorsAmong value members more new → AreDoors s (doors ++ more) (behind ++ new)
-  doors-more more new among = record {
+  doors-more : (more : List Door) (new : List CapValue) → AreDoorsAmong value members more new → AreApart (doors ++ more)
+      → AreDoors s (doors ++ more) (behind ++ new)
+  doors-more more new among apart = record {
     many = omega (arith, are.many, among.many, length-append doors more, length-append behind new);
+    apart = apart;
     each = λ k door v below. elim (cases_lt k (length doors)) [
       | inl before ↦
           let inside : k < length behind = omega (arith, are.many) in
           let same : take k (behind ++ new) ≡ take k behind = take-append-le k behind new (omega arith) in
           subst (λ vs. IsDoor (roots_of s ++ vs) s (get_or (doors ++ more) k door) (get_or (behind ++ new) k v)) (sym same)
-          (subst (λ d. IsDoor (roots_of s ++ take k behind) s d (get_or (behind ++ new) k v)) (sym (get_or_append_left doors more door k before))
+          (subst (λ d. IsDoor (roots_of s ++ take k behind) s d (get_or (behind ++ new) k v))
+          (sym (get_or_append_left doors more door k before))
           (subst (IsDoor (roots_of s ++ take k behind) s (get_or doors k door)) (sym (get_or_append_left behind new v k inside))
           (are.each k door v before)))
       | inr after ↦
           let j : ℕ = k - length doors in
           let inside : j < length more = omega (arith, length-append doors more) in
           let same : roots_of s ++ take k (behind ++ new) ≡ (roots_of s ++ behind) ++ take j new =
-          ap (λ n. roots_of s ++ take n (behind ++ new)) (omega (arith, are.many)) ∙ ap (λ vs. roots_of s ++ vs) (take-append-add behind new j)
+          ap (λ n. roots_of s ++ take n (behind ++ new)) (omega (arith, are.many))
+          ∙ ap (λ vs. roots_of s ++ vs) (take-append-add behind new j)
           ∙ sym (append_assoc (roots_of s) behind (take j new)) in
           subst (λ vs. IsDoor vs s (get_or (doors ++ more) k door) (get_or (behind ++ new) k v)) (sym same)
           (subst (λ d. IsDoor ((roots_of s ++ behind) ++ take j new) s d (get_or (behind ++ new) k v))
@@ -213,7 +223,8 @@ module _ {X : Type 0} (value : X → CapValue) (s : State) (behind : List CapVal
     opened-round = record {
       behind = behind ++ round.behind;
       roots_are = round.roots_are ∙ ap (λ vs. vs ++ round.behind) are_roots ∙ append_assoc (roots_of s) behind round.behind;
-      are_doors = subst (λ ds. AreDoors s ds (behind ++ round.behind)) (sym round.doors_are) (doors-more round.more round.behind round.among);
+      are_doors = subst (λ ds. AreDoors s ds (behind ++ round.behind)) (sym round.doors_are)
+          (doors-more round.more round.behind round.among (subst AreApart round.doors_are (round.apart are.apart)));
     }
 
     module _ (done : length new_doors ≡ length doors) where

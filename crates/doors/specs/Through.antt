@@ -1,6 +1,7 @@
 -- What is found of what is reachable through doors, and the doors that lead there.
-use Rattle.std.specs.Prelude.{◌≡◌, ℕ, ◌<◌, List, ◌++◌, length, take, Contains, Some, slice_get, slice_index_or}
-use Rattle.cap_bounds.specs.CapValue.{CapValue}
+use Rattle.std.specs.Prelude.{◌≡◌, ◌≢◌, ℕ, ◌<◌, List, ◌++◌, length, take, Contains, Some, slice_get, slice_index_or}
+use Rattle.base.specs.ObjectType.{sentry_type}
+use Rattle.cap_bounds.specs.CapValue.{CapValue, value_otype}
 use Rattle.cap_rights.specs.Opened.{opened}
 use Rattle.hart.specs.State.{State}
 use Rattle.reached.specs.declared.member.Member.{Member}
@@ -25,7 +26,7 @@ IsAt roots s (Special n) v = slice_get (specials_of s.scrs) n ≡ Some v
 IsAt roots s (Granule granule) v = IsHeldAt s.memory granule v
 
 -- A door that leads to a value: a sealed value and a key to it stand at the two places, both are reachable through doors, and the door
--- leads to the sealed one without its seal.
+-- leads to the sealed one without its seal. A sentry, which any key opens, is its own key.
 pub record IsDoor (roots : List CapValue) (s : State) (door : Door) (behind : CapValue) : Type 0 where
   pub sealed : CapValue
   pub key : CapValue
@@ -34,12 +35,19 @@ pub record IsDoor (roots : List CapValue) (s : State) (door : Door) (behind : Ca
   pub sealed_reachable : IsReachableThroughDoors s sealed
   pub key_reachable : IsReachableThroughDoors s key
   pub opens : IsOpenedBy sealed key
+  pub own_key : value_otype sealed ≡ sentry_type → door.key ≡ door.sealed
   pub behind_is : behind ≡ opened sealed
 
--- Doors in the order in which they are opened, each with the value that it leads to. Its places are among the roots of the state and what
--- earlier doors lead to.
+-- no two are at one place
+abbrev pub AreApart : List Door → Type 0
+AreApart doors =
+    (j k : ℕ) (d e : Door) → j < k → k < length doors → (slice_index_or doors j d).sealed ≢ (slice_index_or doors k e).sealed
+
+-- Doors in the order in which they are opened, each with the value that it leads to. A root that one names is the state's, or what an
+-- earlier door leads to.
 pub record AreDoors (s : State) (doors : List Door) (behind : List CapValue) : Type 0 where
   pub many : length behind ≡ length doors
+  pub apart : AreApart doors
   pub each : (k : ℕ) (door : Door) (v : CapValue) → k < length doors
       → IsDoor (roots_of s ++ take k behind) s (slice_index_or doors k door) (slice_index_or behind k v)
 

@@ -2,7 +2,8 @@
 //!
 //! A turn is a run without a trap or an unsealing. What is reachable through doors is what is reachable, and each door among it without
 //! its seal: a sentry, the two of a pair that CInvoke accepts, and a sealed value with CInvoke to which code may seal a partner. It
-//! bounds what a turn comes to and what code can learn in it; sealing gives nothing beyond it, because code seals only what it holds.
+//! bounds what a turn comes to and what code can learn in it; sealing gives nothing beyond it, because code seals only what it holds. A
+//! search finds all of it, and no more, with the doors that lead there.
 //!
 //! Laws over any set of capabilities take it as a type that is a `CapSet`: an implementation says which values are members.
 #![tactic(auto)]

@@ -1,4 +1,4 @@
-//! Where the search begins.
+//! Where a search of a state begins.
 ghost use Rattle.std.specs.Prelude.{◌≡◌, map, IfOk};
 ghost use Rattle.hart.specs.IsState.{IsState};
 ghost use Rattle.doors.specs.Roots.{roots_of, specials_of};
@@ -7,7 +7,7 @@ use cap_bounds::CapRep;
 use hart::Hart;
 use std::alloc::{AllocError, Global};
 
-/// The 32 registers, PCC and DDC.
+/// The 32 registers, PCC and DDC: what instructions name without further rights.
 pub fn roots<C: CapRep>(alloc: Global, hart: &Hart<C>) -> Result<Vec<C>, AllocError>
     ensures value { IfOk result (λ found. map C.value found.items ≡ roots_of hart.now) }
     ensures state { IsState hart.now }
@@ -22,7 +22,7 @@ pub fn roots<C: CapRep>(alloc: Global, hart: &Hart<C>) -> Result<Vec<C>, AllocEr
     Ok(found)
 }
 
-/// The special registers that Access_System_Registers guards.
+/// The special registers that Access_System_Registers guards: MTCC, MTDC, MScratchC and MEPCC.
 pub fn specials<C: CapRep>(alloc: Global, hart: &Hart<C>) -> Result<Vec<C>, AllocError>
     ensures { IfOk result (λ found. map C.value found.items ≡ specials_of hart.now.scrs) }
 {

@@ -1,4 +1,4 @@
-//! What is reachable through doors: a search, as often as it finds doors that it has not opened.
+//! The search for what is reachable through doors: it begins anew with what the doors that it found lead to, until it finds no more.
 ghost use Rattle.std.specs.Prelude.{◌≡◌, ◌↔◌, ℕ, Contains, map, length, IfOk, OnOk, IfNone, IfSome, IsTrue};
 ghost use Rattle.cap_rights.specs.Opened.{opened};
 ghost use Rattle.reached.specs.declared.member.Member.{Member};
@@ -16,21 +16,21 @@ use hart::Hart;
 use reached::{Member, Place, closure};
 use std::alloc::{AllocError, Global};
 
-/// A sealed capability among the members, and one that opens it: where they stand.
+/// A door: where a sealed capability stands among the members, and where one that opens it does.
 #[derive(Clone, Copy, Debug, PartialEq, Eq)]
 pub struct Door {
-    /// Where the sealed one stands.
+    /// Where the sealed one stands. No two doors are at one place.
     pub sealed: Place,
-    /// Where its key stands: of a sentry, which any key opens, its own place.
+    /// Where its key stands: for a sentry, which any key opens, its own place.
     pub key: Place,
 }
 
 /// What is reachable through doors.
 #[derive(Drop)]
 pub struct Found<C: CapRep> {
-    /// The capabilities, each with its link.
+    /// The capabilities, each with its link. What a door leads to is a root after those of the state.
     pub members: Vec<Member<C>>,
-    /// The doors that lead to them, in the order in which they are opened.
+    /// The doors, in the order in which they are opened: a root that one names is the state's, or what an earlier door leads to.
     pub doors: Vec<Door>,
 }
 
@@ -41,7 +41,7 @@ fn is_open(doors: &[Door], place: Place) -> bool
     doors.iter().any(|door| door.sealed == place)
 }
 
-/// The door at a member, if a member opens it: a sentry itself, since any key does, and of anything else the first one that does.
+/// The door at a member, if a member opens it: a sentry itself, since any key does, and anything else the first that does.
 fn door_at<C: CapRep>(members: &[Member<C>], member: &Member<C>) -> Option<Door>
     requires { Contains members.now member.now }
     ensures some { IfSome result (λ door. IsDoorAmong C.value members.now door (opened (C.value member.now.cap))) }
@@ -67,7 +67,7 @@ fn door_at<C: CapRep>(members: &[Member<C>], member: &Member<C>) -> Option<Door>
     None
 }
 
-/// Opens the doors at members that are not open, and adds what they lead to to the roots.
+/// One round: opens the doors at members that are not open yet. What they lead to becomes roots.
 fn open_doors<C: CapRep>(
     members: &[Member<C>],
     roots: &mut Vec<C>,

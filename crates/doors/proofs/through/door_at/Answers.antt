@@ -1,5 +1,6 @@
 use Rattle.std.proofs.Common.{◌≤◌, length, refl, sym, ◌∙◌, arith}
 use Rattle.std.proofs.lemmas.Bool.{false≢true}
+use Rattle.doors.specs.Closed.{entry}
 use Rattle.doors.proofs.Rounds.{no_key-more, no_key}
 use Rattle.doors.proofs.through.door_at.Goals as goal
 
@@ -12,6 +13,7 @@ returns-then-opens-clause-some g c = record {
   sealed_at = refl;
   key_at = refl;
   opens = c.opens.ensures.0 c.if-opens.true;
+  own_key = λ _. refl;
   behind_is = refl;
 }
 
@@ -24,6 +26,7 @@ returns-then-opens-2-clause-some g c = record {
   sealed_at = refl;
   key_at = refl;
   opens = c.opens-in-loop-key.ensures.0 c.if-opens-2.true;
+  own_key = λ sentry. absurd (false≢true (sym c.if-opens.false ∙ c.opens.ensures.1 (entry sentry)));
   behind_is = refl;
 }
 

@@ -3,7 +3,8 @@ use Rattle.std.proofs.lemmas.Bool.{false≢true}
 use Rattle.cap_rights.specs.Opened.{opened}
 use Rattle.doors.specs.Rounds.{IsOpen, IsRound}
 use Rattle.doors.proofs.Rounds.{opened-sealed, round-none, round-passed, round-opened, map-pushed}
-use Rattle.doors.proofs.through.open_doors.Goals.{then-not-is_sealed-via-then-not-is_sealed, then-not-is_sealed-via-else-not-is_sealed+then-is_open}
+use Rattle.doors.proofs.through.open_doors.Goals.{then-not-is_sealed-via-then-not-is_sealed}
+use Rattle.doors.proofs.through.open_doors.Goals.{then-not-is_sealed-via-else-not-is_sealed+then-is_open}
 use Rattle.doors.proofs.through.open_doors.Goals as goal
 
 pub loop-member-init : goal.loop-member-init
@@ -43,6 +44,8 @@ loop-member-preserved g c =
     (map-pushed value c.loop-member.roots.items c.push.new.self.items c.opened.result (opened (value c.member-item.result.cap))
     c.in_ok-push.ensures.items c.opened.ensures)
     c.push-in-loop-member.new.self.items c.in_ok-push-2.ensures.items
+    (λ is. false≢true (sym c.if-is_open.false
+    ∙ c.is_open.ensures.1 (subst (λ doors. IsOpen doors c.member-item.result.place) (sym c.deref.ensures.value) is)))
 
 pub returns : goal.returns
 returns g c =
