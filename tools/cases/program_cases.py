@@ -600,13 +600,13 @@ def reached():
         return case("debug caps.img --symbols t", [file, table, f"input {quoted(typed)}"], 0, "open caps.img, open t", answer)
 
     def session(labels, *lines, steps=6):
-        members = Straight(program).steps(steps).members()
+        machine = Straight(program).steps(steps)
         done = f"events {steps} out - pc {RAM + 4 * steps:016x} running\n" if steps else ""
-        answer = "".join(f"{line}\n" for typed in lines for line in answered(members, typed, labels))
+        answer = "".join(f"{line}\n" for typed in lines for line in answered(machine, typed, labels))
         return asked(labels, (f"step {steps}\n" if steps else "") + "\n".join(lines), done + answer)
 
     yield "# what is reachable is shown with the label at a granule's address or fewer than 4096 bytes below it"
-    for line in ("reach", "reach members", "reach dot"):
+    for line in ("reach", "reach members", "reach dot", "reach doors"):
         yield session(LABELS, line)
     yield session(MORE_LABELS, "reach members")
     yield session(LABELS, "reach members", steps=0)
@@ -614,7 +614,7 @@ def reached():
     yield session(LABELS, "may send", "may halt", "may system", "may timer", "may hold 0")
     yield "# a question takes a label where it takes an address"
     yield session(MORE_LABELS, "may load table 1", "may store second 1", "may store table 4096", "may execute first 1",
-                  "may learn after 4096")
+                  "may learn after 4096", "may load table 1 through doors", "may store after 4096 through doors")
     for typed in ("may load tabel 1", "may load table+4 1", "may load table", "may load table table", "may hold table", "may table 1",
                   "reach table"):
         yield asked(LABELS, typed, "fault B2\n")

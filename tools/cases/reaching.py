@@ -16,7 +16,7 @@ from trying.names import CAPABILITY_NAMES
 LETTERS = "GXRWcCLsiuSd"
 ROOTS = [*CAPABILITY_NAMES, "pcc", "ddc"]
 SPECIALS = ["mtcc", "mtdc", "mscratchc", "mepcc"]
-NO = "no, until the next trap, unsealing or sealed jump"
+NO, NO_THROUGH_DOORS = "no, until the next trap, unsealing or sealed jump", "no, until the next trap or unsealing"
 HEAD = ["digraph reach {", "  rankdir=LR;", "  node [shape=box, fontname=monospace];", "  registers [shape=plaintext];"]
 
 
@@ -34,9 +34,11 @@ def text(value):
             f"o:{otype(value):05x}")
 
 
-def place_name(place, labels=()):
-    """A register's name, or a granule's address with the label at it or fewer than 4096 bytes below it."""
+def place_name(place, labels=(), doors=()):
+    """A register's name, or a granule's address with the label at it or fewer than 4096 bytes below it; or what is behind such a place."""
     kind, n = place
+    if kind == reach.DOOR:
+        return f"behind {place_name(doors[n], labels)}"
     if kind != reach.GRANULE:
         return {reach.ROOT: ROOTS, reach.SPECIAL: SPECIALS}[kind][n]
     below = [(address, name) for address, name in labels if address <= n]
@@ -48,9 +50,13 @@ def place_name(place, labels=()):
     return f"{n:016x} <{nearest[1]}" + (f"+{distance}>" if distance else ">")
 
 
+def member_text(number, member, labels=()):
+    source = "" if member.source is None else f" from {member.source}"
+    return f"{number} {place_name(member.place, labels)}{source} {text(member.value)}"
+
+
 def members_text(found, labels=()):
-    return [f"{number} {place_name(member.place, labels)}" + ("" if member.source is None else f" from {member.source}")
-            + f" {text(member.value)}" for number, member in enumerate(found)]
+    return [member_text(number, member, labels) for number, member in enumerate(found)]
 
 
 def graph_text(found, labels=()):
@@ -63,28 +69,28 @@ def graph_text(found, labels=()):
     return [*HEAD, *lines, "}"]
 
 
-def answer_text(found, question, numbers, labels=()):
+def answer_text(found, question, numbers, labels=(), doors=(), no=NO):
     number = reach.first(found, question, *numbers)
     if number is None:
-        return [NO]
-    way = " -> ".join(place_name(found[link].place, labels) for link in reach.chain(found, number))
+        return [no]
+    way = " -> ".join(place_name(found[link].place, labels, doors) for link in reach.chain(found, number))
     return [f"yes: {way} {text(found[number].value)}"]
 
 
-def summary(found, labels=()):
+def summary(found, labels=(), counted=(("registers", reach.ROOT), ("special registers", reach.SPECIAL), ("memory", reach.GRANULE))):
     """How many members there are, what they open, and those that are sealed."""
     places = Counter(member.place[0] for member in found)
-    are_sealed = [not is_unsealed(member.value) for member in found]
+    held = [member_text(number, member, labels) for number, member in enumerate(found) if not is_unsealed(member.value)]
     bytes_open = {name: [f"{place_name((reach.GRANULE, first), labels)} to {end:017x}" for first, end in reach.opened(found, permissions)]
                   for name, permissions in reach.BYTES.items()}
     registers = [f"{name} {'R' if loads else '-'}{'W' if stores else '-'}" for name, (loads, stores) in reach.accesses(found).items()]
     types_open = {name: [f"{first:05x} to {end:05x}" for first, end in reach.sealing(found, permission)]
                   for name, permission in reach.TYPES.items()}
     system = "no" if reach.first(found, "system") is None else "yes"
-    return [f"members {len(found)}: registers {places[reach.ROOT]}, special registers {places[reach.SPECIAL]}, "
-            f"memory {places[reach.GRANULE]}, sealed {sum(are_sealed)}",
+    counts = ", ".join(f"{name} {places[kind]}" for name, kind in counted)
+    return [f"members {len(found)}: {counts}, sealed {len(held)}",
             *listed({**bytes_open, "device": registers}), f"system registers {system}", *listed(types_open),
-            *(line for line, is_sealed in zip(members_text(found, labels), are_sealed) if is_sealed)]
+            *held]
 
 
 def listed(things):
@@ -93,16 +99,24 @@ def listed(things):
 
 
 VIEWS = {"reach": summary, "reach members": members_text, "reach dot": graph_text}
+COUNTED = (("registers", reach.ROOT), ("special registers", reach.SPECIAL), ("memory", reach.GRANULE), ("behind doors", reach.DOOR))
 
 
-def answered(found, line, labels=()):
+def answered(machine, line, labels=()):
     """What a line of these commands is answered with."""
     words = " ".join(line.replace("\\t", " ").replace("\\r", " ").split())
     if words in VIEWS:
-        return VIEWS[words](found, labels)
-    _, question, *numbers = words.split()
+        return VIEWS[words](machine.members(), labels)
+    found, doors = machine.through_doors()
+    if words == "reach doors":
+        return summary(found, labels, COUNTED)
+    asked = words.removesuffix(" through doors")
+    _, question, *written = asked.split()
     named = {name: address for address, name in reversed(labels)}
-    return answer_text(found, question, [named[word] if word in named else int(word, 0) for word in numbers], labels)
+    numbers = [named[word] if word in named else int(word, 0) for word in written]
+    if asked == words:
+        return answer_text(machine.members(), question, numbers, labels)
+    return answer_text(found, question, numbers, labels, doors, NO_THROUGH_DOORS)
 
 
 def after(program, steps, lines, *more):
@@ -111,8 +125,7 @@ def after(program, steps, lines, *more):
     for count, asked in zip((steps, *more[::2]), (lines, *more[1::2])):
         machine.steps(count)
         text += [f"> step {count}", f"events {count} out - pc {machine.special['pcc'][1]:016x} running"] if count else []
-        found = machine.members()
-        text += [part for line in asked for part in (f"> {line}", *answered(found, line))]
+        text += [part for line in asked for part in (f"> {line}", *answered(machine, line))]
     return "\n".join(text)
 
 
@@ -223,6 +236,37 @@ STORED = table(*((address, 8, 8) for address in reach.REGISTERS.values()))
 DEVICES = table((TIMER, 8, 4), (RECEIVE, 1, 4), (STATUS - 1, 2, 8), (CONTROL, 8, 4), (CONTROL, 8, 8), (HALT + 1, 7, 12),
                 (TRANSMIT, 8, 2), (TIMER_COMPARE - 8, 8, 12))
 
+# Sealed with type 7: ca2 and ca3 are a pair, code and data; the data leads to a table whose sentry ca4 sealed, and the sentry's code to
+# a device. Or the other halves of pairs: code with another type, data with Execute, data without CInvoke, code whose address isn't a
+# multiple of 4, or of which fewer than 4 bytes are left.
+def sealed(register, number=7):
+    """Seals a register's capability with a type, through root."""
+    return ["cincoffsetimm ca4, ca0, 0", f"addi a5, zero, {number}", "csetaddr ca4, ca4, a5", f"cseal {register}, {register}, ca4"]
+
+
+def pair(code=(0, 64, 0x107, 7), datum=(0x100, 32, 0x13D, 7), offset=0):
+    """A program that keeps the two in ca2 and ca3, sealed, each with an offset from RAM's beginning, a length, permissions and a type."""
+    (at, length, rights, kind), (start, size, given, other) = code, datum
+    return narrowed(*bounded("ca2", at, length, rights), f"cincoffsetimm ca2, ca2, {offset}", *sealed("ca2", kind),
+                    *bounded("ca3", start, size, given), *sealed("ca3", other), keep=("ca2", "ca3"),
+                    data=[cap(TRANSMIT, 8, 0x8), cap(DATA + 0x20, 16, LOADS), cap(HALT, 8, 0x8)])
+
+
+# A sentry in a table, and behind it code that loads: another table, of what may set the timer. And a sentry in a register.
+BEHIND_PROGRAM, BEHIND_STEPS = narrowed(
+    *bounded("ca2", 0x110, 16, 0x7F), *bounded("ca3", 0x120, 16, 0x17), "csealentry ca3, ca3", "sc.cap ca3, (ca2)",
+    *bounded("ca3", 0x100, 32, LOADS), *bounded("ca4", 0x130, 16, 0x7), "csealentry ca4, ca4", keep=("ca3", "ca4"),
+    data=[cap(0x1000, 8, 0x8), cap(0, 0, 0), cap(TIMER_COMPARE, 8, 0x8), cap(0x2000, 8, 0x8)])
+
+# What is sealed with CInvoke and no partner: what may seal with its type is a key, what may seal with the next or may unseal is none.
+KEYS = {about: narrowed(*bounded("ca2", 0x100, 16, given), *sealed("ca2"), "cincoffsetimm ca3, ca0, 0", f"addi a5, zero, {first}",
+                        "csetaddr ca3, ca3, a5", "csetboundsimm ca3, ca3, 1", f"addi a5, zero, {rights}", "candperm ca3, ca3, a5",
+                        keep=("ca2", "ca3"))
+        for about, given, first, rights in (("may seal with its type", 0x108, 7, SEAL), ("may seal with the next type", 0x108, 8, SEAL),
+                                            ("may unseal its type", 0x108, 7, UNSEAL), ("has no CInvoke", 0x8, 7, SEAL))}
+
+THROUGH = ["reach doors", "reach", *(f"may {what} through doors" for what in ("send", "halt", "system", "timer"))]
+
 MACHINE = ["may send", "may halt", "may system", "may timer"]
 # Asked only where no member may seal with the type: what code seals itself is not held yet.
 TYPES = ["may hold 7", "may hold 8", "may hold 0", f"may hold {SENTRY}", f"may hold {UNSEALED}", "may hold 0x0007"]
@@ -267,6 +311,27 @@ def conversations():
             ("Registers that are loaded alone", LOADED), ("Registers that are stored alone", STORED),
             ("A register is open by its first byte", DEVICES)):
         yield about, *asked, ["reach"]
+    for about, program, steps in (
+            ("A pair that CInvoke accepts", *pair()),
+            ("Code and data of two types", *pair(datum=(0x100, 32, 0x13D, 6))),
+            ("Data with Execute", *pair(datum=(0x100, 32, 0x13F, 7))),
+            ("Data without CInvoke", *pair(datum=(0x100, 32, 0x3D, 7))),
+            ("Code without CInvoke", *pair(code=(0, 64, 0x7, 7))),
+            ("Code without Execute", *pair(code=(0, 64, 0x105, 7))),
+            ("The last instruction of code", *pair(offset=60)),
+            ("Code whose address is no multiple of 4", *pair(offset=2)),
+            ("Code whose address is odd", *pair(offset=5)),
+            ("Three bytes of code are left", *pair(code=(0, 63, 0x107, 7), offset=60))):
+        yield (f"Through doors: {about[0].lower() + about[1:]}", program, steps,
+               [*THROUGH, f"may store {DATA:#x} 32 through doors", f"may load {DATA:#x} 1", f"may execute {RAM:#x} 1  through\\tdoors"])
+    yield ("Through doors: what is behind a sentry in a table leads to another table", BEHIND_PROGRAM, BEHIND_STEPS,
+           [*THROUGH, "may store 0x1000 1 through doors", "may store 0x2000 1 through doors", f"may execute {DATA + 0x30:#x} 16 through doors",
+            f"may learn {DATA + 0x40:#x} 1 through doors", f"may hold {SENTRY} through doors", "may hold 7 through doors"])
+    for about, (program, steps) in KEYS.items():
+        yield (f"Through doors: of a sealed value without a partner, where what code holds {about}", program, steps,
+               [*THROUGH, f"may store {DATA:#x} 1 through doors", "may hold 9 through doors"])
+    yield ("Through doors: without a sealed capability as without doors", CHAIN_PROGRAM, CHAIN_STEPS, THROUGH)
+    yield ("Through doors: the special registers and what they lead to", KERNEL_PROGRAM, KERNEL_STEPS, THROUGH)
     yield ("The timer's count is no comparison", *narrowed(*bounded("ca3", 0x100, 16, LOADS), keep=("ca3",), data=[cap(TIMER, 8, 0x8)]),
            ["may timer"])
 
@@ -274,6 +339,10 @@ def conversations():
 # Operands of `reach` and `may` that are refused, and names that are no commands.
 REFUSED_OPERANDS = [
     "reach x", "reach members 1", "reach members dot", "reach dot 1", "reach 1", "reach Members", "reach member", "may", "may x",
+    "reach doors 1", "reach doors doors", "reach Doors", "reach through doors", "may send through", "may send doors", "may send doors through",
+    "may send through doors 1", "may send Through doors", "may send through door", "may through doors", "may through doors send",
+    "may hold 7 through", "may hold through doors", "may hold 7 7 through doors", "may store 0x80000000 through doors",
+    "may store 0x80000000 1 through", "may store 0x80000000 1 through doors doors", "may load 0x80000000 1 1 through doors",
     "may Store", "may send 1", "may send send", "may halt 1", "may system 1", "may timer 1", "may hold", "may hold 262144",
     "may hold 0x40000", "may hold -1", "may hold 7 7", "may hold x", "may reach",
     *(line.format(what) for what in ("store", "load", "execute", "learn") for line in (

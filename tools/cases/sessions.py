@@ -30,10 +30,10 @@ caps
 mem ADDR LEN
 dis ADDR N
 why
-reach [members|dot]
-may store|load|execute|learn ADDR LEN
-may send|halt|system|timer
-may hold TYPE
+reach [members|dot|doors]
+may store|load|execute|learn ADDR LEN [through doors]
+may send|halt|system|timer [through doors]
+may hold TYPE [through doors]
 help [B1|B2|B3|B4]
 quit
 """

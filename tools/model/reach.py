@@ -2,17 +2,18 @@
 of them.
 
 A place is what it is in and a number: a root's (the general registers, then PCC and DDC), a special register's (MTCC, MTDC, MScratchC,
-MEPCC), or a granule's address.
+MEPCC), a granule's address, or a door's.
 """
 
 from typing import NamedTuple, Optional
 
-from model.capabilities import base, has, is_unsealed, otype, perms, top
+from model.capabilities import base, has, is_unsealed, otype, perms, top, with_fields
 from model.devices import CONTROL, HALT, RAM, RECEIVE, STATUS, TIMER, TIMER_COMPARE, TRANSMIT
-from model.rights import ACCESS_SYSTEM_REGISTERS, EXECUTE, GREATEST_SEALING_TYPE, LOAD, LOAD_CAPABILITY, SEAL, SENTRY, STORE, UNSEAL
+from model.rights import (ACCESS_SYSTEM_REGISTERS, CINVOKE, EXECUTE, GREATEST_SEALING_TYPE, LOAD, LOAD_CAPABILITY, SEAL, SENTRY, STORE,
+                          UNSEAL, UNSEALED)
 from model.words import NULL_HIGH
 
-ROOT, SPECIAL, GRANULE = "root", "special", "granule"
+ROOT, SPECIAL, GRANULE, DOOR = "root", "special", "granule", "door"
 WORD = 16
 
 
@@ -58,10 +59,11 @@ def opens(value, place):
             and base(value) <= n and n + WORD <= top(value))
 
 
-def members(state):
-    """The roots, and then what each member in turn opens that was not found before."""
+def members(state, behind=()):
+    """The roots and what is behind doors, and then what each member in turn opens that was not found before."""
     held = state.held()
     found = [Member(value, place, None) for place, value in held.items() if place[0] == ROOT]
+    found += [Member(value, (DOOR, n), None) for n, value in enumerate(behind)]
     for number, member in enumerate(found):
         before = {other.place for other in found}
         found += [Member(value, place, number) for place, value in held.items() if place not in before and opens(member.value, place)]
@@ -72,6 +74,36 @@ def chain(found, number):
     """The numbers of the members that lead to one, a root's first."""
     source = found[number].source
     return [number] if source is None else [*chain(found, source), number]
+
+
+# ---- doors
+
+def is_pair(code, datum):
+    """Whether CInvoke accepts two tagged values as code and data."""
+    target = code[1] & ~1
+    return (otype(code) == otype(datum) <= GREATEST_SEALING_TYPE and has(code, CINVOKE) and has(datum, CINVOKE) and has(code, EXECUTE)
+            and not has(datum, EXECUTE) and target % 4 == 0 and base(code) <= target and target + 4 <= top(code))
+
+
+def is_key(key, value):
+    """Whether a sealed jump may open a sealed value for code that holds it and the key."""
+    if otype(value) == SENTRY or is_pair(value, key) or is_pair(key, value):
+        return True
+    return has(value, CINVOKE) and is_unsealed(key) and has(key, SEAL) and base(key) <= otype(value) < top(key)
+
+
+def through_doors(state):
+    """The members, and the doors in the order in which they are opened: the places of what is sealed. Where members have a door that isn't
+    open, all of those are opened and the members are looked for anew."""
+    doors, behind = [], []
+    while True:
+        found = members(state, behind)
+        new = [member for member in found if not is_unsealed(member.value) and member.place not in doors
+               and any(is_key(key.value, member.value) for key in found)]
+        if not new:
+            return found, doors
+        doors += [member.place for member in new]
+        behind += [with_fields(member.value, otype=UNSEALED) for member in new]
 
 
 # ---- what is asked

@@ -92,10 +92,10 @@ fn put_view<C: CapRep>(
             put_words(text, machine.memory(), mode(machine), address, count)
         }
         View::Why => put_why(text, machine.hart()),
-        View::Reach => put_reach(text, alloc, symbols, machine.hart()),
+        View::Reach(horizon) => put_reach(text, alloc, symbols, machine.hart(), horizon),
         View::ReachMembers => put_reach_members(text, alloc, symbols, machine.hart()),
         View::ReachGraph => put_reach_graph(text, alloc, symbols, machine.hart()),
-        View::May(may) => put_may(text, alloc, symbols, machine.hart(), may),
+        View::May(may, horizon) => put_may(text, alloc, symbols, machine.hart(), may, horizon),
         View::Stops => put_stops(text, stops),
         View::Help => put(text, help_text()),
         View::Code(fault) => put_code(text, fault),

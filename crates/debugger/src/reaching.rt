@@ -3,7 +3,8 @@ ghost use Rattle.std.specs.Prelude.{◌≡◌, ◌++◌, OnOk, string_bytes};
 ghost use Rattle.debugger.specs.Reaching.{graph_reply, may_reply, members_reply, reach_reply};
 
 use cap_bounds::CapRep;
-use debug_commands::May;
+use debug_commands::{Horizon, May};
+use doors::closure_through_doors;
 use hart::Hart;
 use reach::Reach;
 use reach_texts::{first_that, put_answer, put_graph, put_members, put_summary};
@@ -16,11 +17,20 @@ pub(crate) fn put_reach<C: CapRep>(
     alloc: Global,
     symbols: &Symbols,
     hart: &Hart<C>,
+    horizon: Horizon,
 ) -> Result<(), AllocError>
-    ensures { OnOk result (string_bytes text.new ≡ string_bytes text.old ++ reach_reply symbols.now hart.now) }
+    ensures { OnOk result (string_bytes text.new ≡ string_bytes text.old ++ reach_reply horizon symbols.now hart.now) }
 {
-    let reach = Reach::of(alloc, hart)?;
-    put_summary(text, alloc, symbols, reach.members())
+    match horizon {
+        Horizon::Stretch => {
+            let reach = Reach::of(alloc, hart)?;
+            put_summary(text, alloc, symbols, reach.members(), horizon)
+        }
+        Horizon::Turn => {
+            let through = closure_through_doors(alloc, hart)?;
+            put_summary(text, alloc, symbols, &through.members, horizon)
+        }
+    }
 }
 
 /// Appends each capability that can be reached, a line each.
@@ -56,10 +66,20 @@ pub(crate) fn put_may<C: CapRep>(
     symbols: &Symbols,
     hart: &Hart<C>,
     may: May,
+    horizon: Horizon,
 ) -> Result<(), AllocError>
-    ensures { OnOk result (string_bytes text.new ≡ string_bytes text.old ++ may_reply symbols.now may hart.now) }
+    ensures { OnOk result (string_bytes text.new ≡ string_bytes text.old ++ may_reply horizon symbols.now may hart.now) }
 {
-    let reach = Reach::of(alloc, hart)?;
-    let answer = first_that(reach.members(), may);
-    put_answer(text, alloc, symbols, reach.members(), answer)
+    match horizon {
+        Horizon::Stretch => {
+            let reach = Reach::of(alloc, hart)?;
+            let answer = first_that(reach.members(), may);
+            put_answer(text, alloc, horizon, symbols, &[], reach.members(), answer)
+        }
+        Horizon::Turn => {
+            let through = closure_through_doors(alloc, hart)?;
+            let answer = first_that(&through.members, may);
+            put_answer(text, alloc, horizon, symbols, &through.doors, &through.members, answer)
+        }
+    }
 }

@@ -1,19 +1,11 @@
 -- The reach of a state.
-use Rattle.std.specs.Prelude.{List, [], ◌∷◌, ◌++◌, Contains}
+use Rattle.std.specs.Prelude.{List, Contains}
 use Rattle.cap_bounds.specs.CapValue.{CapValue}
 use Rattle.cap_rights.specs.Rights.{IsInRightsOf}
-use Rattle.special_regs.specs.Scrs.{Scrs}
 use Rattle.hart.specs.State.{State}
 use Rattle.authority.specs.Reachable.{IsReachable}
 use Rattle.reached.specs.Order.{Found, members_of}
-
--- where a search begins: the 32 registers, PCC and DDC
-abbrev pub roots_of : State → List CapValue
-roots_of s = s.registers ++ (s.scrs.pcc ∷ s.scrs.ddc ∷ [])
-
--- what Access_System_Registers guards
-abbrev pub specials_of : Scrs → List CapValue
-specials_of x = x.mtcc ∷ x.mtdc ∷ x.mscratchc ∷ x.mepcc ∷ []
+use Rattle.doors.specs.Roots.{roots_of, specials_of}
 
 -- the members of a state's reach, in the order in which they are found
 abbrev pub members_in : State → List Found

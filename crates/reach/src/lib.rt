@@ -8,7 +8,6 @@ mod question;
 mod range;
 mod reach;
 mod right;
-mod roots;
 mod sealed;
 mod spans;
 

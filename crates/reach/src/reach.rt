@@ -3,10 +3,11 @@ ghost use Rattle.std.specs.Prelude.{◌≡◌, map, IfOk};
 ghost use Rattle.reached.specs.Links.{values, AreLinked};
 ghost use Rattle.reached.specs.Chain.{AreInOrder};
 ghost use Rattle.reached.specs.Order.{seen_members};
-ghost use Rattle.reach.specs.Reach.{AreReachable, members_in, roots_of, specials_of};
+ghost use Rattle.doors.specs.Roots.{roots_of, specials_of};
+ghost use Rattle.reach.specs.Reach.{AreReachable, members_in};
 
-use crate::roots::{roots, specials};
 use cap_bounds::CapRep;
+use doors::{roots, specials};
 use hart::Hart;
 use reached::{Member, closure};
 use std::alloc::{AllocError, Global};
