@@ -1,4 +1,5 @@
-//! What the answer *no* means for every plain run from a state, one without a trap, an unsealing or a sealed jump.
+//! What the answer *no* means for every plain run from a state, one without a trap, an unsealing or a sealed jump; and, asked of what is
+//! reachable through doors, for every run in one turn, which goes on through sealed jumps.
 
 ghost use Rattle.std.specs.Prelude.{◌≡◌, ℕ, List, [], None};
 ghost use Rattle.debug_commands.specs.declared.command.May.TheVariants.{Store, Learn, Send, Halt, System, Timer};
@@ -7,11 +8,16 @@ ghost use Rattle.hart.specs.State.{State};
 ghost use Rattle.authority.specs.Authority.{SameScrs, SameCsrs};
 ghost use Rattle.machine.specs.Run.{run_after, run_sent};
 ghost use Rattle.machine.specs.Stretch.{ArePlain, IsPlainRun, IsTwin};
+ghost use Rattle.doors.specs.Through.{AreReachableThroughDoors};
+ghost use Rattle.doors.specs.Turn.{ArePlainOrJumps, IsTurn};
+ghost use Rattle.doors.specs.Worlds.{IsTwinThroughDoors};
 ghost use Rattle.reach.specs.Differs.{KeepsBytes, DiffersWithin};
 ghost use Rattle.reach.specs.Reach.{AreReachable};
 ghost use Rattle.reached.specs.Order.{Found};
 ghost use Rattle.reach_texts.specs.Asked.{first_that, values_of};
 
+use doors::laws::turns_keep_authority;
+use doors::worlds::turns_are_the_same_in_both_worlds;
 use reach::laws::{what_no_member_opens_stays, what_no_member_reads_is_not_learned};
 
 /// Where no member lets code do it, it isn't done over any plain run: bytes of RAM that it may not store, the halt register, the timer
@@ -42,4 +48,35 @@ pub fn what_code_may_not_learn_is_not_learned()
         → ArePlain events t × IsTwin events s t }
 {
     what_no_member_reads_is_not_learned();
+}
+
+/// The same through doors, for every run in one turn, which goes on through sealed jumps up to the next trap or unsealing: where nothing
+/// that is reachable through doors lets code do it, it isn't done.
+pub fn what_code_may_not_do_is_not_done_through_doors()
+    ensures store { (events : List Event) (s : State) (xs : List Found) (address size : ℕ) → AreReachableThroughDoors s (values_of xs)
+        → IsTurn events s → first_that (Store address size) xs ≡ None
+        → KeepsBytes s.memory (run_after events s).memory address size }
+    ensures send { (events : List Event) (s : State) (xs : List Found) → AreReachableThroughDoors s (values_of xs) → IsTurn events s
+        → first_that Send xs ≡ None → run_sent events s ≡ [] }
+    ensures halt { (events : List Event) (s : State) (xs : List Found) → AreReachableThroughDoors s (values_of xs) → IsTurn events s
+        → first_that Halt xs ≡ None → (run_after events s).devices.halted ≡ s.devices.halted }
+    ensures timer { (events : List Event) (s : State) (xs : List Found) → AreReachableThroughDoors s (values_of xs) → IsTurn events s
+        → first_that Timer xs ≡ None → (run_after events s).devices.mtimecmp ≡ s.devices.mtimecmp }
+    ensures special { (events : List Event) (s : State) (xs : List Found) → AreReachableThroughDoors s (values_of xs) → IsTurn events s
+        → first_that System xs ≡ None → SameScrs s.scrs (run_after events s).scrs }
+    ensures control_and_status { (events : List Event) (s : State) (xs : List Found) → AreReachableThroughDoors s (values_of xs)
+        → IsTurn events s → first_that System xs ≡ None → SameCsrs s.csrs (run_after events s).csrs }
+{
+    turns_keep_authority();
+}
+
+/// Nor is learned what nothing that is reachable through doors lets code learn: from every state that differs in those bytes alone the
+/// same events are plain or sealed jumps, send the same, and end in states that agree.
+pub fn what_code_may_not_learn_is_not_learned_through_doors()
+    ensures { (events : List Event) (s t : State) (xs : List Found) (address size : ℕ) → AreReachableThroughDoors s (values_of xs)
+        → IsTurn events s → first_that (Learn address size) xs ≡ None → DiffersWithin s t address size
+        → ArePlainOrJumps events t × IsTwinThroughDoors events s t }
+{
+    turns_keep_authority();
+    turns_are_the_same_in_both_worlds();
 }

@@ -1,0 +1,120 @@
+-- What it means in the words of doors that no value does, where the values are those that are reachable through doors.
+use Rattle.std.proofs.Common.{◌≡◌, ℕ, suc, ◌+◌, ◌<◌, ◌≤◌, List, [], ◌∷◌, take, ap, inl, inr, ◌∙◌}
+use Rattle.std.proofs.lemmas.Bool.{cases_lt}
+use Rattle.cap_bounds.specs.CapValue.{CapValue}
+use Rattle.cap_rights.specs.Rights.{OpensSystem, OpensStore}
+use Rattle.cap_rights.specs.RightsLaws.{OpensSystem-outer, OpensByte-outer, OpensGranule-outer}
+use Rattle.hart.specs.declared.event.Event.{Event}
+use Rattle.hart.specs.Event.{after, outcome}
+use Rattle.hart.specs.State.{State}
+use Rattle.authority.specs.Authority.{HasSystem}
+use Rattle.authority.specs.TwoWorldsLaws.{outcome-same}
+use Rattle.authority.specs.Worlds.{IsReadable, IsTagReadable, Agree}
+use Rattle.machine.specs.Run.{run_after}
+use Rattle.doors.specs.Doors.{IsReachableThroughDoors}
+use Rattle.doors.specs.Sets.{NoRightsBeyond, IsWritableBy, HasSystemBy}
+use Rattle.doors.specs.Through.{AreReachableThroughDoors}
+use Rattle.doors.specs.Turn.{IsPlainOrJump, ArePlainOrJumps}
+use Rattle.doors.specs.Worlds.{IsReadableBy, IsTagReadableBy, AgreeBy, AgreeThroughDoors}
+use Rattle.reach.specs.declared.right.Right.TheVariants.{Store, Load, Execute}
+use Rattle.reach.specs.Differs.{DiffersWithin}
+use Rattle.reach.specs.First.{HoldsOfNone}
+use Rattle.reach.specs.Opens.{OpensSome}
+use Rattle.reach.proofs.Meaning.{store-opens, byte-opens}
+
+-- ---- values
+
+module _ (s : State) (vs : List CapValue) (are : AreReachableThroughDoors s vs) where
+  pub not_stored : (address size : ℕ) → HoldsOfNone (λ v. OpensSome Store v address size) vs → (a : ℕ) → address ≤ a
+      → a < address + size → IsWritableBy (IsReachableThroughDoors s) a → ⊥
+  not_stored address size none a low high w =
+      none w.source (are.complete w.source w.member) (record { byte = a; low = low; high = high; opens = store-opens w.source a w.opens })
+
+  pub not_stored_at : (register : ℕ) → HoldsOfNone (λ v. OpensStore v register) vs → IsWritableBy (IsReachableThroughDoors s) register → ⊥
+  not_stored_at register none w = none w.source (are.complete w.source w.member) w.opens
+
+  pub not_system : HoldsOfNone OpensSystem vs → HasSystemBy (IsReachableThroughDoors s) → ⊥
+  not_system none h = none h.source (are.complete h.source h.member) h.opens
+
+  not_read : (address size : ℕ) → HoldsOfNone (λ v. OpensSome Load v address size) vs
+      → HoldsOfNone (λ v. OpensSome Execute v address size) vs → (a : ℕ) → address ≤ a
+      → a < address + size → IsReadableBy (IsReachableThroughDoors s) a → ⊥
+  not_read address size no_load no_fetch a low high r = elim (byte-opens r.source a r.opens) [
+    | inl loads ↦ no_load r.source (are.complete r.source r.member) (record { byte = a; low = low; high = high; opens = loads })
+    | inr fetches ↦ no_fetch r.source (are.complete r.source r.member) (record { byte = a; low = low; high = high; opens = fetches })
+  ]
+
+  -- states that differ only in bytes that no value reads agree through doors
+  pub agree-hidden : (t : State) (address size : ℕ) → HoldsOfNone (λ v. OpensSome Load v address size) vs
+      → HoldsOfNone (λ v. OpensSome Execute v address size) vs → DiffersWithin s t address size → AgreeThroughDoors s t
+  agree-hidden t address size no_load no_fetch differs = record {
+    registers = differs.registers;
+    pcc = ap (λ x. x.pcc) differs.scrs;
+    ddc = ap (λ x. x.ddc) differs.scrs;
+    csrs = differs.csrs;
+    devices = differs.devices;
+    memory = record {
+      size = differs.ram;
+      bytes = λ a in_ram readable. elim (cases_lt a address) [
+        | inl before ↦ differs.outside a in_ram (inl before)
+        | inr from ↦ elim (cases_lt a (address + size)) [
+          | inl inside ↦ absurd (not_read address size no_load no_fetch a from inside readable)
+          | inr past ↦ differs.outside a in_ram (inr past)
+        ]
+      ];
+      tags = λ granule readable. differs.tags granule;
+    };
+    scrs = λ _. record {
+      mtcc = ap (λ x. x.mtcc) differs.scrs;
+      mtdc = ap (λ x. x.mtdc) differs.scrs;
+      mscratchc = ap (λ x. x.mscratchc) differs.scrs;
+      mepcc = ap (λ x. x.mepcc) differs.scrs;
+    };
+  }
+
+-- ---- going on
+
+-- agreement over a set whose members' rights cover what is reachable in the first state
+module _ (P : CapValue → Type 0) (s t : State) (covered : NoRightsBeyond P s) where
+  read-covered : (a : ℕ) → IsReadable s a → IsReadableBy P a
+  read-covered a read =
+      let by = covered read.source read.reachable in
+      record { source = by.source; member = by.member; opens = OpensByte-outer read.source by.source a by.within read.opens }
+
+  tag-covered : (granule : ℕ) → IsTagReadable s granule → IsTagReadableBy P granule
+  tag-covered granule read =
+      let by = covered read.source read.reachable in
+      record { source = by.source; member = by.member; opens = OpensGranule-outer read.source by.source granule by.within read.opens }
+
+  system-covered : HasSystem s → HasSystemBy P
+  system-covered has =
+      let by = covered has.source has.reachable in
+      record { source = by.source; member = by.member; opens = OpensSystem-outer has.source by.source by.within has.opens }
+
+  pub agree-covered : AgreeBy P s t → Agree s t
+  agree-covered agree = record {
+    registers = agree.registers;
+    pcc = agree.pcc;
+    ddc = agree.ddc;
+    csrs = agree.csrs;
+    devices = agree.devices;
+    memory = record {
+      size = agree.memory.size;
+      bytes = λ a low read. agree.memory.bytes a low (read-covered a read);
+      tags = λ granule read. agree.memory.tags granule (tag-covered granule read);
+    };
+    scrs = λ has. agree.scrs (system-covered has);
+  }
+
+same-kind : (s t : State) (e : Event) → outcome e t ≡ outcome e s → IsPlainOrJump e s → IsPlainOrJump e t
+same-kind s t e same (inl plain) = inl (same ∙ plain)
+same-kind s t e same (inr jump) = inr (same ∙ jump)
+
+-- states that agree after each beginning of the events go on over them alike
+pub goes_on-there : (events : List Event) (s t : State)
+    → ((k : ℕ) → Agree (run_after (take k events) s) (run_after (take k events) t)) → ArePlainOrJumps events s → ArePlainOrJumps events t
+goes_on-there [] s t agree goes_on = tt
+goes_on-there (e ∷ es) s t agree goes_on = (
+  same-kind s t e (outcome-same s t (agree 0) e) goes_on.0,
+  goes_on-there es (after e s) (after e t) (λ k. agree (suc k)) goes_on.1,
+)
