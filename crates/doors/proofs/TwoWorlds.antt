@@ -203,5 +203,8 @@ module _ (events : List Event) (s t : State) (turn : IsTurn events s) (agree : A
   pub turn-same : IsState t → IsTurn events t
   turn-same is = record { state = is; are_events = turn.are_events; are_plain_or_jumps = twins-doors.goes_on }
 
+  pub turn-goes_on : ArePlainOrJumps events t
+  turn-goes_on = twins-doors.goes_on
+
   pub turn-twin : IsTwinThroughDoors events s t
   turn-twin = record { bytes = twins-doors.bytes; agree = twins-doors.agree }

@@ -12,7 +12,7 @@ ghost use Rattle.authority.specs.Reachable.{IsReachable};
 ghost use Rattle.authority.specs.Worlds.{Agree};
 ghost use Rattle.doors.specs.Closed.{Bounds};
 ghost use Rattle.doors.specs.Doors.{IsReachableThroughDoors};
-ghost use Rattle.doors.specs.Turn.{IsTurn};
+ghost use Rattle.doors.specs.Turn.{ArePlainOrJumps, IsTurn};
 ghost use Rattle.doors.specs.Worlds.{IsReadableBy, AgreeBy, AgreeThroughDoors, IsTwinThroughDoors};
 
 use crate::set::CapSet;
@@ -31,6 +31,7 @@ pub fn states_that_agree_over_a_set_step_alike<S: CapSet>()
 /// turn make a run in one turn, send the same bytes and end in states that agree so again.
 pub fn turns_are_the_same_in_both_worlds()
     ensures turn { (events : List Event) (s t : State) → IsTurn events s → AgreeThroughDoors s t → IsState t → IsTurn events t }
+    ensures goes_on { (events : List Event) (s t : State) → IsTurn events s → AgreeThroughDoors s t → ArePlainOrJumps events t }
     ensures twin { (events : List Event) (s t : State) → IsTurn events s → AgreeThroughDoors s t → IsTwinThroughDoors events s t }
 {}
 

@@ -77,6 +77,5 @@ pub fn what_code_may_not_learn_is_not_learned_through_doors()
         → IsTurn events s → first_that (Learn address size) xs ≡ None → DiffersWithin s t address size
         → ArePlainOrJumps events t × IsTwinThroughDoors events s t }
 {
-    turns_keep_authority();
     turns_are_the_same_in_both_worlds();
 }
