@@ -66,5 +66,5 @@ FILES = [
     File("commands", commands.command, 384, piece=20),
     File("told", told.fault, 45, piece=10),
     File("compartments", kernel.meeting, 34),
-    File("reaches", reaching.reach, 30, piece=8),
+    File("reaches", reaching.reach, 36, piece=8),
 ]

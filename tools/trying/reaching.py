@@ -49,11 +49,15 @@ def asked_at(bench, text, place, question):
     return came[TIMES:]
 
 
+# What shows lines of which a case names those that it asks for, by their first word.
+SHOWS = {"reach": "reach", "doors": "reach doors"}
+
+
 def answered(bench, text, place, question):
-    """An answer as one line; of `reach WORD` the lines that begin with the word."""
+    """An answer as one line; of `reach WORD` and `doors WORD` the lines of `reach` and `reach doors` that begin with the word."""
     what, *words = question
-    lines = asked_at(bench, text, place, "reach" if what == "reach" else " ".join(question))
-    return "; ".join(line for line in lines if what != "reach" or line.split()[0] == words[0])
+    lines = asked_at(bench, text, place, SHOWS.get(what, " ".join(question)))
+    return "; ".join(line for line in lines if what not in SHOWS or line.split()[0] == words[0])
 
 
 def mistake(bench, name, a, b, place, *question):

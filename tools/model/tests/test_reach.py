@@ -4,10 +4,11 @@ import unittest
 from itertools import product
 from random import Random
 
-from model.capabilities import ONE, capability, integer, seal, untagged
+from model.capabilities import ONE, capability, integer, is_unsealed, seal, untagged, with_fields
 from model.devices import HALT, RAM, TIMER, TIMER_COMPARE, TRANSMIT
-from model.reach import GRANULE, ROOT, SPECIAL, Member, State, accesses, chain, first, members, opened, opens, sealing
-from model.rights import ALL, EXECUTE, LOAD, LOAD_CAPABILITY, SEAL, STORE
+from model.reach import (DOOR, GRANULE, ROOT, SPECIAL, Member, State, accesses, chain, first, is_key, members, opened, opens, sealing,
+                         through_doors)
+from model.rights import ALL, CINVOKE, EXECUTE, LOAD, LOAD_CAPABILITY, SEAL, STORE, UNSEAL, UNSEALED
 from model.tests.begun import in_memory, root
 from model.words import ONES
 
@@ -83,9 +84,9 @@ class Compartments(unittest.TestCase):
                           capability(self.DEVICES, self.DEVICES + 64, self.DEVICES, 0x14),
                           capability(self.A_FRAME, self.A_FRAME + 544, self.A_FRAME, self.FRAME), paged(self.B_CODE, self.CODE)]
 
-    def begun(self, registers, pcc):
+    def begun(self, registers, pcc, finds=members):
         granules, specials = self.kernels()
-        return members(state(registers, pcc=pcc, specials=specials, granules=granules, size=16 * 4096))
+        return finds(state(registers, pcc=pcc, specials=specials, granules=granules, size=16 * 4096))
 
     def called(self, data, pcc):
         """Both doors in the registers that A passes, and the data of whoever runs."""
@@ -103,6 +104,16 @@ class Compartments(unittest.TestCase):
         pages = [(self.A_CODE, self.A_DATA + 4096)], [(self.A_DATA, self.A_DATA + 4096)]
         self.assertEqual([opened(found, perms) for perms in (LOAD, LOAD | LOAD_CAPABILITY, STORE)], [*pages, pages[1]])
         self.assertEqual((opened(found, EXECUTE), sealing(found, SEAL), accesses(found)), ([(self.A_CODE, self.A_DATA)], [], {}))
+
+    def test_through_its_doors_a_reaches_the_code_and_the_data_of_both_and_nothing_of_the_kernel(self):
+        given = dict(zip((8, 9, 18, 19), self.doors(self.B_CODE, self.B_DATA, 2) + self.doors(self.A_CODE, self.A_DATA, 1)))
+        found, doors = self.begun({3: paged(self.A_DATA, self.DATA), **given}, paged(self.A_CODE, self.CODE), through_doors)
+        self.assertEqual(places(found), [*((ROOT, n, None) for n in (3, 8, 9, 18, 19, 32)), *((DOOR, n, None) for n in range(4))])
+        self.assertEqual(doors, [(ROOT, n) for n in (8, 9, 18, 19)])
+        self.assertEqual([first(found, question) for question in ("send", "halt", "system", "timer")], [None] * 4)
+        self.assertEqual([first(found, "store", RAM + number * 4096, 4096) for number in range(8)], [None] * 4 + [7, None, 0, None])
+        self.assertEqual([first(found, "execute", RAM + number * 4096, 4096) for number in range(8)],
+                         [None] * 3 + [6, None, 5, None, None])
 
     def test_b_is_called_and_a_is_come_back_to_with_the_doors_alone(self):
         for code, data in ((self.B_CODE, self.B_DATA), (self.A_CODE, self.A_DATA)):
@@ -158,6 +169,36 @@ class Opening(unittest.TestCase):
                          [0, None, None])
 
 
+class Keys(unittest.TestCase):
+    """Which key opens what is sealed."""
+
+    CODE = CINVOKE | EXECUTE
+
+    def opened_by(self, key, perms=CODE, address=RAM, base=RAM, top=RAM + 8, otype=7):
+        return is_key(key, seal(capability(base, top, address, perms), root(otype)))
+
+    def test_cinvoke_accepts_code_and_data_of_one_type(self):
+        datum = seal(capability(RAM, RAM + 16, RAM, CINVOKE | STORE), root(7))
+        self.assertTrue(self.opened_by(datum) and is_key(seal(capability(RAM, RAM + 4, RAM, self.CODE), root(7)), datum))
+        self.assertFalse(self.opened_by(datum, otype=8) or self.opened_by(datum, CINVOKE) or self.opened_by(datum, EXECUTE))
+        for other in (CINVOKE | EXECUTE, STORE):
+            self.assertFalse(self.opened_by(seal(capability(RAM, RAM + 16, RAM, other), root(7))))
+
+    def test_the_target_lies_in_the_codes_bounds_and_is_a_multiple_of_4(self):
+        datum = seal(capability(RAM, RAM + 16, RAM, CINVOKE), root(7))
+        given = [(RAM, RAM, RAM + 4), (RAM, RAM, RAM + 3), (RAM + 1, RAM, RAM + 4), (RAM + 2, RAM, RAM + 8), (RAM + 4, RAM, RAM + 8),
+                 (RAM + 4, RAM, RAM + 7), (RAM + 5, RAM + 5, RAM + 9)]
+        self.assertEqual([self.opened_by(datum, address=address, base=base, top=top) for address, base, top in given],
+                         [True, False, True, False, True, False, False])
+
+    def test_any_key_opens_a_sentry_and_what_seals_with_a_type_opens_what_has_cinvoke(self):
+        self.assertTrue(is_key(integer(0), ONE["CSealEntry"](root(RAM))))
+        seals = capability(7, 8, 7, SEAL)
+        self.assertTrue(self.opened_by(seals) and self.opened_by(seals, CINVOKE))
+        self.assertFalse(self.opened_by(seals, EXECUTE) or self.opened_by(seals, otype=8) or self.opened_by(capability(7, 8, 7, UNSEAL))
+                         or self.opened_by(seal(capability(7, 8, 7, SEAL), root(9))))
+
+
 def holding(*values):
     """Members of these values."""
     return [Member(value, (ROOT, number), None) for number, value in enumerate(values)]
@@ -207,6 +248,21 @@ def least_closed(held):
         closed |= more
 
 
+def least_with_doors(held):
+    """The least set of values that has those of the roots, and with values what they open and what they are a key to, without its seal."""
+    closed = {value for place, value in held.items() if place[0] == ROOT}
+    while True:
+        more = {value for (place, value), by in product(held.items(), closed) if place[0] != ROOT and opens(by, place)}
+        more |= {unseal_any(value) for value, key in product(closed, closed) if not is_unsealed(value) and is_key(key, value)}
+        if more <= closed:
+            return closed
+        closed |= more
+
+
+def unseal_any(value):
+    return with_fields(value, otype=UNSEALED)
+
+
 class Closed(unittest.TestCase):
     """The members are what the definition says, in states that are thrown."""
 
@@ -236,3 +292,25 @@ class Closed(unittest.TestCase):
                 self.assertEqual(member.source, opening[0] if opening else None)
                 self.assertLess(-1 if member.source is None else member.source, number)
         self.assertGreater(len(sizes), 8)
+
+    def thrown_with_doors(self, dice):
+        """Some sealed capabilities too, which lead to a few granules and to one another."""
+        def value():
+            base = RAM + 16 * dice.randrange(6)
+            made = capability(base, base + 16 * dice.randrange(1, 4), base, dice.choice([TABLE, TABLE | CINVOKE, 0x102, 0x117]))
+            return dice.choice([made, seal(made, root(dice.choice([8, 9]))), ONE["CSealEntry"](made), capability(8, 9, 8, SEAL)])
+        granules = {RAM + 16 * n: value()[:2] + (True,) for n in range(8) if dice.random() < 0.6}
+        registers = {n: value() for n in dice.sample(range(1, 32), 2)}
+        return state(registers, pcc=value(), specials=[value() for _ in range(4)], granules=granules)
+
+    def test_through_doors_they_are_the_least_set_with_doors(self):
+        opened_doors = set()
+        for seed in range(400):
+            given = self.thrown_with_doors(Random(seed))
+            found, doors = through_doors(given)
+            opened_doors.add(len(doors))
+            self.assertEqual({member.value for member in found}, least_with_doors(given.held()))
+            self.assertEqual(len(set(doors)), len(doors))
+            self.assertEqual([member.value for member in found if member.place[0] == DOOR],
+                             [unseal_any(given.held()[place]) for place in doors])
+        self.assertGreater(len(opened_doors), 4)
