@@ -1,5 +1,5 @@
 -- The commands of a session: a line each, with its operands and their limits, and what it gives or shows.
-use Rattle.std.specs.Prelude.{ℕ, ◌-◌, ◌%◌, ◌^◌, Bool, not, ◌||◌, ◌==◌, nat_lt, if◌then◌else◌, ℤ, pos, List, [], ◌∷◌, ◌++◌, length, filter}
+use Rattle.std.specs.Prelude.{ℕ, ◌-◌, ◌%◌, ◌^◌, Bool, not, ◌&&◌, ◌||◌, ◌==◌, nat_lt, if◌then◌else◌, ℤ, pos, List, [], ◌∷◌, ◌++◌, length, filter}
 use Rattle.std.specs.Prelude.{Option, Some, None, Result, Ok, Err, codes}
 use Rattle.std.specs.Option.{option_or}
 use Rattle.std.specs.List.{slice_split, prefix_len, flat_map}
@@ -15,12 +15,15 @@ use Rattle.debug_commands.specs.declared.fault.DebugFault.TheVariants.{B1, B2, B
 use Rattle.debug_commands.specs.declared.command.Command.{Command}
 use Rattle.debug_commands.specs.declared.command.Command.TheVariants.{Gives, Shows, Sets, Quit}
 use Rattle.debug_commands.specs.declared.command.Events.TheVariants.{Steps, Ticks, Byte, Until, Go}
+use Rattle.debug_commands.specs.declared.command.Horizon.{Horizon}
+use Rattle.debug_commands.specs.declared.command.Horizon.TheVariants.{Stretch, Turn}
 use Rattle.debug_commands.specs.declared.command.SetStops.TheVariants.{Add, Clear}
 use Rattle.debug_commands.specs.declared.command.Stop.{Stop}
 use Rattle.debug_commands.specs.declared.command.Stop.TheVariants.{Address, Trap}
 use Rattle.debug_commands.specs.declared.command.View.TheVariants.{Register, Registers, SpecialRegisters, ControlRegisters, Capabilities}
 use Rattle.debug_commands.specs.declared.command.View.TheVariants.{Memory, Words, Why, Reach, ReachMembers, ReachGraph, May}
 use Rattle.debug_commands.specs.declared.command.View.TheVariants.{Stops, Help, Code}
+use Rattle.debug_commands.specs.declared.command.May.{May as Question}
 use Rattle.debug_commands.specs.declared.command.May.TheVariants.{Store, Load, Execute, Learn, Send, Halt, System, Timer, Hold}
 
 -- the address at which a command stops, if it stops at one
@@ -79,10 +82,40 @@ address_and_number symbols multiple high (a ∷ []) = Err B2
 address_and_number symbols multiple high (a ∷ n ∷ []) = placed multiple (address_in symbols a) (read_number (number_between 1 high n))
 address_and_number symbols multiple high (a ∷ n ∷ m ∷ rest) = Err B2
 
+-- the two, if both were read
+abbrev pub both : {A B : Type 0} → Option A → Option B → Option (A × B)
+both (Some x) (Some y) = Some (x, y)
+both (Some x) None = None
+both None y = None
+
+-- how far an answer is to hold: no words, or `through doors`
+abbrev pub horizon_of : List (List ℕ) → Result Horizon DebugFault
+horizon_of [] = Ok Stretch
+horizon_of (a ∷ []) = Err B2
+horizon_of (a ∷ b ∷ []) = if is_word a (codes "through") && is_word b (codes "doors") then Ok Turn else Err B2
+horizon_of (a ∷ b ∷ c ∷ rest) = Err B2
+
+-- what was read, and how far an answer about it is to hold
+abbrev pub until : {A : Type 0} → Option A → Result Horizon DebugFault → Result (A × Horizon) DebugFault
+until (Some said) (Ok horizon) = Ok (said, horizon)
+until (Some said) (Err fault) = Err fault
+until None horizon = Err B2
+
+abbrev pub number_and_horizon : ℕ → ℕ → List (List ℕ) → Result (ℕ × Horizon) DebugFault
+number_and_horizon low high [] = Err B2
+number_and_horizon low high (n ∷ words) = until (read_number (number_between low high n)) (horizon_of words)
+
+abbrev pub bytes_and_horizon : List Symbol → ℕ → List (List ℕ) → Result ((ℕ × ℕ) × Horizon) DebugFault
+bytes_and_horizon symbols high [] = Err B2
+bytes_and_horizon symbols high (a ∷ []) = Err B2
+bytes_and_horizon symbols high (a ∷ n ∷ words) =
+    until (both (address_in symbols a) (read_number (number_between 1 high n))) (horizon_of words)
+
 -- ---- the table
 
 -- how operands are written: none; a number of these limits; an address that is such a multiple and a number from 1 on; an address; a
--- register's name. And the command of what they say. Or a word of a table of its own, and then that word's operands.
+-- register's name. And the command of what they say. Or a word of a table of its own, and then that word's operands. A question's
+-- operands, nothing, a number or an address and a number, end with how far its answer is to hold.
 pub data Operands : Type 0 where
   nothing : Command → Operands
   number : ℕ → ℕ → (ℕ → Command) → Operands
@@ -90,6 +123,9 @@ pub data Operands : Type 0 where
   an_address : (ℕ → Command) → Operands
   a_register : (ℕ → Command) → Operands
   a_verb : (List Symbol → List (List ℕ) → Result Command DebugFault) → Operands
+  question : Question → Operands
+  question_of_number : ℕ → ℕ → (ℕ → Question) → Operands
+  question_of_bytes : ℕ → (ℕ → ℕ → Question) → Operands
 
 -- a command's name, its operands as `help` shows them, and how they are written
 pub record Line : Type 0 where
@@ -113,6 +149,11 @@ said_by symbols (place multiple high make) words = made (λ p. make p.0 p.1) (ad
 said_by symbols (an_address make) words = made make (one_address symbols words)
 said_by symbols (a_register make) words = made make (one_register words)
 said_by symbols (a_verb read) words = read symbols words
+said_by symbols (question may) words = made (λ horizon. Shows (May may horizon)) (horizon_of words)
+said_by symbols (question_of_number low high make) words =
+    made (λ said. Shows (May (make said.0) said.1)) (number_and_horizon low high words)
+said_by symbols (question_of_bytes high make) words =
+    made (λ said. Shows (May (make said.0.0 said.0.1) said.1)) (bytes_and_horizon symbols high words)
 
 -- the command of the line that has the name, or a fault
 abbrev pub command_among : DebugFault → List Symbol → List Line → List ℕ → List (List ℕ) → Result Command DebugFault
@@ -122,24 +163,28 @@ command_among fault symbols (l ∷ ls) name operands =
 
 -- what may follow `reach`: nothing, or a word
 abbrev pub reaches : List Line
-reaches = line (codes "members") [] (nothing (Shows ReachMembers)) ∷ line (codes "dot") [] (nothing (Shows ReachGraph)) ∷ []
+reaches =
+    line (codes "members") [] (nothing (Shows ReachMembers))
+    ∷ line (codes "dot") [] (nothing (Shows ReachGraph))
+    ∷ line (codes "doors") [] (nothing (Shows (Reach Turn)))
+    ∷ []
 
 abbrev pub reach_of : List Symbol → List (List ℕ) → Result Command DebugFault
-reach_of symbols [] = Ok (Shows Reach)
+reach_of symbols [] = Ok (Shows (Reach Stretch))
 reach_of symbols (word ∷ operands) = command_among B2 symbols reaches word operands
 
 -- what follows `may`: a question, of bytes from an address on or of the machine
 abbrev pub questions : List Line
 questions =
-    line (codes "store") [] (place 1 (2 ^ 64 - 1) (λ address n. Shows (May (Store address n))))
-    ∷ line (codes "load") [] (place 1 (2 ^ 64 - 1) (λ address n. Shows (May (Load address n))))
-    ∷ line (codes "execute") [] (place 1 (2 ^ 64 - 1) (λ address n. Shows (May (Execute address n))))
-    ∷ line (codes "learn") [] (place 1 (2 ^ 64 - 1) (λ address n. Shows (May (Learn address n))))
-    ∷ line (codes "send") [] (nothing (Shows (May Send)))
-    ∷ line (codes "halt") [] (nothing (Shows (May Halt)))
-    ∷ line (codes "system") [] (nothing (Shows (May System)))
-    ∷ line (codes "timer") [] (nothing (Shows (May Timer)))
-    ∷ line (codes "hold") [] (number 0 0x3FFFF (λ n. Shows (May (Hold n))))
+    line (codes "store") [] (question_of_bytes (2 ^ 64 - 1) Store)
+    ∷ line (codes "load") [] (question_of_bytes (2 ^ 64 - 1) Load)
+    ∷ line (codes "execute") [] (question_of_bytes (2 ^ 64 - 1) Execute)
+    ∷ line (codes "learn") [] (question_of_bytes (2 ^ 64 - 1) Learn)
+    ∷ line (codes "send") [] (question Send)
+    ∷ line (codes "halt") [] (question Halt)
+    ∷ line (codes "system") [] (question System)
+    ∷ line (codes "timer") [] (question Timer)
+    ∷ line (codes "hold") [] (question_of_number 0 0x3FFFF Hold)
     ∷ []
 
 abbrev pub may_of : List Symbol → List (List ℕ) → Result Command DebugFault
@@ -189,8 +234,8 @@ commands =
     ∷ line (codes "mem") (codes " ADDR LEN") (place 1 4096 (λ address n. Shows (Memory address n)))
     ∷ line (codes "dis") (codes " ADDR N") (place 4 1024 (λ address n. Shows (Words address n)))
     ∷ line (codes "why") [] (nothing (Shows Why))
-    ∷ line (codes "reach") (codes " [members|dot]") (a_verb reach_of)
-    ∷ line (codes "may") (codes " store|load|execute|learn ADDR LEN\nmay send|halt|system|timer\nmay hold TYPE") (a_verb may_of)
+    ∷ line (codes "reach") (codes " [members|dot|doors]") (a_verb reach_of)
+    ∷ line (codes "may") (codes " store|load|execute|learn ADDR LEN [through doors]\nmay send|halt|system|timer [through doors]\nmay hold TYPE [through doors]") (a_verb may_of)
     ∷ line (codes "help") (codes " [B1|B2|B3|B4]") (a_verb help_on)
     ∷ line (codes "quit") [] (nothing Quit)
     ∷ []

@@ -72,6 +72,15 @@ pub enum May {
     Hold(u64),
 }
 
+/// How far an answer about the code that runs from here on holds.
+#[derive(Clone, Copy)]
+pub enum Horizon {
+    /// Up to the next trap, unsealing or sealed jump.
+    Stretch,
+    /// Up to the next trap or unsealing: through sealed jumps, too.
+    Turn,
+}
+
 /// What a command shows.
 #[derive(Clone, Copy)]
 pub enum View {
@@ -92,13 +101,13 @@ pub enum View {
     /// What the next step will do, and why.
     Why,
     /// What the code that runs from here on can reach, in sum.
-    Reach,
+    Reach(Horizon),
     /// Each capability of it, with where it was found.
     ReachMembers,
     /// The same as a graph, a text for Graphviz.
     ReachGraph,
     /// Whether the code that runs from here on may do something.
-    May(May),
+    May(May, Horizon),
     /// The stops of the session.
     Stops,
     /// The commands with their operands.

@@ -8,6 +8,6 @@ mod operands;
 mod table;
 mod words;
 
-pub use command::{Command, Events, May, SetStops, Stop, View};
+pub use command::{Command, Events, Horizon, May, SetStops, Stop, View};
 pub use fault::DebugFault;
 pub use table::{command_of, help_text};

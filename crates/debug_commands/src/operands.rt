@@ -3,6 +3,7 @@ ghost use Rattle.std.specs.Prelude.{◌≡◌, ◌≤◌, ◌<◌, ◌%◌, ◌^
 ghost use Rattle.debug_commands.specs.Command as spec;
 ghost use Rattle.debug_commands.specs.Command.{words_of, number_between, read_number};
 
+use crate::command::Horizon;
 use crate::fault::DebugFault;
 use crate::words::split_word;
 use asm_lines::natural;
@@ -99,4 +100,57 @@ pub(crate) fn one_register(operands: &[u8]) -> Result<u8, DebugFault>
         return Err(DebugFault::B2);
     }
     register_named(word).ok_or(DebugFault::B2)
+}
+
+/// How far an answer is to hold: what follows a question's own operands is nothing, or `through doors`, or else it is B2.
+pub(crate) fn horizon(operands: &[u8]) -> Result<Horizon, DebugFault>
+    ensures { result ≡ spec.horizon_of (words_of operands.now) }
+{
+    let Some((first, rest)) = split_word(operands) else {
+        return Ok(Horizon::Stretch);
+    };
+    let Some((second, rest)) = split_word(rest) else {
+        return Err(DebugFault::B2);
+    };
+    if split_word(rest).is_some() || first != b"through".as_slice() || second != b"doors".as_slice() {
+        return Err(DebugFault::B2);
+    }
+    Ok(Horizon::Turn)
+}
+
+/// A number of `low` to `high`, and how far an answer is to hold, or B2.
+pub(crate) fn number_and_horizon(
+    operands: &[u8],
+    low: u64,
+    high: u64,
+) -> Result<(u64, Horizon), DebugFault>
+    ensures { result ≡ spec.number_and_horizon low high (words_of operands.now) }
+{
+    let Some((word, rest)) = split_word(operands) else {
+        return Err(DebugFault::B2);
+    };
+    match number(word, low, high) {
+        Some(number) => Ok((number, horizon(rest)?)),
+        None => Err(DebugFault::B2),
+    }
+}
+
+/// An address, a number of 1 to `high`, and how far an answer is to hold, or B2.
+pub(crate) fn bytes_and_horizon(
+    symbols: &Symbols,
+    operands: &[u8],
+    high: u64,
+) -> Result<((u64, u64), Horizon), DebugFault>
+    ensures { result ≡ spec.bytes_and_horizon symbols.now high (words_of operands.now) }
+{
+    let Some((place, rest)) = split_word(operands) else {
+        return Err(DebugFault::B2);
+    };
+    let Some((count, rest)) = split_word(rest) else {
+        return Err(DebugFault::B2);
+    };
+    match (address_in(symbols, place), number(count, 1, high)) {
+        (Some(address), Some(count)) => Ok(((address, count), horizon(rest)?)),
+        _ => Err(DebugFault::B2),
+    }
 }

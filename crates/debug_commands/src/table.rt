@@ -4,9 +4,12 @@ ghost use Rattle.debug_commands.specs.Command.{words_of};
 ghost use Rattle.debug_commands.specs.Command as spec;
 ghost use Rattle.debug_commands.specs.Limits.{IsWithinLimits};
 
-use crate::command::{Command, Events, May, SetStops, Stop, View};
+use crate::command::{Command, Events, Horizon, May, SetStops, Stop, View};
 use crate::fault::DebugFault;
-use crate::operands::{address_and_number, one_address, one_number, one_register};
+use crate::operands::{
+    address_and_number, bytes_and_horizon, horizon, number_and_horizon, one_address, one_number,
+    one_register,
+};
 use crate::words::split_word;
 use asm_lines::{Class, run_length};
 use symbols::Symbols;
@@ -50,8 +53,8 @@ macro_rules! commands {
             "mem" " ADDR LEN" (place 1 MOST_SHOWN) p => Command::Shows(View::Memory { address: p.0, count: p.1 });
             "dis" " ADDR N" (place 4 MOST_WORDS) p => Command::Shows(View::Words { address: p.0, count: p.1 });
             "why" "" (nothing) n => Command::Shows(View::Why);
-            "reach" " [members|dot]" (verb reach_of) n => ();
-            "may" " store|load|execute|learn ADDR LEN\nmay send|halt|system|timer\nmay hold TYPE" (verb may_of) n => ();
+            "reach" " [members|dot|doors]" (verb reach_of) n => ();
+            "may" " store|load|execute|learn ADDR LEN [through doors]\nmay send|halt|system|timer [through doors]\nmay hold TYPE [through doors]" (verb may_of) n => ();
             "help" " [B1|B2|B3|B4]" (verb help_on) n => ();
             "quit" "" (nothing) n => Command::Quit;
         }
@@ -65,6 +68,7 @@ macro_rules! reaches {
             $($what)*;
             "members" "" (nothing) n => Command::Shows(View::ReachMembers);
             "dot" "" (nothing) n => Command::Shows(View::ReachGraph);
+            "doors" "" (nothing) n => Command::Shows(View::Reach(Horizon::Turn));
         }
     };
 }
@@ -73,15 +77,15 @@ macro_rules! questions {
     ($reading:ident $($what:ident)*) => {
         $reading! {
             $($what)*;
-            "store" "" (place 1 MOST_ASKED) p => Command::Shows(View::May(May::Store { address: p.0, count: p.1 }));
-            "load" "" (place 1 MOST_ASKED) p => Command::Shows(View::May(May::Load { address: p.0, count: p.1 }));
-            "execute" "" (place 1 MOST_ASKED) p => Command::Shows(View::May(May::Execute { address: p.0, count: p.1 }));
-            "learn" "" (place 1 MOST_ASKED) p => Command::Shows(View::May(May::Learn { address: p.0, count: p.1 }));
-            "send" "" (nothing) n => Command::Shows(View::May(May::Send));
-            "halt" "" (nothing) n => Command::Shows(View::May(May::Halt));
-            "system" "" (nothing) n => Command::Shows(View::May(May::System));
-            "timer" "" (nothing) n => Command::Shows(View::May(May::Timer));
-            "hold" "" (number 0 MOST_TYPE) n => Command::Shows(View::May(May::Hold(n)));
+            "store" "" (question_of_bytes MOST_ASKED) p => May::Store { address: p.0, count: p.1 };
+            "load" "" (question_of_bytes MOST_ASKED) p => May::Load { address: p.0, count: p.1 };
+            "execute" "" (question_of_bytes MOST_ASKED) p => May::Execute { address: p.0, count: p.1 };
+            "learn" "" (question_of_bytes MOST_ASKED) p => May::Learn { address: p.0, count: p.1 };
+            "send" "" (question) n => May::Send;
+            "halt" "" (question) n => May::Halt;
+            "system" "" (question) n => May::System;
+            "timer" "" (question) n => May::Timer;
+            "hold" "" (question_of_number 0 MOST_TYPE) n => May::Hold(n);
         }
     };
 }
@@ -133,6 +137,18 @@ macro_rules! made_of {
         Ok($made)
     }};
     ((verb $read:ident) $said:ident $made:expr, $symbols:ident $operands:ident) => { $read($symbols, $operands) };
+    ((question) $said:ident $made:expr, $symbols:ident $operands:ident) => {{
+        let until = horizon($operands)?;
+        Ok(Command::Shows(View::May($made, until)))
+    }};
+    ((question_of_number $low:literal $high:tt) $said:ident $made:expr, $symbols:ident $operands:ident) => {{
+        let ($said, until) = number_and_horizon($operands, $low, $high)?;
+        Ok(Command::Shows(View::May($made, until)))
+    }};
+    ((question_of_bytes $high:tt) $said:ident $made:expr, $symbols:ident $operands:ident) => {{
+        let ($said, until) = bytes_and_horizon($symbols, $operands, $high)?;
+        Ok(Command::Shows(View::May($made, until)))
+    }};
     ((nothing) $said:ident $made:expr, $symbols:ident $operands:ident) => {
         match split_word($operands) {
             Some(_) => Err(DebugFault::B2),
@@ -166,7 +182,7 @@ fn reach_of(symbols: &Symbols, operands: &[u8]) -> Result<Command, DebugFault>
     ensures limits { IfOk result IsWithinLimits }
 {
     let Some((word, rest)) = split_word(operands) else {
-        return Ok(Command::Shows(View::Reach));
+        return Ok(Command::Shows(View::Reach(Horizon::Stretch)));
     };
     reaches!(named word symbols rest B2)
 }
