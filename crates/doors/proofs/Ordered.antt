@@ -1,11 +1,10 @@
 -- What is found through doors, as the definitions say it: the truth values of what opens and what is open, keys, doors and rounds.
-use Rattle.std.proofs.Common.{◌≡◌, ℕ, zero, suc, ◌+◌, ◌<◌, ◌≤◌, Bool, true, false, cond, not, ◌&&◌, ◌||◌, eqb, ltb, leb, ◌↔◌, IsTrue, List, [], ◌∷◌}
-use Rattle.std.proofs.Common.{◌++◌, length, map, get_or, drop, Option, None, Some, refl, sym, ap, ◌∙◌, subst, arith, inl, inr, ⊎_elim}
+use Rattle.std.proofs.Common.{◌≡◌, ℕ, zero, suc, pred, ◌+◌, ◌^◌, ◌<◌, ◌≤◌, Bool, true, false, cond, not, ◌&&◌, ◌||◌, eqb, ltb, leb, ◌↔◌, IsTrue, List, [], ◌∷◌}
+use Rattle.std.proofs.Common.{◌++◌, length, map, get_or, drop, Option, None, Some, refl, sym, ap, ◌∙◌, subst, arith, inl, inr}
 use Rattle.std.proofs.lemmas.Bool.{and_parts, and_from, or_cases, or_left, or_right, not-true, not_from_false, eqb-true, eq-eqb, le-leb}
-use Rattle.std.proofs.lemmas.Bool.{leb-true, lt-ltb, ltb-true, false≢true}
-use Rattle.std.proofs.lemmas.List.{drop_more, drop_all, append_assoc}
+use Rattle.std.proofs.lemmas.Bool.{leb-true, lt-ltb, ltb-true, false≢true, ne_eqb}
+use Rattle.std.proofs.lemmas.List.{drop_more, drop_all, append_assoc, append_cancel_left}
 use Rattle.std.specs.Cmp.Derive.{one_truth}
-use Rattle.std.specs.List.{Contains, list_any}
 use Rattle.std.specs.Prelude.{is_none, option_map}
 use Rattle.base.specs.ObjectType.{sentry_type}
 use Rattle.cap_bounds.specs.CapValue.{CapValue, is_sealed, value_base, value_top, value_otype}
@@ -14,15 +13,18 @@ use Rattle.cap_rights.specs.Permission.{permits}
 use Rattle.cap_rights.specs.declared.permission.Permission.TheVariants.{CInvoke, Seal}
 use Rattle.cap_rights.specs.Rights.{OpensType}
 use Rattle.cap_checks.specs.FirstFault.{invoke_fault}
+use Rattle.hart.specs.State.{State}
 use Rattle.reached.specs.declared.member.Member.{Member}
 use Rattle.reached.specs.declared.member.Place.{Place}
 use Rattle.reached.specs.declared.member.Place.TheVariants.{Root, Special, Granule}
+use Rattle.reached.specs.Links.{values}
 use Rattle.reached.specs.Order.{Found, is_same_place, seen_member, seen_members}
 use Rattle.doors.specs.declared.through.Door.{Door}
 use Rattle.doors.specs.Closed.{IsPair, IsOpenedBy, entry, as_code, as_data, own_seal}
 use Rattle.doors.specs.Rounds.{IsOpen}
+use Rattle.doors.specs.Roots.{roots_of}
 use Rattle.doors.specs.ThroughOrder.{accepts, seals, opens, key_of, door_to, door_of, OpenDoors, open_doors, is_open_at, with_door, opened_at}
-use Rattle.doors.specs.ThroughOrder.{round}
+use Rattle.doors.specs.ThroughOrder.{none_open, round, members_behind, round_of, rounds, doors_in, members_through}
 use Rattle.doors.proofs.Invoking.{pair-accepted, accepted-pair}
 
 -- ---- which key opens a sealed value
@@ -188,11 +190,14 @@ module _ (xs : List Found) (x : Found) (o : OpenDoors) where
   passed-unsealed unsealed =
       or_left (not (is_sealed x.value)) (is_open_at o.doors x.place) (not_from_false (is_sealed x.value) unsealed)
 
-  pub passed-open : is_open_at o.doors x.place ≡ true → IsPassed true
-  passed-open is = or_right (not (is_sealed x.value)) (is_open_at o.doors x.place) is
+  module _ (r : Bool) (says : IsTrue r ↔ IsOpen o.doors x.place) where
+    pub passed-open : r ≡ true → IsPassed true
+    passed-open is =
+        or_right (not (is_sealed x.value)) (is_open_at o.doors x.place) (sym (open-is r o.doors x.place says) ∙ is)
 
-  pub passed-neither : is_sealed x.value ≡ true → is_open_at o.doors x.place ≡ false → IsPassed false
-  passed-neither sealed shut = ap (λ b. not b || is_open_at o.doors x.place) sealed ∙ shut
+    pub passed-neither : is_sealed x.value ≡ true → r ≡ false → IsPassed false
+    passed-neither sealed shut =
+        ap (λ b. not b || is_open_at o.doors x.place) sealed ∙ sym (open-is r o.doors x.place says) ∙ shut
 
   pub opened-passed : IsPassed true → opened_at xs x o ≡ o
   opened-passed passed = ap (λ b. cond b o (with_door x o (door_of xs x))) passed
@@ -200,6 +205,13 @@ module _ (xs : List Found) (x : Found) (o : OpenDoors) where
   pub opened-door : IsPassed false → (door : Option Door) → door ≡ door_of xs x → opened_at xs x o ≡ with_door x o door
   opened-door fresh door is =
       ap (λ b. cond b o (with_door x o (door_of xs x))) fresh ∙ ap (with_door x o) (sym is)
+
+-- with a door more
+pub grown-door : (doors new_doors : List Door) (door : Door) (behind new_behind : List CapValue) (v : CapValue)
+    → new_doors ≡ doors ++ door ∷ [] → new_behind ≡ behind ++ v ∷ []
+    → open_doors (doors ++ door ∷ []) (behind ++ v ∷ []) ≡ open_doors new_doors new_behind
+grown-door doors new_doors door behind new_behind v doors_grown behind_grown =
+    ap (open_doors (doors ++ door ∷ [])) (sym behind_grown) ∙ ap (λ ds. open_doors ds new_behind) (sym doors_grown)
 
 module _ {X : Type 0} (value : X → CapValue) (members : List (Member X)) where
   -- what is open once the first of the members are looked through, and what a whole round then opens
@@ -219,3 +231,111 @@ module _ {X : Type 0} (value : X → CapValue) (members : List (Member X)) where
       → now ≡ round (seen_members value members) (seen_members value members) before
   round_to-all i past before now so_far =
       sym (so_far ∙ ap (λ ys. round (seen_members value members) (seen_members value ys) now) (drop_all i members past))
+
+-- ---- roots before what the doors lead to
+
+module _ (roots : List CapValue) where
+  abbrev pub after_roots : OpenDoors → OpenDoors
+  after_roots o = open_doors o.doors (roots ++ o.behind)
+
+  with_door-after : (x : Found) (o : OpenDoors) (door : Option Door) → with_door x (after_roots o) door ≡ after_roots (with_door x o door)
+  with_door-after x o None = refl
+  with_door-after x o (Some door) = ap (open_doors (o.doors ++ door ∷ [])) (append_assoc roots o.behind (opened x.value ∷ []))
+
+  opened-after : (xs : List Found) (x : Found) (o : OpenDoors) → opened_at xs x (after_roots o) ≡ after_roots (opened_at xs x o)
+  opened-after xs x o = elim (not (is_sealed x.value) || is_open_at o.doors x.place)
+      as (λ b. cond b (after_roots o) (with_door x (after_roots o) (door_of xs x)) ≡ after_roots (cond b o (with_door x o (door_of xs x)))) [
+        | true ↦ refl
+        | false ↦ with_door-after x o (door_of xs x)
+      ]
+
+  round-after : (xs ys : List Found) (o : OpenDoors) → round xs ys (after_roots o) ≡ after_roots (round xs ys o)
+  round-after xs [] o = refl
+  round-after xs (y ∷ ys) o = ap (round xs ys) (opened-after xs y o) ∙ round-after xs ys (opened_at xs y o)
+
+  after_roots-same : (o p : OpenDoors) → after_roots o ≡ after_roots p → o ≡ p
+  after_roots-same o p same =
+      ap (λ doors. open_doors doors o.behind) (ap (λ (x : OpenDoors). x.doors) same)
+      ∙ ap (open_doors p.doors) (append_cancel_left roots o.behind p.behind (ap (λ (x : OpenDoors). x.behind) same))
+
+-- a round over what is found from the roots of a state and what the open doors lead to
+pub round_of-is : (s : State) (behind new_behind roots new_roots : List CapValue) (doors new_doors : List Door) (xs : List Found)
+    → xs ≡ members_behind s (open_doors doors behind) → roots ≡ roots_of s ++ behind → new_roots ≡ roots_of s ++ new_behind
+    → open_doors new_doors new_roots ≡ round xs xs (open_doors doors roots)
+    → open_doors new_doors new_behind ≡ round_of s (open_doors doors behind)
+round_of-is s behind new_behind roots new_roots doors new_doors xs found are new_are order =
+    after_roots-same (roots_of s) (open_doors new_doors new_behind) (round xs xs (open_doors doors behind))
+    (ap (open_doors new_doors) (sym new_are) ∙ order ∙ ap (λ r. round xs xs (open_doors doors r)) are
+    ∙ round-after (roots_of s) xs xs (open_doors doors behind))
+    ∙ ap (λ ys. round ys ys (open_doors doors behind)) found
+
+-- ---- round after round
+
+-- So many rounds more find what is found in all. Each so far opened a door.
+pub record GoesOn (s : State) (o : OpenDoors) : Type 0 where
+  pub more : ℕ
+  pub enough : 2 ^ 64 ≤ more + length o.doors
+  pub doors : (rounds more s o).doors ≡ doors_in s
+  pub members : members_behind s (rounds more s o) ≡ members_through s
+
+module _ (s : State) where
+  pub GoesOn-begun : (n : ℕ) → n ≡ 2 ^ 64 → GoesOn s none_open
+  unfolding doors_in members_through
+  GoesOn-begun n long = record {
+    more = n;
+    enough = omega (arith, long);
+    doors = ap (λ k. (rounds k s none_open).doors) long;
+    members = ap (λ k. members_behind s (rounds k s none_open)) long;
+  }
+
+  rounds-done : (n : ℕ) (o : OpenDoors) → length (round_of s o).doors ≡ length o.doors → rounds n s o ≡ o
+  rounds-done zero o same = refl
+  rounds-done (suc n) o same =
+      ap (λ b. cond b o (rounds n s (round_of s o))) (eq-eqb (length (round_of s o).doors) (length o.doors) same)
+
+  rounds-more : (n k : ℕ) (o : OpenDoors) → n ≡ suc k → (length (round_of s o).doors ≡ length o.doors → ⊥)
+      → rounds n s o ≡ rounds k s (round_of s o)
+  rounds-more n k o one_more grown =
+      ap (λ j. rounds j s o) one_more
+      ∙ ap (λ b. cond b o (rounds k s (round_of s o))) (ne_eqb (length (round_of s o).doors) (length o.doors) grown)
+
+  module _ (o now : OpenDoors) (on : GoesOn s o) (is : now ≡ round_of s o) where
+    -- a round that opens a door
+    pub GoesOn-more : length o.doors < length now.doors → length now.doors ≤ 2 ^ 64 → GoesOn s now
+    GoesOn-more grown within =
+        let long = on.enough in
+        let k : ℕ = pred on.more in
+        let one_more : on.more ≡ suc k = less_one on.more (length o.doors) (length now.doors) (2 ^ 64) long grown within in
+        let same : rounds on.more s o ≡ rounds k s now =
+        rounds-more on.more k o one_more (λ even. absurd (omega (arith, grown, even, ap (λ (x : OpenDoors). length x.doors) is)))
+        ∙ ap (rounds k s) (sym is) in
+        record {
+          more = k;
+          enough = enough_left on.more k (length o.doors) (length now.doors) (2 ^ 64) long grown one_more;
+          doors = ap (λ (x : OpenDoors). x.doors) (sym same) ∙ on.doors;
+          members = ap (members_behind s) (sym same) ∙ on.members;
+        }
+      where
+        less_one : (n a b all : ℕ) → all ≤ n + a → a < b → b ≤ all → n ≡ suc (pred n)
+        less_one zero a b all long grown within = absurd (omega (arith, long, grown, within))
+        less_one (suc n) a b all long grown within = refl
+
+        enough_left : (n k a b all : ℕ) → all ≤ n + a → a < b → n ≡ suc k → all ≤ k + b
+        enough_left n k a b all long grown one_more = omega (arith, long, grown, one_more)
+
+    -- the last round
+    module _ (same : length now.doors ≡ length o.doors) where
+      done : rounds on.more s o ≡ o
+      done = rounds-done on.more o (sym (ap (λ (x : OpenDoors). length x.doors) is) ∙ same)
+
+      pub doors-done : o.doors ≡ doors_in s
+      doors-done = sym (ap (λ (x : OpenDoors). x.doors) done) ∙ on.doors
+
+      pub members-done : members_behind s o ≡ members_through s
+      members-done = sym (ap (members_behind s) done) ∙ on.members
+
+-- ---- the values of members as they are seen
+
+pub values_seen : {X : Type 0} (value : X → CapValue) (ms : List (Member X)) → map (λ x. x.value) (seen_members value ms) ≡ values value ms
+values_seen value [] = refl
+values_seen value (m ∷ ms) = ap (λ vs. value m.cap ∷ vs) (values_seen value ms)

@@ -1,11 +1,11 @@
-use Rattle.std.proofs.Common.{◌≡◌, ◌≤◌, [], None, Some, length, refl, sym, ap, ◌∙◌, arith}
+use Rattle.std.proofs.Common.{◌≤◌, None, Some, length, refl, sym, ap, ◌∙◌, arith}
 use Rattle.std.proofs.lemmas.Bool.{false≢true}
 use Rattle.std.proofs.lemmas.List.{drop_all}
 use Rattle.reached.specs.Order.{seen_member, seen_members}
 use Rattle.doors.specs.Closed.{entry}
 use Rattle.doors.specs.ThroughOrder.{key_of}
 use Rattle.doors.proofs.Rounds.{no_key-more, no_key}
-use Rattle.doors.proofs.Ordered.{opens-is, seen_from, key-passed, key-found, door-own, door-other}
+use Rattle.doors.proofs.Ordered.{opens-is, key-passed, key-found, door-own, door-other}
 use Rattle.doors.proofs.through.door_at.Goals as goal
 
 pub returns-then-opens-clause-some : goal.returns-then-opens-clause-some

@@ -1,11 +1,11 @@
-use Rattle.std.proofs.Common.{◌≡◌, ◌≤◌, ◌↔◌, IsTrue, ◌++◌, ◌∷◌, [], true, None, Some, map, length, refl, subst, sym, ap, ◌∙◌, arith}
+use Rattle.std.proofs.Common.{◌≡◌, ◌≤◌, ◌↔◌, IsTrue, ◌++◌, ◌∷◌, [], true, None, Some, map, length, refl, subst, sym, ◌∙◌, arith}
 use Rattle.std.proofs.lemmas.Bool.{false≢true}
 use Rattle.cap_rights.specs.Opened.{opened}
 use Rattle.reached.specs.Order.{seen_member, seen_members}
 use Rattle.doors.specs.Rounds.{IsOpen, IsRound}
 use Rattle.doors.specs.ThroughOrder.{open_doors}
 use Rattle.doors.proofs.Rounds.{opened-sealed, round-none, round-passed, round-opened, map-pushed}
-use Rattle.doors.proofs.Ordered.{open-is, IsPassed, passed-unsealed, passed-open, passed-neither, opened-passed, opened-door}
+use Rattle.doors.proofs.Ordered.{IsPassed, passed-unsealed, passed-open, passed-neither, opened-passed, opened-door, grown-door}
 use Rattle.doors.proofs.Ordered.{round_to-more, round_to-all}
 use Rattle.doors.proofs.through.open_doors.Goals.{then-not-is_sealed-via-then-not-is_sealed}
 use Rattle.doors.proofs.through.open_doors.Goals.{then-not-is_sealed-via-else-not-is_sealed+then-is_open}
@@ -28,10 +28,8 @@ loop-member-preserved-then-not-is_sealed g c =
       | then-not-is_sealed-via-then-not-is_sealed w ↦
           passed-unsealed (seen_members value members) (seen_member value x) now (sym c.is_sealed.ensures ∙ w.if-not-is_sealed.true)
       | then-not-is_sealed-via-else-not-is_sealed+then-is_open w ↦
-          passed-open (seen_members value members) (seen_member value x) now
-          (sym (open-is w.is_open.result c.loop-member.doors.items x.place
-          (subst (λ doors. IsTrue w.is_open.result ↔ IsOpen doors x.place) w.deref.ensures.value w.is_open.ensures))
-          ∙ w.if-is_open.true)
+          passed-open (seen_members value members) (seen_member value x) now w.is_open.result
+          (subst (λ doors. IsTrue w.is_open.result ↔ IsOpen doors x.place) w.deref.ensures.value w.is_open.ensures) w.if-is_open.true
     ] in
     record {
       round = round-passed value members i x c.loop-member-test.true c.member-item.is (map value c.args.roots.now.items)
@@ -63,10 +61,9 @@ loop-member-preserved-in_default g c =
       order = round_to-more value members i x c.loop-member-test.true c.member-item.is
           (open_doors c.args.doors.now.items (map value c.args.roots.now.items)) now now
           (opened-door (seen_members value members) (seen_member value x) now
-          (passed-neither (seen_members value members) (seen_member value x) now (sym c.is_sealed.ensures ∙ c.if-not-is_sealed.false)
-          (sym (open-is c.is_open.result c.loop-member.doors.items x.place
-          (subst (λ doors. IsTrue c.is_open.result ↔ IsOpen doors x.place) c.deref.ensures.value c.is_open.ensures))
-          ∙ c.if-is_open.false))
+          (passed-neither (seen_members value members) (seen_member value x) now c.is_open.result
+          (subst (λ doors. IsTrue c.is_open.result ↔ IsOpen doors x.place) c.deref.ensures.value c.is_open.ensures)
+          (sym c.is_sealed.ensures ∙ c.if-not-is_sealed.false) c.if-is_open.false)
           None c.in_default.ensures.first)
           c.loop-member.invariant.order;
     }
@@ -82,10 +79,6 @@ loop-member-preserved g c =
     let roots_grown : map value c.push.new.self.items ≡ map value c.loop-member.roots.items ++ opened (value x.cap) ∷ [] =
     map-pushed value c.loop-member.roots.items c.push.new.self.items c.opened.result (opened (value x.cap)) c.in_ok-push.ensures.items
     c.opened.ensures in
-    let grown : open_doors (c.loop-member.doors.items ++ c.in-Some.door ∷ [])
-    (map value c.loop-member.roots.items ++ opened (value x.cap) ∷ []) ≡ new =
-    ap (λ roots. open_doors (c.loop-member.doors.items ++ c.in-Some.door ∷ []) roots) (sym roots_grown)
-    ∙ ap (λ doors. open_doors doors (map value c.push.new.self.items)) (sym c.in_ok-push-2.ensures.items) in
     record {
       round = round-opened value members i x c.loop-member-test.true c.member-item.is (map value c.args.roots.now.items)
           (map value c.loop-member.roots.items) c.args.doors.now.items c.loop-member.doors.items c.loop-member.invariant.round
@@ -96,11 +89,13 @@ loop-member-preserved g c =
       order = round_to-more value members i x c.loop-member-test.true c.member-item.is
           (open_doors c.args.doors.now.items (map value c.args.roots.now.items)) now new
           (opened-door (seen_members value members) (seen_member value x) now
-          (passed-neither (seen_members value members) (seen_member value x) now (sym c.is_sealed.ensures ∙ c.if-not-is_sealed.false)
-          (sym (open-is c.is_open.result c.loop-member.doors.items x.place
-          (subst (λ doors. IsTrue c.is_open.result ↔ IsOpen doors x.place) c.deref.ensures.value c.is_open.ensures))
-          ∙ c.if-is_open.false))
-          (Some c.in-Some.door) c.in-Some.ensures.first ∙ grown)
+          (passed-neither (seen_members value members) (seen_member value x) now c.is_open.result
+          (subst (λ doors. IsTrue c.is_open.result ↔ IsOpen doors x.place) c.deref.ensures.value c.is_open.ensures)
+          (sym c.is_sealed.ensures ∙ c.if-not-is_sealed.false) c.if-is_open.false)
+          (Some c.in-Some.door) c.in-Some.ensures.first
+          ∙ grown-door c.loop-member.doors.items c.push-in-loop-member.new.self.items c.in-Some.door
+          (map value c.loop-member.roots.items) (map value c.push.new.self.items) (opened (value x.cap)) c.in_ok-push-2.ensures.items
+          roots_grown)
           c.loop-member.invariant.order;
     }
 
