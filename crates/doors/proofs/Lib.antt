@@ -7,4 +7,5 @@ mod TwoWorlds
 mod TurnTwins
 mod Invoking
 mod Rounds
+mod Ordered
 mod Searched

@@ -1,6 +1,6 @@
 -- What a search finds once no round opens a door more.
-use Rattle.std.proofs.Common.{◌≡◌, ℕ, ◌-◌, ◌<◌, true, List, [], ◌∷◌, ◌++◌, length, get_or, take, drop, refl, sym, ap, ◌∙◌, subst}
-use Rattle.std.proofs.Common.{arith, inl, inr}
+use Rattle.std.proofs.Common.{◌≡◌, ℕ, ◌-◌, ◌^◌, ◌<◌, ◌≤◌, true, List, [], ◌∷◌, ◌++◌, length, get_or, take, drop, refl, sym, ap, ◌∙◌, subst}
+use Rattle.std.proofs.Common.{arith, inl, inr, map}
 use Rattle.std.proofs.lemmas.Bool.{cases_lt}
 use Rattle.std.proofs.lemmas.List.{append_assoc, append-nil, get_or-map, length-map, length-append, get_or_append_left, get_or-append_right}
 use Rattle.std.proofs.lemmas.List.{take-append-le, take-append-drop, nil_from_length}
@@ -16,6 +16,7 @@ use Rattle.reached.specs.declared.member.Member.{Member}
 use Rattle.reached.specs.declared.member.Place.{Place}
 use Rattle.reached.specs.declared.member.Place.TheVariants.{Root, Special, Granule}
 use Rattle.reached.specs.Links.{IsLinked, in_root, in_special, in_granule, values, AreLinked}
+use Rattle.reached.specs.Order.{Found, members_of, seen_members}
 use Rattle.reached.specs.Reached.{IsReachedFrom, from_root, from_special, from_granule}
 use Rattle.doors.specs.declared.through.Door.{Door}
 use Rattle.doors.specs.Closed.{IsClosed, IsOpenedBy, HasDoors}
@@ -27,6 +28,8 @@ use Rattle.doors.specs.Roots.{roots_of, specials_of}
 use Rattle.doors.specs.RootsLaws.{root_there, there_root, special_there, there_special}
 use Rattle.doors.specs.Rounds.{IsOpen, IsDoorAmong, AreDoorsAmong, IsRound}
 use Rattle.doors.specs.Through.{AreReachableThroughDoors, IsAt, AreApart, IsDoor, AreDoors, AreLinkedThroughDoors}
+use Rattle.doors.specs.ThroughOrder.{open_doors, round as round_over, members_behind, round_of, doors_in, members_through}
+use Rattle.doors.proofs.Ordered.{round_of-is, GoesOn, GoesOn-begun, GoesOn-more, doors-done, members-done, values_seen}
 
 -- ---- what is reached from roots
 
@@ -120,10 +123,12 @@ pub record IsOpenedSoFar (s : State) (roots : List CapValue) (doors : List Door)
   pub behind : List CapValue
   pub roots_are : roots ≡ roots_of s ++ behind
   pub are_doors : AreDoors s doors behind
+  pub on : GoesOn s (open_doors doors behind)
 
-pub opened-none : (s : State) → IsOpenedSoFar s (roots_of s) []
-opened-none s = record {
+pub opened-none : (s : State) (n : ℕ) → n ≡ 2 ^ 64 → IsOpenedSoFar s (roots_of s) []
+opened-none s n long = record {
   behind = [];
+  on = GoesOn-begun s n long;
   roots_are = sym (append-nil (roots_of s));
   are_doors = record {
     many = refl;
@@ -219,10 +224,27 @@ module _ {X : Type 0} (value : X → CapValue) (s : State) (behind : List CapVal
   -- a round over the members
   module _ (roots new_roots : List CapValue) (new_doors : List Door) (are_roots : roots ≡ roots_of s ++ behind)
       (round : IsRound value members (length members) roots new_roots doors new_doors) where
-    pub opened-round : IsOpenedSoFar s new_roots new_doors
-    opened-round = record {
+    grown_roots : new_roots ≡ roots_of s ++ (behind ++ round.behind)
+    grown_roots = round.roots_are ∙ ap (λ vs. vs ++ round.behind) are_roots ∙ append_assoc (roots_of s) behind round.behind
+
+    -- it is the definitions' round, where the members are the definitions' members
+    abbrev pub IsNext : Type 0
+    IsNext = open_doors new_doors (behind ++ round.behind) ≡ round_of s (open_doors doors behind)
+
+    pub next-round : seen_members value members ≡ members_behind s (open_doors doors behind)
+        → open_doors new_doors new_roots ≡ round_over (seen_members value members) (seen_members value members) (open_doors doors roots)
+        → IsNext
+    next-round found order =
+        round_of-is s behind (behind ++ round.behind) roots new_roots doors new_doors (seen_members value members) found are_roots
+        grown_roots order
+
+    pub opened-round : GoesOn s (open_doors doors behind) → IsNext → (length new_doors ≡ length doors → ⊥) → length new_doors ≤ 2 ^ 64
+        → IsOpenedSoFar s new_roots new_doors
+    opened-round on next fresh within = record {
       behind = behind ++ round.behind;
-      roots_are = round.roots_are ∙ ap (λ vs. vs ++ round.behind) are_roots ∙ append_assoc (roots_of s) behind round.behind;
+      on = GoesOn-more s (open_doors doors behind) (open_doors new_doors (behind ++ round.behind)) on next
+          (omega (arith, fresh, ap length round.doors_are, length-append doors round.more)) within;
+      roots_are = grown_roots;
       are_doors = subst (λ ds. AreDoors s ds (behind ++ round.behind)) (sym round.doors_are)
           (doors-more round.more round.behind round.among (subst AreApart round.doors_are (round.apart are.apart)));
     }
@@ -279,6 +301,15 @@ module _ {X : Type 0} (value : X → CapValue) (s : State) (behind : List CapVal
             (from_granule granule (search.sound c member) opens (record { tagged = here.tagged; value = here.value }));
       }
 
+      pub doors-found : GoesOn s (open_doors doors behind) → IsNext → new_doors ≡ doors_in s
+      doors-found on next =
+          same_doors ∙ doors-done s (open_doors doors behind) (open_doors new_doors (behind ++ round.behind)) on next done
+
+      pub members-found : GoesOn s (open_doors doors behind) → IsNext → seen_members value members ≡ members_behind s (open_doors doors behind)
+          → seen_members value members ≡ members_through s
+      members-found on next found =
+          found ∙ members-done s (open_doors doors behind) (open_doors new_doors (behind ++ round.behind)) on next done
+
       pub exact-found : AreReachableThroughDoors s (values value members)
       exact-found = record {
         sound = through-value;
@@ -291,3 +322,16 @@ module _ {X : Type 0} (value : X → CapValue) (s : State) (behind : List CapVal
         are_doors = subst (λ ds. AreDoors s ds behind) (sym same_doors) are;
         linked = search.linked;
       }
+
+-- the members that a search finds, where the lists are the state's
+pub found-behind : (s : State) (doors : List Door) (behind roots specials : List CapValue) (m : Memory) → roots ≡ roots_of s ++ behind
+    → specials ≡ specials_of s.scrs → m ≡ s.memory → (xs : List Found) → xs ≡ members_of roots specials m
+    → xs ≡ members_behind s (open_doors doors behind)
+found-behind s doors behind roots specials m are_roots are_specials is_memory xs are = rw (are_roots, are_specials, is_memory) at are
+
+-- where the members are the state's, so are their values
+pub exact-through : {X : Type 0} (value : X → CapValue) (s : State) (members : List (Member X))
+    → AreReachableThroughDoors s (values value members) → seen_members value members ≡ members_through s
+    → AreReachableThroughDoors s (map (λ x. x.value) (members_through s))
+exact-through value s members are seen =
+    subst (AreReachableThroughDoors s) (sym (values_seen value members) ∙ ap (map (λ x. x.value)) seen) are

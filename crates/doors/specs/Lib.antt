@@ -6,6 +6,7 @@ pub mod Worlds
 pub mod Closed
 pub mod Roots
 pub mod Through
+pub mod ThroughOrder
 -- Laws
 pub mod PairLaws
 pub mod SetLaws

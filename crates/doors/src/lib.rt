@@ -19,5 +19,5 @@ pub mod worlds;
 pub use opening::opens;
 pub use set::CapSet;
 pub use start::{roots, specials};
-pub use through::{Door, Found, closure_through_doors};
+pub use through::{Door, Through, closure_through_doors};
 pub use turn::{Turn, run_turn};

@@ -4,9 +4,11 @@ ghost use Rattle.cap_rights.specs.Opened.{opened};
 ghost use Rattle.reached.specs.declared.member.Member.{Member};
 ghost use Rattle.reached.specs.Links.{values};
 ghost use Rattle.reached.specs.Chain.{AreInOrder};
+ghost use Rattle.reached.specs.Order.{seen_member, seen_members};
 ghost use Rattle.doors.specs.Closed.{IsOpenedBy};
 ghost use Rattle.doors.specs.Rounds.{IsOpen, IsDoorAmong, IsRound};
 ghost use Rattle.doors.specs.Through.{AreReachableThroughDoors, AreLinkedThroughDoors};
+ghost use Rattle.doors.specs.ThroughOrder.{open_doors, door_of, round, doors_in, members_through};
 
 use crate::opening::{is_sealed, opens};
 use crate::start::{roots, specials};
@@ -27,7 +29,7 @@ pub struct Door {
 
 /// What is reachable through doors.
 #[derive(Drop)]
-pub struct Found<C: CapRep> {
+pub struct Through<C: CapRep> {
     /// The capabilities, each with its link. What a door leads to is a root after those of the state.
     pub members: Vec<Member<C>>,
     /// The doors, in the order in which they are opened: a root that one names is the state's, or what an earlier door leads to.
@@ -48,6 +50,7 @@ fn door_at<C: CapRep>(members: &[Member<C>], member: &Member<C>) -> Option<Door>
     ensures place { IfSome result (λ door. door.sealed ≡ member.now.place) }
     ensures none { IfNone result ((key : Member C) → Contains members.now key
         → IsOpenedBy (C.value member.now.cap) (C.value key.cap) → ⊥) }
+    ensures first { result ≡ door_of (seen_members C.value members.now) (seen_member C.value member.now) }
 {
     let sealed = member.place;
     if opens(member.cap, member.cap) {
@@ -73,8 +76,11 @@ fn open_doors<C: CapRep>(
     roots: &mut Vec<C>,
     doors: &mut Vec<Door>,
 ) -> Result<(), AllocError>
-    ensures { OnOk result (IsRound C.value members.now (length members.now) (map C.value roots.old.items) (map C.value roots.new.items)
-        doors.old.items doors.new.items) }
+    ensures round { OnOk result (IsRound C.value members.now (length members.now) (map C.value roots.old.items)
+        (map C.value roots.new.items) doors.old.items doors.new.items) }
+    ensures order { OnOk result (open_doors doors.new.items (map C.value roots.new.items)
+        ≡ round (seen_members C.value members.now) (seen_members C.value members.now)
+        (open_doors doors.old.items (map C.value roots.old.items))) }
 {
     for member in members {
         if !is_sealed(member.cap) || is_open(doors, member.place) {
@@ -96,10 +102,13 @@ fn open_doors<C: CapRep>(
 pub fn closure_through_doors<C: CapRep>(
     alloc: Global,
     hart: &Hart<C>,
-) -> Result<Found<C>, AllocError>
+) -> Result<Through<C>, AllocError>
     ensures exact { IfOk result (λ found. AreReachableThroughDoors hart.now (values C.value found.members.items)) }
     ensures linked { IfOk result (λ found. AreLinkedThroughDoors C.value hart.now found.members.items found.doors.items) }
     ensures order { IfOk result (λ found. AreInOrder found.members.items) }
+    ensures members { IfOk result (λ found. seen_members C.value found.members.items ≡ members_through hart.now) }
+    ensures doors { IfOk result (λ found. found.doors.items ≡ doors_in hart.now) }
+    ensures of_state { IfOk result (λ _. AreReachableThroughDoors hart.now (map (λ x. x.value) (members_through hart.now))) }
 {
     let guarded = specials(alloc, hart)?;
     let mut starts = roots(alloc, hart)?;
@@ -109,7 +118,7 @@ pub fn closure_through_doors<C: CapRep>(
         let before = doors.len();
         open_doors(&members, &mut starts, &mut doors)?;
         if doors.len() == before {
-            return Ok(Found { members, doors });
+            return Ok(Through { members, doors });
         }
     }
 }
