@@ -37,6 +37,10 @@ FORMS = [(re.compile(form), instead) for form, instead in (
 # Places where such a word is right: the text around it.
 KEPT = (
     "behind a sentry",
+    "behind a door",
+    "Behind a door",
+    "behind door",
+    "behind doors",
     "behind B's door",
     "behind the other's door",
     "behind it, by a door",

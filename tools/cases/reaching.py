@@ -35,7 +35,8 @@ def text(value):
 
 
 def place_name(place, labels=(), doors=()):
-    """A register's name, or a granule's address with the label at it or fewer than 4096 bytes below it; or what is behind such a place."""
+    """A register's name, or a granule's address with the label at it or fewer than 4096 bytes below it; or that of a door at such a
+    place."""
     kind, n = place
     if kind == reach.DOOR:
         return f"behind {place_name(doors[n], labels)}"
@@ -252,13 +253,13 @@ def pair(code=(0, 64, 0x107, 7), datum=(0x100, 32, 0x13D, 7), offset=0):
                     data=[cap(TRANSMIT, 8, 0x8), cap(DATA + 0x20, 16, LOADS), cap(HALT, 8, 0x8)])
 
 
-# A sentry in a table, and behind it code that loads: another table, of what may set the timer. And a sentry in a register.
+# A table has a sentry of code that loads another table, of what may set the timer. And a sentry in a register.
 BEHIND_PROGRAM, BEHIND_STEPS = narrowed(
     *bounded("ca2", 0x110, 16, 0x7F), *bounded("ca3", 0x120, 16, 0x17), "csealentry ca3, ca3", "sc.cap ca3, (ca2)",
     *bounded("ca3", 0x100, 32, LOADS), *bounded("ca4", 0x130, 16, 0x7), "csealentry ca4, ca4", keep=("ca3", "ca4"),
     data=[cap(0x1000, 8, 0x8), cap(0, 0, 0), cap(TIMER_COMPARE, 8, 0x8), cap(0x2000, 8, 0x8)])
 
-# What is sealed with CInvoke and no partner: what may seal with its type is a key, what may seal with the next or may unseal is none.
+# What is sealed with CInvoke and has no partner: a key is what may seal with its type, and not what may seal with the next or may unseal.
 KEYS = {about: narrowed(*bounded("ca2", 0x100, 16, given), *sealed("ca2"), "cincoffsetimm ca3, ca0, 0", f"addi a5, zero, {first}",
                         "csetaddr ca3, ca3, a5", "csetboundsimm ca3, ca3, 1", f"addi a5, zero, {rights}", "candperm ca3, ca3, a5",
                         keep=("ca2", "ca3"))

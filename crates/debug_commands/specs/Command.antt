@@ -1,6 +1,6 @@
 -- The commands of a session: a line each, with its operands and their limits, and what it gives or shows.
-use Rattle.std.specs.Prelude.{ℕ, ◌-◌, ◌%◌, ◌^◌, Bool, not, ◌&&◌, ◌||◌, ◌==◌, nat_lt, if◌then◌else◌, ℤ, pos, List, [], ◌∷◌, ◌++◌, length, filter}
-use Rattle.std.specs.Prelude.{Option, Some, None, Result, Ok, Err, codes}
+use Rattle.std.specs.Prelude.{ℕ, ◌-◌, ◌%◌, ◌^◌, Bool, not, ◌&&◌, ◌||◌, ◌==◌, nat_lt, if◌then◌else◌, ℤ, pos, List, [], ◌∷◌, ◌++◌, length}
+use Rattle.std.specs.Prelude.{filter, Option, Some, None, Result, Ok, Err, codes}
 use Rattle.std.specs.Option.{option_or}
 use Rattle.std.specs.List.{slice_split, prefix_len, flat_map}
 use Rattle.asm_names.specs.Registers.{register_named}
@@ -235,7 +235,9 @@ commands =
     ∷ line (codes "dis") (codes " ADDR N") (place 4 1024 (λ address n. Shows (Words address n)))
     ∷ line (codes "why") [] (nothing (Shows Why))
     ∷ line (codes "reach") (codes " [members|dot|doors]") (a_verb reach_of)
-    ∷ line (codes "may") (codes " store|load|execute|learn ADDR LEN [through doors]\nmay send|halt|system|timer [through doors]\nmay hold TYPE [through doors]") (a_verb may_of)
+    ∷ line (codes "may")
+    (codes " store|load|execute|learn ADDR LEN [through doors]\nmay send|halt|system|timer [through doors]\nmay hold TYPE [through doors]")
+    (a_verb may_of)
     ∷ line (codes "help") (codes " [B1|B2|B3|B4]") (a_verb help_on)
     ∷ line (codes "quit") [] (nothing Quit)
     ∷ []

@@ -112,7 +112,10 @@ pub(crate) fn horizon(operands: &[u8]) -> Result<Horizon, DebugFault>
     let Some((second, rest)) = split_word(rest) else {
         return Err(DebugFault::B2);
     };
-    if split_word(rest).is_some() || first != b"through".as_slice() || second != b"doors".as_slice() {
+    if split_word(rest).is_some()
+        || first != b"through".as_slice()
+        || second != b"doors".as_slice()
+    {
         return Err(DebugFault::B2);
     }
     Ok(Horizon::Turn)

@@ -79,7 +79,15 @@ pub(crate) fn put_may<C: CapRep>(
         Horizon::Turn => {
             let through = closure_through_doors(alloc, hart)?;
             let answer = first_that(&through.members, may);
-            put_answer(text, alloc, horizon, symbols, &through.doors, &through.members, answer)
+            put_answer(
+                text,
+                alloc,
+                horizon,
+                symbols,
+                &through.doors,
+                &through.members,
+                answer,
+            )
         }
     }
 }

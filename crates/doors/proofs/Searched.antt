@@ -305,7 +305,8 @@ module _ {X : Type 0} (value : X → CapValue) (s : State) (behind : List CapVal
       doors-found on next =
           same_doors ∙ doors-done s (open_doors doors behind) (open_doors new_doors (behind ++ round.behind)) on next done
 
-      pub members-found : GoesOn s (open_doors doors behind) → IsNext → seen_members value members ≡ members_behind s (open_doors doors behind)
+      pub members-found : GoesOn s (open_doors doors behind) → IsNext
+          → seen_members value members ≡ members_behind s (open_doors doors behind)
           → seen_members value members ≡ members_through s
       members-found on next found =
           found ∙ members-done s (open_doors doors behind) (open_doors new_doors (behind ++ round.behind)) on next done

@@ -89,7 +89,8 @@ module _ (events : List Event) (i : ℕ) (d : Event) (below : i < length events)
       → EndsBefore (Some w) (drop i events) (run_after (take i events) t)
   ends-too t agree w ends =
       let two = run_after (take i events) t in
-      let same : Agree so_far two = agree-bounded (IsReachableThroughDoors s) so_far two bounds-so_far (has t agree i (omega arith)).agree in
+      let so = has t agree i (omega arith) in
+      let same : Agree so_far two = agree-bounded (IsReachableThroughDoors s) so_far two bounds-so_far so.agree in
       subst (λ es. EndsBefore (Some w) es two) (sym (rest events i d below))
       (ap why_of (outcome-same so_far two same here) ∙ ends-outcome (outcome here so_far) w
       (subst (λ x. turn_why_of (outcome here x) ≡ Some w) turn.state ends))

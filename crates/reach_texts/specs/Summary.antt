@@ -1,5 +1,6 @@
 -- What code can reach, in sum: how many members there are and where they were found, what they open, and those that are sealed.
-use Rattle.std.specs.Prelude.{ℕ, Bool, true, false, not, ◌||◌, nat_lt, if◌then◌else◌, min, List, [], ◌∷◌, ◌++◌, length, is_some, codes, decimal}
+use Rattle.std.specs.Prelude.{ℕ, Bool, true, false, not, ◌||◌, nat_lt, if◌then◌else◌, min, List, [], ◌∷◌, ◌++◌, length, is_some}
+use Rattle.std.specs.Prelude.{codes, decimal}
 use Rattle.std.specs.List.{count_by, flat_map}
 use Rattle.base.specs.declared.otype.TheConstants.{FIRST_RESERVED}
 use Rattle.cap_bounds.specs.CapValue.{is_sealed}
@@ -54,7 +55,7 @@ is_of kind.Sealed x = is_sealed x.value
 unfoldable pub kind_count : List ℕ → Kind → List Found → List ℕ
 kind_count before kind xs = before ++ decimal (count_by (is_of kind) xs)
 
--- through doors, how many are behind one
+-- through doors, how many are behind doors
 unfoldable pub door_count : Horizon → List Found → List ℕ
 door_count Stretch xs = []
 door_count Turn xs = kind_count (codes ", behind doors ") kind.Door xs

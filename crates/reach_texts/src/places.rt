@@ -121,7 +121,7 @@ fn put_behind(text: &mut String, symbols: &Symbols, door: Option<&Door>) -> Resu
     }
 }
 
-/// Appends where a member was found that doors may lead to: what is behind a door comes after the roots of the state.
+/// Appends where a member was found that doors may lead to: after the roots of the state comes what is behind a door.
 #[tactic(auto, unfolding(crate::specs::Text::place_through))]
 pub(crate) fn put_place_through(
     text: &mut String,

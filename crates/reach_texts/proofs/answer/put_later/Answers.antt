@@ -8,7 +8,7 @@ loop-next-preserved g c =
     let inside = c.loop-next-test.true in
     record {
       within = omega (arith, inside);
-      places = after c.args.symbols.now c.args.doors.now (seen_members g.C.CapRep.value c.args.members.now) c.args.way.now c.loop-next.next _ _ _
-          inside
+      places = after c.args.symbols.now c.args.doors.now (seen_members g.C.CapRep.value c.args.members.now) c.args.way.now
+          c.loop-next.next _ _ _ inside
           c.in_ok-put_later_place.ensures c.loop-next.invariant.places;
     }
