@@ -1,21 +1,13 @@
 -- What it means in the words of doors that no value does, where the values are those that are reachable through doors.
-use Rattle.std.proofs.Common.{◌≡◌, ℕ, suc, ◌+◌, ◌<◌, ◌≤◌, List, [], ◌∷◌, take, ap, inl, inr, ◌∙◌}
+use Rattle.std.proofs.Common.{ℕ, ◌+◌, ◌<◌, ◌≤◌, List, ap, inl, inr}
 use Rattle.std.proofs.lemmas.Bool.{cases_lt}
 use Rattle.cap_bounds.specs.CapValue.{CapValue}
 use Rattle.cap_rights.specs.Rights.{OpensSystem, OpensStore}
-use Rattle.cap_rights.specs.RightsLaws.{OpensSystem-outer, OpensByte-outer, OpensGranule-outer}
-use Rattle.hart.specs.declared.event.Event.{Event}
-use Rattle.hart.specs.Event.{after, outcome}
 use Rattle.hart.specs.State.{State}
-use Rattle.authority.specs.Authority.{HasSystem}
-use Rattle.authority.specs.TwoWorldsLaws.{outcome-same}
-use Rattle.authority.specs.Worlds.{IsReadable, IsTagReadable, Agree}
-use Rattle.machine.specs.Run.{run_after}
 use Rattle.doors.specs.Doors.{IsReachableThroughDoors}
-use Rattle.doors.specs.Sets.{NoRightsBeyond, IsWritableBy, HasSystemBy}
+use Rattle.doors.specs.Sets.{IsWritableBy, HasSystemBy}
 use Rattle.doors.specs.Through.{AreReachableThroughDoors}
-use Rattle.doors.specs.Turn.{IsPlainOrJump, ArePlainOrJumps}
-use Rattle.doors.specs.Worlds.{IsReadableBy, IsTagReadableBy, AgreeBy, AgreeThroughDoors}
+use Rattle.doors.specs.Worlds.{IsReadableBy, AgreeThroughDoors}
 use Rattle.reach.specs.declared.right.Right.TheVariants.{Store, Load, Execute}
 use Rattle.reach.specs.Differs.{DiffersWithin}
 use Rattle.reach.specs.First.{HoldsOfNone}
