@@ -1,0 +1,4 @@
+-- What to read
+pub mod Rule
+-- Inner words
+pub mod Cover
