@@ -1,2 +1,6 @@
 pub mod Covers
 pub mod Bans
+pub mod Rights
+pub mod Leaving
+pub mod Runs
+pub mod Looking

@@ -1,4 +1,5 @@
 -- What to read
 pub mod Rule
+pub mod Watch
 -- Inner words
 pub mod Cover

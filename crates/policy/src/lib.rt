@@ -3,7 +3,13 @@
 
 mod breach;
 mod cover;
+mod fault;
+mod meet;
 mod rule;
+mod watch;
 
+pub use breach::first_breach;
+pub use fault::PolicyFault;
 pub use reach::Range;
 pub use rule::{Ban, Rule};
+pub use watch::{Refused, Watched, run_watched};

@@ -1,4 +1,4 @@
-use Rattle.std.proofs.Common.{◌≡◌, ℕ, ◌<◌}
+use Rattle.std.proofs.Common.{◌≡◌}
 use Rattle.policy.proofs.Bans.{bans, HoldBelow}
 use Rattle.policy.proofs.breach.first_ban.Given as goal
 

@@ -1,4 +1,3 @@
-use Rattle.std.proofs.Common.{◌≡◌}
 use Rattle.reached.specs.Links.{values}
 use Rattle.reach.proofs.Places.{HoldsBelow}
 use Rattle.policy.specs.Rule.{BreaksRule}
