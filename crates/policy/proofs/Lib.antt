@@ -2,5 +2,6 @@ pub mod Covers
 pub mod Bans
 pub mod Rights
 pub mod Leaving
+pub mod Learning
 pub mod Runs
 pub mod Looking

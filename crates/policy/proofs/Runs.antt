@@ -9,7 +9,7 @@ use Rattle.hart.specs.Event.{after, sent}
 use Rattle.hart.specs.State.{State}
 use Rattle.machine.specs.Run.{run_after, run_sent}
 use Rattle.policy.specs.declared.rule.Rule.{Rule}
-use Rattle.policy.specs.Watch.{LeavesByEach, LeaveByEach, IsRunOf}
+use Rattle.policy.specs.Watch.{KeepsToEach, KeepToEach, IsRunOf}
 
 -- ---- lists and options
 
@@ -49,7 +49,7 @@ run_sent-append (x ∷ es) e s =
 pub run-none : (events : List Event) (s : State) (out now : List ℕ) → now ≡ out → IsRunOf events 0 s s out now
 run-none events s out now same = record { some = omega arith; state = refl; bytes = same ∙ sym (append-nil out) }
 
-pub kept-none : (rules : List Rule) (events : List Event) (s : State) → LeaveByEach rules events 0 s
+pub kept-none : (rules : List Rule) (events : List Event) (s : State) → KeepToEach rules events 0 s
 kept-none rules events s = λ k few. absurd (omega arith)
 
 module _ (events : List Event) (i : ℕ) (d : Event) (below : i < length events) (s t : State) (out now : List ℕ)
@@ -73,15 +73,15 @@ module _ (events : List Event) (i : ℕ) (d : Event) (below : i < length events)
   }
 
 pub kept-more : (rules : List Rule) (events : List Event) (i : ℕ) (s t : State) → t ≡ run_after (take i events) s
-    → ((e : Event) → LeavesByEach rules e t) → LeaveByEach rules events i s → LeaveByEach rules events (i + 1) s
+    → ((e : Event) → KeepsToEach rules e t) → KeepToEach rules events i s → KeepToEach rules events (i + 1) s
 kept-more rules events i s t state last before = λ k few d. elim (cases_eq k i) [
   | inl same ↦
-      let here : LeavesByEach rules (get_or events i d) (run_after (take i events) s) =
-      subst (LeavesByEach rules (get_or events i d)) state (last (get_or events i d)) in
-      subst (λ n. LeavesByEach rules (get_or events n d) (run_after (take n events) s)) (sym same) here
+      let here : KeepsToEach rules (get_or events i d) (run_after (take i events) s) =
+      subst (KeepsToEach rules (get_or events i d)) state (last (get_or events i d)) in
+      subst (λ n. KeepsToEach rules (get_or events n d) (run_after (take n events) s)) (sym same) here
   | inr other ↦ before k (omega (arith, other)) d
 ]
 
-pub kept-at : (rules : List Rule) (events : List Event) (i done : ℕ) (s : State) → done ≡ i → LeaveByEach rules events i s
-    → LeaveByEach rules events done s
-kept-at rules events i done s same kept = subst (λ n. LeaveByEach rules events n s) (sym same) kept
+pub kept-at : (rules : List Rule) (events : List Event) (i done : ℕ) (s : State) → done ≡ i → KeepToEach rules events i s
+    → KeepToEach rules events done s
+kept-at rules events i done s same kept = subst (λ n. KeepToEach rules events n s) (sym same) kept

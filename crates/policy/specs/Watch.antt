@@ -1,15 +1,17 @@
--- Runs that rules watch: what an event leaves as it is while a rule is about the code, and where a run is refused.
-use Rattle.std.specs.Prelude.{◌≡◌, ℕ, ◌+◌, ◌-◌, ◌<◌, ◌≤◌, ◌≢◌, ◌++◌, false, List, length, take, map, Option, None, Some, Contains, slice_index}
+-- Runs that rules watch: what an event leaves as it is and what code learns at it while a rule is about the code, and where a run is
+-- refused.
+use Rattle.std.specs.Prelude.{◌≡◌, ℕ, ◌+◌, ◌-◌, ◌<◌, ◌≤◌, ◌≢◌, ◌++◌, false, List, length, take, map, Option, None, Some, Contains, slice_index, ◌⊎◌}
 use Rattle.std.specs.List.{HoldsAt}
 use Rattle.base.specs.Ram.{ram_base}
 use Rattle.cap_bounds.specs.CapValue.{CapValue}
 use Rattle.tagged_memory.specs.Memory.{has_tag}
 use Rattle.hart.specs.declared.event.Event.{Event}
 use Rattle.hart.specs.Event.{after, outcome, sent}
-use Rattle.hart.specs.Outcome.{Trap}
+use Rattle.hart.specs.Outcome.{Plain, Trap}
 use Rattle.hart.specs.State.{State, pc_of}
 use Rattle.authority.specs.Authority.{SameScrs, SameCsrs}
 use Rattle.authority.specs.Reachable.{IsReachable}
+use Rattle.authority.specs.Worlds.{Agree}
 use Rattle.machine.specs.Run.{run_after, run_sent}
 use Rattle.reach.specs.First.{IsFirst, HoldsOfNone}
 use Rattle.reach.specs.Ranges.{IsInOne}
@@ -44,14 +46,39 @@ pub record LeavesBy (rule : Rule) (e : Event) (s : State) : Type 0 where
   pub system :
       outcome e s ≢ Trap → rule.system ≡ false → SameScrs s.scrs (after e s).scrs × SameCsrs s.csrs (after e s).csrs
 
--- the event leaves as they are what each rule about the code guards
-abbrev pub LeavesByEach : List Rule → Event → State → Type 0
-LeavesByEach rules e s = (rule : Rule) → Contains rules rule → IsAbout rule (pc_of s) → LeavesBy rule e s
+-- The states differ in bytes of RAM outside the rule's ranges for loads and fetches, and in nothing else.
+pub record DiffersOutside (rule : Rule) (s t : State) : Type 0 where
+  pub registers : t.registers ≡ s.registers
+  pub scrs : t.scrs ≡ s.scrs
+  pub csrs : t.csrs ≡ s.csrs
+  pub devices : t.devices ≡ s.devices
+  pub ram : length t.memory.bytes ≡ length s.memory.bytes
+  pub tags : (granule : ℕ) → has_tag t.memory granule ≡ has_tag s.memory granule
+  pub inside :
+      (a : ℕ) → ram_base ≤ a → IsInOne rule.load.items a ⊎ IsInOne rule.execute.items a
+      → slice_index t.memory.bytes (a - ram_base) ≡ slice_index s.memory.bytes (a - ram_base)
+
+-- What code learns at an event by a rule: from each state that differs outside alone the event comes to the same and sends the same; a
+-- plain one comes to states that agree in all that code can look at, and any other to states that differ outside alone.
+pub record LearnsBy (rule : Rule) (e : Event) (s : State) : Type 0 where
+  pub comes_to : (t : State) → DiffersOutside rule s t → outcome e t ≡ outcome e s
+  pub sends : (t : State) → DiffersOutside rule s t → sent e t ≡ sent e s
+  pub agree : (t : State) → DiffersOutside rule s t → outcome e s ≡ Plain → Agree (after e s) (after e t)
+  pub differ : (t : State) → DiffersOutside rule s t → outcome e s ≢ Plain → DiffersOutside rule (after e s) (after e t)
+
+-- the event keeps to a rule
+pub record KeepsTo (rule : Rule) (e : Event) (s : State) : Type 0 where
+  pub leaves : LeavesBy rule e s
+  pub learns : LearnsBy rule e s
+
+-- it keeps to each rule about the code
+abbrev pub KeepsToEach : List Rule → Event → State → Type 0
+KeepsToEach rules e s = (rule : Rule) → Contains rules rule → IsAbout rule (pc_of s) → KeepsTo rule e s
 
 -- each of the first events of a run does
-abbrev pub LeaveByEach : List Rule → List Event → ℕ → State → Type 0
-LeaveByEach rules events done s =
-    (k : ℕ) → k < done → HoldsAt (λ e. LeavesByEach rules e (run_after (take k events) s)) events k
+abbrev pub KeepToEach : List Rule → List Event → ℕ → State → Type 0
+KeepToEach rules events done s =
+    (k : ℕ) → k < done → HoldsAt (λ e. KeepsToEach rules e (run_after (take k events) s)) events k
 
 -- ---- a refusal
 
@@ -85,7 +112,7 @@ pub record IsRunOf (events : List Event) (done : ℕ) (s later : State) (out sen
 pub record StandsMidway (rules : List Rule) (events : List Event) (s later : State) (out sent_too : List ℕ) : Type 0 where
   pub done : ℕ
   pub run : IsRunOf events done s later out sent_too
-  pub kept : LeaveByEach rules events done s
+  pub kept : KeepToEach rules events done s
 
 -- ---- inner words
 

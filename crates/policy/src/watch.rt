@@ -8,7 +8,7 @@ ghost use Rattle.reached.specs.Links.{values};
 ghost use Rattle.reach.specs.First.{HoldsOfNone};
 ghost use Rattle.policy.specs.declared.rule.Rule.{Rule};
 ghost use Rattle.policy.specs.Rule.{BreaksRule};
-ghost use Rattle.policy.specs.Watch.{IsAbout, Holds, LeaveByEach, IsFirstRefused, IsRefused, StandsMidway, WasAbout, AreKnown};
+ghost use Rattle.policy.specs.Watch.{IsAbout, Holds, KeepToEach, IsFirstRefused, IsRefused, StandsMidway, WasAbout, AreKnown};
 
 use crate::breach::first_breach;
 use crate::cover::holds;
@@ -111,11 +111,12 @@ fn refusal<C: CapRep>(
 
 /// Meets events in order, up to the first before which a rule about the code is broken, and appends the sent bytes to `out`.
 ///
-/// Whatever the code is: no event that is met changes what a rule guards while it is about the code. A rule is looked at before an event,
-/// unless it was about the code before the last one too and that one was plain, since then it holds still.
+/// Whatever the code is: no event that is met changes what a rule about the code guards, and what lies outside the rule's ranges for loads
+/// and fetches makes no difference at it. A rule is looked at before an event, unless it was about the code before the last one too and
+/// that one was plain, since then it holds still.
 ///
 /// Room for one byte an event is made before the first event. `NoMemory`: there is none for that, or for a search of what is reachable;
-/// then the machine and `out` stand after the events that were met so far, none of which changed what a rule guards.
+/// then the machine and `out` stand after the events that were met so far, of which the same is true.
 pub fn run_watched<C: CapRep>(
     alloc: Global,
     machine: &mut Machine<C>,
@@ -128,7 +129,7 @@ pub fn run_watched<C: CapRep>(
     ensures some { IfOk result (λ r. r.done ≤ length events.now) }
     ensures whole { IfOk result (λ r. r.refused ≡ None → r.done ≡ length events.now) }
     ensures refused { IfOk result (λ r. IfSome r.refused (λ x. IsRefused rules.now x machine.new)) }
-    ensures kept { IfOk result (λ r. LeaveByEach rules.now events.now r.done machine.old) }
+    ensures kept { IfOk result (λ r. KeepToEach rules.now events.now r.done machine.old) }
     ensures midway { OnErr result (StandsMidway rules.now events.now machine.old machine.new out.old.items out.new.items) }
 {
     out.reserve(events.len())?;

@@ -4,7 +4,7 @@ use Rattle.cap_bounds.specs.CapValue.{value_address}
 use Rattle.hart.specs.State.{pc_of}
 use Rattle.policy.specs.declared.rule.Rule.{Rule}
 use Rattle.policy.specs.Watch.{IsAbout, Holds}
-use Rattle.policy.proofs.Leaving.{leaves-by}
+use Rattle.policy.proofs.Learning.{keeps-to}
 use Rattle.policy.proofs.Looking.{known-after}
 use Rattle.policy.proofs.Runs.{run-none, kept-none, run-more, kept-more, kept-at, on_err}
 use Rattle.policy.proofs.watch.run_watched.Goals as goal
@@ -54,7 +54,7 @@ loop-event-preserved g c =
       run = run-more events i _ below s t c.args.out.now.items l.out.items l.invariant.run next c.emit.new.out.items met.state
           (c.emit.ensures.items ∙ ap (λ b. l.out.items ++ option_to_list b) met.byte);
       kept = kept-more rules events i s t l.invariant.run.state
-          (λ e rule there about. leaves-by t rule (all rule there about) e met.was_state) l.invariant.kept;
+          (λ e rule there about. keeps-to rule t (all rule there about) e met.was_state) l.invariant.kept;
       known = known-after rules t next events i _ c.address-pc.result c.meet-met.result.plain c.then_some-known.result met.was_state met.state
           met.plain c.then_some-known.ensures is all;
       room = omega (arith, c.emit.ensures.len, c.emit.ensures.room, l.invariant.room);

@@ -1,5 +1,5 @@
 use Rattle.std.proofs.Common.{◌≡◌, ◌+◌, ◌-◌, ◌≤◌, length, vec_len, vec_capacity}
-use Rattle.policy.specs.Watch.{AreKnown, IsRunOf, LeaveByEach}
+use Rattle.policy.specs.Watch.{AreKnown, IsRunOf, KeepToEach}
 use Rattle.policy.proofs.watch.run_watched.Given as goal
 
 -- the run so far, and the rules that are known to hold
@@ -7,7 +7,7 @@ abbrev pub invariant-loop-event : goal.invariant-loop-event
 invariant-loop-event g l = record {
   done : l.done ≡ l.event-index;
   run : IsRunOf l.events l.event-index l.fn.machine l.machine l.fn.out.items l.out.items;
-  kept : LeaveByEach l.rules l.events l.event-index l.fn.machine;
+  kept : KeepToEach l.rules l.events l.event-index l.fn.machine;
   known : AreKnown l.rules l.known l.machine;
   room : vec_len l.out + (length l.events - l.event-index) ≤ vec_capacity l.out;
 }
