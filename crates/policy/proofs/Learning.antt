@@ -1,22 +1,21 @@
 -- What code learns at an event while a rule holds: states that differ outside its ranges for loads and fetches alone agree.
-use Rattle.std.proofs.Common.{◌≡◌, ℕ, ◌+◌, ◌-◌, ◌%◌, ◌^◌, ◌≤◌, Option, None, Some, length, get_or, refl, sym, ap, ◌∙◌, subst, inl, inr, ◌⊎◌}
-use Rattle.std.specs.Prelude.{◌≢◌}
+use Rattle.std.proofs.Common.{◌≡◌, ℕ, ◌-◌, ◌≤◌, Option, None, Some, refl, sym, ap, ◌∙◌, subst, inl, inr, ◌⊎◌}
 use Rattle.base.specs.Ram.{ram_base}
-use Rattle.cap_bounds.specs.CapValue.{CapValue, value_address}
-use Rattle.tagged_memory.specs.Memory.{has_tag}
+use Rattle.base.specs.Size.{bytes_of}
+use Rattle.cap_bounds.specs.CapValue.{CapValue, word_of, is_tagged}
+use Rattle.tagged_memory.specs.AccessLaws.{in_ram-place_fault}
+use Rattle.tagged_memory.specs.Memory.{Memory}
 use Rattle.hart.specs.declared.effect.Effect.{Effect}
 use Rattle.hart.specs.declared.effect.Effect.TheVariants as effect
 use Rattle.hart.specs.declared.event.Event.{Event}
 use Rattle.hart.specs.declared.event.Event.TheVariants.{Step, Tick, Byte}
-use Rattle.hart.specs.Effect.{applied, moved, counted}
-use Rattle.hart.specs.Event.{after, outcome}
+use Rattle.hart.specs.AppliedLaws.{IsSoundEffect}
+use Rattle.hart.specs.Effect.{applied}
+use Rattle.hart.specs.Event.{after}
+use Rattle.hart.specs.EventLaws.{step_effect-sound}
 use Rattle.hart.specs.IsState.{IsState}
-use Rattle.hart.specs.Outcome.{Plain, outcome_of, step_outcome_unless, step_outcome}
 use Rattle.hart.specs.State.{State}
 use Rattle.hart.specs.Step.{step_effect, stepped_unless, stepped}
-use Rattle.registers.specs.Registers.{with_register}
-use Rattle.special_regs.specs.Csrs.{cycle_counted}
-use Rattle.special_regs.specs.Traps.{trapped_scrs, trapped_csrs, returned_scrs, returned_csrs}
 use Rattle.authority.specs.AgreeLaws.{looks-agree}
 use Rattle.authority.specs.SameEffectLaws.{step_effect-same}
 use Rattle.authority.specs.TwoWorldsLaws.{event-agrees, outcome-same, sent-same}
@@ -27,57 +26,73 @@ use Rattle.policy.specs.declared.rule.Ban.TheVariants as ban
 use Rattle.policy.specs.Watch.{Holds, DiffersOutside, LearnsBy, KeepsTo}
 use Rattle.policy.proofs.Covers.{in_or_out}
 use Rattle.policy.proofs.Leaving.{leaves-by}
+use Rattle.policy.proofs.Memories.{AreSameWhere, same-number, same-value}
 
 module _ (rule : Rule) where
-  -- ---- memory that is left
+  -- ---- states with another memory
 
-  differs-by : (s t u v : State) → DiffersOutside rule s t → v.registers ≡ u.registers → v.scrs ≡ u.scrs → v.csrs ≡ u.csrs
-      → v.devices ≡ u.devices → u.memory ≡ s.memory → v.memory ≡ t.memory → DiffersOutside rule u v
-  differs-by s t u v differs registers scrs csrs devices here there = record {
+  -- the addresses whose bytes code may learn
+  abbrev Seen : ℕ → Type 0
+  Seen a = IsInOne rule.load.items a ⊎ IsInOne rule.execute.items a
+
+  differs-by : (u v : State) → v.registers ≡ u.registers → v.scrs ≡ u.scrs → v.csrs ≡ u.csrs → v.devices ≡ u.devices
+      → AreSameWhere Seen u.memory v.memory → DiffersOutside rule u v
+  differs-by u v registers scrs csrs devices memory = record {
     registers = registers;
     scrs = scrs;
     csrs = csrs;
     devices = devices;
-    ram = ap (λ m. length m.bytes) there ∙ differs.ram ∙ sym (ap (λ m. length m.bytes) here);
-    tags = λ granule. ap (λ m. has_tag m granule) there ∙ differs.tags granule ∙ sym (ap (λ m. has_tag m granule) here);
-    inside = λ a low one. ap (λ m. get_or m.bytes (a - ram_base) 0) there ∙ differs.inside a low one
-        ∙ sym (ap (λ m. get_or m.bytes (a - ram_base) 0) here);
+    ram = memory.size;
+    tags = memory.tags;
+    inside = memory.bytes;
   }
 
-  differs-applied : (e : Effect CapValue) (s t : State) → outcome_of e ≢ Plain → DiffersOutside rule s t
-      → DiffersOutside rule (applied e s) (applied e t)
-  unfolding applied outcome_of
-  differs-applied (effect.Trap fault) s t other differs =
-      differs-by s t (applied (effect.Trap fault) s) (applied (effect.Trap fault) t) differs differs.registers
-      (ap (trapped_scrs fault) differs.scrs) (ap (λ c. cycle_counted (trapped_csrs fault c)) differs.csrs) differs.devices refl refl
-  differs-applied (effect.Unseal w) s t other differs =
-      differs-by s t (applied (effect.Unseal w) s) (applied (effect.Unseal w) t) differs
-      (ap (λ r. with_register r w.rd w.value) differs.registers)
-      (ap (λ x. moved ((value_address x.pcc + 4) % 2 ^ 64) x) differs.scrs) (ap counted differs.csrs) differs.devices refl refl
-  differs-applied (effect.Enter e) s t other differs =
-      differs-by s t (applied (effect.Enter e) s) (applied (effect.Enter e) t) differs
-      (ap (λ r. with_register r e.rd e.link) differs.registers)
-      (ap (λ x. moved e.target (record x { pcc = e.code })) differs.scrs) (ap counted differs.csrs) differs.devices refl refl
-  differs-applied (effect.Return closed) s t other differs =
-      differs-by s t (applied (effect.Return closed) s) (applied (effect.Return closed) t) differs differs.registers
-      (ap returned_scrs differs.scrs) (ap (λ c. counted (returned_csrs c)) differs.csrs) differs.devices refl refl
-  differs-applied _ s t other differs = absurd (other refl)
+  memory-differs : (s t : State) → DiffersOutside rule s t → AreSameWhere Seen s.memory t.memory
+  memory-differs s t differs = record { size = differs.ram; bytes = differs.inside; tags = differs.tags }
 
-  differs-stepped : (s t : State) (halted : Option ℕ) → step_effect t ≡ step_effect s → step_outcome_unless halted s ≢ Plain
-      → DiffersOutside rule s t → DiffersOutside rule (stepped_unless halted s) (stepped_unless halted t)
-  differs-stepped s t None same other differs =
-      subst (λ e. DiffersOutside rule (applied (step_effect s) s) (applied e t)) (sym same)
-      (differs-applied (step_effect s) s t other differs)
-  differs-stepped s t (Some number) same other differs = absurd (other refl)
+  abbrev swapped : State → Memory → State
+  swapped s m = record s { memory = m }
 
-  differs-after : (s t : State) (e : Event) → step_effect t ≡ step_effect s → outcome e s ≢ Plain → DiffersOutside rule s t
+  is_swapped : (s t : State) → DiffersOutside rule s t → t ≡ swapped s t.memory
+  is_swapped s t differs =
+      ap (λ r. record t { registers = r }) differs.registers
+      ∙ ap (λ x. record t { registers = s.registers; scrs = x }) differs.scrs
+      ∙ ap (λ c. record t { registers = s.registers; scrs = s.scrs; csrs = c }) differs.csrs
+      ∙ ap (λ d. record t { registers = s.registers; scrs = s.scrs; csrs = s.csrs; devices = d }) differs.devices
+
+  module _ (s : State) (m : Memory) (same : AreSameWhere Seen s.memory m) where
+    differs-applied : (e : Effect CapValue) → IsSoundEffect e s → DiffersOutside rule (applied e s) (applied e (swapped s m))
+    unfolding applied
+    differs-applied (effect.Store w) sound =
+        differs-by (applied (effect.Store w) s) (applied (effect.Store w) (swapped s m)) refl refl refl refl
+        (same-number Seen s.memory m same w.address (bytes_of w.size) w.number sound)
+    differs-applied (effect.StoreCapability w) sound =
+        differs-by (applied (effect.StoreCapability w) s) (applied (effect.StoreCapability w) (swapped s m)) refl refl refl refl
+        (same-value Seen s.memory m same w.address (word_of w.value) (is_tagged w.value)
+        (in_ram-place_fault s.memory w.address 16 sound.0))
+    differs-applied e sound = differs-by (applied e s) (applied e (swapped s m)) refl refl refl refl same
+
+    differs-stepped : (halted : Option ℕ) → step_effect (swapped s m) ≡ step_effect s → IsState s
+        → DiffersOutside rule (stepped_unless halted s) (stepped_unless halted (swapped s m))
+    differs-stepped None effects is =
+        subst (λ e. DiffersOutside rule (applied (step_effect s) s) (applied e (swapped s m))) (sym effects)
+        (differs-applied (step_effect s) (step_effect-sound s is))
+    differs-stepped (Some number) effects is = differs-by s (swapped s m) refl refl refl refl same
+
+    differs-swapped : (e : Event) → step_effect (swapped s m) ≡ step_effect s → IsState s
+        → DiffersOutside rule (after e s) (after e (swapped s m))
+    unfolding stepped
+    differs-swapped Step effects is = differs-stepped s.devices.halted effects is
+    differs-swapped Tick effects is = differs-by (after Tick s) (after Tick (swapped s m)) refl refl refl refl same
+    differs-swapped (Byte b) effects is = differs-by (after (Byte b) s) (after (Byte b) (swapped s m)) refl refl refl refl same
+
+  differs-after : (s t : State) (e : Event) → step_effect t ≡ step_effect s → IsState s → DiffersOutside rule s t
       → DiffersOutside rule (after e s) (after e t)
-  unfolding stepped step_outcome
-  differs-after s t Step same other differs =
-      subst (λ d. DiffersOutside rule (stepped_unless s.devices.halted s) (stepped_unless d.halted t)) (sym differs.devices)
-      (differs-stepped s t s.devices.halted same other differs)
-  differs-after s t Tick same other differs = absurd (other refl)
-  differs-after s t (Byte b) same other differs = absurd (other refl)
+  differs-after s t e effects is differs =
+      let path : t ≡ swapped s t.memory = is_swapped s t differs in
+      subst (λ u. DiffersOutside rule (after e s) (after e u)) (sym path)
+      (differs-swapped s t.memory (memory-differs s t differs) e
+      (subst (λ u. step_effect u ≡ step_effect s) path effects) is)
 
   -- ---- a rule that holds
 
@@ -139,8 +154,7 @@ module _ (rule : Rule) where
       comes_to = λ t differs. outcome-same s t (agrees t differs) e;
       sends = λ t differs. sent-same s t (agrees t differs) e;
       agree = λ t differs plain. event-agrees e s t is plain (agrees t differs);
-      differ = λ t differs other.
-          differs-after s t e (step_effect-same s t (looks-agree s t (agrees t differs))) other differs;
+      differ = λ t differs. differs-after s t e (step_effect-same s t (looks-agree s t (agrees t differs))) is differs;
     }
 
     pub keeps-to : (e : Event) → IsState s → KeepsTo rule e s

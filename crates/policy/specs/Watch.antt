@@ -58,13 +58,13 @@ pub record DiffersOutside (rule : Rule) (s t : State) : Type 0 where
       (a : ℕ) → ram_base ≤ a → IsInOne rule.load.items a ⊎ IsInOne rule.execute.items a
       → slice_index t.memory.bytes (a - ram_base) ≡ slice_index s.memory.bytes (a - ram_base)
 
--- What code learns at an event by a rule: from each state that differs outside alone the event comes to the same and sends the same; a
--- plain one comes to states that agree in all that code can look at, and any other to states that differ outside alone.
+-- What code learns at an event by a rule: from each state that differs outside alone the event comes to the same and sends the same, and
+-- the states after it differ outside alone; after a plain event they agree in all that code can look at.
 pub record LearnsBy (rule : Rule) (e : Event) (s : State) : Type 0 where
   pub comes_to : (t : State) → DiffersOutside rule s t → outcome e t ≡ outcome e s
   pub sends : (t : State) → DiffersOutside rule s t → sent e t ≡ sent e s
+  pub differ : (t : State) → DiffersOutside rule s t → DiffersOutside rule (after e s) (after e t)
   pub agree : (t : State) → DiffersOutside rule s t → outcome e s ≡ Plain → Agree (after e s) (after e t)
-  pub differ : (t : State) → DiffersOutside rule s t → outcome e s ≢ Plain → DiffersOutside rule (after e s) (after e t)
 
 -- the event keeps to a rule
 pub record KeepsTo (rule : Rule) (e : Event) (s : State) : Type 0 where
