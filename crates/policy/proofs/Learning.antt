@@ -1,5 +1,5 @@
 -- What code learns at an event while a rule holds: states that differ outside its ranges for loads and fetches alone agree.
-use Rattle.std.proofs.Common.{◌≡◌, ℕ, ◌-◌, ◌≤◌, Option, None, Some, refl, sym, ap, ◌∙◌, subst, inl, inr, ◌⊎◌}
+use Rattle.std.proofs.Common.{◌≡◌, ℕ, ◌≤◌, Option, None, Some, refl, sym, ap, ◌∙◌, subst, inl, inr, ◌⊎◌}
 use Rattle.base.specs.Ram.{ram_base}
 use Rattle.base.specs.Size.{bytes_of}
 use Rattle.cap_bounds.specs.CapValue.{CapValue, word_of, is_tagged}
@@ -158,4 +158,4 @@ module _ (rule : Rule) where
     }
 
     pub keeps-to : (e : Event) → IsState s → KeepsTo rule e s
-    keeps-to e is = record { leaves = leaves-by s rule holds e is; learns = learns-by e is }
+    keeps-to e is = record { holds = holds; leaves = leaves-by s rule holds e is; learns = learns-by e is }

@@ -6,3 +6,4 @@ pub mod Memories
 pub mod Learning
 pub mod Runs
 pub mod Looking
+pub mod Whole

@@ -39,8 +39,8 @@ module _ (h s : State) (same_state : h ≡ s) (rules : List Rule) (pc : ℕ) (sa
       → IfNone o ((rule : Rule) → Contains rules rule → IsAbout rule (pc_of s) → Holds rule s)
   holds-in o =
       none-map _ _ o (λ none rule there about v reachable.
-          none rule there (subst (IsAbout rule) (sym same_pc) about) v
-          ((subst (λ t. AreReachable t (values value members)) same_state are).complete v reachable))
+      none rule there (subst (IsAbout rule) (sym same_pc) about) v
+      ((subst (λ t. AreReachable t (values value members)) same_state are).complete v reachable))
 
 -- after a plain event the rules about the code before it are known to hold
 known-if : (rules : List Rule) (s : State) (pc : ℕ) (plain : Bool) (known : Option ℕ) → known ≡ then_some plain pc

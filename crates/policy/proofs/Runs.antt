@@ -35,11 +35,11 @@ on_err (Err y) A holds = holds
 
 -- ---- runs
 
-run_after-append : (es : List Event) (e : Event) (s : State) → run_after (es ++ e ∷ []) s ≡ after e (run_after es s)
+pub run_after-append : (es : List Event) (e : Event) (s : State) → run_after (es ++ e ∷ []) s ≡ after e (run_after es s)
 run_after-append [] e s = refl
 run_after-append (x ∷ es) e s = run_after-append es e (after x s)
 
-run_sent-append : (es : List Event) (e : Event) (s : State)
+pub run_sent-append : (es : List Event) (e : Event) (s : State)
     → run_sent (es ++ e ∷ []) s ≡ run_sent es s ++ option_to_list (sent e (run_after es s))
 run_sent-append [] e s = append-nil (option_to_list (sent e s))
 run_sent-append (x ∷ es) e s =

@@ -66,8 +66,9 @@ pub record LearnsBy (rule : Rule) (e : Event) (s : State) : Type 0 where
   pub differ : (t : State) → DiffersOutside rule s t → DiffersOutside rule (after e s) (after e t)
   pub agree : (t : State) → DiffersOutside rule s t → outcome e s ≡ Plain → Agree (after e s) (after e t)
 
--- the event keeps to a rule
+-- the event keeps to a rule, which nothing breaks that is reachable before it
 pub record KeepsTo (rule : Rule) (e : Event) (s : State) : Type 0 where
+  pub holds : Holds rule s
   pub leaves : LeavesBy rule e s
   pub learns : LearnsBy rule e s
 
@@ -79,6 +80,10 @@ KeepsToEach rules e s = (rule : Rule) → Contains rules rule → IsAbout rule (
 abbrev pub KeepToEach : List Rule → List Event → ℕ → State → Type 0
 KeepToEach rules events done s =
     (k : ℕ) → k < done → HoldsAt (λ e. KeepsToEach rules e (run_after (take k events) s)) events k
+
+-- the rule is about the code before each of them
+abbrev pub IsAboutEach : Rule → List Event → ℕ → State → Type 0
+IsAboutEach rule events done s = (k : ℕ) → k < done → IsAbout rule (pc_of (run_after (take k events) s))
 
 -- ---- a refusal
 

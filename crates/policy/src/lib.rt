@@ -4,6 +4,7 @@
 mod breach;
 mod cover;
 mod fault;
+pub mod laws;
 mod meet;
 mod rule;
 mod watch;
