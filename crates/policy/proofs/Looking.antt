@@ -17,7 +17,8 @@ use Rattle.reach.specs.Reach.{AreReachable, members_in}
 use Rattle.policy.specs.declared.rule.Rule.{Rule}
 use Rattle.policy.specs.declared.watch.Refused.{Refused}
 use Rattle.policy.specs.Rule.{BreaksRule}
-use Rattle.policy.specs.Watch.{IsAbout, Holds, IsFirstRefused, IsRefused, values_in, AreKnown}
+use Rattle.policy.specs.Watch.{IsAbout, Holds, IsFirstRefused, IsRefused, values_in}
+use Rattle.policy.specs.Known.{AreKnown}
 use Rattle.policy.proofs.Rights.{holds-after}
 use Rattle.policy.proofs.Runs.{some-map, none-map}
 
@@ -48,8 +49,9 @@ known-if : (rules : List Rule) (s : State) (pc : ℕ) (plain : Bool) (known : Op
 known-if rules s pc true known same hold = subst (λ o. AreKnown rules o s) (sym same) (hold refl)
 known-if rules s pc false known same hold = subst (λ o. AreKnown rules o s) (sym same) (λ rule there about. absurd about)
 
-pub known-after : (rules : List Rule) (t next : State) (events : List Event) (i : ℕ) (d : Event) (pc : ℕ) (plain : Bool) (known : Option ℕ) → IsState t
-    → next ≡ after (get_or events i d) t → (plain ≡ true → outcome (get_or events i d) t ≡ Plain) → known ≡ then_some plain pc → pc ≡ pc_of t
+pub known-after : (rules : List Rule) (t next : State) (events : List Event) (i : ℕ) (d : Event) (pc : ℕ) (plain : Bool)
+    (known : Option ℕ) → IsState t → next ≡ after (get_or events i d) t → (plain ≡ true → outcome (get_or events i d) t ≡ Plain)
+    → known ≡ then_some plain pc → pc ≡ pc_of t
     → ((rule : Rule) → Contains rules rule → IsAbout rule (pc_of t) → Holds rule t) → AreKnown rules known next
 known-after rules t next events i d pc plain known is met is_plain same same_pc all =
     known-if rules next pc plain known same (λ yes rule there about. subst (Holds rule) (sym met)

@@ -3,3 +3,4 @@ pub mod Rule
 pub mod Watch
 -- Inner words
 pub mod Cover
+pub mod Known

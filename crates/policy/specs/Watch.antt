@@ -1,6 +1,7 @@
 -- Runs that rules watch: what an event leaves as it is and what code learns at it while a rule is about the code, and where a run is
 -- refused.
-use Rattle.std.specs.Prelude.{◌≡◌, ℕ, ◌+◌, ◌-◌, ◌<◌, ◌≤◌, ◌≢◌, ◌++◌, false, List, length, take, map, Option, None, Some, Contains, slice_index, ◌⊎◌}
+use Rattle.std.specs.Prelude.{◌≡◌, ℕ, ◌+◌, ◌-◌, ◌<◌, ◌≤◌, ◌≢◌, ◌++◌, false, List, length, take, map, None, Contains}
+use Rattle.std.specs.Prelude.{slice_index, ◌⊎◌}
 use Rattle.std.specs.List.{HoldsAt}
 use Rattle.base.specs.Ram.{ram_base}
 use Rattle.cap_bounds.specs.CapValue.{CapValue}
@@ -108,24 +109,13 @@ pub record IsRefused (rules : List Rule) (x : Refused) (s : State) : Type 0 wher
 -- ---- a run
 
 -- a run over the first `done` of some events, with the bytes that it sends
-pub record IsRunOf (events : List Event) (done : ℕ) (s later : State) (out sent_too : List ℕ) : Type 0 where
+pub record IsRunOf (events : List Event) (done : ℕ) (s later : State) (out out_later : List ℕ) : Type 0 where
   pub some : done ≤ length events
   pub state : later ≡ run_after (take done events) s
-  pub bytes : sent_too ≡ out ++ run_sent (take done events) s
+  pub bytes : out_later ≡ out ++ run_sent (take done events) s
 
 -- it stands after some of the events
-pub record StandsMidway (rules : List Rule) (events : List Event) (s later : State) (out sent_too : List ℕ) : Type 0 where
+pub record StandsMidway (rules : List Rule) (events : List Event) (s later : State) (out out_later : List ℕ) : Type 0 where
   pub done : ℕ
-  pub run : IsRunOf events done s later out sent_too
+  pub run : IsRunOf events done s later out out_later
   pub kept : KeepToEach rules events done s
-
--- ---- inner words
-
--- the rule is about the code at an address that is known
-abbrev pub WasAbout : Option ℕ → Rule → Type 0
-WasAbout None rule = ⊥
-WasAbout (Some pc) rule = IsAbout rule pc
-
--- each rule about the code there holds
-abbrev pub AreKnown : List Rule → Option ℕ → State → Type 0
-AreKnown rules known s = (rule : Rule) → Contains rules rule → WasAbout known rule → Holds rule s

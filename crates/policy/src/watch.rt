@@ -1,5 +1,6 @@
 //! Runs that are watched: before each event the rules about the code are looked at, unless they are known to hold.
-ghost use Rattle.std.specs.Prelude.{◌≡◌, ◌↔◌, ℕ, ◌+◌, ◌<◌, ◌≤◌, ◌++◌, None, length, take, Contains, IfErr, IfNone, IfOk, IfSome, IsTrue, OnErr};
+ghost use Rattle.std.specs.Prelude.{◌≡◌, ◌↔◌, ℕ, ◌+◌, ◌<◌, ◌≤◌, ◌++◌, None, length, take, Contains, IfErr, IfNone, IfOk, IfSome, IsTrue};
+ghost use Rattle.std.specs.Prelude.{OnErr};
 ghost use Rattle.hart.specs.Event.{after};
 ghost use Rattle.hart.specs.IsState.{IsState};
 ghost use Rattle.hart.specs.State.{pc_of};
@@ -8,7 +9,8 @@ ghost use Rattle.reached.specs.Links.{values};
 ghost use Rattle.reach.specs.First.{HoldsOfNone};
 ghost use Rattle.policy.specs.declared.rule.Rule.{Rule};
 ghost use Rattle.policy.specs.Rule.{BreaksRule};
-ghost use Rattle.policy.specs.Watch.{IsAbout, Holds, KeepToEach, IsFirstRefused, IsRefused, StandsMidway, WasAbout, AreKnown};
+ghost use Rattle.policy.specs.Watch.{IsAbout, Holds, KeepToEach, IsFirstRefused, IsRefused, StandsMidway};
+ghost use Rattle.policy.specs.Known.{WasAbout, AreKnown};
 
 use crate::breach::first_breach;
 use crate::cover::holds;

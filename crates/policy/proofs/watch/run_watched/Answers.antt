@@ -55,7 +55,7 @@ loop-event-preserved g c =
           (c.emit.ensures.items ∙ ap (λ b. l.out.items ++ option_to_list b) met.byte);
       kept = kept-more rules events i s t l.invariant.run.state
           (λ e rule there about. keeps-to rule t (all rule there about) e met.was_state) l.invariant.kept;
-      known = known-after rules t next events i _ c.address-pc.result c.meet-met.result.plain c.then_some-known.result met.was_state met.state
-          met.plain c.then_some-known.ensures is all;
+      known = known-after rules t next events i _ c.address-pc.result c.meet-met.result.plain c.then_some-known.result
+          met.was_state met.state met.plain c.then_some-known.ensures is all;
       room = omega (arith, c.emit.ensures.len, c.emit.ensures.room, l.invariant.room);
     }

@@ -1,5 +1,6 @@
 use Rattle.std.proofs.Common.{◌≡◌, ◌+◌, ◌-◌, ◌≤◌, length, vec_len, vec_capacity}
-use Rattle.policy.specs.Watch.{AreKnown, IsRunOf, KeepToEach}
+use Rattle.policy.specs.Known.{AreKnown}
+use Rattle.policy.specs.Watch.{IsRunOf, KeepToEach}
 use Rattle.policy.proofs.watch.run_watched.Given as goal
 
 -- the run so far, and the rules that are known to hold
