@@ -4,6 +4,7 @@ use Rattle.std.proofs.Common.{subst, arith}
 use Rattle.std.proofs.lemmas.List.{take_more}
 use Rattle.std.specs.Prelude.{Contains, option_to_list}
 use Rattle.base.specs.Ram.{ram_base}
+use Rattle.tagged_memory.specs.Memory.{has_tag}
 use Rattle.hart.specs.declared.event.Event.{Event}
 use Rattle.hart.specs.declared.event.Event.TheVariants.{Step}
 use Rattle.hart.specs.Event.{after, sent}
@@ -11,8 +12,27 @@ use Rattle.hart.specs.State.{State}
 use Rattle.machine.specs.Run.{run_after, run_sent}
 use Rattle.reach.specs.Ranges.{IsInOne}
 use Rattle.policy.specs.declared.rule.Rule.{Rule}
-use Rattle.policy.specs.Watch.{KeepsTo, KeepToEach, IsAboutEach, DiffersOutside}
+use Rattle.policy.specs.Watch.{KeepsTo, KeepToEach, IsAboutEach, NoneTraps, DiffersOutside}
+use Rattle.policy.proofs.Leaving.{SameSystem}
 use Rattle.policy.proofs.Runs.{run_after-append, run_sent-append}
+
+same-trans : (s t u : State) → SameSystem s t → SameSystem t u → SameSystem s u
+same-trans s t u one two = (
+  record {
+    mtcc = two.0.mtcc ∙ one.0.mtcc;
+    mtdc = two.0.mtdc ∙ one.0.mtdc;
+    mscratchc = two.0.mscratchc ∙ one.0.mscratchc;
+    mepcc = two.0.mepcc ∙ one.0.mepcc;
+  },
+  record {
+    mstatus_mie = two.1.mstatus_mie ∙ one.1.mstatus_mie;
+    mstatus_mpie = two.1.mstatus_mpie ∙ one.1.mstatus_mpie;
+    mie = two.1.mie ∙ one.1.mie;
+    mscratch = two.1.mscratch ∙ one.1.mscratch;
+    mcause = two.1.mcause ∙ one.1.mcause;
+    mtval = two.1.mtval ∙ one.1.mtval;
+  },
+)
 
 module _ (rules : List Rule) (rule : Rule) (events : List Event) (there : Contains rules rule) where
   abbrev at : ℕ → Event
@@ -60,6 +80,24 @@ module _ (rules : List Rule) (rule : Rule) (events : List Event) (there : Contai
         ap (λ x. get_or x.memory.bytes (a - ram_base) 0) (state-more n (inside n g) s)
         ∙ (last n g).leaves.bytes a low outside ∙ bytes n (fewer n g) a low outside
 
+    tags : (done : ℕ) → Guards done → (granule : ℕ) → ram_base ≤ granule
+        → ((a : ℕ) → granule ≤ a → a < granule + 16 → IsInOne rule.store.items a → ⊥)
+        → has_tag (state s done).memory granule ≡ has_tag s.memory granule
+    tags zero g granule low outside = refl
+    tags (suc n) g granule low outside =
+        ap (λ x. has_tag x.memory granule) (state-more n (inside n g) s)
+        ∙ (last n g).leaves.tags granule low outside ∙ tags n (fewer n g) granule low outside
+
+    system : (done : ℕ) → Guards done → rule.system ≡ false → NoneTraps events done s → SameSystem s (state s done)
+    system zero g banned none = (
+      record { mtcc = refl; mtdc = refl; mscratchc = refl; mepcc = refl },
+      record { mstatus_mie = refl; mstatus_mpie = refl; mie = refl; mscratch = refl; mcause = refl; mtval = refl },
+    )
+    system (suc n) g banned none =
+        subst (SameSystem s) (sym (state-more n (inside n g) s))
+        (same-trans s (state s n) (after (at n) (state s n)) (system n (fewer n g) banned (λ k few. none k (omega arith)))
+        ((last n g).leaves.system (none n (omega arith) Step) banned))
+
     silent : (done : ℕ) → Guards done → rule.transmit ≡ false → run_sent (take done events) s ≡ []
     silent zero g banned = refl
     silent (suc n) g banned =
@@ -99,6 +137,14 @@ module _ (rules : List Rule) (rule : Rule) (events : List Event) (there : Contai
       pub bytes-stay : (a : ℕ) → ram_base ≤ a → (IsInOne rule.store.items a → ⊥)
           → get_or (state s done).memory.bytes (a - ram_base) 0 ≡ get_or s.memory.bytes (a - ram_base) 0
       bytes-stay = bytes done guards
+
+      pub tags-stay : (granule : ℕ) → ram_base ≤ granule
+          → ((a : ℕ) → granule ≤ a → a < granule + 16 → IsInOne rule.store.items a → ⊥)
+          → has_tag (state s done).memory granule ≡ has_tag s.memory granule
+      tags-stay = tags done guards
+
+      pub system-stays : rule.system ≡ false → NoneTraps events done s → SameSystem s (state s done)
+      system-stays = system done guards
 
       pub nothing-sent : rule.transmit ≡ false → run_sent (take done events) s ≡ []
       nothing-sent = silent done guards

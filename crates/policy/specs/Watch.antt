@@ -86,6 +86,10 @@ KeepToEach rules events done s =
 abbrev pub IsAboutEach : Rule → List Event → ℕ → State → Type 0
 IsAboutEach rule events done s = (k : ℕ) → k < done → IsAbout rule (pc_of (run_after (take k events) s))
 
+-- none of them traps
+abbrev pub NoneTraps : List Event → ℕ → State → Type 0
+NoneTraps events done s = (k : ℕ) → k < done → HoldsAt (λ e. outcome e (run_after (take k events) s) ≢ Trap) events k
+
 -- ---- a refusal
 
 -- Of some values the first rule that is about code at an address and that one of them breaks; the first that does, and the first part

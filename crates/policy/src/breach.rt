@@ -1,7 +1,6 @@
 //! The first member that breaks a rule.
-ghost use Rattle.std.specs.Prelude.{◌≡◌, ◌↔◌, IfNone, IfSome, IsTrue, false};
+ghost use Rattle.std.specs.Prelude.{◌↔◌, IfNone, IfSome, IsTrue};
 ghost use Rattle.std.specs.List.{HoldsAt};
-ghost use Rattle.cap_bounds.specs.CapValue.{is_sealed};
 ghost use Rattle.cap_rights.specs.Rights.{OpensSystem, OpensStore};
 ghost use Rattle.reached.specs.Links.{values};
 ghost use Rattle.reach.specs.First.{IsFirst, HoldsOfNone};

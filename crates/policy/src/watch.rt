@@ -1,8 +1,5 @@
 //! Runs that are watched: before each event the rules about the code are looked at, unless they are known to hold.
-ghost use Rattle.std.specs.Prelude.{◌≡◌, ◌↔◌, ℕ, ◌+◌, ◌<◌, ◌≤◌, ◌++◌, None, length, take, Contains, IfErr, IfNone, IfOk, IfSome, IsTrue};
-ghost use Rattle.std.specs.Prelude.{OnErr};
-ghost use Rattle.hart.specs.Event.{after};
-ghost use Rattle.hart.specs.IsState.{IsState};
+ghost use Rattle.std.specs.Prelude.{◌≡◌, ◌↔◌, ◌≤◌, ◌++◌, None, length, take, Contains, IfNone, IfOk, IfSome, IsTrue, OnErr};
 ghost use Rattle.hart.specs.State.{pc_of};
 ghost use Rattle.machine.specs.Run.{run_after, run_sent};
 ghost use Rattle.reached.specs.Links.{values};

@@ -1,8 +1,14 @@
-use Rattle.policy.proofs.Whole.{bytes-stay, nothing-sent, halted-stays, compare-stays, sends-same, ends-same}
+use Rattle.policy.proofs.Whole.{bytes-stay, tags-stay, system-stays, nothing-sent, halted-stays, compare-stays, sends-same, ends-same}
 use Rattle.policy.proofs.laws.runs_keep_to_a_rule.Goals as goal
 
 pub returns-clause-bytes : goal.returns-clause-bytes
 returns-clause-bytes c = λ rules rule events done s some keep there about. bytes-stay rules rule events there s done some keep about
+
+pub returns-clause-tags : goal.returns-clause-tags
+returns-clause-tags c = λ rules rule events done s some keep there about. tags-stay rules rule events there s done some keep about
+
+pub returns-clause-system : goal.returns-clause-system
+returns-clause-system c = λ rules rule events done s some keep there about. system-stays rules rule events there s done some keep about
 
 pub returns-clause-silent : goal.returns-clause-silent
 returns-clause-silent c = λ rules rule events done s some keep there about. nothing-sent rules rule events there s done some keep about
