@@ -112,7 +112,7 @@ fn refusal<C: CapRep>(
 ///
 /// Whatever the code is: no event that is met changes what a rule about the code guards, and what lies outside the rule's ranges for loads
 /// and fetches makes no difference at it. A rule is looked at before an event, unless it was about the code before the last one too and
-/// that one was plain, since then it holds still.
+/// that one was plain, after which it still holds.
 ///
 /// Room for one byte an event is made before the first event. `NoMemory`: there is none for that, or for a search of what is reachable;
 /// then the machine and `out` stand after the events that were met so far, of which the same is true.
