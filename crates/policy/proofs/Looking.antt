@@ -1,0 +1,58 @@
+-- What a look at a state says, where its reach is known.
+use Rattle.std.proofs.Common.{◌≡◌, ℕ, List, get_or, map, ap, sym, ◌∙◌, subst, Bool, true, false, refl}
+use Rattle.std.specs.Bool.{then_some}
+use Rattle.std.specs.Prelude.{Option, IfSome, IfNone, Contains}
+use Rattle.cap_bounds.specs.CapValue.{CapValue}
+use Rattle.hart.specs.declared.event.Event.{Event}
+use Rattle.hart.specs.Event.{after, outcome}
+use Rattle.hart.specs.IsState.{IsState}
+use Rattle.hart.specs.Outcome.{Plain}
+use Rattle.hart.specs.State.{State, pc_of}
+use Rattle.reached.specs.Links.{values}
+use Rattle.reached.specs.Order.{seen_members}
+use Rattle.reached.specs.declared.member.Member.{Member}
+use Rattle.reach.proofs.Reaches.{values_seen}
+use Rattle.reach.specs.First.{HoldsOfNone}
+use Rattle.reach.specs.Reach.{AreReachable, members_in}
+use Rattle.policy.specs.declared.rule.Rule.{Rule}
+use Rattle.policy.specs.declared.watch.Refused.{Refused}
+use Rattle.policy.specs.Rule.{BreaksRule}
+use Rattle.policy.specs.Watch.{IsAbout, Holds, IsFirstRefused, IsRefused, values_in}
+use Rattle.policy.specs.Known.{AreKnown}
+use Rattle.policy.proofs.Rights.{holds-after}
+use Rattle.policy.proofs.Runs.{some-map, none-map}
+
+module _ (h s : State) (same_state : h ≡ s) (rules : List Rule) (pc : ℕ) (same_pc : pc ≡ pc_of s) {X : Type 0} (value : X → CapValue)
+    (members : List (Member X)) (are : AreReachable h (values value members)) where
+  pub refused-in : seen_members value members ≡ members_in h → (o : Option Refused)
+      → IfSome o (IsFirstRefused rules pc (values value members)) → IfSome o (λ x. IsRefused rules x s)
+  refused-in seen o =
+      let same : values value members ≡ values_in s =
+      sym (values_seen value members) ∙ ap (map (λ x. x.value)) (seen ∙ ap members_in same_state) in
+      some-map (IsFirstRefused rules pc (values value members)) (λ x. IsRefused rules x s) o (λ x first. record {
+        reachable = subst (AreReachable s) same (subst (λ t. AreReachable t (values value members)) same_state are);
+        first = subst (λ vs. IsFirstRefused rules (pc_of s) vs x) same
+            (subst (λ n. IsFirstRefused rules n (values value members) x) same_pc first);
+      })
+
+  pub holds-in : (o : Option Refused)
+      → IfNone o ((rule : Rule) → Contains rules rule → IsAbout rule pc → HoldsOfNone (BreaksRule rule) (values value members))
+      → IfNone o ((rule : Rule) → Contains rules rule → IsAbout rule (pc_of s) → Holds rule s)
+  holds-in o =
+      none-map _ _ o (λ none rule there about v reachable.
+      none rule there (subst (IsAbout rule) (sym same_pc) about) v
+      ((subst (λ t. AreReachable t (values value members)) same_state are).complete v reachable))
+
+-- after a plain event the rules about the code before it are known to hold
+known-if : (rules : List Rule) (s : State) (pc : ℕ) (plain : Bool) (known : Option ℕ) → known ≡ then_some plain pc
+    → (plain ≡ true → (rule : Rule) → Contains rules rule → IsAbout rule pc → Holds rule s) → AreKnown rules known s
+known-if rules s pc true known same hold = subst (λ o. AreKnown rules o s) (sym same) (hold refl)
+known-if rules s pc false known same hold = subst (λ o. AreKnown rules o s) (sym same) (λ rule there about. absurd about)
+
+pub known-after : (rules : List Rule) (t next : State) (events : List Event) (i : ℕ) (d : Event) (pc : ℕ) (plain : Bool)
+    (known : Option ℕ) → IsState t → next ≡ after (get_or events i d) t → (plain ≡ true → outcome (get_or events i d) t ≡ Plain)
+    → known ≡ then_some plain pc → pc ≡ pc_of t
+    → ((rule : Rule) → Contains rules rule → IsAbout rule (pc_of t) → Holds rule t) → AreKnown rules known next
+known-after rules t next events i d pc plain known is met is_plain same same_pc all =
+    known-if rules next pc plain known same (λ yes rule there about. subst (Holds rule) (sym met)
+    (holds-after rule t (get_or events i d) is (is_plain yes) (all rule there (subst (IsAbout rule) same_pc about))))

@@ -1,0 +1,162 @@
+-- What a rule guards over each event of a run, it guards over the run.
+use Rattle.std.proofs.Common.{◌≡◌, ℕ, ◌+◌, ◌-◌, ◌<◌, ◌≤◌, zero, suc, false, List, [], ◌∷◌, ◌++◌, length, get_or, take, refl, sym, ap, ◌∙◌}
+use Rattle.std.proofs.Common.{subst, arith}
+use Rattle.std.proofs.lemmas.List.{take_more}
+use Rattle.std.specs.Prelude.{Contains, option_to_list}
+use Rattle.base.specs.Ram.{ram_base}
+use Rattle.tagged_memory.specs.Memory.{has_tag}
+use Rattle.hart.specs.declared.event.Event.{Event}
+use Rattle.hart.specs.declared.event.Event.TheVariants.{Step}
+use Rattle.hart.specs.Event.{after, sent}
+use Rattle.hart.specs.State.{State}
+use Rattle.machine.specs.Run.{run_after, run_sent}
+use Rattle.reach.specs.Ranges.{IsInOne}
+use Rattle.policy.specs.declared.rule.Rule.{Rule}
+use Rattle.policy.specs.Watch.{KeepsTo, KeepToEach, IsAboutEach, NoneTraps, DiffersOutside}
+use Rattle.policy.proofs.Leaving.{SameSystem}
+use Rattle.policy.proofs.Runs.{run_after-append, run_sent-append}
+
+same-trans : (s t u : State) → SameSystem s t → SameSystem t u → SameSystem s u
+same-trans s t u one two = (
+  record {
+    mtcc = two.0.mtcc ∙ one.0.mtcc;
+    mtdc = two.0.mtdc ∙ one.0.mtdc;
+    mscratchc = two.0.mscratchc ∙ one.0.mscratchc;
+    mepcc = two.0.mepcc ∙ one.0.mepcc;
+  },
+  record {
+    mstatus_mie = two.1.mstatus_mie ∙ one.1.mstatus_mie;
+    mstatus_mpie = two.1.mstatus_mpie ∙ one.1.mstatus_mpie;
+    mie = two.1.mie ∙ one.1.mie;
+    mscratch = two.1.mscratch ∙ one.1.mscratch;
+    mcause = two.1.mcause ∙ one.1.mcause;
+    mtval = two.1.mtval ∙ one.1.mtval;
+  },
+)
+
+module _ (rules : List Rule) (rule : Rule) (events : List Event) (there : Contains rules rule) where
+  abbrev at : ℕ → Event
+  at n = get_or events n Step
+
+  abbrev state : State → ℕ → State
+  state s n = run_after (take n events) s
+
+  module _ (n : ℕ) (below : n < length events) where
+    more : take (suc n) events ≡ take n events ++ at n ∷ []
+    more = let next : suc n ≡ n + 1 = omega arith in ap (λ k. take k events) next ∙ take_more events n Step below
+
+    state-more : (s : State) → state s (suc n) ≡ after (at n) (state s n)
+    state-more s = ap (λ es. run_after es s) more ∙ run_after-append (take n events) (at n) s
+
+    sent-more : (s : State) → run_sent (take (suc n) events) s ≡ run_sent (take n events) s ++ option_to_list (sent (at n) (state s n))
+    sent-more s = ap (λ es. run_sent es s) more ∙ run_sent-append (take n events) (at n) s
+
+  module _ (s : State) where
+    -- the rule is about the code before each event, and each keeps to it
+    record Guards (done : ℕ) : Type 0 where
+      some : done ≤ length events
+      keep : KeepToEach rules events done s
+      about : IsAboutEach rule events done s
+
+    fewer : (n : ℕ) → Guards (suc n) → Guards n
+    fewer n g =
+        let some = g.some in
+        record {
+          some = omega arith;
+          keep = λ k few. g.keep k (omega arith);
+          about = λ k few. g.about k (omega arith);
+        }
+
+    last : (n : ℕ) → Guards (suc n) → KeepsTo rule (at n) (state s n)
+    last n g = g.keep n (omega arith) Step rule there (g.about n (omega arith))
+
+    inside : (n : ℕ) → Guards (suc n) → n < length events
+    inside n g = let some = g.some in omega arith
+
+    bytes : (done : ℕ) → Guards done → (a : ℕ) → ram_base ≤ a → (IsInOne rule.store.items a → ⊥)
+        → get_or (state s done).memory.bytes (a - ram_base) 0 ≡ get_or s.memory.bytes (a - ram_base) 0
+    bytes zero g a low outside = refl
+    bytes (suc n) g a low outside =
+        ap (λ x. get_or x.memory.bytes (a - ram_base) 0) (state-more n (inside n g) s)
+        ∙ (last n g).leaves.bytes a low outside ∙ bytes n (fewer n g) a low outside
+
+    tags : (done : ℕ) → Guards done → (granule : ℕ) → ram_base ≤ granule
+        → ((a : ℕ) → granule ≤ a → a < granule + 16 → IsInOne rule.store.items a → ⊥)
+        → has_tag (state s done).memory granule ≡ has_tag s.memory granule
+    tags zero g granule low outside = refl
+    tags (suc n) g granule low outside =
+        ap (λ x. has_tag x.memory granule) (state-more n (inside n g) s)
+        ∙ (last n g).leaves.tags granule low outside ∙ tags n (fewer n g) granule low outside
+
+    system : (done : ℕ) → Guards done → rule.system ≡ false → NoneTraps events done s → SameSystem s (state s done)
+    system zero g banned none = (
+      record { mtcc = refl; mtdc = refl; mscratchc = refl; mepcc = refl },
+      record { mstatus_mie = refl; mstatus_mpie = refl; mie = refl; mscratch = refl; mcause = refl; mtval = refl },
+    )
+    system (suc n) g banned none =
+        subst (SameSystem s) (sym (state-more n (inside n g) s))
+        (same-trans s (state s n) (after (at n) (state s n)) (system n (fewer n g) banned (λ k few. none k (omega arith)))
+        ((last n g).leaves.system (none n (omega arith) Step) banned))
+
+    silent : (done : ℕ) → Guards done → rule.transmit ≡ false → run_sent (take done events) s ≡ []
+    silent zero g banned = refl
+    silent (suc n) g banned =
+        sent-more n (inside n g) s ∙ ap (λ o. run_sent (take n events) s ++ option_to_list o) ((last n g).leaves.silent banned)
+        ∙ ap (λ b. b ++ []) (silent n (fewer n g) banned)
+
+    halt : (done : ℕ) → Guards done → rule.halt ≡ false → (state s done).devices.halted ≡ s.devices.halted
+    halt zero g banned = refl
+    halt (suc n) g banned =
+        ap (λ x. x.devices.halted) (state-more n (inside n g) s) ∙ (last n g).leaves.halt banned ∙ halt n (fewer n g) banned
+
+    timer : (done : ℕ) → Guards done → rule.timer ≡ false → (state s done).devices.mtimecmp ≡ s.devices.mtimecmp
+    timer zero g banned = refl
+    timer (suc n) g banned =
+        ap (λ x. x.devices.mtimecmp) (state-more n (inside n g) s) ∙ (last n g).leaves.timer banned ∙ timer n (fewer n g) banned
+
+    module _ (t : State) (differs : DiffersOutside rule s t) where
+      same_state : (done : ℕ) → Guards done → DiffersOutside rule (state s done) (state t done)
+      same_state zero g = differs
+      same_state (suc n) g =
+          subst (λ u. DiffersOutside rule u (state t (suc n))) (sym (state-more n (inside n g) s))
+          (subst (DiffersOutside rule (after (at n) (state s n))) (sym (state-more n (inside n g) t))
+          ((last n g).learns.differ (state t n) (same_state n (fewer n g))))
+
+      same_bytes : (done : ℕ) → Guards done → run_sent (take done events) t ≡ run_sent (take done events) s
+      same_bytes zero g = refl
+      same_bytes (suc n) g =
+          sent-more n (inside n g) t
+          ∙ ap (λ b. b ++ option_to_list (sent (at n) (state t n))) (same_bytes n (fewer n g))
+          ∙ ap (λ o. run_sent (take n events) s ++ option_to_list o) ((last n g).learns.sends (state t n) (same_state n (fewer n g)))
+          ∙ sym (sent-more n (inside n g) s)
+
+    module _ (done : ℕ) (some : done ≤ length events) (keep : KeepToEach rules events done s) (about : IsAboutEach rule events done s) where
+      guards : Guards done
+      guards = record { some = some; keep = keep; about = about }
+
+      pub bytes-stay : (a : ℕ) → ram_base ≤ a → (IsInOne rule.store.items a → ⊥)
+          → get_or (state s done).memory.bytes (a - ram_base) 0 ≡ get_or s.memory.bytes (a - ram_base) 0
+      bytes-stay = bytes done guards
+
+      pub tags-stay : (granule : ℕ) → ram_base ≤ granule
+          → ((a : ℕ) → granule ≤ a → a < granule + 16 → IsInOne rule.store.items a → ⊥)
+          → has_tag (state s done).memory granule ≡ has_tag s.memory granule
+      tags-stay = tags done guards
+
+      pub system-stays : rule.system ≡ false → NoneTraps events done s → SameSystem s (state s done)
+      system-stays = system done guards
+
+      pub nothing-sent : rule.transmit ≡ false → run_sent (take done events) s ≡ []
+      nothing-sent = silent done guards
+
+      pub halted-stays : rule.halt ≡ false → (state s done).devices.halted ≡ s.devices.halted
+      halted-stays = halt done guards
+
+      pub compare-stays : rule.timer ≡ false → (state s done).devices.mtimecmp ≡ s.devices.mtimecmp
+      compare-stays = timer done guards
+
+      pub sends-same : (t : State) → DiffersOutside rule s t → run_sent (take done events) t ≡ run_sent (take done events) s
+      sends-same t differs = same_bytes t differs done guards
+
+      pub ends-same : (t : State) → DiffersOutside rule s t → DiffersOutside rule (state s done) (state t done)
+      ends-same t differs = same_state t differs done guards

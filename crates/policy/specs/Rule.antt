@@ -1,0 +1,58 @@
+-- When a capability breaks a rule.
+use Rattle.std.specs.Prelude.{◌≡◌, ℕ, ◌<◌, ◌≤◌, true, false, List}
+use Rattle.base.specs.Ram.{ram_base}
+use Rattle.cap_bounds.specs.CapValue.{CapValue, is_sealed, value_base, value_top}
+use Rattle.cap_rights.specs.declared.permission.Permission.{Permission}
+use Rattle.cap_rights.specs.declared.permission.Permission.TheVariants as permission
+use Rattle.cap_rights.specs.Permission.{permits}
+use Rattle.cap_rights.specs.Rights.{OpensSystem, OpensStore}
+use Rattle.devices.specs.Devices.{halt, timer_compare, transmit}
+use Rattle.reach.specs.declared.range.Range.{Range}
+use Rattle.reach.specs.Ranges.{IsInOne}
+use Rattle.policy.specs.declared.rule.Rule.{Rule}
+use Rattle.policy.specs.declared.rule.Ban.{Ban}
+use Rattle.policy.specs.declared.rule.Ban.TheVariants.{Store, Load, Execute, Transmit, Halt, Timer, System}
+
+-- unsealed, with the permission
+pub record Lets (permission : Permission) (c : CapValue) : Type 0 where
+  pub unsealed : is_sealed c ≡ false
+  pub permitted : permits c permission ≡ true
+
+-- it lets code do so with a byte of RAM that lies in none of the ranges
+pub record OpensOutside (permission : Permission) (ranges : List Range) (c : CapValue) : Type 0 where
+  pub byte : ℕ
+  pub in_ram : ram_base ≤ byte
+  pub outside : IsInOne ranges byte → ⊥
+  pub lets : Lets permission c
+  pub base : value_base c ≤ byte
+  pub top : byte < value_top c
+
+-- the capability breaks a part of the rule
+abbrev pub Breaks : Rule → Ban → CapValue → Type 0
+Breaks rule Store c = OpensOutside permission.Store rule.store.items c
+Breaks rule Load c = OpensOutside permission.Load rule.load.items c
+Breaks rule Execute c = OpensOutside permission.Execute rule.execute.items c
+Breaks rule Transmit c = (rule.transmit ≡ false) × OpensStore c transmit
+Breaks rule Halt c = (rule.halt ≡ false) × OpensStore c halt
+Breaks rule Timer c = (rule.timer ≡ false) × OpensStore c timer_compare
+Breaks rule System c = (rule.system ≡ false) × OpensSystem c
+
+-- the order of the parts
+abbrev pub place_of : Ban → ℕ
+place_of Store = 0
+place_of Load = 1
+place_of Execute = 2
+place_of Transmit = 3
+place_of Halt = 4
+place_of Timer = 5
+place_of System = 6
+
+-- it is the first part that the capability breaks
+pub record IsFirstBan (rule : Rule) (c : CapValue) (ban : Ban) : Type 0 where
+  pub breaks : Breaks rule ban c
+  pub before : (other : Ban) → place_of other < place_of ban → Breaks rule other c → ⊥
+
+-- the capability breaks the rule
+pub record BreaksRule (rule : Rule) (c : CapValue) : Type 0 where
+  pub ban : Ban
+  pub breaks : Breaks rule ban c

@@ -1,0 +1,96 @@
+//! The first member that breaks a rule.
+ghost use Rattle.std.specs.Prelude.{◌↔◌, IfNone, IfSome, IsTrue};
+ghost use Rattle.std.specs.List.{HoldsAt};
+ghost use Rattle.cap_rights.specs.Rights.{OpensSystem, OpensStore};
+ghost use Rattle.reached.specs.Links.{values};
+ghost use Rattle.reach.specs.First.{IsFirst, HoldsOfNone};
+ghost use Rattle.policy.specs.Rule.{Lets, OpensOutside, Breaks, IsFirstBan, BreaksRule};
+
+use crate::cover::covers;
+use crate::rule::{Ban, Rule};
+use base::ram;
+use cap_bounds::CapRep;
+use cap_rights::{OType, Permission, permits};
+use reach::{HALT, Range, Reach, TIMER_COMPARE, TRANSMIT};
+
+/// Whether a capability is unsealed and has a permission.
+fn lets<C: CapRep>(c: C, permission: Permission) -> bool
+    ensures { IsTrue result ↔ Lets permission (C.value c) }
+{
+    c.otype() == OType::UNSEALED.number() && permits(c, permission)
+}
+
+/// Whether it lets code use a byte of RAM that lies in none of the ranges.
+fn opens_outside<C: CapRep>(c: C, permission: Permission, ranges: &[Range]) -> bool
+    ensures { IsTrue result ↔ OpensOutside permission ranges.now (C.value c) }
+{
+    let from = c.base().max(ram::BASE);
+    lets(c, permission) && !covers(ranges, u128::from(from), c.top())
+}
+
+/// Whether a byte may be stored at an address through it.
+fn opens_store<C: CapRep>(c: C, address: u64) -> bool
+    ensures { IsTrue result ↔ OpensStore (C.value c) address }
+{
+    lets(c, Permission::Store) && c.base() <= address && u128::from(address) < c.top()
+}
+
+/// Whether code that jumps there may use the system registers.
+fn opens_system<C: CapRep>(c: C) -> bool
+    ensures { IsTrue result ↔ OpensSystem (C.value c) }
+{
+    lets(c, Permission::Execute) && permits(c, Permission::AccessSystemRegisters)
+}
+
+/// Whether a capability breaks a part of the rule.
+fn breaks<C: CapRep>(c: C, rule: &Rule, ban: Ban) -> bool
+    ensures { IsTrue result ↔ Breaks rule.now ban (C.value c) }
+{
+    match ban {
+        Ban::Store => opens_outside(c, Permission::Store, &rule.store),
+        Ban::Load => opens_outside(c, Permission::Load, &rule.load),
+        Ban::Execute => opens_outside(c, Permission::Execute, &rule.execute),
+        Ban::Transmit => !rule.transmit && opens_store(c, TRANSMIT),
+        Ban::Halt => !rule.halt && opens_store(c, HALT),
+        Ban::Timer => !rule.timer && opens_store(c, TIMER_COMPARE),
+        Ban::System => !rule.system && opens_system(c),
+    }
+}
+
+/// The parts of a rule, in their order.
+const BANS: [Ban; 7] = [
+    Ban::Store,
+    Ban::Load,
+    Ban::Execute,
+    Ban::Transmit,
+    Ban::Halt,
+    Ban::Timer,
+    Ban::System,
+];
+
+/// The first part of the rule that a capability breaks.
+fn first_ban<C: CapRep>(c: C, rule: &Rule) -> Option<Ban>
+    ensures some { IfSome result (IsFirstBan rule.now (C.value c)) }
+    ensures none { IfNone result (BreaksRule rule.now (C.value c) → ⊥) }
+{
+    for ban in BANS {
+        if breaks(c, rule, ban) {
+            return Some(ban);
+        }
+    }
+    None
+}
+
+/// The first member that breaks the rule, and the first part of it that it breaks; `None` where no member breaks it.
+pub fn first_breach<C: CapRep>(reach: &Reach<C>, rule: &Rule) -> Option<(usize, Ban)>
+    ensures some { IfSome result (λ found. IsFirst (BreaksRule rule.now) (values C.value reach.now) found.0) }
+    ensures ban { IfSome result (λ found. HoldsAt (λ v. IsFirstBan rule.now v found.1) (values C.value reach.now) found.0) }
+    ensures none { IfNone result (HoldsOfNone (BreaksRule rule.now) (values C.value reach.now)) }
+{
+    for (place, member) in reach.members().iter().enumerate() {
+        if let Some(ban) = first_ban(member.cap, rule) {
+            return Some((place, ban));
+        }
+    }
+    None
+}

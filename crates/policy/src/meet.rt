@@ -1,0 +1,75 @@
+//! Events that are met, and whether they are plain.
+ghost use Rattle.std.specs.Prelude.{◌≡◌, IsTrue};
+ghost use Rattle.hart.specs.Applying.{meant, IsPlanned};
+ghost use Rattle.hart.specs.declared.event.Event.TheVariants.{Step};
+ghost use Rattle.hart.specs.Event.{after, outcome, sent};
+ghost use Rattle.hart.specs.IsState.{IsState};
+ghost use Rattle.hart.specs.Outcome.{Plain, outcome_of, step_outcome};
+
+use cap_bounds::CapRep;
+use hart::Effect;
+use machine::{Event, Machine, Planned};
+
+/// What an event came to.
+#[derive(Clone, Copy)]
+pub(crate) struct Met {
+    /// The byte that was sent, if any.
+    pub byte: Option<u8>,
+    /// Whether it is known that it neither trapped nor unsealed nor jumped through a seal.
+    pub plain: bool,
+}
+
+/// Whether an effect neither traps nor unseals nor jumps through a seal.
+#[tactic(auto, unfolding(hart::specs::Outcome::outcome_of))]
+fn is_plain<C: CapRep>(effect: &Effect<C>) -> bool
+    ensures { IsTrue result → outcome_of (meant C.value effect.now) ≡ Plain }
+{
+    match effect {
+        Effect::Trap(_) => false,
+        Effect::Unseal(write) => !write.value.tag(),
+        Effect::Enter(enter) => !enter.sealed,
+        Effect::Return { sealed } => !*sealed,
+        _ => true,
+    }
+}
+
+/// The same of a step that was planned. A machine that is halted ignores it.
+#[tactic(auto, unfolding(hart::specs::Outcome::step_outcome))]
+fn is_plain_step<C: CapRep>(machine: &Machine<C>, planned: &Planned<C>) -> bool
+    requires { IsPlanned C.value planned.now.effect machine.now }
+    ensures { IsTrue result → step_outcome machine.now ≡ Plain }
+{
+    machine.halted().is_some() || is_plain(&planned.effect)
+}
+
+/// Does a step, which is planned once.
+fn meet_step<C: CapRep>(machine: &mut Machine<C>) -> Met
+    ensures state { machine.new ≡ after Step machine.old }
+    ensures byte { result.byte ≡ sent Step machine.old }
+    ensures plain { IsTrue result.plain → step_outcome machine.old ≡ Plain }
+{
+    let planned = machine.next();
+    let plain = is_plain_step(machine, &planned);
+    let out = machine.apply(planned);
+    Met {
+        byte: out.byte,
+        plain,
+    }
+}
+
+/// Meets an event.
+pub(crate) fn meet<C: CapRep>(machine: &mut Machine<C>, event: Event) -> Met
+    ensures state { machine.new ≡ after event machine.old }
+    ensures byte { result.byte ≡ sent event machine.old }
+    ensures plain { IsTrue result.plain → outcome event machine.old ≡ Plain }
+    ensures was_state { IsState machine.old }
+{
+    machine.hart();
+    match event {
+        Event::Step => meet_step(machine),
+        Event::Tick | Event::Byte(_) => Met {
+            byte: machine.event(event).byte,
+            plain: true,
+        },
+    }
+}

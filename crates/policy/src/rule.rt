@@ -1,0 +1,44 @@
+use reach::Range;
+
+/// What the code in some ranges may do: what the capabilities that it can come to hold may open.
+///
+/// The ranges are of addresses. Those of `store`, `load` and `execute` are about RAM, that is about every address from `0x8000_0000` on: a
+/// capability whose bounds go on past the memory of the machine opens what lies there too.
+#[derive(Debug, Drop)]
+pub struct Rule {
+    /// The code: the rule is about a state whose program counter lies in one of these ranges.
+    pub code: Vec<Range>,
+    /// The bytes of RAM that may be stored to.
+    pub store: Vec<Range>,
+    /// The bytes of RAM that may be loaded.
+    pub load: Vec<Range>,
+    /// The bytes of RAM that may be fetched as code.
+    pub execute: Vec<Range>,
+    /// Whether bytes may be sent.
+    pub transmit: bool,
+    /// Whether the machine may be halted.
+    pub halt: bool,
+    /// Whether the timer's interrupt may be set.
+    pub timer: bool,
+    /// Whether the system registers may be used.
+    pub system: bool,
+}
+
+/// A part of a rule.
+#[derive(Clone, Copy, Debug, PartialEq, Eq)]
+pub enum Ban {
+    /// A byte of RAM that lies in none of the ranges for stores may be stored to.
+    Store,
+    /// A byte of RAM that lies in none of the ranges for loads may be loaded.
+    Load,
+    /// A byte of RAM that lies in none of the ranges for fetches may be fetched as code.
+    Execute,
+    /// Bytes may be sent.
+    Transmit,
+    /// The machine may be halted.
+    Halt,
+    /// The timer's interrupt may be set.
+    Timer,
+    /// The system registers may be used.
+    System,
+}
