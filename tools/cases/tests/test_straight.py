@@ -69,19 +69,20 @@ class Texts(unittest.TestCase):
 
     def test_an_answer_has_the_chain_from_a_register(self):
         program, steps = narrowed(*bounded("ca3", 0x100, 16, 0x15), keep=("ca3",), data=[cap(0x10000000, 1, 0x8)])
-        found = Straight(program).steps(steps).members()
+        machine = Straight(program).steps(steps)
         held = "---W-------- v:1 a:0000000010000000 b:0000000010000000 t:00000000010000001 p:00008 f:0 o:3ffff"
-        self.assertEqual(answered(found, "may send"), [f"yes: ca3 -> 0000000080000100 {held}"])
-        self.assertEqual(answered(found, "may store table 4096", [(0x10000000, "table"), (0x80000100, "entry")]),
+        self.assertEqual(answered(machine, "may send"), [f"yes: ca3 -> 0000000080000100 {held}"])
+        self.assertEqual(answered(machine, "may store table 4096", [(0x10000000, "table"), (0x80000100, "entry")]),
                          [f"yes: ca3 -> 0000000080000100 <entry> {held}"])
-        self.assertEqual(answered(found, "may halt"), ["no, until the next trap, unsealing or sealed jump"])
-        self.assertEqual(answered(found, "reach members")[3], f"3 0000000080000100 from 1 {held}")
+        self.assertEqual(answered(machine, "may halt"), ["no, until the next trap, unsealing or sealed jump"])
+        self.assertEqual(answered(machine, "may halt through doors"), ["no, until the next trap or unsealing"])
+        self.assertEqual(answered(machine, "reach members")[3], f"3 0000000080000100 from 1 {held}")
 
     def test_a_summary_has_counts_ranges_registers_types_and_what_is_sealed(self):
         program, steps = narrowed("csealentry ca2, ca0", *bounded("ca3", 0x100, 32, 0x15), keep=("ca2", "ca3"),
                                   data=[cap(0x10000000, 1, 0x8), cap(1, 2, 0x80)])
-        found = Straight(program).steps(steps).members()
-        self.assertEqual(answered(found, "reach", [(0x80000000, "start")]), [
+        machine = Straight(program).steps(steps)
+        self.assertEqual(answered(machine, "reach", [(0x80000000, "start")]), [
             "members 6: registers 4, special registers 0, memory 2, sealed 1",
             "load 0000000080000000 <start> to 00000000080000120",
             "load capabilities 0000000080000100 <start+256> to 00000000080000120",
@@ -93,3 +94,12 @@ class Texts(unittest.TestCase):
             "unseal none",
             "1 ca2 GXRWcCLsiuSd v:1 a:0000000080000000 b:0000000000000000 t:10000000000000000 p:78fff f:0 o:3fffe",
         ])
+
+    def test_through_doors_a_place_is_that_of_what_is_sealed(self):
+        program, steps = narrowed(*bounded("ca3", 0x100, 16, 0x17), "csealentry ca3, ca3", keep=("ca3",), data=[cap(0x10000000, 1, 0x8)])
+        machine = Straight(program).steps(steps)
+        held = "---W-------- v:1 a:0000000010000000 b:0000000010000000 t:00000000010000001 p:00008 f:0 o:3ffff"
+        self.assertEqual(answered(machine, "may send through doors"), [f"yes: behind ca3 -> 0000000080000100 {held}"])
+        self.assertEqual(answered(machine, "may send"), ["no, until the next trap, unsealing or sealed jump"])
+        self.assertEqual(answered(machine, "reach doors")[0],
+                         "members 5: registers 3, special registers 0, memory 1, behind doors 1, sealed 1")
