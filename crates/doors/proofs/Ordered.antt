@@ -1,5 +1,6 @@
 -- What is found through doors, as the definitions say it: the truth values of what opens and what is open, keys, doors and rounds.
-use Rattle.std.proofs.Common.{◌≡◌, ℕ, zero, suc, pred, ◌+◌, ◌^◌, ◌<◌, ◌≤◌, Bool, true, false, cond, not, ◌&&◌, ◌||◌, eqb, ltb, leb, ◌↔◌, IsTrue, List, [], ◌∷◌}
+use Rattle.std.proofs.Common.{◌≡◌, ℕ, zero, suc, pred, ◌+◌, ◌^◌, ◌<◌, ◌≤◌, Bool, true, false, cond, not, ◌&&◌, ◌||◌, eqb, ltb, leb, ◌↔◌}
+use Rattle.std.proofs.Common.{IsTrue, List, [], ◌∷◌}
 use Rattle.std.proofs.Common.{◌++◌, length, map, get_or, drop, Option, None, Some, refl, sym, ap, ◌∙◌, subst, arith, inl, inr}
 use Rattle.std.proofs.lemmas.Bool.{and_parts, and_from, or_cases, or_left, or_right, not-true, not_from_false, eqb-true, eq-eqb, le-leb}
 use Rattle.std.proofs.lemmas.Bool.{leb-true, lt-ltb, ltb-true, false≢true, ne_eqb}
@@ -23,7 +24,8 @@ use Rattle.doors.specs.declared.through.Door.{Door}
 use Rattle.doors.specs.Closed.{IsPair, IsOpenedBy, entry, as_code, as_data, own_seal}
 use Rattle.doors.specs.Rounds.{IsOpen}
 use Rattle.doors.specs.Roots.{roots_of}
-use Rattle.doors.specs.ThroughOrder.{accepts, seals, opens, key_of, door_to, door_of, OpenDoors, open_doors, is_open_at, with_door, opened_at}
+use Rattle.doors.specs.ThroughOrder.{accepts, seals, opens, key_of, door_to, door_of, OpenDoors, open_doors, is_open_at, with_door}
+use Rattle.doors.specs.ThroughOrder.{opened_at}
 use Rattle.doors.specs.ThroughOrder.{none_open, round, members_behind, round_of, rounds, doors_in, members_through}
 use Rattle.doors.proofs.Invoking.{pair-accepted, accepted-pair}
 
@@ -244,7 +246,8 @@ module _ (roots : List CapValue) where
 
   opened-after : (xs : List Found) (x : Found) (o : OpenDoors) → opened_at xs x (after_roots o) ≡ after_roots (opened_at xs x o)
   opened-after xs x o = elim (not (is_sealed x.value) || is_open_at o.doors x.place)
-      as (λ b. cond b (after_roots o) (with_door x (after_roots o) (door_of xs x)) ≡ after_roots (cond b o (with_door x o (door_of xs x)))) [
+      as (λ b. cond b (after_roots o) (with_door x (after_roots o) (door_of xs x))
+      ≡ after_roots (cond b o (with_door x o (door_of xs x)))) [
         | true ↦ refl
         | false ↦ with_door-after x o (door_of xs x)
       ]
