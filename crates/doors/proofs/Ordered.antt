@@ -1,12 +1,13 @@
 -- What is found through doors, as the definitions say it: the truth values of what opens and what is open, keys, doors and rounds.
-use Rattle.std.proofs.Common.{◌≡◌, ℕ, zero, suc, pred, ◌+◌, ◌^◌, ◌<◌, ◌≤◌, Bool, true, false, cond, not, ◌&&◌, ◌||◌, eqb, ltb, leb}
-use Rattle.std.proofs.Common.{◌↔◌, IsTrue, List, [], ◌∷◌}
-use Rattle.std.proofs.Common.{◌++◌, length, map, get_or, drop, Option, None, Some, refl, sym, ap, ◌∙◌, subst, arith, inl, inr}
-use Rattle.std.proofs.lemmas.Bool.{and_parts, and_from, or_cases, or_left, or_right, not-true, not_from_false, eqb-true, eq-eqb, le-leb}
-use Rattle.std.proofs.lemmas.Bool.{leb-true, lt-ltb, ltb-true, false≢true, ne_eqb}
+use Rattle.std.proofs.Common.{◌≡◌, ℕ, zero, suc, pred, ◌+◌, ◌^◌, ◌<◌, ◌≤◌, Bool, true, false, cond, not, ◌&&◌, ◌||◌, eqb, ltb, leb, ◌↔◌}
+use Rattle.std.proofs.Common.{IsTrue, List, [], ◌∷◌, ◌++◌, length, map, get_or, drop, Option, None, Some, refl, sym, ap, ◌∙◌, subst, arith}
+use Rattle.std.proofs.Common.{inl, inr}
+use Rattle.std.proofs.lemmas.Bool.{and_parts, and_from, or_cases, or_parts, or_left, or_right, not-true, not_from_false, eqb-true}
+use Rattle.std.proofs.lemmas.Bool.{eq-eqb, le-leb, leb-true, lt-ltb, ltb-true, false≢true, ne_eqb}
 use Rattle.std.proofs.lemmas.List.{drop_more, drop_all, append_assoc, append_cancel_left}
 use Rattle.std.specs.Cmp.Derive.{one_truth}
 use Rattle.std.specs.Prelude.{is_none, option_map}
+use Rattle.std.specs.List.{Contains}
 use Rattle.base.specs.ObjectType.{sentry_type}
 use Rattle.cap_bounds.specs.CapValue.{CapValue, is_sealed, value_base, value_top, value_otype}
 use Rattle.cap_rights.specs.Opened.{opened}
@@ -22,12 +23,11 @@ use Rattle.reached.specs.Links.{values}
 use Rattle.reached.specs.Order.{Found, is_same_place, seen_member, seen_members}
 use Rattle.doors.specs.declared.through.Door.{Door}
 use Rattle.doors.specs.Closed.{IsPair, IsOpenedBy, entry, as_code, as_data, own_seal}
-use Rattle.doors.specs.Rounds.{IsOpen}
 use Rattle.doors.specs.Roots.{roots_of}
 use Rattle.doors.specs.ThroughOrder.{accepts, seals, opens, key_of, door_to, door_of, OpenDoors, open_doors, is_open_at, with_door}
-use Rattle.doors.specs.ThroughOrder.{opened_at}
-use Rattle.doors.specs.ThroughOrder.{none_open, round, members_behind, round_of, rounds, doors_in, members_through}
+use Rattle.doors.specs.ThroughOrder.{opened_at, none_open, round, members_behind, round_of, rounds, doors_in, members_through}
 use Rattle.doors.proofs.Invoking.{pair-accepted, accepted-pair}
+use Rattle.doors.proofs.Rounds.{IsOpen, opened-sealed, IsDoorAmong, IsRound, round-none, round-passed, round-opened}
 
 -- ---- which key opens a sealed value
 
@@ -192,14 +192,11 @@ module _ (xs : List Found) (x : Found) (o : OpenDoors) where
   passed-unsealed unsealed =
       or_left (not (is_sealed x.value)) (is_open_at o.doors x.place) (not_from_false (is_sealed x.value) unsealed)
 
-  module _ (r : Bool) (says : IsTrue r ↔ IsOpen o.doors x.place) where
-    pub passed-open : r ≡ true → IsPassed true
-    passed-open is =
-        or_right (not (is_sealed x.value)) (is_open_at o.doors x.place) (sym (open-is r o.doors x.place says) ∙ is)
+  pub passed-open : is_open_at o.doors x.place ≡ true → IsPassed true
+  passed-open is = or_right (not (is_sealed x.value)) (is_open_at o.doors x.place) is
 
-    pub passed-neither : is_sealed x.value ≡ true → r ≡ false → IsPassed false
-    passed-neither sealed shut =
-        ap (λ b. not b || is_open_at o.doors x.place) sealed ∙ sym (open-is r o.doors x.place says) ∙ shut
+  pub passed-neither : is_sealed x.value ≡ true → is_open_at o.doors x.place ≡ false → IsPassed false
+  passed-neither sealed shut = ap (λ b. not b || is_open_at o.doors x.place) sealed ∙ shut
 
   pub opened-passed : IsPassed true → opened_at xs x o ≡ o
   opened-passed passed = ap (λ b. cond b o (with_door x o (door_of xs x))) passed
@@ -233,6 +230,162 @@ module _ {X : Type 0} (value : X → CapValue) (members : List (Member X)) where
       → now ≡ round (seen_members value members) (seen_members value members) before
   round_to-all i past before now so_far =
       sym (so_far ∙ ap (λ ys. round (seen_members value members) (seen_members value ys) now) (drop_all i members past))
+
+-- ---- what a round opens
+
+-- the key of a value: a member that opens it
+record IsKey {X : Type 0} (value : X → CapValue) (members : List (Member X)) (c : CapValue) (k : Found) : Type 0 where
+  key : Member X
+  there : Contains members key
+  opens : IsOpenedBy c (value key.cap)
+  seen : seen_member value key ≡ k
+
+module _ {X : Type 0} (value : X → CapValue) (c : CapValue) where
+  no-key : (key : Member X) → IsOpenedBy c (value key.cap) → (ms : List (Member X)) (k : ℕ) → k < length ms → get_or ms k key ≡ key
+      → key_of (seen_members value ms) c ≡ None → ⊥
+  no-key key by [] k below same none = absurd (omega (arith, below))
+  no-key key by (m ∷ ms) zero below same none =
+      let met : opens c (value m.cap) ≡ true =
+      subst (λ (y : Member X). opens c (value y.cap) ≡ true) (sym same) (opens-truth c (value key.cap) by) in
+      let never : Some (seen_member value m) ≡ None =
+      sym (ap (λ b. cond b (Some (seen_member value m)) (key_of (seen_members value ms) c)) met) ∙ none in
+      cc
+  no-key key by (m ∷ ms) (suc k) below same none =
+      no-key key by ms k (omega (arith, below)) same (later (opens c (value m.cap)) none)
+    where
+      later : (b : Bool) → cond b (Some (seen_member value m)) (key_of (seen_members value ms) c) ≡ None
+          → key_of (seen_members value ms) c ≡ None
+      later true never = cc
+      later false none = none
+
+  key-there : (ms : List (Member X)) (k : Found) → key_of (seen_members value ms) c ≡ Some k → IsKey value ms c k
+  key-there [] k is = cc
+  key-there (m ∷ ms) k is = at (λ later. key-there ms k later) (opens c (value m.cap)) refl is
+    where
+      at : (key_of (seen_members value ms) c ≡ Some k → IsKey value ms c k) → (b : Bool) → opens c (value m.cap) ≡ b
+          → cond b (Some (seen_member value m)) (key_of (seen_members value ms) c) ≡ Some k → IsKey value (m ∷ ms) c k
+      at later true met same = record {
+        key = m;
+        there = (0, omega arith, refl);
+        opens = truth-opens c (value m.cap) met;
+        seen = cc;
+      }
+      at later false fails same =
+          let is = later same in
+          record {
+            key = is.key;
+            there = (suc is.there.0, omega (arith, is.there.1), is.there.2);
+            opens = is.opens;
+            seen = is.seen;
+          }
+
+module _ {X : Type 0} (value : X → CapValue) (members : List (Member X)) where
+  module _ (x : Member X) where
+    no-door : door_of (seen_members value members) (seen_member value x) ≡ None → (key : Member X) → Contains members key
+        → IsOpenedBy (value x.cap) (value key.cap) → ⊥
+    no-door none key there by =
+        at (opens (value x.cap) (value x.cap)) (key_of (seen_members value members) (value x.cap)) refl none
+      where
+        at : (b : Bool) (k : Option Found) → key_of (seen_members value members) (value x.cap) ≡ k
+            → cond b (Some (door_to x.place x.place)) (option_map (λ key. door_to x.place key.place) k) ≡ None → ⊥
+        at true k is same = cc
+        at false None is same = no-key value (value x.cap) key by members there.0 there.1 there.2 is
+        at false (Some k) is same = cc
+
+    door-there : Contains members x → (door : Door) → door_of (seen_members value members) (seen_member value x) ≡ Some door
+        → IsDoorAmong value members door (opened (value x.cap)) × (door.sealed ≡ x.place)
+    door-there here door is =
+        at (opens (value x.cap) (value x.cap)) refl (key_of (seen_members value members) (value x.cap)) refl is
+      where
+        at : (b : Bool) → opens (value x.cap) (value x.cap) ≡ b → (k : Option Found)
+            → key_of (seen_members value members) (value x.cap) ≡ k
+            → cond b (Some (door_to x.place x.place)) (option_map (λ key. door_to x.place key.place) k) ≡ Some door
+            → IsDoorAmong value members door (opened (value x.cap)) × (door.sealed ≡ x.place)
+        at true own k found same =
+            let is : door_to x.place x.place ≡ door = cc in
+            subst (λ (d : Door). IsDoorAmong value members d (opened (value x.cap)) × (d.sealed ≡ x.place)) is (
+              record {
+                sealed = x;
+                key = x;
+                sealed_in = here;
+                key_in = here;
+                sealed_at = refl;
+                key_at = refl;
+                opens = truth-opens (value x.cap) (value x.cap) own;
+                own_key = λ _. refl;
+                behind_is = refl;
+              },
+              refl,
+            )
+        at false other None found same = cc
+        at false other (Some k) found same =
+            let is : door_to x.place k.place ≡ door = cc in
+            let key = key-there value (value x.cap) members k found in
+            subst (λ (d : Door). IsDoorAmong value members d (opened (value x.cap)) × (d.sealed ≡ x.place)) is (
+              record {
+                sealed = x;
+                key = key.key;
+                sealed_in = here;
+                key_in = key.there;
+                sealed_at = refl;
+                key_at = ap (λ (y : Found). y.place) (sym key.seen);
+                opens = key.opens;
+                own_key = λ sentry. absurd (false≢true (sym other ∙ opens-truth (value x.cap) (value x.cap) (entry sentry)));
+                behind_is = refl;
+              },
+              refl,
+            )
+
+  module _ (roots : List CapValue) (doors : List Door) where
+    round-more : (i : ℕ) (x : Member X) → i < length members → x ≡ get_or members i x → (now : OpenDoors)
+        → IsRound value members i roots now.behind doors now.doors
+        → IsRound value members (i + 1) roots (opened_at (seen_members value members) (seen_member value x) now).behind doors
+        (opened_at (seen_members value members) (seen_member value x) now).doors
+    round-more i x below read now so_far =
+        at (not (is_sealed (value x.cap)) || is_open_at now.doors x.place) refl
+        (door_of (seen_members value members) (seen_member value x)) refl
+      where
+        at : (b : Bool) → (not (is_sealed (value x.cap)) || is_open_at now.doors x.place) ≡ b → (door : Option Door)
+            → door_of (seen_members value members) (seen_member value x) ≡ door
+            → IsRound value members (i + 1) roots (cond b now (with_door (seen_member value x) now door)).behind doors
+            (cond b now (with_door (seen_member value x) now door)).doors
+        at true passed door is =
+            round-passed value members i x below read roots now.behind doors now.doors so_far
+            (λ key there by. elim (or_cases (not (is_sealed (value x.cap))) (is_open_at now.doors x.place) passed) [
+              | inl unsealed ↦ absurd (false≢true (sym (not-true (is_sealed (value x.cap)) unsealed)
+                  ∙ opened-sealed (value x.cap) (value key.cap) by))
+              | inr is ↦ truth-open now.doors x.place is
+            ])
+        at false fresh None is =
+            round-passed value members i x below read roots now.behind doors now.doors so_far
+            (λ key there by. absurd (no-door x is key there by))
+        at false fresh (Some door) is =
+            let there = door-there x (i, below, sym read) door is in
+            round-opened value members i x below read roots now.behind doors now.doors so_far door (opened (value x.cap)) there.0 there.1
+            (now.behind ++ opened (value x.cap) ∷ []) refl (now.doors ++ door ∷ []) refl
+            (λ is. false≢true (sym (or_parts (not (is_sealed (value x.cap))) (is_open_at now.doors x.place) fresh).1
+            ∙ open-truth now.doors x.place is))
+
+    round-rest : (ms : List (Member X)) (i : ℕ) → ms ≡ drop i members → i + length ms ≡ length members → (now : OpenDoors)
+        → IsRound value members i roots now.behind doors now.doors
+        → IsRound value members (length members) roots (round (seen_members value members) (seen_members value ms) now).behind doors
+        (round (seen_members value members) (seen_members value ms) now).doors
+    round-rest [] i is long now so_far =
+        let all : i ≡ length members = omega (arith, long) in
+        subst (λ n. IsRound value members n roots now.behind doors now.doors) all so_far
+    round-rest (x ∷ ms) i is long now so_far =
+        let below : i < length members = omega (arith, long) in
+        let both : x ∷ ms ≡ get_or members i x ∷ drop (i + 1) members = is ∙ drop_more members i x below in
+        let first : x ≡ get_or members i x = cc in
+        let rest : ms ≡ drop (i + 1) members = cc in
+        round-rest ms (i + 1) rest (omega (arith, long)) (opened_at (seen_members value members) (seen_member value x) now)
+        (round-more i x below first now so_far)
+
+    -- the definitions' round adds doors among the members, and opens what a member opens
+    pub round-is : IsRound value members (length members) roots
+        (round (seen_members value members) (seen_members value members) (open_doors doors roots)).behind doors
+        (round (seen_members value members) (seen_members value members) (open_doors doors roots)).doors
+    round-is = round-rest members 0 refl (omega arith) (open_doors doors roots) (round-none value members roots doors)
 
 -- ---- roots before what the doors lead to
 

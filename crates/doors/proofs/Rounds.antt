@@ -1,5 +1,5 @@
--- A round of the search through doors: which members no member opens, and what is open once a door is added.
-use Rattle.std.proofs.Common.{◌≡◌, ℕ, ◌+◌, ◌<◌, ◌≤◌, Bool, true, false, ◌↔◌, IsTrue, List, [], ◌∷◌, ◌++◌, length, map, get_or}
+-- A round of the search through doors: what it opens, and what is open once a door is added.
+use Rattle.std.proofs.Common.{◌≡◌, ℕ, ◌+◌, ◌<◌, Bool, true, false, ◌↔◌, IsTrue, List, [], ◌∷◌, ◌++◌, length, map, get_or}
 use Rattle.std.proofs.Common.{refl, sym, ap, ◌∙◌, subst, arith, inl, inr, eqb, cond}
 use Rattle.std.proofs.lemmas.Bool.{false≢true, cases_eq, cases_lt}
 use Rattle.std.proofs.lemmas.List.{append_assoc, append-nil, get_or-map, length-map, length-append, map-append, get_or_append_left}
@@ -8,15 +8,55 @@ use Rattle.std.proofs.lemmas.List.Elements.{Contains-append_left, Contains-push}
 use Rattle.std.proofs.Math.Seq.{get_or-append_seam}
 use Rattle.std.specs.Bool.{MatchBool}
 use Rattle.std.specs.List.{HoldsAt, AllWithin, Contains}
-use Rattle.base.specs.ObjectType.{unsealed_type}
-use Rattle.cap_bounds.specs.CapValue.{CapValue, is_sealed}
+use Rattle.base.specs.ObjectType.{sentry_type, unsealed_type}
+use Rattle.cap_bounds.specs.CapValue.{CapValue, is_sealed, value_otype}
+use Rattle.cap_rights.specs.Opened.{opened}
 use Rattle.reached.specs.declared.member.Member.{Member}
 use Rattle.reached.specs.declared.member.Place.{Place}
 use Rattle.doors.specs.declared.through.Door.{Door}
 use Rattle.doors.specs.Closed.{IsOpenedBy, entry, as_code, as_data, own_seal}
 use Rattle.doors.specs.PairLaws.{pair-invocable}
 use Rattle.doors.specs.Through.{AreApart}
-use Rattle.doors.specs.Rounds.{IsOpen, IsDoorAmong, AreDoorsAmong, IsRound}
+
+-- ---- words
+
+-- one of the doors is at this place
+abbrev pub IsOpen : List Door → Place → Type 0
+IsOpen doors place = Contains (map (λ door. door.sealed) doors) place
+
+-- a door among members: one of them, and one that opens it
+pub record IsDoorAmong {X : Type 0} (value : X → CapValue) (members : List (Member X)) (door : Door) (behind : CapValue) : Type 0 where
+  pub sealed : Member X
+  pub key : Member X
+  pub sealed_in : Contains members sealed
+  pub key_in : Contains members key
+  pub sealed_at : door.sealed ≡ sealed.place
+  pub key_at : door.key ≡ key.place
+  pub opens : IsOpenedBy (value sealed.cap) (value key.cap)
+  pub own_key : value_otype (value sealed.cap) ≡ sentry_type → door.key ≡ door.sealed
+  pub behind_is : behind ≡ opened (value sealed.cap)
+
+-- doors among members, each with the value that it leads to
+pub record AreDoorsAmong {X : Type 0} (value : X → CapValue) (members : List (Member X)) (doors : List Door) (behind : List CapValue)
+    : Type 0 where
+  pub many : length behind ≡ length doors
+  pub each : (k : ℕ) (door : Door) (v : CapValue) → k < length doors
+      → IsDoorAmong value members (get_or doors k door) (get_or behind k v)
+
+-- A round through the first `count` of the members: to the doors it adds doors among them, and to the roots what these lead to. Of the
+-- first `count` each that a member opens has its door, and no place has two.
+pub record IsRound {X : Type 0} (value : X → CapValue) (members : List (Member X)) (count : ℕ) (roots new_roots : List CapValue)
+    (doors new_doors : List Door) : Type 0 where
+  pub more : List Door
+  pub behind : List CapValue
+  pub roots_are : new_roots ≡ roots ++ behind
+  pub doors_are : new_doors ≡ doors ++ more
+  pub among : AreDoorsAmong value members more behind
+  pub apart : AreApart doors → AreApart new_doors
+  pub open_now : (k : ℕ) (d key : Member X) → k < count → Contains members key
+      → IsOpenedBy (value (get_or members k d).cap) (value key.cap) → IsOpen new_doors (get_or members k d).place
+
+-- ---- what is open
 
 -- only what is sealed is opened
 pub opened-sealed : (c key : CapValue) → IsOpenedBy c key → is_sealed c ≡ true
@@ -81,24 +121,6 @@ apart-more doors door apart fresh j k d e below within same =
     ]
 
 module _ {X : Type 0} (value : X → CapValue) (members : List (Member X)) where
-  -- none of the first members opens the value
-  abbrev pub NoKeyBelow : CapValue → ℕ → Type 0
-  NoKeyBelow c count = (k : ℕ) (d : Member X) → k < count → IsOpenedBy c (value (get_or members k d).cap) → ⊥
-
-  pub no_key-more : (c : CapValue) (i : ℕ) (x : Member X) → i < length members → x ≡ get_or members i x
-      → (IsOpenedBy c (value x.cap) → ⊥) → NoKeyBelow c i → NoKeyBelow c (i + 1)
-  no_key-more c i x below read fails before k d within opens = elim (cases_eq k i) [
-    | inl same ↦ fails (subst (λ (y : Member X). IsOpenedBy c (value y.cap))
-        (ap (λ n. get_or members n d) same ∙ get_or_default members i d x below ∙ sym read) opens)
-    | inr other ↦ before k d (omega (arith, other)) opens
-  ]
-
-  pub no_key : (c : CapValue) (count : ℕ) → length members ≤ count → NoKeyBelow c count → (key : Member X) → Contains members key
-      → IsOpenedBy c (value key.cap) → ⊥
-  no_key c count all none key there opens =
-      let below : there.0 < length members = there.1 in
-      none there.0 key (omega arith) (subst (λ (y : Member X). IsOpenedBy c (value y.cap)) (sym there.2) opens)
-
   -- ---- doors among members
 
   among-none : AreDoorsAmong value members [] []

@@ -26,9 +26,9 @@ use Rattle.doors.specs.DoorsLaws.{doors-least}
 use Rattle.doors.specs.SetLaws.{tagged-opened}
 use Rattle.doors.specs.Roots.{roots_of, specials_of}
 use Rattle.doors.specs.RootsLaws.{root_there, there_root, special_there, there_special}
-use Rattle.doors.specs.Rounds.{IsOpen, IsDoorAmong, AreDoorsAmong, IsRound}
 use Rattle.doors.specs.Through.{AreReachableThroughDoors, IsAt, AreApart, IsDoor, AreDoors, AreLinkedThroughDoors}
 use Rattle.doors.specs.ThroughOrder.{open_doors, round as round_over, members_behind, round_of, doors_in, members_through}
+use Rattle.doors.proofs.Rounds.{IsOpen, IsDoorAmong, AreDoorsAmong, IsRound}
 use Rattle.doors.proofs.Ordered.{round_of-is, GoesOn, GoesOn-begun, GoesOn-more, doors-done, members-done, values_seen}
 
 -- ---- what is reached from roots
@@ -306,8 +306,7 @@ module _ {X : Type 0} (value : X → CapValue) (s : State) (behind : List CapVal
           same_doors ∙ doors-done s (open_doors doors behind) (open_doors new_doors (behind ++ round.behind)) on next done
 
       pub members-found : GoesOn s (open_doors doors behind) → IsNext
-          → seen_members value members ≡ members_behind s (open_doors doors behind)
-          → seen_members value members ≡ members_through s
+          → seen_members value members ≡ members_behind s (open_doors doors behind) → seen_members value members ≡ members_through s
       members-found on next found =
           found ∙ members-done s (open_doors doors behind) (open_doors new_doors (behind ++ round.behind)) on next done
 

@@ -12,5 +12,3 @@ pub mod PairLaws
 pub mod SetLaws
 pub mod DoorsLaws
 pub mod RootsLaws
--- Inner words
-pub mod Rounds

@@ -1,14 +1,11 @@
 //! The search for what is reachable through doors: it begins anew with what the doors that it found lead to, until it finds no more.
-ghost use Rattle.std.specs.Prelude.{◌≡◌, ◌↔◌, ℕ, Contains, map, length, IfOk, OnOk, IfNone, IfSome, IsTrue};
-ghost use Rattle.cap_rights.specs.Opened.{opened};
+ghost use Rattle.std.specs.Prelude.{◌≡◌, map, IfOk, OnOk};
 ghost use Rattle.reached.specs.declared.member.Member.{Member};
 ghost use Rattle.reached.specs.Links.{values};
 ghost use Rattle.reached.specs.Chain.{AreInOrder};
 ghost use Rattle.reached.specs.Order.{seen_member, seen_members};
-ghost use Rattle.doors.specs.Closed.{IsOpenedBy};
-ghost use Rattle.doors.specs.Rounds.{IsOpen, IsDoorAmong, IsRound};
 ghost use Rattle.doors.specs.Through.{AreReachableThroughDoors, AreLinkedThroughDoors};
-ghost use Rattle.doors.specs.ThroughOrder.{open_doors, door_of, round, doors_in, members_through};
+ghost use Rattle.doors.specs.ThroughOrder.{is_open_at, open_doors, door_of, round, doors_in, members_through};
 
 use crate::opening::{is_sealed, opens};
 use crate::start::{roots, specials};
@@ -38,19 +35,14 @@ pub struct Through<C: CapRep> {
 
 /// Whether one of the doors is at this place.
 fn is_open(doors: &[Door], place: Place) -> bool
-    ensures { IsTrue result ↔ IsOpen doors.now place }
+    ensures { result ≡ is_open_at doors.now place }
 {
     doors.iter().any(|door| door.sealed == place)
 }
 
 /// The door at a member, if a member opens it: a sentry itself, since any key does, and anything else the first that does.
 fn door_at<C: CapRep>(members: &[Member<C>], member: &Member<C>) -> Option<Door>
-    requires { Contains members.now member.now }
-    ensures some { IfSome result (λ door. IsDoorAmong C.value members.now door (opened (C.value member.now.cap))) }
-    ensures place { IfSome result (λ door. door.sealed ≡ member.now.place) }
-    ensures none { IfNone result ((key : Member C) → Contains members.now key
-        → IsOpenedBy (C.value member.now.cap) (C.value key.cap) → ⊥) }
-    ensures first { result ≡ door_of (seen_members C.value members.now) (seen_member C.value member.now) }
+    ensures { result ≡ door_of (seen_members C.value members.now) (seen_member C.value member.now) }
 {
     let sealed = member.place;
     if opens(member.cap, member.cap) {
@@ -76,9 +68,7 @@ fn open_doors<C: CapRep>(
     roots: &mut Vec<C>,
     doors: &mut Vec<Door>,
 ) -> Result<(), AllocError>
-    ensures round { OnOk result (IsRound C.value members.now (length members.now) (map C.value roots.old.items)
-        (map C.value roots.new.items) doors.old.items doors.new.items) }
-    ensures order { OnOk result (open_doors doors.new.items (map C.value roots.new.items)
+    ensures { OnOk result (open_doors doors.new.items (map C.value roots.new.items)
         ≡ round (seen_members C.value members.now) (seen_members C.value members.now)
         (open_doors doors.old.items (map C.value roots.old.items))) }
 {

@@ -1,8 +1,10 @@
 use Rattle.std.proofs.Common.{◌≡◌, ◌^◌, refl, ◌∙◌, length, map, ap, sym, subst, arith}
+use Rattle.std.proofs.lemmas.List.{length-append}
 use Rattle.hart.specs.State.{HoldsCapabilities}
 use Rattle.reached.specs.Order.{seen_members}
-use Rattle.doors.specs.Rounds.{IsRound}
-use Rattle.doors.specs.ThroughOrder.{open_doors, members_behind, round as round_over}
+use Rattle.doors.specs.ThroughOrder.{OpenDoors, open_doors, members_behind, round as round_over}
+use Rattle.doors.proofs.Rounds.{IsRound}
+use Rattle.doors.proofs.Ordered.{round-is}
 use Rattle.doors.proofs.Searched.{IsSearchOf, search_of, opened-none, opened-round, exact-found, linked-found}
 use Rattle.doors.proofs.Searched.{IsNext, next-round, doors-found, members-found, found-behind, exact-through}
 use Rattle.doors.proofs.through.closure_through_doors.Given.{Over}
@@ -28,14 +30,28 @@ searched g c =
     (ap (map value) c.deref-in-loop-doors.ensures.value ∙ c.in_ok-guarded.ensures)
     c.memory.ensures.value c.in_ok-members.members.items found.linked found.sound found.complete
 
+-- the round is the definitions'
+order : (g : Over) (c : After-len g)
+    → open_doors c.open_doors.new.doors.items (map g.C.CapRep.value c.open_doors.new.roots.items)
+    ≡ round_over (seen_members g.C.CapRep.value c.in_ok-members.members.items) (seen_members g.C.CapRep.value c.in_ok-members.members.items)
+    (open_doors c.loop-doors.doors.items (map g.C.CapRep.value c.loop-doors.starts.items))
+order g c =
+    let value = g.C.CapRep.value in
+    let old = open_doors c.loop-doors.doors.items (map value c.loop-doors.starts.items) in
+    let new = open_doors c.open_doors.new.doors.items (map value c.open_doors.new.roots.items) in
+    subst (λ ms. new ≡ round_over (seen_members value ms) (seen_members value ms) old) c.deref-in-loop-doors-2.ensures.value
+    c.in_ok-open_doors.ensures
+
 round : (g : Over) (c : After-len g)
     → IsRound g.C.CapRep.value c.in_ok-members.members.items (length c.in_ok-members.members.items)
     (map g.C.CapRep.value c.loop-doors.starts.items) (map g.C.CapRep.value c.open_doors.new.roots.items) c.loop-doors.doors.items
     c.open_doors.new.doors.items
 round g c =
     let value = g.C.CapRep.value in
-    subst (λ ms. IsRound value ms (length ms) (map value c.loop-doors.starts.items) (map value c.open_doors.new.roots.items)
-    c.loop-doors.doors.items c.open_doors.new.doors.items) c.deref-in-loop-doors-2.ensures.value c.in_ok-open_doors.ensures.round
+    let ms = c.in_ok-members.members.items in
+    let starts = map value c.loop-doors.starts.items in
+    subst (λ (o : OpenDoors). IsRound value ms (length ms) starts o.behind c.loop-doors.doors.items o.doors) (sym (order g c))
+    (round-is value ms starts c.loop-doors.doors.items)
 
 pub returns-then-len-before-clause-exact : goal.returns-then-len-before-clause-exact
 returns-then-len-before-clause-exact g c =
@@ -55,7 +71,7 @@ returns-then-len-before-clause-linked g c =
     (map value c.loop-doors.starts.items) (map value c.open_doors.new.roots.items) c.open_doors.new.doors.items so_far.roots_are (round g h)
     (omega arith)
 
--- the members are those of the definitions, and so is the round
+-- the members are those of the definitions
 found : (g : Over) (c : After-len g)
     → seen_members g.C.CapRep.value c.in_ok-members.members.items
     ≡ members_behind c.args.hart.now (open_doors c.loop-doors.doors.items c.loop-doors.invariant.behind)
@@ -74,13 +90,9 @@ next : (g : Over) (c : After-len g)
 next g c =
     let value = g.C.CapRep.value in
     let so_far = c.loop-doors.invariant in
-    let old = open_doors c.loop-doors.doors.items (map value c.loop-doors.starts.items) in
-    let new = open_doors c.open_doors.new.doors.items (map value c.open_doors.new.roots.items) in
     next-round value c.args.hart.now so_far.behind c.in_ok-members.members.items (searched g c) c.loop-doors.doors.items so_far.are_doors
     (map value c.loop-doors.starts.items) (map value c.open_doors.new.roots.items) c.open_doors.new.doors.items so_far.roots_are (round g c)
-    (found g c)
-    (subst (λ ms. new ≡ round_over (seen_members value ms) (seen_members value ms) old) c.deref-in-loop-doors-2.ensures.value
-    c.in_ok-open_doors.ensures.order)
+    (found g c) (order g c)
 
 pub returns-then-len-before-clause-members : goal.returns-then-len-before-clause-members
 returns-then-len-before-clause-members g c =
@@ -113,3 +125,9 @@ loop-doors-preserved g c =
     opened-round value c.args.hart.now so_far.behind c.in_ok-members.members.items (searched g h) c.loop-doors.doors.items so_far.are_doors
     (map value c.loop-doors.starts.items) (map value c.open_doors.new.roots.items) c.open_doors.new.doors.items so_far.roots_are (round g h)
     so_far.on (next g h) (λ same. omega (arith, same)) (omega arith)
+
+pub loop-doors-smaller : goal.loop-doors-smaller
+loop-doors-smaller g c =
+    let h = (goal.at.loop-doors-smaller g c).After-len in
+    let r = round g h in
+    omega (arith, ap length r.doors_are, length-append c.loop-doors.doors.items r.more)
