@@ -1,7 +1,9 @@
 -- Digits of a number in base 16, the last one first.
-use Rattle.std.proofs.Common.{◌≡◌, ℕ, zero, suc, ◌+◌, ◌/◌, ◌%◌, ◌^◌, ◌<◌, ◌≤◌, ◌⊎◌, inl, inr, false, cond, List, [], ◌∷◌, ◌++◌, refl, sym, ap}
+use Rattle.std.proofs.Common.{◌≡◌, ℕ, zero, suc, ◌+◌, ◌-◌, ◌/◌, ◌%◌, ◌^◌, ◌<◌, ◌≤◌, ◌⊎◌, inl, inr, false, cond, List, [], ◌∷◌, ◌++◌, refl, sym, ap, subst}
 use Rattle.std.proofs.Common.{◌∙◌, append_assoc, arith}
-use Rattle.std.specs.Prelude.{length, IsUtf8, IsAscii}
+use Rattle.std.specs.Prelude.{length, take, drop, IsUtf8, IsAscii}
+use Rattle.std.proofs.Math.ListN.{drop_of_length-le}
+use Rattle.std.proofs.lemmas.List.{drop-append-le, take_all}
 use Rattle.std.specs.Fmt.{digit_glyph, digits_onto, digits}
 use Rattle.std.proofs.Common.{length-append}
 use Rattle.std.proofs.lemmas.Fmt.{hex_one_digit}
@@ -79,6 +81,28 @@ pub length_of_hex : (k n : ℕ) → length (hex_of k n) ≡ k
 unfolding hex_of
 length_of_hex zero n = refl
 length_of_hex (suc k) n = omega (arith, length-append (hex_of k (n / 16)) (last_glyph n ∷ []), length_of_hex k (n / 16))
+
+-- the last of more digits are those of the number
+pub drop_hex : (k w n : ℕ) → drop k (hex_of (k + w) n) ≡ hex_of w n
+unfolding hex_of
+drop_hex k zero n = ap (λ j. drop k (hex_of j n)) (none_more k) ∙ drop_of_length-le (hex_of k n) (omega (arith, length_of_hex k n))
+  where
+    none_more : (k : ℕ) → k + 0 ≡ k
+    none_more k = omega arith
+drop_hex k (suc w) n =
+    ap (λ j. drop k (hex_of j n)) (one_later k w)
+    ∙ drop-append-le k (hex_of (k + w) (n / 16)) (last_glyph n ∷ []) (omega (arith, length_of_hex (k + w) (n / 16)))
+    ∙ ap (λ x. x ++ last_glyph n ∷ []) (drop_hex k w (n / 16))
+  where
+    one_later : (k w : ℕ) → k + suc w ≡ suc (k + w)
+    one_later k w = omega arith
+
+pub last_digits : (w n : ℕ) (ds : List ℕ) → w ≤ 17 → ds ≡ hex_of 17 n → take (17 - (17 - w)) (drop (17 - w) ds) ≡ hex_of w n
+last_digits w n ds few are =
+    let whole : (17 - w) + w ≡ 17 = omega arith in
+    ap (λ xs. take (17 - (17 - w)) (drop (17 - w) xs)) are
+    ∙ ap (take (17 - (17 - w))) (subst (λ j. drop (17 - w) (hex_of j n) ≡ hex_of w n) whole (drop_hex (17 - w) w n))
+    ∙ take_all (17 - (17 - w)) (hex_of w n) (omega (arith, length_of_hex w n))
 
 -- and each an ASCII byte
 glyph_is_ascii : (d : ℕ) → d < 16 → digit_glyph false d < 128

@@ -15,11 +15,10 @@ pub fn hex_digits(n: u128, width: usize) -> ArrayString<17>
     ensures length { array_string_len result ≡ width }
 {
     let mut digits = [0; 17];
-    let written = &mut digits[..width];
-    write_hex(written, n);
+    write_hex(&mut digits, n);
     let mut text = ArrayString::new();
     // SAFETY: digits are ASCII.
-    text.push_str(unsafe { str::from_utf8_unchecked(written) });
+    text.push_str(unsafe { str::from_utf8_unchecked(&digits[17 - width..]) });
     text
 }
 
