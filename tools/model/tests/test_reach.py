@@ -263,6 +263,13 @@ def unseal_any(value):
     return with_fields(value, otype=UNSEALED)
 
 
+def thrown_from(dice, value):
+    """A state of such values: some granules, two registers, PCC and the special registers."""
+    granules = {RAM + 16 * n: value()[:2] + (True,) for n in range(8) if dice.random() < 0.6}
+    registers = {n: value() for n in dice.sample(range(1, 32), 2)}
+    return state(registers, pcc=value(), specials=[value() for _ in range(4)], granules=granules)
+
+
 class Closed(unittest.TestCase):
     """The members are what the definition says, in states that are thrown."""
 
@@ -272,9 +279,7 @@ class Closed(unittest.TestCase):
             base = RAM + 16 * dice.randrange(6) + dice.choice([0, 0, 0, 1])
             made = capability(base, base + 16 * dice.randrange(4), base, dice.choice([TABLE, TABLE, TABLE, 0x5, KERNEL, 0xC]))
             return dice.choice([made, made, made, seal(made, root(9)), untagged(made)])
-        granules = {RAM + 16 * n: value()[:2] + (True,) for n in range(8) if dice.random() < 0.6}
-        registers = {n: value() for n in dice.sample(range(1, 32), 2)}
-        return state(registers, pcc=value(), specials=[value() for _ in range(4)], granules=granules)
+        return thrown_from(dice, value)
 
     def test_the_members_are_the_least_closed_set_and_each_is_opened_by_an_earlier_one(self):
         sizes = set()
@@ -299,9 +304,7 @@ class Closed(unittest.TestCase):
             base = RAM + 16 * dice.randrange(6)
             made = capability(base, base + 16 * dice.randrange(1, 4), base, dice.choice([TABLE, TABLE | CINVOKE, 0x102, 0x117]))
             return dice.choice([made, seal(made, root(dice.choice([8, 9]))), ONE["CSealEntry"](made), capability(8, 9, 8, SEAL)])
-        granules = {RAM + 16 * n: value()[:2] + (True,) for n in range(8) if dice.random() < 0.6}
-        registers = {n: value() for n in dice.sample(range(1, 32), 2)}
-        return state(registers, pcc=value(), specials=[value() for _ in range(4)], granules=granules)
+        return thrown_from(dice, value)
 
     def test_through_doors_they_are_the_least_set_with_doors(self):
         opened_doors = set()
