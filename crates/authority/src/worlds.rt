@@ -23,7 +23,8 @@ ghost use Rattle.authority.specs.Worlds.{IsReadable, IsTagReadable, Agree};
 pub fn agreeing_states_step_alike()
     ensures effect { (s t : State) → SameLooks s t → step_effect t ≡ step_effect s }
     ensures sent { (s t : State) → SameLooks s t → step_sent t ≡ step_sent s }
-    ensures changes { (s t : State) → IsState s → SameLooks s t → is_trap (step_outcome s) ≡ false → ChangesAlike s (stepped s) t (stepped t) }
+    ensures changes { (s t : State) → IsState s → SameLooks s t → is_trap (step_outcome s) ≡ false
+        → ChangesAlike s (stepped s) t (stepped t) }
     ensures looks { (s t : State) → Agree s t → SameLooks s t }
     ensures outcome { (e : Event) (s t : State) → Agree s t → outcome e t ≡ outcome e s }
     ensures byte { (e : Event) (s t : State) → Agree s t → sent e t ≡ sent e s }

@@ -97,7 +97,8 @@ no_run rows none (Asm input output symbols) fits sound =
     let bad : 114 ≡ 97 = ap (λ t. slice_index t 0) fits.0 in absurd (omega (arith, bad))
 no_run rows none (Image flat output layout) fits sound =
     let bad : 114 ≡ 105 = ap (λ t. slice_index t 0) fits.0 in absurd (omega (arith, bad))
-no_run rows none (Run image steps times gap tick input quiet why trace from last) fits sound = none steps times gap tick trace from last fits.2 sound.0 fits.6 sound.1
+no_run rows none (Run image steps times gap tick input quiet why trace from last) fits sound =
+    none steps times gap tick trace from last fits.2 sound.0 fits.6 sound.1
 no_run rows none (Dis image symbols) fits sound =
     let bad : 114 ≡ 100 = ap (λ t. slice_index t 0) fits.0 in absurd (omega (arith, bad))
 no_run rows none (Debug image symbols input gap tick) fits sound =

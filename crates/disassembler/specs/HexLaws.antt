@@ -1,5 +1,6 @@
 -- Digits of a number in base 16, the last one first.
-use Rattle.std.proofs.Common.{◌≡◌, ℕ, zero, suc, ◌+◌, ◌-◌, ◌/◌, ◌%◌, ◌^◌, ◌<◌, ◌≤◌, ◌⊎◌, inl, inr, false, cond, List, [], ◌∷◌, ◌++◌, refl, sym, ap, subst}
+use Rattle.std.proofs.Common.{◌≡◌, ℕ, zero, suc, ◌+◌, ◌-◌, ◌/◌, ◌%◌, ◌^◌, ◌<◌, ◌≤◌, ◌⊎◌, inl, inr}
+use Rattle.std.proofs.Common.{false, cond, List, [], ◌∷◌, ◌++◌, refl, sym, ap, subst}
 use Rattle.std.proofs.Common.{◌∙◌, append_assoc, arith}
 use Rattle.std.specs.Prelude.{length, take, drop, IsUtf8, IsAscii}
 use Rattle.std.proofs.Math.ListN.{drop_of_length-le}
@@ -116,7 +117,8 @@ ascii_hex : (k n : ℕ) → IsAscii (hex_of k n)
 unfolding hex_of
 ascii_hex zero n = λ i. omega arith
 ascii_hex (suc k) n =
-    IsAscii-append (hex_of k (n / 16)) (last_glyph n ∷ []) (ascii_hex k (n / 16)) (ascii_one (last_glyph n) (glyph_is_ascii (n % 16) (omega arith)))
+    let last = ascii_one (last_glyph n) (glyph_is_ascii (n % 16) (omega arith)) in
+    IsAscii-append (hex_of k (n / 16)) (last_glyph n ∷ []) (ascii_hex k (n / 16)) last
 
 pub hex_is_utf8 : (k n : ℕ) → IsUtf8 (hex_of k n)
 hex_is_utf8 k n = IsUtf8-from_ascii (hex_of k n) (ascii_hex k n)

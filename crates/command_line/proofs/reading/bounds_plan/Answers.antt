@@ -8,4 +8,5 @@ returns-in_err-asked-in-None-clause-none c =
 
 pub returns-in_err-asked-in-Some-clause-none : goal.returns-in_err-asked-in-Some-clause-none
 returns-in_err-asked-in-Some-clause-none c =
-    if_err c.from_residual-in_err-asked-in-Some.result _ (no_bounds (rows_of (found_of c.args.found.now)) c.in_err-asked-in-Some.ensures.err)
+    let no = no_bounds (rows_of (found_of c.args.found.now)) c.in_err-asked-in-Some.ensures.err in
+    if_err c.from_residual-in_err-asked-in-Some.result _ no
