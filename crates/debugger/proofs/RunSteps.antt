@@ -7,6 +7,7 @@ use Rattle.std.proofs.lemmas.Bool.Decides.{nat_tests}
 use Rattle.hart.specs.declared.event.Event.{Event}
 use Rattle.hart.specs.declared.event.Event.TheVariants.{Step}
 use Rattle.hart.specs.State.{State, pc_of}
+use Rattle.hart.specs.Outcome.{is_trap}
 use Rattle.hart.specs.Steps.{GoesBy}
 use Rattle.hart.specs.Event.{after, sent}
 use Rattle.machine.specs.Run.{run_after, run_sent}
@@ -129,7 +130,7 @@ or_false false = refl
 
 pub goes-on-by : (stop : Stop) (s : State) → GoesBy (stop_address stop) s → is_any_stop (stop ∷ []) s ≡ false
 goes-on-by (Address address) s by = or_false (is_stop (Address address) s) ∙ elsewhere-not (pc_of s) address by.elsewhere
-goes-on-by Trap s by = or_false (is_stop Trap s) ∙ by.plain
+goes-on-by Trap s by = or_false (is_stop Trap s) ∙ ap is_trap by.plain
 
 pub passes-none : (stops : List Stop) → length stops < 1 → (s : State) → GoesBy None s → is_any_stop stops s ≡ false
 passes-none [] few s by = refl
