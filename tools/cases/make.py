@@ -43,6 +43,8 @@ SOURCES = [
     "sessions",
     "command_lines",
     "program_cases",
+    "policed",
+    "breaches",
     "alone",
 ]
 

@@ -771,7 +771,8 @@ def read_so_far():
 TEXTS_OF_CODES = {
     "line 7: ": ("A1 unknown mnemonic", "A2 operands", "A3 immediate out of range", "A4 label twice", "A5 label unknown",
                  "A6 target out of range", "A7 place", "A8 byte not ASCII", "A9 line too long", "A10 no memory",
-                 "A11 capability not exact"),
+                 "A11 capability not exact", "P1 neither a definition nor a rule", "P2 name unknown", "P3 name twice", "P4 number",
+                 "P5 range empty", "P6 part unknown", "P7 part twice", "P8 part malformed"),
     "": ("L1 short header", "L2 magic", "L3 version", "L4 pages, entry or mode", "L5 too many sections", "L6 section outside RAM",
          "L7 sections not ascending", "L8 truncated", "L9 bytes after the end", "L10 device failed", "L11 no memory",
          "L12 capability place", "L13 capability not exact", "L14 permissions or flag", "L15 too many capabilities",

@@ -9,6 +9,7 @@ has a name has it in one module.
     integers.py      what each row over integers gives (RISC-V unprivileged manual)
     faults.py        what mcause and mtval tell
     reach.py         what code can reach (docs/AUTHORITY.md)
+    policy.py        rules for what code can reach (docs/POLICY.md)
     devices.py       where the devices' registers lie
     images.py        image files, byte by byte
 

@@ -44,7 +44,8 @@ def files(bench, text):
         if image is None:
             raise ValueError(told)
         return {"hello.img": image, "hello.s": text.encode(), "hello.bin": image, "keys": KEYS,
-                "hello.sym": b"0000000080000000 start\n0000000080000004 next\n"}
+                "hello.sym": b"0000000080000000 start\n0000000080000004 next\n",
+                "hello.policy": b"when pc in 0..0x80000000: store no\n"}
     return bench.once(text, made)
 
 

@@ -2,7 +2,7 @@
 from typing import Callable, NamedTuple
 
 from . import (capabilities, checks, command_lines, commands, conversations, devices, image_cases, instructions, kernel, lines, memory,
-               naming, paths, programs, reaching, registers, schedules, texts, told)
+               naming, paths, policies, programs, reaching, registers, schedules, texts, told)
 from .reading import blocks_of, lines_of
 
 
@@ -59,12 +59,14 @@ FILES = [
     File("sessions", conversations.session, 125, piece=10),
     File("talks", conversations.talk, 171, piece=20),
     File("runs", programs.program, 15),
-    File("plans", command_lines.plan, 133, piece=10),
+    File("plans", command_lines.plan, 146, piece=10),
     File("listings", command_lines.listing, 21),
     File("worlds", programs.worlds, 14),
     File("schedules", schedules.schedule, 211, piece=8),
     File("commands", commands.command, 385, piece=20),
-    File("told", told.fault, 45, piece=10),
+    File("policies", commands.command, 195, piece=20),
+    File("told", told.fault, 53, piece=10),
     File("compartments", kernel.meeting, 34),
     File("reaches", reaching.reach, 36, piece=8),
+    File("breaches", policies.breach, 19, piece=4),
 ]

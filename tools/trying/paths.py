@@ -11,8 +11,9 @@ def below(*names):
 # Files of cases, and those of them that the proved program reads too.
 CASES = below("cases")
 PROVED_CASES = below("crates", "conformance", "data")
-# The kernel with two compartments, and other pieces of compartments.
+# The kernel with two compartments, their policy, and other pieces of compartments.
 KERNEL = below("examples", "compartments.s")
+POLICY = below("examples", "compartments.policy")
 COMPARTMENTS = below("cases", "kernel")
 # Programs that fill memories with capabilities.
 REACHES = below("cases", "reaches")

@@ -28,6 +28,11 @@ FILES = {
     "L9": FIRST + b"\0", "L12": file_v2(1, RAM, 0, [granted(RAM + 8)]), "L13": file_v2(1, RAM, 0, [granted(length=4097)]),
     "L14": patched(ONE_CAPABILITY, {64: 2}), "L15": patched(ONE_CAPABILITY, {32: 1, 33: 4}),
 }
+# Of a fault of a policy the first line, or nothing, and the seventh.
+POLICIES = {
+    "P1": (b"", b"A"), "P2": (b"", b"A = B"), "P3": (b"A = 0..1", b"A = 0..1"), "P4": (b"", b"A = 0..0x"), "P5": (b"", b"A = 1..1"),
+    "P6": (b"", b"when pc in 0..1: x no"), "P7": (b"", b"when pc in 0..1: load no, load no"), "P8": (b"", b"when pc in 0..1: load"),
+}
 # Of another fault the command line, the files, what is typed, the directories and the devices.
 OTHERS = {
     "L10": ("run a.img 5", {"a.img": FIRST}, b"", [], {"/a.img": 3}),
@@ -87,6 +92,8 @@ def fault(bench, case):
     name = case.inputs
     if name in TEXTS:
         return told_by(bench, "asm a.s a.img", {"a.s": b"".join(TEXTS[name])})
+    if name in POLICIES:
+        return told_by(bench, "run a.img 5 --policy a.s", {"a.img": FIRST, "a.s": (b"\n" * 6).join(POLICIES[name])})
     if name in FILES:
         return told_by(bench, "run a.img 5", {"a.img": FILES[name]})
     if name in OTHERS:

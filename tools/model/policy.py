@@ -1,0 +1,180 @@
+"""Policies: rules for the code in some ranges as texts, what breaks one, and what a run says that stops there.
+
+A line is a definition, `NAME = RANGES`, or a rule, `when pc in RANGES: PART, ..`; `#` begins a comment. A rule holds of a state if no
+capability that is reachable in it breaks a part of the rule.
+"""
+
+import re
+from typing import NamedTuple, Optional
+
+from model.capabilities import base, has, is_unsealed, otype, top
+from model.devices import HALT, RAM, TIMER_COMPARE, TRANSMIT
+from model.reach import opens_bytes, opens_system
+from model.rights import EXECUTE, GREATEST_SEALING_TYPE, LOAD, SEAL, STORE, UNSEAL
+from model.words import ONES, SPACE
+
+CODES = {"P1": "neither a definition nor a rule", "P2": "name unknown", "P3": "name twice", "P4": "number", "P5": "range empty",
+         "P6": "part unknown", "P7": "part twice", "P8": "part malformed"}
+BLANKS = " \t\r"
+NAME = re.compile(r"[A-Za-z_.][\w.]*", re.ASCII)
+NUMBER = re.compile(r"0x[0-9A-Fa-f]+|[0-9]+")
+
+# The parts that give ranges of RAM, those that say yes or no, and all of them in their order.
+OF_BYTES = {"store": STORE, "load": LOAD, "execute": EXECUTE}
+OF_DEVICES = {"transmit": TRANSMIT, "halt": HALT, "timer": TIMER_COMPARE}
+PARTS = (*OF_BYTES, *OF_DEVICES, "system", "seal", "types")
+
+
+class Malformed(Exception):
+    """The code of a faulty line."""
+
+
+class Rule(NamedTuple):
+    """A rule: the number of its line, its text, the ranges of its code, and what each part that stands there allows: ranges of addresses,
+    whether it is allowed at all, or object types."""
+    line: int
+    text: str
+    code: list
+    allowed: dict
+
+
+class Breach(NamedTuple):
+    """A rule that is broken, the number of the member that breaks it, and the part."""
+    rule: Rule
+    member: int
+    part: str
+
+
+# ---- texts
+
+def number(word, most):
+    if not NUMBER.fullmatch(word) or int(word, 0) > most:
+        raise Malformed("P4")
+    return int(word, 0)
+
+
+def address(word, labels):
+    """A label of the table, or a number."""
+    if word in labels:
+        return labels[word]
+    if NAME.fullmatch(word):
+        raise Malformed("P2")
+    return number(word, ONES)
+
+
+def ranges(words, names, labels):
+    """The ranges that words give, as pairs of the first address and the one after the last."""
+    found = []
+    for word in words:
+        first, dots, last = word.partition("..")
+        if word in names:
+            found += names[word]
+        elif not dots:
+            raise Malformed("P2")
+        else:
+            start = address(first, labels)
+            end = start + number(last[1:], ONES) if last.startswith("+") else address(last, labels)
+            if end > SPACE:
+                raise Malformed("P4")
+            if end <= start:
+                raise Malformed("P5")
+            found.append((start, end))
+    return found
+
+
+def part(name, words, names, labels):
+    """What a part allows, by the words after its name."""
+    if name == "types" and words == ["none"]:
+        return []
+    if name == "types" and words:
+        return [number(word, GREATEST_SEALING_TYPE) for word in words]
+    if name in OF_BYTES and words == ["no"]:
+        return []
+    if name in OF_BYTES and words[:1] == ["within"] and words[1:]:
+        return ranges(words[1:], names, labels)
+    if name in OF_BYTES or name == "types" or words not in (["yes"], ["no"]):
+        raise Malformed("P8")
+    return words == ["yes"]
+
+
+def parts(text, names, labels):
+    """The parts of a rule, by their names."""
+    allowed = {}
+    for one in text.split(","):
+        name, *words = one.split() or [""]
+        if name not in PARTS:
+            raise Malformed("P6")
+        if name in allowed:
+            raise Malformed("P7")
+        allowed[name] = part(name, words, names, labels)
+    return allowed
+
+
+def read(text, labels):
+    """The rules of a text, with a table's labels and their addresses; or the code and the line of its first fault."""
+    names, rules = {}, []
+    for line, whole in enumerate(text.split("\n"), 1):
+        said = whole.partition("#")[0].strip(BLANKS)
+        head, colon, rest = said.partition(":")
+        words = said.split()
+        try:
+            if words[1:2] == ["="] and words[2:]:
+                if words[0] in names:
+                    raise Malformed("P3")
+                names[words[0]] = ranges(words[2:], names, labels)
+            elif words[:3] == ["when", "pc", "in"] and colon and head.split()[3:]:
+                code = ranges(head.split()[3:], names, labels)
+                rules.append(Rule(line, said, code, parts(rest, names, labels)))
+            elif said:
+                raise Malformed("P1")
+        except Malformed as fault:
+            return [], (*fault.args, line)
+    return rules, None
+
+
+# ---- what breaks a rule
+
+def is_in(spans, place):
+    return any(first <= place < end for first, end in spans)
+
+
+def lies_within(spans, first, end):
+    """Whether all addresses from one on and below the other lie in some of the ranges."""
+    for start, after in sorted(spans):
+        if start <= first < after:
+            first = after
+    return first >= end
+
+
+def breaks(value, name, allowed):
+    """Whether a capability breaks a part that allows so much."""
+    if name in OF_BYTES:
+        return is_unsealed(value) and has(value, OF_BYTES[name]) and not lies_within(allowed, max(base(value), RAM), top(value))
+    if name == "types":
+        return otype(value) <= GREATEST_SEALING_TYPE and otype(value) not in allowed
+    if allowed:
+        return False
+    if name in OF_DEVICES:
+        return opens_bytes(value, STORE, OF_DEVICES[name], 1)
+    if name == "system":
+        return opens_system(value)
+    return is_unsealed(value) and has(value, SEAL | UNSEAL) and base(value) < min(top(value), GREATEST_SEALING_TYPE + 1)
+
+
+def first_breach(rules, pc, found) -> Optional[Breach]:
+    """Of the members of a state the first rule about its code that one breaks, the first that does, and the first part that it breaks."""
+    return next((Breach(rule, member, name) for rule in rules if is_in(rule.code, pc) for member, (value, *_) in enumerate(found)
+                 for name in PARTS if name in rule.allowed and breaks(value, name, rule.allowed[name])), None)
+
+
+# ---- what is said
+
+def refused(code, line, file):
+    """The lines of a text that isn't read."""
+    return f"cherisim: line {line}: {code} {CODES[code]}\n  {file}:{line}\n"
+
+
+def stopped(breach, steps, pc, held):
+    """The lines of a run that stops before a step, with the way to the capability and the capability."""
+    return (f"cherisim: not halted\ncherisim: steps {steps}, pcc {pc:016x}\ncherisim: policy: line {breach.rule.line}: {breach.part}\n"
+            f"  rule  {breach.rule.text}\n  held  {held}\n")
