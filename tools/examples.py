@@ -4,8 +4,9 @@
     python3 tools/examples.py [PROGRAM]
 
 PROGRAM is the proved program, as the gate leaves it: crates/cherisim/out/cherisim. An example is a text NAME.s in examples/, with what
-it sends in NAME.out, and NAME.in where bytes come in; it must halt with 0 within 100000 steps. Where a page shows a session with it,
-what is typed stands in NAME.commands and what is answered in NAME.replies; a session has the text's labels.
+it sends in NAME.out, and NAME.in where bytes come in; it must halt with 0 within 100000 steps, and do the same under NAME.policy where
+there is one. Where a page shows a session with it, what is typed stands in NAME.commands and what is answered in NAME.replies; a session
+and a policy have the text's labels.
 """
 import glob
 import os
@@ -49,8 +50,11 @@ def wrong(program, name, room):
     labels = ["--symbols", os.path.join(room, f"{name}.sym")]
     came([program, "asm", f"{beside}.s", image, *labels])
     typed = ["--input", f"{beside}.in"] if stands(f"{beside}.in") else []
-    if came([program, "run", image, STEPS, *typed, *OPTIONS.get(name, [])]) != read(f"{beside}.out"):
+    run = [program, "run", image, STEPS, *typed, *OPTIONS.get(name, [])]
+    if came(run) != read(f"{beside}.out"):
         return "doesn't send what it is to send"
+    if stands(f"{beside}.policy") and came([*run, "--policy", f"{beside}.policy", *labels]) != read(f"{beside}.out"):
+        return "doesn't send what it is to send under its policy"
     if stands(f"{beside}.commands") and came([program, "debug", image, *labels], read(f"{beside}.commands")) != read(f"{beside}.replies"):
         return "isn't answered as it is to be answered"
     return ""

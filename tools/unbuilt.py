@@ -25,6 +25,8 @@ LISTED = re.compile(r"    (\./cherisim\b[^#\n]*)")
 # What a command line may also look like.
 OTHERS = ("./cherisim asm --symbols=labels.sym examples/list.s list.img", "./cherisim dis --symbols=labels.sym -- list.img",
           "./cherisim run --trace=steps.trace --quiet list.img 30", "./cherisim run --why list.img 30",
+          "echo 'when pc in 0..4: store no' > low.policy && ./cherisim run list.img 30 --quiet --policy low.policy",
+          "./cherisim run --policy=low.policy list.img 10000 --symbols labels.sym",
           "./cherisim run examples/none.img 5")
 
 # The command that is called with `rt` itself.
