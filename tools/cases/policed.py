@@ -19,7 +19,7 @@ from model.rights import (ACCESS_SYSTEM_REGISTERS, CINVOKE, EXECUTE, GLOBAL, GRE
 # The program of first.img, which stays root and sends `A`.
 FIRST = "lui a1, 0x10000; addi a0, zero, 65; sb a0, 0(a1); lui a1, 0x100; sd zero, 0(a1)"
 CODE, GIVEN, DATA = RAM + 0x100, RAM + 0x200, RAM + 0x300
-CALL, PAIR, TABLE = GLOBAL | EXECUTE, GLOBAL | CINVOKE, LOAD | LOAD_CAPABILITY
+CALL, TABLE = GLOBAL | EXECUTE, LOAD | LOAD_CAPABILITY
 # What code is given so that it can halt the machine.
 HALTS = ("cs11", "0x100000", 8, STORE)
 
@@ -239,6 +239,7 @@ def moves():
                     then=("nop", "ecall", "entry: csd zero, 0(cs11)"))
     yield goes(traps, "when pc in code..entry: system no\n")
     yield stops(traps, "when pc in entry..+4: system no\nwhen pc in code..entry: system no\n")
+    yield stops(traps, inside("system no"))
     yield "# a sealed jump, a jump to a sentry and an unsealing, in code that the rule is about all the while"
     halts = ("cs1", "0x100000", 8, STORE | GLOBAL | CINVOKE)
     pair = program(halts, ("cs0", "inner", 16, CALL | CINVOKE), before=[*sealed("cs0", 5), *sealed("cs1", 5)],
@@ -278,6 +279,7 @@ def outside():
     for tick in (1, 9):
         yield stops(kernel, "when pc in entry..+4: system no\nwhen pc in code..+4: system no\n", options=f"--tick {tick}", tick=tick)
         yield goes(kernel, "when pc in code..entry: system no, timer no\n", options=f"--tick {tick}", tick=tick)
+        yield stops(kernel, inside("system no"), options=f"--tick {tick}", tick=tick)
     yield goes(kernel, "when pc in entry..+4: system no\n", 30, options="--tick 0", tick=0)
 
 

@@ -64,7 +64,7 @@ FILES = [
     File("worlds", programs.worlds, 14),
     File("schedules", schedules.schedule, 211, piece=8),
     File("commands", commands.command, 385, piece=20),
-    File("policies", commands.command, 195, piece=20),
+    File("policies", commands.command, 198, piece=20),
     File("told", told.fault, 53, piece=10),
     File("compartments", kernel.meeting, 34),
     File("reaches", reaching.reach, 36, piece=8),
