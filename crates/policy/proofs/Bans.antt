@@ -3,11 +3,11 @@ use Rattle.std.proofs.Common.{ℕ, ◌<◌, List, [], ◌∷◌}
 use Rattle.cap_bounds.specs.CapValue.{CapValue}
 use Rattle.policy.specs.declared.rule.Rule.{Rule}
 use Rattle.policy.specs.declared.rule.Ban.{Ban}
-use Rattle.policy.specs.declared.rule.Ban.TheVariants.{Store, Load, Execute, Transmit, Halt, Timer, System}
+use Rattle.policy.specs.declared.rule.Ban.TheVariants.{Store, Load, Execute, Transmit, Halt, Timer, System, Seal, Types}
 use Rattle.policy.specs.Rule.{Breaks, place_of}
 
 abbrev pub bans : List Ban
-bans = Store ∷ Load ∷ Execute ∷ Transmit ∷ Halt ∷ Timer ∷ System ∷ []
+bans = Store ∷ Load ∷ Execute ∷ Transmit ∷ Halt ∷ Timer ∷ System ∷ Seal ∷ Types ∷ []
 
 -- none of the parts before a place is broken
 abbrev pub HoldBelow : Rule → CapValue → ℕ → Type 0

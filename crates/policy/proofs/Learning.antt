@@ -1,5 +1,5 @@
 -- What code learns at an event while a rule holds: states that differ outside its ranges for loads and fetches alone agree.
-use Rattle.std.proofs.Common.{◌≡◌, ℕ, ◌≤◌, Option, None, Some, refl, sym, ap, ◌∙◌, subst, inl, inr, ◌⊎◌}
+use Rattle.std.proofs.Common.{◌≡◌, ℕ, ◌≤◌, Option, None, Some, List, refl, sym, ap, ◌∙◌, subst, inl, inr, ◌⊎◌}
 use Rattle.base.specs.Ram.{ram_base}
 use Rattle.base.specs.Size.{bytes_of}
 use Rattle.cap_bounds.specs.CapValue.{CapValue, word_of, is_tagged}
@@ -23,7 +23,7 @@ use Rattle.authority.specs.Worlds.{IsReadable, Agree}
 use Rattle.reach.specs.Ranges.{IsInOne}
 use Rattle.policy.specs.declared.rule.Rule.{Rule}
 use Rattle.policy.specs.declared.rule.Ban.TheVariants as ban
-use Rattle.policy.specs.Watch.{Holds, DiffersOutside, LearnsBy, KeepsTo}
+use Rattle.policy.specs.Watch.{Holds, HoldEach, DiffersOutside, LearnsBy, KeepsTo, KeepsToEach}
 use Rattle.policy.proofs.Covers.{in_or_out}
 use Rattle.policy.proofs.Leaving.{leaves-by}
 use Rattle.policy.proofs.Memories.{AreSameWhere, same-number, same-value}
@@ -159,3 +159,9 @@ module _ (rule : Rule) where
 
     pub keeps-to : (e : Event) → IsState s → KeepsTo rule e s
     keeps-to e is = record { holds = holds; leaves = leaves-by s rule holds e is; learns = learns-by e is }
+
+-- ---- the rules about the code
+
+-- where each of them holds, every event keeps to each
+pub keeps-to-each : (rules : List Rule) (e : Event) (s : State) → IsState s → HoldEach rules s → KeepsToEach rules e s
+keeps-to-each rules e s is hold = λ rule there about. keeps-to rule s (hold rule there about) e is

@@ -102,7 +102,7 @@ module _ (s : State) where
   -- ---- a rule that holds
 
   module _ (rule : Rule) (holds : Holds rule s) where
-    not_stored : (a : ℕ) → ram_base ≤ a → (IsInOne rule.store.items a → ⊥) → Not (IsWritable s a)
+    pub not_stored : (a : ℕ) → ram_base ≤ a → (IsInOne rule.store.items a → ⊥) → Not (IsWritable s a)
     not_stored a low outside = λ writable. holds writable.source writable.reachable (record {
       ban = ban.Store;
       breaks = record {

@@ -1,8 +1,12 @@
 pub mod Covers
 pub mod Bans
 pub mod Rights
+pub mod Passing
 pub mod Leaving
 pub mod Memories
+pub mod Granules
+pub mod Certificates
+pub mod Advancing
 pub mod Learning
 pub mod Runs
 pub mod Looking

@@ -1,7 +1,7 @@
 -- What a look at a state says, where its reach is known.
-use Rattle.std.proofs.Common.{◌≡◌, ℕ, List, get_or, map, ap, sym, ◌∙◌, subst, Bool, true, false, refl}
+use Rattle.std.proofs.Common.{◌≡◌, ℕ, List, map, ap, sym, ◌∙◌, subst, Bool, true, false, refl, inl, inr, ◌⊎◌}
 use Rattle.std.specs.Bool.{then_some}
-use Rattle.std.specs.Prelude.{Option, IfSome, IfNone, Contains}
+use Rattle.std.specs.Prelude.{Option, Some, IfSome, IfNone, Contains}
 use Rattle.cap_bounds.specs.CapValue.{CapValue}
 use Rattle.hart.specs.declared.event.Event.{Event}
 use Rattle.hart.specs.Event.{after, outcome}
@@ -15,10 +15,10 @@ use Rattle.reach.proofs.Reaches.{values_seen}
 use Rattle.reach.specs.First.{HoldsOfNone}
 use Rattle.reach.specs.Reach.{AreReachable, members_in}
 use Rattle.policy.specs.declared.rule.Rule.{Rule}
-use Rattle.policy.specs.declared.watch.Refused.{Refused}
+use Rattle.policy.specs.declared.refused.Refused.{Refused}
 use Rattle.policy.specs.Rule.{BreaksRule}
-use Rattle.policy.specs.Watch.{IsAbout, Holds, IsFirstRefused, IsRefused, values_in}
-use Rattle.policy.specs.Known.{AreKnown}
+use Rattle.policy.specs.Watch.{IsAbout, Holds, HoldEach, IsFirstRefused, IsRefused, values_in}
+use Rattle.policy.specs.Known.{WasAbout, AreKnown}
 use Rattle.policy.proofs.Rights.{holds-after}
 use Rattle.policy.proofs.Runs.{some-map, none-map}
 
@@ -37,22 +37,30 @@ module _ (h s : State) (same_state : h ≡ s) (rules : List Rule) (pc : ℕ) (sa
 
   pub holds-in : (o : Option Refused)
       → IfNone o ((rule : Rule) → Contains rules rule → IsAbout rule pc → HoldsOfNone (BreaksRule rule) (values value members))
-      → IfNone o ((rule : Rule) → Contains rules rule → IsAbout rule (pc_of s) → Holds rule s)
+      → IfNone o (HoldEach rules s)
   holds-in o =
       none-map _ _ o (λ none rule there about v reachable.
       none rule there (subst (IsAbout rule) (sym same_pc) about) v
       ((subst (λ t. AreReachable t (values value members)) same_state are).complete v reachable))
 
--- after a plain event the rules about the code before it are known to hold
+-- ---- what is known after an event
+
 known-if : (rules : List Rule) (s : State) (pc : ℕ) (plain : Bool) (known : Option ℕ) → known ≡ then_some plain pc
-    → (plain ≡ true → (rule : Rule) → Contains rules rule → IsAbout rule pc → Holds rule s) → AreKnown rules known s
+    → (plain ≡ true → AreKnown rules (Some pc) s) → AreKnown rules known s
 known-if rules s pc true known same hold = subst (λ o. AreKnown rules o s) (sym same) (hold refl)
 known-if rules s pc false known same hold = subst (λ o. AreKnown rules o s) (sym same) (λ rule there about. absurd about)
 
-pub known-after : (rules : List Rule) (t next : State) (events : List Event) (i : ℕ) (d : Event) (pc : ℕ) (plain : Bool)
-    (known : Option ℕ) → IsState t → next ≡ after (get_or events i d) t → (plain ≡ true → outcome (get_or events i d) t ≡ Plain)
-    → known ≡ then_some plain pc → pc ≡ pc_of t
-    → ((rule : Rule) → Contains rules rule → IsAbout rule (pc_of t) → Holds rule t) → AreKnown rules known next
-known-after rules t next events i d pc plain known is met is_plain same same_pc all =
+-- after a plain event the lasting rules about the code before it are known to hold
+pub known-after : (rules : List Rule) (t next : State) (e : Event) (pc : ℕ) (plain : Bool) (known : Option ℕ) → IsState t
+    → next ≡ after e t → (plain ≡ true → outcome e t ≡ Plain) → known ≡ then_some plain pc → pc ≡ pc_of t → HoldEach rules t
+    → AreKnown rules known next
+known-after rules t next e pc plain known is met is_plain same same_pc all =
     known-if rules next pc plain known same (λ yes rule there about. subst (Holds rule) (sym met)
-    (holds-after rule t (get_or events i d) is (is_plain yes) (all rule there (subst (IsAbout rule) same_pc about))))
+    (holds-after rule t e is (is_plain yes) about.0 (all rule there (subst (IsAbout rule) same_pc about.1))))
+
+-- ---- what is certain
+
+pub holds-certain : (rules : List Rule) (s : State) (pc : ℕ) (known : Option ℕ) → pc ≡ pc_of s → AreKnown rules known s
+    → ((rule : Rule) → Contains rules rule → IsAbout rule pc → WasAbout known rule ⊎ Holds rule s) → HoldEach rules s
+holds-certain rules s pc known same knows certain = λ rule there about.
+    elim (certain rule there (subst (IsAbout rule) (sym same) about)) [ inl was ↦ knows rule there was | inr holds ↦ holds ]

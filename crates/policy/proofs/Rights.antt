@@ -1,23 +1,32 @@
--- What breaks a rule is broken by whatever has its rights; so a rule that holds goes on holding over plain events.
-use Rattle.std.proofs.Common.{◌≡◌, List, arith}
-use Rattle.cap_bounds.specs.CapValue.{CapValue}
+-- What breaks a rule is broken by whatever has its rights; so a rule that holds goes on holding over plain events, unless new seals may
+-- break it.
+use Rattle.std.proofs.Common.{◌≡◌, ℕ, true, false, List, Option, None, Some, arith, subst, inl, inr, ◌⊎◌}
+use Rattle.std.proofs.lemmas.Bool.{true≢false}
+use Rattle.std.specs.Prelude.{MatchOption, IsNone}
+use Rattle.base.specs.ObjectType.{is_reserved}
+use Rattle.cap_bounds.specs.CapValue.{CapValue, is_sealed, value_otype}
 use Rattle.cap_rights.specs.declared.permission.Permission.{Permission}
+use Rattle.cap_rights.specs.declared.permission.Permission.TheVariants as permission
+use Rattle.cap_rights.specs.Permission.{permits}
 use Rattle.cap_rights.specs.Rights.{IsInRightsOf}
 use Rattle.cap_rights.specs.RightsLaws.{permits-outer, unsealed-outer, OpensStore-outer, OpensSystem-outer}
+use Rattle.cap_rights.specs.Within.{IsWithin}
 use Rattle.devices.specs.Devices.{halt, timer_compare, transmit}
 use Rattle.hart.specs.declared.event.Event.{Event}
 use Rattle.hart.specs.Event.{after, outcome}
 use Rattle.hart.specs.IsState.{IsState}
 use Rattle.hart.specs.Outcome.{Plain}
 use Rattle.hart.specs.State.{State}
-use Rattle.authority.specs.GroundedLaws.{NoNewRights-grows}
+use Rattle.authority.specs.Authority.{IsSealAllowed, held, sentry, sealed_by}
+use Rattle.authority.specs.Grounded.{IsGrounded}
 use Rattle.authority.specs.StepLaws.{event-grows_not}
 use Rattle.reach.specs.declared.range.Range.{Range}
 use Rattle.policy.specs.declared.rule.Rule.{Rule}
 use Rattle.policy.specs.declared.rule.Ban.{Ban}
-use Rattle.policy.specs.declared.rule.Ban.TheVariants.{Store, Load, Execute, Transmit, Halt, Timer, System}
-use Rattle.policy.specs.Rule.{Lets, OpensOutside, Breaks}
+use Rattle.policy.specs.declared.rule.Ban.TheVariants as ban
+use Rattle.policy.specs.Rule.{Lets, OpensOutside, OpensSealing, IsSealedBeyond, Breaks, BreaksRule}
 use Rattle.policy.specs.Watch.{Holds}
+use Rattle.policy.specs.Known.{IsLasting}
 
 module _ (v c : CapValue) (within : IsInRightsOf v c) where
   lets-outer : (permission : Permission) → Lets permission v → Lets permission c
@@ -41,17 +50,94 @@ module _ (v c : CapValue) (within : IsInRightsOf v c) where
         top = omega arith;
       }
 
-  breaks-outer : (rule : Rule) (ban : Ban) → Breaks rule ban v → Breaks rule ban c
-  breaks-outer rule Store broken = outside-outer _ rule.store.items broken
-  breaks-outer rule Load broken = outside-outer _ rule.load.items broken
-  breaks-outer rule Execute broken = outside-outer _ rule.execute.items broken
-  breaks-outer rule Transmit broken = (broken.0, OpensStore-outer v c transmit within broken.1)
-  breaks-outer rule Halt broken = (broken.0, OpensStore-outer v c halt within broken.1)
-  breaks-outer rule Timer broken = (broken.0, OpensStore-outer v c timer_compare within broken.1)
-  breaks-outer rule System broken = (broken.0, OpensSystem-outer v c within broken.1)
+  permitted-outer : IsWithin v c → (permits v permission.Seal ≡ true) ⊎ (permits v permission.Unseal ≡ true)
+      → (permits c permission.Seal ≡ true) ⊎ (permits c permission.Unseal ≡ true)
+  permitted-outer inside (inl seals) = inl (permits-outer v c permission.Seal inside seals)
+  permitted-outer inside (inr unseals) = inr (permits-outer v c permission.Unseal inside unseals)
 
-pub holds-after : (rule : Rule) (s : State) (e : Event) → IsState s → outcome e s ≡ Plain → Holds rule s → Holds rule (after e s)
-holds-after rule s e is plain holds = λ v reachable broken.
-    let covered = NoNewRights-grows s (after e s) (event-grows_not s is e plain) v reachable in
-    holds covered.source covered.reachable
-    (record { ban = broken.ban; breaks = breaks-outer v covered.source covered.within rule broken.ban broken.breaks })
+  sealing-outer : OpensSealing v → OpensSealing c
+  sealing-outer opens =
+      let both = unsealed-outer v c opens.unsealed within in
+      let base = both.1.base in
+      let top = both.1.top in
+      let low = opens.base in
+      let high = opens.top in
+      record {
+        otype = opens.otype;
+        unreserved = opens.unreserved;
+        unsealed = both.0;
+        permitted = permitted-outer both.1 opens.permitted;
+        base = omega arith;
+        top = omega arith;
+      }
+
+-- ---- seals
+
+pub beyond-sealed : {X : Type 0} (v : CapValue) (o : Option X) (items : X → List ℕ) → MatchOption o ⊥ (λ x. IsSealedBeyond (items x) v)
+    → (is_sealed v ≡ true) × (is_reserved (value_otype v) ≡ false)
+beyond-sealed v None items broken = absurd broken
+beyond-sealed v (Some x) items broken = (broken.sealed, broken.unreserved)
+
+no-types : {X : Type 0} (v : CapValue) (o : Option X) (items : X → List ℕ) → IsNone o → MatchOption o ⊥ (λ x. IsSealedBeyond (items x) v)
+    → ⊥
+no-types v None items none broken = broken
+no-types v (Some x) items none broken = true≢false none
+
+module _ (rule : Rule) (s : State) (holds : Holds rule s) where
+  -- a seal that is allowed in code that may not seal
+  allowed-seal : (v : CapValue) → rule.seal ≡ false → is_reserved (value_otype v) ≡ false → Breaks rule ban.Types v → IsSealAllowed s v → ⊥
+  allowed-seal v none free broken (held reachable) = holds v reachable (record { ban = ban.Types; breaks = broken })
+  allowed-seal v none free broken (sentry same) = true≢false (subst (λ o. is_reserved o ≡ false) same free)
+  allowed-seal v none free broken (sealed_by c reachable opens) =
+      holds c reachable (record {
+        ban = ban.Seal;
+        breaks = (
+          none,
+          record {
+            otype = value_otype v;
+            unreserved = free;
+            unsealed = opens.unsealed;
+            permitted = inl opens.seals;
+            base = opens.base;
+            top = opens.top;
+          },
+        );
+      })
+
+  keeps-types : (v : CapValue) → IsLasting rule → IsGrounded s v → Breaks rule ban.Types v → ⊥
+  keeps-types v (inl none) earned broken =
+      let both = beyond-sealed v rule.types (λ t. t.items) broken in
+      allowed-seal v none both.1 broken (earned.seal both.0)
+  keeps-types v (inr none) earned broken = no-types v rule.types (λ t. t.items) none broken
+
+  module _ (v : CapValue) (earned : IsGrounded s v) where
+    of_source : (part : Ban) → Breaks rule part earned.covered.source → ⊥
+    of_source part broken = holds earned.covered.source earned.covered.reachable (record { ban = part; breaks = broken })
+
+    keeps-each : (part : Ban) → IsLasting rule → Breaks rule part v → ⊥
+    keeps-each ban.Store lasting broken =
+        of_source ban.Store (outside-outer v earned.covered.source earned.covered.within permission.Store rule.store.items broken)
+    keeps-each ban.Load lasting broken =
+        of_source ban.Load (outside-outer v earned.covered.source earned.covered.within permission.Load rule.load.items broken)
+    keeps-each ban.Execute lasting broken =
+        of_source ban.Execute (outside-outer v earned.covered.source earned.covered.within permission.Execute rule.execute.items broken)
+    keeps-each ban.Transmit lasting broken =
+        of_source ban.Transmit (broken.0, OpensStore-outer v earned.covered.source transmit earned.covered.within broken.1)
+    keeps-each ban.Halt lasting broken =
+        of_source ban.Halt (broken.0, OpensStore-outer v earned.covered.source halt earned.covered.within broken.1)
+    keeps-each ban.Timer lasting broken =
+        of_source ban.Timer (broken.0, OpensStore-outer v earned.covered.source timer_compare earned.covered.within broken.1)
+    keeps-each ban.System lasting broken =
+        of_source ban.System (broken.0, OpensSystem-outer v earned.covered.source earned.covered.within broken.1)
+    keeps-each ban.Seal lasting broken =
+        of_source ban.Seal (broken.0, sealing-outer v earned.covered.source earned.covered.within broken.1)
+    keeps-each ban.Types lasting broken = keeps-types v lasting earned broken
+
+  -- what is grounded where a lasting rule holds keeps the rule
+  pub keeps-grounded : IsLasting rule → (v : CapValue) → IsGrounded s v → BreaksRule rule v → ⊥
+  keeps-grounded lasting v earned broken = keeps-each v earned broken.ban lasting broken.breaks
+
+pub holds-after : (rule : Rule) (s : State) (e : Event) → IsState s → outcome e s ≡ Plain → IsLasting rule → Holds rule s
+    → Holds rule (after e s)
+holds-after rule s e is plain lasting holds = λ v reachable.
+    keeps-grounded rule s holds lasting v ((event-grows_not s is e plain).grounded v reachable)

@@ -1,7 +1,8 @@
 -- When a capability breaks a rule.
-use Rattle.std.specs.Prelude.{◌≡◌, ℕ, ◌<◌, ◌≤◌, true, false, List}
+use Rattle.std.specs.Prelude.{◌≡◌, ℕ, ◌<◌, ◌≤◌, true, false, List, Contains, MatchOption, ◌⊎◌}
+use Rattle.base.specs.ObjectType.{is_reserved}
 use Rattle.base.specs.Ram.{ram_base}
-use Rattle.cap_bounds.specs.CapValue.{CapValue, is_sealed, value_base, value_top}
+use Rattle.cap_bounds.specs.CapValue.{CapValue, is_sealed, value_base, value_top, value_otype}
 use Rattle.cap_rights.specs.declared.permission.Permission.{Permission}
 use Rattle.cap_rights.specs.declared.permission.Permission.TheVariants as permission
 use Rattle.cap_rights.specs.Permission.{permits}
@@ -11,7 +12,7 @@ use Rattle.reach.specs.declared.range.Range.{Range}
 use Rattle.reach.specs.Ranges.{IsInOne}
 use Rattle.policy.specs.declared.rule.Rule.{Rule}
 use Rattle.policy.specs.declared.rule.Ban.{Ban}
-use Rattle.policy.specs.declared.rule.Ban.TheVariants.{Store, Load, Execute, Transmit, Halt, Timer, System}
+use Rattle.policy.specs.declared.rule.Ban.TheVariants.{Store, Load, Execute, Transmit, Halt, Timer, System, Seal, Types}
 
 -- unsealed, with the permission
 pub record Lets (permission : Permission) (c : CapValue) : Type 0 where
@@ -27,6 +28,21 @@ pub record OpensOutside (permission : Permission) (ranges : List Range) (c : Cap
   pub base : value_base c ≤ byte
   pub top : byte < value_top c
 
+-- unsealed, with Seal or Unseal, and an object type that is not reserved lies in its bounds: values may be sealed with it, or unsealed
+pub record OpensSealing (c : CapValue) : Type 0 where
+  pub otype : ℕ
+  pub unreserved : is_reserved otype ≡ false
+  pub unsealed : is_sealed c ≡ false
+  pub permitted : (permits c permission.Seal ≡ true) ⊎ (permits c permission.Unseal ≡ true)
+  pub base : value_base c ≤ otype
+  pub top : otype < value_top c
+
+-- sealed, with an object type that is not reserved and not one of these
+pub record IsSealedBeyond (types : List ℕ) (c : CapValue) : Type 0 where
+  pub sealed : is_sealed c ≡ true
+  pub unreserved : is_reserved (value_otype c) ≡ false
+  pub beyond : Contains types (value_otype c) → ⊥
+
 -- the capability breaks a part of the rule
 abbrev pub Breaks : Rule → Ban → CapValue → Type 0
 Breaks rule Store c = OpensOutside permission.Store rule.store.items c
@@ -36,6 +52,8 @@ Breaks rule Transmit c = (rule.transmit ≡ false) × OpensStore c transmit
 Breaks rule Halt c = (rule.halt ≡ false) × OpensStore c halt
 Breaks rule Timer c = (rule.timer ≡ false) × OpensStore c timer_compare
 Breaks rule System c = (rule.system ≡ false) × OpensSystem c
+Breaks rule Seal c = (rule.seal ≡ false) × OpensSealing c
+Breaks rule Types c = MatchOption rule.types ⊥ (λ types. IsSealedBeyond types.items c)
 
 -- the order of the parts
 abbrev pub place_of : Ban → ℕ
@@ -46,6 +64,8 @@ place_of Transmit = 3
 place_of Halt = 4
 place_of Timer = 5
 place_of System = 6
+place_of Seal = 7
+place_of Types = 8
 
 -- it is the first part that the capability breaks
 pub record IsFirstBan (rule : Rule) (c : CapValue) (ban : Ban) : Type 0 where

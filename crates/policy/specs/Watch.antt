@@ -18,7 +18,7 @@ use Rattle.reach.specs.First.{IsFirst, HoldsOfNone}
 use Rattle.reach.specs.Ranges.{IsInOne}
 use Rattle.reach.specs.Reach.{AreReachable, members_in}
 use Rattle.policy.specs.declared.rule.Rule.{Rule}
-use Rattle.policy.specs.declared.watch.Refused.{Refused}
+use Rattle.policy.specs.declared.refused.Refused.{Refused}
 use Rattle.policy.specs.Rule.{IsFirstBan, BreaksRule}
 
 -- the rule is about the code at an address
@@ -28,6 +28,10 @@ IsAbout rule pc = IsInOne rule.code.items pc
 -- nothing that is reachable breaks the rule
 abbrev pub Holds : Rule → State → Type 0
 Holds rule s = (v : CapValue) → IsReachable s v → BreaksRule rule v → ⊥
+
+-- each rule about the code holds
+abbrev pub HoldEach : List Rule → State → Type 0
+HoldEach rules s = (rule : Rule) → Contains rules rule → IsAbout rule (pc_of s) → Holds rule s
 
 -- ---- an event
 

@@ -1,14 +1,14 @@
 //! The first member that breaks a rule.
-ghost use Rattle.std.specs.Prelude.{◌↔◌, IfNone, IfSome, IsTrue};
+ghost use Rattle.std.specs.Prelude.{◌≡◌, ◌↔◌, ℕ, true, List, Contains, MatchOption, IfNone, IfSome, IsTrue};
 ghost use Rattle.std.specs.List.{HoldsAt};
 ghost use Rattle.cap_rights.specs.Rights.{OpensSystem, OpensStore};
 ghost use Rattle.reached.specs.Links.{values};
 ghost use Rattle.reach.specs.First.{IsFirst, HoldsOfNone};
-ghost use Rattle.policy.specs.Rule.{Lets, OpensOutside, Breaks, IsFirstBan, BreaksRule};
+ghost use Rattle.policy.specs.Rule.{Lets, OpensOutside, OpensSealing, IsSealedBeyond, Breaks, IsFirstBan, BreaksRule};
 
 use crate::cover::covers;
 use crate::rule::{Ban, Rule};
-use base::ram;
+use base::{otype, ram};
 use cap_bounds::CapRep;
 use cap_rights::{OType, Permission, permits};
 use reach::{HALT, Range, Reach, TIMER_COMPARE, TRANSMIT};
@@ -42,8 +42,35 @@ fn opens_system<C: CapRep>(c: C) -> bool
     lets(c, Permission::Execute) && permits(c, Permission::AccessSystemRegisters)
 }
 
+/// Whether values may be sealed or unsealed through it.
+fn opens_sealing<C: CapRep>(c: C) -> bool
+    ensures { IsTrue result ↔ OpensSealing (C.value c) }
+{
+    let base = c.base();
+    (lets(c, Permission::Seal) || lets(c, Permission::Unseal))
+        && base < u64::from(otype::FIRST_RESERVED)
+        && u128::from(base) < c.top()
+}
+
+/// Whether it is sealed with an object type that is not reserved and not one of these.
+fn is_sealed_beyond<C: CapRep>(c: C, types: &[u64]) -> bool
+    ensures { IsTrue result ↔ IsSealedBeyond types.now (C.value c) }
+{
+    c.otype() < otype::FIRST_RESERVED && !types.contains(&u64::from(c.otype()))
+}
+
+/// Whether it is so, where not any object type may be.
+fn breaks_types<C: CapRep>(c: C, types: &Option<Vec<u64>>) -> bool
+    ensures { IsTrue result ↔ MatchOption types.now ⊥ (λ types. IsSealedBeyond types.items (C.value c)) }
+{
+    match types {
+        Some(types) => is_sealed_beyond(c, types),
+        None => false,
+    }
+}
+
 /// Whether a capability breaks a part of the rule.
-fn breaks<C: CapRep>(c: C, rule: &Rule, ban: Ban) -> bool
+pub fn breaks<C: CapRep>(c: C, rule: &Rule, ban: Ban) -> bool
     ensures { IsTrue result ↔ Breaks rule.now ban (C.value c) }
 {
     match ban {
@@ -54,11 +81,13 @@ fn breaks<C: CapRep>(c: C, rule: &Rule, ban: Ban) -> bool
         Ban::Halt => !rule.halt && opens_store(c, HALT),
         Ban::Timer => !rule.timer && opens_store(c, TIMER_COMPARE),
         Ban::System => !rule.system && opens_system(c),
+        Ban::Seal => !rule.seal && opens_sealing(c),
+        Ban::Types => breaks_types(c, &rule.types),
     }
 }
 
 /// The parts of a rule, in their order.
-const BANS: [Ban; 7] = [
+const BANS: [Ban; 9] = [
     Ban::Store,
     Ban::Load,
     Ban::Execute,
@@ -66,6 +95,8 @@ const BANS: [Ban; 7] = [
     Ban::Halt,
     Ban::Timer,
     Ban::System,
+    Ban::Seal,
+    Ban::Types,
 ];
 
 /// The first part of the rule that a capability breaks.
@@ -79,6 +110,13 @@ fn first_ban<C: CapRep>(c: C, rule: &Rule) -> Option<Ban>
         }
     }
     None
+}
+
+/// Whether a capability breaks the rule.
+pub(crate) fn breaks_rule<C: CapRep>(c: C, rule: &Rule) -> bool
+    ensures { IsTrue result ↔ BreaksRule rule.now (C.value c) }
+{
+    first_ban(c, rule).is_some()
 }
 
 /// The first member that breaks the rule, and the first part of it that it breaks; `None` where no member breaks it.

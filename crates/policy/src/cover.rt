@@ -1,7 +1,7 @@
-//! Whether ranges hold addresses.
+//! Whether ranges hold addresses, and share them.
 ghost use Rattle.std.specs.Prelude.{◌≡◌, ◌↔◌, ℕ, ◌<◌, ◌≤◌, IsTrue, false};
 ghost use Rattle.reach.specs.Ranges.{IsInOne};
-ghost use Rattle.policy.specs.Cover.{HasGap, IsSomeEndOut};
+ghost use Rattle.policy.specs.Cover.{HasGap, IsSomeEndOut, Overlap, OverlapsOne, ShareSome, ShareNone};
 
 use reach::Range;
 
@@ -25,4 +25,32 @@ pub(crate) fn covers(ranges: &[Range], from: u128, to: u128) -> bool
     ensures gap { result ≡ false → HasGap ranges.now from to }
 {
     to <= from || holds(ranges, from) && !leaves_end(ranges, from, to)
+}
+
+/// Whether two ranges share an address.
+fn overlap(x: &Range, y: &Range) -> bool
+    ensures { IsTrue result ↔ Overlap x.now y.now }
+{
+    u128::from(x.from.max(y.from)) < x.to.min(y.to)
+}
+
+/// Whether one shares an address with one of these.
+fn overlaps_one(x: &Range, ys: &[Range]) -> bool
+    ensures { IsTrue result ↔ OverlapsOne x.now ys.now }
+{
+    ys.iter().any(|y| overlap(x, y))
+}
+
+/// Whether one of the first does.
+fn share_some(xs: &[Range], ys: &[Range]) -> bool
+    ensures { IsTrue result ↔ ShareSome xs.now ys.now }
+{
+    xs.iter().any(|x| overlaps_one(x, ys))
+}
+
+/// Whether no address lies in ranges of both.
+pub(crate) fn share_none(xs: &[Range], ys: &[Range]) -> bool
+    ensures { IsTrue result → ShareNone xs.now ys.now }
+{
+    !share_some(xs, ys)
 }

@@ -1,11 +1,14 @@
 //! Events that are met, and whether they are plain.
-ghost use Rattle.std.specs.Prelude.{◌≡◌, IsTrue};
+ghost use Rattle.std.specs.Prelude.{◌≡◌, length, IsTrue};
 ghost use Rattle.hart.specs.Applying.{meant, IsPlanned};
 ghost use Rattle.hart.specs.declared.event.Event.TheVariants.{Step};
 ghost use Rattle.hart.specs.Event.{after, outcome, sent};
 ghost use Rattle.hart.specs.IsState.{IsState};
 ghost use Rattle.hart.specs.Outcome.{Plain, outcome_of, step_outcome};
+ghost use Rattle.policy.specs.Known.{AreCertified};
 
+use crate::certificate::keep_certificates;
+use crate::rule::Rule;
 use cap_bounds::CapRep;
 use hart::Effect;
 use machine::{Event, Machine, Planned};
@@ -42,14 +45,19 @@ fn is_plain_step<C: CapRep>(machine: &Machine<C>, planned: &Planned<C>) -> bool
     machine.halted().is_some() || is_plain(&planned.effect)
 }
 
-/// Does a step, which is planned once.
-fn meet_step<C: CapRep>(machine: &mut Machine<C>) -> Met
+/// Does a step, which is planned once, and takes the certificates that it doesn't keep.
+fn meet_step<C: CapRep>(machine: &mut Machine<C>, rules: &[Rule], certified: &mut [bool]) -> Met
+    requires count { length certified.old ≡ length rules.now }
+    requires certified { AreCertified rules.now certified.old machine.old.memory }
+    ensures certified { AreCertified rules.now certified.new machine.new.memory }
     ensures state { machine.new ≡ after Step machine.old }
     ensures byte { result.byte ≡ sent Step machine.old }
     ensures plain { IsTrue result.plain → step_outcome machine.old ≡ Plain }
 {
+    machine.hart();
     let planned = machine.next();
     let plain = is_plain_step(machine, &planned);
+    keep_certificates(certified, &planned.effect, rules);
     let out = machine.apply(planned);
     Met {
         byte: out.byte,
@@ -57,8 +65,16 @@ fn meet_step<C: CapRep>(machine: &mut Machine<C>) -> Met
     }
 }
 
-/// Meets an event.
-pub(crate) fn meet<C: CapRep>(machine: &mut Machine<C>, event: Event) -> Met
+/// Meets an event, and takes the certificates that it doesn't keep.
+pub(crate) fn meet<C: CapRep>(
+    machine: &mut Machine<C>,
+    event: Event,
+    rules: &[Rule],
+    certified: &mut [bool],
+) -> Met
+    requires count { length certified.old ≡ length rules.now }
+    requires certified { AreCertified rules.now certified.old machine.old.memory }
+    ensures certified { AreCertified rules.now certified.new machine.new.memory }
     ensures state { machine.new ≡ after event machine.old }
     ensures byte { result.byte ≡ sent event machine.old }
     ensures plain { IsTrue result.plain → outcome event machine.old ≡ Plain }
@@ -66,7 +82,7 @@ pub(crate) fn meet<C: CapRep>(machine: &mut Machine<C>, event: Event) -> Met
 {
     machine.hart();
     match event {
-        Event::Step => meet_step(machine),
+        Event::Step => meet_step(machine, rules, certified),
         Event::Tick | Event::Byte(_) => Met {
             byte: machine.event(event).byte,
             plain: true,

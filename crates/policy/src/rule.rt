@@ -22,6 +22,10 @@ pub struct Rule {
     pub timer: bool,
     /// Whether the system registers may be used.
     pub system: bool,
+    /// Whether values may be sealed or unsealed.
+    pub seal: bool,
+    /// The object types that sealed capabilities may have that it can come to hold, where not any may be; a sentry has no type of its own.
+    pub types: Option<Vec<u64>>,
 }
 
 /// A part of a rule.
@@ -41,4 +45,8 @@ pub enum Ban {
     Timer,
     /// The system registers may be used.
     System,
+    /// Values may be sealed or unsealed.
+    Seal,
+    /// A sealed capability may come to be held whose object type is not one of the rule's.
+    Types,
 }

@@ -4,7 +4,7 @@ use Rattle.reached.specs.Links.{values}
 use Rattle.reach.specs.First.{HoldsOfNone}
 use Rattle.policy.specs.Rule.{BreaksRule}
 use Rattle.policy.specs.Watch.{IsAbout}
-use Rattle.policy.proofs.watch.first_refused.Given as goal
+use Rattle.policy.proofs.refused.first_refused.Given as goal
 
 abbrev pub invariant-loop-place : goal.invariant-loop-place
 invariant-loop-place g l =

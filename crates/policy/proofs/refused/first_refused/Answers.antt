@@ -5,7 +5,7 @@ use Rattle.reach.specs.First.{HoldsOfNone}
 use Rattle.policy.specs.Rule.{BreaksRule}
 use Rattle.policy.specs.Watch.{IsAbout}
 use Rattle.policy.proofs.Runs.{places-more}
-use Rattle.policy.proofs.watch.first_refused.Goals as goal
+use Rattle.policy.proofs.refused.first_refused.Goals as goal
 
 pub loop-place-preserved-then-not-is_about : goal.loop-place-preserved-then-not-is_about
 loop-place-preserved-then-not-is_about g c =

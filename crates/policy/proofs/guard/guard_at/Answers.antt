@@ -1,0 +1,7 @@
+use Rattle.std.proofs.Common.{◌<◌, length, sym, arith}
+use Rattle.policy.proofs.guard.guard_at.Goals as goal
+
+pub returns-then-was_about-clause-there : goal.returns-then-was_about-clause-there
+returns-then-was_about-clause-there c =
+    let below : c.loop-rule.rule-index < length c.args.rules.now = omega arith in
+    (c.loop-rule.rule-index, below, sym c.rule-item.is)

@@ -1,0 +1,13 @@
+use Rattle.std.proofs.Common.{ℕ, ◌<◌, ◌⊎◌}
+use Rattle.std.specs.List.{HoldsAt}
+use Rattle.policy.specs.Watch.{IsAbout, Holds}
+use Rattle.policy.specs.Known.{WasAbout, AreCertified}
+use Rattle.policy.proofs.watcher.each_is_certain.Given as goal
+
+abbrev pub invariant-loop-place : goal.invariant-loop-place
+invariant-loop-place g l = record {
+  certified : AreCertified l.rules l.certified l.hart.memory;
+  holds :
+      (k : ℕ) → k < l.place
+      → HoldsAt (λ rule. IsAbout rule l.pc → WasAbout l.known rule ⊎ Holds rule l.hart) l.rules k;
+}

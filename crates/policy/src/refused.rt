@@ -1,0 +1,45 @@
+//! The first rule about the code that a member breaks.
+ghost use Rattle.std.specs.Prelude.{Contains, IfNone, IfSome};
+ghost use Rattle.reached.specs.Links.{values};
+ghost use Rattle.reach.specs.First.{HoldsOfNone};
+ghost use Rattle.policy.specs.declared.rule.Rule.{Rule};
+ghost use Rattle.policy.specs.Rule.{BreaksRule};
+ghost use Rattle.policy.specs.Watch.{IsAbout, IsFirstRefused};
+
+use crate::about::is_about;
+use crate::breach::first_breach;
+use crate::rule::{Ban, Rule};
+use cap_bounds::CapRep;
+use reach::Reach;
+
+/// Why a run was refused its next event.
+#[derive(Clone, Copy, Debug, PartialEq, Eq)]
+pub struct Refused {
+    /// The place of the rule that is broken.
+    pub rule: usize,
+    /// The number of the reachable capability that breaks it, as the reach of the state numbers them.
+    pub member: usize,
+    /// The part of the rule that it breaks.
+    pub ban: Ban,
+}
+
+/// The first rule about the code at an address that a member breaks, with the member and the part.
+pub(crate) fn first_refused<C: CapRep>(reach: &Reach<C>, rules: &[Rule], pc: u64) -> Option<Refused>
+    ensures some { IfSome result (IsFirstRefused rules.now pc (values C.value reach.now)) }
+    ensures none { IfNone result ((rule : Rule) → Contains rules.now rule → IsAbout rule pc
+        → HoldsOfNone (BreaksRule rule) (values C.value reach.now)) }
+{
+    for (place, rule) in rules.iter().enumerate() {
+        if !is_about(rule, pc) {
+            continue;
+        }
+        if let Some((member, ban)) = first_breach(reach, rule) {
+            return Some(Refused {
+                rule: place,
+                member,
+                ban,
+            });
+        }
+    }
+    None
+}
