@@ -11,3 +11,4 @@ mod words;
 pub use command::{Command, Events, Horizon, May, SetStops, Stop, View};
 pub use fault::DebugFault;
 pub use table::{command_of, help_text};
+pub use words::split_word;

@@ -22,7 +22,7 @@ fn from<'a>(text: &'a [u8], start: usize) -> &'a [u8]
 
 /// The first word of a line and what follows it, or none where there is no word.
 #[tactic(auto, using(crate::proofs::Cut::no_word))]
-pub(crate) fn split_word<'a>(line: &'a [u8]) -> Option<(&'a [u8], &'a [u8])>
+pub fn split_word<'a>(line: &'a [u8]) -> Option<(&'a [u8], &'a [u8])>
     ensures { MatchOption result (words_of line.now ≡ []) (λ p. words_of line.now ≡ p.0.now ∷ words_of p.1.now) }
 {
     let text = from(line, run_length(line, Class::Blank));

@@ -12,6 +12,7 @@ mod writing;
 
 pub use beginning::{Beginning, look_at_beginning};
 pub use fault::SymbolsFault;
+pub use lines::split_line;
 pub use symbol::{Symbol, is_label};
 pub use table::{Symbols, read_symbols};
 pub use writing::table_text;

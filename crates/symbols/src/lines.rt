@@ -7,7 +7,7 @@ use crate::symbol::is_label;
 use asm_lines::{Class, digit_value, run_length};
 
 /// What stands before the first line feed, or before the end, and what stands after it.
-pub(crate) fn split_line(text: &[u8]) -> (&[u8], &[u8])
+pub fn split_line(text: &[u8]) -> (&[u8], &[u8])
     requires { 0 < length text.now }
     ensures split { lines_of text.now ≡ result.0.now ∷ lines_of result.1.now }
     ensures shorter { length result.1.now < length text.now }

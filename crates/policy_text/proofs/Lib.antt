@@ -1,0 +1,5 @@
+pub mod Cuts
+pub mod Going
+pub mod Kept
+pub mod Faulty
+pub mod Sounds

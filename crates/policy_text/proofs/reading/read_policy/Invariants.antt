@@ -1,0 +1,17 @@
+use Rattle.std.proofs.Common.{◌≡◌, ◌+◌, ◌≤◌, length, vec_len}
+use Rattle.symbols.specs.Symbols.{lines_of}
+use Rattle.policy_text.specs.Policy.{policy_from, policy_of}
+use Rattle.policy_text.specs.Seen.{read}
+use Rattle.policy_text.proofs.reading.read_policy.Given as goal
+
+-- what the lines that are left make of what was read
+abbrev pub invariant-loop-rest : goal.invariant-loop-rest
+invariant-loop-rest l = record {
+  policy : policy_from l.symbols l.number (read l.definitions.items l.policy) (lines_of l.rest) ≡ policy_of l.symbols l.text;
+  paired : vec_len l.policy.rules ≡ vec_len l.policy.lines;
+  start : 1 ≤ l.number;
+  number : l.number + length l.rest ≤ length l.text + 1;
+}
+
+abbrev pub decreases-loop-rest : goal.decreases-loop-rest
+decreases-loop-rest l = length l.rest
