@@ -37,7 +37,7 @@ impl Schedule {
     }
 
     /// How many steps come after the first `done` without a byte or a tick between them: at least one, and no more than are left.
-    fn steps_alone(self, input: &[u8], done: u64) -> u64
+    pub fn steps_alone(self, input: &[u8], done: u64) -> u64
         requires gap { 1 ≤ self.gap }
         requires more { done < self.steps }
         ensures some { 1 ≤ result }

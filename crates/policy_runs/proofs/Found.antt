@@ -1,0 +1,127 @@
+-- The steps of a schedule that keep to rules, and the step before which one is broken.
+use Rattle.std.proofs.Common.{◌≡◌, ℕ, zero, suc, ◌+◌, ◌-◌, ◌<◌, ◌≤◌, Bool, true, false, List, [], ◌∷◌, ◌++◌, replicate, refl, sym, ap, ap₂}
+use Rattle.std.proofs.Common.{◌∙◌, append-nil, subst, arith}
+use Rattle.std.proofs.lemmas.Bool.{false≢true}
+use Rattle.std.specs.Prelude.{Option, Some, None}
+use Rattle.hart.specs.declared.event.Event.{Event}
+use Rattle.hart.specs.declared.event.Event.TheVariants.{Step, Byte}
+use Rattle.hart.specs.Event.{after}
+use Rattle.hart.specs.State.{State}
+use Rattle.machine.specs.Run.{run_after}
+use Rattle.policy.specs.declared.rule.Rule.{Rule}
+use Rattle.sim_run.specs.declared.schedule.Schedule.{Schedule}
+use Rattle.sim_run.specs.Schedule.{block, byte_before, first_steps, is_halted, scheduled, up_to_halt, AreAlone}
+use Rattle.sim_run.specs.Stopping.{events_before}
+use Rattle.sim_run.proofs.Events.{brought, no_more, then_up_to_halt, up_to_halt-append}
+use Rattle.sim_run.proofs.Scheduled.{block_follows, more_follow, nth_block, steps_from}
+use Rattle.policy_runs.specs.declared.breach.Breach.{Breach}
+use Rattle.policy_runs.specs.Keeping.{StepsKeepToEach}
+use Rattle.policy_runs.specs.Kept.{Kept, IsBreachPast}
+use Rattle.policy_runs.proofs.Parts.{kept-as, kept-end, kept-on}
+
+-- ---- a byte that comes after events that did not halt the machine
+
+all_brought : (byte : Option ℕ) (t : State) → up_to_halt (brought byte) t ≡ brought byte
+all_brought None t = refl
+all_brought (Some b) t = ap (λ es. Byte b ∷ es) (no_more (is_halted (after (Byte b) t)))
+
+byte-then : (xs : List Event) (byte : Option ℕ) (s u : State) → is_halted s ≡ false
+    → u ≡ run_after (up_to_halt (xs ++ brought byte) s) s → is_halted u ≡ false
+    → up_to_halt (xs ++ brought byte) s ≡ up_to_halt xs s ++ brought byte
+byte-then xs byte s u running there still = go (is_halted (run_after (up_to_halt xs s) s)) refl
+  where
+    parts : up_to_halt (xs ++ brought byte) s ≡ up_to_halt xs s ++ then_up_to_halt (brought byte) (run_after (up_to_halt xs s) s)
+    parts = up_to_halt-append xs (brought byte) s running
+
+    go : (b : Bool) → is_halted (run_after (up_to_halt xs s) s) ≡ b → up_to_halt (xs ++ brought byte) s ≡ up_to_halt xs s ++ brought byte
+    go false e =
+        parts ∙ ap (λ es. up_to_halt xs s ++ es) (rw e (all_brought byte (run_after (up_to_halt xs s) s)))
+    go true e =
+        let none : then_up_to_halt (brought byte) (run_after (up_to_halt xs s) s) ≡ [] = rw e refl in
+        let same : up_to_halt (xs ++ brought byte) s ≡ up_to_halt xs s =
+        parts ∙ ap (λ es. up_to_halt xs s ++ es) none ∙ append-nil (up_to_halt xs s) in
+        absurd (false≢true (sym still ∙ ap is_halted (there ∙ ap (λ es. run_after es s) same) ∙ e))
+
+-- ---- the same by equal rules, of an equal byte and an equal tick
+
+module _ (rules others : List Rule) (same : rules ≡ others) (byte other : Option ℕ) (same_byte : byte ≡ other) (n : ℕ) (t u : State) where
+  pub found-as : (x : Breach) → IsBreachPast rules (brought byte) n t u x → IsBreachPast others (brought other) n t u x
+  found-as x found =
+      subst (λ b. IsBreachPast others (brought b) n t u x) same_byte (subst (λ rs. IsBreachPast rs (brought byte) n t u x) same found)
+
+  pub block-as : (ticks due : Bool) → ticks ≡ due → Kept rules (block byte n ticks) t u → Kept others (block other n due) t u
+  block-as ticks due same_ticks kept =
+      subst (λ es. Kept others es t u) (ap₂ (λ b d. block b n d) same_byte same_ticks) (subst (λ rs. Kept rs (block byte n ticks) t u) same kept)
+
+-- ---- after the first m steps of s the machine is t
+
+module _ (rules : List Rule) (schedule : Schedule) (input : List ℕ) (m n : ℕ) (s t : State) (running : is_halted s ≡ false)
+    (before : Kept rules (first_steps schedule input m) s t) (still : is_halted t ≡ false) (some : 1 ≤ n)
+    (few : m + n ≤ schedule.steps) (alone : AreAlone schedule input m n) where
+  -- ---- all of n steps are done
+
+  module _ (u : State) (next : Kept rules (nth_block schedule input m n) t u) where
+    pub kept-further : Kept rules (first_steps schedule input (m + n)) s u
+    kept-further =
+        kept-as rules (first_steps schedule input m ++ nth_block schedule input m n) (first_steps schedule input (m + n)) s u
+        (sym (block_follows schedule input m n some alone))
+        (kept-on rules (first_steps schedule input m) (nth_block schedule input m n) s t running before u still next)
+
+    -- the last of them halts the machine
+    pub kept-halted : is_halted u ≡ true → StepsKeepToEach rules (scheduled schedule input s) s
+    kept-halted halted =
+        let rest = steps_from schedule input (m + n) (schedule.steps - (m + n)) in
+        let whole = kept-as rules (first_steps schedule input (m + n) ++ rest) (first_steps schedule input schedule.steps) s u
+        (sym (more_follow schedule input (m + n) few))
+        (kept-end rules (first_steps schedule input (m + n)) rest s u running kept-further halted) in
+        whole.keep
+
+  -- ---- a rule is broken before one of them, which is j steps after the first
+
+  steps_before : (j : ℕ) → j < n
+      → first_steps schedule input m ++ (brought (byte_before schedule input (m + 1)) ++ replicate j Step)
+      ≡ first_steps schedule input (m + j) ++ brought (byte_before schedule input (m + j + 1))
+  steps_before zero below =
+      let here : m + zero ≡ m = omega arith in
+      rw here (ap (λ es. first_steps schedule input m ++ es) (append-nil (brought (byte_before schedule input (m + 1)))))
+  steps_before (suc j) below =
+      let any : 1 ≤ suc j = omega arith in
+      let fewer : AreAlone schedule input m (suc j) = record {
+        bytes = λ k from under. alone.bytes k from (omega arith);
+        ticks = λ k from under. alone.ticks k from (omega arith);
+      } in
+      rw (alone.bytes (suc j) any below, block_follows schedule input m (suc j) any fewer, alone.ticks (suc j) any below)
+      (ap (λ es. first_steps schedule input m ++ (brought (byte_before schedule input (m + 1)) ++ es))
+      (sym (append-nil (replicate (suc j) Step)))
+      ∙ sym (append-nil (first_steps schedule input m ++ (brought (byte_before schedule input (m + 1)) ++ (replicate (suc j) Step ++ [])))))
+
+  module _ (x : Breach) (u : State) (found : IsBreachPast rules (brought (byte_before schedule input (m + 1))) n t u x) where
+    few_before : x.number - 1 < n
+    few_before =
+        let from = found.some in
+        let to = found.few in
+        omega arith
+
+    met_so_far : Kept rules (first_steps schedule input (m + (x.number - 1)) ++ brought (byte_before schedule input (m + (x.number - 1) + 1)))
+        s u
+    met_so_far =
+        kept-as rules _ _ s u (steps_before (x.number - 1) few_before)
+        (kept-on rules (first_steps schedule input m) (brought (byte_before schedule input (m + 1)) ++ replicate (x.number - 1) Step) s t
+        running before u still found.kept)
+
+    events : up_to_halt
+        (first_steps schedule input (m + (x.number - 1)) ++ brought (byte_before schedule input (m + (x.number - 1) + 1))) s
+        ≡ events_before (Some (m + x.number)) schedule input s
+    events =
+        let from = found.some in
+        let last : m + (x.number - 1) ≡ m + x.number - 1 = omega arith in
+        let here : m + (x.number - 1) + 1 ≡ m + x.number = omega arith in
+        byte-then (first_steps schedule input (m + (x.number - 1))) (byte_before schedule input (m + (x.number - 1) + 1)) s u running
+        met_so_far.state found.running
+        ∙ ap₂ (λ k i. up_to_halt (first_steps schedule input k) s ++ brought (byte_before schedule input i)) last here
+
+    pub found-state : u ≡ run_after (events_before (Some (m + x.number)) schedule input s) s
+    found-state = met_so_far.state ∙ ap (λ es. run_after es s) events
+
+    pub found-keep : StepsKeepToEach rules (events_before (Some (m + x.number)) schedule input s) s
+    found-keep = subst (λ es. StepsKeepToEach rules es s) events met_so_far.keep

@@ -1,0 +1,4 @@
+-- What to read
+pub mod Keeping
+-- Inner words
+pub mod Kept

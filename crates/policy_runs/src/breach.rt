@@ -1,0 +1,70 @@
+//! The first breach of rules in a run on a schedule.
+
+ghost use Rattle.std.specs.Prelude.{◌≡◌, Some, false, IfNone, IfOk, IfSome};
+ghost use Rattle.machine.specs.Run.{run_after};
+ghost use Rattle.policy.specs.Watch.{IsRefused};
+ghost use Rattle.sim_run.specs.Schedule.{is_halted, scheduled, IsRunnable};
+ghost use Rattle.sim_run.specs.Stopping.{events_before};
+ghost use Rattle.sim_run.specs.Stopped.{IsPlaceOf};
+ghost use Rattle.policy_runs.specs.Keeping.{StepsKeepToEach};
+
+use crate::block::keep_block;
+use cap_bounds::CapRep;
+use machine::Machine;
+use policy::{Refused, Rule, Watcher};
+use sim_run::Schedule;
+use std::alloc::{AllocError, Global};
+
+/// Where rules stop a run: before which step, and why.
+#[derive(Clone, Copy, Debug, PartialEq, Eq)]
+pub struct Breach {
+    /// The number of the step that is not done, counted from 1.
+    pub number: u64,
+    /// Which rule is broken, and by what.
+    pub refused: Refused,
+}
+
+/// The first step of a machine's run on a schedule before which a rule about the code is broken; none where there is none.
+///
+/// The machine is run up to that step, the byte that comes just before it among what it met, and what it sends is forgotten. Before each
+/// earlier step every rule about the code held, and each of those steps kept to it. A run that halts the machine ends there.
+///
+/// # Errors
+///
+/// Out of memory for what is known of the rules, or to find out what is reachable. The machine then stands in the middle of its run.
+pub fn find_breach<C: CapRep>(
+    alloc: Global,
+    machine: &mut Machine<C>,
+    rules: &[Rule],
+    schedule: Schedule,
+    input: &[u8],
+) -> Result<Option<Breach>, AllocError>
+    requires range { IsRunnable schedule }
+    requires running { is_halted machine.old ≡ false }
+    ensures none { IfOk result (λ b. IfNone b
+        (StepsKeepToEach rules.now (scheduled schedule input.now machine.old) machine.old)) }
+    ensures number { IfOk result (λ b. IfSome b (λ x. IsPlaceOf schedule x.number)) }
+    ensures state { IfOk result (λ b. IfSome b (λ x.
+        machine.new ≡ run_after (events_before (Some x.number) schedule input.now machine.old) machine.old)) }
+    ensures refused { IfOk result (λ b. IfSome b (λ x. IsRefused rules.now x.refused machine.new)) }
+    ensures kept { IfOk result (λ b. IfSome b (λ x.
+        StepsKeepToEach rules.now (events_before (Some x.number) schedule input.now machine.old) machine.old)) }
+{
+    let mut watcher = Watcher::new(alloc, rules)?;
+    let mut done = 0;
+    while done < schedule.steps {
+        let byte = schedule.byte_before(input, done + 1);
+        let count = schedule.steps_alone(input, done);
+        let ticks = schedule.is_tick_after(done + count);
+        if let Some(breach) = keep_block(alloc, &mut watcher, machine, byte, count, ticks)? {
+            let number = done + breach.number;
+            let refused = breach.refused;
+            return Ok(Some(Breach { number, refused }));
+        }
+        if machine.halted().is_some() {
+            return Ok(None);
+        }
+        done += count;
+    }
+    Ok(None)
+}
