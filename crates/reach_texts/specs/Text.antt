@@ -122,10 +122,13 @@ abbrev pub chain_text : List Symbol → List Door → List Found → List ℕ �
 chain_text symbols doors xs [] = []
 chain_text symbols doors xs (n ∷ ns) = place_at symbols doors xs n ++ later_places symbols doors xs ns
 
--- a member that does, with the places that lead to it
+-- a member, with the places that lead to it
+abbrev pub held_text : List Symbol → List Door → List Found → List ℕ → ℕ → List ℕ
+held_text symbols doors xs way k = chain_text symbols doors xs way ++ codes " " ++ capability_in (slice_get xs k)
+
+-- one that does
 abbrev pub yes_text : List Symbol → List Door → List Found → List ℕ → ℕ → List ℕ
-yes_text symbols doors xs way k =
-    codes "yes: " ++ chain_text symbols doors xs way ++ codes " " ++ capability_in (slice_get xs k) ++ codes "\n"
+yes_text symbols doors xs way k = codes "yes: " ++ held_text symbols doors xs way k ++ codes "\n"
 
 -- what *no* means: it holds up to there, whatever the code is
 abbrev pub no_text : Horizon → List ℕ

@@ -1,8 +1,8 @@
 //! Whether code may do something, as a text.
 ghost use Rattle.std.specs.Prelude.{◌≡◌, ◌<◌, ◌++◌, codes, length, IfSome, OnOk, string_bytes, slice_get};
 ghost use Rattle.reached.specs.Chain.{AreInOrder};
-ghost use Rattle.reached.specs.Order.{seen_members};
-ghost use Rattle.reach_texts.specs.Text.{answer_text, capability_in, chain_text, later_places, no_text, place_at, yes_text};
+ghost use Rattle.reached.specs.Order.{chain_of, seen_members};
+ghost use Rattle.reach_texts.specs.Text.{answer_text, capability_in, chain_text, later_places, held_text, no_text, place_at};
 
 use crate::members::put_capability;
 use crate::places::put_place_through;
@@ -102,23 +102,24 @@ fn put_chain<C: CapRep>(
     }
 }
 
-/// Appends that the member of a number opens what is asked for, and the places that lead there.
-fn put_yes<C: CapRep>(
+/// Appends the places that lead to the member of a number, and its capability.
+pub fn put_held<C: CapRep>(
     text: &mut String,
+    alloc: Global,
     symbols: &Symbols,
     doors: &[Door],
     members: &[Member<C>],
-    way: &[usize],
     number: usize,
 ) -> Result<(), AllocError>
-    ensures { OnOk result (string_bytes text.new
-        ≡ string_bytes text.old ++ yes_text symbols.now doors.now (seen_members C.value members.now) way.now number) }
+    requires inside { number < length members.now }
+    requires order { AreInOrder members.now }
+    ensures { OnOk result (string_bytes text.new ≡ string_bytes text.old ++ held_text symbols.now doors.now
+        (seen_members C.value members.now) (chain_of (seen_members C.value members.now) number) number) }
 {
-    put(text, "yes: ")?;
-    put_chain(text, symbols, doors, members, way)?;
+    let way = chain(alloc, members, number)?;
+    put_chain(text, symbols, doors, members, &way)?;
     put(text, " ")?;
-    put_capability_at(text, members, number)?;
-    put(text, "\n")
+    put_capability_at(text, members, number)
 }
 
 /// Appends that no member opens what is asked for, and up to where that holds.
@@ -149,8 +150,9 @@ pub fn put_answer<C: CapRep>(
 {
     match answer {
         Some(number) => {
-            let way = chain(alloc, members, number)?;
-            put_yes(text, symbols, doors, members, &way, number)
+            put(text, "yes: ")?;
+            put_held(text, alloc, symbols, doors, members, number)?;
+            put(text, "\n")
         }
         None => put_no(text, horizon),
     }

@@ -12,7 +12,7 @@ mod opened;
 mod places;
 mod summary;
 
-pub use answer::put_answer;
+pub use answer::{put_answer, put_held};
 pub use asked::first_that;
 pub use graph::put_graph;
 pub use members::{put_capability, put_members};

@@ -1,0 +1,44 @@
+-- What breaks a rule of a policy, as a text.
+use Rattle.std.specs.Prelude.{ℕ, List, [], ◌++◌, codes, decimal}
+use Rattle.disassembler.specs.Hex.{hex_of}
+use Rattle.hart.specs.State.{State, pc_of}
+use Rattle.symbols.specs.Symbols.{Symbol}
+use Rattle.policy.specs.declared.rule.Ban.{Ban}
+use Rattle.policy.specs.declared.rule.Ban.TheVariants.{Store, Load, Execute, Transmit, Halt, Timer, System, Seal, Types}
+use Rattle.policy.specs.declared.refused.Refused.{Refused}
+use Rattle.reach.specs.Reach.{members_in}
+use Rattle.reached.specs.Order.{Found, chain_of}
+use Rattle.reach_texts.specs.Text.{held_text}
+
+-- the part of a rule, as policies name it
+abbrev pub ban_word : Ban → List ℕ
+ban_word Store = codes "store"
+ban_word Load = codes "load"
+ban_word Execute = codes "execute"
+ban_word Transmit = codes "transmit"
+ban_word Halt = codes "halt"
+ban_word Timer = codes "timer"
+ban_word System = codes "system"
+ban_word Seal = codes "seal"
+ban_word Types = codes "types"
+
+-- the number of a rule's line and the part that is broken
+abbrev pub ban_line : ℕ → Ban → List ℕ
+ban_line number ban = codes "policy: line " ++ decimal number ++ codes ": " ++ ban_word ban ++ codes "\n"
+
+unfoldable pub rule_part : List ℕ → List ℕ
+rule_part rule = codes "  rule  " ++ rule ++ codes "\n"
+
+-- and the capability that breaks the rule, with the places that lead to it
+unfoldable pub breach_text : List Symbol → List Found → ℕ → List ℕ → Ban → ℕ → List ℕ
+breach_text symbols members number rule ban member =
+    ban_line number ban ++ rule_part rule ++ codes "  held  " ++ held_text symbols [] members (chain_of members member) member
+    ++ codes "\n"
+
+-- how many steps were done, and where PCC is; then what breaks the rule
+abbrev pub place_text : ℕ → State → List ℕ
+place_text steps s = codes "cherisim: steps " ++ decimal steps ++ codes ", pcc " ++ hex_of 16 (pc_of s) ++ codes "\ncherisim: "
+
+unfoldable pub stopped_lines : List Symbol → ℕ → List ℕ → Refused → ℕ → State → List ℕ
+stopped_lines symbols number rule refused steps s =
+    place_text steps s ++ breach_text symbols (members_in s) number rule refused.ban refused.member

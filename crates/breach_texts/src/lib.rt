@@ -1,0 +1,8 @@
+//! What breaks a rule, as a text.
+#![tactic(auto)]
+
+mod breach;
+mod stopped;
+
+pub use breach::{RuleLine, put_breach};
+pub use stopped::stopped_lines;
