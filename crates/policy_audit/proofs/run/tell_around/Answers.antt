@@ -1,0 +1,37 @@
+use Rattle.std.proofs.Common.{◌+◌, ◌++◌, ap, sym, ◌∙◌}
+use Rattle.std.specs.Prelude.{string_bytes}
+use Rattle.machine.specs.Run.{run_after}
+use Rattle.sim_run.specs.Schedule.{byte_before, is_tick_after}
+use Rattle.sim_run.proofs.Events.{brought}
+use Rattle.policy_audit.specs.Look.{rules_of, seen_by}
+use Rattle.policy_audit.specs.Text.{adds_found, says_found}
+use Rattle.policy_audit.proofs.Telling.{remembered_of_block, state_of_turn, told_of_block}
+use Rattle.policy_audit.proofs.run.tell_around.Goals as goal
+
+pub returns-clause-state : goal.returns-clause-state
+returns-clause-state g c =
+    let s = c.args.machine.now in
+    state_of_turn (byte_before c.args.schedule c.args.input.now (c.args.done + 1)) (is_tick_after c.args.schedule (c.args.done + 1)) s
+    c.bring.new.machine c.step.new.machine c.requires.running
+    (c.bring.ensures ∙ ap (λ b. run_after (brought b) s) c.byte_before.ensures) (rw c.is_tick_after.ensures at c.step.ensures)
+
+pub returns-clause-text : goal.returns-clause-text
+returns-clause-text g c =
+    let s = c.args.machine.now in
+    let rules = rules_of c.args.audit.now in
+    c.in_ok-tell.ensures.text
+    ∙ ap (λ t. string_bytes c.args.text.now ++ t)
+    (sym (told_of_block (says_found c.args.symbols.now c.args.lines.now rules) (adds_found rules)
+    (byte_before c.args.schedule c.args.input.now (c.args.done + 1)) (is_tick_after c.args.schedule (c.args.done + 1)) s
+    c.bring.new.machine c.requires.running (c.bring.ensures ∙ ap (λ b. run_after (brought b) s) c.byte_before.ensures) c.args.done
+    (seen_by c.args.audit.now)))
+
+pub returns-clause-seen : goal.returns-clause-seen
+returns-clause-seen g c =
+    let s = c.args.machine.now in
+    let rules = rules_of c.args.audit.now in
+    c.in_ok-tell.ensures.seen
+    ∙ sym (remembered_of_block (says_found c.args.symbols.now c.args.lines.now rules) (adds_found rules)
+    (byte_before c.args.schedule c.args.input.now (c.args.done + 1)) (is_tick_after c.args.schedule (c.args.done + 1)) s
+    c.bring.new.machine c.requires.running (c.bring.ensures ∙ ap (λ b. run_after (brought b) s) c.byte_before.ensures)
+    (seen_by c.args.audit.now))

@@ -1,0 +1,135 @@
+-- What a run enters: ranges of code, that is PCC's bounds, and what the code in each could do when it was entered, as lines of a policy.
+use Rattle.std.specs.Prelude.{ℕ, ◌-◌, ◌^◌, Bool, true, not, ◌&&◌, ◌||◌, ◌==◌, nat_lt, if◌then◌else◌, List, [], ◌∷◌, ◌++◌}
+use Rattle.std.specs.Prelude.{Option, Some, None, bytes_eq, codes, decimal}
+use Rattle.std.specs.List.{concat, flat_map, list_any}
+use Rattle.base.specs.declared.otype.TheConstants.{FIRST_RESERVED}
+use Rattle.base.specs.ObjectType.{is_reserved}
+use Rattle.cap_bounds.specs.CapValue.{CapValue, is_sealed, value_otype}
+use Rattle.devices.specs.Devices.{halt, timer_compare, transmit}
+use Rattle.disassembler.specs.Hex.{hex_of}
+use Rattle.hart.specs.declared.event.Event.{Event}
+use Rattle.hart.specs.State.{State}
+use Rattle.reach.specs.declared.range.Range.{Range}
+use Rattle.reach.specs.declared.right.Right.{Right}
+use Rattle.reach.specs.declared.right.Right.TheVariants.{Store, Load, Execute, Seal, Unseal}
+use Rattle.reach.specs.Ranges.{bounds_of, ranges_of}
+use Rattle.policy.specs.Watch.{values_in}
+use Rattle.policy_audit.specs.Found.{opens_store, opens_system}
+use Rattle.policy_audit.specs.Told.{told}
+
+-- ---- ranges
+
+abbrev pub address_text : ℕ → List ℕ
+address_text a = codes "0x" ++ hex_of 16 a
+
+unfoldable pub from_to : ℕ → ℕ → List ℕ
+from_to from to = address_text from ++ codes ".." ++ address_text to
+
+-- from an address on, by how many there are
+unfoldable pub from_on : ℕ → List ℕ
+from_on from = address_text from ++ codes "..+" ++ address_text (2 ^ 64 - from)
+
+-- all addresses are two ranges, since their number has no text
+unfoldable pub range_text : Range → List ℕ
+range_text r =
+    if nat_lt r.to (2 ^ 64) then from_to r.from r.to
+    else (if r.from == 0 then from_to 0 (2 ^ 63) ++ codes " " ++ from_on (2 ^ 63) else from_on r.from)
+
+unfoldable pub next_range : Range → List ℕ
+next_range r = codes " " ++ range_text r
+
+abbrev pub within_text : List Range → List ℕ
+within_text [] = codes " no"
+within_text (r ∷ rs) = codes " within" ++ flat_map next_range (r ∷ rs)
+
+-- ---- what some values open
+
+-- the addresses, to a right
+unfoldable pub bytes_part : List ℕ → Right → List CapValue → List ℕ
+bytes_part name right vs = name ++ within_text (ranges_of right vs)
+
+abbrev pub yes_or_no : Bool → List ℕ
+yes_or_no b = if b then codes "yes" else codes "no"
+
+-- the registers of the devices, and of the system
+unfoldable pub devices_part : List CapValue → List ℕ
+devices_part vs =
+    codes ", transmit " ++ yes_or_no (list_any (opens_store transmit) vs) ++ codes ", halt " ++ yes_or_no (list_any (opens_store halt) vs)
+    ++ codes ", timer " ++ yes_or_no (list_any (opens_store timer_compare) vs) ++ codes ", system "
+    ++ yes_or_no (list_any opens_system vs)
+
+-- object types that are not reserved, to a right
+abbrev pub opens_types : Right → List CapValue → Bool
+opens_types right vs = list_any (λ r. nat_lt r.from FIRST_RESERVED) (ranges_of right vs)
+
+unfoldable pub seal_part : List CapValue → List ℕ
+seal_part vs = codes ", seal " ++ yes_or_no (opens_types Seal vs || opens_types Unseal vs)
+
+-- puts a type among ascending types, if it is not there
+abbrev pub put_type : ℕ → List ℕ → List ℕ
+put_type t [] = t ∷ []
+put_type t (u ∷ us) = if nat_lt u t then u ∷ put_type t us else (if u == t then u ∷ us else t ∷ u ∷ us)
+
+-- the types of the values that are sealed with one that is not reserved, ascending and each once, and others
+abbrev pub with_type : List ℕ → CapValue → List ℕ
+with_type types v = if is_sealed v && not (is_reserved (value_otype v)) then put_type (value_otype v) types else types
+
+abbrev pub types_with : List ℕ → List CapValue → List ℕ
+types_with types [] = types
+types_with types (v ∷ vs) = types_with (with_type types v) vs
+
+unfoldable pub next_type : ℕ → List ℕ
+next_type t = codes " " ++ decimal t
+
+abbrev pub types_text : List ℕ → List ℕ
+types_text [] = codes " none"
+types_text (t ∷ ts) = flat_map next_type (t ∷ ts)
+
+unfoldable pub types_part : List CapValue → List ℕ
+types_part vs = codes ", types" ++ types_text (types_with [] vs)
+
+-- ---- lines
+
+unfoldable pub code_part : Range → List ℕ
+code_part code = codes "when pc in " ++ range_text code ++ codes ": "
+
+unfoldable pub ranges_part : List CapValue → List ℕ
+ranges_part vs =
+    bytes_part (codes "store") Store vs ++ bytes_part (codes ", load") Load vs ++ bytes_part (codes ", execute") Execute vs
+
+unfoldable pub entry_line : Range → List CapValue → List ℕ
+entry_line code vs = code_part code ++ ranges_part vs ++ devices_part vs ++ seal_part vs ++ types_part vs ++ codes "\n"
+
+-- ---- entries
+
+-- what is remembered: PCC's bounds before the last step, if there was one, and the lines so far
+pub record Entered : Type 0 where
+  pub code : Option Range
+  pub lines : List (List ℕ)
+
+-- whether a range of code is entered: it has an address, and is not the one before
+abbrev pub is_other : Option Range → Range → Bool
+is_other None code = true
+is_other (Some last) code = not (last.from == code.from && last.to == code.to)
+
+abbrev pub is_entered : Option Range → Range → Bool
+is_entered last code = nat_lt code.from code.to && is_other last code
+
+-- a line, if it is not among those so far
+abbrev pub new_line : List (List ℕ) → List ℕ → List (List ℕ)
+new_line lines line = if list_any (λ l. bytes_eq l line) lines then [] else line ∷ []
+
+-- the line of an entry, or none
+unfoldable pub entry_lines : Entered → State → List (List ℕ)
+entry_lines e s =
+    if is_entered e.code (bounds_of s.scrs.pcc) then new_line e.lines (entry_line (bounds_of s.scrs.pcc) (values_in s)) else []
+
+abbrev pub says_entry : Entered → ℕ → State → List ℕ
+says_entry e step s = concat (entry_lines e s)
+
+abbrev pub adds_entry : Entered → State → Entered
+adds_entry e s = record { code = Some (bounds_of s.scrs.pcc); lines = e.lines ++ entry_lines e s }
+
+-- the lines of a run's entries, each once
+abbrev pub entries_text : List Event → State → List ℕ
+entries_text events s = told says_entry adds_entry 0 events (record { code = None; lines = [] }) s

@@ -1,0 +1,9 @@
+-- What to read
+pub mod Found
+pub mod Told
+pub mod Text
+pub mod Entries
+-- Inner words
+pub mod Look
+pub mod Recalled
+pub mod Turn

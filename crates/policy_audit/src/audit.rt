@@ -1,0 +1,79 @@
+//! An audit of a policy: what was found so far, and what a look at a state adds.
+ghost use Rattle.std.specs.Prelude.{◌≡◌, ◌++◌, [], All, length, ◌<◌, IfOk, IfSome, OnOk, OnErr};
+ghost use Rattle.reached.specs.Chain.{AreInOrder};
+ghost use Rattle.reached.specs.Links.{values};
+ghost use Rattle.reached.specs.Order.{seen_members};
+ghost use Rattle.reach.specs.Reach.{AreReachable, members_in};
+ghost use Rattle.policy_audit.specs.Found.{found_at};
+ghost use Rattle.policy_audit.specs.Look.{found_in, rules_of, seen_by};
+
+use crate::finding::Finding;
+use crate::search::{add_found, finds_none};
+use cap_bounds::CapRep;
+use machine::Machine;
+use policy::Rule;
+use reach::Reach;
+use std::alloc::{AllocError, Global};
+
+/// Finds the parts of rules that are broken, each once.
+#[derive(Debug, Drop)]
+pub struct Audit<'r> {
+    /// What it audits.
+    rules: &'r [Rule],
+    /// What was found so far.
+    seen: Vec<Finding>,
+}
+
+impl<'r> Audit<'r> {
+    /// An audit of some rules that found nothing yet.
+    pub fn new(alloc: Global, rules: &'r [Rule]) -> Self
+        ensures rules { rules_of result ≡ rules.now }
+        ensures none { seen_by result ≡ [] }
+    {
+        Audit {
+            rules,
+            seen: Vec::new(alloc),
+        }
+    }
+
+    /// How many parts of rules were found to be broken.
+    pub fn count(&self) -> usize
+        ensures { result ≡ length (seen_by self.now) }
+    {
+        self.seen.len()
+    }
+
+    /// What is found before the machine's next step that was not found before, rule by rule and part by part, with all that is reachable:
+    /// of each part of a rule about the code that something reachable breaks, the first member that breaks it. `None` where each part of
+    /// the rules about the code was found before, so that nothing has to be searched.
+    ///
+    /// # Errors
+    ///
+    /// Out of memory. Then nothing is found, and the audit is as it was.
+    pub fn look<C: CapRep>(
+        &mut self,
+        alloc: Global,
+        machine: &Machine<C>,
+    ) -> Result<Option<(Reach<C>, Vec<Finding>)>, AllocError>
+        ensures found { IfOk result (λ look. found_in look ≡ found_at (rules_of self.old) (seen_by self.old) machine.now) }
+        ensures inside { IfOk result (λ look. IfSome look (λ x. All (λ f. f.member < length x.0) x.1.items)) }
+        ensures reach { IfOk result (λ look. IfSome look (λ x. seen_members C.value x.0 ≡ members_in machine.now)) }
+        ensures exact { IfOk result (λ look. IfSome look (λ x. AreReachable machine.now (values C.value x.0))) }
+        ensures order { IfOk result (λ look. IfSome look (λ x. AreInOrder x.0)) }
+        ensures seen { OnOk result (seen_by self.new
+            ≡ seen_by self.old ++ found_at (rules_of self.old) (seen_by self.old) machine.now) }
+        ensures same { OnErr result (seen_by self.new ≡ seen_by self.old) }
+        ensures rules { rules_of self.new ≡ rules_of self.old }
+    {
+        let hart = machine.hart();
+        let pc = hart.scrs().pcc().address();
+        if finds_none(&self.seen, pc, self.rules) {
+            return Ok(None);
+        }
+        let reach = Reach::of(alloc, hart)?;
+        let mut found = Vec::new(alloc);
+        add_found(&mut found, reach.members(), &self.seen, pc, self.rules)?;
+        self.seen.extend_from_slice(&found)?;
+        Ok(Some((reach, found)))
+    }
+}

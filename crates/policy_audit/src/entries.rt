@@ -1,0 +1,155 @@
+//! The ranges of code that a run enters.
+ghost use Rattle.std.specs.Prelude.{◌≡◌, ◌<◌, ◌++◌, false, bytes_eq, IfOk, OnOk, string_bytes};
+ghost use Rattle.std.specs.List.{list_any};
+ghost use Rattle.machine.specs.Run.{run_after};
+ghost use Rattle.policy.specs.Watch.{values_in};
+ghost use Rattle.sim_run.specs.Schedule.{is_halted, scheduled, IsRunnable};
+ghost use Rattle.policy_audit.specs.Entries.{adds_entry, entries_text, entry_line, is_entered, says_entry};
+ghost use Rattle.policy_audit.specs.Recalled.{recalled};
+ghost use Rattle.policy_audit.specs.Told.{remembered, told};
+ghost use Rattle.policy_audit.specs.Turn.{turn_of};
+
+use crate::line::put_line;
+use crate::turn::{bring, step};
+use cap_bounds::CapRep;
+use effect_texts::put;
+use machine::Machine;
+use reach::{Range, Reach};
+use sim_run::Schedule;
+use std::alloc::{AllocError, Global};
+
+/// What was entered so far.
+#[derive(Drop)]
+struct Entries {
+    /// PCC's bounds before the last step, if there was one.
+    code: Option<Range>,
+    /// The lines so far.
+    lines: Vec<String>,
+}
+
+/// Whether a range of code is entered: it has an address, and is not the one before.
+fn is_entered(last: Option<Range>, code: Range) -> bool
+    ensures { result ≡ is_entered last code }
+{
+    if code.to <= u128::from(code.from) {
+        return false;
+    }
+    match last {
+        Some(last) => last.from != code.from || last.to != code.to,
+        None => true,
+    }
+}
+
+/// Whether a line is among others.
+fn is_written(lines: &[String], line: &str) -> bool
+    ensures { result ≡ list_any (λ l. bytes_eq (string_bytes l) line.now) lines.now }
+{
+    lines.iter().any(|other| other.as_str() == line)
+}
+
+/// The line of the range of code that a machine is in.
+fn line_of<C: CapRep>(
+    alloc: Global,
+    machine: &Machine<C>,
+    code: Range,
+) -> Result<String, AllocError>
+    ensures { IfOk result (λ line. string_bytes line ≡ entry_line code (values_in machine.now)) }
+{
+    let reach = Reach::of(alloc, machine.hart())?;
+    let mut line = String::new(alloc);
+    put_line(&mut line, alloc, code, &reach)?;
+    Ok(line)
+}
+
+/// Appends the line of the range of code that a machine enters, if it enters one and the line was not written before.
+fn tell<C: CapRep>(
+    text: &mut String,
+    alloc: Global,
+    entries: &mut Entries,
+    machine: &Machine<C>,
+    number: u64,
+) -> Result<(), AllocError>
+    ensures text { OnOk result (string_bytes text.new ≡ string_bytes text.old ++ says_entry (recalled entries.old) number machine.now) }
+    ensures recalled { OnOk result (recalled entries.new ≡ adds_entry (recalled entries.old) machine.now) }
+{
+    let pcc = machine.hart().scrs().pcc();
+    let code = Range {
+        from: pcc.base(),
+        to: pcc.top(),
+    };
+    let entered = is_entered(entries.code, code);
+    entries.code = Some(code);
+    if !entered {
+        return Ok(());
+    }
+    let line = line_of(alloc, machine, code)?;
+    if is_written(&entries.lines, line.as_str()) {
+        return Ok(());
+    }
+    put(text, line.as_str())?;
+    entries.lines.push(line)?;
+    Ok(())
+}
+
+/// Does the step after so many others, with the byte before it and the tick after it, and appends what is entered before it.
+fn tell_around<C: CapRep>(
+    text: &mut String,
+    alloc: Global,
+    entries: &mut Entries,
+    machine: &mut Machine<C>,
+    schedule: Schedule,
+    input: &[u8],
+    done: u64,
+) -> Result<(), AllocError>
+    requires range { IsRunnable schedule }
+    requires more { done < schedule.steps }
+    requires running { is_halted machine.old ≡ false }
+    ensures state { OnOk result (machine.new ≡ run_after (turn_of schedule input.now done machine.old) machine.old) }
+    ensures text { OnOk result (string_bytes text.new ≡ string_bytes text.old ++ told says_entry adds_entry done
+        (turn_of schedule input.now done machine.old) (recalled entries.old) machine.old) }
+    ensures recalled { OnOk result (recalled entries.new
+        ≡ remembered adds_entry (turn_of schedule input.now done machine.old) (recalled entries.old) machine.old) }
+{
+    bring(machine, schedule.byte_before(input, done + 1));
+    tell(text, alloc, entries, machine, done + 1)?;
+    step(machine, schedule.is_tick_after(done + 1));
+    Ok(())
+}
+
+/// Runs a machine on a schedule, and appends a line of a policy for each range of code that it enters: what the code there could do, by
+/// what was reachable. A line that was written before is not written again.
+///
+/// A range of code is PCC's bounds. It is entered before a step where they are others than before the last step, and before the first
+/// one; bounds that hold no address are no range. The lines say what was reachable where a range was entered; later, as after a trap or an
+/// unsealing in the same bounds, more may be.
+///
+/// # Errors
+///
+/// Out of memory. Then the machine stands in the middle of its run, and the text has the lines so far, or one more.
+pub fn entries_run<C: CapRep>(
+    text: &mut String,
+    alloc: Global,
+    machine: &mut Machine<C>,
+    schedule: Schedule,
+    input: &[u8],
+) -> Result<(), AllocError>
+    requires range { IsRunnable schedule }
+    requires running { is_halted machine.old ≡ false }
+    ensures state { OnOk result (machine.new ≡ run_after (scheduled schedule input.now machine.old) machine.old) }
+    ensures text { OnOk result (string_bytes text.new
+        ≡ string_bytes text.old ++ entries_text (scheduled schedule input.now machine.old) machine.old) }
+{
+    let mut entries = Entries {
+        code: None,
+        lines: Vec::new(alloc),
+    };
+    let mut done = 0;
+    while done < schedule.steps {
+        tell_around(text, alloc, &mut entries, machine, schedule, input, done)?;
+        done += 1;
+        if machine.halted().is_some() {
+            return Ok(());
+        }
+    }
+    Ok(())
+}

@@ -1,0 +1,80 @@
+//! Parts of rules: whether a capability breaks one, and whether it was found to be broken.
+ghost use Rattle.std.specs.Prelude.{◌≡◌, ◌↔◌, ◌<◌, IfSome, length};
+ghost use Rattle.policy.specs.Rule.{place_of};
+ghost use Rattle.reached.specs.Links.{values};
+ghost use Rattle.policy_audit.specs.Found as spec;
+
+use crate::finding::Finding;
+use cap_bounds::CapRep;
+use policy::{Ban, Rule};
+use reached::Member;
+
+/// The parts of a rule, in their order.
+pub(crate) const PARTS: [Ban; 9] = [
+    Ban::Store,
+    Ban::Load,
+    Ban::Execute,
+    Ban::Transmit,
+    Ban::Halt,
+    Ban::Timer,
+    Ban::System,
+    Ban::Seal,
+    Ban::Types,
+];
+
+/// The place of a part in that order.
+fn place_of(ban: Ban) -> u8
+    ensures { result ≡ place_of ban }
+{
+    match ban {
+        Ban::Store => 0,
+        Ban::Load => 1,
+        Ban::Execute => 2,
+        Ban::Transmit => 3,
+        Ban::Halt => 4,
+        Ban::Timer => 5,
+        Ban::System => 6,
+        Ban::Seal => 7,
+        Ban::Types => 8,
+    }
+}
+
+/// Whether a part of a rule was found to be broken.
+pub(crate) fn is_found(seen: &[Finding], rule: usize, ban: Ban) -> bool
+    ensures { result ≡ spec.is_found seen.now rule ban }
+{
+    seen.iter().any(|finding| finding.rule == rule && place_of(finding.ban) == place_of(ban))
+}
+
+/// Whether a rule is about the code at an address.
+pub(crate) fn is_about(rule: &Rule, pc: u64) -> bool
+    ensures { result ≡ spec.is_about rule.now pc }
+{
+    policy::is_about(rule, pc)
+}
+
+/// Whether a capability breaks a part of the rule.
+fn breaks<C: CapRep>(cap: C, rule: &Rule, ban: Ban) -> bool
+    ensures { result ≡ spec.breaks rule.now ban (C.value cap) }
+{
+    policy::breaks(cap, rule, ban)
+}
+
+/// The first member that breaks a part of the rule.
+pub(crate) fn first_breaking<C: CapRep>(
+    members: &[Member<C>],
+    rule: &Rule,
+    ban: Ban,
+) -> Option<usize>
+    ensures first { result ≡ spec.first_from (spec.breaks rule.now ban) 0 (values C.value members.now) }
+    ensures inside { IfSome result (λ k. k < length members.now) }
+{
+    let mut number = 0;
+    while number < members.len() {
+        if breaks(members[number].cap, rule, ban) {
+            return Some(number);
+        }
+        number += 1;
+    }
+    None
+}

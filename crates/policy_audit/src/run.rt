@@ -1,0 +1,122 @@
+//! The audit of a run.
+ghost use Rattle.std.specs.Prelude.{◌≡◌, ◌<◌, ◌++◌, false, length, IfOk, OnOk, string_bytes};
+ghost use Rattle.machine.specs.Run.{run_after};
+ghost use Rattle.sim_run.specs.Schedule.{is_halted, scheduled, IsRunnable};
+ghost use Rattle.policy_audit.specs.Look.{rules_of, seen_by};
+ghost use Rattle.policy_audit.specs.Text.{adds_found, audit_findings, audit_text, says_found};
+ghost use Rattle.policy_audit.specs.Told.{remembered, told};
+ghost use Rattle.policy_audit.specs.Turn.{turn_of};
+
+use crate::audit::Audit;
+use crate::findings::{Moment, put_findings};
+use crate::turn::{bring, step};
+use breach_texts::RuleLine;
+use cap_bounds::CapRep;
+use effect_texts::put;
+use machine::Machine;
+use policy::Rule;
+use sim_run::Schedule;
+use std::alloc::{AllocError, Global};
+use symbols::Symbols;
+
+/// Appends what an audit finds before the machine's next step.
+fn tell<C: CapRep>(
+    text: &mut String,
+    alloc: Global,
+    symbols: &Symbols,
+    lines: &[RuleLine<'_>],
+    audit: &mut Audit<'_>,
+    machine: &Machine<C>,
+    number: u64,
+) -> Result<(), AllocError>
+    ensures text { OnOk result (string_bytes text.new ≡ string_bytes text.old
+        ++ says_found symbols.now lines.now (rules_of audit.old) (seen_by audit.old) number machine.now) }
+    ensures seen { OnOk result (seen_by audit.new ≡ adds_found (rules_of audit.old) (seen_by audit.old) machine.now) }
+    ensures rules { rules_of audit.new ≡ rules_of audit.old }
+{
+    let at = Moment {
+        step: number,
+        pc: machine.hart().scrs().pcc().address(),
+    };
+    match audit.look(alloc, machine)? {
+        Some((reach, found)) => put_findings(
+            text,
+            alloc,
+            symbols,
+            reach.members(),
+            lines,
+            at,
+            &found,
+        ),
+        None => put(text, ""),
+    }
+}
+
+/// Does the step after so many others, with the byte before it and the tick after it, and appends what an audit finds before it.
+fn tell_around<C: CapRep>(
+    text: &mut String,
+    alloc: Global,
+    symbols: &Symbols,
+    lines: &[RuleLine<'_>],
+    audit: &mut Audit<'_>,
+    machine: &mut Machine<C>,
+    schedule: Schedule,
+    input: &[u8],
+    done: u64,
+) -> Result<(), AllocError>
+    requires range { IsRunnable schedule }
+    requires more { done < schedule.steps }
+    requires running { is_halted machine.old ≡ false }
+    ensures state { OnOk result (machine.new ≡ run_after (turn_of schedule input.now done machine.old) machine.old) }
+    ensures text { OnOk result (string_bytes text.new ≡ string_bytes text.old
+        ++ told (says_found symbols.now lines.now (rules_of audit.old)) (adds_found (rules_of audit.old)) done
+        (turn_of schedule input.now done machine.old) (seen_by audit.old) machine.old) }
+    ensures seen { OnOk result (seen_by audit.new ≡ remembered (adds_found (rules_of audit.old))
+        (turn_of schedule input.now done machine.old) (seen_by audit.old) machine.old) }
+    ensures rules { rules_of audit.new ≡ rules_of audit.old }
+{
+    bring(machine, schedule.byte_before(input, done + 1));
+    tell(text, alloc, symbols, lines, audit, machine, done + 1)?;
+    step(machine, schedule.is_tick_after(done + 1));
+    Ok(())
+}
+
+/// Runs a machine on a schedule, and appends a text for each part of a rule that is broken in the run: before which step that is so
+/// for the first time, counted from 1, where PCC stands then, and what breaks the rule. Answers how many there are.
+///
+/// A rule is broken before a step if it is about the code and something reachable breaks it. The machine does each step all the same, and
+/// what it sends is forgotten. A rule's line stands at its place in `lines`; for a rule without a line the step alone is told.
+///
+/// # Errors
+///
+/// Out of memory. Then the machine stands in the middle of its run, and the text may have a part of what was found last.
+pub fn audit_run<C: CapRep>(
+    text: &mut String,
+    alloc: Global,
+    symbols: &Symbols,
+    rules: &[Rule],
+    lines: &[RuleLine<'_>],
+    machine: &mut Machine<C>,
+    schedule: Schedule,
+    input: &[u8],
+) -> Result<usize, AllocError>
+    requires range { IsRunnable schedule }
+    requires running { is_halted machine.old ≡ false }
+    ensures state { OnOk result (machine.new ≡ run_after (scheduled schedule input.now machine.old) machine.old) }
+    ensures text { OnOk result (string_bytes text.new ≡ string_bytes text.old
+        ++ audit_text symbols.now lines.now rules.now (scheduled schedule input.now machine.old) machine.old) }
+    ensures count { IfOk result (λ n. n ≡ length (audit_findings rules.now (scheduled schedule input.now machine.old) machine.old)) }
+{
+    let mut audit = Audit::new(alloc, rules);
+    let mut done = 0;
+    while done < schedule.steps {
+        tell_around(
+            text, alloc, symbols, lines, &mut audit, machine, schedule, input, done,
+        )?;
+        done += 1;
+        if machine.halted().is_some() {
+            return Ok(audit.count());
+        }
+    }
+    Ok(audit.count())
+}
