@@ -1,15 +1,17 @@
 -- What is read of clap's matches.
 use Rattle.std.proofs.Common.{◌≡◌, ◌∙◌, ℕ, ◌<◌, ◌^◌, List, refl, sym, ap, subst, codes, slice_index, arith}
-use Rattle.std.specs.Prelude.{Option, Some, None, IfSome, IfNone, IfErr, Result, Ok, Err, unwrap_or, is_some, true, false}
+use Rattle.std.specs.Prelude.{Option, Some, None, IfSome, IfNone, IfErr, Result, Ok, Err, unwrap_or, is_some, true, false, Bool, not, ◌&&◌}
+use Rattle.std.specs.Prelude.{[], bytes_eq, option_map}
 use Rattle.std.specs.Str.Parse.{IsNumeral, digits_value, without_leading_plus}
 use Rattle.std.specs.Borrow.{Bor}
 use Rattle.clap.specs.Words.{ReadsOne, Row, Text, first_of, one_text, rows_of}
 use Rattle.clap.specs.declared.parser.matches.Found.{Found}
 use Rattle.clap.proofs.WalkLemmas.{one_text-rows}
-use Rattle.command_line.specs.declared.plans.Plan.TheVariants.{Asm, Image, Run, Dis, Debug, Bounds, Word, First}
+use Rattle.command_line.specs.declared.plans.Plan.TheVariants.{Asm, Image, Run, Audit, Dis, Debug, Bounds, Word, First}
 use Rattle.command_line.specs.declared.layout.Layout.{Layout}
 use Rattle.command_line.specs.CommandLine.{IsNumber, IsNatural, IsOptional, IsLayoutOf, AreNumbersOf, AreInRange, IsTraceOf, IsTraceInRange}
-use Rattle.command_line.specs.CommandLine.{IsInputInRange, IsWithin, AreBoundsOf, NoCommandFits}
+use Rattle.command_line.specs.CommandLine.{IsInputInRange, IsPolicyOf, IsWithin, AreBoundsOf, NoCommandFits}
+use Rattle.command_line.specs.CommandLine.{IsFile, is_apart, are_apart}
 
 pub if_err : {T E : Type 0} (r : Result T E) (P : Type 0) → P → IfErr r (λ _. P)
 if_err (Ok x) P p = tt
@@ -75,8 +77,10 @@ pub no_image : (rows : List Row)
 no_image rows none (Asm input output symbols) fits sound =
     let bad : 105 ≡ 97 = ap (λ t. slice_index t 0) fits.0 in absurd (omega (arith, bad))
 no_image rows none (Image flat output layout) fits sound = none layout fits.3
-no_image rows none (Run image steps times gap tick input quiet why trace from last) fits sound =
+no_image rows none (Run image steps times gap tick input quiet why trace from last policy symbols) fits sound =
     let bad : 105 ≡ 114 = ap (λ t. slice_index t 0) fits.0 in absurd (omega (arith, bad))
+no_image rows none (Audit image steps times gap tick input policy symbols) fits sound =
+    let bad : 105 ≡ 97 = ap (λ t. slice_index t 0) fits.0 in absurd (omega (arith, bad))
 no_image rows none (Dis image symbols) fits sound =
     let bad : 105 ≡ 100 = ap (λ t. slice_index t 0) fits.0 in absurd (omega (arith, bad))
 no_image rows none (Debug image symbols input gap tick) fits sound =
@@ -90,15 +94,18 @@ no_image rows none First fits sound = fits
 -- a plan of `run` has its numbers, in their ranges, and what is traced
 pub no_run : (rows : List Row)
     → ((steps times gap tick : ℕ) (file : Option (Bor Text)) (from : ℕ) (last : Option ℕ)
+    (policy symbols : Option (Bor Text))
     → AreNumbersOf rows steps times gap tick → AreInRange steps times gap tick → IsTraceOf rows file from last
-    → IsTraceInRange from last → ⊥)
+    → IsTraceInRange from last → IsPolicyOf rows policy symbols → ⊥)
     → NoCommandFits (codes "run") rows
 no_run rows none (Asm input output symbols) fits sound =
     let bad : 114 ≡ 97 = ap (λ t. slice_index t 0) fits.0 in absurd (omega (arith, bad))
 no_run rows none (Image flat output layout) fits sound =
     let bad : 114 ≡ 105 = ap (λ t. slice_index t 0) fits.0 in absurd (omega (arith, bad))
-no_run rows none (Run image steps times gap tick input quiet why trace from last) fits sound =
-    none steps times gap tick trace from last fits.2 sound.0 fits.6 sound.1
+no_run rows none (Run image steps times gap tick input quiet why trace from last policy symbols) fits sound =
+    none steps times gap tick trace from last policy symbols fits.2 sound.0 fits.6 sound.1 fits.7
+no_run rows none (Audit image steps times gap tick input policy symbols) fits sound =
+    let bad : 114 ≡ 97 = ap (λ t. slice_index t 0) fits.0 in absurd (omega (arith, bad))
 no_run rows none (Dis image symbols) fits sound =
     let bad : 114 ≡ 100 = ap (λ t. slice_index t 0) fits.0 in absurd (omega (arith, bad))
 no_run rows none (Debug image symbols input gap tick) fits sound =
@@ -109,6 +116,81 @@ no_run rows none (Word high low memory) fits sound =
     let bad : 114 ≡ 119 = ap (λ t. slice_index t 0) fits.0 in absurd (omega (arith, bad))
 no_run rows none First fits sound = fits
 
+-- the names of files say whether one is apart from another
+abbrev seen : Option (Bor Text) → Option Text
+seen file = option_map (λ name. name.now) file
+
+is_apart-alike : (name other : Text) (t u : Option (Bor Text)) → name ≡ other → seen t ≡ seen u → is_apart name t ≡ is_apart other u
+is_apart-alike name other None None same alike = refl
+is_apart-alike name other None (Some u) same alike = let bad : false ≡ true = ap is_some alike in cc
+is_apart-alike name other (Some t) None same alike = let bad : true ≡ false = ap is_some alike in cc
+is_apart-alike name other (Some t) (Some u) same alike =
+    let now : t.now ≡ u.now = ap (λ o. unwrap_or o []) alike in ap (λ n. not (bytes_eq n t.now)) same ∙ ap (λ n. not (bytes_eq other n)) now
+
+are_apart-alike : (a b t u : Option (Bor Text)) → seen a ≡ seen b → seen t ≡ seen u → are_apart a t ≡ are_apart b u
+are_apart-alike None None t u same alike = refl
+are_apart-alike None (Some b) t u same alike = let bad : false ≡ true = ap is_some same in cc
+are_apart-alike (Some a) None t u same alike = let bad : true ≡ false = ap is_some same in cc
+are_apart-alike (Some a) (Some b) t u same alike = is_apart-alike a.now b.now t u (ap (λ o. unwrap_or o []) same) alike
+
+abbrev reads_only : Text → Option (Bor Text) → Option (Bor Text) → Option (Bor Text) → Option (Bor Text) → Bool
+reads_only image input policy symbols trace =
+    (is_apart image trace && are_apart input trace) && (are_apart policy trace && are_apart symbols trace)
+
+-- a plan of `run` writes no file that it reads
+pub no_trace : (rows : List Row) (image : Text) (input policy symbols trace : Option (Bor Text)) → first_of (codes "IMAGE") rows ≡ Some image
+    → IsFile (codes "input") rows input → IsFile (codes "policy") rows policy → IsFile (codes "symbols") rows symbols
+    → IsFile (codes "trace") rows trace
+    → reads_only image input policy symbols trace ≡ false
+    → NoCommandFits (codes "run") rows
+no_trace rows image input policy symbols trace i n p s t not_apart (Asm from to labels) fits sound =
+    let bad : 114 ≡ 97 = ap (λ t. slice_index t 0) fits.0 in absurd (omega (arith, bad))
+no_trace rows image input policy symbols trace i n p s t not_apart (Image flat output layout) fits sound =
+    let bad : 114 ≡ 105 = ap (λ t. slice_index t 0) fits.0 in absurd (omega (arith, bad))
+no_trace rows image input policy symbols trace i n p s t not_apart (Run im steps times gap tick inp quiet why tr first last pol labels) fits sound =
+    let alike = sym t ∙ fits.6.file in
+    let one : is_apart image trace ≡ is_apart im.now tr =
+    is_apart-alike image im.now trace tr (ap (λ o. unwrap_or o []) (sym i ∙ fits.1)) alike in
+    let two : are_apart input trace ≡ are_apart inp tr = are_apart-alike input inp trace tr (sym n ∙ fits.3) alike in
+    let three : are_apart policy trace ≡ are_apart pol tr = are_apart-alike policy pol trace tr (sym p ∙ fits.7.file) alike in
+    let four : are_apart symbols trace ≡ are_apart labels tr = are_apart-alike symbols labels trace tr (sym s ∙ fits.7.labels) alike in
+    let true_of = sound.2 in
+    cc
+no_trace rows image input policy symbols trace i n p s t not_apart (Audit im steps times gap tick inp pol sym) fits sound =
+    let bad : 114 ≡ 97 = ap (λ t. slice_index t 0) fits.0 in absurd (omega (arith, bad))
+no_trace rows image input policy symbols trace i n p s t not_apart (Dis im labels) fits sound =
+    let bad : 114 ≡ 100 = ap (λ t. slice_index t 0) fits.0 in absurd (omega (arith, bad))
+no_trace rows image input policy symbols trace i n p s t not_apart (Debug im labels inp gap tick) fits sound =
+    let bad : 114 ≡ 100 = ap (λ t. slice_index t 0) fits.0 in absurd (omega (arith, bad))
+no_trace rows image input policy symbols trace i n p s t not_apart (Bounds base length address) fits sound =
+    let bad : 114 ≡ 98 = ap (λ t. slice_index t 0) fits.0 in absurd (omega (arith, bad))
+no_trace rows image input policy symbols trace i n p s t not_apart (Word high low memory) fits sound =
+    let bad : 114 ≡ 119 = ap (λ t. slice_index t 0) fits.0 in absurd (omega (arith, bad))
+no_trace rows image input policy symbols trace i n p s t not_apart First fits sound = fits
+
+-- a plan of `audit` has its numbers, in their ranges, and a policy
+pub no_audit : (rows : List Row)
+    → ((steps times gap tick : ℕ) (policy symbols : Option (Bor Text)) → AreNumbersOf rows steps times gap tick
+    → AreInRange steps times gap tick → IsPolicyOf rows policy symbols → ⊥)
+    → NoCommandFits (codes "audit") rows
+no_audit rows none (Asm input output symbols) fits sound =
+    let bad : 117 ≡ 115 = ap (λ t. slice_index t 1) fits.0 in absurd (omega (arith, bad))
+no_audit rows none (Image flat output layout) fits sound =
+    let bad : 97 ≡ 105 = ap (λ t. slice_index t 0) fits.0 in absurd (omega (arith, bad))
+no_audit rows none (Run image steps times gap tick input quiet why trace from last policy symbols) fits sound =
+    let bad : 97 ≡ 114 = ap (λ t. slice_index t 0) fits.0 in absurd (omega (arith, bad))
+no_audit rows none (Audit image steps times gap tick input policy symbols) fits sound =
+    none steps times gap tick policy symbols fits.2 sound fits.4
+no_audit rows none (Dis image symbols) fits sound =
+    let bad : 97 ≡ 100 = ap (λ t. slice_index t 0) fits.0 in absurd (omega (arith, bad))
+no_audit rows none (Debug image symbols input gap tick) fits sound =
+    let bad : 97 ≡ 100 = ap (λ t. slice_index t 0) fits.0 in absurd (omega (arith, bad))
+no_audit rows none (Bounds base length address) fits sound =
+    let bad : 97 ≡ 98 = ap (λ t. slice_index t 0) fits.0 in absurd (omega (arith, bad))
+no_audit rows none (Word high low memory) fits sound =
+    let bad : 97 ≡ 119 = ap (λ t. slice_index t 0) fits.0 in absurd (omega (arith, bad))
+no_audit rows none First fits sound = fits
+
 -- a plan of `debug` has its gap and its tick, in their ranges
 pub no_debug : (rows : List Row)
     → ((gap tick : Option ℕ) → IsOptional (codes "gap") rows gap → IsOptional (codes "tick") rows tick → IsInputInRange gap tick → ⊥)
@@ -117,8 +199,10 @@ no_debug rows none (Asm input output symbols) fits sound =
     let bad : 100 ≡ 97 = ap (λ t. slice_index t 0) fits.0 in absurd (omega (arith, bad))
 no_debug rows none (Image flat output layout) fits sound =
     let bad : 100 ≡ 105 = ap (λ t. slice_index t 0) fits.0 in absurd (omega (arith, bad))
-no_debug rows none (Run image steps times gap tick input quiet why trace from last) fits sound =
+no_debug rows none (Run image steps times gap tick input quiet why trace from last policy symbols) fits sound =
     let bad : 100 ≡ 114 = ap (λ t. slice_index t 0) fits.0 in absurd (omega (arith, bad))
+no_debug rows none (Audit image steps times gap tick input policy symbols) fits sound =
+    let bad : 100 ≡ 97 = ap (λ t. slice_index t 0) fits.0 in absurd (omega (arith, bad))
 no_debug rows none (Dis image symbols) fits sound =
     let bad : 101 ≡ 105 = ap (λ t. slice_index t 1) fits.0 in absurd (omega (arith, bad))
 no_debug rows none (Debug image symbols input gap tick) fits sound = none gap tick fits.4 fits.5 sound
@@ -136,8 +220,10 @@ no_bounds rows none (Asm input output symbols) fits sound =
     let bad : 98 ≡ 97 = ap (λ t. slice_index t 0) fits.0 in absurd (omega (arith, bad))
 no_bounds rows none (Image flat output layout) fits sound =
     let bad : 98 ≡ 105 = ap (λ t. slice_index t 0) fits.0 in absurd (omega (arith, bad))
-no_bounds rows none (Run image steps times gap tick input quiet why trace from last) fits sound =
+no_bounds rows none (Run image steps times gap tick input quiet why trace from last policy symbols) fits sound =
     let bad : 98 ≡ 114 = ap (λ t. slice_index t 0) fits.0 in absurd (omega (arith, bad))
+no_bounds rows none (Audit image steps times gap tick input policy symbols) fits sound =
+    let bad : 98 ≡ 97 = ap (λ t. slice_index t 0) fits.0 in absurd (omega (arith, bad))
 no_bounds rows none (Dis image symbols) fits sound =
     let bad : 98 ≡ 100 = ap (λ t. slice_index t 0) fits.0 in absurd (omega (arith, bad))
 no_bounds rows none (Debug image symbols input gap tick) fits sound =
@@ -155,8 +241,10 @@ no_word rows none (Asm input output symbols) fits sound =
     let bad : 119 ≡ 97 = ap (λ t. slice_index t 0) fits.0 in absurd (omega (arith, bad))
 no_word rows none (Image flat output layout) fits sound =
     let bad : 119 ≡ 105 = ap (λ t. slice_index t 0) fits.0 in absurd (omega (arith, bad))
-no_word rows none (Run image steps times gap tick input quiet why trace from last) fits sound =
+no_word rows none (Run image steps times gap tick input quiet why trace from last policy symbols) fits sound =
     let bad : 119 ≡ 114 = ap (λ t. slice_index t 0) fits.0 in absurd (omega (arith, bad))
+no_word rows none (Audit image steps times gap tick input policy symbols) fits sound =
+    let bad : 119 ≡ 97 = ap (λ t. slice_index t 0) fits.0 in absurd (omega (arith, bad))
 no_word rows none (Dis image symbols) fits sound =
     let bad : 119 ≡ 100 = ap (λ t. slice_index t 0) fits.0 in absurd (omega (arith, bad))
 no_word rows none (Debug image symbols input gap tick) fits sound =

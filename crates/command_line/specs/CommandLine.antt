@@ -10,7 +10,7 @@ use Rattle.clap.specs.declared.builder.action.ArgAction.TheVariants.{SetTrue}
 use Rattle.clap.specs.declared.builder.value_parser.ValueParser.TheVariants as parser
 use Rattle.command_line.specs.declared.layout.Layout.{Layout}
 use Rattle.command_line.specs.declared.plans.Plan.{Plan}
-use Rattle.command_line.specs.declared.plans.Plan.TheVariants.{Asm, Image, Run, Dis, Debug, Bounds, Word, First}
+use Rattle.command_line.specs.declared.plans.Plan.TheVariants.{Asm, Image, Run, Audit, Dis, Debug, Bounds, Word, First}
 use Rattle.command_line.specs.declared.plans.Why.{Why}
 use Rattle.command_line.specs.declared.plans.Why.TheVariants.{Unfetched, All}
 
@@ -91,10 +91,19 @@ with_ends all run = with_rule (with_rule run (flag (codes "quiet"))) (why_rule a
 abbrev pub with_trace : App → App
 with_trace run = with_rule (with_rule (with_rule run (named (codes "trace"))) from_rule) last_rule
 
--- run IMAGE STEPS with these options
+-- [--policy FILE [--symbols FILE]]
+abbrev pub with_policy : App → App
+with_policy run = with_symbols (with_rule run (named (codes "policy")))
+
+-- run IMAGE STEPS with these options, and audit IMAGE STEPS with those of a schedule and a policy
+abbrev pub scheduled_command : Text → App
+scheduled_command name = with_schedule (with_rule (with_rule (new_app name) (operand (codes "IMAGE"))) steps_rule)
+
 abbrev pub run_command : Bool → App
-run_command all =
-    with_trace (with_ends all (with_schedule (with_rule (with_rule (new_app (codes "run")) (operand (codes "IMAGE"))) steps_rule)))
+run_command all = with_policy (with_trace (with_ends all (scheduled_command (codes "run"))))
+
+abbrev pub audit_command : App
+audit_command = with_policy (scheduled_command (codes "audit"))
 
 -- dis IMAGE [--symbols FILE]
 abbrev pub dis_command : App
@@ -124,7 +133,9 @@ abbrev pub making : App
 making = with_subcommand (with_subcommand (new_app (codes "cherisim")) asm_command.top) image_command.top
 
 abbrev pub taking : Bool → App → App
-taking all app = with_subcommand (with_subcommand (with_subcommand app (run_command all).top) dis_command.top) debug_command.top
+taking all app =
+    with_subcommand (with_subcommand (with_subcommand (with_subcommand app (run_command all).top) audit_command.top) dis_command.top)
+    debug_command.top
 
 abbrev pub program : Bool → App
 program all = with_subcommand (with_subcommand (taking all making) bounds_command.top) word_command.top
@@ -237,6 +248,18 @@ pub record IsTraceOf (rows : List Row) (trace : Option (Bor Text)) (from : ℕ) 
   pub last_found : IsOptional (codes "trace-last") rows last
   pub traced : IsTrue (is_traced rows)
 
+-- --symbols is used only where --policy is, and --policy only where --why is not
+abbrev pub is_watched : List Row → Bool
+is_watched rows = if is_some (first_of (codes "policy") rows)
+    then not (is_some (why_of rows))
+    else not (is_some (first_of (codes "symbols") rows))
+
+-- the file of a policy, and the one with labels that it may name
+pub record IsPolicyOf (rows : List Row) (policy symbols : Option (Bor Text)) : Type 0 where
+  pub file : IsFile (codes "policy") rows policy
+  pub labels : IsFile (codes "symbols") rows symbols
+  pub watched : IsTrue (is_watched rows)
+
 -- with one number alone it is the length, and no address is placed
 abbrev pub AreBoundsOf : List Row → Option ℕ → ℕ → Option ℕ → Type 0
 AreBoundsOf rows None length address =
@@ -256,11 +279,15 @@ IsPlanOfCommand name rows (Image flat output layout) =
     (name ≡ codes "image")
     × (first_of (codes "FLAT") rows ≡ Some flat.now) × (first_of (codes "OUT") rows ≡ Some output.now)
     × IsLayoutOf rows layout
-IsPlanOfCommand name rows (Run image steps times gap tick input quiet why trace trace_from trace_last) =
+IsPlanOfCommand name rows (Run image steps times gap tick input quiet why trace trace_from trace_last policy symbols) =
     (name ≡ codes "run")
     × (first_of (codes "IMAGE") rows ≡ Some image.now) × AreNumbersOf rows steps times gap tick
     × IsFile (codes "input") rows input × (quiet ≡ is_used (codes "quiet") rows) × (why ≡ why_of rows)
-    × IsTraceOf rows trace trace_from trace_last
+    × IsTraceOf rows trace trace_from trace_last × IsPolicyOf rows policy symbols
+IsPlanOfCommand name rows (Audit image steps times gap tick input policy symbols) =
+    (name ≡ codes "audit")
+    × (first_of (codes "IMAGE") rows ≡ Some image.now) × AreNumbersOf rows steps times gap tick
+    × IsFile (codes "input") rows input × IsPolicyOf rows policy symbols
 IsPlanOfCommand name rows (Dis image symbols) =
     (name ≡ codes "dis") × (first_of (codes "IMAGE") rows ≡ Some image.now) × IsFile (codes "symbols") rows symbols
 IsPlanOfCommand name rows (Debug image symbols input gap tick) =
@@ -299,9 +326,10 @@ abbrev pub IsSound : Plan → Type 0
 IsSound (Asm input output symbols) =
     IsTrue (not (bytes_eq input.now output.now) && (is_apart input.now symbols && is_apart output.now symbols))
 IsSound (Image flat output layout) = IsTrue (not (bytes_eq flat.now output.now))
-IsSound (Run image steps times gap tick input quiet why trace trace_from trace_last) =
+IsSound (Run image steps times gap tick input quiet why trace trace_from trace_last policy symbols) =
     AreInRange steps times gap tick × IsTraceInRange trace_from trace_last
-    × IsTrue (is_apart image.now trace && are_apart input trace)
+    × IsTrue ((is_apart image.now trace && are_apart input trace) && (are_apart policy trace && are_apart symbols trace))
+IsSound (Audit image steps times gap tick input policy symbols) = AreInRange steps times gap tick
 IsSound (Dis image symbols) = ⊤
 IsSound (Debug image symbols input gap tick) = IsInputInRange gap tick
 IsSound (Bounds base length address) = ⊤

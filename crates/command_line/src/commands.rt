@@ -5,6 +5,7 @@ ghost use Rattle.clap.specs.Words.{app_of, rule_of, with_rule, with_subcommand};
 ghost use Rattle.clap.specs.declared.builder.command.Command.TheViews.{out-Command};
 ghost use Rattle.command_line.specs.CommandLine.{with_pace, with_schedule, with_ends, with_trace, with_input, with_layout};
 ghost use Rattle.command_line.specs.CommandLine.{asm_command, image_command, run_command, dis_command, debug_command};
+ghost use Rattle.command_line.specs.CommandLine.{with_policy, scheduled_command, audit_command};
 ghost use Rattle.command_line.specs.CommandLine.{bounds_command, word_command, making, taking, program};
 
 use crate::arguments::{
@@ -155,18 +156,52 @@ fn with_trace<'a>(alloc: Global, run: Command<'a>) -> Result<Command<'a>, AllocE
     with_argument(run, trace_last(alloc))
 }
 
+/// Adds the options that say what a run is watched by.
+fn with_policy<'a>(alloc: Global, run: Command<'a>) -> Result<Command<'a>, AllocError>
+    requires { (out-Command run).has_globals ≡ false }
+    ensures app { IfOk result (λ c. app_of c ≡ with_policy (app_of run.entry)) }
+    ensures local { IfOk result (λ c. (out-Command c).has_globals ≡ false) }
+{
+    let policy = "The file with the policy that the run is watched by";
+    let labels = "A file with labels, which the policy may name";
+    let run = with_argument(run, named(alloc, "policy", "FILE", policy))?;
+    with_argument(run, named(alloc, "symbols", "FILE", labels))
+}
+
+/// A command that runs an image, with the options that say what comes when.
+fn scheduled_command<'a>(
+    alloc: Global,
+    name: &'a str,
+    about: &'a str,
+) -> Result<Command<'a>, AllocError>
+    ensures app { IfOk result (λ c. app_of c ≡ scheduled_command name.entry.now) }
+    ensures local { IfOk result (λ c. (out-Command c).has_globals ≡ false) }
+{
+    let run = Command::new(alloc, name).about(about);
+    let run = with_argument(run, operand(alloc, "IMAGE", "The file with the image"))?;
+    let run = with_argument(run, steps(alloc))?;
+    with_schedule(alloc, run)
+}
+
 fn run_command<'a>(alloc: Global, all: bool) -> Result<Command<'a>, AllocError>
     ensures app { IfOk result (λ c. app_of c ≡ run_command all) }
     ensures local { IfOk result (λ c. (out-Command c).has_globals ≡ false) }
 {
-    let run = Command::new(alloc, "run").about(
-        "Runs an image, and writes the bytes that it sends to standard output",
-    );
-    let run = with_argument(run, operand(alloc, "IMAGE", "The file with the image"))?;
-    let run = with_argument(run, steps(alloc))?;
-    let run = with_schedule(alloc, run)?;
+    let about = "Runs an image, and writes the bytes that it sends to standard output";
+    let run = scheduled_command(alloc, "run", about)?;
     let run = with_ends(alloc, all, run)?;
-    with_trace(alloc, run)
+    let run = with_trace(alloc, run)?;
+    with_policy(alloc, run)
+}
+
+fn audit_command<'a>(alloc: Global) -> Result<Command<'a>, AllocError>
+    ensures app { IfOk result (λ c. app_of c ≡ audit_command) }
+    ensures local { IfOk result (λ c. (out-Command c).has_globals ≡ false) }
+{
+    let about =
+        "Runs an image, and lists what breaks a policy, or what a policy would have to allow";
+    let audit = scheduled_command(alloc, "audit", about)?;
+    with_policy(alloc, audit)
 }
 
 fn dis_command<'a>(alloc: Global) -> Result<Command<'a>, AllocError>
@@ -270,6 +305,7 @@ fn taking<'a>(alloc: Global, all: bool, program: Command<'a>) -> Result<Command<
     ensures { IfOk result (λ c. app_of c ≡ taking all (app_of program.entry)) }
 {
     let program = with_command(program, run_command(alloc, all)?)?;
+    let program = with_command(program, audit_command(alloc)?)?;
     let program = with_command(program, dis_command(alloc)?)?;
     with_command(program, debug_command(alloc)?)
 }

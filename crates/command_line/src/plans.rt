@@ -54,6 +54,29 @@ pub enum Plan<'a> {
         trace_from: u64,
         /// How many of the lines are left there in the end, the last ones, 1 to 1000000; else all are.
         trace_last: Option<u64>,
+        /// The file with the policy that the run keeps to, if one is named; then no end is explained.
+        policy: Option<&'a str>,
+        /// The file with labels that the policy may name, if one is named.
+        symbols: Option<&'a str>,
+    },
+    /// List what breaks a policy in a run of an image, or the policy that the run keeps to.
+    Audit {
+        /// The file with the image.
+        image: &'a str,
+        /// The most steps that are done, where `times` is 1: 1 to 100000000.
+        steps: u64,
+        /// How many times as many are done at most, 1 to 1000000.
+        times: u64,
+        /// Steps from one byte of the input to the next, 1 to 1000000.
+        gap: u64,
+        /// Steps from one tick of the timer to the next, at most 1000000; at 0 there is no tick.
+        tick: u64,
+        /// The file whose bytes come on the console, if one is named.
+        input: Option<&'a str>,
+        /// The file with the policy, if one is named.
+        policy: Option<&'a str>,
+        /// The file with labels that the policy may name, if one is named.
+        symbols: Option<&'a str>,
     },
     /// List an image.
     Dis {

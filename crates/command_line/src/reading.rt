@@ -1,12 +1,12 @@
 //! The plan that a command line asks for.
 
 ghost use Rattle.std.specs.Prelude.{◌≡◌, ◌<◌, ◌^◌, ◌↔◌, ℕ, IsTrue, Option, IfOk, IfNone, IfErr, OnOk, IfSome, map};
-ghost use Rattle.std.specs.Prelude.{codes, is_some, None, true};
+ghost use Rattle.std.specs.Prelude.{codes, is_some, None, true, ◌&&◌};
 ghost use Rattle.std.specs.Borrow.{Bor};
 ghost use Rattle.clap.specs.Words.{Text, first_of, found_of, rows_of, kind_of, subcommand_rows_of};
 ghost use Rattle.clap.specs.declared.error.kind.ErrorKind.{ErrorKind};
 ghost use Rattle.command_line.specs.CommandLine.{found_in, IsSound, IsTaken, IsLayoutOf, IsPlanOf, IsPlanOfCommand, IsTraceOf, AreBoundsOf};
-ghost use Rattle.command_line.specs.CommandLine.{AreNumbersOf, AreInRange, IsTraceInRange, NoCommandFits, NoPlanFits, are_apart, is_apart};
+ghost use Rattle.command_line.specs.CommandLine.{AreNumbersOf, AreInRange, IsTraceInRange, NoCommandFits, NoPlanFits, are_apart, is_apart, IsPolicyOf};
 ghost use Rattle.command_line.specs.CommandLine.{asks_all};
 ghost use Rattle.command_line.specs.declared.fault.PlanFault.TheVariants.{Memory};
 ghost use Rattle.command_line.specs.declared.layout.Layout.{Layout};
@@ -30,6 +30,12 @@ const SAME_FILE: Misfit = "a file that is written cannot be another file of the 
 
 /// A trace is described that isn't asked for.
 const UNTRACED: Misfit = "--trace-from and --trace-last go with --trace";
+
+/// Labels are named that no policy may name.
+const UNWATCHED: Misfit = "--symbols goes with --policy";
+
+/// A run would have two reasons to stop.
+const TWO_STOPS: Misfit = "--policy does not go with --why";
 
 /// An address is to be placed against no bounds.
 const UNPLACED: Misfit = "--address goes with BASE and LENGTH";
@@ -105,6 +111,30 @@ fn traced<'a>(found: &ArgMatches<'a>) -> Result<TraceAsked<'a>, Misfit>
         from: first.unwrap_or(1),
         last,
     })
+}
+
+/// The policy that a run is watched by: its file, and the one with labels that it may name.
+#[derive(Clone, Copy)]
+struct PolicyAsked<'a> {
+    file: Option<&'a str>,
+    symbols: Option<&'a str>,
+}
+
+/// What was found of a policy.
+fn watched<'a>(found: &ArgMatches<'a>) -> Result<PolicyAsked<'a>, Misfit>
+    ensures value { IfOk result (λ p. IsPolicyOf (rows_of (found_of found.now)) p.file p.symbols) }
+    ensures err { IfErr result (λ _. (file symbols : Option (Bor Text)) → IsPolicyOf (rows_of (found_of found.now)) file symbols → ⊥) }
+{
+    let file = text(found, "policy");
+    let symbols = text(found, "symbols");
+    if file.is_some() {
+        if why_of(found).is_some() {
+            return Err(TWO_STOPS);
+        }
+    } else if symbols.is_some() {
+        return Err(UNWATCHED);
+    }
+    Ok(PolicyAsked { file, symbols })
 }
 
 /// Where the bytes of a flat file go.
@@ -185,6 +215,22 @@ fn image_plan<'a>(found: &ArgMatches<'a>) -> Result<Plan<'a>, Misfit>
     })
 }
 
+/// Whether none of the files that a run reads bears the name of the one that its trace is written to.
+fn is_read_only(
+    image: &str,
+    input: Option<&str>,
+    policy: PolicyAsked<'_>,
+    trace: Option<&str>,
+) -> bool
+    ensures { result ≡ ((is_apart image.now trace.entry && are_apart input.entry trace.entry)
+        && (are_apart policy.entry.file trace.entry && are_apart policy.entry.symbols trace.entry)) }
+{
+    is_apart(image, trace)
+        && are_apart(input, trace)
+        && are_apart(policy.file, trace)
+        && are_apart(policy.symbols, trace)
+}
+
 fn run_plan<'a>(found: &ArgMatches<'a>) -> Result<Plan<'a>, Misfit>
     ensures value { IfOk result (IsPlanOfCommand (codes "run") (rows_of (found_of found.now))) }
     ensures sound { IfOk result IsSound }
@@ -193,8 +239,9 @@ fn run_plan<'a>(found: &ArgMatches<'a>) -> Result<Plan<'a>, Misfit>
     let image = operand(found, "IMAGE")?;
     let input = text(found, "input");
     let trace = traced(found)?;
+    let policy = watched(found)?;
     match numbers_of(found) {
-        Some(_) if !(is_apart(image, trace.file) && are_apart(input, trace.file)) => Err(SAME_FILE),
+        Some(_) if !is_read_only(image, input, policy, trace.file) => Err(SAME_FILE),
         Some(run) => Ok(Plan::Run {
             image,
             steps: run.steps,
@@ -207,6 +254,31 @@ fn run_plan<'a>(found: &ArgMatches<'a>) -> Result<Plan<'a>, Misfit>
             trace: trace.file,
             trace_from: trace.from,
             trace_last: trace.last,
+            policy: policy.file,
+            symbols: policy.symbols,
+        }),
+        None => Err(MISSING),
+    }
+}
+
+fn audit_plan<'a>(found: &ArgMatches<'a>) -> Result<Plan<'a>, Misfit>
+    ensures value { IfOk result (IsPlanOfCommand (codes "audit") (rows_of (found_of found.now))) }
+    ensures sound { IfOk result IsSound }
+    ensures none { IfErr result (λ _. NoCommandFits (codes "audit") (rows_of (found_of found.now))) }
+{
+    let image = operand(found, "IMAGE")?;
+    let input = text(found, "input");
+    let policy = watched(found)?;
+    match numbers_of(found) {
+        Some(run) => Ok(Plan::Audit {
+            image,
+            steps: run.steps,
+            times: run.times,
+            gap: run.gap,
+            tick: run.tick,
+            input,
+            policy: policy.file,
+            symbols: policy.symbols,
         }),
         None => Err(MISSING),
     }
@@ -325,6 +397,8 @@ fn plan_of_command<'a>(name: &str, found: &ArgMatches<'a>) -> Result<Plan<'a>, M
         image_plan(found)
     } else if name == "run" {
         run_plan(found)
+    } else if name == "audit" {
+        audit_plan(found)
     } else if name == "dis" {
         dis_plan(found)
     } else if name == "debug" {
@@ -381,7 +455,8 @@ fn asks_all(words: &[&str]) -> bool
 
 /// Reads the words of a command line, the program's name first.
 ///
-/// A file that is written may not bear the name of another file of the command; `--trace-from` and `--trace-last` go with `--trace`;
+/// A file that is written may not bear the name of another file of the command; `--trace-from` and `--trace-last` go with `--trace`,
+/// `--symbols` of a run goes with `--policy`, and `--policy` does not go with `--why`;
 /// with one number `bounds` has a length and no address. A number of 64 bits is typed in decimal digits,
 /// or in hexadecimal digits after `0x`. `Help` and `Refused` hold the text for whoever typed the words; `Memory` says that there
 /// was none.

@@ -3,3 +3,4 @@ pub mod Beginnings
 pub mod Flat
 pub mod Typed
 pub mod Debugged
+pub mod Policies

@@ -1,7 +1,14 @@
 -- The status of a command line that was carried out, and what then holds of its files.
-use Rattle.std.specs.Prelude.{◌≡◌, ◌≤◌, ◌*◌, ℕ, List, Option, IfSome, Bool, true, false, bytes_eq, codes, [], ◌∷◌}
+use Rattle.std.specs.Prelude.{◌≡◌, ◌≤◌, ◌*◌, ◌==◌, ℕ, List, Option, Some, None, IfSome, Bool, true, false, bytes_eq, codes, [], ◌∷◌}
+use Rattle.std.specs.Prelude.{if◌then◌else◌}
+use Rattle.std.specs.Borrow.{Bor}
+use Rattle.sim_run.specs.declared.schedule.Schedule.{Schedule}
+use Rattle.sim_run.specs.declared.stopping.StopAt.{StopAt}
+use Rattle.commands.specs.declared.running.Kept.{Kept}
+use Rattle.commands.specs.Auditing.{AuditsFile}
+use Rattle.commands.specs.Watching.{WatchesFile}
 use Rattle.command_line.specs.declared.plans.Plan.{Plan}
-use Rattle.command_line.specs.declared.plans.Plan.TheVariants.{Asm, Image, Run, Dis, Debug, Bounds, Word, First}
+use Rattle.command_line.specs.declared.plans.Plan.TheVariants.{Asm, Image, Run, Audit, Dis, Debug, Bounds, Word, First}
 use Rattle.command_line.specs.CommandLine.{IsPlanOf, IsSound, IsTaken, NoPlanFits, found_in}
 use Rattle.std.specs.Io.KnownBytes.{Appends}
 use Rattle.bounds_text.specs.WordText.{word_of_halves}
@@ -17,10 +24,19 @@ use Rattle.commands.specs.Listing.{ListsFile}
 use Rattle.commands.specs.Overwriting.{Overwrites, Sameness}
 use Rattle.commands.specs.Running.{RunsFile, stop_at}
 
--- 0 for what was done, and of a run what its end comes to
+-- 0 for what was done, and of a run what its end comes to; of an audit 1 where something is broken
 abbrev pub status_of_done : Done → ℕ
 status_of_done done.All = 0
 status_of_done (done.Run ended) = status_of ended.end
+status_of_done (done.Audit count) = if count == 0 then 0 else 1
+
+-- The bytes of a file are an image, which is run, watched by a policy if one is named.
+abbrev pub RunsBy : Option (Bor Text) → Option (Bor Text) → Option StopAt → Schedule → Option (Bor Text) → Bool → List ℕ
+    → Option (Bor Text) → Kept → Option (List File) → Option (List File) → Ended → Option (List ℕ) → Option (List ℕ) → Type 0
+RunsBy None symbols at schedule input quiet bytes trace kept old new ended sent out =
+    RunsFile at schedule input quiet bytes trace kept old new ended sent out
+RunsBy (Some policy) symbols at schedule input quiet bytes trace kept old new ended sent out =
+    WatchesFile policy.now symbols schedule input quiet bytes trace kept old new ended sent out
 
 -- A plan was carried out wholly, with this status, where files and an output were known before.
 abbrev pub HasStatus : Plan → Option (List ℕ) → Option (List File) → Option (List File) → ℕ → Type 0
@@ -28,11 +44,15 @@ HasStatus (Asm input output symbols) sent old new status =
     (status ≡ 0) × IfSome (bytes_of input.now old) (λ text. Assembles output.now symbols text old new)
 HasStatus (Image flat output layout) sent old new status =
     (status ≡ 0) × IfSome (bytes_of flat.now old) (λ bytes. MakesImage layout output.now bytes old new)
-HasStatus (Run image steps times gap tick input quiet why trace trace_from trace_last) sent old new status =
+HasStatus (Run image steps times gap tick input quiet why trace trace_from trace_last policy symbols) sent old new status =
     (ended : Ended) × (out : Option (List ℕ)) × (status ≡ status_of ended.end)
     × IfSome (bytes_of image.now old)
-    (λ bytes. RunsFile (stop_at why) (record { steps = steps * times; gap = gap; tick = tick }) input quiet bytes trace
+    (λ bytes. RunsBy policy symbols (stop_at why) (record { steps = steps * times; gap = gap; tick = tick }) input quiet bytes trace
     (record { from = trace_from; last = trace_last }) old new ended sent out)
+HasStatus (Audit image steps times gap tick input policy symbols) sent old new status =
+    (count : ℕ) × (out : Option (List ℕ)) × (status ≡ (if count == 0 then 0 else 1))
+    × IfSome (bytes_of image.now old)
+    (λ bytes. AuditsFile policy symbols (record { steps = steps * times; gap = gap; tick = tick }) input bytes old count sent out)
 HasStatus (Dis image symbols) sent old new status =
     (out : Option (List ℕ)) × (status ≡ 0) × IfSome (bytes_of image.now old) (λ bytes. ListsFile old bytes symbols sent out)
 HasStatus (Debug image symbols input gap tick) sent old new status = status ≡ 0

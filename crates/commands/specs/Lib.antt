@@ -6,6 +6,8 @@ pub mod Bounding
 pub mod Listing
 pub mod Running
 pub mod Debugging
+pub mod Watching
+pub mod Auditing
 pub mod Overwriting
 pub mod Carrying
 -- Inner words

@@ -19,8 +19,8 @@ abbrev pub overwrites : Sameness → Plan → Bool
 overwrites same (Asm input output symbols) =
     (same output.now input.now || are_same same symbols (Some input)) || are_same same symbols (Some output)
 overwrites same (Image flat output layout) = same output.now flat.now
-overwrites same (Run image steps times gap tick input quiet why trace trace_from trace_last) =
-    are_same same trace (Some image) || are_same same trace input
+overwrites same (Run image steps times gap tick input quiet why trace trace_from trace_last policy symbols) =
+    (are_same same trace (Some image) || are_same same trace input) || (are_same same trace policy || are_same same trace symbols)
 overwrites same other = false
 
 -- the same where it is known which names lead to one file

@@ -1,13 +1,15 @@
 //! A command line carried out, and the status that it ends with.
 
 ghost use Rattle.command_line.specs.CommandLine.{AreInRange, IsSound};
-ghost use Rattle.std.specs.Prelude.{◌≡◌, ◌≤◌, ◌*◌, ◌⊎◌, false, true, map, IfOk};
+ghost use Rattle.std.specs.Prelude.{◌≡◌, ◌≤◌, ◌*◌, ◌⊎◌, false, true, map, IfOk, IfSome};
 ghost use Rattle.sim_run.specs.Schedule.{IsRunnable};
 ghost use Rattle.sim_run.specs.Verdict.{status_of as status_of_run};
-ghost use Rattle.commands.specs.Carrying.{HasStatus, IsCarriedOut, IsKept, IsRefused, asks_version, status_of_done};
+ghost use Rattle.commands.specs.Carrying.{HasStatus, IsCarriedOut, IsKept, IsRefused, RunsBy, asks_version, status_of_done};
+ghost use Rattle.commands.specs.Files.{bytes_of};
 ghost use Rattle.commands.specs.Overwriting.{Overwrites};
 
 use crate::assembling::assemble_file;
+use crate::auditing::audit_file;
 use crate::bounding::{show_bounds, show_word};
 use crate::debugging::debug_file;
 use crate::fault::ProgramFault;
@@ -16,9 +18,10 @@ use crate::imaging::image_file;
 use crate::listing::list_file;
 use crate::overwriting::overwrites;
 use crate::running::{Ended, Kept, run_file, run_first, stop_at};
+use crate::watching::watch_file;
 use command_line::{Plan, PlanFault, plan};
 use image::DeviceFailed;
-use sim_run::{Schedule, verdict};
+use sim_run::{Schedule, StopAt, verdict};
 use std::alloc::Global;
 use std::io::{Read, Write};
 
@@ -41,6 +44,8 @@ enum Done {
     All,
     /// A run that ended so.
     Run(Ended),
+    /// An audit that found so many parts of rules that are broken.
+    Audit(usize),
 }
 
 /// Tells how a run ended, and where; and answers the status.
@@ -73,6 +78,37 @@ fn schedule_of(steps: u64, times: u64, gap: u64, tick: u64) -> Schedule
     Schedule { steps, gap, tick }
 }
 
+/// Runs the image of a file, watched by a policy if one is named; else it ends before the trap that it is to stop `at`, if any.
+fn run_by<'a, F: Folder, O: Write + Drop>(
+    alloc: Global,
+    folder: &mut F,
+    image: &'a str,
+    policy: Option<&'a str>,
+    symbols: Option<&'a str>,
+    at: Option<StopAt>,
+    schedule: Schedule,
+    input: Option<&'a str>,
+    quiet: bool,
+    trace: Option<&'a str>,
+    kept: Kept,
+    output: O,
+) -> Result<(Ended, O), ProgramFault<'a>>
+    requires some_step { 1 ≤ schedule.steps }
+    requires range { IsRunnable schedule }
+    ensures { IfOk result (λ done. IfSome (bytes_of image.entry.now (F.files folder.old)) (λ bytes.
+        RunsBy policy.entry symbols.entry at schedule input.entry quiet bytes trace.entry kept (F.files folder.old)
+        (F.files folder.new) done.0 (O.contents output) (O.contents done.1))) }
+{
+    match policy {
+        None => run_file(
+            alloc, folder, image, at, schedule, input, quiet, trace, kept, output,
+        ),
+        Some(policy) => watch_file(
+            alloc, folder, image, policy, symbols, schedule, input, quiet, trace, kept, output,
+        ),
+    }
+}
+
 /// Does what the plan says.
 fn carry_out<'a, F: Folder, I: Read + Drop, O: Write + Drop>(
     alloc: Global,
@@ -102,6 +138,8 @@ fn carry_out<'a, F: Folder, I: Read + Drop, O: Write + Drop>(
             trace,
             trace_from,
             trace_last,
+            policy,
+            symbols,
         } => {
             let schedule = schedule_of(steps, times, gap, tick);
             let at = stop_at(why);
@@ -109,10 +147,33 @@ fn carry_out<'a, F: Folder, I: Read + Drop, O: Write + Drop>(
                 from: trace_from,
                 last: trace_last,
             };
-            let (ended, _output) = run_file(
-                alloc, folder, image, at, schedule, input, quiet, trace, kept, output,
+            let (ended, _output) = run_by(
+                alloc, folder, image, policy, symbols, at, schedule, input, quiet, trace, kept,
+                output,
             )?;
             Ok(Done::Run(ended))
+        }
+        Plan::Audit {
+            image,
+            steps,
+            times,
+            gap,
+            tick,
+            input,
+            policy,
+            symbols,
+        } => {
+            let (count, _output) = audit_file(
+                alloc,
+                folder,
+                image,
+                policy,
+                symbols,
+                schedule_of(steps, times, gap, tick),
+                input,
+                output,
+            )?;
+            Ok(Done::Audit(count))
         }
         Plan::Asm {
             input,
@@ -177,6 +238,8 @@ fn carry<'a, F: Folder, I: Read + Drop, O: Write + Drop, E: Write>(
     match carry_out(alloc, folder, input, output, plan) {
         Ok(Done::All) => 0,
         Ok(Done::Run(ended)) => tell_end(errors, &ended),
+        Ok(Done::Audit(0)) => 0,
+        Ok(Done::Audit(_)) => 1,
         Err(fault) => tell_fault(errors, &fault),
     }
 }

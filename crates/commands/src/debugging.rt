@@ -28,7 +28,7 @@ const GAP: u64 = 1000;
 const TICK: u64 = 100;
 
 /// The labels of the file `symbols`, or none where no file is named.
-fn table_of<'a, F: Folder>(
+pub fn table_of<'a, F: Folder>(
     alloc: Global,
     folder: &F,
     symbols: Option<&'a str>,

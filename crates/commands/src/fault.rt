@@ -1,11 +1,15 @@
 //! The faults that end the program with status 3, and their texts.
 
+ghost use Rattle.std.specs.Prelude.{◌≡◌};
 ghost use Rattle.commands.specs.Files.{IsOfSystem};
+ghost use Rattle.commands.specs.declared.fault.ProgramFault.TheVariants as program;
 
 use assembler::{AsmCode, AsmFault};
 use debugger::TalkFault;
 use image::{DeviceFailed, ImageFault};
 use machine::MachineFault;
+use policy_text::PolicyCode;
+use std::alloc::AllocError;
 use std::io;
 use std::io::ErrorKind;
 use thiserror::Error;
@@ -38,6 +42,12 @@ pub enum ProgramFault<'a> {
     /// An invalid line of a table of symbols: its file, and the line's number.
     #[error("line {1}: no address and label\n  {0}:{1}")]
     Symbols(&'a str, u64),
+    /// A text is not a policy: its file, the first faulty line, and what is wrong with it.
+    #[error("line {}: {}\n  {}:{}", .1, policy_text(.2), .0, .1)]
+    Policy(&'a str, u64, PolicyCode),
+    /// The text of a policy has more than 1 MiB.
+    #[error("P9 policy too long\n  {0}")]
+    LongPolicy(&'a str),
     /// A file could not be written to its end.
     #[error("L10 device failed\n  {0}: the file is cut short")]
     CutShort(&'a str),
@@ -53,6 +63,14 @@ pub enum ProgramFault<'a> {
     /// A conversation with the debugger was cut short.
     #[error("{}", talk_text(.0))]
     Talk(#[from] TalkFault),
+}
+
+impl From<AllocError> for ProgramFault<'_> {
+    ghost from_gives = { λ _ fault. fault ≡ program.Memory };
+
+    fn from(_: AllocError) -> Self {
+        ProgramFault::Memory
+    }
 }
 
 /// The system's words for why a file could not be opened, made or read.
@@ -114,6 +132,20 @@ fn asm_text(code: AsmCode) -> &'static str {
         AsmCode::A9 => "A9 line too long",
         AsmCode::A10 => "A10 no memory",
         AsmCode::A11 => "A11 capability not exact",
+    }
+}
+
+/// The code and the words of a fault of a policy.
+fn policy_text(code: &PolicyCode) -> &'static str {
+    match code {
+        PolicyCode::P1 => "P1 neither a definition nor a rule",
+        PolicyCode::P2 => "P2 name unknown",
+        PolicyCode::P3 => "P3 name twice",
+        PolicyCode::P4 => "P4 number",
+        PolicyCode::P5 => "P5 range empty",
+        PolicyCode::P6 => "P6 part unknown",
+        PolicyCode::P7 => "P7 part twice",
+        PolicyCode::P8 => "P8 part malformed",
     }
 }
 

@@ -2,6 +2,7 @@
 #![tactic(auto)]
 
 mod assembling;
+mod auditing;
 mod bounding;
 mod carrying;
 mod debugging;
@@ -11,6 +12,7 @@ mod imaging;
 mod listing;
 mod overwriting;
 mod running;
+mod watching;
 mod writing;
 
 pub use carrying::{FAULT, refuse, status_of, tell_fault};

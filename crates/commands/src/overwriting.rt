@@ -39,11 +39,15 @@ pub fn overwrites<F: Folder>(folder: &F, plan: Plan<'_>) -> bool
             image,
             input,
             trace,
+            policy,
+            symbols,
             ..
         } => {
             let over_image = are_same(folder, trace, Some(image));
             let over_input = are_same(folder, trace, input);
-            over_image || over_input
+            let over_policy = are_same(folder, trace, policy);
+            let over_labels = are_same(folder, trace, symbols);
+            (over_image || over_input) || (over_policy || over_labels)
         }
         _ => false,
     }

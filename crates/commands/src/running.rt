@@ -266,7 +266,7 @@ fn skipped<'a>(
 
 /// Runs an image with these bytes on its console, up to before the step of a number, where one is given; and writes the lines that are
 /// kept of its steps to the file `trace`, where one is named.
-fn run_image<'a, F: Folder, O: Write + Drop>(
+pub fn run_image<'a, F: Folder, O: Write + Drop>(
     alloc: Global,
     folder: &mut F,
     image: &Image,
@@ -347,7 +347,7 @@ fn run_to_stop<'a, F: Folder, O: Write + Drop>(
 }
 
 /// The bytes of the file `input` that a run by a schedule has room for, or none where no file is named.
-fn typed<'a, F: Folder>(
+pub fn typed<'a, F: Folder>(
     alloc: Global,
     folder: &F,
     schedule: Schedule,

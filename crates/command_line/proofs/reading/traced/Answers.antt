@@ -1,4 +1,3 @@
-use Rattle.clap.specs.Words.{found_of, rows_of}
 use Rattle.command_line.proofs.Found.{if_err, first_within}
 use Rattle.command_line.proofs.reading.traced.Goals as goal
 

@@ -18,3 +18,9 @@ returns-in_ok-_output-in-Bounds g c =
 pub returns-in_ok-_output-in-Word : goal.returns-in_ok-_output-in-Word
 returns-in_ok-_output-in-Word g c =
     rw c.in-Word.is (g.O.Write.contents c.in_ok-_output-in-Word._output, refl, c.in_ok-_output-in-Word.ensures)
+
+pub returns-in_ok-count-in-Audit : goal.returns-in_ok-count-in-Audit
+returns-in_ok-count-in-Audit g c =
+    let audit = c.in_ok-count-in-Audit in
+    rw c.in-Audit.is
+    (audit.count, g.O.Write.contents audit._output, refl, rw c.schedule_of.ensures.value at audit.ensures)

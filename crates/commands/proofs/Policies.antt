@@ -1,0 +1,45 @@
+-- Texts of policies that are read, and the lines of their rules.
+use Rattle.std.proofs.Common.{◌≡◌, ℕ, zero, suc, ◌+◌, ◌<◌, ◌≤◌, List, [], ◌∷◌, ◌++◌, length, take, get_or, refl, ap, arith}
+use Rattle.std.specs.Prelude.{Option, Some, None, IfSome}
+use Rattle.std.specs.List.{HoldsAt}
+use Rattle.cap_bounds.specs.CapValue.{CapValue}
+use Rattle.reach.specs.First.{IsFirst}
+use Rattle.policy.specs.declared.rule.Rule.{Rule}
+use Rattle.breach_texts.specs.declared.breach.RuleLine.{RuleLine}
+use Rattle.commands.specs.Files.{Text}
+use Rattle.commands.specs.Auditing.{AreLinesOf, IsLineOf}
+
+pub some-weaker : {A : Type 0} (o : Option A) (P Q : A → Type 0) → ((a : A) → P a → Q a) → IfSome o P → IfSome o Q
+some-weaker None P Q weaker holds = tt
+some-weaker (Some a) P Q weaker holds = weaker a holds
+
+take-nil : (n : ℕ) → take {A = ℕ} n [] ≡ []
+take-nil zero = refl
+take-nil (suc n) = refl
+
+-- what is shorter than what was asked for is all of it
+pub all-taken : (most : ℕ) (bytes : List ℕ) → length (take (suc most) bytes) ≤ most → take (suc most) bytes ≡ bytes
+all-taken most [] short = take-nil (suc most)
+all-taken zero (b ∷ bs) short = absurd (omega (arith, short))
+all-taken (suc most) (b ∷ bs) short = ap (λ t. b ∷ t) (all-taken most bs (omega (arith, short)))
+
+-- one line more
+pub one-more : (text : Text) (numbers : List ℕ) (lines : List RuleLine) (number : ℕ) (line : RuleLine) → AreLinesOf text numbers lines
+    → IsLineOf text number line → AreLinesOf text (numbers ++ number ∷ []) (lines ++ line ∷ [])
+one-more text [] [] number line are is = (is, tt)
+one-more text [] (l ∷ ls) number line are is = absurd are
+one-more text (n ∷ ns) [] number line are is = absurd are
+one-more text (n ∷ ns) (l ∷ ls) number line are is = (are.0, one-more text ns ls number line are.1 is)
+
+-- the member that breaks a rule is one of those that are reachable
+module _ (P : Rule → CapValue → Type 0) (vs : List CapValue) (member : ℕ) where
+  pub member-inside : (rules : List Rule) (k : ℕ) → k < length rules → HoldsAt (λ rule. IsFirst (P rule) vs member) rules k
+      → member < length vs
+  member-inside [] k inside first = absurd (omega (arith, inside))
+  member-inside (rule ∷ rules) k inside first = (first rule).inside
+
+-- an element that there is, is the same whatever stands for one that there isn't
+pub same-element : (xs : List ℕ) (k d e : ℕ) → k < length xs → get_or xs k d ≡ get_or xs k e
+same-element [] k d e inside = absurd (omega (arith, inside))
+same-element (x ∷ xs) zero d e inside = refl
+same-element (x ∷ xs) (suc k) d e inside = same-element xs k d e (omega (arith, inside))

@@ -1,0 +1,67 @@
+-- What `audit` writes of a file.
+use Rattle.std.specs.Prelude.{◌≡◌, ℕ, List, [], ◌∷◌, length, Option, Some, None, Ok, IfSome, string_bytes, IsUtf8, ⊤}
+use Rattle.std.specs.Borrow.{Bor}
+use Rattle.std.specs.Io.KnownBytes.{Appends}
+use Rattle.breach_texts.specs.declared.breach.RuleLine.{RuleLine}
+use Rattle.hart.specs.Opening.{opening}
+use Rattle.image.specs.Grammar.{reading}
+use Rattle.image.specs.Image.{Image}
+use Rattle.policy_audit.specs.Entries.{entries_text}
+use Rattle.policy_audit.specs.Text.{audit_findings, audit_text}
+use Rattle.policy_text.specs.declared.reading.Policy.{Policy}
+use Rattle.policy_text.specs.Policy.{line_text}
+use Rattle.sim_run.specs.declared.schedule.Schedule.{Schedule}
+use Rattle.sim_run.specs.Schedule.{scheduled}
+use Rattle.symbols.specs.Symbols.{Symbol}
+use Rattle.commands.specs.declared.auditing.Audited.{Audited}
+use Rattle.commands.specs.Debugging.{IsTable}
+use Rattle.commands.specs.Files.{Text, File, bytes_of}
+use Rattle.commands.specs.Running.{IsTyped}
+use Rattle.commands.specs.Watching.{IsPolicyOf}
+
+-- a line of a text by its number, as far as it is UTF-8
+abbrev pub IsLineOf : Text → ℕ → RuleLine → Type 0
+IsLineOf text number line = (line.number ≡ number) × (IsUtf8 (line_text text number) → line.text.now ≡ line_text text number)
+
+-- one for each number
+abbrev pub AreLinesOf : Text → List ℕ → List RuleLine → Type 0
+AreLinesOf text [] [] = ⊤
+AreLinesOf text [] (line ∷ lines) = ⊥
+AreLinesOf text (number ∷ numbers) [] = ⊥
+AreLinesOf text (number ∷ numbers) (line ∷ lines) = IsLineOf text number line × AreLinesOf text numbers lines
+
+-- Of the run of an image on a schedule the audit by a policy is told, with the lines of its rules; and how many parts are broken.
+abbrev pub Audits : Text → List Symbol → Policy → Schedule → List ℕ → Image → Audited → Type 0
+Audits text table policy schedule input image audited =
+    (lines : List RuleLine) × AreLinesOf text policy.lines.items lines
+    × (string_bytes audited.text
+    ≡ audit_text table lines policy.rules.items (scheduled schedule input (opening image)) (opening image))
+    × (audited.count ≡ length (audit_findings policy.rules.items (scheduled schedule input (opening image)) (opening image)))
+
+-- Without a policy its entries are told.
+abbrev pub Lists : Schedule → List ℕ → Image → Audited → Type 0
+Lists schedule input image audited =
+    (string_bytes audited.text ≡ entries_text (scheduled schedule input (opening image)) (opening image)) × (audited.count ≡ 0)
+
+-- The policy is that of a file, over the labels of another.
+abbrev pub AuditsBy : Text → Option (Bor Text) → Schedule → Option (Bor Text) → Image → Option (List File) → Audited → Type 0
+AuditsBy policy symbols schedule input image files audited =
+    (typed : List ℕ) × (table : List Symbol) × (rules : Policy) × IsTyped schedule input files typed × IsTable symbols files table
+    × IfSome (bytes_of policy files)
+    (λ text. IsPolicyOf text table rules × Audits text table rules schedule typed image audited)
+
+abbrev pub ListsAll : Schedule → Option (Bor Text) → Image → Option (List File) → Audited → Type 0
+ListsAll schedule input image files audited = (typed : List ℕ) × IsTyped schedule input files typed × Lists schedule typed image audited
+
+abbrev pub AuditsImage : Option (Bor Text) → Option (Bor Text) → Schedule → Option (Bor Text) → Image → Option (List File) → Audited
+    → Type 0
+AuditsImage None symbols schedule input image files audited = ListsAll schedule input image files audited
+AuditsImage (Some policy) symbols schedule input image files audited =
+    AuditsBy policy.now symbols schedule input image files audited
+
+-- The bytes of a file are an image, and what is told of its run is written.
+abbrev pub AuditsFile : Option (Bor Text) → Option (Bor Text) → Schedule → Option (Bor Text) → List ℕ → Option (List File) → ℕ
+    → Option (List ℕ) → Option (List ℕ) → Type 0
+AuditsFile policy symbols schedule input bytes files count old new =
+    (image : Image) × (audited : Audited) × (reading bytes ≡ Ok image) × AuditsImage policy symbols schedule input image files audited
+    × (count ≡ audited.count) × Appends old new (string_bytes audited.text)
