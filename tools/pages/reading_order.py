@@ -50,9 +50,11 @@ REST = [
     ("what code can reach, as text", "reach_texts/specs/Text, Asked, Summary"),
     ("the command line and runs on a schedule",
      "command_line/specs/CommandLine; sim_run/specs/Schedule, Trace, Verdict, Unhandled, Ending, Listing"),
+    ("policies as texts, runs that are watched by one, audits",
+     "policy_text/specs/Policy, Sound; policy_runs/specs/Keeping; breach_texts/specs/Text; policy_audit/specs/Found, Told, Text, Entries"),
     ("sessions",
      "debug_commands/specs/Command; debugger/specs/SessionState, Stepping, Reaching, Reply, Answers, Conversation, Talk, OnSchedule"),
-    ("what commands do with files", "commands/specs/Files, Assembling, Imaging, Bounding, Listing, Running, Debugging, Overwriting, Carrying"),
+    ("what commands do with files", "commands/specs/Files, Assembling, Imaging, Bounding, Listing, Running, Debugging, Watching, Auditing, Overwriting, Carrying"),
     ("capabilities and the machine for C",
      "c_types/specs/Halves, Words; cheri_c/specs/Insns; cherisim_c/specs/Status, Made, Running, Reaching"),
 ]

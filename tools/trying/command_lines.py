@@ -74,9 +74,9 @@ def words_of_plan(plan):
     command, *words = plan.split()
     if command == "first":
         return []
-    if command == "run":
+    if command in ("run", "audit"):
         image, steps, gap, tick, given, *rest = words
-        line = ["run", image, steps, "--gap", gap, "--tick", tick, *named("--input", given)]
+        line = [command, image, steps, "--gap", gap, "--tick", tick, *named("--input", given)]
         if rest[:1] == ["quiet"]:
             line, rest = [*line, "--quiet"], rest[1:]
         for name, value in zip(rest[::2], rest[1::2]):
@@ -103,7 +103,7 @@ def lines_to_compare(words, planned):
     """Pairs of command lines that are to come to the same, over the image of a text: the one that is tried and the plan's, and of a run
     both with so many steps that the schedule shows."""
     yield words, planned, SPINS if planned[:1] == ["run"] and int(planned[2]) > MANY else WATCHES
-    if planned[:1] == ["run"]:
+    if planned[:1] in (["run"], ["audit"]):
         steps = planned[2]
         more = str(FEW if "--trace" in planned or max(int(planned[4]), int(planned[6])) < FEW else MANY)
         given = [] if "--input" in planned else ["--input", "keys"]

@@ -59,7 +59,7 @@ FILES = [
     File("sessions", conversations.session, 125, piece=10),
     File("talks", conversations.talk, 171, piece=20),
     File("runs", programs.program, 15),
-    File("plans", command_lines.plan, 146, piece=10),
+    File("plans", command_lines.plan, 162, piece=10),
     File("listings", command_lines.listing, 21),
     File("worlds", programs.worlds, 14),
     File("schedules", schedules.schedule, 211, piece=8),
