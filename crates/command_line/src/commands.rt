@@ -21,6 +21,8 @@ const EXAMPLE: &str = "Examples:
       assembles the text hello.s, and writes the image to hello.img
   cherisim run hello.img 1000 --input keys.txt --gap 50
       runs hello.img for at most 1000 steps, and gives it a byte of keys.txt every 50 steps
+  cherisim run hello.img 1000 --policy hello.policy --symbols hello.sym
+      stops before a step at which the code can reach more than a rule about it allows
   cherisim image hello.bin hello.img
       makes an image of the bytes of hello.bin, from RAM's first address on
   cherisim dis hello.img
@@ -38,7 +40,8 @@ Without a command the program runs a first image of five instructions, which pri
 --version alone it prints its version.
 
 The status is 0 where all went well, for `run` where the machine halted with 0; 1 where `run` ended
-otherwise; 2 for a command line that is no command; 3 for any other fault.";
+otherwise, and where `audit` finds that a policy is broken; 2 for a command line that is no command;
+3 for any other fault.";
 
 /// Adds an argument, which is not global, to a command.
 fn with_argument<'a>(command: Command<'a>, argument: Arg<'a>) -> Result<Command<'a>, AllocError>
