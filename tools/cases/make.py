@@ -44,6 +44,8 @@ SOURCES = [
     "command_lines",
     "program_cases",
     "policed",
+    "callers",
+    "audits",
     "breaches",
     "alone",
 ]

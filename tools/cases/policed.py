@@ -49,17 +49,23 @@ def table_of(machine):
 class Watch:
     """A run that a policy watches: its options, and the files that it is given."""
 
+    COMMAND = "run"
+
     def __init__(self, text, rules, steps=1000, options="", named=True, gap=GAP, tick=TICK, keys=b""):
         machine = Running(text)
         labels = machine.symbols() if named else []
         read, fault = policy.read(rules, {name: address for address, name in labels})
         assert not fault, fault
-        self.status, self.told = ran(machine, read, steps, gap, tick, keys, labels)
-        self.sent = bytes(machine.sent)
+        self.status, self.sent, self.told = self.came(machine, read, steps, gap, tick, keys, labels)
         file = FILE if text == FIRST else f"first.img {quoted(image_of(text))}"
-        self.words = " ".join(["run", "first.img", str(steps), "--policy p", *(["--symbols t"] if named else []), *options.split()])
+        self.words = " ".join([self.COMMAND, "first.img", str(steps), "--policy p", *(["--symbols t"] if named else []), *options.split()])
         self.files = [file, *([table_of(machine)] if named else []), f"p {quoted(rules)}", *([f"keys {quoted(keys)}"] if keys else [])]
         self.opened = ", ".join(["open first.img", *(["open t"] if named else []), "open p", *(["open keys"] if keys else [])])
+
+    def came(self, machine, *run):
+        """What comes of it: the status, what is sent and what is told."""
+        status, told = ran(machine, *run)
+        return status, bytes(machine.sent), told
 
     def line(self, told=None, opened="", made=b""):
         """The case; what is told may be less than all of it."""
@@ -289,6 +295,12 @@ def forms():
                  "when pc in code..+4: halt no, load no # this: as well, twice = no\r\n",
                  "#when pc in x\r\nwhen pc in code..+4:\thalt\tno\t,load no", "_x.1 = code..+4\nwhen pc in _x.1:halt no#"):
         yield stops(program(HALTS), text)
+    yield "# what a caller could do too, in any place of a rule about code that nobody calls; and its words as names"
+    for said in (("or caller", "load no", "halt no"), ("load no", "\tor \t caller ", "halt no"), ("load no", "halt no", "or caller")):
+        yield stops(program(HALTS), inside(*said))
+    yield goes(program(HALTS), inside("or caller"))
+    yield goes(program(HALTS), "when pc in code..+4:or caller#,or\r\n")
+    yield stops(program(HALTS), "or = data..+8\ncaller = code..+4\nwhen pc in caller: halt no, store within or, or caller\n")
     yield "# numbers and labels"
     for text in (f"when pc in {CODE}..{CODE + 4}: halt no\n", f"when pc in 0x{CODE:X}..+0x4: halt no\n",
                  "when pc in start..given: halt no\n", "when pc in 0x80000000..given: halt no\n"):
@@ -307,12 +319,17 @@ FAULTY = {
            (1, "when pc in code..+1: types 1 0x3fffc"), (2, "\nwhen pc in code..+1: types 262140")],
     "P5": [(1, "A = 0..0"), (1, "A = code..+0"), (2, "A = 0..1\nwhen pc in A data..code: store no"), (1, "A = 5..4")],
     "P6": [(1, "when pc in 0..1: stores no"), (1, "when pc in 0..1: store no, send no"), (1, "when pc in 0..1:"),
-           (1, "when pc in 0..1: store no,"), (1, "when pc in 0..1: , store no"), (1, "when pc in 0..1: Store no")],
+           (1, "when pc in 0..1: store no,"), (1, "when pc in 0..1: , store no"), (1, "when pc in 0..1: Store no"),
+           (1, "when pc in 0..1: caller"), (2, "or = 0..1\nwhen pc in or: or caller, Or caller"), (1, "when pc in 0..1: or caller,")],
     "P7": [(1, "when pc in 0..1: store no, store no"), (1, "when pc in 0..1: halt no, load no, halt yes"),
-           (1, "when pc in 0..1: types 1, seal no, types none")],
+           (1, "when pc in 0..1: types 1, seal no, types none"), (1, "when pc in 0..1: or caller, or caller"),
+           (3, "# or caller\n\nwhen pc in 0..1: or caller, halt no, or # caller")],
     "P8": [(1, "when pc in 0..1: store"), (1, "when pc in 0..1: load within"), (1, "when pc in 0..1: halt"),
            (1, "when pc in 0..1: seal maybe"), (1, "when pc in 0..1: execute yes"), (1, "when pc in 0..1: transmit no no"),
-           (1, "when pc in 0..1: types"), (1, "when pc in 0..1: store no within 0..1"), (1, "when pc in 0..1: timer within 0..1")],
+           (1, "when pc in 0..1: types"), (1, "when pc in 0..1: store no within 0..1"), (1, "when pc in 0..1: timer within 0..1"),
+           (1, "when pc in 0..1: or"), (2, "A = 0..1\nwhen pc in A: halt no, or callers, or caller"),
+           (1, "when pc in 0..1: or caller caller, or"), (1, "when pc in 0..1: or # caller"), (1, "when pc in 0..1: store no or caller"),
+           (2, "caller = 0..1\nwhen pc in 0..1: or within caller")],
 }
 
 

@@ -1,7 +1,7 @@
-"""Policies: rules for the code in some ranges as texts, what breaks one, and what a run says that stops there.
+"""Policies: rules for the code in some ranges as texts, what breaks one, what a run says that stops there, and what an audit says.
 
 A line is a definition, `NAME = RANGES`, or a rule, `when pc in RANGES: PART, ..`; `#` begins a comment. A rule holds of a state if no
-capability that is reachable in it breaks a part of the rule.
+capability that is reachable in it breaks a part of the rule. By the part `or caller` its code may also do what its last caller could.
 """
 
 import re
@@ -9,7 +9,7 @@ from typing import NamedTuple, Optional
 
 from model.capabilities import base, has, is_unsealed, otype, top
 from model.devices import HALT, RAM, TIMER_COMPARE, TRANSMIT
-from model.reach import opens_bytes, opens_system
+from model.reach import BYTES, opened, opens_bytes, opens_system
 from model.rights import EXECUTE, GREATEST_SEALING_TYPE, LOAD, SEAL, STORE, UNSEAL
 from model.words import ONES, SPACE
 
@@ -23,6 +23,8 @@ NUMBER = re.compile(r"0x[0-9A-Fa-f]+|[0-9]+")
 OF_BYTES = {"store": STORE, "load": LOAD, "execute": EXECUTE}
 OF_DEVICES = {"transmit": TRANSMIT, "halt": HALT, "timer": TIMER_COMPARE}
 PARTS = (*OF_BYTES, *OF_DEVICES, "system", "seal", "types")
+# The part that allows code what its caller could do.
+OR = "or"
 
 
 class Malformed(Exception):
@@ -31,11 +33,12 @@ class Malformed(Exception):
 
 class Rule(NamedTuple):
     """A rule: the number of its line, its text, the ranges of its code, and what each part that stands there allows: ranges of addresses,
-    whether it is allowed at all, or object types."""
+    whether it is allowed at all, or object types; and whether a call lends it more."""
     line: int
     text: str
     code: list
     allowed: dict
+    or_caller: bool = False
 
 
 class Breach(NamedTuple):
@@ -84,6 +87,10 @@ def ranges(words, names, labels):
 
 def part(name, words, names, labels):
     """What a part allows, by the words after its name."""
+    if name == OR:
+        if words != ["caller"]:
+            raise Malformed("P8")
+        return True
     if name == "types" and words == ["none"]:
         return []
     if name == "types" and words:
@@ -102,7 +109,7 @@ def parts(text, names, labels):
     allowed = {}
     for one in text.split(","):
         name, *words = one.split() or [""]
-        if name not in PARTS:
+        if name not in (*PARTS, OR):
             raise Malformed("P6")
         if name in allowed:
             raise Malformed("P7")
@@ -124,7 +131,8 @@ def read(text, labels):
                 names[words[0]] = ranges(words[2:], names, labels)
             elif words[:3] == ["when", "pc", "in"] and colon and head.split()[3:]:
                 code = ranges(head.split()[3:], names, labels)
-                rules.append(Rule(line, said, code, parts(rest, names, labels)))
+                allowed = parts(rest, names, labels)
+                rules.append(Rule(line, said, code, allowed, allowed.pop(OR, False)))
             elif said:
                 raise Malformed("P1")
         except Malformed as fault:
@@ -161,6 +169,42 @@ def breaks(value, name, allowed):
     return is_unsealed(value) and has(value, SEAL | UNSEAL) and base(value) < min(top(value), GREATEST_SEALING_TYPE + 1)
 
 
+# ---- what a call lends
+
+def is_called(rule, before, after):
+    """Whether a jump through a seal from one address to another calls the rule's code."""
+    return is_in(rule.code, after) and not is_in(rule.code, before)
+
+
+def opened_by(found, name):
+    """What members open of what a part is about, as a part allows it: the bounds to a right, object types, or whether one does at all."""
+    opening = [value for value, *_ in found if breaks(value, name, [])]
+    if name in OF_BYTES:
+        return [(base(value), top(value)) for value in opening]
+    return [otype(value) for value in opening] if name == "types" else bool(opening)
+
+
+def lent(rule, found):
+    """The terms of a rule after a call of its code, by what was reachable before: what it says, and all that the caller could do."""
+    both = {name: allowed + opened_by(found, name) if isinstance(allowed, list) else allowed or opened_by(found, name)
+            for name, allowed in rule.allowed.items()}
+    return rule._replace(allowed=both)
+
+
+def terms_after(rules, terms, before, after, found):
+    """The terms in force of rules after a jump through a seal, by those before it."""
+    return [lent(rule, found) if rule.or_caller and is_called(rule, before, after) else then for rule, then in zip(rules, terms)]
+
+
+# ---- breaches
+
+def breaches(rules, pc, found):
+    """Of the members of a state each part of each rule about its code that one breaks, and the first that does."""
+    return [Breach(rule, next(member for member, (value, *_) in enumerate(found) if breaks(value, name, rule.allowed[name])), name)
+            for rule in rules if is_in(rule.code, pc) for name in PARTS
+            if name in rule.allowed and any(breaks(value, name, rule.allowed[name]) for value, *_ in found)]
+
+
 def first_breach(rules, pc, found) -> Optional[Breach]:
     """Of the members of a state the first rule about its code that one breaks, the first that does, and the first part that it breaks."""
     return next((Breach(rule, member, name) for rule in rules if is_in(rule.code, pc) for member, (value, *_) in enumerate(found)
@@ -174,7 +218,36 @@ def refused(code, line, file):
     return f"cherisim: line {line}: {code} {CODES[code]}\n  {file}:{line}\n"
 
 
+def told(breach, held):
+    """The lines that say what breaks which part of which rule, with the way to the capability and the capability."""
+    return f"policy: line {breach.rule.line}: {breach.part}\n  rule  {breach.rule.text}\n  held  {held}\n"
+
+
 def stopped(breach, steps, pc, held):
-    """The lines of a run that stops before a step, with the way to the capability and the capability."""
-    return (f"cherisim: not halted\ncherisim: steps {steps}, pcc {pc:016x}\ncherisim: policy: line {breach.rule.line}: {breach.part}\n"
-            f"  rule  {breach.rule.text}\n  held  {held}\n")
+    """The lines of a run that stops before a step."""
+    return f"cherisim: not halted\ncherisim: steps {steps}, pcc {pc:016x}\ncherisim: {told(breach, held)}"
+
+
+def listed(breach, step, pc, held):
+    """The lines of an audit about a part that is broken before the step of a number."""
+    return f"step {step}, pcc {pc:016x}\n{told(breach, held)}"
+
+
+def range_text(first, end):
+    """A range as a policy writes it. One that ends with all addresses has a length, and all of them are two ranges."""
+    half = SPACE // 2
+    if end < SPACE:
+        return f"{first:#018x}..{end:#018x}"
+    return f"{0:#018x}..{half:#018x} {half:#018x}..+{half:#018x}" if first == 0 else f"{first:#018x}..+{SPACE - first:#018x}"
+
+
+def entry(code, found):
+    """The rule for a range of code that forbids all but what members open."""
+    def said(name):
+        if name in OF_BYTES:
+            spans = opened(found, BYTES[name])
+            return " ".join(["within", *(range_text(*span) for span in spans)]) if spans else "no"
+        if name == "types":
+            return " ".join(map(str, sorted(set(opened_by(found, name))))) or "none"
+        return "yes" if opened_by(found, name) else "no"
+    return f"when pc in {range_text(*code)}: " + ", ".join(f"{name} {said(name)}" for name in PARTS) + "\n"

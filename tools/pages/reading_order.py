@@ -36,7 +36,8 @@ REST = [
     ("what code can reach, and what that opens",
      "reached/specs/Reached, Links, Chain, Order; doors/specs/Roots; reach/specs/Reach, Opens, First, Ranges, Differs"),
     ("through doors, and by a policy",
-     "doors/specs/Sets, Closed, Doors, Turn, Worlds, Through, ThroughOrder; policy/specs/Rule, Watch"),
+     "doors/specs/Sets, Closed, Doors, Turn, Worlds, Through, ThroughOrder; "
+     "policy/specs/Terms, Rule, Watch, Tests, Opened, Lending, Run"),
     ("image files", "image/specs/Grammar, Reads"),
     ("a text: its lines",
      "asm_names/specs/Mnemonic, Registers, SpecialNames, Slots; asm_lines/specs/Text, Number, Operand, Statement, Line"),

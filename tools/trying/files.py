@@ -64,9 +64,11 @@ FILES = [
     File("worlds", programs.worlds, 14),
     File("schedules", schedules.schedule, 211, piece=8),
     File("commands", commands.command, 385, piece=20),
-    File("policies", commands.command, 198, piece=20),
+    File("policies", commands.command, 215, piece=20),
+    File("callers", commands.command, 75, piece=20),
+    File("audits", commands.command, 54, piece=20),
     File("told", told.fault, 53, piece=10),
     File("compartments", kernel.meeting, 34),
     File("reaches", reaching.reach, 36, piece=8),
-    File("breaches", policies.breach, 19, piece=4),
+    File("breaches", policies.breach, 28, piece=4),
 ]

@@ -1,42 +1,17 @@
 //! The lines that tell where a rule stopped a run.
-ghost use Rattle.std.specs.Prelude.{◌≡◌, ◌<◌, ◌++◌, codes, decimal, length, IfOk, OnOk, string_bytes};
-ghost use Rattle.disassembler.specs.Hex.{hex_of};
-ghost use Rattle.hart.specs.State.{pc_of};
+ghost use Rattle.std.specs.Prelude.{◌≡◌, ◌<◌, length, IfOk, string_bytes};
 ghost use Rattle.reach.specs.Reach.{members_in};
-ghost use Rattle.breach_texts.specs.Text.{place_text, stopped_lines};
+ghost use Rattle.breach_texts.specs.Text.{stopped_lines};
 
 use crate::breach::{RuleLine, put_breach};
-use base::scr;
 use cap_bounds::CapRep;
-use effect_texts::{put, put_decimal, put_hex};
+use effect_texts::put;
 use machine::Machine;
 use policy::Refused;
 use reach::Reach;
+use sim_run::put_place;
 use std::alloc::{AllocError, Global};
 use symbols::Symbols;
-
-/// PCC's address.
-#[tactic(auto, unfolding(special_regs::specs::Scrs::scr_value))]
-fn pc<C: CapRep>(machine: &Machine<C>) -> u64
-    ensures { result ≡ pc_of machine.now }
-{
-    machine.scr(scr::PCC).address()
-}
-
-/// Appends how many steps were done and where PCC is.
-fn put_place<C: CapRep>(
-    text: &mut String,
-    machine: &Machine<C>,
-    steps: u64,
-) -> Result<(), AllocError>
-    ensures { OnOk result (string_bytes text.new ≡ string_bytes text.old ++ place_text steps machine.now) }
-{
-    put(text, "cherisim: steps ")?;
-    put_decimal(text, steps)?;
-    put(text, ", pcc ")?;
-    put_hex(text, 16, u128::from(pc(machine)))?;
-    put(text, "\ncherisim: ")
-}
 
 /// The lines for standard error that say where a run ended that a rule stopped: how many steps were done, where PCC is, and what breaks
 /// the rule.
@@ -60,6 +35,7 @@ pub fn stopped_lines<C: CapRep>(
     let reach = Reach::of(alloc, machine.hart())?;
     let mut text = String::new(alloc);
     put_place(&mut text, machine, steps)?;
+    put(&mut text, "\ncherisim: ")?;
     put_breach(
         &mut text,
         alloc,

@@ -138,33 +138,34 @@ reads_only image input policy symbols trace =
     (is_apart image trace && are_apart input trace) && (are_apart policy trace && are_apart symbols trace)
 
 -- a plan of `run` writes no file that it reads
-pub no_trace : (rows : List Row) (image : Text) (input policy symbols trace : Option (Bor Text)) → first_of (codes "IMAGE") rows ≡ Some image
+pub no_trace : (rows : List Row) (image : Text) (input policy symbols trace : Option (Bor Text))
+    → first_of (codes "IMAGE") rows ≡ Some image
     → IsFile (codes "input") rows input → IsFile (codes "policy") rows policy → IsFile (codes "symbols") rows symbols
     → IsFile (codes "trace") rows trace
     → reads_only image input policy symbols trace ≡ false
     → NoCommandFits (codes "run") rows
-no_trace rows image input policy symbols trace i n p s t not_apart (Asm from to labels) fits sound =
+no_trace rows image input policy symbols trace i n p s t shared (Asm from to labels) fits sound =
     let bad : 114 ≡ 97 = ap (λ t. slice_index t 0) fits.0 in absurd (omega (arith, bad))
-no_trace rows image input policy symbols trace i n p s t not_apart (Image flat output layout) fits sound =
+no_trace rows image input policy symbols trace i n p s t shared (Image flat output layout) fits sound =
     let bad : 114 ≡ 105 = ap (λ t. slice_index t 0) fits.0 in absurd (omega (arith, bad))
-no_trace rows image input policy symbols trace i n p s t not_apart (Run im steps times gap tick inp quiet why tr first last pol labels) fits sound =
+no_trace rows image input policy symbols trace i n p s t shared (Run im steps times gap tick inp q why tr first last pol names) fits sound =
     let alike = sym t ∙ fits.6.file in
     let one : is_apart image trace ≡ is_apart im.now tr =
     is_apart-alike image im.now trace tr (ap (λ o. unwrap_or o []) (sym i ∙ fits.1)) alike in
     let two : are_apart input trace ≡ are_apart inp tr = are_apart-alike input inp trace tr (sym n ∙ fits.3) alike in
     let three : are_apart policy trace ≡ are_apart pol tr = are_apart-alike policy pol trace tr (sym p ∙ fits.7.file) alike in
-    let four : are_apart symbols trace ≡ are_apart labels tr = are_apart-alike symbols labels trace tr (sym s ∙ fits.7.labels) alike in
+    let four : are_apart symbols trace ≡ are_apart names tr = are_apart-alike symbols names trace tr (sym s ∙ fits.7.labels) alike in
     let true_of = sound.2 in
     cc
-no_trace rows image input policy symbols trace i n p s t not_apart (Audit im steps times gap tick inp pol sym) fits sound =
+no_trace rows image input policy symbols trace i n p s t shared (Audit im steps times gap tick inp pol sym) fits sound =
     let bad : 114 ≡ 97 = ap (λ t. slice_index t 0) fits.0 in absurd (omega (arith, bad))
-no_trace rows image input policy symbols trace i n p s t not_apart (Dis im labels) fits sound =
+no_trace rows image input policy symbols trace i n p s t shared (Dis im labels) fits sound =
     let bad : 114 ≡ 100 = ap (λ t. slice_index t 0) fits.0 in absurd (omega (arith, bad))
-no_trace rows image input policy symbols trace i n p s t not_apart (Debug im labels inp gap tick) fits sound =
+no_trace rows image input policy symbols trace i n p s t shared (Debug im labels inp gap tick) fits sound =
     let bad : 114 ≡ 100 = ap (λ t. slice_index t 0) fits.0 in absurd (omega (arith, bad))
-no_trace rows image input policy symbols trace i n p s t not_apart (Bounds base length address) fits sound =
+no_trace rows image input policy symbols trace i n p s t shared (Bounds base length address) fits sound =
     let bad : 114 ≡ 98 = ap (λ t. slice_index t 0) fits.0 in absurd (omega (arith, bad))
-no_trace rows image input policy symbols trace i n p s t not_apart (Word high low memory) fits sound =
+no_trace rows image input policy symbols trace i n p s t shared (Word high low memory) fits sound =
     let bad : 114 ≡ 119 = ap (λ t. slice_index t 0) fits.0 in absurd (omega (arith, bad))
 no_trace rows image input policy symbols trace i n p s t not_apart First fits sound = fits
 

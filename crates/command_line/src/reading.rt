@@ -6,8 +6,8 @@ ghost use Rattle.std.specs.Borrow.{Bor};
 ghost use Rattle.clap.specs.Words.{Text, first_of, found_of, rows_of, kind_of, subcommand_rows_of};
 ghost use Rattle.clap.specs.declared.error.kind.ErrorKind.{ErrorKind};
 ghost use Rattle.command_line.specs.CommandLine.{found_in, IsSound, IsTaken, IsLayoutOf, IsPlanOf, IsPlanOfCommand, IsTraceOf, AreBoundsOf};
-ghost use Rattle.command_line.specs.CommandLine.{AreNumbersOf, AreInRange, IsTraceInRange, NoCommandFits, NoPlanFits, are_apart, is_apart, IsPolicyOf};
-ghost use Rattle.command_line.specs.CommandLine.{asks_all};
+ghost use Rattle.command_line.specs.CommandLine.{AreNumbersOf, AreInRange, IsTraceInRange, NoCommandFits, NoPlanFits, are_apart, is_apart};
+ghost use Rattle.command_line.specs.CommandLine.{IsPolicyOf, asks_all};
 ghost use Rattle.command_line.specs.declared.fault.PlanFault.TheVariants.{Memory};
 ghost use Rattle.command_line.specs.declared.layout.Layout.{Layout};
 

@@ -6,7 +6,7 @@ use Rattle.std.proofs.Common.{get_or, take_all, drop-drop, length-take, length-d
 use Rattle.std.specs.Prelude.{◌==◌, slice_index}
 use Rattle.std.specs.List.{prefix_len, slice_split, onto_first, count_by}
 use Rattle.std.specs.Io.{StartsWith}
-use Rattle.std.specs.Io.KnownBytes.{Consumes, Keeps, IsAtEnd}
+use Rattle.std.specs.Io.KnownBytes.{Consumes, IsAtEnd}
 use Rattle.std.proofs.lemmas.Bool.Decides.{nat_tests}
 use Rattle.std.proofs.lemmas.List.{length-map, drop_more, take_more, take_rest, drop-append-le}
 use Rattle.std.proofs.lemmas.List.Splits.{length-slice_split}
@@ -25,10 +25,9 @@ use Rattle.symbols.specs.Reads.{Tells}
 use Rattle.symbols.specs.Symbols as table
 use Rattle.symbols.specs.Symbols.{faulty_from, faulty_line}
 use Rattle.commands.specs.declared.fault.ProgramFault.{ProgramFault}
-use Rattle.commands.specs.declared.fault.ProgramFault.TheVariants.{Asm, Symbols}
-use Rattle.commands.specs.Assembling.{IsAsmFault, IsTextFault, IsRead}
-use Rattle.commands.specs.Beginnings.{IsLastFault, IsLineFault, IsToldFault}
-use Rattle.commands.specs.Files.{File, IsTableFault, bytes_of}
+use Rattle.commands.specs.declared.fault.ProgramFault.TheVariants.{Asm}
+use Rattle.commands.specs.Assembling.{IsAsmFault, IsRead}
+use Rattle.commands.specs.Beginnings.{IsLastFault, IsToldFault}
 
 -- ---- what was read of known bytes
 

@@ -1,10 +1,17 @@
 -- Texts of policies that are read, and the lines of their rules.
-use Rattle.std.proofs.Common.{◌≡◌, ℕ, zero, suc, ◌+◌, ◌<◌, ◌≤◌, List, [], ◌∷◌, ◌++◌, length, take, get_or, refl, ap, arith}
+use Rattle.std.proofs.Common.{◌≡◌, ℕ, zero, suc, ◌<◌, ◌≤◌, List, [], ◌∷◌, ◌++◌, length, take, get_or, refl, sym, ap, arith}
 use Rattle.std.specs.Prelude.{Option, Some, None, IfSome}
 use Rattle.std.specs.List.{HoldsAt}
 use Rattle.cap_bounds.specs.CapValue.{CapValue}
 use Rattle.reach.specs.First.{IsFirst}
-use Rattle.policy.specs.declared.rule.Rule.{Rule}
+use Rattle.hart.specs.declared.event.Event.{Event}
+use Rattle.hart.specs.declared.event.Event.TheVariants.{Step, Tick, Byte}
+use Rattle.hart.specs.Event.{after}
+use Rattle.hart.specs.State.{State, pc_of}
+use Rattle.policy.specs.Terms.{Terms}
+use Rattle.policy.specs.Watch.{values_in}
+use Rattle.policy.specs.Lending.{in_force_after, in_force_from, next_door}
+use Rattle.policy.proofs.Forced.{each-length}
 use Rattle.breach_texts.specs.declared.breach.RuleLine.{RuleLine}
 use Rattle.commands.specs.Files.{Text}
 use Rattle.commands.specs.Auditing.{AreLinesOf, IsLineOf}
@@ -23,6 +30,11 @@ all-taken most [] short = take-nil (suc most)
 all-taken zero (b ∷ bs) short = absurd (omega (arith, short))
 all-taken (suc most) (b ∷ bs) short = ap (λ t. b ∷ t) (all-taken most bs (omega (arith, short)))
 
+pub taken-short : (most : ℕ) (bytes : List ℕ) → length (take most bytes) ≤ length bytes
+taken-short zero bytes = omega arith
+taken-short (suc most) [] = omega arith
+taken-short (suc most) (b ∷ bs) = let few = taken-short most bs in omega arith
+
 -- one line more
 pub one-more : (text : Text) (numbers : List ℕ) (lines : List RuleLine) (number : ℕ) (line : RuleLine) → AreLinesOf text numbers lines
     → IsLineOf text number line → AreLinesOf text (numbers ++ number ∷ []) (lines ++ line ∷ [])
@@ -32,11 +44,24 @@ one-more text (n ∷ ns) [] number line are is = absurd are
 one-more text (n ∷ ns) (l ∷ ls) number line are is = (are.0, one-more text ns ls number line are.1 is)
 
 -- the member that breaks a rule is one of those that are reachable
-module _ (P : Rule → CapValue → Type 0) (vs : List CapValue) (member : ℕ) where
-  pub member-inside : (rules : List Rule) (k : ℕ) → k < length rules → HoldsAt (λ rule. IsFirst (P rule) vs member) rules k
+module _ (P : Terms → CapValue → Type 0) (vs : List CapValue) (member : ℕ) where
+  pub member-inside : (rules : List Terms) (k : ℕ) → k < length rules → HoldsAt (λ rule. IsFirst (P rule) vs member) rules k
       → member < length vs
   member-inside [] k inside first = absurd (omega (arith, inside))
   member-inside (rule ∷ rules) k inside first = (first rule).inside
+
+-- as many are in force as are said
+forced-length : (said now : List Terms) (e : Event) (s : State) → length said ≡ length now
+    → length said ≡ length (in_force_after said now e s)
+forced-length said now Step s same = sym (each-length (values_in s) (pc_of s) (next_door s) said now same)
+forced-length said now Tick s same = same
+forced-length said now (Byte b) s same = same
+
+pub in_force-length : (said now : List Terms) (es : List Event) (s : State) → length said ≡ length now
+    → length said ≡ length (in_force_from said now es s)
+in_force-length said now [] s same = same
+in_force-length said now (e ∷ es) s same =
+    in_force-length said (in_force_after said now e s) es (after e s) (forced-length said now e s same)
 
 -- an element that there is, is the same whatever stands for one that there isn't
 pub same-element : (xs : List ℕ) (k d e : ℕ) → k < length xs → get_or xs k d ≡ get_or xs k e

@@ -1,5 +1,5 @@
 -- What `asm` writes of a text, and how it tells its fault.
-use Rattle.std.specs.Prelude.{◌≡◌, ◌⊎◌, ⊤, ℕ, List, [], ◌++◌, map, Option, Some, None}
+use Rattle.std.specs.Prelude.{◌≡◌, ◌⊎◌, ℕ, List, [], ◌++◌, map, Option, Some, None}
 use Rattle.std.specs.Borrow.{Bor}
 use Rattle.image.specs.Grammar.{spelling}
 use Rattle.assembler.specs.declared.fault.AsmFault.{AsmFault}

@@ -6,6 +6,7 @@ use Rattle.breach_texts.specs.declared.breach.RuleLine.{RuleLine}
 use Rattle.hart.specs.Opening.{opening}
 use Rattle.image.specs.Grammar.{reading}
 use Rattle.image.specs.Image.{Image}
+use Rattle.policy.specs.Terms.{terms_of}
 use Rattle.policy_audit.specs.Entries.{entries_text}
 use Rattle.policy_audit.specs.Text.{audit_findings, audit_text}
 use Rattle.policy_text.specs.declared.reading.Policy.{Policy}
@@ -35,8 +36,8 @@ abbrev pub Audits : Text → List Symbol → Policy → Schedule → List ℕ �
 Audits text table policy schedule input image audited =
     (lines : List RuleLine) × AreLinesOf text policy.lines.items lines
     × (string_bytes audited.text
-    ≡ audit_text table lines policy.rules.items (scheduled schedule input (opening image)) (opening image))
-    × (audited.count ≡ length (audit_findings policy.rules.items (scheduled schedule input (opening image)) (opening image)))
+    ≡ audit_text table lines (terms_of policy.rules.items) (scheduled schedule input (opening image)) (opening image))
+    × (audited.count ≡ length (audit_findings (terms_of policy.rules.items) (scheduled schedule input (opening image)) (opening image)))
 
 -- Without a policy its entries are told.
 abbrev pub Lists : Schedule → List ℕ → Image → Audited → Type 0

@@ -1,6 +1,6 @@
 -- The image that `image` makes of a flat file: where the bytes go, and what stands for what isn't named.
 use Rattle.std.specs.Prelude.{◌≡◌, ℕ, ◌+◌, ◌-◌, ◌*◌, ◌/◌, ◌^◌, nat_le, min, max, if◌then◌else◌, List, [], ◌∷◌, length}
-use Rattle.std.specs.Prelude.{Option, Some, None, ◌⊎◌, ⊤}
+use Rattle.std.specs.Prelude.{Option, Some, None, ◌⊎◌}
 use Rattle.base.specs.Ram.{ram_base, page_bytes, most_pages, most_pages_version_1}
 use Rattle.image.specs.declared.fault.ImageFault.{ImageFault}
 use Rattle.image.specs.Image.{Image, Section, build_fault, image_of}

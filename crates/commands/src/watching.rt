@@ -1,9 +1,12 @@
 //! The command `run` with a policy.
 
-ghost use Rattle.std.specs.Prelude.{◌≡◌, ◌≤◌, ◌<◌, ◌-◌, [], length, get_or, IfOk, IfSome, IfErr, IsUtf8, OnOk, Ok, string_bytes, vec_len};
+ghost use Rattle.std.specs.Prelude.{◌≡◌, ◌≤◌, ◌<◌, ◌-◌, [], List, length, get_or, IfOk, IfSome, IfErr, IsUtf8, OnOk, Ok};
+ghost use Rattle.std.specs.Prelude.{string_bytes, vec_len};
 ghost use Rattle.hart.specs.Opening.{opening};
 ghost use Rattle.machine.specs.Run.{run_after, run_sent, end_of};
+ghost use Rattle.policy.specs.Terms.{Terms};
 ghost use Rattle.policy.specs.Watch.{IsRefused};
+ghost use Rattle.reach.specs.Reach.{members_in};
 ghost use Rattle.policy_runs.specs.Keeping.{StepsKeepToEach};
 ghost use Rattle.policy_text.specs.Policy.{line_text, policy_of};
 ghost use Rattle.policy_text.specs.Seen.{seen};
@@ -11,7 +14,7 @@ ghost use Rattle.sim_run.specs.Schedule.{IsRunnable};
 ghost use Rattle.sim_run.specs.Stopped.{IsPlaceOf};
 ghost use Rattle.sim_run.specs.Stopping.{events_before};
 ghost use Rattle.commands.specs.Files.{IsOfSystem, bytes_of};
-ghost use Rattle.commands.specs.Watching.{IsPolicyOf, TellsStop, WatchesFile, IsStopOf, IsWatchedRun};
+ghost use Rattle.commands.specs.Watching.{IsPolicyFault, IsPolicyOf, IsTextFault, TellsStop, WatchesFile, IsStopOf, IsWatchedRun};
 
 use crate::debugging::table_of;
 use crate::fault::ProgramFault;
@@ -36,7 +39,8 @@ pub fn read_text<'a, F: Folder>(
     folder: &F,
     name: &'a str,
 ) -> Result<Vec<u8>, ProgramFault<'a>>
-    ensures { IfOk result (λ text. IfSome (bytes_of name.entry.now (F.files folder.now)) (λ bytes. text.items ≡ bytes)) }
+    ensures ok { IfOk result (λ text. IfSome (bytes_of name.entry.now (F.files folder.now)) (λ bytes. text.items ≡ bytes)) }
+    ensures err { IfErr result (IsTextFault name.entry.now (F.files folder.now)) }
 {
     let text = read_beginning(alloc, folder, name, MOST_TEXT as u64 + 1)?;
     if text.len() > MOST_TEXT {
@@ -54,6 +58,7 @@ pub fn policy_of<'a>(
 ) -> Result<Policy, ProgramFault<'a>>
     ensures said { IfOk result (IsPolicyOf text.now table.now) }
     ensures paired { IfOk result (λ policy. vec_len policy.rules ≡ vec_len policy.lines) }
+    ensures err { IfErr result (IsPolicyFault name.entry.now text.now table.now) }
 {
     match read_policy(alloc, text, table) {
         Ok(policy) => Ok(policy),
@@ -89,11 +94,12 @@ fn stop_lines<'a>(
     breach: Breach,
     quiet: bool,
 ) -> Result<String, ProgramFault<'a>>
-    requires paired { vec_len watch.now.policy.now.rules ≡ vec_len watch.now.policy.now.lines }
     requires place { 1 ≤ breach.number }
-    requires refused { IsRefused watch.now.policy.now.rules.items breach.refused machine.now }
-    ensures { IfOk result (λ text.
-        TellsStop quiet watch.now.text.now watch.now.table.now watch.now.policy.now breach.number machine.now (string_bytes text)) }
+    requires rule { breach.refused.rule < vec_len watch.now.policy.now.lines }
+    requires member { breach.refused.member < length (members_in machine.now) }
+    ensures { IfOk result (λ text. (force : List Terms) → IsRefused force breach.refused machine.now
+        → TellsStop quiet watch.now.text.now watch.now.table.now watch.now.policy.now force breach.number machine.now
+        (string_bytes text)) }
 {
     if quiet {
         return Ok(String::new(alloc));

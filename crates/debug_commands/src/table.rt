@@ -54,7 +54,9 @@ macro_rules! commands {
             "dis" " ADDR N" (place 4 MOST_WORDS) p => Command::Shows(View::Words { address: p.0, count: p.1 });
             "why" "" (nothing) n => Command::Shows(View::Why);
             "reach" " [members|dot|doors]" (verb reach_of) n => ();
-            "may" " store|load|execute|learn ADDR LEN [through doors]\nmay send|halt|system|timer [through doors]\nmay hold TYPE [through doors]"
+            "may" " store|load|execute|learn ADDR LEN [through doors]\n\
+                may send|halt|system|timer [through doors]\n\
+                may hold TYPE [through doors]"
                 (verb may_of) n => ();
             "help" " [B1|B2|B3|B4]" (verb help_on) n => ();
             "quit" "" (nothing) n => Command::Quit;

@@ -37,7 +37,7 @@ use Rattle.authority.specs.StepLaws.{step_effect-derives}
 use Rattle.machine.specs.Run.{run_after}
 use Rattle.machine.proofs.Steps.{run_after-steps}
 use Rattle.reach.specs.Ranges.{IsInOne}
-use Rattle.policy.specs.declared.rule.Rule.{Rule}
+use Rattle.policy.specs.Terms.{Terms}
 use Rattle.policy.specs.declared.rule.Ban.TheVariants as ban
 use Rattle.policy.specs.Watch.{IsAbout, Holds, HoldEach}
 use Rattle.policy.specs.Cover.{ShareNone}
@@ -91,27 +91,27 @@ puts-writable (effect.StoreCapability w) s sound derives granule v puts =
     ((in_ram s.memory w.address 16 (in_ram-place_fault s.memory w.address 16 sound.0)).0, derives.0 w.address (omega arith) (omega arith))
 puts-writable e s sound derives granule v puts = absurd puts
 
-module _ (rule : Rule) (s : State) (is : IsState s) (holds : Holds rule s) where
+module _ (rule : Terms) (s : State) (is : IsState s) (holds : Holds rule s) where
   -- by code of which the rule holds, nothing that breaks it
   keeps-own : IsLasting rule → KeepsCertificate (step_effect s) rule
   keeps-own lasting = λ granule v puts one.
       keeps-grounded rule s holds lasting v (puts-grounded (step_effect s) s (step_effect-derives s is) granule v puts)
 
   -- and nothing outside its ranges for stores
-  keeps-apart : (other : Rule) → ShareNone other.load.items rule.store.items → KeepsCertificate (step_effect s) other
+  keeps-apart : (other : Terms) → ShareNone other.load rule.store → KeepsCertificate (step_effect s) other
   keeps-apart other apart = λ granule v puts one.
       let place = puts-writable (step_effect s) s (step_effect-sound s is) (step_effect-derives s is) granule v puts in
-      elim (in_or_out rule.store.items granule) [
+      elim (in_or_out rule.store granule) [
         | inl stored ↦ absurd (apart granule one stored)
         | inr outside ↦ absurd (not_stored s rule holds granule place.0 outside place.1)
       ]
 
   -- its code is fetched where the rule says
-  fetched-in : IsFetchedInRam s → IsInOne rule.execute.items (pc_of s)
+  fetched-in : IsFetchedInRam s → IsInOne rule.execute (pc_of s)
   fetched-in both =
       let fetch = both.0 in
       let top = fetch.top in
-      elim (in_or_out rule.execute.items (pc_of s)) [
+      elim (in_or_out rule.execute (pc_of s)) [
         | inl one ↦ one
         | inr outside ↦ absurd (holds s.scrs.pcc (from_root fetch.tagged (in_pcc refl)) (record {
           ban = ban.Execute;
@@ -133,7 +133,7 @@ module _ (s : State) (is : IsState s) (n : ℕ) (goes : (k : ℕ) → k < n → 
   is-at zero = is
   is-at (suc k) = IsState-after (steps_after k s) (is-at k) Step tt
 
-  module _ (rule : Rule) (lasting : IsLasting rule) (holds : Holds rule s) where
+  module _ (rule : Terms) (lasting : IsLasting rule) (holds : Holds rule s) where
     holds-at : (k : ℕ) → k ≤ n → Holds rule (steps_after k s)
     holds-at zero few = holds
     holds-at (suc k) few =
@@ -145,7 +145,7 @@ module _ (s : State) (is : IsState s) (n : ℕ) (goes : (k : ℕ) → k < n → 
         certified-step rule (steps_after k s) (is-at k)
         (keeps-own rule (steps_after k s) (is-at k) (holds-at k (omega arith)) lasting) (own-at certified k (omega arith))
 
-    apart-at : (other : Rule) → ShareNone other.load.items rule.store.items → IsCertified other s.memory → (k : ℕ) → k ≤ n
+    apart-at : (other : Terms) → ShareNone other.load rule.store → IsCertified other s.memory → (k : ℕ) → k ≤ n
         → IsCertified other (steps_after k s).memory
     apart-at other apart certified zero few = certified
     apart-at other apart certified (suc k) few =
@@ -153,20 +153,20 @@ module _ (s : State) (is : IsState s) (n : ℕ) (goes : (k : ℕ) → k < n → 
         (keeps-apart rule (steps_after k s) (is-at k) (holds-at k (omega arith)) other apart)
         (apart-at other apart certified k (omega arith))
 
-    fetched-at : (k : ℕ) → k < n → IsInOne rule.execute.items (pc_of (steps_after k s))
+    fetched-at : (k : ℕ) → k < n → IsInOne rule.execute (pc_of (steps_after k s))
     fetched-at k below =
         let by = goes k below in
         fetched-in rule (steps_after k s) (is-at k) (holds-at k (omega arith)) (plain-step (steps_after k s) by.running by.plain)
 
-  module _ (rules : List Rule) (hold : HoldEach rules s) (pc : ℕ) (same_pc : pc ≡ pc_of s) (guard : Rule) (there : Contains rules guard)
+  module _ (rules : List Terms) (hold : HoldEach rules s) (pc : ℕ) (same_pc : pc ≡ pc_of s) (guard : Terms) (there : Contains rules guard)
       (was : WasAbout (Some pc) guard) where
-    holds-was : (rule : Rule) → Contains rules rule → WasAbout (Some pc) rule → Holds rule s
+    holds-was : (rule : Terms) → Contains rules rule → WasAbout (Some pc) rule → Holds rule s
     holds-was rule one about = hold rule one (subst (IsAbout rule) same_pc about.1)
 
     known-at : AreKnown rules (Some pc) (steps_after n s)
     known-at = λ rule one about. holds-at rule about.0 (holds-was rule one about) n (omega arith)
 
-    hold-at : ((rule : Rule) → Contains rules rule → StaysAway pc guard rule) → (k : ℕ) → k < n → HoldEach rules (steps_after k s)
+    hold-at : ((rule : Terms) → Contains rules rule → StaysAway pc guard rule) → (k : ℕ) → k < n → HoldEach rules (steps_after k s)
     hold-at away k below = λ rule one about. elim (away rule one) [
       | inl also ↦ holds-at rule also.0 (holds-was rule one also) k (omega arith)
       | inr apart ↦ absurd (apart (pc_of (steps_after k s)) about (fetched-at guard was.0 (holds-was guard there was) k below))
@@ -187,14 +187,14 @@ module _ (s : State) (is : IsState s) (n : ℕ) (goes : (k : ℕ) → k < n → 
   goes-at : (k : ℕ) → k < n → GoesBy None (steps_after k s)
   goes-at k below = subst (GoesBy None) (run_after-steps k s) (goes k below)
 
-  module _ (rules : List Rule) (hold : HoldEach rules s) (pc : ℕ) (same_pc : pc ≡ pc_of s) (guard : Rule) (there : Contains rules guard)
+  module _ (rules : List Terms) (hold : HoldEach rules s) (pc : ℕ) (same_pc : pc ≡ pc_of s) (guard : Terms) (there : Contains rules guard)
       (was : WasAbout (Some pc) guard) where
     pub known-run : (later : State) → later ≡ run_after (replicate n Step) s → AreKnown rules (Some pc) later
     known-run later ends =
         subst (AreKnown rules (Some pc)) (sym (run_after-steps n s) ∙ sym ends)
         (known-at s is n goes-at rules hold pc same_pc guard there was)
 
-    pub hold-run : ((rule : Rule) → Contains rules rule → StaysAway pc guard rule) → (k : ℕ) → k < n
+    pub hold-run : ((rule : Terms) → Contains rules rule → StaysAway pc guard rule) → (k : ℕ) → k < n
         → HoldEach rules (run_after (replicate k Step) s)
     hold-run away k below =
         subst (HoldEach rules) (sym (run_after-steps k s)) (hold-at s is n goes-at rules hold pc same_pc guard there was away k below)

@@ -30,7 +30,7 @@ use Rattle.registers.specs.Registers.{null, register}
 use Rattle.authority.specs.Reachable.{IsRoot, in_register, in_pcc, in_ddc, IsHeldAt, IsReachable, from_root, from_special, from_granule}
 use Rattle.reach.specs.declared.range.Range.{Range}
 use Rattle.reach.specs.Ranges.{IsIn}
-use Rattle.policy.specs.declared.rule.Rule.{Rule}
+use Rattle.policy.specs.Terms.{Terms}
 use Rattle.policy.specs.declared.rule.Ban.TheVariants as ban
 use Rattle.policy.specs.Rule.{BreaksRule}
 use Rattle.policy.specs.Watch.{Holds}
@@ -39,7 +39,7 @@ use Rattle.policy.proofs.Covers.{in_or_out}
 
 -- ---- a rule holds
 
-module _ (rule : Rule) (s : State) (memory : IsMemory s.memory) (certified : IsCertified rule s.memory) (roots : RootsKeep rule s)
+module _ (rule : Terms) (s : State) (memory : IsMemory s.memory) (certified : IsCertified rule s.memory) (roots : RootsKeep rule s)
     (specials : SpecialsKeep rule s) where
   keeps-reachable : (v : CapValue) → IsReachable s v → BreaksRule rule v → ⊥
   keeps-reachable v (from_root tagged root) = roots v tagged root
@@ -47,7 +47,7 @@ module _ (rule : Rule) (s : State) (memory : IsMemory s.memory) (certified : IsC
     | inl may ↦ specials may v tagged special
     | inr banned ↦ λ _. keeps-reachable c before (record { ban = ban.System; breaks = (banned, opens) })
   ]
-  keeps-reachable v (from_granule {c = c} granule before opens here) = elim (in_or_out rule.load.items granule) [
+  keeps-reachable v (from_granule {c = c} granule before opens here) = elim (in_or_out rule.load granule) [
     | inl one ↦ certified granule v one here
     | inr outside ↦ λ _.
         let place = in_ram s.memory granule 16 (memory.granules_in_ram granule here.tagged) in
@@ -69,24 +69,24 @@ module _ (rule : Rule) (s : State) (memory : IsMemory s.memory) (certified : IsC
   holds-certified = keeps-reachable
 
 -- what the tagged granules hold that begin in a range keeps the rule
-abbrev pub RangeKeeps : Rule → Memory → Range → Type 0
+abbrev pub RangeKeeps : Terms → Memory → Range → Type 0
 RangeKeeps rule m range = (granule : ℕ) (v : CapValue) → IsIn range granule → IsHeldAt m granule v → BreaksRule rule v → ⊥
 
 -- a rule has its certificate if this is so of each range
-pub certified-by : (rule : Rule) (m : Memory)
-    → ((k : ℕ) → k < length rule.load.items → HoldsAt (RangeKeeps rule m) rule.load.items k) → IsCertified rule m
+pub certified-by : (rule : Terms) (m : Memory)
+    → ((k : ℕ) → k < length rule.load → HoldsAt (RangeKeeps rule m) rule.load k) → IsCertified rule m
 certified-by rule m keep = λ granule v one here.
     let k : ℕ = one.is_one.0 in
-    let few : k < length rule.load.items = one.is_one.1 in
+    let few : k < length rule.load = one.is_one.1 in
     subst (RangeKeeps rule m) one.is_one.2 (keep k few one.range) granule v one.inside here
 
 -- ---- registers
 
 -- the value keeps the rule, if it has a tag
-abbrev pub KeepsTagged : Rule → CapValue → Type 0
+abbrev pub KeepsTagged : Terms → CapValue → Type 0
 KeepsTagged rule v = is_tagged v ≡ true → BreaksRule rule v → ⊥
 
-module _ (rule : Rule) (s : State) (is : IsState s) (pcc : KeepsTagged rule s.scrs.pcc) (ddc : KeepsTagged rule s.scrs.ddc)
+module _ (rule : Terms) (s : State) (is : IsState s) (pcc : KeepsTagged rule s.scrs.pcc) (ddc : KeepsTagged rule s.scrs.ddc)
     (registers : (n : ℕ) → n < 32 → KeepsTagged rule (register s.registers n)) where
   pub roots-keep : (v : CapValue) → is_tagged v ≡ true → IsRoot s v → BreaksRule rule v → ⊥
   roots-keep v tagged (in_register n same) = elim (cases_lt n 32) [
@@ -162,14 +162,14 @@ held-step s is granule v here = held-stepped s is.memory granule v s.devices.hal
 
 -- ---- certificates
 
-pub certified-step : (rule : Rule) (s : State) → IsState s → KeepsCertificate (step_effect s) rule → IsCertified rule s.memory
+pub certified-step : (rule : Terms) (s : State) → IsState s → KeepsCertificate (step_effect s) rule → IsCertified rule s.memory
     → IsCertified rule (stepped s).memory
 certified-step rule s is keeps certified = λ granule v one here. elim (held-step s is granule v here) [
   | inl before ↦ certified granule v one before
   | inr puts ↦ keeps granule v puts one
 ]
 
-pub certified-those : (rules : List Rule) (before now : List Bool) (s : State) → IsState s → KeepsThose rules before now (step_effect s)
+pub certified-those : (rules : List Terms) (before now : List Bool) (s : State) → IsState s → KeepsThose rules before now (step_effect s)
     → AreCertified rules before s.memory → AreCertified rules now (stepped s).memory
 certified-those rules before now s is keeps certified = λ k below marked d.
     let both = keeps k below marked in

@@ -21,19 +21,19 @@ use Rattle.authority.specs.SameEffectLaws.{step_effect-same}
 use Rattle.authority.specs.TwoWorldsLaws.{event-agrees, outcome-same, sent-same}
 use Rattle.authority.specs.Worlds.{IsReadable, Agree}
 use Rattle.reach.specs.Ranges.{IsInOne}
-use Rattle.policy.specs.declared.rule.Rule.{Rule}
+use Rattle.policy.specs.Terms.{Terms}
 use Rattle.policy.specs.declared.rule.Ban.TheVariants as ban
 use Rattle.policy.specs.Watch.{Holds, HoldEach, DiffersOutside, LearnsBy, KeepsTo, KeepsToEach}
 use Rattle.policy.proofs.Covers.{in_or_out}
 use Rattle.policy.proofs.Leaving.{leaves-by}
 use Rattle.policy.proofs.Memories.{AreSameWhere, same-number, same-value}
 
-module _ (rule : Rule) where
+module _ (rule : Terms) where
   -- ---- states with another memory
 
   -- the addresses whose bytes code may learn
   abbrev Seen : ℕ → Type 0
-  Seen a = IsInOne rule.load.items a ⊎ IsInOne rule.execute.items a
+  Seen a = IsInOne rule.load a ⊎ IsInOne rule.execute a
 
   differs-by : (u v : State) → v.registers ≡ u.registers → v.scrs ≡ u.scrs → v.csrs ≡ u.csrs → v.devices ≡ u.devices
       → AreSameWhere Seen u.memory v.memory → DiffersOutside rule u v
@@ -97,9 +97,9 @@ module _ (rule : Rule) where
   -- ---- a rule that holds
 
   module _ (s : State) (holds : Holds rule s) where
-    in-loads : (a : ℕ) → ram_base ≤ a → IsReadable s a → IsInOne rule.load.items a ⊎ IsInOne rule.execute.items a
+    in-loads : (a : ℕ) → ram_base ≤ a → IsReadable s a → IsInOne rule.load a ⊎ IsInOne rule.execute a
     in-loads a low readable = elim readable.opens.reads [
-      | inl loads ↦ elim (in_or_out rule.load.items a) [
+      | inl loads ↦ elim (in_or_out rule.load a) [
         | inl one ↦ inl one
         | inr outside ↦ absurd (holds readable.source readable.reachable (record {
           ban = ban.Load;
@@ -113,7 +113,7 @@ module _ (rule : Rule) where
           };
         }))
       ]
-      | inr fetches ↦ elim (in_or_out rule.execute.items a) [
+      | inr fetches ↦ elim (in_or_out rule.execute a) [
         | inl one ↦ inr one
         | inr outside ↦ absurd (holds readable.source readable.reachable (record {
           ban = ban.Execute;
@@ -163,5 +163,5 @@ module _ (rule : Rule) where
 -- ---- the rules about the code
 
 -- where each of them holds, every event keeps to each
-pub keeps-to-each : (rules : List Rule) (e : Event) (s : State) → IsState s → HoldEach rules s → KeepsToEach rules e s
+pub keeps-to-each : (rules : List Terms) (e : Event) (s : State) → IsState s → HoldEach rules s → KeepsToEach rules e s
 keeps-to-each rules e s is hold = λ rule there about. keeps-to rule s (hold rule there about) e is

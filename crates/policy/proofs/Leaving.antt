@@ -24,7 +24,7 @@ use Rattle.authority.specs.LeftLaws.{effect-leaves}
 use Rattle.authority.specs.RowLaws.{system-used}
 use Rattle.authority.specs.StepLaws.{step_effect-derives, event-leaves, event-silent}
 use Rattle.reach.specs.Ranges.{IsInOne}
-use Rattle.policy.specs.declared.rule.Rule.{Rule}
+use Rattle.policy.specs.Terms.{Terms}
 use Rattle.policy.specs.declared.rule.Ban.TheVariants as ban
 use Rattle.policy.specs.Watch.{Holds, LeavesBy}
 
@@ -101,8 +101,8 @@ module _ (s : State) where
 
   -- ---- a rule that holds
 
-  module _ (rule : Rule) (holds : Holds rule s) where
-    pub not_stored : (a : ℕ) → ram_base ≤ a → (IsInOne rule.store.items a → ⊥) → Not (IsWritable s a)
+  module _ (rule : Terms) (holds : Holds rule s) where
+    pub not_stored : (a : ℕ) → ram_base ≤ a → (IsInOne rule.store a → ⊥) → Not (IsWritable s a)
     not_stored a low outside = λ writable. holds writable.source writable.reachable (record {
       ban = ban.Store;
       breaks = record {

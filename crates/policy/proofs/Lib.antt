@@ -11,3 +11,9 @@ pub mod Learning
 pub mod Runs
 pub mod Looking
 pub mod Whole
+pub mod Termed
+pub mod Tests
+pub mod Opening
+pub mod Next
+pub mod Ascending
+pub mod Forced

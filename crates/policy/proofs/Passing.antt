@@ -6,9 +6,9 @@ use Rattle.hart.specs.Event.{after, outcome}
 use Rattle.hart.specs.IsState.{IsState}
 use Rattle.hart.specs.Outcome.{Plain}
 use Rattle.hart.specs.State.{State}
-use Rattle.policy.specs.declared.rule.Rule.{Rule}
+use Rattle.policy.specs.Terms.{Terms}
 use Rattle.policy.specs.declared.watcher.Watcher.{Watcher}
-use Rattle.policy.specs.Known.{AreCertified, AreKnown, Knows}
+use Rattle.policy.specs.Known.{AreCertified, AreKnown, Knows, rules_of}
 use Rattle.policy.proofs.Rights.{holds-after}
 
 plain-passed : (e : Event) (s : State) → (e ≡ Step → ⊥) → outcome e s ≡ Plain
@@ -21,14 +21,15 @@ memory-passed Step s other = absurd (other refl)
 memory-passed Tick s other = refl
 memory-passed (Byte b) s other = refl
 
-known-passed : (rules : List Rule) (known : Option ℕ) (s : State) (e : Event) → IsState s → outcome e s ≡ Plain → AreKnown rules known s
+known-passed : (rules : List Terms) (known : Option ℕ) (s : State) (e : Event) → IsState s → outcome e s ≡ Plain → AreKnown rules known s
     → AreKnown rules known (after e s)
 known-passed rules None s e is plain knows = λ rule there was. absurd was
 known-passed rules (Some pc) s e is plain knows = λ rule there was. holds-after rule s e is plain was.0 (knows rule there was)
 
 pub passed : (w : Watcher) (s next : State) (e : Event) → IsState s → (e ≡ Step → ⊥) → next ≡ after e s → Knows w s → Knows w next
 passed w s next e is other met knows = subst (Knows w) (sym met) (record {
-  known = known-passed w.rules.now w.known s e is (plain-passed e s other) knows.known;
+  paired = knows.paired;
+  known = known-passed (rules_of w) w.known s e is (plain-passed e s other) knows.known;
   count = knows.count;
-  certified = subst (AreCertified w.rules.now w.certified.items) (sym (memory-passed e s other)) knows.certified;
+  certified = subst (AreCertified (rules_of w) w.certified.items) (sym (memory-passed e s other)) knows.certified;
 })

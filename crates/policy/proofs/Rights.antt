@@ -21,7 +21,7 @@ use Rattle.authority.specs.Authority.{IsSealAllowed, held, sentry, sealed_by}
 use Rattle.authority.specs.Grounded.{IsGrounded}
 use Rattle.authority.specs.StepLaws.{event-grows_not}
 use Rattle.reach.specs.declared.range.Range.{Range}
-use Rattle.policy.specs.declared.rule.Rule.{Rule}
+use Rattle.policy.specs.Terms.{Terms}
 use Rattle.policy.specs.declared.rule.Ban.{Ban}
 use Rattle.policy.specs.declared.rule.Ban.TheVariants as ban
 use Rattle.policy.specs.Rule.{Lets, OpensOutside, OpensSealing, IsSealedBeyond, Breaks, BreaksRule}
@@ -73,17 +73,16 @@ module _ (v c : CapValue) (within : IsInRightsOf v c) where
 
 -- ---- seals
 
-pub beyond-sealed : {X : Type 0} (v : CapValue) (o : Option X) (items : X → List ℕ) → MatchOption o ⊥ (λ x. IsSealedBeyond (items x) v)
+pub beyond-sealed : (v : CapValue) (o : Option (List ℕ)) → MatchOption o ⊥ (λ types. IsSealedBeyond types v)
     → (is_sealed v ≡ true) × (is_reserved (value_otype v) ≡ false)
-beyond-sealed v None items broken = absurd broken
-beyond-sealed v (Some x) items broken = (broken.sealed, broken.unreserved)
+beyond-sealed v None broken = absurd broken
+beyond-sealed v (Some types) broken = (broken.sealed, broken.unreserved)
 
-no-types : {X : Type 0} (v : CapValue) (o : Option X) (items : X → List ℕ) → IsNone o → MatchOption o ⊥ (λ x. IsSealedBeyond (items x) v)
-    → ⊥
-no-types v None items none broken = broken
-no-types v (Some x) items none broken = true≢false none
+no-types : (v : CapValue) (o : Option (List ℕ)) → IsNone o → MatchOption o ⊥ (λ types. IsSealedBeyond types v) → ⊥
+no-types v None none broken = broken
+no-types v (Some types) none broken = true≢false none
 
-module _ (rule : Rule) (s : State) (holds : Holds rule s) where
+module _ (rule : Terms) (s : State) (holds : Holds rule s) where
   -- a seal that is allowed in code that may not seal
   allowed-seal : (v : CapValue) → rule.seal ≡ false → is_reserved (value_otype v) ≡ false → Breaks rule ban.Types v → IsSealAllowed s v → ⊥
   allowed-seal v none free broken (held reachable) = holds v reachable (record { ban = ban.Types; breaks = broken })
@@ -106,9 +105,9 @@ module _ (rule : Rule) (s : State) (holds : Holds rule s) where
 
   keeps-types : (v : CapValue) → IsLasting rule → IsGrounded s v → Breaks rule ban.Types v → ⊥
   keeps-types v (inl none) earned broken =
-      let both = beyond-sealed v rule.types (λ t. t.items) broken in
+      let both = beyond-sealed v rule.types broken in
       allowed-seal v none both.1 broken (earned.seal both.0)
-  keeps-types v (inr none) earned broken = no-types v rule.types (λ t. t.items) none broken
+  keeps-types v (inr none) earned broken = no-types v rule.types none broken
 
   module _ (v : CapValue) (earned : IsGrounded s v) where
     of_source : (part : Ban) → Breaks rule part earned.covered.source → ⊥
@@ -116,11 +115,11 @@ module _ (rule : Rule) (s : State) (holds : Holds rule s) where
 
     keeps-each : (part : Ban) → IsLasting rule → Breaks rule part v → ⊥
     keeps-each ban.Store lasting broken =
-        of_source ban.Store (outside-outer v earned.covered.source earned.covered.within permission.Store rule.store.items broken)
+        of_source ban.Store (outside-outer v earned.covered.source earned.covered.within permission.Store rule.store broken)
     keeps-each ban.Load lasting broken =
-        of_source ban.Load (outside-outer v earned.covered.source earned.covered.within permission.Load rule.load.items broken)
+        of_source ban.Load (outside-outer v earned.covered.source earned.covered.within permission.Load rule.load broken)
     keeps-each ban.Execute lasting broken =
-        of_source ban.Execute (outside-outer v earned.covered.source earned.covered.within permission.Execute rule.execute.items broken)
+        of_source ban.Execute (outside-outer v earned.covered.source earned.covered.within permission.Execute rule.execute broken)
     keeps-each ban.Transmit lasting broken =
         of_source ban.Transmit (broken.0, OpensStore-outer v earned.covered.source transmit earned.covered.within broken.1)
     keeps-each ban.Halt lasting broken =
@@ -137,7 +136,7 @@ module _ (rule : Rule) (s : State) (holds : Holds rule s) where
   pub keeps-grounded : IsLasting rule → (v : CapValue) → IsGrounded s v → BreaksRule rule v → ⊥
   keeps-grounded lasting v earned broken = keeps-each v earned broken.ban lasting broken.breaks
 
-pub holds-after : (rule : Rule) (s : State) (e : Event) → IsState s → outcome e s ≡ Plain → IsLasting rule → Holds rule s
+pub holds-after : (rule : Terms) (s : State) (e : Event) → IsState s → outcome e s ≡ Plain → IsLasting rule → Holds rule s
     → Holds rule (after e s)
 holds-after rule s e is plain lasting holds = λ v reachable.
     keeps-grounded rule s holds lasting v ((event-grows_not s is e plain).grounded v reachable)

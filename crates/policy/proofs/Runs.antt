@@ -9,8 +9,11 @@ use Rattle.hart.specs.declared.event.Event.{Event}
 use Rattle.hart.specs.Event.{after, sent}
 use Rattle.hart.specs.State.{State}
 use Rattle.machine.specs.Run.{run_after, run_sent}
-use Rattle.policy.specs.declared.rule.Rule.{Rule}
-use Rattle.policy.specs.Watch.{KeepsToEach, KeepToEach, IsRunOf}
+use Rattle.policy.specs.Terms.{Terms}
+use Rattle.policy.specs.Watch.{KeepsToEach}
+use Rattle.policy.specs.Lending.{in_force, in_force_after}
+use Rattle.policy.specs.Run.{KeepToEach, IsRunOf}
+use Rattle.policy.proofs.Forced.{in_force-append}
 
 -- ---- lists and options
 
@@ -50,7 +53,7 @@ run_sent-append (x ∷ es) e s =
 pub run-none : (events : List Event) (s : State) (out now : List ℕ) → now ≡ out → IsRunOf events 0 s s out now
 run-none events s out now same = record { some = omega arith; state = refl; bytes = same ∙ sym (append-nil out) }
 
-pub kept-none : (rules : List Rule) (events : List Event) (s : State) → KeepToEach rules events 0 s
+pub kept-none : (rules : List Terms) (events : List Event) (s : State) → KeepToEach rules events 0 s
 kept-none rules events s = λ k few. absurd (omega arith)
 
 module _ (events : List Event) (i : ℕ) (d : Event) (below : i < length events) (s t : State) (out now : List ℕ)
@@ -73,16 +76,28 @@ module _ (events : List Event) (i : ℕ) (d : Event) (below : i < length events)
         ∙ ap (λ es. out ++ run_sent es s) (sym more);
   }
 
-pub kept-more : (rules : List Rule) (events : List Event) (i : ℕ) (s t : State) → t ≡ run_after (take i events) s
-    → ((e : Event) → KeepsToEach rules e t) → KeepToEach rules events i s → KeepToEach rules events (i + 1) s
+-- what is in force after one event more
+pub forced-more : (rules : List Terms) (events : List Event) (i : ℕ) (d : Event) → i < length events → (s t : State)
+    → t ≡ run_after (take i events) s → (said now : List Terms) → said ≡ rules → now ≡ in_force rules (take i events) s
+    → in_force_after said now (get_or events i d) t ≡ in_force rules (take (i + 1) events) s
+forced-more rules events i d below s t state said now same_said same_now =
+    ap (λ x. in_force_after x now (get_or events i d) t) same_said
+    ∙ ap (λ y. in_force_after rules y (get_or events i d) t) same_now
+    ∙ ap (in_force_after rules (in_force rules (take i events) s) (get_or events i d)) state
+    ∙ sym (in_force-append rules rules (take i events) (get_or events i d) s)
+    ∙ ap (λ es. in_force rules es s) (sym (take_more events i d below))
+
+pub kept-more : (rules : List Terms) (events : List Event) (i : ℕ) (s t : State) → t ≡ run_after (take i events) s
+    → ((e : Event) → KeepsToEach (in_force rules (take i events) s) e t) → KeepToEach rules events i s
+    → KeepToEach rules events (i + 1) s
 kept-more rules events i s t state last before = λ k few d. elim (cases_eq k i) [
   | inl same ↦
-      let here : KeepsToEach rules (get_or events i d) (run_after (take i events) s) =
-      subst (KeepsToEach rules (get_or events i d)) state (last (get_or events i d)) in
-      subst (λ n. KeepsToEach rules (get_or events n d) (run_after (take n events) s)) (sym same) here
+      let here : KeepsToEach (in_force rules (take i events) s) (get_or events i d) (run_after (take i events) s) =
+      subst (KeepsToEach (in_force rules (take i events) s) (get_or events i d)) state (last (get_or events i d)) in
+      subst (λ n. KeepsToEach (in_force rules (take n events) s) (get_or events n d) (run_after (take n events) s)) (sym same) here
   | inr other ↦ before k (omega (arith, other)) d
 ]
 
-pub kept-at : (rules : List Rule) (events : List Event) (i done : ℕ) (s : State) → done ≡ i → KeepToEach rules events i s
+pub kept-at : (rules : List Terms) (events : List Event) (i done : ℕ) (s : State) → done ≡ i → KeepToEach rules events i s
     → KeepToEach rules events done s
 kept-at rules events i done s same kept = subst (λ n. KeepToEach rules events n s) (sym same) kept

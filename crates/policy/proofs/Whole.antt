@@ -8,12 +8,16 @@ use Rattle.tagged_memory.specs.Memory.{has_tag}
 use Rattle.hart.specs.declared.event.Event.{Event}
 use Rattle.hart.specs.declared.event.Event.TheVariants.{Step}
 use Rattle.hart.specs.Event.{after, sent}
-use Rattle.hart.specs.State.{State}
+use Rattle.hart.specs.State.{State, pc_of}
 use Rattle.machine.specs.Run.{run_after, run_sent}
 use Rattle.reach.specs.Ranges.{IsInOne}
-use Rattle.policy.specs.declared.rule.Rule.{Rule}
-use Rattle.policy.specs.Watch.{KeepsTo, KeepToEach, IsAboutEach, NoneTraps, DiffersOutside}
+use Rattle.policy.specs.Terms.{Terms}
+use Rattle.policy.specs.Lending.{in_force, in_force_after}
+use Rattle.policy.specs.Watch.{KeepsTo, DiffersOutside}
+use Rattle.policy.specs.Run.{KeepToEach, IsAboutEach, NoneTraps}
+use Rattle.policy.proofs.Forced.{in_force-append, stays-in-force}
 use Rattle.policy.proofs.Leaving.{SameSystem}
+use Rattle.policy.proofs.Tests.{about-it}
 use Rattle.policy.proofs.Runs.{run_after-append, run_sent-append}
 
 same-trans : (s t u : State) → SameSystem s t → SameSystem t u → SameSystem s u
@@ -34,7 +38,7 @@ same-trans s t u one two = (
   },
 )
 
-module _ (rules : List Rule) (rule : Rule) (events : List Event) (there : Contains rules rule) where
+module _ (rules : List Terms) (rule : Terms) (events : List Event) (there : Contains rules rule) where
   abbrev at : ℕ → Event
   at n = get_or events n Step
 
@@ -67,13 +71,32 @@ module _ (rules : List Rule) (rule : Rule) (events : List Event) (there : Contai
           about = λ k few. g.about k (omega arith);
         }
 
-    last : (n : ℕ) → Guards (suc n) → KeepsTo rule (at n) (state s n)
-    last n g = g.keep n (omega arith) Step rule there (g.about n (omega arith))
-
     inside : (n : ℕ) → Guards (suc n) → n < length events
     inside n g = let some = g.some in omega arith
 
-    bytes : (done : ℕ) → Guards done → (a : ℕ) → ram_base ≤ a → (IsInOne rule.store.items a → ⊥)
+    -- its terms are in force as it says them
+    forced : (n : ℕ) → Guards n → (length rules ≡ length (in_force rules (take n events) s))
+        × (get_or (in_force rules (take n events) s) there.0 rule ≡ rule)
+    forced zero g = (refl, there.2)
+    forced (suc n) g =
+        let before = forced n (fewer n g) in
+        let now = in_force rules (take n events) s in
+        let next : in_force rules (take (suc n) events) s ≡ in_force_after rules now (at n) (state s n) =
+        ap (λ es. in_force rules es s) (more n (inside n g)) ∙ in_force-append rules rules (take n events) (at n) s in
+        let kept = stays-in-force (at n) rules now there.0 rule (state s n) there.1 there.2 before.0 before.1
+        ((about-it rule (pc_of (state s n))).1 (g.about n (omega arith))) in
+        (kept.0 ∙ ap length (sym next), ap (λ ts. get_or ts there.0 rule) next ∙ kept.1)
+
+    contains : (n : ℕ) → Guards n → Contains (in_force rules (take n events) s) rule
+    contains n g =
+        let both = forced n g in
+        let inside = there.1 in
+        (there.0, subst (λ k. there.0 < k) both.0 inside, both.1)
+
+    last : (n : ℕ) → Guards (suc n) → KeepsTo rule (at n) (state s n)
+    last n g = g.keep n (omega arith) Step rule (contains n (fewer n g)) (g.about n (omega arith))
+
+    bytes : (done : ℕ) → Guards done → (a : ℕ) → ram_base ≤ a → (IsInOne rule.store a → ⊥)
         → get_or (state s done).memory.bytes (a - ram_base) 0 ≡ get_or s.memory.bytes (a - ram_base) 0
     bytes zero g a low outside = refl
     bytes (suc n) g a low outside =
@@ -81,7 +104,7 @@ module _ (rules : List Rule) (rule : Rule) (events : List Event) (there : Contai
         ∙ (last n g).leaves.bytes a low outside ∙ bytes n (fewer n g) a low outside
 
     tags : (done : ℕ) → Guards done → (granule : ℕ) → ram_base ≤ granule
-        → ((a : ℕ) → granule ≤ a → a < granule + 16 → IsInOne rule.store.items a → ⊥)
+        → ((a : ℕ) → granule ≤ a → a < granule + 16 → IsInOne rule.store a → ⊥)
         → has_tag (state s done).memory granule ≡ has_tag s.memory granule
     tags zero g granule low outside = refl
     tags (suc n) g granule low outside =
@@ -134,12 +157,12 @@ module _ (rules : List Rule) (rule : Rule) (events : List Event) (there : Contai
       guards : Guards done
       guards = record { some = some; keep = keep; about = about }
 
-      pub bytes-stay : (a : ℕ) → ram_base ≤ a → (IsInOne rule.store.items a → ⊥)
+      pub bytes-stay : (a : ℕ) → ram_base ≤ a → (IsInOne rule.store a → ⊥)
           → get_or (state s done).memory.bytes (a - ram_base) 0 ≡ get_or s.memory.bytes (a - ram_base) 0
       bytes-stay = bytes done guards
 
       pub tags-stay : (granule : ℕ) → ram_base ≤ granule
-          → ((a : ℕ) → granule ≤ a → a < granule + 16 → IsInOne rule.store.items a → ⊥)
+          → ((a : ℕ) → granule ≤ a → a < granule + 16 → IsInOne rule.store a → ⊥)
           → has_tag (state s done).memory granule ≡ has_tag s.memory granule
       tags-stay = tags done guards
 

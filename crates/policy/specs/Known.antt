@@ -10,7 +10,9 @@ use Rattle.hart.specs.State.{State}
 use Rattle.authority.specs.Reachable.{IsRoot, IsSpecial, IsHeldAt}
 use Rattle.reach.specs.Ranges.{IsInOne}
 use Rattle.policy.specs.declared.rule.Rule.{Rule}
+use Rattle.policy.specs.declared.in_force.InForce.{InForce}
 use Rattle.policy.specs.declared.watcher.Watcher.{Watcher}
+use Rattle.policy.specs.Terms.{Terms, terms_of}
 use Rattle.policy.specs.Cover.{ShareNone}
 use Rattle.policy.specs.Rule.{BreaksRule}
 use Rattle.policy.specs.Watch.{IsAbout, Holds}
@@ -18,34 +20,34 @@ use Rattle.policy.specs.Watch.{IsAbout, Holds}
 -- ---- rules that hold
 
 -- It goes on holding over plain events, once it holds. (Where code may seal, it may come to hold a type that it didn't hold.)
-abbrev pub IsLasting : Rule → Type 0
+abbrev pub IsLasting : Terms → Type 0
 IsLasting rule = (rule.seal ≡ false) ⊎ IsNone rule.types
 
 -- the rule is lasting, and about the code at an address that is known
-abbrev pub WasAbout : Option ℕ → Rule → Type 0
+abbrev pub WasAbout : Option ℕ → Terms → Type 0
 WasAbout None rule = ⊥
 WasAbout (Some pc) rule = IsLasting rule × IsAbout rule pc
 
 -- each rule that was so holds
-abbrev pub AreKnown : List Rule → Option ℕ → State → Type 0
-AreKnown rules known s = (rule : Rule) → Contains rules rule → WasAbout known rule → Holds rule s
+abbrev pub AreKnown : List Terms → Option ℕ → State → Type 0
+AreKnown rules known s = (rule : Terms) → Contains rules rule → WasAbout known rule → Holds rule s
 
 -- ---- certificates
 
 -- A certificate of a rule: a tagged granule that begins in its ranges for loads holds nothing that breaks it.
-abbrev pub IsCertified : Rule → Memory → Type 0
-IsCertified rule m = (granule : ℕ) (v : CapValue) → IsInOne rule.load.items granule → IsHeldAt m granule v → BreaksRule rule v → ⊥
+abbrev pub IsCertified : Terms → Memory → Type 0
+IsCertified rule m = (granule : ℕ) (v : CapValue) → IsInOne rule.load granule → IsHeldAt m granule v → BreaksRule rule v → ⊥
 
 -- the roots keep the rule
-abbrev pub RootsKeep : Rule → State → Type 0
+abbrev pub RootsKeep : Terms → State → Type 0
 RootsKeep rule s = (v : CapValue) → is_tagged v ≡ true → IsRoot s v → BreaksRule rule v → ⊥
 
 -- so do the special registers, if the rule lets code use them
-abbrev pub SpecialsKeep : Rule → State → Type 0
+abbrev pub SpecialsKeep : Terms → State → Type 0
 SpecialsKeep rule s = rule.system ≡ true → (v : CapValue) → is_tagged v ≡ true → IsSpecial s v → BreaksRule rule v → ⊥
 
 -- the rules that are marked have certificates
-abbrev pub AreCertified : List Rule → List Bool → Memory → Type 0
+abbrev pub AreCertified : List Terms → List Bool → Memory → Type 0
 AreCertified rules certified m =
     (k : ℕ) → k < length rules → slice_index_or certified k false ≡ true → HoldsAt (λ rule. IsCertified rule m) rules k
 
@@ -55,11 +57,11 @@ Puts (StoreCapability w) granule v = (granule ≡ w.address) × (v ≡ w.value) 
 Puts _ granule v = ⊥
 
 -- it puts nothing that breaks the rule where the rule lets code load
-abbrev pub KeepsCertificate : Effect CapValue → Rule → Type 0
-KeepsCertificate e rule = (granule : ℕ) (v : CapValue) → Puts e granule v → IsInOne rule.load.items granule → BreaksRule rule v → ⊥
+abbrev pub KeepsCertificate : Effect CapValue → Terms → Type 0
+KeepsCertificate e rule = (granule : ℕ) (v : CapValue) → Puts e granule v → IsInOne rule.load granule → BreaksRule rule v → ⊥
 
 -- the rules that are still marked were, and the effect keeps their certificates
-abbrev pub KeepsThose : List Rule → List Bool → List Bool → Effect CapValue → Type 0
+abbrev pub KeepsThose : List Terms → List Bool → List Bool → Effect CapValue → Type 0
 KeepsThose rules certified now e =
     (k : ℕ) → k < length rules → slice_index_or now k false ≡ true
     → (slice_index_or certified k false ≡ true) × HoldsAt (KeepsCertificate e) rules k
@@ -67,21 +69,38 @@ KeepsThose rules certified now e =
 -- ---- many steps under one rule, the guard
 
 -- the rule is lasting and about the code at an address, as the guard is; or about no code that the guard lets be fetched
-abbrev pub StaysAway : ℕ → Rule → Rule → Type 0
-StaysAway pc guard rule = WasAbout (Some pc) rule ⊎ ShareNone rule.code.items guard.execute.items
+abbrev pub StaysAway : ℕ → Terms → Terms → Type 0
+StaysAway pc guard rule = WasAbout (Some pc) rule ⊎ ShareNone rule.code guard.execute
 
 -- it is so; or lets code load nothing that the guard lets be stored to
-abbrev pub OutOfReach : ℕ → Rule → Rule → Type 0
-OutOfReach pc guard rule = WasAbout (Some pc) rule ⊎ ShareNone rule.load.items guard.store.items
+abbrev pub OutOfReach : ℕ → Terms → Terms → Type 0
+OutOfReach pc guard rule = WasAbout (Some pc) rule ⊎ ShareNone rule.load guard.store
 
 -- ---- all of it
 
--- the rules that a watcher watches by
-abbrev pub rules_of : Watcher → List Rule
-rules_of w = w.rules.now
+-- rules in force: as they are said, and as they are now
+abbrev pub said_by : InForce → List Terms
+said_by force = terms_of force.said.now
+
+abbrev pub held_by : InForce → List Rule
+held_by force = force.rules.items
+
+abbrev pub forced_by : InForce → List Terms
+forced_by force = terms_of (held_by force)
+
+abbrev pub IsPaired : InForce → Type 0
+IsPaired force = length force.said.now ≡ length (held_by force)
+
+-- the rules that a watcher watches by: as they are said, and the terms in force
+abbrev pub said_to : Watcher → List Terms
+said_to w = said_by w.force
+
+abbrev pub rules_of : Watcher → List Terms
+rules_of w = forced_by w.force
 
 -- what a watcher holds is true of the state
 pub record Knows (w : Watcher) (s : State) : Type 0 where
-  pub known : AreKnown w.rules.now w.known s
-  pub count : length w.certified.items ≡ length w.rules.now
-  pub certified : AreCertified w.rules.now w.certified.items s.memory
+  pub paired : IsPaired w.force
+  pub known : AreKnown (rules_of w) w.known s
+  pub count : length w.certified.items ≡ length (held_by w.force)
+  pub certified : AreCertified (rules_of w) w.certified.items s.memory

@@ -1,6 +1,11 @@
 -- What to read
+pub mod Terms
 pub mod Rule
 pub mod Watch
+pub mod Tests
+pub mod Opened
+pub mod Lending
+pub mod Run
 -- Inner words
 pub mod Cover
 pub mod Known

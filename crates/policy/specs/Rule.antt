@@ -10,9 +10,9 @@ use Rattle.cap_rights.specs.Rights.{OpensSystem, OpensStore}
 use Rattle.devices.specs.Devices.{halt, timer_compare, transmit}
 use Rattle.reach.specs.declared.range.Range.{Range}
 use Rattle.reach.specs.Ranges.{IsInOne}
-use Rattle.policy.specs.declared.rule.Rule.{Rule}
 use Rattle.policy.specs.declared.rule.Ban.{Ban}
 use Rattle.policy.specs.declared.rule.Ban.TheVariants.{Store, Load, Execute, Transmit, Halt, Timer, System, Seal, Types}
+use Rattle.policy.specs.Terms.{Terms}
 
 -- unsealed, with the permission
 pub record Lets (permission : Permission) (c : CapValue) : Type 0 where
@@ -44,16 +44,16 @@ pub record IsSealedBeyond (types : List ℕ) (c : CapValue) : Type 0 where
   pub beyond : Contains types (value_otype c) → ⊥
 
 -- the capability breaks a part of the rule
-abbrev pub Breaks : Rule → Ban → CapValue → Type 0
-Breaks rule Store c = OpensOutside permission.Store rule.store.items c
-Breaks rule Load c = OpensOutside permission.Load rule.load.items c
-Breaks rule Execute c = OpensOutside permission.Execute rule.execute.items c
+abbrev pub Breaks : Terms → Ban → CapValue → Type 0
+Breaks rule Store c = OpensOutside permission.Store rule.store c
+Breaks rule Load c = OpensOutside permission.Load rule.load c
+Breaks rule Execute c = OpensOutside permission.Execute rule.execute c
 Breaks rule Transmit c = (rule.transmit ≡ false) × OpensStore c transmit
 Breaks rule Halt c = (rule.halt ≡ false) × OpensStore c halt
 Breaks rule Timer c = (rule.timer ≡ false) × OpensStore c timer_compare
 Breaks rule System c = (rule.system ≡ false) × OpensSystem c
 Breaks rule Seal c = (rule.seal ≡ false) × OpensSealing c
-Breaks rule Types c = MatchOption rule.types ⊥ (λ types. IsSealedBeyond types.items c)
+Breaks rule Types c = MatchOption rule.types ⊥ (λ types. IsSealedBeyond types c)
 
 -- the order of the parts
 abbrev pub place_of : Ban → ℕ
@@ -68,11 +68,11 @@ place_of Seal = 7
 place_of Types = 8
 
 -- it is the first part that the capability breaks
-pub record IsFirstBan (rule : Rule) (c : CapValue) (ban : Ban) : Type 0 where
+pub record IsFirstBan (rule : Terms) (c : CapValue) (ban : Ban) : Type 0 where
   pub breaks : Breaks rule ban c
   pub before : (other : Ban) → place_of other < place_of ban → Breaks rule other c → ⊥
 
 -- the capability breaks the rule
-pub record BreaksRule (rule : Rule) (c : CapValue) : Type 0 where
+pub record BreaksRule (rule : Terms) (c : CapValue) : Type 0 where
   pub ban : Ban
   pub breaks : Breaks rule ban c

@@ -1,5 +1,4 @@
--- Runs that rules watch: what an event leaves as it is and what code learns at it while a rule is about the code, and where a run is
--- refused.
+-- What rules watch: what an event leaves as it is and what code learns at it while a rule is about the code, and where a run is refused.
 use Rattle.std.specs.Prelude.{◌≡◌, ℕ, ◌+◌, ◌-◌, ◌<◌, ◌≤◌, ◌≢◌, ◌++◌, false, List, length, take, map, None, Contains}
 use Rattle.std.specs.Prelude.{slice_index, ◌⊎◌}
 use Rattle.std.specs.List.{HoldsAt}
@@ -17,33 +16,33 @@ use Rattle.machine.specs.Run.{run_after, run_sent}
 use Rattle.reach.specs.First.{IsFirst, HoldsOfNone}
 use Rattle.reach.specs.Ranges.{IsInOne}
 use Rattle.reach.specs.Reach.{AreReachable, members_in}
-use Rattle.policy.specs.declared.rule.Rule.{Rule}
 use Rattle.policy.specs.declared.refused.Refused.{Refused}
+use Rattle.policy.specs.Terms.{Terms}
 use Rattle.policy.specs.Rule.{IsFirstBan, BreaksRule}
 
 -- the rule is about the code at an address
-abbrev pub IsAbout : Rule → ℕ → Type 0
-IsAbout rule pc = IsInOne rule.code.items pc
+abbrev pub IsAbout : Terms → ℕ → Type 0
+IsAbout rule pc = IsInOne rule.code pc
 
 -- nothing that is reachable breaks the rule
-abbrev pub Holds : Rule → State → Type 0
+abbrev pub Holds : Terms → State → Type 0
 Holds rule s = (v : CapValue) → IsReachable s v → BreaksRule rule v → ⊥
 
 -- each rule about the code holds
-abbrev pub HoldEach : List Rule → State → Type 0
-HoldEach rules s = (rule : Rule) → Contains rules rule → IsAbout rule (pc_of s) → Holds rule s
+abbrev pub HoldEach : List Terms → State → Type 0
+HoldEach rules s = (rule : Terms) → Contains rules rule → IsAbout rule (pc_of s) → Holds rule s
 
 -- ---- an event
 
 -- What an event leaves as it is by a rule: the bytes of RAM outside the ranges for stores, and the tags of granules that lie outside
 -- them; and, as the rule says no to each, nothing is sent, the machine is not halted, the timer's interrupt is not set, and the system
 -- registers stay unless the event traps.
-pub record LeavesBy (rule : Rule) (e : Event) (s : State) : Type 0 where
+pub record LeavesBy (rule : Terms) (e : Event) (s : State) : Type 0 where
   pub bytes :
-      (a : ℕ) → ram_base ≤ a → (IsInOne rule.store.items a → ⊥)
+      (a : ℕ) → ram_base ≤ a → (IsInOne rule.store a → ⊥)
       → slice_index (after e s).memory.bytes (a - ram_base) ≡ slice_index s.memory.bytes (a - ram_base)
   pub tags :
-      (granule : ℕ) → ram_base ≤ granule → ((a : ℕ) → granule ≤ a → a < granule + 16 → IsInOne rule.store.items a → ⊥)
+      (granule : ℕ) → ram_base ≤ granule → ((a : ℕ) → granule ≤ a → a < granule + 16 → IsInOne rule.store a → ⊥)
       → has_tag (after e s).memory granule ≡ has_tag s.memory granule
   pub silent : rule.transmit ≡ false → sent e s ≡ None
   pub halt : rule.halt ≡ false → (after e s).devices.halted ≡ s.devices.halted
@@ -52,7 +51,7 @@ pub record LeavesBy (rule : Rule) (e : Event) (s : State) : Type 0 where
       outcome e s ≢ Trap → rule.system ≡ false → SameScrs s.scrs (after e s).scrs × SameCsrs s.csrs (after e s).csrs
 
 -- The states differ in bytes of RAM outside the rule's ranges for loads and fetches, and in nothing else.
-pub record DiffersOutside (rule : Rule) (s t : State) : Type 0 where
+pub record DiffersOutside (rule : Terms) (s t : State) : Type 0 where
   pub registers : t.registers ≡ s.registers
   pub scrs : t.scrs ≡ s.scrs
   pub csrs : t.csrs ≡ s.csrs
@@ -60,45 +59,32 @@ pub record DiffersOutside (rule : Rule) (s t : State) : Type 0 where
   pub ram : length t.memory.bytes ≡ length s.memory.bytes
   pub tags : (granule : ℕ) → has_tag t.memory granule ≡ has_tag s.memory granule
   pub inside :
-      (a : ℕ) → ram_base ≤ a → IsInOne rule.load.items a ⊎ IsInOne rule.execute.items a
+      (a : ℕ) → ram_base ≤ a → IsInOne rule.load a ⊎ IsInOne rule.execute a
       → slice_index t.memory.bytes (a - ram_base) ≡ slice_index s.memory.bytes (a - ram_base)
 
 -- What code learns at an event by a rule: from each state that differs outside alone the event comes to the same and sends the same, and
 -- the states after it differ outside alone; after a plain event they agree in all that code can look at.
-pub record LearnsBy (rule : Rule) (e : Event) (s : State) : Type 0 where
+pub record LearnsBy (rule : Terms) (e : Event) (s : State) : Type 0 where
   pub comes_to : (t : State) → DiffersOutside rule s t → outcome e t ≡ outcome e s
   pub sends : (t : State) → DiffersOutside rule s t → sent e t ≡ sent e s
   pub differ : (t : State) → DiffersOutside rule s t → DiffersOutside rule (after e s) (after e t)
   pub agree : (t : State) → DiffersOutside rule s t → outcome e s ≡ Plain → Agree (after e s) (after e t)
 
 -- the event keeps to a rule, which nothing breaks that is reachable before it
-pub record KeepsTo (rule : Rule) (e : Event) (s : State) : Type 0 where
+pub record KeepsTo (rule : Terms) (e : Event) (s : State) : Type 0 where
   pub holds : Holds rule s
   pub leaves : LeavesBy rule e s
   pub learns : LearnsBy rule e s
 
 -- it keeps to each rule about the code
-abbrev pub KeepsToEach : List Rule → Event → State → Type 0
-KeepsToEach rules e s = (rule : Rule) → Contains rules rule → IsAbout rule (pc_of s) → KeepsTo rule e s
-
--- each of the first events of a run does
-abbrev pub KeepToEach : List Rule → List Event → ℕ → State → Type 0
-KeepToEach rules events done s =
-    (k : ℕ) → k < done → HoldsAt (λ e. KeepsToEach rules e (run_after (take k events) s)) events k
-
--- the rule is about the code before each of them
-abbrev pub IsAboutEach : Rule → List Event → ℕ → State → Type 0
-IsAboutEach rule events done s = (k : ℕ) → k < done → IsAbout rule (pc_of (run_after (take k events) s))
-
--- none of them traps
-abbrev pub NoneTraps : List Event → ℕ → State → Type 0
-NoneTraps events done s = (k : ℕ) → k < done → HoldsAt (λ e. outcome e (run_after (take k events) s) ≢ Trap) events k
+abbrev pub KeepsToEach : List Terms → Event → State → Type 0
+KeepsToEach rules e s = (rule : Terms) → Contains rules rule → IsAbout rule (pc_of s) → KeepsTo rule e s
 
 -- ---- a refusal
 
 -- Of some values the first rule that is about code at an address and that one of them breaks; the first that does, and the first part
 -- that it breaks.
-pub record IsFirstRefused (rules : List Rule) (pc : ℕ) (vs : List CapValue) (x : Refused) : Type 0 where
+pub record IsFirstRefused (rules : List Terms) (pc : ℕ) (vs : List CapValue) (x : Refused) : Type 0 where
   pub inside : x.rule < length rules
   pub about : HoldsAt (λ rule. IsAbout rule pc) rules x.rule
   pub member : HoldsAt (λ rule. IsFirst (BreaksRule rule) vs x.member) rules x.rule
@@ -110,20 +96,6 @@ abbrev pub values_in : State → List CapValue
 values_in s = map (λ x. x.value) (members_in s)
 
 -- the same of a state: of its code, and of all that is reachable in it
-pub record IsRefused (rules : List Rule) (x : Refused) (s : State) : Type 0 where
+pub record IsRefused (rules : List Terms) (x : Refused) (s : State) : Type 0 where
   pub reachable : AreReachable s (values_in s)
   pub first : IsFirstRefused rules (pc_of s) (values_in s) x
-
--- ---- a run
-
--- a run over the first `done` of some events, with the bytes that it sends
-pub record IsRunOf (events : List Event) (done : ℕ) (s later : State) (out out_later : List ℕ) : Type 0 where
-  pub some : done ≤ length events
-  pub state : later ≡ run_after (take done events) s
-  pub bytes : out_later ≡ out ++ run_sent (take done events) s
-
--- it stands after some of the events
-pub record StandsMidway (rules : List Rule) (events : List Event) (s later : State) (out out_later : List ℕ) : Type 0 where
-  pub done : ℕ
-  pub run : IsRunOf events done s later out out_later
-  pub kept : KeepToEach rules events done s

@@ -1,9 +1,10 @@
 //! The first member that breaks a rule.
-ghost use Rattle.std.specs.Prelude.{◌≡◌, ◌↔◌, ℕ, true, List, Contains, MatchOption, IfNone, IfSome, IsTrue};
+ghost use Rattle.std.specs.Prelude.{◌≡◌, ◌↔◌, ℕ, true, List, Contains, MatchOption, option_map, IfNone, IfSome, IsTrue};
 ghost use Rattle.std.specs.List.{HoldsAt};
 ghost use Rattle.cap_rights.specs.Rights.{OpensSystem, OpensStore};
 ghost use Rattle.reached.specs.Links.{values};
 ghost use Rattle.reach.specs.First.{IsFirst, HoldsOfNone};
+ghost use Rattle.policy.specs.Terms.{terms};
 ghost use Rattle.policy.specs.Rule.{Lets, OpensOutside, OpensSealing, IsSealedBeyond, Breaks, IsFirstBan, BreaksRule};
 
 use crate::cover::covers;
@@ -61,7 +62,7 @@ fn is_sealed_beyond<C: CapRep>(c: C, types: &[u64]) -> bool
 
 /// Whether it is so, where not any object type may be.
 fn breaks_types<C: CapRep>(c: C, types: &Option<Vec<u64>>) -> bool
-    ensures { IsTrue result ↔ MatchOption types.now ⊥ (λ types. IsSealedBeyond types.items (C.value c)) }
+    ensures { IsTrue result ↔ MatchOption (option_map (λ types. types.items) types.now) ⊥ (λ types. IsSealedBeyond types (C.value c)) }
 {
     match types {
         Some(types) => is_sealed_beyond(c, types),
@@ -71,7 +72,7 @@ fn breaks_types<C: CapRep>(c: C, types: &Option<Vec<u64>>) -> bool
 
 /// Whether a capability breaks a part of the rule.
 pub fn breaks<C: CapRep>(c: C, rule: &Rule, ban: Ban) -> bool
-    ensures { IsTrue result ↔ Breaks rule.now ban (C.value c) }
+    ensures { IsTrue result ↔ Breaks (terms rule.now) ban (C.value c) }
 {
     match ban {
         Ban::Store => opens_outside(c, Permission::Store, &rule.store),
@@ -101,8 +102,8 @@ const BANS: [Ban; 9] = [
 
 /// The first part of the rule that a capability breaks.
 fn first_ban<C: CapRep>(c: C, rule: &Rule) -> Option<Ban>
-    ensures some { IfSome result (IsFirstBan rule.now (C.value c)) }
-    ensures none { IfNone result (BreaksRule rule.now (C.value c) → ⊥) }
+    ensures some { IfSome result (IsFirstBan (terms rule.now) (C.value c)) }
+    ensures none { IfNone result (BreaksRule (terms rule.now) (C.value c) → ⊥) }
 {
     for ban in BANS {
         if breaks(c, rule, ban) {
@@ -114,16 +115,16 @@ fn first_ban<C: CapRep>(c: C, rule: &Rule) -> Option<Ban>
 
 /// Whether a capability breaks the rule.
 pub(crate) fn breaks_rule<C: CapRep>(c: C, rule: &Rule) -> bool
-    ensures { IsTrue result ↔ BreaksRule rule.now (C.value c) }
+    ensures { IsTrue result ↔ BreaksRule (terms rule.now) (C.value c) }
 {
     first_ban(c, rule).is_some()
 }
 
 /// The first member that breaks the rule, and the first part of it that it breaks; `None` where no member breaks it.
 pub fn first_breach<C: CapRep>(reach: &Reach<C>, rule: &Rule) -> Option<(usize, Ban)>
-    ensures some { IfSome result (λ found. IsFirst (BreaksRule rule.now) (values C.value reach.now) found.0) }
-    ensures ban { IfSome result (λ found. HoldsAt (λ v. IsFirstBan rule.now v found.1) (values C.value reach.now) found.0) }
-    ensures none { IfNone result (HoldsOfNone (BreaksRule rule.now) (values C.value reach.now)) }
+    ensures some { IfSome result (λ found. IsFirst (BreaksRule (terms rule.now)) (values C.value reach.now) found.0) }
+    ensures ban { IfSome result (λ found. HoldsAt (λ v. IsFirstBan (terms rule.now) v found.1) (values C.value reach.now) found.0) }
+    ensures none { IfNone result (HoldsOfNone (BreaksRule (terms rule.now)) (values C.value reach.now)) }
 {
     for (place, member) in reach.members().iter().enumerate() {
         if let Some(ban) = first_ban(member.cap, rule) {

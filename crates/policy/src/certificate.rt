@@ -8,6 +8,7 @@ ghost use Rattle.hart.specs.IsState.{IsState};
 ghost use Rattle.hart.specs.State.{HoldsCapabilities};
 ghost use Rattle.authority.specs.Reachable.{IsHeldAt};
 ghost use Rattle.reach.specs.Ranges.{IsIn, IsInOne};
+ghost use Rattle.policy.specs.Terms.{terms, terms_of};
 ghost use Rattle.policy.specs.Rule.{BreaksRule};
 ghost use Rattle.policy.specs.Watch.{Holds};
 ghost use Rattle.policy.specs.Known.{IsCertified, RootsKeep, SpecialsKeep, KeepsCertificate, KeepsThose};
@@ -23,7 +24,7 @@ use tagged_memory::Memory;
 
 /// Whether a value keeps a rule: what has no tag does.
 fn keeps<C: CapRep>(value: C, rule: &Rule) -> bool
-    ensures { IsTrue result → is_tagged (C.value value) ≡ true → BreaksRule rule.now (C.value value) → ⊥ }
+    ensures { IsTrue result → is_tagged (C.value value) ≡ true → BreaksRule (terms rule.now) (C.value value) → ⊥ }
 {
     !value.tag() || !breaks_rule(value, rule)
 }
@@ -32,7 +33,7 @@ fn keeps<C: CapRep>(value: C, rule: &Rule) -> bool
 fn granule_keeps<C: CapRep>(memory: &Memory, address: u64, rule: &Rule) -> bool
     requires capabilities { HoldsCapabilities memory.now }
     requires tagged { has_tag memory.now address ≡ true }
-    ensures { IsTrue result → (v : CapValue) → IsHeldAt memory.now address v → BreaksRule rule.now v → ⊥ }
+    ensures { IsTrue result → (v : CapValue) → IsHeldAt memory.now address v → BreaksRule (terms rule.now) v → ⊥ }
 {
     memory.is_sound();
     let (word, tag) = memory.load_cap(address);
@@ -43,7 +44,7 @@ fn granule_keeps<C: CapRep>(memory: &Memory, address: u64, rule: &Rule) -> bool
 fn range_keeps<C: CapRep>(memory: &Memory, range: &Range, rule: &Rule) -> bool
     requires { HoldsCapabilities memory.now }
     ensures { IsTrue result → (granule : ℕ) (v : CapValue) → IsIn range.now granule → IsHeldAt memory.now granule v
-        → BreaksRule rule.now v → ⊥ }
+        → BreaksRule (terms rule.now) v → ⊥ }
 {
     memory.is_sound();
     let end = range.to.min(u128::from(u64::MAX)) as u64;
@@ -58,7 +59,7 @@ fn range_keeps<C: CapRep>(memory: &Memory, range: &Range, rule: &Rule) -> bool
 /// Whether a rule has its certificate over a memory.
 fn certifies<C: CapRep>(memory: &Memory, rule: &Rule) -> bool
     requires { HoldsCapabilities memory.now }
-    ensures { IsTrue result → IsCertified rule.now memory.now }
+    ensures { IsTrue result → IsCertified (terms rule.now) memory.now }
 {
     for range in &rule.load {
         if !range_keeps::<C>(memory, range, rule) {
@@ -71,7 +72,7 @@ fn certifies<C: CapRep>(memory: &Memory, rule: &Rule) -> bool
 /// Whether the general registers keep a rule.
 fn registers_keep<C: CapRep>(hart: &Hart<C>, rule: &Rule) -> bool
     ensures { IsTrue result → (n : ℕ) → n < 32 → is_tagged (register hart.now.registers n) ≡ true
-        → BreaksRule rule.now (register hart.now.registers n) → ⊥ }
+        → BreaksRule (terms rule.now) (register hart.now.registers n) → ⊥ }
 {
     for n in 0..32u8 {
         if !keeps(hart.reg(n), rule) {
@@ -83,7 +84,7 @@ fn registers_keep<C: CapRep>(hart: &Hart<C>, rule: &Rule) -> bool
 
 /// Whether the general registers, PCC and DDC keep it.
 fn roots_keep<C: CapRep>(hart: &Hart<C>, rule: &Rule) -> bool
-    ensures { IsTrue result → RootsKeep rule.now hart.now }
+    ensures { IsTrue result → RootsKeep (terms rule.now) hart.now }
 {
     let scrs = hart.scrs();
     keeps(scrs.pcc(), rule) && keeps(scrs.ddc(), rule) && registers_keep(hart, rule)
@@ -91,7 +92,7 @@ fn roots_keep<C: CapRep>(hart: &Hart<C>, rule: &Rule) -> bool
 
 /// Whether the special registers keep it, if it lets code use them.
 fn specials_keep<C: CapRep>(hart: &Hart<C>, rule: &Rule) -> bool
-    ensures { IsTrue result → SpecialsKeep rule.now hart.now }
+    ensures { IsTrue result → SpecialsKeep (terms rule.now) hart.now }
 {
     let scrs = hart.scrs();
     !rule.system
@@ -103,25 +104,25 @@ fn specials_keep<C: CapRep>(hart: &Hart<C>, rule: &Rule) -> bool
 
 /// Whether what code begins with keeps it: all those registers.
 fn start_keeps<C: CapRep>(hart: &Hart<C>, rule: &Rule) -> bool
-    ensures roots { IsTrue result → RootsKeep rule.now hart.now }
-    ensures specials { IsTrue result → SpecialsKeep rule.now hart.now }
+    ensures roots { IsTrue result → RootsKeep (terms rule.now) hart.now }
+    ensures specials { IsTrue result → SpecialsKeep (terms rule.now) hart.now }
 {
     roots_keep(hart, rule) && specials_keep(hart, rule)
 }
 
 /// Whether a rule has a certificate, perhaps already.
 fn has_certificate<C: CapRep>(hart: &Hart<C>, rule: &Rule, certified: bool) -> bool
-    requires { certified ≡ true → IsCertified rule.now hart.now.memory }
-    ensures { IsTrue result → IsCertified rule.now hart.now.memory }
+    requires { certified ≡ true → IsCertified (terms rule.now) hart.now.memory }
+    ensures { IsTrue result → IsCertified (terms rule.now) hart.now.memory }
 {
     certified || certifies::<C>(hart.memory(), rule)
 }
 
 /// Whether a rule holds by a certificate, which it may have already.
 pub(crate) fn is_certain<C: CapRep>(hart: &Hart<C>, rule: &Rule, certified: bool) -> bool
-    requires { certified ≡ true → IsCertified rule.now hart.now.memory }
-    ensures certified { IsTrue result → IsCertified rule.now hart.now.memory }
-    ensures holds { IsTrue result → Holds rule.now hart.now }
+    requires { certified ≡ true → IsCertified (terms rule.now) hart.now.memory }
+    ensures certified { IsTrue result → IsCertified (terms rule.now) hart.now.memory }
+    ensures holds { IsTrue result → Holds (terms rule.now) hart.now }
 {
     hart.is_state();
     start_keeps(hart, rule) && has_certificate(hart, rule, certified)
@@ -129,7 +130,7 @@ pub(crate) fn is_certain<C: CapRep>(hart: &Hart<C>, rule: &Rule, certified: bool
 
 /// Whether a store of a capability keeps the certificate of a rule.
 fn store_keeps<C: CapRep>(store: &StoreCapability<C>, rule: &Rule) -> bool
-    ensures { IsTrue result → KeepsCertificate (meant C.value (effect.StoreCapability store.now)) rule.now }
+    ensures { IsTrue result → KeepsCertificate (meant C.value (effect.StoreCapability store.now)) (terms rule.now) }
 {
     keeps(store.value, rule) || !holds(&rule.load, u128::from(store.address))
 }
@@ -137,10 +138,20 @@ fn store_keeps<C: CapRep>(store: &StoreCapability<C>, rule: &Rule) -> bool
 /// Takes the certificates that a store of a capability doesn't keep.
 fn take_certificates<C: CapRep>(certified: &mut [bool], store: &StoreCapability<C>, rules: &[Rule])
     requires { length certified.old ≡ length rules.now }
-    ensures { KeepsThose rules.now certified.old certified.new (meant C.value (effect.StoreCapability store.now)) }
+    ensures { KeepsThose (terms_of rules.now) certified.old certified.new (meant C.value (effect.StoreCapability store.now)) }
 {
     for (place, rule) in rules.iter().enumerate() {
         certified[place] = certified[place] && store_keeps(store, rule);
+    }
+}
+
+/// Takes every certificate, where the rules changed.
+pub(crate) fn take_all(certified: &mut [bool], changed: bool)
+    ensures { (k : ℕ) → slice_index_or certified.new k false ≡ true
+        → (changed ≡ false) × (slice_index_or certified.old k false ≡ true) }
+{
+    if changed {
+        certified.fill(false);
     }
 }
 
@@ -151,7 +162,7 @@ pub(crate) fn keep_certificates<C: CapRep>(
     rules: &[Rule],
 )
     requires { length certified.old ≡ length rules.now }
-    ensures { KeepsThose rules.now certified.old certified.new (meant C.value effect.now) }
+    ensures { KeepsThose (terms_of rules.now) certified.old certified.new (meant C.value effect.now) }
 {
     match effect {
         Effect::StoreCapability(store) => take_certificates(certified, store, rules),

@@ -1,45 +1,56 @@
 //! What a policy means for whole runs: the contract is a law over the definitions alone, and the body is empty.
-ghost use Rattle.std.specs.Prelude.{◌≡◌, ℕ, ◌+◌, ◌-◌, ◌<◌, ◌≤◌, false, List, [], length, take, Contains, slice_index};
+ghost use Rattle.std.specs.Prelude.{◌≡◌, ◌↔◌, true, ℕ, ◌+◌, ◌-◌, ◌<◌, ◌≤◌, false, List, [], length, take, Contains, slice_index};
 ghost use Rattle.base.specs.Ram.{ram_base};
+ghost use Rattle.cap_bounds.specs.CapValue.{CapValue};
 ghost use Rattle.tagged_memory.specs.Memory.{has_tag};
 ghost use Rattle.hart.specs.declared.event.Event.{Event};
 ghost use Rattle.hart.specs.State.{State};
 ghost use Rattle.authority.specs.Authority.{SameScrs, SameCsrs};
 ghost use Rattle.machine.specs.Run.{run_after, run_sent};
 ghost use Rattle.reach.specs.Ranges.{IsInOne};
-ghost use Rattle.policy.specs.declared.rule.Rule.{Rule};
-ghost use Rattle.policy.specs.Watch.{KeepToEach, IsAboutEach, NoneTraps, DiffersOutside};
+ghost use Rattle.policy.specs.Terms.{Terms};
+ghost use Rattle.policy.specs.declared.rule.Ban.{Ban};
+ghost use Rattle.policy.specs.Rule.{Breaks};
+ghost use Rattle.policy.specs.Tests.{breaks, is_about};
+ghost use Rattle.policy.specs.Watch.{DiffersOutside, IsAbout};
+ghost use Rattle.policy.specs.Run.{KeepToEach, IsAboutEach, NoneTraps};
 
 /// Over the events of a watched run that a rule is about, traps, unsealings and sealed jumps among them: the bytes and tags of RAM outside
 /// its ranges for stores stay; nothing is sent, the machine is not halted and the timer's interrupt is not set where it says no, and
 /// without a trap the system registers stay; and from a state that differs only outside its ranges for loads and fetches the same bytes
 /// are sent, and the state at the end differs only there.
 pub fn runs_keep_to_a_rule()
-    ensures bytes { (rules : List Rule) (rule : Rule) (events : List Event) (done : ℕ) (s : State) → done ≤ length events
+    ensures bytes { (rules : List Terms) (rule : Terms) (events : List Event) (done : ℕ) (s : State) → done ≤ length events
         → KeepToEach rules events done s → Contains rules rule → IsAboutEach rule events done s → (a : ℕ) → ram_base ≤ a
-        → (IsInOne rule.store.items a → ⊥)
+        → (IsInOne rule.store a → ⊥)
         → slice_index (run_after (take done events) s).memory.bytes (a - ram_base) ≡ slice_index s.memory.bytes (a - ram_base) }
-    ensures tags { (rules : List Rule) (rule : Rule) (events : List Event) (done : ℕ) (s : State) → done ≤ length events
+    ensures tags { (rules : List Terms) (rule : Terms) (events : List Event) (done : ℕ) (s : State) → done ≤ length events
         → KeepToEach rules events done s → Contains rules rule → IsAboutEach rule events done s → (granule : ℕ) → ram_base ≤ granule
-        → ((a : ℕ) → granule ≤ a → a < granule + 16 → IsInOne rule.store.items a → ⊥)
+        → ((a : ℕ) → granule ≤ a → a < granule + 16 → IsInOne rule.store a → ⊥)
         → has_tag (run_after (take done events) s).memory granule ≡ has_tag s.memory granule }
-    ensures silent { (rules : List Rule) (rule : Rule) (events : List Event) (done : ℕ) (s : State) → done ≤ length events
+    ensures silent { (rules : List Terms) (rule : Terms) (events : List Event) (done : ℕ) (s : State) → done ≤ length events
         → KeepToEach rules events done s → Contains rules rule → IsAboutEach rule events done s → rule.transmit ≡ false
         → run_sent (take done events) s ≡ [] }
-    ensures halt { (rules : List Rule) (rule : Rule) (events : List Event) (done : ℕ) (s : State) → done ≤ length events
+    ensures halt { (rules : List Terms) (rule : Terms) (events : List Event) (done : ℕ) (s : State) → done ≤ length events
         → KeepToEach rules events done s → Contains rules rule → IsAboutEach rule events done s → rule.halt ≡ false
         → (run_after (take done events) s).devices.halted ≡ s.devices.halted }
-    ensures timer { (rules : List Rule) (rule : Rule) (events : List Event) (done : ℕ) (s : State) → done ≤ length events
+    ensures timer { (rules : List Terms) (rule : Terms) (events : List Event) (done : ℕ) (s : State) → done ≤ length events
         → KeepToEach rules events done s → Contains rules rule → IsAboutEach rule events done s → rule.timer ≡ false
         → (run_after (take done events) s).devices.mtimecmp ≡ s.devices.mtimecmp }
-    ensures system { (rules : List Rule) (rule : Rule) (events : List Event) (done : ℕ) (s : State) → done ≤ length events
+    ensures system { (rules : List Terms) (rule : Terms) (events : List Event) (done : ℕ) (s : State) → done ≤ length events
         → KeepToEach rules events done s → Contains rules rule → IsAboutEach rule events done s → rule.system ≡ false
         → NoneTraps events done s
         → SameScrs s.scrs (run_after (take done events) s).scrs × SameCsrs s.csrs (run_after (take done events) s).csrs }
-    ensures same_bytes { (rules : List Rule) (rule : Rule) (events : List Event) (done : ℕ) (s t : State) → done ≤ length events
+    ensures same_bytes { (rules : List Terms) (rule : Terms) (events : List Event) (done : ℕ) (s t : State) → done ≤ length events
         → KeepToEach rules events done s → Contains rules rule → IsAboutEach rule events done s → DiffersOutside rule s t
         → run_sent (take done events) t ≡ run_sent (take done events) s }
-    ensures same_state { (rules : List Rule) (rule : Rule) (events : List Event) (done : ℕ) (s t : State) → done ≤ length events
+    ensures same_state { (rules : List Terms) (rule : Terms) (events : List Event) (done : ℕ) (s t : State) → done ≤ length events
         → KeepToEach rules events done s → Contains rules rule → IsAboutEach rule events done s → DiffersOutside rule s t
         → DiffersOutside rule (run_after (take done events) s) (run_after (take done events) t) }
+{}
+
+/// The tests for a capability that breaks a part of a rule, and for a rule about the code at an address, are what policies mean by it.
+pub fn tests_mean_what_policies_say()
+    ensures breaks { (rule : Terms) (ban : Ban) (c : CapValue) → (breaks rule ban c ≡ true) ↔ Breaks rule ban c }
+    ensures about { (rule : Terms) (pc : ℕ) → (is_about rule pc ≡ true) ↔ IsAbout rule pc }
 {}

@@ -5,6 +5,7 @@ ghost use Rattle.hart.specs.declared.event.Event.TheVariants.{Step};
 ghost use Rattle.hart.specs.Event.{after, outcome, sent};
 ghost use Rattle.hart.specs.IsState.{IsState};
 ghost use Rattle.hart.specs.Outcome.{Plain, outcome_of, step_outcome};
+ghost use Rattle.policy.specs.Terms.{terms_of};
 ghost use Rattle.policy.specs.Known.{AreCertified};
 
 use crate::certificate::keep_certificates;
@@ -48,8 +49,8 @@ fn is_plain_step<C: CapRep>(machine: &Machine<C>, planned: &Planned<C>) -> bool
 /// Does a step, which is planned once, and takes the certificates that it doesn't keep.
 fn meet_step<C: CapRep>(machine: &mut Machine<C>, rules: &[Rule], certified: &mut [bool]) -> Met
     requires count { length certified.old ≡ length rules.now }
-    requires certified { AreCertified rules.now certified.old machine.old.memory }
-    ensures certified { AreCertified rules.now certified.new machine.new.memory }
+    requires certified { AreCertified (terms_of rules.now) certified.old machine.old.memory }
+    ensures certified { AreCertified (terms_of rules.now) certified.new machine.new.memory }
     ensures state { machine.new ≡ after Step machine.old }
     ensures byte { result.byte ≡ sent Step machine.old }
     ensures plain { IsTrue result.plain → step_outcome machine.old ≡ Plain }
@@ -73,8 +74,8 @@ pub(crate) fn meet<C: CapRep>(
     certified: &mut [bool],
 ) -> Met
     requires count { length certified.old ≡ length rules.now }
-    requires certified { AreCertified rules.now certified.old machine.old.memory }
-    ensures certified { AreCertified rules.now certified.new machine.new.memory }
+    requires certified { AreCertified (terms_of rules.now) certified.old machine.old.memory }
+    ensures certified { AreCertified (terms_of rules.now) certified.new machine.new.memory }
     ensures state { machine.new ≡ after event machine.old }
     ensures byte { result.byte ≡ sent event machine.old }
     ensures plain { IsTrue result.plain → outcome event machine.old ≡ Plain }

@@ -2,7 +2,7 @@
 ghost use Rattle.std.specs.Prelude.{Contains, IfNone, IfSome};
 ghost use Rattle.reached.specs.Links.{values};
 ghost use Rattle.reach.specs.First.{HoldsOfNone};
-ghost use Rattle.policy.specs.declared.rule.Rule.{Rule};
+ghost use Rattle.policy.specs.Terms.{Terms, terms_of};
 ghost use Rattle.policy.specs.Rule.{BreaksRule};
 ghost use Rattle.policy.specs.Watch.{IsAbout, IsFirstRefused};
 
@@ -25,8 +25,8 @@ pub struct Refused {
 
 /// The first rule about the code at an address that a member breaks, with the member and the part.
 pub(crate) fn first_refused<C: CapRep>(reach: &Reach<C>, rules: &[Rule], pc: u64) -> Option<Refused>
-    ensures some { IfSome result (IsFirstRefused rules.now pc (values C.value reach.now)) }
-    ensures none { IfNone result ((rule : Rule) → Contains rules.now rule → IsAbout rule pc
+    ensures some { IfSome result (IsFirstRefused (terms_of rules.now) pc (values C.value reach.now)) }
+    ensures none { IfNone result ((rule : Terms) → Contains (terms_of rules.now) rule → IsAbout rule pc
         → HoldsOfNone (BreaksRule rule) (values C.value reach.now)) }
 {
     for (place, rule) in rules.iter().enumerate() {

@@ -26,6 +26,8 @@ pub struct Rule {
     pub seal: bool,
     /// The object types that sealed capabilities may have that it can come to hold, where not any may be; a sentry has no type of its own.
     pub types: Option<Vec<u64>>,
+    /// Whether what the caller of the code could reach is allowed too.
+    pub or_caller: bool,
 }
 
 /// A part of a rule.

@@ -1,7 +1,10 @@
 //! Runs that are watched: before each event the rules about the code are looked at, unless they are known to hold.
 ghost use Rattle.std.specs.Prelude.{◌≡◌, ◌≤◌, ◌++◌, None, length, take, IfOk, IfSome, OnErr};
 ghost use Rattle.machine.specs.Run.{run_after, run_sent};
-ghost use Rattle.policy.specs.Watch.{KeepToEach, IsRefused, StandsMidway};
+ghost use Rattle.policy.specs.Terms.{terms_of};
+ghost use Rattle.policy.specs.Watch.{IsRefused};
+ghost use Rattle.policy.specs.Lending.{in_force};
+ghost use Rattle.policy.specs.Run.{KeepToEach, StandsMidway};
 
 use crate::fault::PolicyFault;
 use crate::refused::Refused;
@@ -26,6 +29,8 @@ pub struct Watched {
 /// and fetches makes no difference at it. A rule is looked at before an event, unless it was about the code before the last one too, that
 /// one was plain, and new seals can't break it: then it still holds. `Watcher` says when a look is a search.
 ///
+/// A rule that allows what its caller could reach is in force with that from the call on.
+///
 /// Room for one byte an event is made before the first event. `NoMemory`: there is none for that, or for a search of what is reachable;
 /// then the machine and `out` stand after the events that were met so far, of which the same is true.
 pub fn run_watched<C: CapRep>(
@@ -39,9 +44,10 @@ pub fn run_watched<C: CapRep>(
     ensures bytes { IfOk result (λ r. out.new.items ≡ out.old.items ++ run_sent (take r.done events.now) machine.old) }
     ensures some { IfOk result (λ r. r.done ≤ length events.now) }
     ensures whole { IfOk result (λ r. r.refused ≡ None → r.done ≡ length events.now) }
-    ensures refused { IfOk result (λ r. IfSome r.refused (λ x. IsRefused rules.now x machine.new)) }
-    ensures kept { IfOk result (λ r. KeepToEach rules.now events.now r.done machine.old) }
-    ensures midway { OnErr result (StandsMidway rules.now events.now machine.old machine.new out.old.items out.new.items) }
+    ensures refused { IfOk result (λ r. IfSome r.refused (λ x.
+        IsRefused (in_force (terms_of rules.now) (take r.done events.now) machine.old) x machine.new)) }
+    ensures kept { IfOk result (λ r. KeepToEach (terms_of rules.now) events.now r.done machine.old) }
+    ensures midway { OnErr result (StandsMidway (terms_of rules.now) events.now machine.old machine.new out.old.items out.new.items) }
 {
     out.reserve(events.len())?;
     let mut watcher = Watcher::new(alloc, rules)?;
@@ -51,7 +57,7 @@ pub fn run_watched<C: CapRep>(
             let refused = Some(refused);
             return Ok(Watched { done, refused });
         }
-        let byte = watcher.meet(machine, *event);
+        let byte = watcher.meet(alloc, machine, *event)?;
         emit(out, byte);
         done += 1;
     }

@@ -1,17 +1,21 @@
 //! Watchers: they tell which rule about the code refuses the next event, and remember what saves a search.
-ghost use Rattle.std.specs.Prelude.{◌≡◌, ℕ, ◌<◌, ◌≤◌, ◌⊎◌, None, [], replicate, length, Contains, IfNone, IfOk, IfSome, IsTrue};
+ghost use Rattle.std.specs.Bool.{then_some};
+ghost use Rattle.std.specs.Prelude.{◌≡◌, ◌&&◌, not, ℕ, ◌<◌, ◌≤◌, ◌⊎◌, None, [], replicate, length, Contains};
+ghost use Rattle.std.specs.Prelude.{IfNone, IfOk, IfSome, IsTrue, OnOk, OnErr};
 ghost use Rattle.hart.specs.declared.event.Event.TheVariants.{Step};
 ghost use Rattle.hart.specs.Event.{after, sent};
 ghost use Rattle.hart.specs.IsState.{IsState};
 ghost use Rattle.hart.specs.State.{State};
 ghost use Rattle.machine.specs.Run.{run_after, run_sent};
-ghost use Rattle.policy.specs.declared.rule.Rule.{Rule};
+ghost use Rattle.policy.specs.Terms.{Terms, terms_of};
 ghost use Rattle.policy.specs.Watch.{IsAbout, Holds, HoldEach, IsRefused};
-ghost use Rattle.policy.specs.Known.{WasAbout, AreCertified, Knows, rules_of};
+ghost use Rattle.policy.specs.Lending.{in_force_after, next_door};
+ghost use Rattle.policy.specs.Known.{WasAbout, AreCertified, Knows, rules_of, said_to};
 
 use crate::about::{is_about, was_about};
-use crate::certificate::is_certain;
+use crate::certificate::{is_certain, take_all};
 use crate::guard::{each_stays_away, guard_at, keep_out_of_reach};
+use crate::in_force::InForce;
 use crate::meet::meet;
 use crate::refused::{Refused, first_refused};
 use crate::rule::Rule;
@@ -30,7 +34,7 @@ use std::alloc::{AllocError, Global};
 #[derive(Debug, Drop)]
 pub struct Watcher<'r> {
     /// What it watches by.
-    rules: &'r [Rule],
+    force: InForce<'r>,
     /// An address: the lasting rules about the code there hold.
     known: Option<u64>,
     /// Which rules have certificates.
@@ -47,9 +51,10 @@ fn each_is_certain<C: CapRep>(
     certified: &mut [bool],
 ) -> bool
     requires count { length certified.old ≡ length rules.now }
-    requires certified { AreCertified rules.now certified.old hart.now.memory }
-    ensures certified { AreCertified rules.now certified.new hart.now.memory }
-    ensures holds { IsTrue result → (rule : Rule) → Contains rules.now rule → IsAbout rule pc → WasAbout known rule ⊎ Holds rule hart.now }
+    requires certified { AreCertified (terms_of rules.now) certified.old hart.now.memory }
+    ensures certified { AreCertified (terms_of rules.now) certified.new hart.now.memory }
+    ensures holds { IsTrue result → (rule : Terms) → Contains (terms_of rules.now) rule → IsAbout rule pc
+        → WasAbout known rule ⊎ Holds rule hart.now }
 {
     for (place, rule) in rules.iter().enumerate() {
         if !is_about(rule, pc) || was_about(rule, known) {
@@ -63,15 +68,24 @@ fn each_is_certain<C: CapRep>(
     true
 }
 
+/// The address of a step, where the rules before it are known to hold after it: it was plain, and none other is in force now.
+fn known_at(pc: u64, plain: bool, changed: bool) -> Option<u64>
+    ensures { result ≡ then_some (plain && not changed) pc }
+{
+    if plain && !changed { Some(pc) } else { None }
+}
+
 impl<'r> Watcher<'r> {
     /// A watcher by some rules that knows nothing yet, so that what it holds is true of every state. `AllocError` is out of memory.
     pub fn new(alloc: Global, rules: &'r [Rule]) -> Result<Self, AllocError>
-        ensures rules { IfOk result (λ w. rules_of w ≡ rules.now) }
+        ensures said { IfOk result (λ w. said_to w ≡ terms_of rules.now) }
+        ensures rules { IfOk result (λ w. rules_of w ≡ terms_of rules.now) }
         ensures knows { IfOk result (λ w. (s : State) → Knows w s) }
     {
+        let force = InForce::new(alloc, rules)?;
         let certified = vec![in alloc; false; rules.len()]?;
         Ok(Watcher {
-            rules,
+            force,
             known: None,
             certified,
         })
@@ -88,31 +102,43 @@ impl<'r> Watcher<'r> {
         ensures refused { IfOk result (λ r. IfSome r (λ x. IsRefused (rules_of self.old) x machine.now)) }
         ensures holds { IfOk result (λ r. IfNone r (HoldEach (rules_of self.old) machine.now)) }
         ensures rules { rules_of self.new ≡ rules_of self.old }
+        ensures said { said_to self.new ≡ said_to self.old }
         ensures knows { Knows self.new machine.now }
     {
         let hart = machine.hart();
         let pc = hart.scrs().pcc().address();
-        if each_is_certain(hart, self.rules, pc, self.known, &mut self.certified) {
+        let rules = self.force.rules();
+        if each_is_certain(hart, rules, pc, self.known, &mut self.certified) {
             return Ok(None);
         }
         let reach = Reach::of(alloc, hart)?;
-        Ok(first_refused(&reach, self.rules, pc))
+        Ok(first_refused(&reach, rules, pc))
     }
 
-    /// Meets an event, before which each rule about the code holds, and answers the byte that is sent.
-    pub fn meet<C: CapRep>(&mut self, machine: &mut Machine<C>, event: Event) -> Option<u8>
+    /// Meets an event, before which each rule about the code holds, and answers the byte that is sent. `AllocError`: there is no memory
+    /// for what the caller of a rule's code can reach; then nothing is changed.
+    pub fn meet<C: CapRep>(
+        &mut self,
+        alloc: Global,
+        machine: &mut Machine<C>,
+        event: Event,
+    ) -> Result<Option<u8>, AllocError>
         requires knows { Knows self.old machine.old }
         requires holds { HoldEach (rules_of self.old) machine.old }
-        ensures state { machine.new ≡ after event machine.old }
-        ensures byte { result ≡ sent event machine.old }
-        ensures rules { rules_of self.new ≡ rules_of self.old }
-        ensures knows { Knows self.new machine.new }
+        ensures state { OnOk result (machine.new ≡ after event machine.old) }
+        ensures byte { IfOk result (λ byte. byte ≡ sent event machine.old) }
+        ensures rules { OnOk result (rules_of self.new ≡ in_force_after (said_to self.old) (rules_of self.old) event machine.old) }
+        ensures same { OnErr result (machine.new ≡ machine.old) }
+        ensures said { said_to self.new ≡ said_to self.old }
+        ensures knows { OnOk result (Knows self.new machine.new) }
         ensures was_state { IsState machine.old }
     {
         let pc = machine.hart().scrs().pcc().address();
-        let met = meet(machine, event, self.rules, &mut self.certified);
-        self.known = met.plain.then_some(pc);
-        met.byte
+        let changed = self.force.pass(alloc, machine, event)?;
+        take_all(&mut self.certified, changed);
+        let met = meet(machine, event, self.force.rules(), &mut self.certified);
+        self.known = known_at(pc, met.plain, changed);
+        Ok(met.byte)
     }
 
     /// Does steps before which no rule needs a look, `most` at most and maybe none, and answers how many. They send nothing.
@@ -127,18 +153,21 @@ impl<'r> Watcher<'r> {
         ensures silent { run_sent (replicate result Step) machine.old ≡ [] }
         ensures running { (k : ℕ) → k < result → (run_after (replicate k Step) machine.old).devices.halted ≡ None }
         ensures holds { (k : ℕ) → k < result → HoldEach (rules_of self.old) (run_after (replicate k Step) machine.old) }
+        ensures uncalled { (k : ℕ) → k < result → next_door (run_after (replicate k Step) machine.old) ≡ None }
         ensures rules { rules_of self.new ≡ rules_of self.old }
+        ensures said { said_to self.new ≡ said_to self.old }
         ensures knows { Knows self.new machine.new }
         ensures was_state { IsState machine.old }
     {
         let pc = machine.hart().scrs().pcc().address();
-        let Some(guard) = guard_at(self.rules, pc) else {
+        let rules = self.force.rules();
+        let Some(guard) = guard_at(rules, pc) else {
             return 0;
         };
-        if !each_stays_away(self.rules, pc, guard) {
+        if !each_stays_away(rules, pc, guard) {
             return 0;
         }
-        keep_out_of_reach(&mut self.certified, self.rules, pc, guard);
+        keep_out_of_reach(&mut self.certified, rules, pc, guard);
         self.known = Some(pc);
         machine.advance_short_of(None, most)
     }

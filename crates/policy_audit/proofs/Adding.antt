@@ -5,10 +5,11 @@ use Rattle.std.proofs.lemmas.List.{append_assoc, append-nil, drop_more, drop_all
 use Rattle.std.specs.List.{flat_map}
 use Rattle.std.specs.Prelude.{OnOk, Ok, Err, true, false}
 use Rattle.cap_bounds.specs.CapValue.{CapValue}
-use Rattle.policy.specs.declared.rule.Rule.{Rule}
+use Rattle.policy.specs.Terms.{Terms}
 use Rattle.policy.specs.declared.rule.Ban.{Ban}
 use Rattle.policy_audit.specs.declared.finding.Finding.{Finding}
-use Rattle.policy_audit.specs.Found.{are_found, found_from, found_of, found_part, is_about, is_found, parts}
+use Rattle.policy_audit.specs.Found.{are_found, found_from, found_of, found_part, is_found, parts}
+use Rattle.policy.specs.Tests.{is_about}
 
 -- ---- lists
 
@@ -41,17 +42,17 @@ map_end f xs k past = ap (flat_map f) (drop_all k xs past)
 -- ---- rules
 
 module _ (seen : List Finding) (vs : List CapValue) (pc : ℕ) where
-  pub rules_next : (rules : List Rule) (k : ℕ) (d : Rule) → k < length rules
+  pub rules_next : (rules : List Terms) (k : ℕ) (d : Terms) → k < length rules
       → found_from seen vs pc k (drop k rules)
       ≡ found_of seen vs pc k (get_or rules k d) ++ found_from seen vs pc (k + 1) (drop (k + 1) rules)
   rules_next rules k d inside = ap (found_from seen vs pc k) (drop_more rules k d inside)
 
-  pub rules_end : (rules : List Rule) (k : ℕ) → length rules ≤ k → found_from seen vs pc k (drop k rules) ≡ []
+  pub rules_end : (rules : List Terms) (k : ℕ) → length rules ≤ k → found_from seen vs pc k (drop k rules) ≡ []
   rules_end rules k past = ap (found_from seen vs pc k) (drop_all k rules past)
 
 -- ---- where nothing is found
 
-no_parts : (seen : List Finding) (vs : List CapValue) (place : ℕ) (rule : Rule) (bans : List Ban) → are_found seen place bans ≡ true
+no_parts : (seen : List Finding) (vs : List CapValue) (place : ℕ) (rule : Terms) (bans : List Ban) → are_found seen place bans ≡ true
     → flat_map (found_part seen vs place rule) bans ≡ []
 unfolding found_part
 no_parts seen vs place rule [] all = refl
@@ -59,7 +60,7 @@ no_parts seen vs place rule (ban ∷ bans) all =
     let both = and_parts (is_found seen place ban) (are_found seen place bans) all in
     rw both.0 (no_parts seen vs place rule bans both.1)
 
-module _ (seen : List Finding) (pc place : ℕ) (rule : Rule) where
+module _ (seen : List Finding) (pc place : ℕ) (rule : Terms) where
   pub not_about : is_about rule pc ≡ false → (vs : List CapValue) → found_of seen vs pc place rule ≡ []
   unfolding found_of
   not_about other vs = rw other refl

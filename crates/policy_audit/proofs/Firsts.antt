@@ -1,21 +1,12 @@
 -- A search for the first member whose value passes.
-use Rattle.std.proofs.Common.{◌≡◌, ℕ, zero, suc, ◌+◌, ◌<◌, ◌≤◌, List, [], ◌∷◌, drop, length, refl, arith, ap, sym, ◌∙◌}
+use Rattle.std.proofs.Common.{◌≡◌, ℕ, ◌+◌, ◌<◌, ◌≤◌, List, drop, length, arith, ap, sym, ◌∙◌}
 use Rattle.std.proofs.lemmas.List.{drop_all, length-map}
 use Rattle.std.specs.Prelude.{slice_index_or, Some, None, Bool, true, false, if◌then◌else◌}
 use Rattle.cap_bounds.specs.CapValue.{CapValue}
 use Rattle.reached.specs.declared.member.Member.{Member}
 use Rattle.reached.specs.Links.{values}
+use Rattle.policy.proofs.Next.{drop_next}
 use Rattle.policy_audit.specs.Found.{first_from}
-
-one_more : (k : ℕ) → suc k + 1 ≡ suc (k + 1)
-one_more k = omega arith
-
--- the value of the next member
-pub drop_next : {X : Type 0} (value : X → CapValue) (ms : List (Member X)) (k : ℕ) (d : Member X) → k < length ms
-    → drop k (values value ms) ≡ value (slice_index_or ms k d).cap ∷ drop (k + 1) (values value ms)
-drop_next value [] k d h = absurd (omega arith)
-drop_next value (m ∷ ms) zero d h = refl
-drop_next value (m ∷ ms) (suc k) d h = rw (one_more k) (drop_next value ms k d (omega arith))
 
 module _ {X : Type 0} (value : X → CapValue) (passes : CapValue → Bool) where
   next : (ms : List (Member X)) (k : ℕ) (d : Member X) → k < length ms

@@ -1,9 +1,6 @@
 pub mod Adding
-pub mod Ascending
 pub mod Auditing
 pub mod Entering
 pub mod Firsts
 pub mod Looking
-pub mod Opening
 pub mod Telling
-pub mod Tests

@@ -11,11 +11,12 @@ use Rattle.reached.specs.Order.{seen_members}
 use Rattle.reached.specs.declared.member.Member.{Member}
 use Rattle.reach.proofs.Reaches.{values_seen}
 use Rattle.reach.specs.Reach.{members_in}
-use Rattle.policy.specs.declared.rule.Rule.{Rule}
+use Rattle.policy.specs.Terms.{Terms}
 use Rattle.policy.specs.declared.rule.Ban.{Ban}
 use Rattle.policy.specs.Watch.{values_in}
 use Rattle.policy_audit.specs.declared.finding.Finding.{Finding}
-use Rattle.policy_audit.specs.Found.{breaks, finding_of, first_from, found_at, found_from, found_of, found_part, is_about, is_found, parts}
+use Rattle.policy_audit.specs.Found.{finding_of, first_from, found_at, found_from, found_of, found_part, is_found, parts}
+use Rattle.policy.specs.Tests.{breaks, is_about}
 
 -- what is found in a state
 module _ {X : Type 0} (value : X → CapValue) (members : List (Member X)) (s h : State) (same_state : h ≡ s)
@@ -23,13 +24,13 @@ module _ {X : Type 0} (value : X → CapValue) (members : List (Member X)) (s h 
   pub values_are : values value members ≡ values_in s
   values_are = sym (values_seen value members) ∙ ap (map (λ x. x.value)) (are ∙ ap members_in same_state)
 
-  pub found_in_reach : (rules : List Rule) (seen : List Finding) (pc : ℕ) → pc ≡ pc_of s
+  pub found_in_reach : (rules : List Terms) (seen : List Finding) (pc : ℕ) → pc ≡ pc_of s
       → found_from seen (values value members) pc 0 rules ≡ found_at rules seen s
   found_in_reach rules seen pc at =
       ap (λ vs. found_from seen vs pc 0 rules) values_are ∙ ap (λ a. found_from seen (values_in s) a 0 rules) at
 
 -- what is added to nothing
-pub found_here : {X : Type 0} (value : X → CapValue) (rules : List Rule) (seen read : List Finding) (pc : ℕ) (empty found : List Finding)
+pub found_here : {X : Type 0} (value : X → CapValue) (rules : List Terms) (seen read : List Finding) (pc : ℕ) (empty found : List Finding)
     (members ms : List (Member X)) → read ≡ seen → empty ≡ [] → ms ≡ members
     → found ≡ empty ++ found_from read (values value ms) pc 0 rules → found ≡ found_from seen (values value members) pc 0 rules
 found_here value rules seen read pc empty found members ms same none are added =
@@ -59,7 +60,7 @@ finding-inside place ban passes vs (Some k) is =
     (All-nil (IsInside (length vs)))
 
 module _ (seen : List Finding) (vs : List CapValue) where
-  part-inside : (place : ℕ) (rule : Rule) (ban : Ban) → All (IsInside (length vs)) (found_part seen vs place rule ban)
+  part-inside : (place : ℕ) (rule : Terms) (ban : Ban) → All (IsInside (length vs)) (found_part seen vs place rule ban)
   unfolding found_part
   part-inside place rule ban = go (is_found seen place ban)
     where
@@ -67,13 +68,13 @@ module _ (seen : List Finding) (vs : List CapValue) where
       go true = All-nil (IsInside (length vs))
       go false = finding-inside place ban (breaks rule ban) vs (first_from (breaks rule ban) 0 vs) refl
 
-  parts-inside : (place : ℕ) (rule : Rule) (bans : List Ban) → All (IsInside (length vs)) (flat_map (found_part seen vs place rule) bans)
+  parts-inside : (place : ℕ) (rule : Terms) (bans : List Ban) → All (IsInside (length vs)) (flat_map (found_part seen vs place rule) bans)
   parts-inside place rule [] = All-nil (IsInside (length vs))
   parts-inside place rule (ban ∷ bans) =
       All-append (IsInside (length vs)) (found_part seen vs place rule ban) (flat_map (found_part seen vs place rule) bans)
       (part-inside place rule ban) (parts-inside place rule bans)
 
-  rule-inside : (pc place : ℕ) (rule : Rule) → All (IsInside (length vs)) (found_of seen vs pc place rule)
+  rule-inside : (pc place : ℕ) (rule : Terms) → All (IsInside (length vs)) (found_of seen vs pc place rule)
   unfolding found_of
   rule-inside pc place rule = go (is_about rule pc)
     where
@@ -81,13 +82,13 @@ module _ (seen : List Finding) (vs : List CapValue) where
       go true = parts-inside place rule parts
       go false = All-nil (IsInside (length vs))
 
-  all-inside : (pc place : ℕ) (rules : List Rule) → All (IsInside (length vs)) (found_from seen vs pc place rules)
+  all-inside : (pc place : ℕ) (rules : List Terms) → All (IsInside (length vs)) (found_from seen vs pc place rules)
   all-inside pc place [] = All-nil (IsInside (length vs))
   all-inside pc place (rule ∷ rules) =
       All-append (IsInside (length vs)) (found_of seen vs pc place rule) (found_from seen vs pc (place + 1) rules)
       (rule-inside pc place rule) (all-inside pc (place + 1) rules)
 
-pub found-inside : {X : Type 0} (value : X → CapValue) (members : List (Member X)) (seen : List Finding) (pc : ℕ) (rules : List Rule)
+pub found-inside : {X : Type 0} (value : X → CapValue) (members : List (Member X)) (seen : List Finding) (pc : ℕ) (rules : List Terms)
     (found : List Finding) → found ≡ found_from seen (values value members) pc 0 rules
     → All (λ finding. finding.member < length members) found
 found-inside value members seen pc rules found is =

@@ -2,9 +2,7 @@
 use Rattle.std.specs.Prelude.{ℕ, ◌-◌, ◌^◌, Bool, true, not, ◌&&◌, ◌||◌, ◌==◌, nat_lt, if◌then◌else◌, List, [], ◌∷◌, ◌++◌}
 use Rattle.std.specs.Prelude.{Option, Some, None, bytes_eq, codes, decimal}
 use Rattle.std.specs.List.{concat, flat_map, list_any}
-use Rattle.base.specs.declared.otype.TheConstants.{FIRST_RESERVED}
-use Rattle.base.specs.ObjectType.{is_reserved}
-use Rattle.cap_bounds.specs.CapValue.{CapValue, is_sealed, value_otype}
+use Rattle.cap_bounds.specs.CapValue.{CapValue}
 use Rattle.devices.specs.Devices.{halt, timer_compare, transmit}
 use Rattle.disassembler.specs.Hex.{hex_of}
 use Rattle.hart.specs.declared.event.Event.{Event}
@@ -14,7 +12,8 @@ use Rattle.reach.specs.declared.right.Right.{Right}
 use Rattle.reach.specs.declared.right.Right.TheVariants.{Store, Load, Execute, Seal, Unseal}
 use Rattle.reach.specs.Ranges.{bounds_of, ranges_of}
 use Rattle.policy.specs.Watch.{values_in}
-use Rattle.policy_audit.specs.Found.{opens_store, opens_system}
+use Rattle.policy.specs.Tests.{opens_store, opens_system}
+use Rattle.policy.specs.Opened.{opens_types, types_with}
 use Rattle.policy_audit.specs.Told.{told}
 
 -- ---- ranges
@@ -58,25 +57,8 @@ devices_part vs =
     ++ codes ", timer " ++ yes_or_no (list_any (opens_store timer_compare) vs) ++ codes ", system "
     ++ yes_or_no (list_any opens_system vs)
 
--- object types that are not reserved, to a right
-abbrev pub opens_types : Right → List CapValue → Bool
-opens_types right vs = list_any (λ r. nat_lt r.from FIRST_RESERVED) (ranges_of right vs)
-
 unfoldable pub seal_part : List CapValue → List ℕ
 seal_part vs = codes ", seal " ++ yes_or_no (opens_types Seal vs || opens_types Unseal vs)
-
--- puts a type among ascending types, if it is not there
-abbrev pub put_type : ℕ → List ℕ → List ℕ
-put_type t [] = t ∷ []
-put_type t (u ∷ us) = if nat_lt u t then u ∷ put_type t us else (if u == t then u ∷ us else t ∷ u ∷ us)
-
--- the types of the values that are sealed with one that is not reserved, ascending and each once, and others
-abbrev pub with_type : List ℕ → CapValue → List ℕ
-with_type types v = if is_sealed v && not (is_reserved (value_otype v)) then put_type (value_otype v) types else types
-
-abbrev pub types_with : List ℕ → List CapValue → List ℕ
-types_with types [] = types
-types_with types (v ∷ vs) = types_with (with_type types v) vs
 
 unfoldable pub next_type : ℕ → List ℕ
 next_type t = codes " " ++ decimal t

@@ -7,7 +7,9 @@ use Rattle.hart.specs.declared.event.Event.{Event}
 use Rattle.hart.specs.State.{State, pc_of}
 use Rattle.reached.specs.Order.{Found}
 use Rattle.reach.specs.Reach.{members_in}
-use Rattle.policy.specs.declared.rule.Rule.{Rule}
+use Rattle.hart.specs.declared.event.Event.TheVariants.{Step}
+use Rattle.policy.specs.Terms.{Terms}
+use Rattle.policy.specs.Lending.{in_force_after}
 use Rattle.breach_texts.specs.declared.breach.RuleLine.{RuleLine}
 use Rattle.breach_texts.specs.Text.{breach_text}
 use Rattle.policy_audit.specs.declared.finding.Finding.{Finding}
@@ -29,17 +31,31 @@ unfoldable pub finding_text : List Symbol → List Found → List RuleLine → �
 finding_text symbols members lines step pc finding =
     step_line step pc ++ breach_by symbols members finding (slice_get lines finding.rule)
 
--- what is told before a step, by what was found before, and what was found after it
-abbrev pub says_found : List Symbol → List RuleLine → List Rule → List Finding → ℕ → State → List ℕ
-says_found symbols lines rules seen step s =
-    flat_map (finding_text symbols (members_in s) lines step (pc_of s)) (found_at rules seen s)
+-- what is noted of the steps so far: what was found, and the terms in force
+pub record Notes : Type 0 where
+  pub seen : List Finding
+  pub now : List Terms
 
-abbrev pub adds_found : List Rule → List Finding → State → List Finding
-adds_found rules seen s = seen ++ found_at rules seen s
+-- before the first, of rules as they are said
+abbrev pub first_notes : List Terms → Notes
+first_notes said = record { seen = []; now = said }
+
+-- what is told before a step
+abbrev pub says_found : List Symbol → List RuleLine → Notes → ℕ → State → List ℕ
+says_found symbols lines notes step s =
+    flat_map (finding_text symbols (members_in s) lines step (pc_of s)) (found_at notes.now notes.seen s)
+
+-- and what is noted after it
+abbrev pub adds_found : List Terms → Notes → State → Notes
+adds_found said notes s =
+    record { seen = notes.seen ++ found_at notes.now notes.seen s; now = in_force_after said notes.now Step s }
 
 -- the text of a run's audit, and all that it finds
-abbrev pub audit_text : List Symbol → List RuleLine → List Rule → List Event → State → List ℕ
-audit_text symbols lines rules events s = told (says_found symbols lines rules) (adds_found rules) 0 events [] s
+abbrev pub audit_text : List Symbol → List RuleLine → List Terms → List Event → State → List ℕ
+audit_text symbols lines said events s = told (says_found symbols lines) (adds_found said) 0 events (first_notes said) s
 
-abbrev pub audit_findings : List Rule → List Event → State → List Finding
-audit_findings rules events s = remembered (adds_found rules) events [] s
+abbrev pub audit_notes : List Terms → List Event → State → Notes
+audit_notes said events s = remembered (adds_found said) events (first_notes said) s
+
+abbrev pub audit_findings : List Terms → List Event → State → List Finding
+audit_findings said events s = (audit_notes said events s).seen

@@ -5,35 +5,53 @@ ghost use Rattle.reached.specs.Links.{values};
 ghost use Rattle.reached.specs.Order.{seen_members};
 ghost use Rattle.reach.specs.Reach.{AreReachable, members_in};
 ghost use Rattle.policy_audit.specs.Found.{found_at};
-ghost use Rattle.policy_audit.specs.Look.{found_in, rules_of, seen_by};
+ghost use Rattle.hart.specs.declared.event.Event.TheVariants.{Step};
+ghost use Rattle.policy.specs.Terms.{terms_of};
+ghost use Rattle.policy.specs.Lending.{in_force_after};
+ghost use Rattle.policy_audit.specs.Look.{IsWhole, found_in, notes_of, rules_of, said_to, seen_by};
+ghost use Rattle.policy_audit.specs.Text.{first_notes};
 
 use crate::finding::Finding;
 use crate::search::{add_found, finds_none};
 use cap_bounds::CapRep;
-use machine::Machine;
-use policy::Rule;
+use machine::{Event, Machine};
+use policy::{InForce, Rule};
 use reach::Reach;
 use std::alloc::{AllocError, Global};
 
 /// Finds the parts of rules that are broken, each once.
 #[derive(Debug, Drop)]
 pub struct Audit<'r> {
-    /// What it audits.
-    rules: &'r [Rule],
+    /// What it audits, as it is in force.
+    force: InForce<'r>,
     /// What was found so far.
     seen: Vec<Finding>,
 }
 
 impl<'r> Audit<'r> {
-    /// An audit of some rules that found nothing yet.
-    pub fn new(alloc: Global, rules: &'r [Rule]) -> Self
-        ensures rules { rules_of result ≡ rules.now }
-        ensures none { seen_by result ≡ [] }
+    /// An audit of some rules that found nothing yet. `AllocError` is out of memory.
+    pub fn new(alloc: Global, rules: &'r [Rule]) -> Result<Self, AllocError>
+        ensures said { IfOk result (λ audit. said_to audit ≡ terms_of rules.now) }
+        ensures notes { IfOk result (λ audit. notes_of audit ≡ first_notes (terms_of rules.now)) }
+        ensures whole { IfOk result IsWhole }
     {
-        Audit {
-            rules,
+        let force = InForce::new(alloc, rules)?;
+        Ok(Audit {
+            force,
             seen: Vec::new(alloc),
-        }
+        })
+    }
+
+    /// Takes what is in force after the machine's next step. `AllocError` is out of memory.
+    pub fn pass<C: CapRep>(&mut self, alloc: Global, machine: &Machine<C>) -> Result<(), AllocError>
+        requires whole { IsWhole self.old }
+        ensures rules { OnOk result (rules_of self.new ≡ in_force_after (said_to self.old) (rules_of self.old) Step machine.now) }
+        ensures seen { seen_by self.new ≡ seen_by self.old }
+        ensures said { said_to self.new ≡ said_to self.old }
+        ensures whole { IsWhole self.new }
+    {
+        self.force.pass(alloc, machine, Event::Step)?;
+        Ok(())
     }
 
     /// How many parts of rules were found to be broken.
@@ -64,15 +82,18 @@ impl<'r> Audit<'r> {
             ≡ seen_by self.old ++ found_at (rules_of self.old) (seen_by self.old) machine.now) }
         ensures same { OnErr result (seen_by self.new ≡ seen_by self.old) }
         ensures rules { rules_of self.new ≡ rules_of self.old }
+        ensures said { said_to self.new ≡ said_to self.old }
+        ensures whole { IsWhole self.old → IsWhole self.new }
     {
         let hart = machine.hart();
         let pc = hart.scrs().pcc().address();
-        if finds_none(&self.seen, pc, self.rules) {
+        let rules = self.force.rules();
+        if finds_none(&self.seen, pc, rules) {
             return Ok(None);
         }
         let reach = Reach::of(alloc, hart)?;
         let mut found = Vec::new(alloc);
-        add_found(&mut found, reach.members(), &self.seen, pc, self.rules)?;
+        add_found(&mut found, reach.members(), &self.seen, pc, rules)?;
         self.seen.extend_from_slice(&found)?;
         Ok(Some((reach, found)))
     }

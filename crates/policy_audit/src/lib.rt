@@ -6,7 +6,6 @@ mod audit;
 mod entries;
 mod finding;
 mod findings;
-pub mod laws;
 mod line;
 mod part;
 mod ranges;

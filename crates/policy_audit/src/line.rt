@@ -1,17 +1,13 @@
 //! What the code in a range can do, as a line of a policy.
-ghost use Rattle.std.specs.Prelude.{◌≡◌, ◌++◌, OnOk, nat_lt, string_bytes};
-ghost use Rattle.std.specs.List.{list_any};
-ghost use Rattle.base.specs.declared.otype.TheConstants.{FIRST_RESERVED};
-ghost use Rattle.devices.specs.Devices.{halt, timer_compare, transmit};
+ghost use Rattle.std.specs.Prelude.{◌≡◌, ◌++◌, OnOk, string_bytes};
 ghost use Rattle.reached.specs.Links.{values};
 ghost use Rattle.policy_audit.specs.Entries.{bytes_part, code_part, devices_part, entry_line, ranges_part, seal_part, yes_or_no};
-ghost use Rattle.policy_audit.specs.Found.{opens_store, opens_system};
 
 use crate::ranges::{put_range, put_within};
 use crate::types::put_types;
-use base::otype;
 use cap_bounds::CapRep;
 use effect_texts::put;
+use policy::{may_halt, may_seal, may_send, may_set_timer, may_use_system};
 use reach::{Range, Reach, Right};
 use std::alloc::{AllocError, Global};
 
@@ -67,34 +63,6 @@ fn put_answer(text: &mut String, yes: bool) -> Result<(), AllocError>
     }
 }
 
-/// Whether a reach opens the transmit register.
-fn may_send<C: CapRep>(reach: &Reach<C>) -> bool
-    ensures { result ≡ list_any (opens_store transmit) (values C.value reach.now) }
-{
-    reach.may_send().is_some()
-}
-
-/// Whether it opens the halt register.
-fn may_halt<C: CapRep>(reach: &Reach<C>) -> bool
-    ensures { result ≡ list_any (opens_store halt) (values C.value reach.now) }
-{
-    reach.may_halt().is_some()
-}
-
-/// Whether it opens mtimecmp.
-fn may_set_timer<C: CapRep>(reach: &Reach<C>) -> bool
-    ensures { result ≡ list_any (opens_store timer_compare) (values C.value reach.now) }
-{
-    reach.may_set_timer().is_some()
-}
-
-/// Whether it opens the system registers.
-fn may_use_system<C: CapRep>(reach: &Reach<C>) -> bool
-    ensures { result ≡ list_any opens_system (values C.value reach.now) }
-{
-    reach.opens_system().is_some()
-}
-
 /// Appends which registers of the devices a reach opens, and whether it opens the system registers.
 #[tactic(auto, unfolding(crate::specs::Entries::devices_part))]
 fn put_devices<C: CapRep>(text: &mut String, reach: &Reach<C>) -> Result<(), AllocError>
@@ -110,24 +78,14 @@ fn put_devices<C: CapRep>(text: &mut String, reach: &Reach<C>) -> Result<(), All
     put_answer(text, may_use_system(reach))
 }
 
-/// Whether some of these types is not reserved.
-fn has_free(types: &[Range]) -> bool
-    ensures { result ≡ list_any (λ r. nat_lt r.from FIRST_RESERVED) types.now }
-{
-    types
-        .iter()
-        .any(|range| range.from < u64::from(otype::FIRST_RESERVED))
-}
-
 /// Appends whether a reach opens object types that are not reserved.
 #[tactic(auto, unfolding(crate::specs::Entries::seal_part))]
 fn put_seal<C: CapRep>(text: &mut String, alloc: Global, reach: &Reach<C>) -> Result<(), AllocError>
     ensures { OnOk result (string_bytes text.new ≡ string_bytes text.old ++ seal_part (values C.value reach.now)) }
 {
-    let seals = reach.ranges(alloc, Right::Seal)?;
-    let unseals = reach.ranges(alloc, Right::Unseal)?;
+    let seal = may_seal(alloc, reach)?;
     put(text, ", seal ")?;
-    put_answer(text, has_free(&seals) || has_free(&unseals))
+    put_answer(text, seal)
 }
 
 /// Appends the line of a range of code, by what is reachable in it.

@@ -2,6 +2,8 @@
 ghost use Rattle.std.specs.Prelude.{◌≡◌, ◌↔◌, ◌<◌, IfSome, length};
 ghost use Rattle.policy.specs.Rule.{place_of};
 ghost use Rattle.reached.specs.Links.{values};
+ghost use Rattle.policy.specs.Terms.{terms};
+ghost use Rattle.policy.specs.Tests as tests;
 ghost use Rattle.policy_audit.specs.Found as spec;
 
 use crate::finding::Finding;
@@ -48,14 +50,14 @@ pub(crate) fn is_found(seen: &[Finding], rule: usize, ban: Ban) -> bool
 
 /// Whether a rule is about the code at an address.
 pub(crate) fn is_about(rule: &Rule, pc: u64) -> bool
-    ensures { result ≡ spec.is_about rule.now pc }
+    ensures { result ≡ tests.is_about (terms rule.now) pc }
 {
     policy::is_about(rule, pc)
 }
 
 /// Whether a capability breaks a part of the rule.
 fn breaks<C: CapRep>(cap: C, rule: &Rule, ban: Ban) -> bool
-    ensures { result ≡ spec.breaks rule.now ban (C.value cap) }
+    ensures { result ≡ tests.breaks (terms rule.now) ban (C.value cap) }
 {
     policy::breaks(cap, rule, ban)
 }
@@ -66,7 +68,7 @@ pub(crate) fn first_breaking<C: CapRep>(
     rule: &Rule,
     ban: Ban,
 ) -> Option<usize>
-    ensures first { result ≡ spec.first_from (spec.breaks rule.now ban) 0 (values C.value members.now) }
+    ensures first { result ≡ spec.first_from (tests.breaks (terms rule.now) ban) 0 (values C.value members.now) }
     ensures inside { IfSome result (λ k. k < length members.now) }
 {
     let mut number = 0;

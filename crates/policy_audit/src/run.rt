@@ -2,7 +2,9 @@
 ghost use Rattle.std.specs.Prelude.{◌≡◌, ◌<◌, ◌++◌, false, length, IfOk, OnOk, string_bytes};
 ghost use Rattle.machine.specs.Run.{run_after};
 ghost use Rattle.sim_run.specs.Schedule.{is_halted, scheduled, IsRunnable};
-ghost use Rattle.policy_audit.specs.Look.{rules_of, seen_by};
+ghost use Rattle.policy.specs.Terms.{terms_of};
+ghost use Rattle.policy_audit.specs.Found.{found_at};
+ghost use Rattle.policy_audit.specs.Look.{IsWhole, notes_of, rules_of, said_to, seen_by};
 ghost use Rattle.policy_audit.specs.Text.{adds_found, audit_findings, audit_text, says_found};
 ghost use Rattle.policy_audit.specs.Told.{remembered, told};
 ghost use Rattle.policy_audit.specs.Turn.{turn_of};
@@ -30,9 +32,12 @@ fn tell<C: CapRep>(
     number: u64,
 ) -> Result<(), AllocError>
     ensures text { OnOk result (string_bytes text.new ≡ string_bytes text.old
-        ++ says_found symbols.now lines.now (rules_of audit.old) (seen_by audit.old) number machine.now) }
-    ensures seen { OnOk result (seen_by audit.new ≡ adds_found (rules_of audit.old) (seen_by audit.old) machine.now) }
+        ++ says_found symbols.now lines.now (notes_of audit.old) number machine.now) }
+    ensures seen { OnOk result (seen_by audit.new
+        ≡ seen_by audit.old ++ found_at (rules_of audit.old) (seen_by audit.old) machine.now) }
     ensures rules { rules_of audit.new ≡ rules_of audit.old }
+    ensures said { said_to audit.new ≡ said_to audit.old }
+    ensures whole { IsWhole audit.old → IsWhole audit.new }
 {
     let at = Moment {
         step: number,
@@ -66,17 +71,20 @@ fn tell_around<C: CapRep>(
 ) -> Result<(), AllocError>
     requires range { IsRunnable schedule }
     requires more { done < schedule.steps }
+    requires whole { IsWhole audit.old }
     requires running { is_halted machine.old ≡ false }
     ensures state { OnOk result (machine.new ≡ run_after (turn_of schedule input.now done machine.old) machine.old) }
     ensures text { OnOk result (string_bytes text.new ≡ string_bytes text.old
-        ++ told (says_found symbols.now lines.now (rules_of audit.old)) (adds_found (rules_of audit.old)) done
-        (turn_of schedule input.now done machine.old) (seen_by audit.old) machine.old) }
-    ensures seen { OnOk result (seen_by audit.new ≡ remembered (adds_found (rules_of audit.old))
-        (turn_of schedule input.now done machine.old) (seen_by audit.old) machine.old) }
-    ensures rules { rules_of audit.new ≡ rules_of audit.old }
+        ++ told (says_found symbols.now lines.now) (adds_found (said_to audit.old)) done
+        (turn_of schedule input.now done machine.old) (notes_of audit.old) machine.old) }
+    ensures notes { OnOk result (notes_of audit.new ≡ remembered (adds_found (said_to audit.old))
+        (turn_of schedule input.now done machine.old) (notes_of audit.old) machine.old) }
+    ensures said { said_to audit.new ≡ said_to audit.old }
+    ensures whole { IsWhole audit.new }
 {
     bring(machine, schedule.byte_before(input, done + 1));
     tell(text, alloc, symbols, lines, audit, machine, done + 1)?;
+    audit.pass(alloc, machine)?;
     step(machine, schedule.is_tick_after(done + 1));
     Ok(())
 }
@@ -84,8 +92,9 @@ fn tell_around<C: CapRep>(
 /// Runs a machine on a schedule, and appends a text for each part of a rule that is broken in the run: before which step that is so
 /// for the first time, counted from 1, where PCC stands then, and what breaks the rule. Answers how many there are.
 ///
-/// A rule is broken before a step if it is about the code and something reachable breaks it. The machine does each step all the same, and
-/// what it sends is forgotten. A rule's line stands at its place in `lines`; for a rule without a line the step alone is told.
+/// A rule is broken before a step if it is about the code and something reachable breaks it, by its terms in force. The machine does each
+/// step all the same, and what it sends is forgotten. A rule's line stands at its place in `lines`; for a rule without a line the step
+/// alone is told.
 ///
 /// # Errors
 ///
@@ -104,10 +113,11 @@ pub fn audit_run<C: CapRep>(
     requires running { is_halted machine.old ≡ false }
     ensures state { OnOk result (machine.new ≡ run_after (scheduled schedule input.now machine.old) machine.old) }
     ensures text { OnOk result (string_bytes text.new ≡ string_bytes text.old
-        ++ audit_text symbols.now lines.now rules.now (scheduled schedule input.now machine.old) machine.old) }
-    ensures count { IfOk result (λ n. n ≡ length (audit_findings rules.now (scheduled schedule input.now machine.old) machine.old)) }
+        ++ audit_text symbols.now lines.now (terms_of rules.now) (scheduled schedule input.now machine.old) machine.old) }
+    ensures count { IfOk result (λ n. n ≡ length (audit_findings (terms_of rules.now)
+        (scheduled schedule input.now machine.old) machine.old)) }
 {
-    let mut audit = Audit::new(alloc, rules);
+    let mut audit = Audit::new(alloc, rules)?;
     let mut done = 0;
     while done < schedule.steps {
         tell_around(

@@ -3,6 +3,7 @@ ghost use Rattle.std.specs.Prelude.{◌≡◌, ◌<◌, ◌++◌, [], List, All,
 ghost use Rattle.std.specs.List.{flat_map};
 ghost use Rattle.cap_bounds.specs.CapValue.{CapValue};
 ghost use Rattle.reached.specs.Links.{values};
+ghost use Rattle.policy.specs.Terms.{terms, terms_of};
 ghost use Rattle.policy_audit.specs.Found.{are_found, found_from, found_of, found_part, parts};
 
 use crate::finding::Finding;
@@ -23,7 +24,7 @@ fn add_part<C: CapRep>(
     ban: Ban,
 ) -> Result<(), AllocError>
     ensures { OnOk result (found.new.items
-        ≡ found.old.items ++ found_part seen.now (values C.value members.now) place rule.now ban) }
+        ≡ found.old.items ++ found_part seen.now (values C.value members.now) place (terms rule.now) ban) }
 {
     if is_found(seen, place, ban) {
         return Ok(());
@@ -50,7 +51,7 @@ fn add_parts<C: CapRep>(
     rule: &Rule,
 ) -> Result<(), AllocError>
     ensures { OnOk result (found.new.items
-        ≡ found.old.items ++ flat_map (found_part seen.now (values C.value members.now) place rule.now) parts) }
+        ≡ found.old.items ++ flat_map (found_part seen.now (values C.value members.now) place (terms rule.now)) parts) }
 {
     for ban in PARTS {
         add_part(found, members, seen, place, rule, ban)?;
@@ -69,7 +70,7 @@ fn add_rule<C: CapRep>(
     rule: &Rule,
 ) -> Result<(), AllocError>
     ensures { OnOk result (found.new.items
-        ≡ found.old.items ++ found_of seen.now (values C.value members.now) pc place rule.now) }
+        ≡ found.old.items ++ found_of seen.now (values C.value members.now) pc place (terms rule.now)) }
 {
     if is_about(rule, pc) {
         add_parts(found, members, seen, place, rule)
@@ -87,7 +88,7 @@ pub(crate) fn add_found<C: CapRep>(
     rules: &[Rule],
 ) -> Result<(), AllocError>
     ensures { OnOk result (found.new.items
-        ≡ found.old.items ++ found_from seen.now (values C.value members.now) pc 0 rules.now) }
+        ≡ found.old.items ++ found_from seen.now (values C.value members.now) pc 0 (terms_of rules.now)) }
 {
     let mut place = 0;
     while place < rules.len() {
@@ -106,7 +107,7 @@ fn is_all_found(seen: &[Finding], place: usize) -> bool
 
 /// Whether each part was of each rule about the code at an address: then nothing is found, whatever is reachable.
 pub(crate) fn finds_none(seen: &[Finding], pc: u64, rules: &[Rule]) -> bool
-    ensures { IsTrue result → (vs : List CapValue) → found_from seen.now vs pc 0 rules.now ≡ [] }
+    ensures { IsTrue result → (vs : List CapValue) → found_from seen.now vs pc 0 (terms_of rules.now) ≡ [] }
 {
     let mut place = 0;
     while place < rules.len() {

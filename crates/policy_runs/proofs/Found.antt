@@ -8,14 +8,16 @@ use Rattle.hart.specs.declared.event.Event.TheVariants.{Step, Byte}
 use Rattle.hart.specs.Event.{after}
 use Rattle.hart.specs.State.{State}
 use Rattle.machine.specs.Run.{run_after}
-use Rattle.policy.specs.declared.rule.Rule.{Rule}
+use Rattle.policy.specs.Terms.{Terms}
+use Rattle.policy.specs.Watch.{IsRefused}
+use Rattle.policy.specs.Lending.{in_force_from}
 use Rattle.sim_run.specs.declared.schedule.Schedule.{Schedule}
 use Rattle.sim_run.specs.Schedule.{block, byte_before, first_steps, is_halted, scheduled, up_to_halt, AreAlone}
 use Rattle.sim_run.specs.Stopping.{events_before}
 use Rattle.sim_run.proofs.Events.{brought, no_more, then_up_to_halt, up_to_halt-append}
 use Rattle.sim_run.proofs.Scheduled.{block_follows, more_follow, nth_block, steps_from}
 use Rattle.policy_runs.specs.declared.breach.Breach.{Breach}
-use Rattle.policy_runs.specs.Keeping.{StepsKeepToEach}
+use Rattle.policy_runs.specs.Keeping.{StepsKeepFrom}
 use Rattle.policy_runs.specs.Kept.{Kept, IsBreachPast}
 use Rattle.policy_runs.proofs.Parts.{kept-as, kept-end, kept-on}
 
@@ -44,36 +46,42 @@ byte-then xs byte s u running there still = go (is_halted (run_after (up_to_halt
 
 -- ---- the same by equal rules, of an equal byte and an equal tick
 
-module _ (rules others : List Rule) (same : rules ≡ others) (byte other : Option ℕ) (same_byte : byte ≡ other) (n : ℕ) (t u : State) where
-  pub found-as : (x : Breach) → IsBreachPast rules (brought byte) n t u x → IsBreachPast others (brought other) n t u x
+module _ (said by now others : List Terms) (same_said : said ≡ by) (same_now : now ≡ others) (byte other : Option ℕ)
+    (same_byte : byte ≡ other) (n : ℕ) (t u : State) where
+  pub found-as : (x : Breach) → IsBreachPast said now (brought byte) n t u x → IsBreachPast by others (brought other) n t u x
   found-as x found =
-      subst (λ b. IsBreachPast others (brought b) n t u x) same_byte (subst (λ rs. IsBreachPast rs (brought byte) n t u x) same found)
+      subst (λ b. IsBreachPast by others (brought b) n t u x) same_byte
+      (subst (λ ts. IsBreachPast ts others (brought byte) n t u x) same_said
+      (subst (λ ts. IsBreachPast said ts (brought byte) n t u x) same_now found))
 
-  pub block-as : (ticks due : Bool) → ticks ≡ due → Kept rules (block byte n ticks) t u → Kept others (block other n due) t u
-  block-as ticks due same_ticks kept =
-      subst (λ es. Kept others es t u) (ap₂ (λ b d. block b n d) same_byte same_ticks) (subst (λ rs. Kept rs (block byte n ticks) t u) same kept)
+  pub block-as : (next : List Terms) (ticks due : Bool) → ticks ≡ due → Kept said now next (block byte n ticks) t u
+      → Kept by others next (block other n due) t u
+  block-as next ticks due same_ticks kept =
+      subst (λ es. Kept by others next es t u) (ap₂ (λ b d. block b n d) same_byte same_ticks)
+      (subst (λ ts. Kept ts others next (block byte n ticks) t u) same_said
+      (subst (λ ts. Kept said ts next (block byte n ticks) t u) same_now kept))
 
 -- ---- after the first m steps of s the machine is t
 
-module _ (rules : List Rule) (schedule : Schedule) (input : List ℕ) (m n : ℕ) (s t : State) (running : is_halted s ≡ false)
-    (before : Kept rules (first_steps schedule input m) s t) (still : is_halted t ≡ false) (some : 1 ≤ n)
+module _ (said now : List Terms) (schedule : Schedule) (input : List ℕ) (m n : ℕ) (s t : State) (running : is_halted s ≡ false)
+    (before : Kept said said now (first_steps schedule input m) s t) (still : is_halted t ≡ false) (some : 1 ≤ n)
     (few : m + n ≤ schedule.steps) (alone : AreAlone schedule input m n) where
   -- ---- all of n steps are done
 
-  module _ (u : State) (next : Kept rules (nth_block schedule input m n) t u) where
-    pub kept-further : Kept rules (first_steps schedule input (m + n)) s u
+  module _ (after_all : List Terms) (u : State) (next : Kept said now after_all (nth_block schedule input m n) t u) where
+    pub kept-further : Kept said said after_all (first_steps schedule input (m + n)) s u
     kept-further =
-        kept-as rules (first_steps schedule input m ++ nth_block schedule input m n) (first_steps schedule input (m + n)) s u
-        (sym (block_follows schedule input m n some alone))
-        (kept-on rules (first_steps schedule input m) (nth_block schedule input m n) s t running before u still next)
+        kept-as said said after_all (first_steps schedule input m ++ nth_block schedule input m n) (first_steps schedule input (m + n))
+        s u (sym (block_follows schedule input m n some alone))
+        (kept-on said said now (first_steps schedule input m) (nth_block schedule input m n) s t running before after_all u still next)
 
     -- the last of them halts the machine
-    pub kept-halted : is_halted u ≡ true → StepsKeepToEach rules (scheduled schedule input s) s
+    pub kept-halted : is_halted u ≡ true → StepsKeepFrom said said (scheduled schedule input s) s
     kept-halted halted =
         let rest = steps_from schedule input (m + n) (schedule.steps - (m + n)) in
-        let whole = kept-as rules (first_steps schedule input (m + n) ++ rest) (first_steps schedule input schedule.steps) s u
-        (sym (more_follow schedule input (m + n) few))
-        (kept-end rules (first_steps schedule input (m + n)) rest s u running kept-further halted) in
+        let whole = kept-as said said after_all (first_steps schedule input (m + n) ++ rest)
+        (first_steps schedule input schedule.steps) s u (sym (more_follow schedule input (m + n) few))
+        (kept-end said said after_all (first_steps schedule input (m + n)) rest s u running kept-further halted) in
         whole.keep
 
   -- ---- a rule is broken before one of them, which is j steps after the first
@@ -95,19 +103,20 @@ module _ (rules : List Rule) (schedule : Schedule) (input : List ℕ) (m n : ℕ
       (sym (append-nil (replicate (suc j) Step)))
       ∙ sym (append-nil (first_steps schedule input m ++ (brought (byte_before schedule input (m + 1)) ++ (replicate (suc j) Step ++ [])))))
 
-  module _ (x : Breach) (u : State) (found : IsBreachPast rules (brought (byte_before schedule input (m + 1))) n t u x) where
+  module _ (x : Breach) (u : State) (found : IsBreachPast said now (brought (byte_before schedule input (m + 1))) n t u x) where
     few_before : x.number - 1 < n
     few_before =
         let from = found.some in
         let to = found.few in
         omega arith
 
-    met_so_far : Kept rules (first_steps schedule input (m + (x.number - 1)) ++ brought (byte_before schedule input (m + (x.number - 1) + 1)))
+    met_so_far : Kept said said found.next
+        (first_steps schedule input (m + (x.number - 1)) ++ brought (byte_before schedule input (m + (x.number - 1) + 1)))
         s u
     met_so_far =
-        kept-as rules _ _ s u (steps_before (x.number - 1) few_before)
-        (kept-on rules (first_steps schedule input m) (brought (byte_before schedule input (m + 1)) ++ replicate (x.number - 1) Step) s t
-        running before u still found.kept)
+        kept-as said said found.next _ _ s u (steps_before (x.number - 1) few_before)
+        (kept-on said said now (first_steps schedule input m)
+        (brought (byte_before schedule input (m + 1)) ++ replicate (x.number - 1) Step) s t running before found.next u still found.kept)
 
     events : up_to_halt
         (first_steps schedule input (m + (x.number - 1)) ++ brought (byte_before schedule input (m + (x.number - 1) + 1))) s
@@ -123,5 +132,9 @@ module _ (rules : List Rule) (schedule : Schedule) (input : List ℕ) (m n : ℕ
     pub found-state : u ≡ run_after (events_before (Some (m + x.number)) schedule input s) s
     found-state = met_so_far.state ∙ ap (λ es. run_after es s) events
 
-    pub found-keep : StepsKeepToEach rules (events_before (Some (m + x.number)) schedule input s) s
-    found-keep = subst (λ es. StepsKeepToEach rules es s) events met_so_far.keep
+    pub found-keep : StepsKeepFrom said said (events_before (Some (m + x.number)) schedule input s) s
+    found-keep = subst (λ es. StepsKeepFrom said said es s) events met_so_far.keep
+
+    pub found-refused : IsRefused (in_force_from said said (events_before (Some (m + x.number)) schedule input s) s) x.refused u
+    found-refused =
+        subst (λ ts. IsRefused ts x.refused u) (met_so_far.force ∙ ap (λ es. in_force_from said said es s) events) found.refused

@@ -4,12 +4,17 @@ use Rattle.hart.specs.declared.event.Event.{Event}
 use Rattle.hart.specs.declared.event.Event.TheVariants.{Step, Tick, Byte}
 use Rattle.hart.specs.Event.{after}
 use Rattle.hart.specs.State.{State}
-use Rattle.policy.specs.declared.rule.Rule.{Rule}
+use Rattle.policy.specs.Terms.{Terms}
 use Rattle.policy.specs.Watch.{KeepsToEach}
+use Rattle.policy.specs.Lending.{in_force_after}
 
--- each step among the events keeps to each rule about the code before it; a byte that comes and a tick are no steps
-abbrev pub StepsKeepToEach : List Rule → List Event → State → Type 0
-StepsKeepToEach rules [] s = Unit {0}
-StepsKeepToEach rules (Step ∷ es) s = KeepsToEach rules Step s × StepsKeepToEach rules es (after Step s)
-StepsKeepToEach rules (Tick ∷ es) s = StepsKeepToEach rules es (after Tick s)
-StepsKeepToEach rules (Byte b ∷ es) s = StepsKeepToEach rules es (after (Byte b) s)
+-- each step among the events keeps to each rule about the code before it, by the terms in force; a byte that comes and a tick are no steps
+abbrev pub StepsKeepFrom : List Terms → List Terms → List Event → State → Type 0
+StepsKeepFrom said now [] s = Unit {0}
+StepsKeepFrom said now (Step ∷ es) s = KeepsToEach now Step s × StepsKeepFrom said (in_force_after said now Step s) es (after Step s)
+StepsKeepFrom said now (Tick ∷ es) s = StepsKeepFrom said now es (after Tick s)
+StepsKeepFrom said now (Byte b ∷ es) s = StepsKeepFrom said now es (after (Byte b) s)
+
+-- of a run from its begin, where nobody has called any code
+abbrev pub StepsKeepToEach : List Terms → List Event → State → Type 0
+StepsKeepToEach said events s = StepsKeepFrom said said events s

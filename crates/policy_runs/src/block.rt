@@ -3,7 +3,7 @@
 ghost use Rattle.std.specs.Prelude.{◌≡◌, false, [], ◌∷◌, map, option_to_list, if◌then◌else◌, IfNone, IfOk, IfSome};
 ghost use Rattle.hart.specs.declared.event.Event.TheVariants.{Tick, Byte};
 ghost use Rattle.machine.specs.Run.{run_after};
-ghost use Rattle.policy.specs.Known.{Knows, rules_of};
+ghost use Rattle.policy.specs.Known.{Knows, rules_of, said_to};
 ghost use Rattle.sim_run.specs.Schedule.{block, is_halted};
 ghost use Rattle.policy_runs.specs.Kept.{Kept, IsBreachPast};
 
@@ -48,10 +48,11 @@ pub(crate) fn keep_block<C: CapRep>(
     requires running { is_halted machine.old ≡ false }
     requires knows { Knows watcher.old machine.old }
     ensures found { IfOk result (λ b. IfSome b
-        (IsBreachPast (rules_of watcher.old) (map Byte (option_to_list byte)) count machine.old machine.new)) }
-    ensures none { IfOk result (λ b. IfNone b (Kept (rules_of watcher.old) (block byte count ticks) machine.old machine.new)) }
+        (IsBreachPast (said_to watcher.old) (rules_of watcher.old) (map Byte (option_to_list byte)) count machine.old machine.new)) }
+    ensures none { IfOk result (λ b. IfNone b
+        (Kept (said_to watcher.old) (rules_of watcher.old) (rules_of watcher.new) (block byte count ticks) machine.old machine.new)) }
     ensures knows { IfOk result (λ b. IfNone b (Knows watcher.new machine.new)) }
-    ensures rules { rules_of watcher.new ≡ rules_of watcher.old }
+    ensures said { said_to watcher.new ≡ said_to watcher.old }
 {
     bring(watcher, machine, byte);
     if let Some(breach) = keep_steps(alloc, watcher, machine, count)? {

@@ -2,7 +2,9 @@
 
 ghost use Rattle.std.specs.Prelude.{◌≡◌, Some, false, IfNone, IfOk, IfSome};
 ghost use Rattle.machine.specs.Run.{run_after};
+ghost use Rattle.policy.specs.Terms.{terms_of};
 ghost use Rattle.policy.specs.Watch.{IsRefused};
+ghost use Rattle.policy.specs.Lending.{in_force};
 ghost use Rattle.sim_run.specs.Schedule.{is_halted, scheduled, IsRunnable};
 ghost use Rattle.sim_run.specs.Stopping.{events_before};
 ghost use Rattle.sim_run.specs.Stopped.{IsPlaceOf};
@@ -27,7 +29,8 @@ pub struct Breach {
 /// The first step of a machine's run on a schedule before which a rule about the code is broken; none where there is none.
 ///
 /// The machine is run up to that step, the byte that comes just before it among what it met, and what it sends is forgotten. Before each
-/// earlier step every rule about the code held, and each of those steps kept to it. A run that halts the machine ends there.
+/// earlier step every rule about the code held, by the terms in force, and each of those steps kept to it. A run that halts the machine
+/// ends there.
 ///
 /// # Errors
 ///
@@ -42,13 +45,15 @@ pub fn find_breach<C: CapRep>(
     requires range { IsRunnable schedule }
     requires running { is_halted machine.old ≡ false }
     ensures none { IfOk result (λ b. IfNone b
-        (StepsKeepToEach rules.now (scheduled schedule input.now machine.old) machine.old)) }
+        (StepsKeepToEach (terms_of rules.now) (scheduled schedule input.now machine.old) machine.old)) }
     ensures number { IfOk result (λ b. IfSome b (λ x. IsPlaceOf schedule x.number)) }
     ensures state { IfOk result (λ b. IfSome b (λ x.
         machine.new ≡ run_after (events_before (Some x.number) schedule input.now machine.old) machine.old)) }
-    ensures refused { IfOk result (λ b. IfSome b (λ x. IsRefused rules.now x.refused machine.new)) }
+    ensures refused { IfOk result (λ b. IfSome b (λ x.
+        IsRefused (in_force (terms_of rules.now) (events_before (Some x.number) schedule input.now machine.old) machine.old)
+        x.refused machine.new)) }
     ensures kept { IfOk result (λ b. IfSome b (λ x.
-        StepsKeepToEach rules.now (events_before (Some x.number) schedule input.now machine.old) machine.old)) }
+        StepsKeepToEach (terms_of rules.now) (events_before (Some x.number) schedule input.now machine.old) machine.old)) }
 {
     let mut watcher = Watcher::new(alloc, rules)?;
     let mut done = 0;

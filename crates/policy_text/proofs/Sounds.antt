@@ -16,12 +16,14 @@ use Rattle.reach.specs.declared.range.Range.{Range}
 use Rattle.policy_text.specs.declared.fault.PolicyCode.{PolicyCode}
 use Rattle.policy_text.specs.declared.fault.PolicyCode.TheVariants.{P1, P2, P4, P5, P6, P8}
 use Rattle.policy_text.specs.declared.part.Part.{Part}
-use Rattle.policy_text.specs.declared.part.Part.TheVariants.{Store, Load, Execute, Transmit, Halt, Timer, System, Seal, Types}
-use Rattle.policy_text.specs.Policy.{Said, Definition, Parts, Line, Read, nothing, definition, rule}
+use Rattle.policy_text.specs.declared.part.Part.TheVariants.{Store, Load, Execute, Transmit, Halt, Timer, System, Seal, Types, OrCaller}
+use Rattle.policy.specs.Terms.{Terms}
+use Rattle.policy_text.specs.Policy.{Definition, Parts, Line, Read, nothing, definition, rule}
 use Rattle.policy_text.specs.Policy.{◌>>=◌, uncommented, cut_at, cut_at_dots}
 use Rattle.policy_text.specs.Policy.{range, number_up_to, address_or_code, to_of, filled, range_of}
 use Rattle.policy_text.specs.Policy.{defined, ranges_by, ranges_in, ranges_of}
 use Rattle.policy_text.specs.Policy.{ranges_or, part_named, new_part, no_parts, within_of, answer_of, numbers_of, types_of, with_part}
+use Rattle.policy_text.specs.Policy.{caller_of}
 use Rattle.policy_text.specs.Policy.{part_read, parts_read, everywhere, said, after_when, code_by, code_of, rule_of, name_of, new_name}
 use Rattle.policy_text.specs.Policy.{definition_of, rule_line, line_by, line_of, with_line, at_line, policy_from, policy_of}
 use Rattle.policy_text.specs.Sound.{AreFilled, IsSound}
@@ -222,6 +224,10 @@ module _ (symbols : List Symbol) (ds : List Definition) (g : AreGood ds) where
       let k = bind_ok (types_of words) (λ said. Ok (record p { types = Some said })) q h in
       subst ArePartsSound (ok_inside (record p { types = Some k.0 }) q k.2)
       (record { store = s.store; load = s.load; execute = s.execute; types = types_is words k.0 k.1 })
+  with_is p s words OrCaller q h =
+      let k = bind_ok (caller_of words) (λ said. Ok (record p { or_caller = said })) q h in
+      subst ArePartsSound (ok_inside (record p { or_caller = k.0 }) q k.2)
+      (record { store = s.store; load = s.load; execute = s.execute; types = s.types })
 
   part_is : (p : Parts) (s : ArePartsSound p) (words : List (List ℕ)) (q : Parts) → part_read symbols ds p words ≡ Ok q → ArePartsSound q
   part_is p s [] q h = cc
@@ -238,7 +244,7 @@ module _ (symbols : List Symbol) (ds : List Definition) (g : AreGood ds) where
   code_is (Some words) rs h = or_is symbols ds g P1 words rs h
   code_is None rs h = cc
 
-  rule_is : (before after : List ℕ) (r : Said) → rule_of symbols ds before after ≡ Ok r → IsSound r
+  rule_is : (before after : List ℕ) (r : Terms) → rule_of symbols ds before after ≡ Ok r → IsSound r
   unfolding rule_of
   rule_is before after r h =
       let read = parts_read symbols ds no_parts (pieces_between after) in
@@ -286,7 +292,7 @@ module _ (symbols : List Symbol) (ds : List Definition) (g : AreGood ds) where
         | false ↦ λ e. let k : line_by symbols ds line (cut_at 61 line) ≡ Ok l = rw e at h in line_by_is line (cut_at 61 line) l k
       ] refl
 
-abbrev AreSound : List (ℕ × Said) → Type 0
+abbrev AreSound : List (ℕ × Terms) → Type 0
 AreSound rules = AllByRecursion (λ r. IsSound r.1) rules
 
 record IsReadSound (read : Read) : Type 0 where
@@ -298,14 +304,15 @@ with_line_is number read nothing s i = s
 with_line_is number read (definition d) s i =
     record { definitions = all_append (λ (d : Definition). Good d.ranges) read.definitions (d ∷ []) s.definitions (i, tt); rules = s.rules }
 with_line_is number read (rule r) s i =
-    record { definitions = s.definitions; rules = all_append (λ (r : ℕ × Said). IsSound r.1) read.rules ((number, r) ∷ []) s.rules (i, tt) }
+    let rules = all_append (λ (r : ℕ × Terms). IsSound r.1) read.rules ((number, r) ∷ []) s.rules (i, tt) in
+    record { definitions = s.definitions; rules = rules }
 
 at_line_ok : {A B : Type 0} (number : ℕ) (r : Result A PolicyCode) (f : A → Result B (ℕ × PolicyCode)) (y : B) → at_line number r f ≡ Ok y
     → (x : A) × (r ≡ Ok x) × (f x ≡ Ok y)
 at_line_ok number (Ok x) f y h = (x, refl, h)
 at_line_ok number (Err code) f y h = cc
 
-from_is : (symbols : List Symbol) (lines : List (List ℕ)) (number : ℕ) (read : Read) (rules : List (ℕ × Said)) → IsReadSound read
+from_is : (symbols : List Symbol) (lines : List (List ℕ)) (number : ℕ) (read : Read) (rules : List (ℕ × Terms)) → IsReadSound read
     → policy_from symbols number read lines ≡ Ok rules → AreSound rules
 from_is symbols [] number read rules s h = let k : read.rules ≡ rules = cc in subst AreSound k s.rules
 from_is symbols (line ∷ lines) number read rules s h =
@@ -314,7 +321,7 @@ from_is symbols (line ∷ lines) number read rules s h =
     from_is symbols lines (number + 1) (with_line number read k.0) rules
     (with_line_is number read k.0 s (line_is symbols read.definitions s.definitions (uncommented line) k.0 k.1)) k.2
 
-pub policy_is : (symbols : List Symbol) (text : List ℕ) (rules : List (ℕ × Said)) → policy_of symbols text ≡ Ok rules
+pub policy_is : (symbols : List Symbol) (text : List ℕ) (rules : List (ℕ × Terms)) → policy_of symbols text ≡ Ok rules
     → AllByRecursion (λ r. IsSound r.1) rules
 policy_is symbols text rules h =
     let none : IsReadSound (record { definitions = []; rules = [] }) = record { definitions = tt; rules = tt } in

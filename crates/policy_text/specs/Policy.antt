@@ -9,24 +9,11 @@ use Rattle.asm_lines.specs.Statement.{is_word}
 use Rattle.symbols.specs.Symbols.{Symbol, lines_of}
 use Rattle.debug_commands.specs.Command.{words_of, number_between, read_number, address_in}
 use Rattle.reach.specs.declared.range.Range.{Range}
+use Rattle.policy.specs.Terms.{Terms}
 use Rattle.policy_text.specs.declared.fault.PolicyCode.{PolicyCode}
 use Rattle.policy_text.specs.declared.fault.PolicyCode.TheVariants.{P1, P2, P3, P4, P5, P6, P7, P8}
 use Rattle.policy_text.specs.declared.part.Part.{Part}
-use Rattle.policy_text.specs.declared.part.Part.TheVariants.{Store, Load, Execute, Transmit, Halt, Timer, System, Seal, Types}
-
--- a rule: the code that it is about, the bytes that this code may use, what else it may do, and the object types of the sealed
--- capabilities that it may come to hold, or all of them
-pub record Said : Type 0 where
-  pub code : List Range
-  pub store : List Range
-  pub load : List Range
-  pub execute : List Range
-  pub transmit : Bool
-  pub halt : Bool
-  pub timer : Bool
-  pub system : Bool
-  pub seal : Bool
-  pub types : Option (List ℕ)
+use Rattle.policy_text.specs.declared.part.Part.TheVariants.{Store, Load, Execute, Transmit, Halt, Timer, System, Seal, Types, OrCaller}
 
 -- a name and the ranges that it stands for
 pub record Definition : Type 0 where
@@ -131,6 +118,7 @@ part_names =
     ∷ (codes "system", System)
     ∷ (codes "seal", Seal)
     ∷ (codes "types", Types)
+    ∷ (codes "or", OrCaller)
     ∷ []
 
 abbrev pub part_among : List (List ℕ × Part) → List ℕ → Option Part
@@ -151,6 +139,7 @@ pub record Parts : Type 0 where
   pub system : Option Bool
   pub seal : Option Bool
   pub types : Option (List ℕ)
+  pub or_caller : Bool
 
 abbrev pub no_parts : Parts
 no_parts =
@@ -164,6 +153,7 @@ no_parts =
       system = None;
       seal = None;
       types = None;
+      or_caller = false;
     }
 
 abbrev pub has_part : Parts → Part → Bool
@@ -176,6 +166,7 @@ has_part parts Timer = is_some parts.timer
 has_part parts System = is_some parts.system
 has_part parts Seal = is_some parts.seal
 has_part parts Types = is_some parts.types
+has_part parts OrCaller = parts.or_caller
 
 -- `within RANGES`, or `no`
 abbrev pub within_of : List Symbol → List Definition → List (List ℕ) → Result (List Range) PolicyCode
@@ -204,6 +195,11 @@ types_of [] = Err P8
 types_of (word ∷ words) =
     if is_word word (codes "none") then (if length words == 0 then Ok [] else Err P8) else numbers_of (word ∷ words)
 
+-- `caller`, after `or`
+abbrev pub caller_of : List (List ℕ) → Result Bool PolicyCode
+caller_of [] = Err P8
+caller_of (word ∷ words) = if is_word word (codes "caller") && (length words == 0) then Ok true else Err P8
+
 -- the parts with one more: what its words after its name say
 abbrev pub with_part : List Symbol → List Definition → Parts → List (List ℕ) → Part → Result Parts PolicyCode
 with_part symbols definitions parts words Store = within_of symbols definitions words >>= λ said. Ok (record parts { store = Some said })
@@ -216,6 +212,7 @@ with_part symbols definitions parts words Timer = answer_of words >>= λ said. O
 with_part symbols definitions parts words System = answer_of words >>= λ said. Ok (record parts { system = Some said })
 with_part symbols definitions parts words Seal = answer_of words >>= λ said. Ok (record parts { seal = Some said })
 with_part symbols definitions parts words Types = types_of words >>= λ said. Ok (record parts { types = Some said })
+with_part symbols definitions parts words OrCaller = caller_of words >>= λ said. Ok (record parts { or_caller = said })
 
 -- a part that the rule has not, or P7
 abbrev pub new_part : Parts → Part → Result Part PolicyCode
@@ -237,8 +234,8 @@ parts_read symbols definitions parts (text ∷ texts) =
 abbrev pub everywhere : List Range
 everywhere = range 0 (2 ^ 64) ∷ []
 
--- the rule of these parts: one that isn't there forbids nothing
-abbrev pub said : List Range → Parts → Said
+-- the rule of these parts: one that isn't there forbids nothing, and without `or caller` nothing of its caller's is allowed
+abbrev pub said : List Range → Parts → Terms
 said code parts =
     record {
       code = code;
@@ -251,6 +248,7 @@ said code parts =
       system = unwrap_or parts.system true;
       seal = unwrap_or parts.seal true;
       types = parts.types;
+      or_caller = parts.or_caller;
     }
 
 -- the words after `when pc in`, if words begin so
@@ -270,7 +268,7 @@ abbrev pub code_of : List Symbol → List Definition → List (List ℕ) → Res
 code_of symbols definitions words = code_by symbols definitions (after_when words)
 
 -- the rule that the texts before a colon and after it say
-unfoldable pub rule_of : List Symbol → List Definition → List ℕ → List ℕ → Result Said PolicyCode
+unfoldable pub rule_of : List Symbol → List Definition → List ℕ → List ℕ → Result Terms PolicyCode
 rule_of symbols definitions before after = do
   code ← code_of symbols definitions (words_of before)
   parts ← parts_read symbols definitions no_parts (pieces_between after)
@@ -296,7 +294,7 @@ definition_of symbols definitions before after = do
 pub data Line : Type 0 where
   nothing : Line
   definition : Definition → Line
-  rule : Said → Line
+  rule : Terms → Line
 
 -- a line without an equals sign: a rule, or P1 where it has no colon
 abbrev pub rule_line : List Symbol → List Definition → Option (List ℕ × List ℕ) → Result Line PolicyCode
@@ -317,7 +315,7 @@ line_of symbols definitions line =
 -- what the lines so far say: the definitions, and the rules with the numbers of their lines
 pub record Read : Type 0 where
   pub definitions : List Definition
-  pub rules : List (ℕ × Said)
+  pub rules : List (ℕ × Terms)
 
 abbrev pub with_line : ℕ → Read → Line → Read
 with_line number read nothing = read
@@ -329,14 +327,14 @@ abbrev pub at_line : {A B : Type 0} → ℕ → Result A PolicyCode → (A → R
 at_line number (Ok x) f = f x
 at_line number (Err code) f = Err (number, code)
 
-abbrev pub policy_from : List Symbol → ℕ → Read → List (List ℕ) → Result (List (ℕ × Said)) (ℕ × PolicyCode)
+abbrev pub policy_from : List Symbol → ℕ → Read → List (List ℕ) → Result (List (ℕ × Terms)) (ℕ × PolicyCode)
 policy_from symbols number read [] = Ok read.rules
 policy_from symbols number read (line ∷ lines) =
     at_line number (line_of symbols read.definitions (uncommented line))
     (λ said. policy_from symbols (number + 1) (with_line number read said) lines)
 
 -- the rules of a text with the numbers of their lines, or the number of the first faulty line, counted from 1, and its fault
-abbrev pub policy_of : List Symbol → List ℕ → Result (List (ℕ × Said)) (ℕ × PolicyCode)
+abbrev pub policy_of : List Symbol → List ℕ → Result (List (ℕ × Terms)) (ℕ × PolicyCode)
 policy_of symbols text = policy_from symbols 1 (record { definitions = []; rules = [] }) (lines_of text)
 
 -- a line by its number, counted from 1, without its comment and without blanks at its ends; of none nothing

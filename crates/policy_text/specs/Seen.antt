@@ -1,7 +1,7 @@
 -- How an answer speaks of a text: what memory holds as the specification's own values, and faults that are the text's unless there was no
 -- memory.
 use Rattle.std.specs.Prelude.{◌≡◌, ℕ, List, ◌++◌, map, zip, option_map, Result, Ok, Err}
-use Rattle.policy.specs.declared.rule.Rule.{Rule}
+use Rattle.policy.specs.Terms.{Terms, terms, terms_of}
 use Rattle.policy_text.specs.declared.fault.PolicyCode.{PolicyCode}
 use Rattle.policy_text.specs.declared.fault.PolicyTextFault.{PolicyTextFault}
 use Rattle.policy_text.specs.declared.fault.PolicyTextFault.TheVariants as text_fault
@@ -12,7 +12,7 @@ use Rattle.policy_text.specs.declared.parts.Parts.{Parts as HeldParts}
 use Rattle.policy_text.specs.declared.line.Line.{Line as HeldLine}
 use Rattle.policy_text.specs.declared.line.Line.TheVariants as held
 use Rattle.policy_text.specs.declared.reading.Policy.{Policy}
-use Rattle.policy_text.specs.Policy.{Said, Definition, Parts, Line, nothing, definition, rule, Read, ◌>>=◌}
+use Rattle.policy_text.specs.Policy.{Definition, Parts, Line, nothing, definition, rule, Read, ◌>>=◌}
 
 -- What a function returned, seen so, is what reading gives, unless there was no memory.
 abbrev pub Fails : {B : Type 0} → Fault → Result B PolicyCode → Type 0
@@ -32,21 +32,6 @@ Leaves left (Err fault) reading = Fails fault reading
 abbrev pub Adds : {A B : Type 0} → List B → List B → Result A Fault → Result (List B) PolicyCode → Type 0
 Adds old new result reading = Leaves new result (reading >>= λ more. Ok (old ++ more))
 
-abbrev pub seen_rule : Rule → Said
-seen_rule r =
-    record {
-      code = r.code.items;
-      store = r.store.items;
-      load = r.load.items;
-      execute = r.execute.items;
-      transmit = r.transmit;
-      halt = r.halt;
-      timer = r.timer;
-      system = r.system;
-      seal = r.seal;
-      types = option_map (λ types. types.items) r.types;
-    }
-
 abbrev pub seen_named : Named → Definition
 seen_named n = record { name = n.name.now; ranges = n.ranges.items }
 
@@ -65,16 +50,17 @@ seen_parts p =
       system = p.system;
       seal = p.seal;
       types = option_map (λ types. types.items) p.types;
+      or_caller = p.or_caller;
     }
 
 abbrev pub seen_line : HeldLine → Line
 seen_line held.Nothing = nothing
 seen_line (held.Definition n) = definition (seen_named n)
-seen_line (held.Rule r) = rule (seen_rule r)
+seen_line (held.Rule r) = rule (terms r)
 
 -- the rules of a policy with the numbers of their lines
-abbrev pub seen : Policy → List (ℕ × Said)
-seen policy = zip policy.lines.items (map seen_rule policy.rules.items)
+abbrev pub seen : Policy → List (ℕ × Terms)
+seen policy = zip policy.lines.items (terms_of policy.rules.items)
 
 -- the same with the definitions, while the text is read
 abbrev pub read : List Named → Policy → Read

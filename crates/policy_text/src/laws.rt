@@ -3,23 +3,24 @@ ghost use Rattle.std.specs.Prelude.{◌≡◌, ℕ, List, [], ◌∷◌, ◌++�
 ghost use Rattle.std.specs.List.{AllByRecursion};
 ghost use Rattle.symbols.specs.Symbols.{Symbol, symbol};
 ghost use Rattle.policy_text.specs.declared.fault.PolicyCode.TheVariants.{P1, P2, P3, P4, P5, P6, P7, P8};
-ghost use Rattle.policy_text.specs.Policy.{Said, range, everywhere, policy_of};
+ghost use Rattle.policy.specs.Terms.{Terms};
+ghost use Rattle.policy_text.specs.Policy.{range, everywhere, policy_of};
 ghost use Rattle.policy_text.specs.Sound.{IsSound};
 
 /// A rule of a policy that is read is about the code of some range, none of its ranges is empty, and its object types are at most
 /// 0x3FFFB, the greatest of sealed capabilities.
 pub fn rules_are_sound()
-    ensures { (symbols : List Symbol) (text : List ℕ) (rules : List (ℕ × Said)) → policy_of symbols text ≡ Ok rules
+    ensures { (symbols : List Symbol) (text : List ℕ) (rules : List (ℕ × Terms)) → policy_of symbols text ≡ Ok rules
         → AllByRecursion (λ r. IsSound r.1) rules }
 {}
 
-/// A policy with a definition, a label, a comment, an empty line and two rules.
+/// A policy with a definition, a label, a comment, an empty line and two rules, of which the second lets callers lend.
 pub fn worked_policy()
     ensures { policy_of (symbol 0x80001000 (codes "vault") ∷ [])
         (codes "ram = 0x80000000..+0x100 vault..+16 # areas\n"
         ++ codes "\n"
         ++ codes "when pc in ram: store within ram 0..4, load no, transmit no, types 4 5\n"
-        ++ codes "when pc in vault..0x80002000: system no, seal yes, types none")
+        ++ codes "when pc in vault..0x80002000: system no, or caller, seal yes, types none")
         ≡ Ok ((
           3,
           record {
@@ -33,6 +34,7 @@ pub fn worked_policy()
             system = true;
             seal = true;
             types = Some (4 ∷ 5 ∷ []);
+            or_caller = false;
           },
         ) ∷ (
           4,
@@ -47,6 +49,7 @@ pub fn worked_policy()
             system = false;
             seal = true;
             types = Some [];
+            or_caller = true;
           },
         ) ∷ []) }
 {}
@@ -61,6 +64,8 @@ pub fn worked_faults()
     ensures no_part { policy_of [] (codes "when pc in 0..4:") ≡ Err (1, P6) }
     ensures part_twice { policy_of [] (codes "when pc in 0..4: halt no, halt yes") ≡ Err (1, P7) }
     ensures malformed { policy_of [] (codes "when pc in 0..4: halt maybe") ≡ Err (1, P8) }
+    ensures or_whom { policy_of [] (codes "when pc in 0..4: halt no, or callers") ≡ Err (1, P8) }
+    ensures or_twice { policy_of [] (codes "when pc in 0..4: or caller, halt no, or caller") ≡ Err (1, P7) }
     ensures label { policy_of [] (codes "a = x..0x") ≡ Err (1, P2) }
     ensures over { policy_of [] (codes "a = 0xFFFFFFFFFFFFFFFF..+1 0xFFFFFFFFFFFFFFFF..+2") ≡ Err (1, P4) }
     ensures first_word { policy_of [] (codes "a = 0..4 4..4 b") ≡ Err (1, P5) }

@@ -4,7 +4,8 @@ ghost use Rattle.std.specs.Result.{result_map_both};
 ghost use Rattle.debug_commands.specs.Command.{words_of};
 ghost use Rattle.policy_text.specs.Policy.{everywhere, said, after_when, code_of, rule_of, name_of, new_name, definition_of};
 ghost use Rattle.policy_text.specs.Policy.{rule_line, line_of};
-ghost use Rattle.policy_text.specs.Seen.{Gives, seen_line, seen_named, seen_names, seen_parts, seen_rule};
+ghost use Rattle.policy.specs.Terms.{terms};
+ghost use Rattle.policy_text.specs.Seen.{Gives, seen_line, seen_named, seen_names, seen_parts};
 
 use crate::cut::cut_at;
 use crate::fault::{Fault, PolicyCode};
@@ -66,7 +67,7 @@ fn or_everywhere(alloc: Global, ranges: Option<Vec<Range>>) -> Result<Vec<Range>
 
 /// The rule of these parts.
 fn made(alloc: Global, code: Vec<Range>, parts: Parts) -> Result<Rule, AllocError>
-    ensures { IfOk result (λ rule. seen_rule rule ≡ said code.items (seen_parts parts)) }
+    ensures { IfOk result (λ rule. terms rule ≡ said code.items (seen_parts parts)) }
 {
     Ok(Rule {
         code,
@@ -79,6 +80,7 @@ fn made(alloc: Global, code: Vec<Range>, parts: Parts) -> Result<Rule, AllocErro
         system: parts.system.unwrap_or(true),
         seal: parts.seal.unwrap_or(true),
         types: parts.types,
+        or_caller: parts.or_caller,
     })
 }
 
@@ -91,7 +93,7 @@ fn rule(
     before: &[u8],
     after: &[u8],
 ) -> Result<Rule, Fault>
-    ensures { Gives seen_rule result (rule_of symbols.now (seen_names definitions.now) before.now after.now) }
+    ensures { Gives terms result (rule_of symbols.now (seen_names definitions.now) before.now after.now) }
 {
     let code = code(alloc, symbols, definitions, before)?;
     let parts = read_parts(alloc, symbols, definitions, after)?;

@@ -16,6 +16,7 @@ pub(crate) enum Part {
     System,
     Seal,
     Types,
+    OrCaller,
 }
 
 /// The part of this name.
@@ -41,6 +42,8 @@ pub(crate) fn part_named(word: &[u8]) -> Option<Part>
         Some(Part::Seal)
     } else if is_word(word, "types") {
         Some(Part::Types)
+    } else if is_word(word, "or") {
+        Some(Part::OrCaller)
     } else {
         None
     }

@@ -2,7 +2,7 @@
 ghost use Rattle.std.specs.Prelude.{◌≡◌, ◌==◌, length};
 ghost use Rattle.asm_lines.specs.Text.{pieces_between};
 ghost use Rattle.debug_commands.specs.Command.{words_of};
-ghost use Rattle.policy_text.specs.Policy.{within_of, answer_of, numbers_of, types_of, no_parts, has_part, with_part, part_read};
+ghost use Rattle.policy_text.specs.Policy.{within_of, answer_of, caller_of, numbers_of, types_of, no_parts, has_part, with_part, part_read};
 ghost use Rattle.policy_text.specs.Policy.{parts_read};
 ghost use Rattle.policy_text.specs.Seen.{Gives, Leaves, seen_names, seen_parts};
 
@@ -30,6 +30,7 @@ pub(crate) struct Parts {
     pub system: Option<bool>,
     pub seal: Option<bool>,
     pub types: Option<Vec<u64>>,
+    pub or_caller: bool,
 }
 
 impl Parts {
@@ -46,6 +47,7 @@ impl Parts {
             system: None,
             seal: None,
             types: None,
+            or_caller: false,
         }
     }
 
@@ -62,6 +64,7 @@ impl Parts {
             Part::System => self.system.is_some(),
             Part::Seal => self.seal.is_some(),
             Part::Types => self.types.is_some(),
+            Part::OrCaller => self.or_caller,
         }
     }
 }
@@ -130,6 +133,16 @@ fn types(alloc: Global, words: &[u8]) -> Result<Vec<u64>, Fault>
     }
 }
 
+/// What `caller` says after `or`.
+fn caller(words: &[u8]) -> Result<bool, PolicyCode>
+    ensures { result ≡ caller_of (words_of words.now) }
+{
+    match split_word(words) {
+        Some((word, rest)) if is_word(word, "caller") && is_end(rest) => Ok(true),
+        _ => Err(PolicyCode::P8),
+    }
+}
+
 /// Sets a part to what the words after its name say.
 fn set(
     parts: &mut Parts,
@@ -152,6 +165,7 @@ fn set(
         Part::System => parts.system = Some(answer(words)?),
         Part::Seal => parts.seal = Some(answer(words)?),
         Part::Types => parts.types = Some(types(alloc, words)?),
+        Part::OrCaller => parts.or_caller = caller(words)?,
     }
     Ok(())
 }

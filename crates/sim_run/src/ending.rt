@@ -164,7 +164,7 @@ fn put_since(text: &mut String, count: u64) -> Result<(), AllocError>
 }
 
 /// Appends how many steps were done and where PCC is to a text.
-pub(crate) fn put_place<C: CapRep>(
+pub fn put_place<C: CapRep>(
     text: &mut String,
     machine: &Machine<C>,
     steps: u64,

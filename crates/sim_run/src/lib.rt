@@ -11,7 +11,7 @@ mod traced;
 mod unhandled;
 
 pub use before::{count_steps, lines_skipped, run_before, run_traced_before};
-pub use ending::{ending_lines, verdict};
+pub use ending::{ending_lines, put_place, verdict};
 pub use listing::list;
 pub use run::{Ran, run_counted, run_scheduled};
 pub use schedule::Schedule;

@@ -3,7 +3,7 @@
 import re
 import unittest
 
-from cases.breaches import FILLED, HONEST, LENT, PLANTED, lines
+from cases.breaches import CALLED, FILLED, HONEST, LENT, PLANTED, UNCALLED, lines
 from cases.encoded import word
 from cases.running import Running
 from model import reach
@@ -45,6 +45,29 @@ class Words(unittest.TestCase):
         self.assertLessEqual(set(forms) - tried, {"cspecialrw"})
 
 
+class Calls(unittest.TestCase):
+    """Which steps jump through a seal."""
+
+    def calls(self, text):
+        """The places from which a run calls, and where it ends."""
+        machine, places = Running(text), []
+        while machine.halted is None:
+            place, may = machine.pc(), machine.may_call()
+            machine.step()
+            self.assertLessEqual(machine.is_call, may)
+            places += [place - RAM] if machine.is_call else []
+        return places
+
+    def test_they_are_cinvoke_and_cjalr_to_a_sentry_that_are_done(self):
+        begun = "cspecialrw ca0, pcc, cnull; cspecialrw ca1, ddc, cnull; lui t1, 0x100; csetaddr ca1, ca1, t1; cla ca2, end; "
+        traps = "cspecialrw cnull, mtcc, ca2; ccleartag ca3, ca2; "
+        pair = "li t0, 0x108; candperm ca3, ca1, t0; csetaddr ca4, ca0, t0; cseal ca3, ca3, ca4; cseal ca2, ca2, ca4; "
+        for jump, places in (("cjalr cra, 0(ca2)", []), ("csealentry ca2, ca2; cjalr cra, 0(ca2)", [28]), ("cjal cra, end", []),
+                             ("csealentry ca2, ca2; cspecialrw cnull, mepcc, ca2; mret", []), (traps + "ecall", []),
+                             (traps + "cjalr cra, 0(ca3)", []), (traps + "cinvoke ca3, ca2", []), (pair + "cinvoke ca2, ca3", [44])):
+            self.assertEqual(self.calls(f".mode 1; {begun}{jump}; nop; end: csd zero, 0(ca1)"), places, jump)
+
+
 class Compartments(unittest.TestCase):
     """The kernel with its compartments."""
 
@@ -63,5 +86,6 @@ class Compartments(unittest.TestCase):
 
     def test_the_policy_lets_them_run_and_refuses_each_mistake(self):
         statuses = dict(line.split(" => ") for line in lines() if not line.startswith("#"))
-        for given, status in ((HONEST, "0"), (PLANTED, "1"), (FILLED[:1], "0"), (FILLED[1:], "1"), (LENT, "1")):
+        for given, status in ((HONEST, "0"), (PLANTED, "1"), (FILLED[:1], "0"), (FILLED[1:], "1"), (LENT, "1"), (CALLED, "0"),
+                              (UNCALLED, "1")):
             self.assertEqual([statuses[inputs][0] for inputs in given], [status] * len(given))

@@ -1,11 +1,12 @@
-"""Policies: texts that are read or refused as the grammar says, and what breaks a part at its edges."""
+"""Policies: texts that are read or refused as the grammar says, what breaks a part at its edges, and what a call lends."""
 
 import unittest
 from random import Random
 
 from model.capabilities import ONE, capability, seal
 from model.devices import HALT, RAM, TIMER_COMPARE, TRANSMIT
-from model.policy import Breach, breaks, first_breach, lies_within, read, refused, stopped
+from model.policy import (PARTS, Breach, breaches, breaks, entry, first_breach, is_called, lent, lies_within, listed, range_text, read,
+                          refused, stopped, terms_after)
 from model.reach import ROOT, Member
 from model.rights import ACCESS_SYSTEM_REGISTERS, ALL, EXECUTE, GREATEST_SEALING_TYPE, LOAD, SEAL, STORE, UNSEAL
 from model.tests.begun import root
@@ -22,6 +23,10 @@ def fault_of(text):
     return read(text, LABELS)[1]
 
 
+def members(*values):
+    return [Member(value, (ROOT, n), None) for n, value in enumerate(values)]
+
+
 class Texts(unittest.TestCase):
     """What a text says, or its first fault."""
 
@@ -36,6 +41,13 @@ class Texts(unittest.TestCase):
         self.assertEqual(rules[0].allowed, {"store": [], "load": [(0, 1), (5, 7)], "execute": [(RAM, RAM + 16)], "transmit": True,
                                             "types": []})
 
+    def test_or_caller_stands_in_any_place_and_is_no_part_that_is_broken(self):
+        for said in ("or caller, halt no, load no", "halt no,or\tcaller ,load no", "halt no, load no, or caller # or"):
+            rules, fault = read(f"or = 0..1\nwhen pc in or: {said}", {})
+            self.assertEqual((rules[0].allowed, rules[0].or_caller, fault), ({"halt": False, "load": []}, True, None))
+        self.assertEqual(read("when pc in 0..1: or caller", {})[0][0][3:], ({}, True))
+        self.assertFalse(read("when pc in 0..1: load no # or caller", {})[0][0].or_caller)
+
     def test_texts_without_a_word_say_nothing(self):
         self.assertEqual([read(text, {}) for text in ("", "\n\r\n \t\n", "# when\n#\n")], [([], None)] * 3)
 
@@ -46,7 +58,10 @@ class Texts(unittest.TestCase):
                            ("P5", "A = 4..+0"), ("P6", "when pc in 0..1:"), ("P6", "when pc in 0..1: halt no,"),
                            ("P6", "when pc in 0..1: send no"), ("P7", "when pc in 0..1: seal no, seal no"),
                            ("P8", "when pc in 0..1: seal"), ("P8", "when pc in 0..1: load yes"),
-                           ("P8", "when pc in 0..1: types"), ("P8", "when pc in 0..1: store within")):
+                           ("P8", "when pc in 0..1: types"), ("P8", "when pc in 0..1: store within"),
+                           ("P6", "when pc in 0..1: caller"), ("P6", "when pc in 0..1: or caller, Or caller"),
+                           ("P7", "when pc in 0..1: or caller, or callers"), ("P8", "when pc in 0..1: or callers, or caller"),
+                           ("P8", "when pc in 0..1: or"), ("P8", "when pc in 0..1: or caller yes")):
             self.assertEqual(fault_of(text), (code, text.count("\n") + 1))
             self.assertEqual(fault_of(f"#\n{text}\nx"), (code, text.count("\n") + 2))
 
@@ -108,15 +123,107 @@ class Breaches(unittest.TestCase):
     def test_the_first_rule_then_the_first_member_then_the_first_part(self):
         text = "when pc in 8..9: halt no\nwhen pc in 4..6: store within 0x80000000..+8\nwhen pc in 0..8: seal no, load no, store no\n"
         rules, _ = read(text, {})
-        found = [Member(value, (ROOT, n), None) for n, value in enumerate((bounds(5, 6, SEAL), bounds(RAM, RAM + 9, STORE), root(0)))]
+        found = members(bounds(5, 6, SEAL), bounds(RAM, RAM + 9, STORE), root(0))
         self.assertEqual(first_breach(rules, 5, found), Breach(rules[1], 1, "store"))
         self.assertEqual(first_breach(rules, 6, found), Breach(rules[2], 0, "seal"))
         self.assertEqual(first_breach(rules, 7, found[1:]), Breach(rules[2], 0, "store"))
         self.assertIsNone(first_breach(rules, 9, found))
+
+    def test_all_of_them_by_rule_and_part_each_with_the_first_member(self):
+        rules, _ = read("when pc in 0..9: seal no, store within 0x80000000..+8, types none\nwhen pc in 5..6: halt no, load no\n", {})
+        found = members(bounds(RAM, RAM + 8, STORE), bounds(RAM, RAM + 9, LOAD | STORE), root(0))
+        both = [Breach(rules[0], 1, "store"), Breach(rules[0], 2, "seal")]
+        self.assertEqual(breaches(rules, 4, found), both)
+        self.assertEqual(breaches(rules, 5, found), [*both, Breach(rules[1], 1, "load"), Breach(rules[1], 2, "halt")])
+        self.assertEqual((breaches(rules, 9, found), breaches(rules, 5, [])), ([], []))
 
     def test_lines(self):
         rules, _ = read("\nwhen pc in 4..6: halt no # why\n", {})
         self.assertEqual(stopped(Breach(rules[0], 0, "halt"), 12, RAM, "pcc GX"), (
             "cherisim: not halted\ncherisim: steps 12, pcc 0000000080000000\ncherisim: policy: line 2: halt\n"
             "  rule  when pc in 4..6: halt no\n  held  pcc GX\n"))
+        self.assertEqual(listed(Breach(rules[0], 0, "halt"), 13, RAM, "pcc GX"), (
+            "step 13, pcc 0000000080000000\npolicy: line 2: halt\n  rule  when pc in 4..6: halt no\n  held  pcc GX\n"))
         self.assertEqual(refused("P4", 7, "a.policy"), "cherisim: line 7: P4 number\n  a.policy:7\n")
+
+
+class Calls(unittest.TestCase):
+    """What a call lends."""
+
+    def allowed(self, said, *values):
+        """What the parts of a rule allow after a call by code that reaches so much."""
+        rules, fault = read(f"when pc in 8..16: {said}, or caller", {})
+        self.assertIsNone(fault)
+        return lent(rules[0], members(*values)).allowed
+
+    def test_a_call_comes_from_outside_the_code(self):
+        rule, = read("when pc in 8..16 20..24: or caller", {})[0]
+        self.assertEqual([is_called(rule, before, after) for before, after in ((4, 8), (16, 20), (24, 12), (8, 12), (12, 20), (4, 16))],
+                         [True, True, True, False, False, False])
+
+    def test_ranges_by_right_of_what_is_unsealed(self):
+        given = bounds(RAM, RAM + 8, STORE), bounds(RAM + 4, RAM + 32, LOAD | EXECUTE), seal(bounds(RAM, RAM + 64, ALL), root(7))
+        self.assertEqual(self.allowed("store no, load within 5..6, execute no", *given),
+                         {"store": [(RAM, RAM + 8)], "load": [(5, 6), (RAM + 4, RAM + 32)], "execute": [(RAM + 4, RAM + 32)]})
+
+    def test_what_opens_it_allows_all_of_a_part_that_says_no(self):
+        most = GREATEST_SEALING_TYPE
+        for name, opens, not_quite in (("transmit", bounds(TRANSMIT, TRANSMIT + 1, STORE), bounds(TRANSMIT + 1, TRANSMIT + 8, STORE)),
+                                       ("halt", bounds(HALT, HALT + 8, STORE), bounds(HALT, HALT + 8, ALL ^ STORE)),
+                                       ("timer", bounds(TIMER_COMPARE, TIMER_COMPARE + 1, ALL), bounds(TIMER_COMPARE, TIMER_COMPARE, ALL)),
+                                       ("system", bounds(0, 0, EXECUTE | ACCESS_SYSTEM_REGISTERS), bounds(0, 8, EXECUTE)),
+                                       ("seal", bounds(most, most + 5, UNSEAL), bounds(most + 1, most + 5, SEAL))):
+            self.assertEqual([self.allowed(f"{name} no", *given) for given in ((opens,), (not_quite,), ())],
+                             [{name: True}, {name: False}, {name: False}])
+            self.assertEqual(self.allowed(f"{name} yes"), {name: True})
+
+    def test_types_of_what_is_sealed(self):
+        given = seal(root(0), root(7)), seal(root(0), root(0)), ONE["CSealEntry"](root(0)), root(0)
+        self.assertEqual(self.allowed("types 5 7", *given), {"types": [5, 7, 7, 0]})
+
+    def test_parts_that_are_not_there_stay_so(self):
+        self.assertEqual(self.allowed("types none", root(0)), {"types": []})
+        self.assertEqual(list(self.allowed("halt no, load no")), ["halt", "load"])
+
+    def test_nothing_of_what_the_caller_reaches_breaks_the_rule(self):
+        said = ", ".join(f"{name} no" for name in PARTS[:-1]) + ", types none"
+        rules, _ = read(f"when pc in 0..1: {said}, or caller", {})
+        found = members(root(0), bounds(RAM, RAM + 8, STORE), seal(root(0), root(7)), bounds(RAM - 8, RAM + 8, ALL))
+        self.assertEqual(len(breaches(rules, 0, found)), len(PARTS))
+        self.assertEqual(breaches([lent(rules[0], found)], 0, found), [])
+
+    def test_each_call_replaces_the_terms_of_the_rules_that_have_it(self):
+        rules, _ = read("when pc in 8..16: store no\nwhen pc in 8..16: store no, or caller\nwhen pc in 0..16: store no, or caller", {})
+        first = terms_after(rules, rules, 0, 8, members(bounds(RAM, RAM + 8, STORE)))
+        self.assertEqual([rule.allowed["store"] for rule in first], [[], [(RAM, RAM + 8)], []])
+        self.assertEqual(terms_after(rules, first, 8, 12, members(root(0))), first)
+        self.assertEqual(terms_after(rules, first, 12, 16, members(root(0))), first)
+        second = terms_after(rules, first, 20, 12, members(bounds(RAM + 8, RAM + 16, STORE)))
+        self.assertEqual([rule.allowed["store"] for rule in second], [[], [(RAM + 8, RAM + 16)], [(RAM + 8, RAM + 16)]])
+        self.assertEqual([rule.text for rule in second], [rule.text for rule in rules])
+
+
+class Entries(unittest.TestCase):
+    """The rules of what a run enters."""
+
+    def test_ranges_end_with_all_addresses_by_a_length(self):
+        self.assertEqual(range_text(16, 32), "0x0000000000000010..0x0000000000000020")
+        self.assertEqual(range_text(16, ONES), "0x0000000000000010..0xffffffffffffffff")
+        self.assertEqual(range_text(ONES, SPACE), "0xffffffffffffffff..+0x0000000000000001")
+        self.assertEqual(range_text(0, SPACE), "0x0000000000000000..0x8000000000000000 0x8000000000000000..+0x8000000000000000")
+        for span in ((16, 32), (0, SPACE), (1, SPACE)):
+            spans = read(f"A = {range_text(*span)}\nwhen pc in A: halt no", {})[0][0].code
+            self.assertEqual((spans[0][0], spans[-1][1], [end for _, end in spans[:-1]]), (*span, [first for first, _ in spans[1:]]))
+
+    def test_a_rule_allows_what_is_reachable_and_no_more(self):
+        nothing = entry((16, 32), [])
+        self.assertEqual(nothing, "when pc in 0x0000000000000010..0x0000000000000020: store no, load no, execute no, transmit no, halt no, "
+                         "timer no, system no, seal no, types none\n")
+        found = members(bounds(HALT, HALT + 1, STORE), bounds(8, 16, LOAD | SEAL), bounds(16, 24, LOAD), seal(root(0), root(9)),
+                        seal(root(0), root(4)), seal(root(0), root(9)))
+        text = entry((16, 32), found)
+        self.assertEqual(text.partition(": ")[2], (
+            "store within 0x0000000000100000..0x0000000000100001, load within 0x0000000000000008..0x0000000000000018, execute no, "
+            "transmit no, halt yes, timer no, system no, seal yes, types 4 9\n"))
+        rules, fault = read(text, {})
+        self.assertEqual((fault, breaches(rules, 16, found)), (None, []))

@@ -4,7 +4,8 @@ use Rattle.command_line.proofs.reading.audit_plan.Goals as goal
 
 pub returns-in-None-clause-none : goal.returns-in-None-clause-none
 returns-in-None-clause-none c =
-    no_audit (rows_of (found_of c.args.found.now)) (λ s n g t policy labels numbers range watched. c.in-None.ensures.none s n g t numbers range)
+    no_audit (rows_of (found_of c.args.found.now))
+    (λ s n g t policy labels numbers range watched. c.in-None.ensures.none s n g t numbers range)
 
 pub returns-in_err-policy-clause-none : goal.returns-in_err-policy-clause-none
 returns-in_err-policy-clause-none c =

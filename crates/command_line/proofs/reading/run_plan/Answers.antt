@@ -25,4 +25,5 @@ pub returns-in-Some-clause-none : goal.returns-in-Some-clause-none
 returns-in-Some-clause-none c =
     no_trace (rows_of (found_of c.args.found.now)) c.in_ok-image.image.now c.text-input.result c.in_ok-policy.policy.file
     c.in_ok-policy.policy.symbols c.in_ok-trace.trace.file c.in_ok-image.ensures.ok (sym c.text-input.ensures)
-    c.in_ok-policy.ensures.value.file c.in_ok-policy.ensures.value.labels c.in_ok-trace.ensures.value.file (sym c.is_read_only.ensures ∙ c.if-not-is_read_only.true)
+    c.in_ok-policy.ensures.value.file c.in_ok-policy.ensures.value.labels c.in_ok-trace.ensures.value.file
+    (sym c.is_read_only.ensures ∙ c.if-not-is_read_only.true)

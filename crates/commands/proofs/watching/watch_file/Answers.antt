@@ -17,8 +17,8 @@ returns g c =
     let done = c.in_ok-done.done in
     let said = subst (λ t. IsPolicyOf t table rules) c.deref.ensures.value c.in_ok-rules.ensures.said in
     let with_input = subst
-    (λ i. IsWatchedRun c.deref-2.result.now table rules c.args.schedule i c.args.quiet image c.args.trace c.args.kept (files c.args.folder.now)
-    (files c.run_watched.new.folder) done.0 (held c.args.output) (held done.1))
+    (λ i. IsWatchedRun c.deref-2.result.now table rules c.args.schedule i c.args.quiet image c.args.trace c.args.kept
+    (files c.args.folder.now) (files c.run_watched.new.folder) done.0 (held c.args.output) (held done.1))
     c.deref-3.ensures.value c.in_ok-done.ensures in
     let watched = subst
     (λ t. IsWatchedRun t table rules c.args.schedule typed c.args.quiet image c.args.trace c.args.kept (files c.args.folder.now)
@@ -38,6 +38,6 @@ returns g c =
           (λ t. IsPolicyOf t table rules × IsWatchedRun t table rules c.args.schedule typed c.args.quiet image c.args.trace c.args.kept
           (files c.args.folder.now) (files c.run_watched.new.folder) done.0 (held c.args.output) (held done.1))
           same (said, watched))
-          c.in_ok-text.ensures,
+          c.in_ok-text.ensures.ok,
     ))
     c.in_ok-image.ensures.ok

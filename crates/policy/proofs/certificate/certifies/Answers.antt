@@ -2,13 +2,14 @@ use Rattle.std.proofs.Common.{ℕ, ◌+◌, ◌<◌, length, get_or, sym, subst,
 use Rattle.std.proofs.lemmas.List.{get_or_default}
 use Rattle.std.specs.List.{HoldsAt}
 use Rattle.reach.specs.declared.range.Range.{Range}
+use Rattle.policy.specs.Terms.{terms}
 use Rattle.policy.proofs.Certificates.{RangeKeeps, certified-by}
 use Rattle.policy.proofs.Runs.{places-more}
 use Rattle.policy.proofs.certificate.certifies.Goals as goal
 
 pub loop-range-preserved : goal.loop-range-preserved
 loop-range-preserved g c =
-    let P = RangeKeeps c.args.rule.now c.args.memory.now in
+    let P = RangeKeeps (terms c.args.rule.now) c.args.memory.now in
     let ranges = c.deref-range-items.result.now in
     let same = c.deref-range-items.ensures.value in
     let i : ℕ = c.loop-range.range-index in
@@ -21,5 +22,5 @@ loop-range-preserved g c =
 
 pub returns : goal.returns
 returns g c = λ _.
-    certified-by c.args.rule.now c.args.memory.now
+    certified-by (terms c.args.rule.now) c.args.memory.now
     (λ k few. c.loop-range.invariant k (omega (arith, c.loop-range-test.false, c.deref-range-items.ensures.len)))

@@ -1,12 +1,13 @@
 use Rattle.std.proofs.Common.{sym, ap, ◌∙◌, subst}
 use Rattle.std.proofs.lemmas.Bool.{false≢true}
+use Rattle.policy.specs.Terms.{terms}
 use Rattle.policy.proofs.Certificates.{KeepsTagged, roots-keep}
 use Rattle.policy.proofs.certificate.roots_keep.Goals.{then-keeps, else-keeps}
 use Rattle.policy.proofs.certificate.roots_keep.Goals as goal
 
 pub returns-then-keeps-2 : goal.returns-then-keeps-2
 returns-then-keeps-2 g c =
-    let rule = c.args.rule.now in
+    let rule = (terms c.args.rule.now) in
     let same = c.scrs-scrs.ensures.value in
     elim c.if-keeps.branch [
       | then-keeps w ↦ λ yes.

@@ -1,7 +1,11 @@
 use Rattle.std.proofs.Common.{◌<◌, length, sym, arith}
+use Rattle.policy.proofs.Termed.{termed-at, termed-below}
 use Rattle.policy.proofs.guard.guard_at.Goals as goal
 
 pub returns-then-was_about-clause-there : goal.returns-then-was_about-clause-there
 returns-then-was_about-clause-there c =
-    let below : c.loop-rule.rule-index < length c.args.rules.now = omega arith in
-    (c.loop-rule.rule-index, below, sym c.rule-item.is)
+    let below : c.loop-rule.rule-index < length c.args.rules.now = omega arith in (
+      c.loop-rule.rule-index,
+      termed-below c.args.rules.now c.loop-rule.rule-index below,
+      sym (termed-at c.args.rules.now c.loop-rule.rule-index c.rule-item.result c.rule-item.is),
+    )

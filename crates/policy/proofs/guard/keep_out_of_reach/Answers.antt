@@ -1,17 +1,21 @@
 use Rattle.std.proofs.Common.{◌≡◌, ◌<◌, true, false, length, get_or, sym, ◌∙◌, arith}
 use Rattle.std.proofs.lemmas.Bool.{false≢true}
+use Rattle.std.proofs.lemmas.List.{length-map}
+use Rattle.policy.specs.Terms.{terms, terms_of}
 use Rattle.policy.specs.Known.{OutOfReach}
 use Rattle.policy.proofs.Certificates.{left-more, looked-more}
+use Rattle.policy.proofs.Termed.{termed-at, termed-below}
 use Rattle.policy.proofs.guard.keep_out_of_reach.Goals.{then-certified-place, else-certified-place}
 use Rattle.policy.proofs.guard.keep_out_of_reach.Goals as goal
 
 pub loop-place-preserved : goal.loop-place-preserved
 loop-place-preserved c =
     let l = c.loop-place in
-    let P = OutOfReach c.args.pc c.args.guard.now in
-    let rule = c.index-rules-place.result in
+    let P = OutOfReach c.args.pc (terms c.args.guard.now) in
+    let rule = terms c.index-rules-place.result in
+    let at = termed-at c.args.rules.now l.place c.index-rules-place.result c.index-rules-place.is in
     let mark = c.if-certified-place.certified in
-    let below : l.place < length c.args.rules.now = omega arith in
+    let below : l.place < length (terms_of c.args.rules.now) = termed-below c.args.rules.now l.place (omega arith) in
     let inside : l.place < length l.certified = omega arith in
     let new : mark ≡ true → (get_or l.certified l.place false ≡ true) × P rule =
     elim c.if-certified-place.branch [
@@ -19,11 +23,14 @@ loop-place-preserved c =
       | else-certified-place w ↦ λ yes. absurd (false≢true (sym w.if-certified-place.false ∙ sym w.certified-is ∙ yes))
     ] in
     record {
-      left = left-more P c.args.rules.now l.place rule below c.index-rules-place.is l.certified mark inside c.args.certified.now new
+      left = left-more P (terms_of c.args.rules.now) l.place rule below at l.certified mark inside c.args.certified.now new
           l.invariant.left;
-      looked = looked-more P c.args.rules.now l.place rule below c.index-rules-place.is l.certified mark inside (λ yes. (new yes).1)
+      looked = looked-more P (terms_of c.args.rules.now) l.place rule below at l.certified mark inside (λ yes. (new yes).1)
           l.invariant.looked;
     }
 
 pub returns : goal.returns
-returns c = λ k below marked. (c.loop-place.invariant.left k marked, c.loop-place.invariant.looked k (omega arith) marked)
+returns c = λ k below marked. (
+  c.loop-place.invariant.left k marked,
+  c.loop-place.invariant.looked k (omega (arith, length-map c.args.rules.now terms)) marked,
+)

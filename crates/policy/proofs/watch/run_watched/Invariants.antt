@@ -1,6 +1,8 @@
-use Rattle.std.proofs.Common.{◌≡◌, ◌+◌, ◌-◌, ◌≤◌, length, vec_len, vec_capacity}
-use Rattle.policy.specs.Known.{Knows, rules_of}
-use Rattle.policy.specs.Watch.{IsRunOf, KeepToEach}
+use Rattle.std.proofs.Common.{◌≡◌, ◌+◌, ◌-◌, ◌≤◌, length, take, vec_len, vec_capacity}
+use Rattle.policy.specs.Terms.{terms_of}
+use Rattle.policy.specs.Lending.{in_force}
+use Rattle.policy.specs.Known.{Knows, rules_of, said_to}
+use Rattle.policy.specs.Run.{IsRunOf, KeepToEach}
 use Rattle.policy.proofs.watch.run_watched.Given as goal
 
 -- the run so far, and what the watcher knows
@@ -8,8 +10,9 @@ abbrev pub invariant-loop-event : goal.invariant-loop-event
 invariant-loop-event g l = record {
   done : l.done ≡ l.event-index;
   run : IsRunOf l.events l.event-index l.fn.machine l.machine l.fn.out.items l.out.items;
-  kept : KeepToEach l.rules l.events l.event-index l.fn.machine;
-  rules : rules_of l.watcher ≡ l.rules;
+  kept : KeepToEach (terms_of l.rules) l.events l.event-index l.fn.machine;
+  said : said_to l.watcher ≡ terms_of l.rules;
+  rules : rules_of l.watcher ≡ in_force (terms_of l.rules) (take l.event-index l.events) l.fn.machine;
   knows : Knows l.watcher l.machine;
   room : vec_len l.out + (length l.events - l.event-index) ≤ vec_capacity l.out;
 }

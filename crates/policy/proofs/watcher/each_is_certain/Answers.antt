@@ -1,9 +1,12 @@
 use Rattle.std.proofs.Common.{ℕ, ◌<◌, ◌⊎◌, inl, inr, true, length, rules, sym, ◌∙◌, subst, arith}
 use Rattle.std.proofs.lemmas.Bool.{false≢true}
+use Rattle.std.proofs.lemmas.List.{length-map}
+use Rattle.policy.specs.Terms.{terms, terms_of}
 use Rattle.policy.specs.Watch.{IsAbout, Holds}
 use Rattle.policy.specs.Known.{WasAbout, IsCertified}
 use Rattle.policy.proofs.Certificates.{marked-more}
 use Rattle.policy.proofs.Runs.{places-more}
+use Rattle.policy.proofs.Termed.{termed-at, termed-below}
 use Rattle.policy.proofs.watcher.each_is_certain.Goals.{then-not-is_about-via-then-not-is_about}
 use Rattle.policy.proofs.watcher.each_is_certain.Goals.{then-not-is_about-via-else-not-is_about+then-was_about}
 use Rattle.policy.proofs.watcher.each_is_certain.Goals as goal
@@ -13,16 +16,17 @@ loop-place-preserved-then-not-is_about g c =
     let l = c.loop-place in
     let s = c.args.hart.now in
     let below : l.place < length c.args.rules.now = omega arith in
-    let was : IsAbout c.index-rules-place.result c.args.pc
-    → WasAbout c.args.known c.index-rules-place.result ⊎ Holds c.index-rules-place.result s =
+    let rule = terms c.index-rules-place.result in
+    let was : IsAbout rule c.args.pc → WasAbout c.args.known rule ⊎ Holds rule s =
     elim c.then-not-is_about.branch [
       | then-not-is_about-via-then-not-is_about w ↦ λ about. absurd (false≢true (sym w.if-not-is_about.true ∙ c.is_about.ensures.1 about))
       | then-not-is_about-via-else-not-is_about+then-was_about w ↦ λ _. inl (w.was_about.ensures.0 w.if-was_about.true)
     ] in
     record {
       certified = l.invariant.certified;
-      holds = places-more (λ rule. IsAbout rule c.args.pc → WasAbout c.args.known rule ⊎ Holds rule s) c.args.rules.now l.place
-          c.index-rules-place.result below c.index-rules-place.is was l.invariant.holds;
+      holds = places-more (λ t. IsAbout t c.args.pc → WasAbout c.args.known t ⊎ Holds t s) (terms_of c.args.rules.now) l.place
+          rule (termed-below c.args.rules.now l.place below)
+          (termed-at c.args.rules.now l.place c.index-rules-place.result c.index-rules-place.is) was l.invariant.holds;
     }
 
 pub is_certain-requires : goal.is_certain-requires
@@ -31,8 +35,9 @@ is_certain-requires g c =
     let below : l.place < length c.args.rules.now = omega arith in (
       search rules,
       λ marked.
-          subst (λ rule. IsCertified rule c.args.hart.now.memory) (sym c.index-rules-place.is)
-          (l.invariant.certified l.place below marked c.index-rules-place.result),
+          subst (λ rule. IsCertified rule c.args.hart.now.memory)
+          (sym (termed-at c.args.rules.now l.place c.index-rules-place.result c.index-rules-place.is))
+          (l.invariant.certified l.place (termed-below c.args.rules.now l.place below) marked (terms c.index-rules-place.result)),
     )
 
 pub loop-place-preserved : goal.loop-place-preserved
@@ -42,16 +47,19 @@ loop-place-preserved g c =
     let below : l.place < length c.args.rules.now = omega arith in
     let inside : l.place < length l.certified = omega arith in
     let certain = c.if-not-is_certain.false in
+    let rule = terms c.index-rules-place.result in
+    let there = termed-below c.args.rules.now l.place below in
+    let at = termed-at c.args.rules.now l.place c.index-rules-place.result c.index-rules-place.is in
     record {
-      certified = marked-more (λ rule. IsCertified rule s.memory) c.args.rules.now l.place c.index-rules-place.result below
-          c.index-rules-place.is l.certified true inside (λ _. c.is_certain.ensures.certified certain) l.invariant.certified;
-      holds = places-more (λ rule. IsAbout rule c.args.pc → WasAbout c.args.known rule ⊎ Holds rule s) c.args.rules.now l.place
-          c.index-rules-place.result below c.index-rules-place.is (λ _. inr (c.is_certain.ensures.holds certain)) l.invariant.holds;
+      certified = marked-more (λ t. IsCertified t s.memory) (terms_of c.args.rules.now) l.place rule there at l.certified true inside
+          (λ _. c.is_certain.ensures.certified certain) l.invariant.certified;
+      holds = places-more (λ t. IsAbout t c.args.pc → WasAbout c.args.known t ⊎ Holds t s) (terms_of c.args.rules.now) l.place rule
+          there at (λ _. inr (c.is_certain.ensures.holds certain)) l.invariant.holds;
     }
 
 pub returns-clause-holds : goal.returns-clause-holds
 returns-clause-holds g c = λ _ rule there about.
     let k : ℕ = there.0 in
-    let inside : k < length c.args.rules.now = there.1 in
+    let inside : k < length (terms_of c.args.rules.now) = there.1 in
     subst (λ r. IsAbout r c.args.pc → WasAbout c.args.known r ⊎ Holds r c.args.hart.now) there.2
-    (c.loop-place.invariant.holds k (omega arith) rule) about
+    (c.loop-place.invariant.holds k (omega (arith, length-map c.args.rules.now terms)) rule) about

@@ -1,13 +1,14 @@
 use Rattle.std.proofs.Common.{ℕ, ◌<◌, ◌⊎◌}
 use Rattle.std.specs.List.{HoldsAt}
+use Rattle.policy.specs.Terms.{terms_of}
 use Rattle.policy.specs.Watch.{IsAbout, Holds}
 use Rattle.policy.specs.Known.{WasAbout, AreCertified}
 use Rattle.policy.proofs.watcher.each_is_certain.Given as goal
 
 abbrev pub invariant-loop-place : goal.invariant-loop-place
 invariant-loop-place g l = record {
-  certified : AreCertified l.rules l.certified l.hart.memory;
+  certified : AreCertified (terms_of l.rules) l.certified l.hart.memory;
   holds :
       (k : ℕ) → k < l.place
-      → HoldsAt (λ rule. IsAbout rule l.pc → WasAbout l.known rule ⊎ Holds rule l.hart) l.rules k;
+      → HoldsAt (λ rule. IsAbout rule l.pc → WasAbout l.known rule ⊎ Holds rule l.hart) (terms_of l.rules) k;
 }

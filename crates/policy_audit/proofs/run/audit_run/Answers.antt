@@ -2,8 +2,9 @@ use Rattle.std.proofs.Common.{◌≡◌, ◌+◌, ◌++◌, ◌≤◌, true, ap,
 use Rattle.std.specs.Prelude.{is_some, length, string_bytes}
 use Rattle.machine.specs.Run.{run_after}
 use Rattle.sim_run.specs.Schedule.{first_steps, is_halted, up_to_halt}
-use Rattle.policy_audit.specs.Look.{rules_of, seen_by}
-use Rattle.policy_audit.specs.Text.{audit_findings, audit_text}
+use Rattle.policy.specs.Terms.{terms_of}
+use Rattle.policy_audit.specs.Look.{notes_of, said_to}
+use Rattle.policy_audit.specs.Text.{audit_notes, audit_text}
 use Rattle.policy_audit.proofs.Auditing.{found_next, audit_next}
 use Rattle.policy_audit.proofs.Telling.{ends_here, state_more}
 use Rattle.sim_run.proofs.TracedSteps.{more_count}
@@ -22,13 +23,14 @@ loop-done-preserved g c =
       steps = more_count c.args.schedule c.args.input.now l.done s l.machine c.requires.running l.invariant.state
           l.invariant.running few l.invariant.steps;
       running = search rules;
-      rules = c.tell_around.ensures.rules ∙ l.invariant.rules;
-      seen = found_next c.args.symbols.now c.args.lines.now c.args.rules.now c.args.schedule c.args.input.now l.done s l.machine
-          c.requires.running l.invariant.state l.invariant.running few l.invariant.steps (rules_of l.audit) l.invariant.rules
-          (seen_by l.audit) l.invariant.seen (seen_by c.tell_around.new.audit) told.seen;
-      text = audit_next c.args.symbols.now c.args.lines.now c.args.rules.now c.args.schedule c.args.input.now l.done s l.machine
-          c.requires.running l.invariant.state l.invariant.running few l.invariant.steps (rules_of l.audit) l.invariant.rules
-          (seen_by l.audit) l.invariant.seen (string_bytes c.args.text.now) (string_bytes l.text) (string_bytes c.tell_around.new.text)
+      whole = c.tell_around.ensures.whole;
+      said = c.tell_around.ensures.said ∙ l.invariant.said;
+      notes = found_next c.args.symbols.now c.args.lines.now (terms_of c.args.rules.now) c.args.schedule c.args.input.now l.done s l.machine
+          c.requires.running l.invariant.state l.invariant.running few l.invariant.steps (said_to l.audit) l.invariant.said
+          (notes_of l.audit) l.invariant.notes (notes_of c.tell_around.new.audit) told.notes;
+      text = audit_next c.args.symbols.now c.args.lines.now (terms_of c.args.rules.now) c.args.schedule c.args.input.now l.done s l.machine
+          c.requires.running l.invariant.state l.invariant.running few l.invariant.steps (said_to l.audit) l.invariant.said
+          (notes_of l.audit) l.invariant.notes (string_bytes c.args.text.now) (string_bytes l.text) (string_bytes c.tell_around.new.text)
           l.invariant.text told.text;
     }
 
@@ -53,11 +55,11 @@ returns-then-is_some-clause-text g c =
     let few : l.done + 1 ≤ c.args.schedule.steps = omega (arith, c.loop-done-test.true) in
     let halted : is_halted u ≡ true = ap is_some (sym c.halted.ensures.value) ∙ sym c.is_some.ensures ∙ c.if-is_some.true in
     let told = c.in_ok-tell_around.ensures in
-    audit_next c.args.symbols.now c.args.lines.now c.args.rules.now c.args.schedule c.args.input.now l.done s l.machine
-    c.requires.running l.invariant.state l.invariant.running few l.invariant.steps (rules_of l.audit) l.invariant.rules
-    (seen_by l.audit) l.invariant.seen (string_bytes c.args.text.now) (string_bytes l.text) (string_bytes c.tell_around.new.text)
+    audit_next c.args.symbols.now c.args.lines.now (terms_of c.args.rules.now) c.args.schedule c.args.input.now l.done s l.machine
+    c.requires.running l.invariant.state l.invariant.running few l.invariant.steps (said_to l.audit) l.invariant.said
+    (notes_of l.audit) l.invariant.notes (string_bytes c.args.text.now) (string_bytes l.text) (string_bytes c.tell_around.new.text)
     l.invariant.text told.text
-    ∙ ap (λ es. string_bytes c.args.text.now ++ audit_text c.args.symbols.now c.args.lines.now c.args.rules.now es s)
+    ∙ ap (λ es. string_bytes c.args.text.now ++ audit_text c.args.symbols.now c.args.lines.now (terms_of c.args.rules.now) es s)
     (ends_here c.args.schedule c.args.input.now l.done s l.machine u c.requires.running l.invariant.state l.invariant.running few
     told.state halted)
 
@@ -70,11 +72,11 @@ returns-then-is_some-clause-count g c =
     let halted : is_halted u ≡ true = ap is_some (sym c.halted.ensures.value) ∙ sym c.is_some.ensures ∙ c.if-is_some.true in
     let told = c.in_ok-tell_around.ensures in
     c.count.ensures
-    ∙ ap (λ f. length f)
-    (found_next c.args.symbols.now c.args.lines.now c.args.rules.now c.args.schedule c.args.input.now l.done s l.machine
-    c.requires.running l.invariant.state l.invariant.running few l.invariant.steps (rules_of l.audit) l.invariant.rules
-    (seen_by l.audit) l.invariant.seen (seen_by c.tell_around.new.audit) told.seen
-    ∙ ap (λ es. audit_findings c.args.rules.now es s)
+    ∙ ap (λ notes. length notes.seen)
+    (found_next c.args.symbols.now c.args.lines.now (terms_of c.args.rules.now) c.args.schedule c.args.input.now l.done s l.machine
+    c.requires.running l.invariant.state l.invariant.running few l.invariant.steps (said_to l.audit) l.invariant.said
+    (notes_of l.audit) l.invariant.notes (notes_of c.tell_around.new.audit) told.notes
+    ∙ ap (λ es. audit_notes (terms_of c.args.rules.now) es s)
     (ends_here c.args.schedule c.args.input.now l.done s l.machine u c.requires.running l.invariant.state l.invariant.running few
     told.state halted))
 
@@ -84,7 +86,7 @@ returns-clause-text g c =
     let s = c.args.machine.now in
     let all : l.done ≡ c.args.schedule.steps = omega (arith, l.invariant.few, c.loop-done-test.false) in
     l.invariant.text
-    ∙ ap (λ n. string_bytes c.args.text.now ++ audit_text c.args.symbols.now c.args.lines.now c.args.rules.now
+    ∙ ap (λ n. string_bytes c.args.text.now ++ audit_text c.args.symbols.now c.args.lines.now (terms_of c.args.rules.now)
     (up_to_halt (first_steps c.args.schedule c.args.input.now n) s) s) all
 
 pub returns-clause-state : goal.returns-clause-state
@@ -100,5 +102,5 @@ returns-clause-count g c =
     let s = c.args.machine.now in
     let all : l.done ≡ c.args.schedule.steps = omega (arith, l.invariant.few, c.loop-done-test.false) in
     c.count-2.ensures
-    ∙ ap (λ f. length f) (l.invariant.seen
-    ∙ ap (λ n. audit_findings c.args.rules.now (up_to_halt (first_steps c.args.schedule c.args.input.now n) s) s) all)
+    ∙ ap (λ notes. length notes.seen) (l.invariant.notes
+    ∙ ap (λ n. audit_notes (terms_of c.args.rules.now) (up_to_halt (first_steps c.args.schedule c.args.input.now n) s) s) all)

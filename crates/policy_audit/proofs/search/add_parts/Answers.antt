@@ -1,12 +1,13 @@
 use Rattle.std.proofs.Common.{◌<◌, length, refl}
 use Rattle.reached.specs.Links.{values}
+use Rattle.policy.specs.Terms.{terms}
 use Rattle.policy_audit.specs.Found.{found_part, parts}
 use Rattle.policy_audit.proofs.Adding.{map_next, more}
 use Rattle.policy_audit.proofs.search.add_parts.Goals as goal
 
 pub loop-ban-preserved : goal.loop-ban-preserved
 loop-ban-preserved g c =
-    let f = found_part c.args.seen.now (values g.C.CapRep.value c.args.members.now) c.args.place c.args.rule.now in
+    let f = found_part c.args.seen.now (values g.C.CapRep.value c.args.members.now) c.args.place (terms c.args.rule.now) in
     let inside : c.loop-ban.ban-index < length parts = c.loop-ban-test.true in
     record {
       items = refl;

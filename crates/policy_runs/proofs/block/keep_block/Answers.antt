@@ -1,6 +1,6 @@
 use Rattle.std.proofs.Common.{◌≡◌, ◌∙◌, false, true, ap, sym, rules}
 use Rattle.std.specs.Prelude.{is_some}
-use Rattle.policy.specs.Known.{rules_of}
+use Rattle.policy.specs.Known.{rules_of, said_to}
 use Rattle.sim_run.specs.Schedule.{is_halted}
 use Rattle.policy_runs.proofs.Parts.{block-halted, block-kept, breach-after, still-running}
 use Rattle.policy_runs.proofs.block.keep_block.Goals as goal
@@ -9,7 +9,8 @@ pub keep_steps-requires : goal.keep_steps-requires
 keep_steps-requires g c = (
   search rules,
   (
-    still-running (rules_of c.args.watcher.now) c.args.byte c.args.machine.now c.bring.new.machine c.requires.running c.bring.ensures.state,
+    still-running (said_to c.args.watcher.now) (rules_of c.args.watcher.now) c.args.byte c.args.machine.now c.bring.new.machine
+        c.requires.running c.bring.ensures.state,
     c.bring.ensures.knows,
   ),
 )
@@ -19,7 +20,8 @@ returns-in-Some-clause-found g c =
     let t = c.bring.new.machine in
     let u = c.keep_steps.new.machine in
     let x = c.in-Some.breach in
-    breach-after (rules_of c.args.watcher.now) c.args.byte c.args.machine.now t c.requires.running c.bring.ensures.state c.args.count u x
+    breach-after (said_to c.args.watcher.now) (rules_of c.args.watcher.now) c.args.byte c.args.machine.now t c.requires.running
+    c.bring.ensures.state c.args.count u x
     (rw c.in-Some.is at c.in_ok-breach.ensures.found)
 
 pub returns-then-is_some-clause-none : goal.returns-then-is_some-clause-none
@@ -27,8 +29,8 @@ returns-then-is_some-clause-none g c =
     let t = c.bring.new.machine in
     let u = c.keep_steps.new.machine in
     let halted : is_halted u ≡ true = ap is_some (sym c.halted.ensures.value) ∙ sym c.is_some.ensures ∙ c.if-is_some.true in
-    block-halted (rules_of c.args.watcher.now) c.args.byte c.args.machine.now t c.requires.running c.bring.ensures.state c.args.count
-    c.args.ticks u
+    block-halted (said_to c.args.watcher.now) (rules_of c.args.watcher.now) c.args.byte c.args.machine.now t c.requires.running
+    c.bring.ensures.state (rules_of c.keep_steps.new.watcher) c.args.count c.args.ticks u
     (rw c.in_default.is at c.in_ok-breach.ensures.none)
     halted
 
@@ -40,7 +42,7 @@ returns-clause-none g c =
     let t = c.bring.new.machine in
     let u = c.keep_steps.new.machine in
     let still : is_halted u ≡ false = ap is_some (sym c.halted.ensures.value) ∙ sym c.is_some.ensures ∙ c.if-is_some.false in
-    block-kept (rules_of c.args.watcher.now) c.args.byte c.args.machine.now t c.requires.running c.bring.ensures.state c.args.count
-    c.args.ticks u
+    block-kept (said_to c.args.watcher.now) (rules_of c.args.watcher.now) c.args.byte c.args.machine.now t c.requires.running
+    c.bring.ensures.state (rules_of c.keep_steps.new.watcher) c.args.count c.args.ticks u
     (rw c.in_default.is at c.in_ok-breach.ensures.none)
     c.tick.new.machine still c.tick.ensures.state

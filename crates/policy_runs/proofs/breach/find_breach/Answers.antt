@@ -1,55 +1,82 @@
 use Rattle.std.proofs.Common.{◌≡◌, ◌+◌, ◌∙◌, true, ap, sym, subst, refl, arith}
 use Rattle.std.specs.Prelude.{is_some}
-use Rattle.policy.specs.Known.{rules_of}
+use Rattle.policy.specs.Terms.{terms_of}
+use Rattle.policy.specs.Known.{rules_of, said_to}
 use Rattle.sim_run.specs.Schedule.{byte_before, first_steps, is_halted, is_tick_after}
 use Rattle.policy_runs.specs.Kept.{Kept}
-use Rattle.policy_runs.proofs.Found.{block-as, found-as, found-keep, found-state, kept-further, kept-halted}
+use Rattle.policy_runs.proofs.Found.{block-as, found-as, found-keep, found-refused, found-state, kept-further, kept-halted}
 use Rattle.policy_runs.proofs.Parts.{kept-none}
 use Rattle.policy_runs.proofs.breach.find_breach.Goals as goal
 
 pub loop-done-init : goal.loop-done-init
-loop-done-init g c = record {
-  few = omega arith;
-  kept = kept-none c.args.rules.now c.args.machine.now c.args.machine.now refl;
-  running = c.requires.running;
-  knows = c.in_ok-watcher.ensures.knows c.args.machine.now;
-  rules = c.in_ok-watcher.ensures.rules;
-}
+loop-done-init g c =
+    let s = c.args.machine.now in
+    let by = terms_of c.args.rules.now in
+    record {
+      few = omega arith;
+      kept = subst (λ ts. Kept by by ts (first_steps c.args.schedule c.args.input.now 0) s s) (sym c.in_ok-watcher.ensures.rules)
+          (kept-none by by s s refl);
+      running = c.requires.running;
+      knows = c.in_ok-watcher.ensures.knows s;
+      said = c.in_ok-watcher.ensures.said;
+    }
 
 pub returns-in-Some-clause-state : goal.returns-in-Some-clause-state
 returns-in-Some-clause-state g c =
     let l = c.loop-done in
+    let by = terms_of c.args.rules.now in
+    let now = rules_of l.watcher in
     let n = c.steps_alone-count.result in
     let u = c.keep_block.new.machine in
     let x = c.in-Some.breach in
-    found-state c.args.rules.now c.args.schedule c.args.input.now l.done n c.args.machine.now l.machine c.requires.running l.invariant.kept
+    found-state by now c.args.schedule c.args.input.now l.done n c.args.machine.now l.machine c.requires.running l.invariant.kept
     l.invariant.running c.steps_alone-count.ensures.some c.steps_alone-count.ensures.few c.steps_alone-count.ensures.alone x u
-    (found-as (rules_of l.watcher) c.args.rules.now l.invariant.rules c.byte_before-byte.result
+    (found-as (said_to l.watcher) by now now l.invariant.said refl c.byte_before-byte.result
     (byte_before c.args.schedule c.args.input.now (l.done + 1)) c.byte_before-byte.ensures n l.machine u x
     (rw c.in-Some.is at c.in_ok-breach.ensures.found))
 
 pub returns-in-Some-clause-kept : goal.returns-in-Some-clause-kept
 returns-in-Some-clause-kept g c =
     let l = c.loop-done in
+    let by = terms_of c.args.rules.now in
+    let now = rules_of l.watcher in
     let n = c.steps_alone-count.result in
     let u = c.keep_block.new.machine in
     let x = c.in-Some.breach in
-    found-keep c.args.rules.now c.args.schedule c.args.input.now l.done n c.args.machine.now l.machine c.requires.running l.invariant.kept
+    found-keep by now c.args.schedule c.args.input.now l.done n c.args.machine.now l.machine c.requires.running l.invariant.kept
     l.invariant.running c.steps_alone-count.ensures.some c.steps_alone-count.ensures.few c.steps_alone-count.ensures.alone x u
-    (found-as (rules_of l.watcher) c.args.rules.now l.invariant.rules c.byte_before-byte.result
+    (found-as (said_to l.watcher) by now now l.invariant.said refl c.byte_before-byte.result
+    (byte_before c.args.schedule c.args.input.now (l.done + 1)) c.byte_before-byte.ensures n l.machine u x
+    (rw c.in-Some.is at c.in_ok-breach.ensures.found))
+
+pub returns-in-Some-clause-refused : goal.returns-in-Some-clause-refused
+returns-in-Some-clause-refused g c =
+    let l = c.loop-done in
+    let by = terms_of c.args.rules.now in
+    let now = rules_of l.watcher in
+    let n = c.steps_alone-count.result in
+    let u = c.keep_block.new.machine in
+    let x = c.in-Some.breach in
+    found-refused by now c.args.schedule c.args.input.now l.done n c.args.machine.now l.machine c.requires.running l.invariant.kept
+    l.invariant.running c.steps_alone-count.ensures.some c.steps_alone-count.ensures.few c.steps_alone-count.ensures.alone x u
+    (found-as (said_to l.watcher) by now now l.invariant.said refl c.byte_before-byte.result
     (byte_before c.args.schedule c.args.input.now (l.done + 1)) c.byte_before-byte.ensures n l.machine u x
     (rw c.in-Some.is at c.in_ok-breach.ensures.found))
 
 pub returns-then-is_some-clause-none : goal.returns-then-is_some-clause-none
 returns-then-is_some-clause-none g c =
     let l = c.loop-done in
+    let by = terms_of c.args.rules.now in
+    let now = rules_of l.watcher in
     let n = c.steps_alone-count.result in
     let u = c.keep_block.new.machine in
     let halted : is_halted u ≡ true = ap is_some (sym c.halted.ensures.value) ∙ sym c.is_some.ensures ∙ c.if-is_some.true in
-    kept-halted c.args.rules.now c.args.schedule c.args.input.now l.done n c.args.machine.now l.machine c.requires.running l.invariant.kept
-    l.invariant.running c.steps_alone-count.ensures.some c.steps_alone-count.ensures.few c.steps_alone-count.ensures.alone u
-    (block-as (rules_of l.watcher) c.args.rules.now l.invariant.rules c.byte_before-byte.result
-    (byte_before c.args.schedule c.args.input.now (l.done + 1)) c.byte_before-byte.ensures n l.machine u c.is_tick_after-ticks.result
+    kept-halted by now c.args.schedule c.args.input.now l.done n c.args.machine.now l.machine c.requires.running l.invariant.kept
+    l.invariant.running c.steps_alone-count.ensures.some c.steps_alone-count.ensures.few c.steps_alone-count.ensures.alone
+    (rules_of c.keep_block.new.watcher) u
+    (block-as (said_to l.watcher) by now now l.invariant.said refl c.byte_before-byte.result
+    (byte_before c.args.schedule c.args.input.now (l.done + 1)) c.byte_before-byte.ensures n l.machine u
+    (rules_of c.keep_block.new.watcher) c.is_tick_after-ticks.result
     (is_tick_after c.args.schedule (l.done + n)) c.is_tick_after-ticks.ensures
     (rw c.in_default.is at c.in_ok-breach.ensures.none))
     halted
@@ -57,27 +84,31 @@ returns-then-is_some-clause-none g c =
 pub loop-done-preserved : goal.loop-done-preserved
 loop-done-preserved g c =
     let l = c.loop-done in
+    let by = terms_of c.args.rules.now in
+    let now = rules_of l.watcher in
     let n = c.steps_alone-count.result in
     let u = c.keep_block.new.machine in
     record {
       few = c.steps_alone-count.ensures.few;
-      kept = kept-further c.args.rules.now c.args.schedule c.args.input.now l.done n c.args.machine.now l.machine c.requires.running
+      kept = kept-further by now c.args.schedule c.args.input.now l.done n c.args.machine.now l.machine c.requires.running
           l.invariant.kept l.invariant.running c.steps_alone-count.ensures.some c.steps_alone-count.ensures.few
-          c.steps_alone-count.ensures.alone u
-          (block-as (rules_of l.watcher) c.args.rules.now l.invariant.rules c.byte_before-byte.result
-          (byte_before c.args.schedule c.args.input.now (l.done + 1)) c.byte_before-byte.ensures n l.machine u c.is_tick_after-ticks.result
+          c.steps_alone-count.ensures.alone (rules_of c.keep_block.new.watcher) u
+          (block-as (said_to l.watcher) by now now l.invariant.said refl c.byte_before-byte.result
+          (byte_before c.args.schedule c.args.input.now (l.done + 1)) c.byte_before-byte.ensures n l.machine u
+          (rules_of c.keep_block.new.watcher) c.is_tick_after-ticks.result
           (is_tick_after c.args.schedule (l.done + n)) c.is_tick_after-ticks.ensures
           (rw c.in_default.is at c.in_ok-breach.ensures.none));
       running = ap is_some (sym c.halted.ensures.value) ∙ sym c.is_some.ensures ∙ c.if-is_some.false;
       knows = rw c.in_default.is at c.in_ok-breach.ensures.knows;
-      rules = c.keep_block.ensures.rules ∙ l.invariant.rules;
+      said = c.keep_block.ensures.said ∙ l.invariant.said;
     }
 
 pub returns-clause-none : goal.returns-clause-none
 returns-clause-none g c =
     let l = c.loop-done in
     let s = c.args.machine.now in
+    let by = terms_of c.args.rules.now in
     let all : l.done ≡ c.args.schedule.steps = omega (arith, l.invariant.few, c.loop-done-test.false) in
-    let kept : Kept c.args.rules.now (first_steps c.args.schedule c.args.input.now c.args.schedule.steps) s l.machine =
-    subst (λ n. Kept c.args.rules.now (first_steps c.args.schedule c.args.input.now n) s l.machine) all l.invariant.kept in
+    let kept : Kept by by (rules_of l.watcher) (first_steps c.args.schedule c.args.input.now c.args.schedule.steps) s l.machine =
+    subst (λ n. Kept by by (rules_of l.watcher) (first_steps c.args.schedule c.args.input.now n) s l.machine) all l.invariant.kept in
     kept.keep

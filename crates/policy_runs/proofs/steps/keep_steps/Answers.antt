@@ -1,28 +1,39 @@
-use Rattle.std.proofs.Common.{◌≡◌, ◌+◌, ◌-◌, ◌≤◌, ◌∙◌, true, ap, sym, subst, replicate, rules, arith}
+use Rattle.std.proofs.Common.{◌≡◌, ◌+◌, ◌-◌, ◌≤◌, ◌∙◌, true, ap, sym, subst, replicate, rules, refl, arith}
 use Rattle.std.specs.Prelude.{is_some}
 use Rattle.hart.specs.declared.event.Event.TheVariants.{Step}
-use Rattle.policy.specs.Known.{rules_of}
-use Rattle.policy.specs.Watch.{HoldEach, IsRefused}
+use Rattle.policy.specs.Known.{rules_of, said_to}
+use Rattle.policy.specs.Watch.{HoldEach}
 use Rattle.sim_run.specs.Schedule.{is_halted}
 use Rattle.policy_runs.specs.Kept.{Kept}
-use Rattle.policy_runs.proofs.Parts.{kept-all, kept-steps}
+use Rattle.policy_runs.proofs.Parts.{kept-all, kept-none, kept-steps}
 use Rattle.policy_runs.proofs.steps.keep_steps.Goals as goal
+
+pub loop-done-init : goal.loop-done-init
+loop-done-init g c = record {
+  few = omega arith;
+  kept = kept-none (said_to c.args.watcher.now) (rules_of c.args.watcher.now) c.args.machine.now c.args.machine.now refl;
+  running = c.requires.running;
+  knows = c.requires.knows;
+  said = refl;
+}
 
 pub returns-in-Some-clause-found : goal.returns-in-Some-clause-found
 returns-in-Some-clause-found g c =
     let l = c.loop-done in
+    let w = c.args.watcher.now in
     let same : l.done ≡ l.done + 1 - 1 = omega arith in
     record {
+      next = rules_of l.watcher;
       some = omega arith;
       few = omega (arith, c.loop-done-test.true);
-      kept = subst (λ n. Kept (rules_of c.args.watcher.now) (replicate n Step) c.args.machine.now l.machine) same l.invariant.kept;
+      kept = subst (λ n. Kept (said_to w) (rules_of w) (rules_of l.watcher) (replicate n Step) c.args.machine.now l.machine) same
+          l.invariant.kept;
       running = l.invariant.running;
-      refused = subst (λ rs. IsRefused rs c.in-Some.refused l.machine) l.invariant.rules
-          (rw c.in-Some.is at c.in_ok-refused.ensures.refused);
+      refused = rw c.in-Some.is at c.in_ok-refused.ensures.refused;
     }
 
-pub go_on-done-requires : goal.go_on-done-requires
-go_on-done-requires g c =
+pub go_on-requires : goal.go_on-requires
+go_on-requires g c =
     let l = c.loop-done in (
       search rules,
       (
@@ -40,34 +51,49 @@ go_on-done-requires g c =
 pub returns-then-is_some-clause-none : goal.returns-then-is_some-clause-none
 returns-then-is_some-clause-none g c =
     let l = c.loop-done in
-    let k = c.go_on-done.result in
+    let w = c.args.watcher.now in
+    let v = l.watcher in
+    let n = c.in_ok-done.field-0 in
     let s = c.args.machine.now in
-    let u = c.go_on-done.new.machine in
-    let by = rules_of c.args.watcher.now in
-    let few : l.done + k ≤ c.args.count = omega (arith, c.go_on-done.ensures.few, c.loop-done-test.true) in
+    let u = c.go_on.new.machine in
+    let next = rules_of c.go_on.new.watcher in
+    let few : l.done + n ≤ c.args.count = omega (arith, c.in_ok-done.ensures.few, c.loop-done-test.true) in
     let halted : is_halted u ≡ true = ap is_some (sym c.halted.ensures.value) ∙ sym c.is_some.ensures ∙ c.if-is_some.true in
-    kept-all by (l.done + k) c.args.count s u few c.requires.running
-    (kept-steps by l.done k s l.machine u c.requires.running l.invariant.kept l.invariant.running
-    (subst (λ rs. Kept rs (replicate k Step) l.machine u) (c.refusal.ensures.rules ∙ l.invariant.rules) c.go_on-done.ensures.kept))
+    let here : Kept (said_to w) (rules_of v) next (replicate n Step) l.machine u =
+    subst (λ now. Kept (said_to w) now next (replicate n Step) l.machine u) c.refusal.ensures.rules
+    (subst (λ said. Kept said (rules_of c.refusal.new.self) next (replicate n Step) l.machine u)
+    (c.refusal.ensures.said ∙ l.invariant.said) c.in_ok-done.ensures.kept) in
+    kept-all (said_to w) (rules_of w) next (l.done + n) c.args.count s u few c.requires.running
+    (kept-steps (said_to w) (rules_of w) (rules_of v) next l.done n s l.machine u c.requires.running l.invariant.kept
+    l.invariant.running here)
     halted
 
 pub loop-done-preserved : goal.loop-done-preserved
 loop-done-preserved g c =
     let l = c.loop-done in
-    let k = c.go_on-done.result in
+    let w = c.args.watcher.now in
+    let v = l.watcher in
+    let n = c.in_ok-done.field-0 in
     let s = c.args.machine.now in
-    let u = c.go_on-done.new.machine in
+    let u = c.go_on.new.machine in
+    let next = rules_of c.go_on.new.watcher in
+    let here : Kept (said_to w) (rules_of v) next (replicate n Step) l.machine u =
+    subst (λ now. Kept (said_to w) now next (replicate n Step) l.machine u) c.refusal.ensures.rules
+    (subst (λ said. Kept said (rules_of c.refusal.new.self) next (replicate n Step) l.machine u)
+    (c.refusal.ensures.said ∙ l.invariant.said) c.in_ok-done.ensures.kept) in
     record {
-      few = omega (arith, c.go_on-done.ensures.few, c.loop-done-test.true);
-      kept = kept-steps (rules_of c.args.watcher.now) l.done k s l.machine u c.requires.running l.invariant.kept l.invariant.running
-          (subst (λ rs. Kept rs (replicate k Step) l.machine u) (c.refusal.ensures.rules ∙ l.invariant.rules) c.go_on-done.ensures.kept);
+      few = omega (arith, c.in_ok-done.ensures.few, c.loop-done-test.true);
+      kept = kept-steps (said_to w) (rules_of w) (rules_of v) next l.done n s l.machine u c.requires.running l.invariant.kept
+          l.invariant.running here;
       running = ap is_some (sym c.halted.ensures.value) ∙ sym c.is_some.ensures ∙ c.if-is_some.false;
-      knows = c.go_on-done.ensures.knows;
-      rules = c.go_on-done.ensures.rules ∙ c.refusal.ensures.rules ∙ l.invariant.rules;
+      knows = c.in_ok-done.ensures.knows;
+      said = c.go_on.ensures.said ∙ c.refusal.ensures.said ∙ l.invariant.said;
     }
 
 pub returns-clause-none : goal.returns-clause-none
 returns-clause-none g c =
     let l = c.loop-done in
+    let w = c.args.watcher.now in
     let all : l.done ≡ c.args.count = omega (arith, l.invariant.few, c.loop-done-test.false) in
-    subst (λ n. Kept (rules_of c.args.watcher.now) (replicate n Step) c.args.machine.now l.machine) all l.invariant.kept
+    subst (λ n. Kept (said_to w) (rules_of w) (rules_of l.watcher) (replicate n Step) c.args.machine.now l.machine) all
+    l.invariant.kept

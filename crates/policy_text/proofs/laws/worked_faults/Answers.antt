@@ -54,3 +54,11 @@ returns-clause-first_part c = refl
 pub returns-clause-first_line : goal.returns-clause-first_line
 unfolding range_of ranges_in part_named rule_of definition_of line_of number_of
 returns-clause-first_line c = refl
+
+pub returns-clause-or_whom : goal.returns-clause-or_whom
+unfolding range_of ranges_in part_named rule_of definition_of line_of number_of
+returns-clause-or_whom c = refl
+
+pub returns-clause-or_twice : goal.returns-clause-or_twice
+unfolding range_of ranges_in part_named rule_of definition_of line_of number_of
+returns-clause-or_twice c = refl

@@ -1,24 +1,39 @@
-use Rattle.std.proofs.Common.{◌≡◌, length, sym, ap, ◌∙◌, subst}
+use Rattle.std.proofs.Common.{◌≡◌, length, replicate, sym, ap, ◌∙◌, subst}
 use Rattle.std.proofs.lemmas.List.{with_items_is}
+use Rattle.std.specs.Prelude.{Some}
 use Rattle.std.specs.Vec.{with_items}
 use Rattle.cap_bounds.specs.CapValue.{value_address}
 use Rattle.hart.specs.State.{pc_of}
-use Rattle.policy.specs.Known.{AreCertified}
+use Rattle.hart.specs.declared.event.Event.TheVariants.{Step}
+use Rattle.machine.specs.Run.{run_after}
+use Rattle.policy.specs.Terms.{terms, terms_of}
+use Rattle.policy.specs.Watch.{HoldEach}
+use Rattle.policy.specs.Known.{AreCertified, AreKnown, rules_of}
 use Rattle.policy.proofs.Advancing.{known-run, hold-run, certified-run}
+use Rattle.policy.proofs.Forced.{no-door-plain}
 use Rattle.policy.proofs.watcher.Watcher.advance.Goals as goal
 
+pub returns-clause-uncalled : goal.returns-clause-uncalled
+returns-clause-uncalled g c = λ k below.
+    let step = c.advance_short_of.ensures.goes k below in
+    no-door-plain _ step.running step.plain
+
+pub keep_out_of_reach-requires : goal.keep_out_of_reach-requires
+keep_out_of_reach-requires g c =
+    ap length c.deref_mut.ensures.value ∙ c.requires.knows.count ∙ ap length (sym c.rules-rules.ensures)
+
 pub returns-clause-holds : goal.returns-clause-holds
-returns-clause-holds g c =
-    let w = c.args.self.now in
+returns-clause-holds g c = λ k below.
     let s = c.args.machine.now in
     let n = c.advance_short_of.result in
-    let goes = c.advance_short_of.ensures.goes in
-    let guard = c.in-Some.guard.now in
+    let held = c.rules-rules.ensures in
     let is : c.address-pc.result ≡ pc_of s =
     c.address-pc.ensures
     ∙ ap value_address (c.pcc.ensures.value ∙ ap (λ x. x.pcc) (c.scrs.ensures.value ∙ ap (λ u. u.scrs) c.hart.ensures.value)) in
-    hold-run s c.hart.ensures.state n goes w.rules.now c.requires.holds c.address-pc.result is guard c.in-Some.ensures.there
-    c.in-Some.ensures.was (c.each_stays_away.ensures c.if-not-each_stays_away.false)
+    subst (λ rs. HoldEach (terms_of rs) (run_after (replicate k Step) s)) held
+    (hold-run s c.hart.ensures.state n c.advance_short_of.ensures.goes (terms_of c.rules-rules.result.now)
+    (subst (λ rs. HoldEach (terms_of rs) s) (sym held) c.requires.holds) c.address-pc.result is (terms c.in-Some.guard.now)
+    c.in-Some.ensures.there c.in-Some.ensures.was (c.each_stays_away.ensures c.if-not-each_stays_away.false) k below)
 
 pub returns-clause-knows : goal.returns-clause-knows
 returns-clause-knows g c =
@@ -26,7 +41,10 @@ returns-clause-knows g c =
     let s = c.args.machine.now in
     let n = c.advance_short_of.result in
     let goes = c.advance_short_of.ensures.goes in
-    let guard = c.in-Some.guard.now in
+    let guard = terms c.in-Some.guard.now in
+    let held = c.rules-rules.ensures in
+    let by = terms_of c.rules-rules.result.now in
+    let holds = subst (λ rs. HoldEach (terms_of rs) s) (sym held) c.requires.holds in
     let is : c.address-pc.result ≡ pc_of s =
     c.address-pc.ensures
     ∙ ap value_address (c.pcc.ensures.value ∙ ap (λ x. x.pcc) (c.scrs.ensures.value ∙ ap (λ u. u.scrs) c.hart.ensures.value)) in
@@ -35,12 +53,17 @@ returns-clause-knows g c =
     let same = c.deref_mut.ensures.value in
     let left : (with_items w.certified marks).items ≡ marks =
     with_items_is w.certified marks (c.keep_out_of_reach.auto.certified ∙ ap length same ∙ sym w.certified.ok.0) in
+    let were : AreCertified by w.certified.items s.memory =
+    subst (λ rs. AreCertified (terms_of rs) w.certified.items s.memory) (sym held) c.requires.knows.certified in
     record {
-      known = known-run s c.hart.ensures.state n goes w.rules.now c.requires.holds c.address-pc.result is guard c.in-Some.ensures.there
-          c.in-Some.ensures.was later c.advance_short_of.ensures.state;
+      paired = c.requires.knows.paired;
+      known = subst (λ rs. AreKnown (terms_of rs) (Some c.address-pc.result) later) held
+          (known-run s c.hart.ensures.state n goes by holds c.address-pc.result is guard c.in-Some.ensures.there
+          c.in-Some.ensures.was later c.advance_short_of.ensures.state);
       count = ap length left ∙ c.keep_out_of_reach.auto.certified ∙ ap length same ∙ c.requires.knows.count;
-      certified = subst (λ xs. AreCertified w.rules.now xs later.memory) (sym left)
-          (certified-run s c.hart.ensures.state n goes w.rules.now c.requires.holds c.address-pc.result is guard c.in-Some.ensures.there
+      certified = subst (λ xs. AreCertified (rules_of w) xs later.memory) (sym left)
+          (subst (λ rs. AreCertified (terms_of rs) marks later.memory) held
+          (certified-run s c.hart.ensures.state n goes by holds c.address-pc.result is guard c.in-Some.ensures.there
           c.in-Some.ensures.was later c.advance_short_of.ensures.state c.deref_mut.result.now marks
-          (subst (λ xs. AreCertified w.rules.now xs s.memory) (sym same) c.requires.knows.certified) c.keep_out_of_reach.ensures);
+          (subst (λ xs. AreCertified by xs s.memory) (sym same) were) c.keep_out_of_reach.ensures));
     }

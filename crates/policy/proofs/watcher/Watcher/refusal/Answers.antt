@@ -1,24 +1,26 @@
 use Rattle.std.proofs.Common.{◌≡◌, length, rules, sym, ap, ◌∙◌, subst, ◌⊎◌}
-use Rattle.std.specs.Prelude.{Contains}
+use Rattle.std.specs.Prelude.{Contains, IfSome, IfNone}
 use Rattle.std.proofs.lemmas.List.{with_items_is}
 use Rattle.std.specs.Vec.{with_items}
 use Rattle.cap_bounds.specs.CapValue.{value_address}
 use Rattle.hart.specs.State.{pc_of}
-use Rattle.policy.specs.declared.rule.Rule.{Rule}
-use Rattle.policy.specs.Watch.{IsAbout, Holds}
-use Rattle.policy.specs.Known.{WasAbout, AreCertified}
+use Rattle.policy.specs.Terms.{Terms, terms_of}
+use Rattle.policy.specs.Watch.{IsAbout, Holds, HoldEach, IsRefused}
+use Rattle.policy.specs.Known.{WasAbout, AreCertified, rules_of}
 use Rattle.policy.proofs.Looking.{refused-in, holds-in, holds-certain}
 use Rattle.policy.proofs.watcher.Watcher.refusal.Goals as goal
 
 pub each_is_certain-requires : goal.each_is_certain-requires
 each_is_certain-requires g c =
     let w = c.args.self.now in
-    let same = c.deref_mut.ensures.value in (
+    let same = c.deref_mut.ensures.value in
+    let held = c.rules-rules.ensures in (
       search rules,
       (
-        ap length same ∙ c.requires.knows.count,
-        subst (λ u. AreCertified w.rules.now c.deref_mut.result.now u.memory) (sym c.hart-hart.ensures.value)
-            (subst (λ marks. AreCertified w.rules.now marks c.args.machine.now.memory) (sym same) c.requires.knows.certified),
+        ap length same ∙ c.requires.knows.count ∙ ap length (sym held),
+        subst (λ u. AreCertified (terms_of c.rules-rules.result.now) c.deref_mut.result.now u.memory) (sym c.hart-hart.ensures.value)
+            (subst (λ rs. AreCertified (terms_of rs) c.deref_mut.result.now c.args.machine.now.memory) (sym held)
+            (subst (λ marks. AreCertified (rules_of w) marks c.args.machine.now.memory) (sym same) c.requires.knows.certified)),
       ),
     )
 
@@ -29,9 +31,11 @@ returns-then-each_is_certain-clause-holds g c =
     let is : c.address-pc.result ≡ pc_of s =
     c.address-pc.ensures
     ∙ ap value_address (c.pcc.ensures.value ∙ ap (λ x. x.pcc) (c.scrs.ensures.value ∙ ap (λ u. u.scrs) c.hart-hart.ensures.value)) in
-    holds-certain w.rules.now s c.address-pc.result w.known is c.requires.knows.known
-    (subst (λ u. (rule : Rule) → Contains w.rules.now rule → IsAbout rule c.address-pc.result → WasAbout w.known rule ⊎ Holds rule u)
-    c.hart-hart.ensures.value (c.each_is_certain.ensures.holds c.if-each_is_certain.true))
+    holds-certain (rules_of w) s c.address-pc.result w.known is c.requires.knows.known
+    (subst (λ rs. (rule : Terms) → Contains (terms_of rs) rule → IsAbout rule c.address-pc.result
+    → WasAbout w.known rule ⊎ Holds rule s) c.rules-rules.ensures
+    (subst (λ u. (rule : Terms) → Contains (terms_of c.rules-rules.result.now) rule → IsAbout rule c.address-pc.result
+    → WasAbout w.known rule ⊎ Holds rule u) c.hart-hart.ensures.value (c.each_is_certain.ensures.holds c.if-each_is_certain.true)))
 
 pub returns-then-each_is_certain-clause-knows : goal.returns-then-each_is_certain-clause-knows
 returns-then-each_is_certain-clause-knows g c =
@@ -41,10 +45,13 @@ returns-then-each_is_certain-clause-knows g c =
     let left : (with_items w.certified marks).items ≡ marks =
     with_items_is w.certified marks (c.each_is_certain.auto.certified ∙ ap length c.deref_mut.ensures.value ∙ sym w.certified.ok.0) in
     record {
+      paired = c.requires.knows.paired;
       known = c.requires.knows.known;
       count = ap length left ∙ c.each_is_certain.auto.certified ∙ ap length c.deref_mut.ensures.value ∙ c.requires.knows.count;
-      certified = subst (λ xs. AreCertified w.rules.now xs s.memory) (sym left)
-          (subst (λ u. AreCertified w.rules.now marks u.memory) c.hart-hart.ensures.value c.each_is_certain.ensures.certified);
+      certified = subst (λ xs. AreCertified (rules_of w) xs s.memory) (sym left)
+          (subst (λ rs. AreCertified (terms_of rs) marks s.memory) c.rules-rules.ensures
+          (subst (λ u. AreCertified (terms_of c.rules-rules.result.now) marks u.memory) c.hart-hart.ensures.value
+          c.each_is_certain.ensures.certified));
     }
 
 pub returns-in_err-reach-clause-knows : goal.returns-in_err-reach-clause-knows
@@ -55,10 +62,13 @@ returns-in_err-reach-clause-knows g c =
     let left : (with_items w.certified marks).items ≡ marks =
     with_items_is w.certified marks (c.each_is_certain.auto.certified ∙ ap length c.deref_mut.ensures.value ∙ sym w.certified.ok.0) in
     record {
+      paired = c.requires.knows.paired;
       known = c.requires.knows.known;
       count = ap length left ∙ c.each_is_certain.auto.certified ∙ ap length c.deref_mut.ensures.value ∙ c.requires.knows.count;
-      certified = subst (λ xs. AreCertified w.rules.now xs s.memory) (sym left)
-          (subst (λ u. AreCertified w.rules.now marks u.memory) c.hart-hart.ensures.value c.each_is_certain.ensures.certified);
+      certified = subst (λ xs. AreCertified (rules_of w) xs s.memory) (sym left)
+          (subst (λ rs. AreCertified (terms_of rs) marks s.memory) c.rules-rules.ensures
+          (subst (λ u. AreCertified (terms_of c.rules-rules.result.now) marks u.memory) c.hart-hart.ensures.value
+          c.each_is_certain.ensures.certified));
     }
 
 pub returns-clause-knows : goal.returns-clause-knows
@@ -69,10 +79,13 @@ returns-clause-knows g c =
     let left : (with_items w.certified marks).items ≡ marks =
     with_items_is w.certified marks (c.each_is_certain.auto.certified ∙ ap length c.deref_mut.ensures.value ∙ sym w.certified.ok.0) in
     record {
+      paired = c.requires.knows.paired;
       known = c.requires.knows.known;
       count = ap length left ∙ c.each_is_certain.auto.certified ∙ ap length c.deref_mut.ensures.value ∙ c.requires.knows.count;
-      certified = subst (λ xs. AreCertified w.rules.now xs s.memory) (sym left)
-          (subst (λ u. AreCertified w.rules.now marks u.memory) c.hart-hart.ensures.value c.each_is_certain.ensures.certified);
+      certified = subst (λ xs. AreCertified (rules_of w) xs s.memory) (sym left)
+          (subst (λ rs. AreCertified (terms_of rs) marks s.memory) c.rules-rules.ensures
+          (subst (λ u. AreCertified (terms_of c.rules-rules.result.now) marks u.memory) c.hart-hart.ensures.value
+          c.each_is_certain.ensures.certified));
     }
 
 pub returns-clause-refused : goal.returns-clause-refused
@@ -81,8 +94,10 @@ returns-clause-refused g c =
     let is : c.address-pc.result ≡ pc_of s =
     c.address-pc.ensures
     ∙ ap value_address (c.pcc.ensures.value ∙ ap (λ x. x.pcc) (c.scrs.ensures.value ∙ ap (λ u. u.scrs) c.hart-hart.ensures.value)) in
-    refused-in c.hart-hart.result.now s c.hart-hart.ensures.value c.args.self.now.rules.now c.address-pc.result is g.C.CapRep.value
-    c.in_ok-reach.reach c.in_ok-reach.ensures.exact c.in_ok-reach.ensures.members c.first_refused.result c.first_refused.ensures.some
+    subst (λ rs. IfSome c.first_refused.result (λ x. IsRefused (terms_of rs) x s)) c.rules-rules.ensures
+    (refused-in c.hart-hart.result.now s c.hart-hart.ensures.value (terms_of c.rules-rules.result.now) c.address-pc.result is
+    g.C.CapRep.value c.in_ok-reach.reach c.in_ok-reach.ensures.exact c.in_ok-reach.ensures.members c.first_refused.result
+    c.first_refused.ensures.some)
 
 pub returns-clause-holds : goal.returns-clause-holds
 returns-clause-holds g c =
@@ -90,5 +105,6 @@ returns-clause-holds g c =
     let is : c.address-pc.result ≡ pc_of s =
     c.address-pc.ensures
     ∙ ap value_address (c.pcc.ensures.value ∙ ap (λ x. x.pcc) (c.scrs.ensures.value ∙ ap (λ u. u.scrs) c.hart-hart.ensures.value)) in
-    holds-in c.hart-hart.result.now s c.hart-hart.ensures.value c.args.self.now.rules.now c.address-pc.result is g.C.CapRep.value
-    c.in_ok-reach.reach c.in_ok-reach.ensures.exact c.first_refused.result c.first_refused.ensures.none
+    subst (λ rs. IfNone c.first_refused.result (HoldEach (terms_of rs) s)) c.rules-rules.ensures
+    (holds-in c.hart-hart.result.now s c.hart-hart.ensures.value (terms_of c.rules-rules.result.now) c.address-pc.result is
+    g.C.CapRep.value c.in_ok-reach.reach c.in_ok-reach.ensures.exact c.first_refused.result c.first_refused.ensures.none)

@@ -1,6 +1,7 @@
 use Rattle.std.proofs.Common.{◌≡◌, ◌++◌, ap, sym, ◌∙◌}
 use Rattle.cap_bounds.specs.CapValue.{value_address}
 use Rattle.hart.specs.State.{pc_of}
+use Rattle.policy.specs.Terms.{terms_of}
 use Rattle.policy.specs.Watch.{values_in}
 use Rattle.policy_audit.specs.Found.{found_at, found_from}
 use Rattle.policy_audit.specs.Look.{rules_of, seen_by}
@@ -11,20 +12,23 @@ use Rattle.policy_audit.proofs.audit.Audit.look.Goals as goal
 pub returns-then-finds_none-clause-seen : goal.returns-then-finds_none-clause-seen
 returns-then-finds_none-clause-seen g c =
     let s = c.args.machine.now in
-    let rules = rules_of c.args.self.now in
+    let held = c.rules-rules.ensures in
+    let rules = terms_of c.rules-rules.result.now in
     let seen = seen_by c.args.self.now in
     let is : c.address-pc.result ≡ pc_of s =
     c.address-pc.ensures
     ∙ ap value_address (c.pcc.ensures.value ∙ ap (λ x. x.pcc) (c.scrs.ensures.value ∙ ap (λ t. t.scrs) c.hart-hart.ensures.value)) in
-    nothing seen (found_at rules seen s)
-    (ap (λ a. found_from seen (values_in s) a 0 rules) (sym is)
+    nothing seen (found_at (rules_of c.args.self.now) seen s)
+    (ap (λ rs. found_at (terms_of rs) seen s) (sym held)
+    ∙ ap (λ a. found_from seen (values_in s) a 0 rules) (sym is)
     ∙ ap (λ f. found_from f (values_in s) c.address-pc.result 0 rules) (sym c.deref.ensures.value)
     ∙ c.finds_none.ensures c.if-finds_none.true (values_in s))
 
 pub returns-clause-found : goal.returns-clause-found
 returns-clause-found g c =
     let s = c.args.machine.now in
-    let rules = rules_of c.args.self.now in
+    let held = c.rules-rules.ensures in
+    let rules = terms_of c.rules-rules.result.now in
     let seen = seen_by c.args.self.now in
     let is : c.address-pc.result ≡ pc_of s =
     c.address-pc.ensures
@@ -34,10 +38,12 @@ returns-clause-found g c =
     c.in_ok-add_found.ensures
     ∙ found_in_reach g.C.CapRep.value c.in_ok-reach.reach s c.hart-hart.result.now c.hart-hart.ensures.value
     c.in_ok-reach.ensures.members rules seen c.address-pc.result is
+    ∙ ap (λ rs. found_at (terms_of rs) seen s) held
 
 pub returns-clause-inside : goal.returns-clause-inside
 returns-clause-inside g c =
-    let rules = rules_of c.args.self.now in
+    let held = c.rules-rules.ensures in
+    let rules = terms_of c.rules-rules.result.now in
     let seen = seen_by c.args.self.now in
     found-inside g.C.CapRep.value c.in_ok-reach.reach seen c.address-pc.result rules c.add_found.new.found.items
     (found_here g.C.CapRep.value rules seen c.deref-2.result.now c.address-pc.result c.new-found.result.items c.add_found.new.found.items
@@ -47,7 +53,8 @@ returns-clause-inside g c =
 pub returns-clause-seen : goal.returns-clause-seen
 returns-clause-seen g c =
     let s = c.args.machine.now in
-    let rules = rules_of c.args.self.now in
+    let held = c.rules-rules.ensures in
+    let rules = terms_of c.rules-rules.result.now in
     let seen = seen_by c.args.self.now in
     let is : c.address-pc.result ≡ pc_of s =
     c.address-pc.ensures
@@ -59,4 +66,5 @@ returns-clause-seen g c =
     c.add_found.new.found.items c.in_ok-reach.reach c.members.result.now c.deref-2.ensures.value c.new-found.ensures.items
     c.members.ensures c.in_ok-add_found.ensures
     ∙ found_in_reach g.C.CapRep.value c.in_ok-reach.reach s c.hart-hart.result.now c.hart-hart.ensures.value
-    c.in_ok-reach.ensures.members rules seen c.address-pc.result is)
+    c.in_ok-reach.ensures.members rules seen c.address-pc.result is
+    ∙ ap (λ rs. found_at (terms_of rs) seen s) held)

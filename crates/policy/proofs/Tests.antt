@@ -1,0 +1,273 @@
+-- The tests mean what policies say.
+use Rattle.std.proofs.Common.{◌≡◌, ℕ, ◌<◌, ◌≤◌, List, [], ◌∷◌, Option, None, Some, sym, ◌∙◌, inl, inr, arith, zero, suc}
+use Rattle.std.proofs.lemmas.Bool.{and_from, and_parts, or_cases, or_left, or_right, not-true, not_from_false, cases_lt, cases_Bool}
+use Rattle.std.proofs.lemmas.Bool.{iff_false}
+use Rattle.std.proofs.lemmas.Bool.{ltb-true, leb-true, leb-false, lt-ltb, le-leb, lt-leb, eqb-true, eq-eqb, true≢false, false≢true}
+use Rattle.std.specs.List.{list_any}
+use Rattle.std.specs.Prelude.{◌↔◌, ◌&&◌, ◌||◌, ◌==◌, not, nat_le, nat_lt, min, max, Bool, true, false, Contains, MatchOption}
+use Rattle.std.specs.Prelude.{length, get_or, option_map, unwrap_or}
+use Rattle.base.specs.declared.otype.TheConstants.{FIRST_RESERVED}
+use Rattle.base.specs.ObjectType.{is_reserved}
+use Rattle.base.specs.Ram.{ram_base}
+use Rattle.cap_bounds.specs.CapValue.{CapValue, is_sealed, value_base, value_top, value_otype}
+use Rattle.cap_rights.specs.declared.permission.Permission.{Permission}
+use Rattle.cap_rights.specs.declared.permission.Permission.TheVariants as permission
+use Rattle.cap_rights.specs.Permission.{permits}
+use Rattle.cap_rights.specs.Rights.{OpensSystem, OpensStore}
+use Rattle.devices.specs.Devices.{halt, timer_compare, transmit}
+use Rattle.reach.specs.declared.range.Range.{Range}
+use Rattle.reach.specs.Ranges.{IsInOne}
+use Rattle.reach.proofs.Determined.{head-in, rest-in, in-cases, none-in}
+use Rattle.policy.specs.Terms.{Terms}
+use Rattle.policy.specs.declared.rule.Ban.{Ban}
+use Rattle.policy.specs.declared.rule.Ban.TheVariants.{Store, Load, Execute, Transmit, Halt, Timer, System, Seal, Types}
+use Rattle.policy.specs.Cover.{HasGap}
+use Rattle.policy.specs.Rule.{Lets, OpensOutside, OpensSealing, IsSealedBeyond, Breaks}
+use Rattle.policy.specs.Watch.{IsAbout}
+use Rattle.policy.specs.Tests.{breaks, is_about, is_in_one, is_sealed_beyond, leaves_out, lets}
+use Rattle.policy.specs.Tests.{opens_outside, opens_sealing, opens_store, opens_system}
+
+-- two tests of one fact
+pub same_test : (a b : Bool) {P : Type 0} → ((a ≡ true) ↔ P) → ((b ≡ true) ↔ P) → a ≡ b
+same_test a b one other = elim (cases_Bool b) [
+  | inl holds ↦ one.1 (other.0 holds) ∙ sym holds
+  | inr fails ↦ elim (cases_Bool a) [ inl here ↦ absurd (iff_false other fails (one.0 here)) | inr out ↦ out ∙ sym fails ]
+]
+
+-- ---- ranges
+
+one-in : (ranges : List Range) (a : ℕ) → is_in_one ranges a ≡ true → IsInOne ranges a
+one-in [] a is = absurd (false≢true is)
+one-in (r ∷ rs) a is = elim (or_cases (nat_le r.from a && nat_lt a r.to) (is_in_one rs a) is) [
+  | inl here ↦
+      let both = and_parts (nat_le r.from a) (nat_lt a r.to) here in
+      head-in r rs a (record { low = leb-true r.from a both.0; high = ltb-true a r.to both.1 })
+  | inr there ↦ rest-in r rs a (one-in rs a there)
+]
+
+in-one : (ranges : List Range) (a : ℕ) → IsInOne ranges a → is_in_one ranges a ≡ true
+in-one [] a one = absurd (none-in a one)
+in-one (r ∷ rs) a one = elim (in-cases r rs a one) [
+  | inl here ↦
+      or_left (nat_le r.from a && nat_lt a r.to) (is_in_one rs a)
+      (and_from (nat_le r.from a) (nat_lt a r.to) (le-leb r.from a here.low) (lt-ltb a r.to here.high))
+  | inr there ↦ or_right (nat_le r.from a && nat_lt a r.to) (is_in_one rs a) (in-one rs a there)
+]
+
+gap-out : (ranges : List Range) (from to : ℕ) → leaves_out ranges from to ≡ true → HasGap ranges from to
+gap-out [] from to is = record { address = from; low = omega arith; high = ltb-true from to is; outside = none-in from }
+gap-out (r ∷ rs) from to is = elim (or_cases (leaves_out rs from (min to r.from)) (leaves_out rs (max from r.to) to) is) [
+  | inl before ↦
+      let gap = gap-out rs from (min to r.from) before in
+      let low = gap.low in
+      let high = gap.high in
+      record {
+        address = gap.address;
+        low = low;
+        high = omega arith;
+        outside = λ one. elim (in-cases r rs gap.address one) [
+          | inl here ↦ let begin = here.low in absurd (omega arith)
+          | inr there ↦ gap.outside there
+        ];
+      }
+  | inr behind ↦
+      let gap = gap-out rs (max from r.to) to behind in
+      let low = gap.low in
+      let high = gap.high in
+      record {
+        address = gap.address;
+        low = omega arith;
+        high = high;
+        outside = λ one. elim (in-cases r rs gap.address one) [
+          | inl here ↦ let end = here.high in absurd (omega arith)
+          | inr there ↦ gap.outside there
+        ];
+      }
+]
+
+out-gap : (ranges : List Range) (from to a : ℕ) → from ≤ a → a < to → (IsInOne ranges a → ⊥) → leaves_out ranges from to ≡ true
+out-gap [] from to a low high outside = lt-ltb from to (omega arith)
+out-gap (r ∷ rs) from to a low high outside = elim (cases_lt a r.from) [
+  | inl below ↦
+      or_left (leaves_out rs from (min to r.from)) (leaves_out rs (max from r.to) to)
+      (out-gap rs from (min to r.from) a low (omega arith) (λ one. outside (rest-in r rs a one)))
+  | inr begun ↦ elim (cases_lt a r.to) [
+    | inl under ↦ absurd (outside (head-in r rs a (record { low = begun; high = under })))
+    | inr past ↦
+        or_right (leaves_out rs from (min to r.from)) (leaves_out rs (max from r.to) to)
+        (out-gap rs (max from r.to) to a (omega arith) high (λ one. outside (rest-in r rs a one)))
+  ]
+]
+
+-- ---- capabilities
+
+module _ (c : CapValue) where
+  is-let : (p : Permission) → (lets p c ≡ true) ↔ Lets p c
+  is-let p = (
+    λ is.
+        let both = and_parts (not (is_sealed c)) (permits c p) is in
+        record { unsealed = not-true (is_sealed c) both.0; permitted = both.1 },
+    λ let_it. and_from (not (is_sealed c)) (permits c p) (not_from_false (is_sealed c) let_it.unsealed) let_it.permitted,
+  )
+
+  is-outside : (p : Permission) (ranges : List Range) → (opens_outside p ranges c ≡ true) ↔ OpensOutside p ranges c
+  is-outside p ranges = (
+    λ is.
+        let both = and_parts (lets p c) (leaves_out ranges (max (value_base c) ram_base) (value_top c)) is in
+        let gap = gap-out ranges (max (value_base c) ram_base) (value_top c) both.1 in
+        let low = gap.low in
+        record {
+          byte = gap.address;
+          in_ram = omega arith;
+          outside = gap.outside;
+          lets = (is-let p).0 both.0;
+          base = omega arith;
+          top = gap.high;
+        },
+    λ opens.
+        let base = opens.base in
+        let ram = opens.in_ram in
+        and_from (lets p c) (leaves_out ranges (max (value_base c) ram_base) (value_top c)) ((is-let p).1 opens.lets)
+        (out-gap ranges (max (value_base c) ram_base) (value_top c) opens.byte (omega arith) opens.top opens.outside),
+  )
+
+  pub is-store : (a : ℕ) → (opens_store a c ≡ true) ↔ OpensStore c a
+  is-store a = (
+    λ is.
+        let both = and_parts (lets permission.Store c) (nat_le (value_base c) a && nat_lt a (value_top c)) is in
+        let bounds = and_parts (nat_le (value_base c) a) (nat_lt a (value_top c)) both.1 in
+        let let_it = (is-let permission.Store).0 both.0 in
+        record {
+          unsealed = let_it.unsealed;
+          stores = let_it.permitted;
+          base = leb-true (value_base c) a bounds.0;
+          top = ltb-true a (value_top c) bounds.1;
+        },
+    λ opens.
+        and_from (lets permission.Store c) (nat_le (value_base c) a && nat_lt a (value_top c))
+        ((is-let permission.Store).1 (record { unsealed = opens.unsealed; permitted = opens.stores }))
+        (and_from (nat_le (value_base c) a) (nat_lt a (value_top c)) (le-leb (value_base c) a opens.base)
+        (lt-ltb a (value_top c) opens.top)),
+  )
+
+  pub is-system : (opens_system c ≡ true) ↔ OpensSystem c
+  is-system = (
+    λ is.
+        let both = and_parts (lets permission.Execute c) (permits c permission.AccessSystemRegisters) is in
+        let let_it = (is-let permission.Execute).0 both.0 in
+        record { unsealed = let_it.unsealed; executes = let_it.permitted; system = both.1 },
+    λ opens.
+        and_from (lets permission.Execute c) (permits c permission.AccessSystemRegisters)
+        ((is-let permission.Execute).1 (record { unsealed = opens.unsealed; permitted = opens.executes })) opens.system,
+  )
+
+  permitted-by : (opens_sealing c ≡ true) → OpensSealing c
+  permitted-by is =
+      let end = min (value_top c) FIRST_RESERVED in
+      let both = and_parts (lets permission.Seal c || lets permission.Unseal c) (nat_lt (value_base c) end) is in
+      let below = ltb-true (value_base c) end both.1 in
+      elim (or_cases (lets permission.Seal c) (lets permission.Unseal c) both.0) [
+        | inl seals ↦
+            let let_it = (is-let permission.Seal).0 seals in
+            record {
+              otype = value_base c;
+              unreserved = lt-leb FIRST_RESERVED (value_base c) (omega arith);
+              unsealed = let_it.unsealed;
+              permitted = inl let_it.permitted;
+              base = omega arith;
+              top = omega arith;
+            }
+        | inr unseals ↦
+            let let_it = (is-let permission.Unseal).0 unseals in
+            record {
+              otype = value_base c;
+              unreserved = lt-leb FIRST_RESERVED (value_base c) (omega arith);
+              unsealed = let_it.unsealed;
+              permitted = inr let_it.permitted;
+              base = omega arith;
+              top = omega arith;
+            }
+      ]
+
+  is-sealing : (opens_sealing c ≡ true) ↔ OpensSealing c
+  is-sealing = (
+    permitted-by,
+    λ opens.
+        let base = opens.base in
+        let top = opens.top in
+        let free = leb-false FIRST_RESERVED opens.otype opens.unreserved in
+        and_from (lets permission.Seal c || lets permission.Unseal c) (nat_lt (value_base c) (min (value_top c) FIRST_RESERVED))
+        (elim opens.permitted [
+          | inl seals ↦
+              or_left (lets permission.Seal c) (lets permission.Unseal c)
+              ((is-let permission.Seal).1 (record { unsealed = opens.unsealed; permitted = seals }))
+          | inr unseals ↦
+              or_right (lets permission.Seal c) (lets permission.Unseal c)
+              ((is-let permission.Unseal).1 (record { unsealed = opens.unsealed; permitted = unseals }))
+        ])
+        (lt-ltb (value_base c) (min (value_top c) FIRST_RESERVED) (omega arith)),
+  )
+
+  any-there : (types : List ℕ) (otype : ℕ) → list_any (λ t. t == otype) types ≡ true → Contains types otype
+  any-there [] otype is = absurd (false≢true is)
+  any-there (t ∷ ts) otype is = elim (or_cases (t == otype) (list_any (λ t. t == otype) ts) is) [
+    | inl here ↦ (0, omega arith, eqb-true t otype here)
+    | inr there ↦ let at = any-there ts otype there in (suc at.0, omega (arith, at.1), at.2)
+  ]
+
+  there-any : (types : List ℕ) (otype k : ℕ) → k < length types → get_or types k otype ≡ otype → list_any (λ t. t == otype) types ≡ true
+  there-any [] otype k below at = absurd (omega arith)
+  there-any (t ∷ ts) otype zero below at = or_left (t == otype) (list_any (λ t. t == otype) ts) (eq-eqb t otype at)
+  there-any (t ∷ ts) otype (suc k) below at =
+      or_right (t == otype) (list_any (λ t. t == otype) ts) (there-any ts otype k (omega arith) at)
+
+  is-beyond : (types : List ℕ) → (is_sealed_beyond types c ≡ true) ↔ IsSealedBeyond types c
+  is-beyond types =
+      let otype = value_otype c in
+      let one = list_any (λ t. t == otype) types in (
+        λ is.
+            let both = and_parts (is_sealed c) (not (is_reserved otype) && not one) is in
+            let free = and_parts (not (is_reserved otype)) (not one) both.1 in
+            record {
+              sealed = both.0;
+              unreserved = not-true (is_reserved otype) free.0;
+              beyond = λ there.
+                  true≢false (sym (there-any types otype there.0 there.1 there.2) ∙ not-true one free.1);
+            },
+        λ beyond.
+            and_from (is_sealed c) (not (is_reserved otype) && not one) beyond.sealed
+            (and_from (not (is_reserved otype)) (not one) (not_from_false (is_reserved otype) beyond.unreserved)
+            (elim (cases_Bool one) [
+              | inl there ↦ absurd (beyond.beyond (any-there types otype there))
+              | inr out ↦ not_from_false one out
+            ])),
+      )
+
+  no-type : (o : Option (List ℕ))
+      → (unwrap_or (option_map (λ types. is_sealed_beyond types c) o) false ≡ true) ↔ MatchOption o ⊥ (λ types. IsSealedBeyond types c)
+  no-type None = (λ is. false≢true is, λ none. absurd none)
+  no-type (Some types) = is-beyond types
+
+  -- where a rule says no
+  is-banned : (let_it test : Bool) {P : Type 0} → ((test ≡ true) ↔ P) → ((not let_it && test) ≡ true) ↔ ((let_it ≡ false) × P)
+  is-banned let_it test means = (
+    λ is. let both = and_parts (not let_it) test is in (not-true let_it both.0, means.0 both.1),
+    λ broken. and_from (not let_it) test (not_from_false let_it broken.0) (means.1 broken.1),
+  )
+
+  module _ (rule : Terms) where
+    pub is-break : (ban : Ban) → (breaks rule ban c ≡ true) ↔ Breaks rule ban c
+    unfolding breaks
+    is-break Store = is-outside permission.Store rule.store
+    is-break Load = is-outside permission.Load rule.load
+    is-break Execute = is-outside permission.Execute rule.execute
+    is-break Transmit = is-banned rule.transmit (opens_store transmit c) (is-store transmit)
+    is-break Halt = is-banned rule.halt (opens_store halt c) (is-store halt)
+    is-break Timer = is-banned rule.timer (opens_store timer_compare c) (is-store timer_compare)
+    is-break System = is-banned rule.system (opens_system c) is-system
+    is-break Seal = is-banned rule.seal (opens_sealing c) is-sealing
+    is-break Types = no-type rule.types
+
+pub about-it : (rule : Terms) (pc : ℕ) → (is_about rule pc ≡ true) ↔ IsAbout rule pc
+unfolding is_about
+about-it rule pc = (one-in rule.code pc, in-one rule.code pc)

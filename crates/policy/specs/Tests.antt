@@ -1,0 +1,64 @@
+-- Tests for what breaks a rule, and for the code that it is about. (That they are what policies mean by it is a law of its own.)
+use Rattle.std.specs.Prelude.{ℕ, Bool, false, not, ◌&&◌, ◌||◌, ◌==◌, nat_le, nat_lt, min, max, List, [], ◌∷◌, option_map, unwrap_or}
+use Rattle.std.specs.List.{list_any}
+use Rattle.base.specs.declared.otype.TheConstants.{FIRST_RESERVED}
+use Rattle.base.specs.ObjectType.{is_reserved}
+use Rattle.base.specs.Ram.{ram_base}
+use Rattle.cap_bounds.specs.CapValue.{CapValue, is_sealed, value_base, value_top, value_otype}
+use Rattle.cap_rights.specs.declared.permission.Permission.{Permission}
+use Rattle.cap_rights.specs.declared.permission.Permission.TheVariants as permission
+use Rattle.cap_rights.specs.Permission.{permits}
+use Rattle.devices.specs.Devices.{halt, timer_compare, transmit}
+use Rattle.reach.specs.declared.range.Range.{Range}
+use Rattle.policy.specs.declared.rule.Ban.{Ban}
+use Rattle.policy.specs.declared.rule.Ban.TheVariants.{Store, Load, Execute, Transmit, Halt, Timer, System, Seal, Types}
+use Rattle.policy.specs.Terms.{Terms}
+
+-- whether an address lies in one of the ranges
+abbrev pub is_in_one : List Range → ℕ → Bool
+is_in_one ranges a = list_any (λ range. nat_le range.from a && nat_lt a range.to) ranges
+
+-- whether some address from one on and below another lies in none of the ranges: before the first of them, or past it
+abbrev pub leaves_out : List Range → ℕ → ℕ → Bool
+leaves_out [] from to = nat_lt from to
+leaves_out (range ∷ ranges) from to = leaves_out ranges from (min to range.from) || leaves_out ranges (max from range.to) to
+
+-- unsealed, with the permission
+abbrev pub lets : Permission → CapValue → Bool
+lets permission c = not (is_sealed c) && permits c permission
+
+-- it lets code do so with a byte of RAM that lies in none of the ranges
+abbrev pub opens_outside : Permission → List Range → CapValue → Bool
+opens_outside permission ranges c = lets permission c && leaves_out ranges (max (value_base c) ram_base) (value_top c)
+
+-- a byte may be stored at an address through it
+abbrev pub opens_store : ℕ → CapValue → Bool
+opens_store a c = lets permission.Store c && (nat_le (value_base c) a && nat_lt a (value_top c))
+
+-- code that jumps there may use the system registers
+abbrev pub opens_system : CapValue → Bool
+opens_system c = lets permission.Execute c && permits c permission.AccessSystemRegisters
+
+-- values may be sealed or unsealed through it, with an object type that is not reserved
+abbrev pub opens_sealing : CapValue → Bool
+opens_sealing c =
+    (lets permission.Seal c || lets permission.Unseal c) && nat_lt (value_base c) (min (value_top c) FIRST_RESERVED)
+
+-- sealed, with an object type that is not reserved, and not one of these
+abbrev pub is_sealed_beyond : List ℕ → CapValue → Bool
+is_sealed_beyond types c =
+    is_sealed c && (not (is_reserved (value_otype c)) && not (list_any (λ t. t == value_otype c) types))
+
+unfoldable pub breaks : Terms → Ban → CapValue → Bool
+breaks rule Store c = opens_outside permission.Store rule.store c
+breaks rule Load c = opens_outside permission.Load rule.load c
+breaks rule Execute c = opens_outside permission.Execute rule.execute c
+breaks rule Transmit c = not rule.transmit && opens_store transmit c
+breaks rule Halt c = not rule.halt && opens_store halt c
+breaks rule Timer c = not rule.timer && opens_store timer_compare c
+breaks rule System c = not rule.system && opens_system c
+breaks rule Seal c = not rule.seal && opens_sealing c
+breaks rule Types c = unwrap_or (option_map (λ types. is_sealed_beyond types c) rule.types) false
+
+unfoldable pub is_about : Terms → ℕ → Bool
+is_about rule pc = is_in_one rule.code pc

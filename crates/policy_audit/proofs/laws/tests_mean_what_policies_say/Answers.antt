@@ -1,8 +1,0 @@
-use Rattle.policy_audit.proofs.Tests.{about-it, is-break}
-use Rattle.policy_audit.proofs.laws.tests_mean_what_policies_say.Goals as goal
-
-pub returns-clause-breaks : goal.returns-clause-breaks
-returns-clause-breaks c = λ rule ban v. is-break v rule ban
-
-pub returns-clause-about : goal.returns-clause-about
-returns-clause-about c = λ rule pc. about-it rule pc
