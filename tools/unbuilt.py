@@ -24,7 +24,7 @@ LISTED = re.compile(r"    (\./cherisim\b[^#\n]*)")
 
 # What a command line may also look like.
 OTHERS = ("./cherisim asm --symbols=labels.sym examples/list.s list.img", "./cherisim dis --symbols=labels.sym -- list.img",
-          "./cherisim run --trace=steps.trace --quiet list.img 30", "./cherisim run --why list.img 30",
+          "./cherisim dis --header list.img", "./cherisim run --trace=steps.trace --quiet list.img 30", "./cherisim run --why list.img 30",
           "echo 'when pc in 0..4: store no' > low.policy && ./cherisim run list.img 30 --quiet --policy low.policy",
           "./cherisim run --policy=low.policy list.img 10000 --symbols labels.sym",
           "./cherisim audit list.img 30 --policy low.policy --symbols labels.sym", "./cherisim audit list.img 30",

@@ -7,7 +7,7 @@ What is written is what the model of a machine meets (cases/running.py, cases/wa
 from cases.callers import BY_PAIR, BY_SENTRY, LENT, SENTRY, by_caller, calling, rule
 from cases.encoded import image_of
 from cases.policed import CALL, FIRST, HALTS, WHOLE, Watch, inside, program, sealed
-from cases.program_cases import BAD, FILE, case
+from cases.program_cases import BAD, FILE, TRACE, case
 from cases.quoting import quoted
 from cases.running import Running
 from cases.watched import GAP, TICK, audited, entered
@@ -92,6 +92,18 @@ def moments():
     said = "when pc in entry..+4: system no\nwhen pc in code..+4: halt no\n"
     for tick, count in ((1, 2), (9, 2), (0, 1)):
         yield finds(kernel, said, count, 30, options=f"--tick {tick}", tick=tick)
+    yield "# --quiet leaves the list out, and the status says whether there is one; a trace is that of the whole run"
+    halts = "when pc in 0x80000010..+4: halt no\n"
+    for steps in (4, 5):
+        quiet = Audit(FIRST, halts, steps, options="--quiet", named=False)
+        quiet.sent = b""
+        yield quiet.line()
+    audit = Audit(FIRST, halts, named=False)
+    audit.words = "audit first.img 9 --policy p --trace t"
+    yield audit.line(opened=", make t", made=TRACE.encode())
+    audit.sent = b""
+    audit.words = "audit first.img 9 --quiet --policy p --trace t --trace-from 2 --trace-last 2"
+    yield audit.line(opened=", make t", made="".join(TRACE.splitlines(True)[-2:]).encode())
     yield "# `or caller`: what is lent isn't broken; what is told once isn't told again by other terms"
     yield finds(calling(LENT), rule("store within own..+32", "load no"), 2)
     yield finds(calling(LENT), by_caller("store within own..+32", "load no"), 1)

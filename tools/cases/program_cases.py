@@ -12,7 +12,7 @@ from cases.reaching import answered
 from cases.sessions import ECHO_THREE
 from cases.straight import Straight
 from model.devices import RAM
-from model.images import FIRST, file_v2, header, section
+from model.images import FIRST, GRANTED, MOST, MOST_END, file_v2, header, section
 from model.sessions import Schedule, Session
 from model.words import ONES, ROOT_HIGH, SPACE
 
@@ -672,6 +672,35 @@ def named():
         yield case("asm a.s out.img", [f'a.s "{text}"'], 3, "open a.s", told=faulty_line(number, told))
 
 
+def header_lines(version, pages, entry, mode, capabilities=()):
+    """What a listing with `--header` begins with."""
+    yield f"# version {version}, pages {pages}, entry {entry:016x}, mode {mode}"
+    yield from (f"# {place:016x} .cap 0x{base:016x}, {length}, 0x{perms:05x}, {flag}" for place, base, length, perms, flag in capabilities)
+
+
+def headed():
+    yield "# a listing that begins with the image's header, and with its capabilities in their order"
+    front = joined(header_lines(1, 1, RAM, 0))
+    yield case("dis first.img --header", [FILE], 0, "open first.img", front + LISTED)
+    for pages, entry, mode, capabilities in ((2, RAM + 4, 1, [(RAM + 0x20, 0, 16, 5, 1), GRANTED]), (1, RAM, 0, [GRANTED]),
+                                             (1, RAM, 1, [(RAM, 1 << 62, 3 << 62, 0, 0), (RAM + 16, ONES, 1, 0x1000, 1)]),
+                                             (MOST, MOST_END - 4, 0, [])):
+        file = f"some.img {quoted(file_v2(pages, entry, mode, capabilities, [(RAM + 0x10, bytes([7]))]))}"
+        yield case("dis --header some.img", [file], 0, "open some.img",
+                   joined(header_lines(2, pages, entry, mode, capabilities)) + "0000000080000010 .byte 0x07\n")
+    empty = f"empty.img {quoted(header(2, RAM + 8, 0, 1))}"
+    yield case("dis empty.img --header", [empty], 0, "open empty.img", joined(header_lines(1, 2, RAM + 8, 1)))
+    lines = LISTED.splitlines(True)
+    yield case("dis --header first.img --symbols t", [FILE, 't "000000008000000C halt\\n"'], 0, "open first.img, open t",
+               "".join([front, *lines[:3], "halt:\n", *lines[3:]]))
+    yield "# nothing is sent of a file that is no image, nor where a table is refused; and an output may fail among these lines"
+    yield case("dis bad.img --header", [BAD], 3, "open bad.img", told="cherisim: L1 short header\n  bad.img\n")
+    yield case("dis first.img --header --symbols t", [FILE, 't "halt"'], 3, "open first.img, open t",
+               told="cherisim: line 1: no address and label\n  t:1\n")
+    yield from (case("dis first.img --header", [FILE, f"output {call}"], 3, "open first.img", (front + LISTED)[:call],
+                     "cherisim: write failed\n") for call in (0, 1, len(front) - 1, len(front), len(front + LISTED) - 1))
+
+
 def faults():
     yield "# another fault: status 3, with its text"
     for command in ("asm none out.img", "run none 5", "dis none", "debug none"):
@@ -798,6 +827,6 @@ def fault_texts():
 
 def files():
     lines = ["# a command line, files and streams => the status, what is opened and made, sent, told, and what stands in the file made"]
-    lines += [*ends(), *ended_otherwise(), *not_begun(), *traces(), *images(), *named(), *faults(), *failing(), *read_so_far()]
+    lines += [*ends(), *ended_otherwise(), *not_begun(), *traces(), *images(), *named(), *headed(), *faults(), *failing(), *read_so_far()]
     yield "commands.txt", lines
     yield "told.txt", fault_texts()

@@ -47,7 +47,7 @@ REST = [
     ("what a step comes to, as text", "trap_texts/specs/Names, Text; effect_texts/specs/ValueText, EffectText, TraceLine"),
     ("what the next step asks, and why", "explain/specs/Asked, Text"),
     ("what is shown, against the state", "text_laws/specs/Says, Shown, After"),
-    ("names: tables of symbols, listings with names", "symbols/specs/Symbols; image_listing/specs/Named"),
+    ("names: tables of symbols, listings with names", "symbols/specs/Symbols; image_listing/specs/Named, Header"),
     ("what code can reach, as text", "reach_texts/specs/Text, Asked, Summary"),
     ("the command line and runs on a schedule",
      "command_line/specs/CommandLine; sim_run/specs/Schedule, Trace, Verdict, Unhandled, Ending, Listing"),

@@ -95,6 +95,9 @@ def words_of_plan(plan):
         image, *options = words
         options = zip(("--symbols", "--input", "--gap", "--tick"), options)
         return ["debug", image, *(word for option, value in options for word in named(option, value))]
+    if command == "dis":
+        image, symbols, *flags = words
+        return ["dis", image, *named("--symbols", symbols), *(f"--{flag}" for flag in flags)]
     last = named("--symbols", words[-1])
     return [command, *words[:-1], *last]
 

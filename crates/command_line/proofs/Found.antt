@@ -1,7 +1,7 @@
 -- What is read of clap's matches.
 use Rattle.std.proofs.Common.{◌≡◌, ◌∙◌, ℕ, ◌<◌, ◌^◌, List, refl, sym, ap, subst, codes, slice_index, arith}
 use Rattle.std.specs.Prelude.{Option, Some, None, IfSome, IfNone, IfErr, Result, Ok, Err, unwrap_or, is_some, true, false, Bool, not, ◌&&◌}
-use Rattle.std.specs.Prelude.{[], bytes_eq, option_map}
+use Rattle.std.specs.Prelude.{[], bytes_eq, option_map, IsTrue}
 use Rattle.std.specs.Str.Parse.{IsNumeral, digits_value, without_leading_plus}
 use Rattle.std.specs.Borrow.{Bor}
 use Rattle.clap.specs.Words.{ReadsOne, Row, Text, first_of, one_text, rows_of}
@@ -79,9 +79,9 @@ no_image rows none (Asm input output symbols) fits sound =
 no_image rows none (Image flat output layout) fits sound = none layout fits.3
 no_image rows none (Run image steps times gap tick input quiet why trace from last policy symbols) fits sound =
     let bad : 105 ≡ 114 = ap (λ t. slice_index t 0) fits.0 in absurd (omega (arith, bad))
-no_image rows none (Audit image steps times gap tick input policy symbols) fits sound =
+no_image rows none (Audit image steps times gap tick input quiet trace from last policy symbols) fits sound =
     let bad : 105 ≡ 97 = ap (λ t. slice_index t 0) fits.0 in absurd (omega (arith, bad))
-no_image rows none (Dis image symbols) fits sound =
+no_image rows none (Dis image symbols header) fits sound =
     let bad : 105 ≡ 100 = ap (λ t. slice_index t 0) fits.0 in absurd (omega (arith, bad))
 no_image rows none (Debug image symbols input gap tick) fits sound =
     let bad : 105 ≡ 100 = ap (λ t. slice_index t 0) fits.0 in absurd (omega (arith, bad))
@@ -104,9 +104,9 @@ no_run rows none (Image flat output layout) fits sound =
     let bad : 114 ≡ 105 = ap (λ t. slice_index t 0) fits.0 in absurd (omega (arith, bad))
 no_run rows none (Run image steps times gap tick input quiet why trace from last policy symbols) fits sound =
     none steps times gap tick trace from last policy symbols fits.2 sound.0 fits.6 sound.1 fits.7
-no_run rows none (Audit image steps times gap tick input policy symbols) fits sound =
+no_run rows none (Audit image steps times gap tick input quiet trace from last policy symbols) fits sound =
     let bad : 114 ≡ 97 = ap (λ t. slice_index t 0) fits.0 in absurd (omega (arith, bad))
-no_run rows none (Dis image symbols) fits sound =
+no_run rows none (Dis image symbols header) fits sound =
     let bad : 114 ≡ 100 = ap (λ t. slice_index t 0) fits.0 in absurd (omega (arith, bad))
 no_run rows none (Debug image symbols input gap tick) fits sound =
     let bad : 114 ≡ 100 = ap (λ t. slice_index t 0) fits.0 in absurd (omega (arith, bad))
@@ -137,6 +137,22 @@ abbrev reads_only : Text → Option (Bor Text) → Option (Bor Text) → Option 
 reads_only image input policy symbols trace =
     (is_apart image trace && are_apart input trace) && (are_apart policy trace && are_apart symbols trace)
 
+-- files of a plan, one of which would be written over another
+module _ (rows : List Row) (image : Text) (input policy symbols trace : Option (Bor Text)) (i : first_of (codes "IMAGE") rows ≡ Some image)
+    (n : IsFile (codes "input") rows input) (p : IsFile (codes "policy") rows policy) (s : IsFile (codes "symbols") rows symbols)
+    (t : IsFile (codes "trace") rows trace) (shared : reads_only image input policy symbols trace ≡ false) where
+  no_files : (im : Text) (inp pol names tr : Option (Bor Text)) → first_of (codes "IMAGE") rows ≡ Some im
+      → IsFile (codes "input") rows inp → IsFile (codes "policy") rows pol → IsFile (codes "symbols") rows names
+      → IsFile (codes "trace") rows tr → IsTrue (reads_only im inp pol names tr) → ⊥
+  no_files im inp pol names tr found_image found_input found_policy found_names found_trace true_of =
+      let alike = sym t ∙ found_trace in
+      let one : is_apart image trace ≡ is_apart im tr =
+      is_apart-alike image im trace tr (ap (λ o. unwrap_or o []) (sym i ∙ found_image)) alike in
+      let two : are_apart input trace ≡ are_apart inp tr = are_apart-alike input inp trace tr (sym n ∙ found_input) alike in
+      let three : are_apart policy trace ≡ are_apart pol tr = are_apart-alike policy pol trace tr (sym p ∙ found_policy) alike in
+      let four : are_apart symbols trace ≡ are_apart names tr = are_apart-alike symbols names trace tr (sym s ∙ found_names) alike in
+      cc
+
 -- a plan of `run` writes no file that it reads
 pub no_trace : (rows : List Row) (image : Text) (input policy symbols trace : Option (Bor Text))
     → first_of (codes "IMAGE") rows ≡ Some image
@@ -149,17 +165,11 @@ no_trace rows image input policy symbols trace i n p s t shared (Asm from to lab
 no_trace rows image input policy symbols trace i n p s t shared (Image flat output layout) fits sound =
     let bad : 114 ≡ 105 = ap (λ t. slice_index t 0) fits.0 in absurd (omega (arith, bad))
 no_trace rows image input policy symbols trace i n p s t shared (Run im steps times gap tick inp q why tr first last pol names) fits sound =
-    let alike = sym t ∙ fits.6.file in
-    let one : is_apart image trace ≡ is_apart im.now tr =
-    is_apart-alike image im.now trace tr (ap (λ o. unwrap_or o []) (sym i ∙ fits.1)) alike in
-    let two : are_apart input trace ≡ are_apart inp tr = are_apart-alike input inp trace tr (sym n ∙ fits.3) alike in
-    let three : are_apart policy trace ≡ are_apart pol tr = are_apart-alike policy pol trace tr (sym p ∙ fits.7.file) alike in
-    let four : are_apart symbols trace ≡ are_apart names tr = are_apart-alike symbols names trace tr (sym s ∙ fits.7.labels) alike in
-    let true_of = sound.2 in
-    cc
-no_trace rows image input policy symbols trace i n p s t shared (Audit im steps times gap tick inp pol sym) fits sound =
+    no_files rows image input policy symbols trace i n p s t shared im.now inp pol names tr fits.1 fits.3 fits.7.file fits.7.labels
+    fits.6.file sound.2
+no_trace rows image input policy symbols trace i n p s t shared (Audit im steps times gap tick inp q tr first last pol names) fits sound =
     let bad : 114 ≡ 97 = ap (λ t. slice_index t 0) fits.0 in absurd (omega (arith, bad))
-no_trace rows image input policy symbols trace i n p s t shared (Dis im labels) fits sound =
+no_trace rows image input policy symbols trace i n p s t shared (Dis im labels header) fits sound =
     let bad : 114 ≡ 100 = ap (λ t. slice_index t 0) fits.0 in absurd (omega (arith, bad))
 no_trace rows image input policy symbols trace i n p s t shared (Debug im labels inp gap tick) fits sound =
     let bad : 114 ≡ 100 = ap (λ t. slice_index t 0) fits.0 in absurd (omega (arith, bad))
@@ -167,12 +177,40 @@ no_trace rows image input policy symbols trace i n p s t shared (Bounds base len
     let bad : 114 ≡ 98 = ap (λ t. slice_index t 0) fits.0 in absurd (omega (arith, bad))
 no_trace rows image input policy symbols trace i n p s t shared (Word high low memory) fits sound =
     let bad : 114 ≡ 119 = ap (λ t. slice_index t 0) fits.0 in absurd (omega (arith, bad))
-no_trace rows image input policy symbols trace i n p s t not_apart First fits sound = fits
+no_trace rows image input policy symbols trace i n p s t shared First fits sound = fits
 
--- a plan of `audit` has its numbers, in their ranges, and a policy
+-- nor does a plan of `audit`
+pub no_audit_trace : (rows : List Row) (image : Text) (input policy symbols trace : Option (Bor Text))
+    → first_of (codes "IMAGE") rows ≡ Some image
+    → IsFile (codes "input") rows input → IsFile (codes "policy") rows policy → IsFile (codes "symbols") rows symbols
+    → IsFile (codes "trace") rows trace
+    → reads_only image input policy symbols trace ≡ false
+    → NoCommandFits (codes "audit") rows
+no_audit_trace rows image input policy symbols trace i n p s t shared (Asm from to labels) fits sound =
+    let bad : 117 ≡ 115 = ap (λ t. slice_index t 1) fits.0 in absurd (omega (arith, bad))
+no_audit_trace rows image input policy symbols trace i n p s t shared (Image flat output layout) fits sound =
+    let bad : 97 ≡ 105 = ap (λ t. slice_index t 0) fits.0 in absurd (omega (arith, bad))
+no_audit_trace rows image input policy symbols trace i n p s t shared (Run im steps times gap tick inp q w to f l pol names) fits sound =
+    let bad : 97 ≡ 114 = ap (λ t. slice_index t 0) fits.0 in absurd (omega (arith, bad))
+no_audit_trace rows image input policy symbols trace i n p s t shared (Audit im steps times gap tick inp q to f l pol names) fits sound =
+    no_files rows image input policy symbols trace i n p s t shared im.now inp pol names to fits.1 fits.3 fits.6.file fits.6.labels
+    fits.5.file sound.2
+no_audit_trace rows image input policy symbols trace i n p s t shared (Dis im labels header) fits sound =
+    let bad : 97 ≡ 100 = ap (λ t. slice_index t 0) fits.0 in absurd (omega (arith, bad))
+no_audit_trace rows image input policy symbols trace i n p s t shared (Debug im labels inp gap tick) fits sound =
+    let bad : 97 ≡ 100 = ap (λ t. slice_index t 0) fits.0 in absurd (omega (arith, bad))
+no_audit_trace rows image input policy symbols trace i n p s t shared (Bounds base length address) fits sound =
+    let bad : 97 ≡ 98 = ap (λ t. slice_index t 0) fits.0 in absurd (omega (arith, bad))
+no_audit_trace rows image input policy symbols trace i n p s t shared (Word high low memory) fits sound =
+    let bad : 97 ≡ 119 = ap (λ t. slice_index t 0) fits.0 in absurd (omega (arith, bad))
+no_audit_trace rows image input policy symbols trace i n p s t shared First fits sound = fits
+
+-- a plan of `audit` has its numbers, in their ranges, with those of a trace, and a policy
 pub no_audit : (rows : List Row)
-    → ((steps times gap tick : ℕ) (policy symbols : Option (Bor Text)) → AreNumbersOf rows steps times gap tick
-    → AreInRange steps times gap tick → IsPolicyOf rows policy symbols → ⊥)
+    → ((steps times gap tick : ℕ) (file : Option (Bor Text)) (from : ℕ) (last : Option ℕ)
+    (policy symbols : Option (Bor Text))
+    → AreNumbersOf rows steps times gap tick → AreInRange steps times gap tick → IsTraceOf rows file from last
+    → IsTraceInRange from last → IsPolicyOf rows policy symbols → ⊥)
     → NoCommandFits (codes "audit") rows
 no_audit rows none (Asm input output symbols) fits sound =
     let bad : 117 ≡ 115 = ap (λ t. slice_index t 1) fits.0 in absurd (omega (arith, bad))
@@ -180,9 +218,9 @@ no_audit rows none (Image flat output layout) fits sound =
     let bad : 97 ≡ 105 = ap (λ t. slice_index t 0) fits.0 in absurd (omega (arith, bad))
 no_audit rows none (Run image steps times gap tick input quiet why trace from last policy symbols) fits sound =
     let bad : 97 ≡ 114 = ap (λ t. slice_index t 0) fits.0 in absurd (omega (arith, bad))
-no_audit rows none (Audit image steps times gap tick input policy symbols) fits sound =
-    none steps times gap tick policy symbols fits.2 sound fits.4
-no_audit rows none (Dis image symbols) fits sound =
+no_audit rows none (Audit image steps times gap tick input quiet trace from last policy symbols) fits sound =
+    none steps times gap tick trace from last policy symbols fits.2 sound.0 fits.5 sound.1 fits.6
+no_audit rows none (Dis image symbols header) fits sound =
     let bad : 97 ≡ 100 = ap (λ t. slice_index t 0) fits.0 in absurd (omega (arith, bad))
 no_audit rows none (Debug image symbols input gap tick) fits sound =
     let bad : 97 ≡ 100 = ap (λ t. slice_index t 0) fits.0 in absurd (omega (arith, bad))
@@ -202,9 +240,9 @@ no_debug rows none (Image flat output layout) fits sound =
     let bad : 100 ≡ 105 = ap (λ t. slice_index t 0) fits.0 in absurd (omega (arith, bad))
 no_debug rows none (Run image steps times gap tick input quiet why trace from last policy symbols) fits sound =
     let bad : 100 ≡ 114 = ap (λ t. slice_index t 0) fits.0 in absurd (omega (arith, bad))
-no_debug rows none (Audit image steps times gap tick input policy symbols) fits sound =
+no_debug rows none (Audit image steps times gap tick input quiet trace from last policy symbols) fits sound =
     let bad : 100 ≡ 97 = ap (λ t. slice_index t 0) fits.0 in absurd (omega (arith, bad))
-no_debug rows none (Dis image symbols) fits sound =
+no_debug rows none (Dis image symbols header) fits sound =
     let bad : 101 ≡ 105 = ap (λ t. slice_index t 1) fits.0 in absurd (omega (arith, bad))
 no_debug rows none (Debug image symbols input gap tick) fits sound = none gap tick fits.4 fits.5 sound
 no_debug rows none (Bounds base length address) fits sound =
@@ -223,9 +261,9 @@ no_bounds rows none (Image flat output layout) fits sound =
     let bad : 98 ≡ 105 = ap (λ t. slice_index t 0) fits.0 in absurd (omega (arith, bad))
 no_bounds rows none (Run image steps times gap tick input quiet why trace from last policy symbols) fits sound =
     let bad : 98 ≡ 114 = ap (λ t. slice_index t 0) fits.0 in absurd (omega (arith, bad))
-no_bounds rows none (Audit image steps times gap tick input policy symbols) fits sound =
+no_bounds rows none (Audit image steps times gap tick input quiet trace from last policy symbols) fits sound =
     let bad : 98 ≡ 97 = ap (λ t. slice_index t 0) fits.0 in absurd (omega (arith, bad))
-no_bounds rows none (Dis image symbols) fits sound =
+no_bounds rows none (Dis image symbols header) fits sound =
     let bad : 98 ≡ 100 = ap (λ t. slice_index t 0) fits.0 in absurd (omega (arith, bad))
 no_bounds rows none (Debug image symbols input gap tick) fits sound =
     let bad : 98 ≡ 100 = ap (λ t. slice_index t 0) fits.0 in absurd (omega (arith, bad))
@@ -244,9 +282,9 @@ no_word rows none (Image flat output layout) fits sound =
     let bad : 119 ≡ 105 = ap (λ t. slice_index t 0) fits.0 in absurd (omega (arith, bad))
 no_word rows none (Run image steps times gap tick input quiet why trace from last policy symbols) fits sound =
     let bad : 119 ≡ 114 = ap (λ t. slice_index t 0) fits.0 in absurd (omega (arith, bad))
-no_word rows none (Audit image steps times gap tick input policy symbols) fits sound =
+no_word rows none (Audit image steps times gap tick input quiet trace from last policy symbols) fits sound =
     let bad : 119 ≡ 97 = ap (λ t. slice_index t 0) fits.0 in absurd (omega (arith, bad))
-no_word rows none (Dis image symbols) fits sound =
+no_word rows none (Dis image symbols header) fits sound =
     let bad : 119 ≡ 100 = ap (λ t. slice_index t 0) fits.0 in absurd (omega (arith, bad))
 no_word rows none (Debug image symbols input gap tick) fits sound =
     let bad : 119 ≡ 100 = ap (λ t. slice_index t 0) fits.0 in absurd (omega (arith, bad))

@@ -85,8 +85,11 @@ abbrev pub with_schedule : App → App
 with_schedule run = with_pace (with_rule (with_rule run times_rule) (named (codes "input")))
 
 -- [--quiet] [--why] [--trace FILE [--trace-from N] [--trace-last N]]
+abbrev pub with_quiet : App → App
+with_quiet run = with_rule run (flag (codes "quiet"))
+
 abbrev pub with_ends : Bool → App → App
-with_ends all run = with_rule (with_rule run (flag (codes "quiet"))) (why_rule all)
+with_ends all run = with_rule (with_quiet run) (why_rule all)
 
 abbrev pub with_trace : App → App
 with_trace run = with_rule (with_rule (with_rule run (named (codes "trace"))) from_rule) last_rule
@@ -95,7 +98,7 @@ with_trace run = with_rule (with_rule (with_rule run (named (codes "trace"))) fr
 abbrev pub with_policy : App → App
 with_policy run = with_symbols (with_rule run (named (codes "policy")))
 
--- run IMAGE STEPS with these options, and audit IMAGE STEPS with those of a schedule and a policy
+-- run IMAGE STEPS with these options, and audit IMAGE STEPS with these but --why
 abbrev pub scheduled_command : Text → App
 scheduled_command name = with_schedule (with_rule (with_rule (new_app name) (operand (codes "IMAGE"))) steps_rule)
 
@@ -103,11 +106,11 @@ abbrev pub run_command : Bool → App
 run_command all = with_policy (with_trace (with_ends all (scheduled_command (codes "run"))))
 
 abbrev pub audit_command : App
-audit_command = with_policy (scheduled_command (codes "audit"))
+audit_command = with_policy (with_trace (with_quiet (scheduled_command (codes "audit"))))
 
--- dis IMAGE [--symbols FILE]
+-- dis IMAGE [--symbols FILE] [--header]
 abbrev pub dis_command : App
-dis_command = with_symbols (with_rule (new_app (codes "dis")) (operand (codes "IMAGE")))
+dis_command = with_rule (with_symbols (with_rule (new_app (codes "dis")) (operand (codes "IMAGE")))) (flag (codes "header"))
 
 -- debug IMAGE [--symbols FILE] [--input FILE] [--gap N] [--tick N]
 abbrev pub with_input : App → App
@@ -284,12 +287,14 @@ IsPlanOfCommand name rows (Run image steps times gap tick input quiet why trace 
     × (first_of (codes "IMAGE") rows ≡ Some image.now) × AreNumbersOf rows steps times gap tick
     × IsFile (codes "input") rows input × (quiet ≡ is_used (codes "quiet") rows) × (why ≡ why_of rows)
     × IsTraceOf rows trace trace_from trace_last × IsPolicyOf rows policy symbols
-IsPlanOfCommand name rows (Audit image steps times gap tick input policy symbols) =
+IsPlanOfCommand name rows (Audit image steps times gap tick input quiet trace trace_from trace_last policy symbols) =
     (name ≡ codes "audit")
     × (first_of (codes "IMAGE") rows ≡ Some image.now) × AreNumbersOf rows steps times gap tick
-    × IsFile (codes "input") rows input × IsPolicyOf rows policy symbols
-IsPlanOfCommand name rows (Dis image symbols) =
+    × IsFile (codes "input") rows input × (quiet ≡ is_used (codes "quiet") rows)
+    × IsTraceOf rows trace trace_from trace_last × IsPolicyOf rows policy symbols
+IsPlanOfCommand name rows (Dis image symbols header) =
     (name ≡ codes "dis") × (first_of (codes "IMAGE") rows ≡ Some image.now) × IsFile (codes "symbols") rows symbols
+    × (header ≡ is_used (codes "header") rows)
 IsPlanOfCommand name rows (Debug image symbols input gap tick) =
     (name ≡ codes "debug")
     × (first_of (codes "IMAGE") rows ≡ Some image.now) × IsFile (codes "symbols") rows symbols
@@ -329,8 +334,10 @@ IsSound (Image flat output layout) = IsTrue (not (bytes_eq flat.now output.now))
 IsSound (Run image steps times gap tick input quiet why trace trace_from trace_last policy symbols) =
     AreInRange steps times gap tick × IsTraceInRange trace_from trace_last
     × IsTrue ((is_apart image.now trace && are_apart input trace) && (are_apart policy trace && are_apart symbols trace))
-IsSound (Audit image steps times gap tick input policy symbols) = AreInRange steps times gap tick
-IsSound (Dis image symbols) = ⊤
+IsSound (Audit image steps times gap tick input quiet trace trace_from trace_last policy symbols) =
+    AreInRange steps times gap tick × IsTraceInRange trace_from trace_last
+    × IsTrue ((is_apart image.now trace && are_apart input trace) && (are_apart policy trace && are_apart symbols trace))
+IsSound (Dis image symbols header) = ⊤
 IsSound (Debug image symbols input gap tick) = IsInputInRange gap tick
 IsSound (Bounds base length address) = ⊤
 IsSound (Word high low memory) = ⊤

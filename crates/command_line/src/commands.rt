@@ -5,7 +5,7 @@ ghost use Rattle.clap.specs.Words.{app_of, rule_of, with_rule, with_subcommand};
 ghost use Rattle.clap.specs.declared.builder.command.Command.TheViews.{out-Command};
 ghost use Rattle.command_line.specs.CommandLine.{with_pace, with_schedule, with_ends, with_trace, with_input, with_layout};
 ghost use Rattle.command_line.specs.CommandLine.{asm_command, image_command, run_command, dis_command, debug_command};
-ghost use Rattle.command_line.specs.CommandLine.{with_policy, scheduled_command, audit_command};
+ghost use Rattle.command_line.specs.CommandLine.{with_policy, with_quiet, scheduled_command, audit_command};
 ghost use Rattle.command_line.specs.CommandLine.{bounds_command, word_command, making, taking, program};
 
 use crate::arguments::{
@@ -136,14 +136,23 @@ fn with_schedule<'a>(alloc: Global, run: Command<'a>) -> Result<Command<'a>, All
     with_pace(alloc, run)
 }
 
+/// Adds the option that leaves out what is told.
+fn with_quiet<'a>(alloc: Global, run: Command<'a>) -> Result<Command<'a>, AllocError>
+    requires { (out-Command run).has_globals ≡ false }
+    ensures app { IfOk result (λ c. app_of c ≡ with_quiet (app_of run.entry)) }
+    ensures local { IfOk result (λ c. (out-Command c).has_globals ≡ false) }
+{
+    let quiet = "Leaves out what is told of a run but its status";
+    with_argument(run, flag(alloc, "quiet", quiet))
+}
+
 /// Adds the options of `run` that say what is told of its end; `all` says that the words have `--why=all`.
 fn with_ends<'a>(alloc: Global, all: bool, run: Command<'a>) -> Result<Command<'a>, AllocError>
     requires { (out-Command run).has_globals ≡ false }
     ensures app { IfOk result (λ c. app_of c ≡ with_ends all (app_of run.entry)) }
     ensures local { IfOk result (λ c. (out-Command c).has_globals ≡ false) }
 {
-    let quiet = "Leaves out the lines that say where a run ended";
-    let run = with_argument(run, flag(alloc, "quiet", quiet))?;
+    let run = with_quiet(alloc, run)?;
     with_argument(run, why(alloc, all))
 }
 
@@ -204,6 +213,8 @@ fn audit_command<'a>(alloc: Global) -> Result<Command<'a>, AllocError>
     let about =
         "Runs an image, and lists what breaks a policy, or what a policy would have to allow";
     let audit = scheduled_command(alloc, "audit", about)?;
+    let audit = with_quiet(alloc, audit)?;
+    let audit = with_trace(alloc, audit)?;
     with_policy(alloc, audit)
 }
 
@@ -211,17 +222,12 @@ fn dis_command<'a>(alloc: Global) -> Result<Command<'a>, AllocError>
     ensures app { IfOk result (λ c. app_of c ≡ dis_command) }
     ensures local { IfOk result (λ c. (out-Command c).has_globals ≡ false) }
 {
+    let labels = "A file with labels, which the listing shows";
+    let header = "Begin with the image's header and capabilities, as comments";
     let dis = Command::new(alloc, "dis").about("Lists an image as instructions");
     let dis = with_argument(dis, operand(alloc, "IMAGE", "The file with the image"))?;
-    with_argument(
-        dis,
-        named(
-            alloc,
-            "symbols",
-            "FILE",
-            "A file with labels, which the listing shows",
-        ),
-    )
+    let dis = with_argument(dis, named(alloc, "symbols", "FILE", labels))?;
+    with_argument(dis, flag(alloc, "header", header))
 }
 
 /// Adds the options of `debug` that say what comes when.

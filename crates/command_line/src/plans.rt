@@ -73,6 +73,14 @@ pub enum Plan<'a> {
         tick: u64,
         /// The file whose bytes come on the console, if one is named.
         input: Option<&'a str>,
+        /// Nothing is told: the status alone says whether something is broken.
+        quiet: bool,
+        /// The file that a line for each step is written to, if one is named.
+        trace: Option<&'a str>,
+        /// The first step with a line there, counted from 1.
+        trace_from: u64,
+        /// How many of the lines are left there in the end, the last ones, 1 to 1000000; else all are.
+        trace_last: Option<u64>,
         /// The file with the policy, if one is named.
         policy: Option<&'a str>,
         /// The file with labels that the policy may name, if one is named.
@@ -84,6 +92,8 @@ pub enum Plan<'a> {
         image: &'a str,
         /// The file with its labels, if one is named.
         symbols: Option<&'a str>,
+        /// Whether the image's header and capabilities come first.
+        header: bool,
     },
     /// Debug an image.
     Debug {

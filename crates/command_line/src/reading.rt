@@ -268,8 +268,10 @@ fn audit_plan<'a>(found: &ArgMatches<'a>) -> Result<Plan<'a>, Misfit>
 {
     let image = operand(found, "IMAGE")?;
     let input = text(found, "input");
+    let trace = traced(found)?;
     let policy = watched(found)?;
     match numbers_of(found) {
+        Some(_) if !is_read_only(image, input, policy, trace.file) => Err(SAME_FILE),
         Some(run) => Ok(Plan::Audit {
             image,
             steps: run.steps,
@@ -277,6 +279,10 @@ fn audit_plan<'a>(found: &ArgMatches<'a>) -> Result<Plan<'a>, Misfit>
             gap: run.gap,
             tick: run.tick,
             input,
+            quiet: is_used(found, "quiet"),
+            trace: trace.file,
+            trace_from: trace.from,
+            trace_last: trace.last,
             policy: policy.file,
             symbols: policy.symbols,
         }),
@@ -292,6 +298,7 @@ fn dis_plan<'a>(found: &ArgMatches<'a>) -> Result<Plan<'a>, Misfit>
     Ok(Plan::Dis {
         image: operand(found, "IMAGE")?,
         symbols: text(found, "symbols"),
+        header: is_used(found, "header"),
     })
 }
 

@@ -1,5 +1,5 @@
 -- What `audit` writes of a file.
-use Rattle.std.specs.Prelude.{◌≡◌, ℕ, List, [], ◌∷◌, length, Option, Some, None, Ok, IfSome, string_bytes, IsUtf8, ⊤}
+use Rattle.std.specs.Prelude.{◌≡◌, ℕ, Bool, if◌then◌else◌, List, [], ◌∷◌, length, Option, Some, None, Ok, IfSome, string_bytes, IsUtf8, ⊤}
 use Rattle.std.specs.Borrow.{Bor}
 use Rattle.std.specs.Io.KnownBytes.{Appends}
 use Rattle.breach_texts.specs.declared.breach.RuleLine.{RuleLine}
@@ -13,11 +13,14 @@ use Rattle.policy_text.specs.declared.reading.Policy.{Policy}
 use Rattle.policy_text.specs.Policy.{line_text}
 use Rattle.sim_run.specs.declared.schedule.Schedule.{Schedule}
 use Rattle.sim_run.specs.Schedule.{scheduled}
+use Rattle.sim_run.specs.Stopping.{events_before}
+use Rattle.sim_run.specs.Trace.{trace_text}
 use Rattle.symbols.specs.Symbols.{Symbol}
 use Rattle.commands.specs.declared.auditing.Audited.{Audited}
+use Rattle.commands.specs.declared.running.Kept.{Kept}
 use Rattle.commands.specs.Debugging.{IsTable}
 use Rattle.commands.specs.Files.{Text, File, bytes_of}
-use Rattle.commands.specs.Running.{IsTyped}
+use Rattle.commands.specs.Running.{IsTyped, Traces}
 use Rattle.commands.specs.Watching.{IsPolicyOf}
 
 -- a line of a text by its number, as far as it is UTF-8
@@ -60,9 +63,23 @@ AuditsImage None symbols schedule input image files audited = ListsAll schedule 
 AuditsImage (Some policy) symbols schedule input image files audited =
     AuditsBy policy.now symbols schedule input image files audited
 
+-- The lines of the run's trace that are kept are written to a file, if one is named.
+abbrev pub TracesRun : Schedule → Option (Bor Text) → Image → Option (Bor Text) → Kept → Option (List File) → Option (List File) → Type 0
+TracesRun schedule input image None kept files_old files_new = files_new ≡ files_old
+TracesRun schedule input image (Some trace) kept files_old files_new =
+    (typed : List ℕ) × IsTyped schedule input files_old typed
+    × Traces (Some trace) (trace_text kept.from kept.last (events_before None schedule typed (opening image)) (opening image)) files_old
+    files_new
+
+-- what is told, unless nothing is to be
+abbrev pub told_unless : Bool → List ℕ → List ℕ
+told_unless quiet text = if quiet then [] else text
+
 -- The bytes of a file are an image, and what is told of its run is written.
-abbrev pub AuditsFile : Option (Bor Text) → Option (Bor Text) → Schedule → Option (Bor Text) → List ℕ → Option (List File) → ℕ
-    → Option (List ℕ) → Option (List ℕ) → Type 0
-AuditsFile policy symbols schedule input bytes files count old new =
-    (image : Image) × (audited : Audited) × (reading bytes ≡ Ok image) × AuditsImage policy symbols schedule input image files audited
-    × (count ≡ audited.count) × Appends old new (string_bytes audited.text)
+abbrev pub AuditsFile : Option (Bor Text) → Option (Bor Text) → Schedule → Option (Bor Text) → Bool → List ℕ → Option (Bor Text) → Kept
+    → Option (List File) → Option (List File) → ℕ → Option (List ℕ) → Option (List ℕ) → Type 0
+AuditsFile policy symbols schedule input quiet bytes trace kept files_old files_new count old new =
+    (image : Image) × (audited : Audited) × (reading bytes ≡ Ok image)
+    × AuditsImage policy symbols schedule input image files_old audited
+    × TracesRun schedule input image trace kept files_old files_new
+    × (count ≡ audited.count) × Appends old new (told_unless quiet (string_bytes audited.text))

@@ -49,12 +49,13 @@ HasStatus (Run image steps times gap tick input quiet why trace trace_from trace
     × IfSome (bytes_of image.now old)
     (λ bytes. RunsBy policy symbols (stop_at why) (record { steps = steps * times; gap = gap; tick = tick }) input quiet bytes trace
     (record { from = trace_from; last = trace_last }) old new ended sent out)
-HasStatus (Audit image steps times gap tick input policy symbols) sent old new status =
+HasStatus (Audit image steps times gap tick input quiet trace trace_from trace_last policy symbols) sent old new status =
     (count : ℕ) × (out : Option (List ℕ)) × (status ≡ (if count == 0 then 0 else 1))
     × IfSome (bytes_of image.now old)
-    (λ bytes. AuditsFile policy symbols (record { steps = steps * times; gap = gap; tick = tick }) input bytes old count sent out)
-HasStatus (Dis image symbols) sent old new status =
-    (out : Option (List ℕ)) × (status ≡ 0) × IfSome (bytes_of image.now old) (λ bytes. ListsFile old bytes symbols sent out)
+    (λ bytes. AuditsFile policy symbols (record { steps = steps * times; gap = gap; tick = tick }) input quiet bytes trace
+    (record { from = trace_from; last = trace_last }) old new count sent out)
+HasStatus (Dis image symbols header) sent old new status =
+    (out : Option (List ℕ)) × (status ≡ 0) × IfSome (bytes_of image.now old) (λ bytes. ListsFile header old bytes symbols sent out)
 HasStatus (Debug image symbols input gap tick) sent old new status = status ≡ 0
 HasStatus (Bounds base length address) sent old new status =
     (out : Option (List ℕ)) × (status ≡ 0) × Appends sent out (bounds_answer base length address)

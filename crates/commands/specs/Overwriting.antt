@@ -2,7 +2,7 @@
 use Rattle.std.specs.Prelude.{◌≡◌, Bool, false, ◌||◌, Option, Some, None, IfSome}
 use Rattle.std.specs.Borrow.{Bor}
 use Rattle.command_line.specs.declared.plans.Plan.{Plan}
-use Rattle.command_line.specs.declared.plans.Plan.TheVariants.{Asm, Image, Run}
+use Rattle.command_line.specs.declared.plans.Plan.TheVariants.{Asm, Image, Run, Audit}
 use Rattle.commands.specs.Files.{Text}
 
 -- whether two names lead to one file
@@ -20,6 +20,8 @@ overwrites same (Asm input output symbols) =
     (same output.now input.now || are_same same symbols (Some input)) || are_same same symbols (Some output)
 overwrites same (Image flat output layout) = same output.now flat.now
 overwrites same (Run image steps times gap tick input quiet why trace trace_from trace_last policy symbols) =
+    (are_same same trace (Some image) || are_same same trace input) || (are_same same trace policy || are_same same trace symbols)
+overwrites same (Audit image steps times gap tick input quiet trace trace_from trace_last policy symbols) =
     (are_same same trace (Some image) || are_same same trace input) || (are_same same trace policy || are_same same trace symbols)
 overwrites same other = false
 

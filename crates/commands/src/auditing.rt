@@ -6,14 +6,15 @@ ghost use Rattle.hart.specs.Opening.{opening};
 ghost use Rattle.sim_run.specs.Schedule.{IsRunnable, scheduled};
 ghost use Rattle.policy_audit.specs.Entries.{entries_text};
 ghost use Rattle.commands.specs.Auditing.{AreLinesOf, Audits, AuditsBy, AuditsFile, AuditsImage, Lists, ListsAll};
+ghost use Rattle.commands.specs.Auditing.{TracesRun, told_unless};
 ghost use Rattle.commands.specs.Files.{bytes_of, IsOfSystem};
 
 use crate::debugging::table_of;
 use crate::fault::ProgramFault;
 use crate::files::{Folder, read_image};
-use crate::running::{ProgramMachine, typed};
+use crate::running::{Kept, ProgramMachine, run_image, typed};
 use crate::watching::{policy_of, read_text, rule_line};
-use crate::writing::Writing;
+use crate::writing::{Nowhere, Writing};
 use breach_texts::RuleLine;
 use image::{Image, write_all};
 use machine::Machine;
@@ -158,27 +159,69 @@ fn write_text<'a, O: Write + Drop>(output: O, text: &str) -> Result<O, ProgramFa
     Ok(sink.into_inner())
 }
 
+/// Writes a text to an output, unless nothing is to be told, and hands the output back.
+fn tell<'a, O: Write + Drop>(output: O, text: &str, quiet: bool) -> Result<O, ProgramFault<'a>>
+    ensures { IfOk result (λ out. Appends (O.contents output) (O.contents out) (told_unless quiet text.now)) }
+{
+    if quiet {
+        Ok(output)
+    } else {
+        write_text(output, text)
+    }
+}
+
+/// Writes the lines that are kept of the steps of a run to the file `trace`, where one is named: the run is done for it once more, and what
+/// it sends is forgotten.
+fn trace_run<'a, F: Folder>(
+    alloc: Global,
+    folder: &mut F,
+    image: &Image,
+    schedule: Schedule,
+    input: Option<&'a str>,
+    trace: Option<&'a str>,
+    kept: Kept,
+) -> Result<(), ProgramFault<'a>>
+    requires some_step { 1 ≤ schedule.steps }
+    requires range { IsRunnable schedule }
+    ensures { OnOk result (TracesRun schedule input.entry image.now trace.entry kept (F.files folder.old) (F.files folder.new)) }
+{
+    match trace {
+        Some(_) => {
+            let bytes = typed(alloc, folder, schedule, input)?;
+            run_image(
+                alloc, folder, image, schedule, &bytes, None, true, trace, kept, Nowhere,
+            )?;
+            Ok(())
+        }
+        None => Ok(()),
+    }
+}
+
 /// Audits the run of the image of a file on `output`: by the policy of the file `policy`, which may name labels of the file `symbols`,
-/// each part of a rule that is broken; or where no policy is named, a rule for each range of code that is entered. Answers how many
-/// parts are broken, and hands the output back.
+/// each part of a rule that is broken; or where no policy is named, a rule for each range of code that is entered. A line for each step
+/// that is kept goes to the file `trace`, where one is named. Answers how many parts are broken, and hands the output back.
 pub fn audit_file<'a, F: Folder, O: Write + Drop>(
     alloc: Global,
-    folder: &F,
+    folder: &mut F,
     name: &'a str,
     policy: Option<&'a str>,
     symbols: Option<&'a str>,
     schedule: Schedule,
     input: Option<&'a str>,
+    quiet: bool,
+    trace: Option<&'a str>,
+    kept: Kept,
     output: O,
 ) -> Result<(usize, O), ProgramFault<'a>>
     requires some_step { 1 ≤ schedule.steps }
     requires range { IsRunnable schedule }
-    ensures { IfOk result (λ done. IfSome (bytes_of name.entry.now (F.files folder.now)) (λ bytes.
-        AuditsFile policy.entry symbols.entry schedule input.entry bytes (F.files folder.now) done.0 (O.contents output)
-        (O.contents done.1))) }
+    ensures { IfOk result (λ done. IfSome (bytes_of name.entry.now (F.files folder.old)) (λ bytes.
+        AuditsFile policy.entry symbols.entry schedule input.entry quiet bytes trace.entry kept (F.files folder.old) (F.files folder.new)
+        done.0 (O.contents output) (O.contents done.1))) }
 {
     let image = read_image(alloc, folder, name)?;
     let audited = audit_image(alloc, folder, &image, policy, symbols, schedule, input)?;
-    let output = write_text(output, &audited.text)?;
+    trace_run(alloc, folder, &image, schedule, input, trace, kept)?;
+    let output = tell(output, &audited.text, quiet)?;
     Ok((audited.count, output))
 }

@@ -160,9 +160,17 @@ fn carry_out<'a, F: Folder, I: Read + Drop, O: Write + Drop>(
             gap,
             tick,
             input,
+            quiet,
+            trace,
+            trace_from,
+            trace_last,
             policy,
             symbols,
         } => {
+            let kept = Kept {
+                from: trace_from,
+                last: trace_last,
+            };
             let (count, _output) = audit_file(
                 alloc,
                 folder,
@@ -171,6 +179,9 @@ fn carry_out<'a, F: Folder, I: Read + Drop, O: Write + Drop>(
                 symbols,
                 schedule_of(steps, times, gap, tick),
                 input,
+                quiet,
+                trace,
+                kept,
                 output,
             )?;
             Ok(Done::Audit(count))
@@ -191,8 +202,12 @@ fn carry_out<'a, F: Folder, I: Read + Drop, O: Write + Drop>(
             image_file(alloc, folder, flat, output, layout)?;
             Ok(Done::All)
         }
-        Plan::Dis { image, symbols } => {
-            let _output = list_file(alloc, folder, image, symbols, output)?;
+        Plan::Dis {
+            image,
+            symbols,
+            header,
+        } => {
+            let _output = list_file(alloc, folder, image, symbols, header, output)?;
             Ok(Done::All)
         }
         Plan::Debug {

@@ -5,30 +5,48 @@ ghost use Rattle.std.specs.Option.{option_copied};
 ghost use Rattle.std.specs.Io.Buffered.{writer_contents};
 ghost use Rattle.std.specs.Io.KnownBytes.{Appends, Keeps};
 ghost use Rattle.commands.specs.Files.{bytes_of, IsOfSystem, IsSourceFault};
-ghost use Rattle.commands.specs.Listing.{ListsFile, listing_of};
+ghost use Rattle.commands.specs.Listing.{ListsFile, lines_of, listing_of};
 
 use crate::fault::ProgramFault;
 use crate::files::{Folder, read_image, read_table};
 use crate::writing::Writing;
 use image::{DeviceFailed, Image, Sink};
-use image_listing::list_named;
+use image_listing::{list_named, put_header};
 use sim_run::list;
 use std::alloc::Global;
 use std::io::{BufWriter, Write};
 use symbols::Symbols;
 
 /// Writes the listing of an image, with the labels of a table if there is one.
-fn list_on<W: Sink>(
+fn put_lines<W: Sink>(
     image: &Image,
     table: Option<&Symbols>,
     sink: &mut W,
 ) -> Result<(), DeviceFailed>
     requires { W.failed sink.old < 2 ^ 64 - 1 }
-    ensures { OnOk result (Appends (W.held sink.old) (W.held sink.new) (listing_of (option_copied table.entry) image.now)) }
+    ensures { OnOk result (Appends (W.held sink.old) (W.held sink.new) (lines_of (option_copied table.entry) image.now)) }
 {
     match table {
         Some(table) => list_named(image, table, sink),
         None => list(image, sink),
+    }
+}
+
+/// The same, after the image's header and capabilities if they are asked for.
+fn list_on<W: Sink>(
+    image: &Image,
+    table: Option<&Symbols>,
+    header: bool,
+    sink: &mut W,
+) -> Result<(), DeviceFailed>
+    requires { W.failed sink.old < 2 ^ 64 - 1 }
+    ensures { OnOk result (Appends (W.held sink.old) (W.held sink.new) (listing_of header (option_copied table.entry) image.now)) }
+{
+    if header {
+        put_header(image, sink)?;
+        put_lines(image, table, sink)
+    } else {
+        put_lines(image, table, sink)
     }
 }
 
@@ -48,9 +66,11 @@ fn list_to<'a, O: Write + Drop>(
     alloc: Global,
     image: &Image,
     table: Option<&Symbols>,
+    header: bool,
     output: O,
 ) -> Result<O, ProgramFault<'a>>
-    ensures ok { IfOk result (λ out. Appends (O.contents output) (O.contents out) (listing_of (option_copied table.entry) image.now)) }
+    ensures ok { IfOk result (λ out.
+        Appends (O.contents output) (O.contents out) (listing_of header (option_copied table.entry) image.now)) }
     ensures err { IfErr result IsOfSystem }
 {
     let lines = match BufWriter::new(alloc, output) {
@@ -58,32 +78,33 @@ fn list_to<'a, O: Write + Drop>(
         Err(_) => return Err(ProgramFault::Memory),
     };
     let mut sink = Writing::new(lines);
-    match list_on(image, table, &mut sink) {
+    match list_on(image, table, header, &mut sink) {
         Ok(()) => finish(sink.into_inner()),
         Err(_) => Err(cut_short(sink.into_inner())),
     }
 }
 
-/// Lists the image of a file on `output`, a block of lines at a time, with the labels of the file `symbols` if one is named; and hands
-/// the output back.
+/// Lists the image of a file on `output`, a block of lines at a time, with the labels of the file `symbols` if one is named, after the
+/// image's header and capabilities if `header`; and hands the output back.
 pub fn list_file<'a, F: Folder, O: Write + Drop>(
     alloc: Global,
     folder: &F,
     name: &'a str,
     symbols: Option<&'a str>,
+    header: bool,
     output: O,
 ) -> Result<O, ProgramFault<'a>>
     ensures ok { IfOk result (λ out. IfSome (bytes_of name.entry.now (F.files folder.now)) (λ bytes.
-        ListsFile (F.files folder.now) bytes symbols.entry (O.contents output) (O.contents out))) }
+        ListsFile header (F.files folder.now) bytes symbols.entry (O.contents output) (O.contents out))) }
     ensures err { IfErr result (IsSourceFault name.entry.now symbols.entry (F.files folder.now)) }
 {
     let image = read_image(alloc, folder, name)?;
     match symbols {
         Some(table) => {
             let table = read_table(alloc, folder, table)?;
-            list_to(alloc, &image, Some(&table), output)
+            list_to(alloc, &image, Some(&table), header, output)
         }
-        None => list_to(alloc, &image, None, output),
+        None => list_to(alloc, &image, None, header, output),
     }
 }
 

@@ -42,6 +42,14 @@ pub fn overwrites<F: Folder>(folder: &F, plan: Plan<'_>) -> bool
             policy,
             symbols,
             ..
+        }
+        | Plan::Audit {
+            image,
+            input,
+            trace,
+            policy,
+            symbols,
+            ..
         } => {
             let over_image = are_same(folder, trace, Some(image));
             let over_input = are_same(folder, trace, input);

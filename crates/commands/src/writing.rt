@@ -3,6 +3,7 @@
 ghost use Rattle.std.specs.Prelude.{◌≡◌};
 
 use image::{DeviceFailed, Sink};
+use std::io;
 use std::io::Write;
 
 /// A writer that is written to as a sink, and then handed back. Each failed call of it is an Err, an interrupted one too, and so is
@@ -30,6 +31,20 @@ impl<W: Write> Writing<W> {
         ensures { W.contents result ≡ ⟦<Writing<W> as Sink>⟧.held self }
     {
         self.writer
+    }
+}
+
+/// A writer that forgets what is written to it.
+#[derive(Drop)]
+pub struct Nowhere;
+
+impl Write for Nowhere {
+    fn write(&mut self, bytes: &[u8]) -> io::Result<usize> {
+        Ok(bytes.len())
+    }
+
+    fn flush(&mut self) -> io::Result<()> {
+        Ok(())
     }
 }
 
