@@ -12,7 +12,8 @@ gate reads them in must-fail/. A function is proved from its own body and from t
 different functions don't meet: one check of a copy that has them all shows each refused. What is asked of each is more than that the
 crate is refused: a goal of the function that it changes must break, and not only a proof file name what is gone. A wrong body that
 changes a constant or a line of a table names that function in a line `in: TYPE::FUNCTION` or `in: MODULE::FUNCTION`. Those that change
-one function, or one text, are tried one after the other, in checks of these functions alone.
+one function, or one text, are tried one after the other, in checks of these functions alone; one whose callee has another wrong body,
+where the check says no more than that the callee isn't proved, is tried again without those that were refused.
 
 It stands on the libraries below each crate in crates/*/out/rlib, as the gate or `rt lib` leaves them.
 """
@@ -88,11 +89,13 @@ class Edit:
 
 
 def impl_name(head):
-    """How a report names the methods of an impl: by the type, and by the trait with its arguments after it."""
-    head = re.sub(r"^(?:unsafe )?impl(?:<[^{]*?>)?(?= )", "", head).partition("{")[0].partition(" where ")[0].strip()
-    trait, _, kind = head.rpartition(" for ")
+    """How a report names the methods of an impl: by the type, with a `+` before an argument that is no parameter of the impl, and by the
+    trait with its arguments after it."""
+    words = lambda text: re.findall(r"\w+", re.sub(r"'\w+|\w+::|&|\bmut\b", "", text))
+    parameters, head = re.match(r"(?:unsafe )?impl(<[^{]*?>)?(?= )(.*)", head, re.DOTALL).groups()
+    trait, _, kind = head.partition("{")[0].partition(" where ")[0].strip().rpartition(" for ")
     name = re.match(r"(?:\w+::)*(\w+)", kind.strip())[1]
-    return name + "".join(re.findall(r"\w+", re.sub(r"'\w+|\w+::|&|\bmut\b", "", trait)))
+    return (name if parameters else "+".join(words(kind))) + "".join(words(trait))
 
 
 def function_of(crate, path, old):
@@ -141,7 +144,7 @@ def broken(crate, said):
     found = {}
     for path, goal, why in re.findall(r"^\./proofs/(\S+?)/(?:Answers|Invariants|Proof)\.antt:\d+:\d+: error: `([^`]*)`(.*)$", said, re.M):
         if not GONE.search(why):
-            found.setdefault(path.replace("/", "::").replace("+", ""), []).append(goal)
+            found.setdefault(path.replace("/", "::").replace("::+", "::"), []).append(goal)
     for name, goal in re.findall(rf"^fn {crate}::(\S+): no(?:t proved|\ proof)[^\n]*?did not prove `([^`]*)`", said, re.M):
         found.setdefault(name, []).append(goal)
     return found
@@ -186,23 +189,34 @@ def unrefused(crate, checker, edits, texts):
     return [edit for edit in edits if not any(f"::{name}".endswith(f"::{function}") for function in edit.functions for name in goals)]
 
 
+def tried_in(crate, checker, edits):
+    """Tries wrong bodies in as few checks as hold them; returns those of which no goal broke, by whether they were alone, and the checks."""
+    alone, beside, checks = [], [], 0
+    while edits:
+        texts, taken, edits = next_wave(crate, edits)
+        (beside if len(taken) > 1 else alone).extend(unrefused(crate, checker, taken, texts))
+        checks += 1
+    return alone, beside, checks
+
+
 def try_crate(crate, known):
     """Tries the wrong bodies of a crate, and returns what is wrong with them."""
     wrong, checks = [*misfits(crate)], 0
     if wrong:
         return wrong
-    checker, again = Checker(crate, known), []
-    left = [Edit(path, crate) for path in edits_of(crate)]
-    whole = len(left)
+    checker = Checker(crate, known)
+    left = [[Edit(path, crate) for path in edits_of(crate)]]
+    whole = len(left[0])
+    # A function whose callee isn't proved may be told as such and no more: it is tried again without what was refused, and then by itself.
     while left:
-        texts, taken, left = next_wave(crate, left)
-        again += unrefused(crate, checker, taken, texts)
-        checks += 1
-    # a function whose callee isn't proved may be told as such and no more: by itself it is told by its goal
-    for edit in again:
-        if unrefused(crate, checker, [edit], edit.applied(texts_of(crate, [edit]))):
-            wrong.append(f"{edit}: no goal of {', '.join(sorted(edit.functions))} broke")
-        checks += 1
+        edits = left.pop()
+        alone, beside, count = tried_in(crate, checker, edits)
+        checks += count
+        wrong += [f"{edit}: no goal of {', '.join(sorted(edit.functions))} broke" for edit in alone]
+        if len(alone) + len(beside) < len(edits):
+            left += [beside]
+        else:
+            left += [[edit] for edit in beside]
     say(f"{crate}: {whole - len(wrong)} of {whole} wrong bodies refused, each by a goal of its own function, in {checks} checks")
     return wrong
 

@@ -41,6 +41,7 @@ SOURCES = [
     "shown_vectors",
     "bounds_texts",
     "sessions",
+    "pasts",
     "command_lines",
     "program_cases",
     "policed",

@@ -13,8 +13,9 @@ from cases.sessions import ECHO_THREE
 from cases.straight import Straight
 from model.devices import RAM
 from model.images import FIRST, GRANTED, MOST, MOST_END, file_v2, header, section
+from model.origins import fields
 from model.sessions import Schedule, Session
-from model.words import ONES, ROOT_HIGH, SPACE
+from model.words import NULL_HIGH, ONES, ROOT_HIGH, SPACE
 
 A0, A1, A2 = 10, 11, 12
 
@@ -496,6 +497,12 @@ def faulty_line(number, told):
     return f"cherisim: line {number}: {words}\n  a.s:{number}: {read}\n"
 
 
+def fields_of_first():
+    """The first granule of the first image, as the debugger shows what no event wrote."""
+    low, high = (int.from_bytes(FIRST[-20:][at:at + 8], "little") for at in (0, 8))
+    return f"{RAM:016x} {fields((high ^ NULL_HIGH, low, False))}"
+
+
 def debugged(table):
     """Sessions over the first image whose commands name the labels of a table, `start` and `halt` among them."""
     def session(typed, answered, table=table):
@@ -521,6 +528,17 @@ def debugged(table):
     yield session("dis odd 1\nmem odd 1\nmem last 1\nmem last 2\nmem far 1\nmem zero 1\nuntil far 1",
                   "fault B2\n0000000080000002: 00\n0000000080000fff: 00\nfault B3\nfault B3\nfault B3\n"
                   "events 1 out - pc 0000000080000004 running\n", places)
+    yield "# a place that holds a capability is a register, or else a special register, or else a label or a number, a multiple of 16"
+    image_line = f"image: {fields_of_first()}\n"
+    register_line = f"opening state: ca2 {integer(0)}\n"
+    named = 't "0000000080000000 a2\\n0000000080000000 first\\n000000008000000C halt\\n0000000080000010 mtdc\\n0000000080001000 after\\n"'
+    yield session("origin first\norigin 0x80000000\norigin a2\norigin ca2\nlost first\norigin mtdc\nchanged first 2", "".join([
+        image_line, image_line, register_line, register_line, "no tag was lost at 0000000080000000\n",
+        f"opening state: mtdc {integer(0)}\n", "events 2 out - pc 0000000080000008 running\n"]), named)
+    for typed in ("origin halt", "lost halt", "changed halt 1", "origin second", "changed first", "origin first+16", "back first",
+                  "ago first"):
+        yield session(typed + "\nmem first 1", "fault B2\n0000000080000000: b7\n", named)
+    yield session("origin after\nlost after\nchanged after 1\nago", "fault B3\nfault B3\nfault B3\nevents 0\n", named)
     yield "# without a table, and with an empty one, there are no labels"
     yield session("mem start 1\nmem 0x80000000 1", "fault B2\n0000000080000000: b7\n", 't ""')
     yield case("debug first.img", [FILE, table, 'input "mem start 1\\nmem 0x80000000 1"'], 0, "open first.img",

@@ -20,6 +20,11 @@ byte B
 until ADDR N
 trap N
 go
+changed R|ADDR N
+back N
+ago
+origin R|ADDR
+lost R|ADDR
 stop at ADDR|trap|off
 stops
 reg R

@@ -53,6 +53,9 @@ REST = [
      "command_line/specs/CommandLine; sim_run/specs/Schedule, Trace, Verdict, Unhandled, Ending, Listing"),
     ("policies as texts, runs that are watched by one, audits",
      "policy_text/specs/Policy, Sound; policy_runs/specs/Keeping; breach_texts/specs/Text; policy_audit/specs/Found, Told, Text, Entries"),
+    ("where a value came from, and where a tag was lost",
+     "origins/specs/Places, Making, Made, Tags, Kept, Search; past/specs/Replay, Position, Given; "
+     "origin_texts/specs/Link, Conditions, Origin"),
     ("sessions",
      "debug_commands/specs/Command; debugger/specs/SessionState, Stepping, Reaching, Reply, Answers, Conversation, Talk, OnSchedule"),
     ("what commands do with files", "commands/specs/Files, Assembling, Imaging, Bounding, Listing, Running, Debugging, Watching, Auditing, Overwriting, Carrying"),

@@ -20,7 +20,7 @@ class File(NamedTuple):
         """Its cases."""
         with open(paths.cases_of(self.name), encoding="utf-8", newline="") as file:
             text = file.read()
-        return list(blocks_of(text) if self.name == "sessions" else lines_of(text))
+        return list(blocks_of(text) if self.name in ("sessions", "pasts") else lines_of(text))
 
 
 FILES = [
@@ -57,13 +57,14 @@ FILES = [
     File("lengths", command_lines.length, 69, piece=20),
     File("word_texts", command_lines.word, 126, piece=20),
     File("sessions", conversations.session, 125, piece=10),
+    File("pasts", conversations.session, 179, piece=10),
     File("talks", conversations.talk, 171, piece=20),
     File("runs", programs.program, 15),
     File("plans", command_lines.plan, 183, piece=10),
     File("listings", command_lines.listing, 21),
     File("worlds", programs.worlds, 14),
     File("schedules", schedules.schedule, 211, piece=8),
-    File("commands", commands.command, 399, piece=20),
+    File("commands", commands.command, 409, piece=20),
     File("policies", commands.command, 215, piece=20),
     File("callers", commands.command, 75, piece=20),
     File("audits", commands.command, 58, piece=20),

@@ -4,13 +4,13 @@ use Rattle.std.proofs.Common.{ap, subst, ◌∙◌}
 use Rattle.std.specs.Borrow.{Bor}
 use Rattle.std.specs.Io.KnownBytes.{Appends}
 use Rattle.debugger.specs.Conversation.{conversation}
+use Rattle.debugger.specs.SessionState.{session_of_image}
 use Rattle.debugger.specs.Talk.{heard}
-use Rattle.hart.specs.Opening.{opening}
 use Rattle.image.specs.Grammar.{reading}
 use Rattle.image.specs.Image.{Image}
 use Rattle.sim_run.specs.declared.schedule.Schedule.{Schedule}
 use Rattle.symbols.specs.Symbols.{Symbol}
-use Rattle.commands.specs.Debugging.{AreKeys, DebugsFile, IsTable, begun, schedule_asked}
+use Rattle.commands.specs.Debugging.{AreKeys, DebugsFile, IsTable, schedule_asked}
 use Rattle.commands.specs.Files.{Text, File}
 
 module _ {X E : Type 0} (contents : X → Option (List ℕ)) (files : Option (List File)) (symbols keys : Option (Bor Text))
@@ -19,7 +19,7 @@ module _ {X E : Type 0} (contents : X → Option (List ℕ)) (files : Option (Li
       → IfSome known (λ bytes. reading bytes ≡ Ok image) → IsTable symbols files table → AreKeys keys files typed
       → is_typed ≡ is_some keys → schedule ≡ schedule_asked is_typed gap tick
       → IfOk r (λ out. IfSome input (λ lines. Appends old (contents out)
-      (conversation (heard lines) (begun schedule typed (opening image) table))))
+      (conversation (heard lines) (session_of_image image table schedule typed))))
       → IfOk r (λ out. IfSome known (λ bytes. DebugsFile files bytes symbols keys gap tick input old (contents out)))
   debugged (Err e) known schedule is_typed read labels console typed_is asked told = tt
   debugged (Ok out) None schedule is_typed read labels console typed_is asked told = tt
@@ -32,5 +32,5 @@ module _ {X E : Type 0} (contents : X → Option (List ℕ)) (files : Option (Li
         labels,
         console,
         subst (λ s. IfSome input (λ lines. Appends old (contents out)
-            (conversation (heard lines) (begun s typed (opening image) table)))) same told,
+            (conversation (heard lines) (session_of_image image table s typed)))) same told,
       )

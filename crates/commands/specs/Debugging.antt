@@ -4,10 +4,8 @@ use Rattle.std.specs.Borrow.{Bor}
 use Rattle.std.specs.Io.KnownBytes.{Appends}
 use Rattle.std.specs.Option.{unwrap_or}
 use Rattle.debugger.specs.Conversation.{conversation}
-use Rattle.debugger.specs.SessionState.{SessionState, replaying_state, session_state}
+use Rattle.debugger.specs.SessionState.{session_of_image}
 use Rattle.debugger.specs.Talk.{heard}
-use Rattle.hart.specs.Opening.{opening}
-use Rattle.hart.specs.State.{State}
 use Rattle.image.specs.Grammar.{reading}
 use Rattle.image.specs.Image.{Image}
 use Rattle.sim_run.specs.declared.schedule.Schedule.{Schedule}
@@ -21,11 +19,6 @@ schedule_asked is_typed gap tick =
     if is_typed || (is_some gap || is_some tick)
     then Some (record { steps = 2 ^ 64 - 1; gap = unwrap_or gap 1000; tick = unwrap_or tick 100 }) else None
 
--- a session as it begins: on a schedule with these bytes on its console, if there is one
-abbrev pub begun : Option Schedule → List ℕ → State → List Symbol → SessionState
-begun None keys machine symbols = session_state machine symbols
-begun (Some schedule) keys machine symbols = replaying_state machine symbols schedule keys
-
 -- The labels are those of a file, if one is named, which is a table.
 abbrev pub IsTable : Option (Bor Text) → Option (List File) → List Symbol → Type 0
 IsTable None files symbols = symbols ≡ []
@@ -36,12 +29,12 @@ abbrev pub AreKeys : Option (Bor Text) → Option (List File) → List ℕ → T
 AreKeys None files keys = keys ≡ []
 AreKeys (Some name) files keys = IfSome (bytes_of name.now files) (λ bytes. keys ≡ bytes)
 
--- The bytes are an image, and an output grows by the conversation over what is typed with the machine of the image, these labels, and the
--- schedule that is asked for with these bytes on its console.
+-- The bytes are an image, and an output grows by the conversation over what is typed with the image, these labels, and the schedule that
+-- is asked for with these bytes on its console.
 abbrev pub DebugsFile : Option (List File) → List ℕ → Option (Bor Text) → Option (Bor Text) → Option ℕ → Option ℕ → Option (List ℕ)
     → Option (List ℕ) → Option (List ℕ) → Type 0
 DebugsFile files bytes symbols keys gap tick input old new =
     (image : Image) × (table : List Symbol) × (typed : List ℕ) × (reading bytes ≡ Ok image) × IsTable symbols files table
     × AreKeys keys files typed
     × IfSome input (λ lines. Appends old new
-    (conversation (heard lines) (begun (schedule_asked (is_some keys) gap tick) typed (opening image) table)))
+    (conversation (heard lines) (session_of_image image table (schedule_asked (is_some keys) gap tick) typed)))

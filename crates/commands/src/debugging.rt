@@ -3,9 +3,9 @@
 ghost use Rattle.std.specs.Prelude.{◌≡◌, ◌≤◌, IfOk, IfSome, is_some};
 ghost use Rattle.std.specs.Io.KnownBytes.{Appends};
 ghost use Rattle.debugger.specs.Conversation.{conversation};
+ghost use Rattle.debugger.specs.SessionState.{session_of_image};
 ghost use Rattle.debugger.specs.Talk.{heard};
-ghost use Rattle.hart.specs.Opening.{opening};
-ghost use Rattle.commands.specs.Debugging.{AreKeys, DebugsFile, IsTable, begun, schedule_asked};
+ghost use Rattle.commands.specs.Debugging.{AreKeys, DebugsFile, IsTable, schedule_asked};
 ghost use Rattle.commands.specs.Files.{bytes_of};
 
 use crate::fault::ProgramFault;
@@ -19,7 +19,6 @@ use sim_run::Schedule;
 use std::alloc::Global;
 use std::io::{Read, Write};
 use symbols::Symbols;
-use word_cap::WordCap;
 
 /// Steps from one byte to the next where no other number is asked for.
 const GAP: u64 = 1000;
@@ -70,27 +69,10 @@ fn schedule_asked(is_typed: bool, gap: Option<u64>, tick: Option<u64>) -> Option
     None
 }
 
-/// A session with a machine and labels: on a schedule with these bytes on its console, if there is one.
-fn begin(
-    alloc: Global,
-    machine: ProgramMachine,
-    table: Symbols,
-    schedule: Option<Schedule>,
-    keys: Vec<u8>,
-) -> Session<WordCap>
-    requires { IfSome schedule (λ schedule. 1 ≤ schedule.gap) }
-    ensures { result ≡ begun schedule keys.items machine table }
-{
-    match schedule {
-        Some(schedule) => Session::replaying(alloc, machine, table, schedule, keys),
-        None => Session::with_symbols(alloc, machine, table),
-    }
-}
-
 /// Debugs an image: commands from `input`, which may name the labels of a table, replies to `output`, which is handed back.
 fn debug_image<'a, I: Read + Drop, O: Write + Drop>(
     alloc: Global,
-    image: &Image,
+    image: Image,
     table: Symbols,
     schedule: Option<Schedule>,
     keys: Vec<u8>,
@@ -99,10 +81,10 @@ fn debug_image<'a, I: Read + Drop, O: Write + Drop>(
 ) -> Result<O, ProgramFault<'a>>
     requires { IfSome schedule (λ schedule. 1 ≤ schedule.gap) }
     ensures { IfOk result (λ out. IfSome (I.remaining input) (λ typed. Appends (O.contents output) (O.contents out)
-        (conversation (heard typed) (begun schedule keys.items (opening image.now) table)))) }
+        (conversation (heard typed) (session_of_image image table schedule keys.items)))) }
 {
-    let machine: ProgramMachine = Machine::new(alloc, image)?;
-    let mut session = begin(alloc, machine, table, schedule, keys);
+    let machine: ProgramMachine = Machine::new(alloc, &image)?;
+    let mut session = Session::with_past(alloc, machine, image, table, schedule, keys);
     let mut source = FromRead::new(input);
     let mut sink = Writing::new(output);
     talk(&mut session, &mut source, &mut sink)?;
@@ -134,5 +116,5 @@ pub fn debug_file<'a, F: Folder, I: Read + Drop, O: Write + Drop>(
     let table = table_of(alloc, folder, symbols)?;
     let schedule = schedule_asked(keys.is_some(), gap, tick);
     let typed = keys_of(alloc, folder, keys)?;
-    debug_image(alloc, &image, table, schedule, typed, input, output)
+    debug_image(alloc, image, table, schedule, typed, input, output)
 }

@@ -1,2 +1,3 @@
 mod Cut
 mod Labels
+mod Specials

@@ -4,6 +4,7 @@ use Rattle.std.specs.Prelude.{filter, Option, Some, None, Result, Ok, Err, codes
 use Rattle.std.specs.Option.{option_or}
 use Rattle.std.specs.List.{slice_split, prefix_len, flat_map}
 use Rattle.asm_names.specs.Registers.{register_named}
+use Rattle.asm_names.specs.SpecialNames.{scr_named}
 use Rattle.asm_lines.specs.declared.fault.LineFault.{LineFault}
 use Rattle.asm_lines.specs.Text.{is_blank}
 use Rattle.asm_lines.specs.Statement.{is_word}
@@ -13,10 +14,13 @@ use Rattle.symbols.specs.Symbols.{Symbol, address_of}
 use Rattle.debug_commands.specs.declared.fault.DebugFault.{DebugFault}
 use Rattle.debug_commands.specs.declared.fault.DebugFault.TheVariants.{B1, B2, B3, B4}
 use Rattle.debug_commands.specs.declared.command.Command.{Command}
-use Rattle.debug_commands.specs.declared.command.Command.TheVariants.{Gives, Shows, Sets, Quit}
-use Rattle.debug_commands.specs.declared.command.Events.TheVariants.{Steps, Ticks, Byte, Until, Go}
+use Rattle.debug_commands.specs.declared.command.Command.TheVariants.{Gives, Shows, Recalls, Back, Sets, Quit}
+use Rattle.debug_commands.specs.declared.command.Events.TheVariants.{Steps, Ticks, Byte, Until, Go, Changed}
 use Rattle.debug_commands.specs.declared.command.Horizon.{Horizon}
 use Rattle.debug_commands.specs.declared.command.Horizon.TheVariants.{Stretch, Turn}
+use Rattle.debug_commands.specs.declared.command.Place.{Place}
+use Rattle.debug_commands.specs.declared.command.Place.TheVariants as holder
+use Rattle.debug_commands.specs.declared.command.Recall.TheVariants.{Ago, Origin, Lost}
 use Rattle.debug_commands.specs.declared.command.SetStops.TheVariants.{Add, Clear}
 use Rattle.debug_commands.specs.declared.command.Stop.{Stop}
 use Rattle.debug_commands.specs.declared.command.Stop.TheVariants.{Address, Trap}
@@ -47,6 +51,22 @@ read_number (Err fault) = None
 -- an address: a number of 64 bits, and where the text is not a number, the first address of the label of that name
 abbrev pub address_in : List Symbol → List ℕ → Option ℕ
 address_in symbols text = option_or (read_number (number_between 0 (2 ^ 64 - 1) text)) (address_of symbols text)
+
+-- what holds a capability: a register or a special capability register by its name, or else the granule at an address, a multiple of 16
+abbrev pub granule_at : ℕ → Option Place
+granule_at address = if address % 16 == 0 then Some (holder.Granule address) else None
+
+abbrev pub granule_of : Option ℕ → Option Place
+granule_of (Some address) = granule_at address
+granule_of None = None
+
+abbrev pub holder_named : Option ℕ → Option ℕ → Option ℕ → Option Place
+holder_named (Some n) special address = Some (holder.Register n)
+holder_named None (Some n) address = Some (holder.Special n)
+holder_named None None address = granule_of address
+
+abbrev pub holder_in : List Symbol → List ℕ → Option Place
+holder_in symbols text = holder_named (register_named text) (scr_named text) (address_in symbols text)
 
 -- ---- operands
 
@@ -88,6 +108,18 @@ both (Some x) (Some y) = Some (x, y)
 both (Some x) None = None
 both None y = None
 
+-- what holds a capability, alone and with a number
+abbrev pub one_holder : List Symbol → List (List ℕ) → Result Place DebugFault
+one_holder symbols [] = Err B2
+one_holder symbols (r ∷ []) = or_B2 (holder_in symbols r)
+one_holder symbols (r ∷ s ∷ rest) = Err B2
+
+abbrev pub holder_and_number : List Symbol → ℕ → List (List ℕ) → Result (Place × ℕ) DebugFault
+holder_and_number symbols high [] = Err B2
+holder_and_number symbols high (r ∷ []) = Err B2
+holder_and_number symbols high (r ∷ n ∷ []) = or_B2 (both (holder_in symbols r) (read_number (number_between 1 high n)))
+holder_and_number symbols high (r ∷ n ∷ m ∷ rest) = Err B2
+
 -- how far an answer is to hold: no words, or `through doors`
 abbrev pub horizon_of : List (List ℕ) → Result Horizon DebugFault
 horizon_of [] = Ok Stretch
@@ -114,14 +146,17 @@ bytes_and_horizon symbols high (a ∷ n ∷ words) =
 -- ---- the table
 
 -- how operands are written: none; a number of these limits; an address that is such a multiple and a number from 1 on; an address; a
--- register's name. And the command of what they say. Or a word of a table of its own, and then that word's operands. A question's
--- operands, nothing, a number or an address and a number, end with how far its answer is to hold.
+-- register's name; what holds a capability, alone and with a number from 1 on. And the command of what they say. Or a word of a table of
+-- its own, and then that word's operands. A question's operands, nothing, a number or an address and a number, end with how far its
+-- answer is to hold.
 pub data Operands : Type 0 where
   nothing : Command → Operands
   number : ℕ → ℕ → (ℕ → Command) → Operands
   place : ℕ → ℕ → (ℕ → ℕ → Command) → Operands
   an_address : (ℕ → Command) → Operands
   a_register : (ℕ → Command) → Operands
+  a_holder : (Place → Command) → Operands
+  a_holder_and_number : ℕ → (Place → ℕ → Command) → Operands
   a_verb : (List Symbol → List (List ℕ) → Result Command DebugFault) → Operands
   question : Question → Operands
   question_of_number : ℕ → ℕ → (ℕ → Question) → Operands
@@ -148,6 +183,8 @@ said_by symbols (number low high make) words = made make (one_number low high wo
 said_by symbols (place multiple high make) words = made (λ p. make p.0 p.1) (address_and_number symbols multiple high words)
 said_by symbols (an_address make) words = made make (one_address symbols words)
 said_by symbols (a_register make) words = made make (one_register words)
+said_by symbols (a_holder make) words = made make (one_holder symbols words)
+said_by symbols (a_holder_and_number high make) words = made (λ p. make p.0 p.1) (holder_and_number symbols high words)
 said_by symbols (a_verb read) words = read symbols words
 said_by symbols (question may) words = made (λ horizon. Shows (May may horizon)) (horizon_of words)
 said_by symbols (question_of_number low high make) words =
@@ -224,6 +261,11 @@ commands =
     ∷ line (codes "until") (codes " ADDR N") (place 1 1000000 (λ address n. Gives (Until (Address address) n)))
     ∷ line (codes "trap") (codes " N") (number 1 1000000 (λ n. Gives (Until Trap n)))
     ∷ line (codes "go") [] (nothing (Gives Go))
+    ∷ line (codes "changed") (codes " R|ADDR N") (a_holder_and_number 1000000 (λ place n. Gives (Changed place n)))
+    ∷ line (codes "back") (codes " N") (number 1 (2 ^ 64 - 1) (λ n. Back n))
+    ∷ line (codes "ago") [] (nothing (Recalls Ago))
+    ∷ line (codes "origin") (codes " R|ADDR") (a_holder (λ place. Recalls (Origin place)))
+    ∷ line (codes "lost") (codes " R|ADDR") (a_holder (λ place. Recalls (Lost place)))
     ∷ line (codes "stop") (codes " at ADDR|trap|off") (a_verb stop_of)
     ∷ line (codes "stops") [] (nothing (Shows Stops))
     ∷ line (codes "reg") (codes " R") (a_register (λ n. Shows (Register n)))

@@ -1,11 +1,22 @@
 -- The limits of a command's operands.
-use Rattle.std.specs.Prelude.{◌≡◌, ◌%◌, ◌<◌, ◌≤◌, ⊤}
+use Rattle.std.specs.Prelude.{◌≡◌, ◌%◌, ◌<◌, ◌≤◌, ⊤, IsTrue}
+use Rattle.base.specs.Registers.{is_scr}
 use Rattle.debug_commands.specs.declared.command.Command.{Command}
-use Rattle.debug_commands.specs.declared.command.Command.TheVariants.{Gives, Shows, Sets, Quit}
+use Rattle.debug_commands.specs.declared.command.Command.TheVariants.{Gives, Shows, Recalls, Back, Sets, Quit}
 use Rattle.debug_commands.specs.declared.command.Events.{Events}
-use Rattle.debug_commands.specs.declared.command.Events.TheVariants.{Steps, Ticks, Byte, Until, Go}
+use Rattle.debug_commands.specs.declared.command.Events.TheVariants.{Steps, Ticks, Byte, Until, Go, Changed}
+use Rattle.debug_commands.specs.declared.command.Place.{Place}
+use Rattle.debug_commands.specs.declared.command.Place.TheVariants.{Register as General, Special, Granule}
+use Rattle.debug_commands.specs.declared.command.Recall.{Recall}
+use Rattle.debug_commands.specs.declared.command.Recall.TheVariants.{Ago, Origin, Lost}
 use Rattle.debug_commands.specs.declared.command.View.{View}
 use Rattle.debug_commands.specs.declared.command.View.TheVariants.{Register, Memory, Words}
+
+-- there is such a register, or the granule begins at a multiple of 16
+abbrev pub IsHolder : Place → Type 0
+IsHolder (General n) = n < 32
+IsHolder (Special n) = IsTrue (is_scr n)
+IsHolder (Granule address) = address % 16 ≡ 0
 
 abbrev pub AreWithinLimits : Events → Type 0
 AreWithinLimits (Steps n) = n ≤ 1000000
@@ -13,6 +24,7 @@ AreWithinLimits (Ticks n) = n ≤ 1000000
 AreWithinLimits (Byte b) = ⊤
 AreWithinLimits (Until stop n) = n ≤ 1000000
 AreWithinLimits Go = ⊤
+AreWithinLimits (Changed place n) = IsHolder place × (n ≤ 1000000)
 
 abbrev pub IsShownWithinLimits : View → Type 0
 IsShownWithinLimits (Register n) = n < 32
@@ -20,8 +32,15 @@ IsShownWithinLimits (Memory address n) = n ≤ 4096
 IsShownWithinLimits (Words address n) = (n ≤ 1024) × (address % 4 ≡ 0)
 IsShownWithinLimits other = ⊤
 
+abbrev pub IsRecalledWithinLimits : Recall → Type 0
+IsRecalledWithinLimits Ago = ⊤
+IsRecalledWithinLimits (Origin place) = IsHolder place
+IsRecalledWithinLimits (Lost place) = IsHolder place
+
 abbrev pub IsWithinLimits : Command → Type 0
 IsWithinLimits (Gives events) = AreWithinLimits events
 IsWithinLimits (Shows view) = IsShownWithinLimits view
+IsWithinLimits (Recalls recall) = IsRecalledWithinLimits recall
+IsWithinLimits (Back n) = ⊤
 IsWithinLimits (Sets stops) = ⊤
 IsWithinLimits Quit = ⊤

@@ -25,6 +25,17 @@ impl Stop {
     }
 }
 
+/// A place that holds a capability or a number.
+#[derive(Clone, Copy, Debug)]
+pub enum Place {
+    /// A general register, by its number: 0 to 31.
+    Register(u8),
+    /// A special capability register, by its number.
+    Special(u8),
+    /// A granule of memory, by its address, a multiple of 16. It may lie outside RAM.
+    Granule(u64),
+}
+
 /// The events that a command gives.
 #[derive(Clone, Copy)]
 pub enum Events {
@@ -36,6 +47,8 @@ pub enum Events {
     Byte(u8),
     /// Steps until the machine is where they stop, at most so many, 1 to 1000000.
     Until { stop: Stop, most: u64 },
+    /// Events of the session's steps until what a place holds differs, at most so many, 1 to 1000000.
+    Changed { place: Place, most: u64 },
     /// Steps until the machine is at a stop of the session, the first of them wherever it is.
     Go,
 }
@@ -116,6 +129,17 @@ pub enum View {
     Code(DebugFault),
 }
 
+/// What a command asks of the events that a session was given.
+#[derive(Clone, Copy)]
+pub enum Recall {
+    /// How many there were.
+    Ago,
+    /// How what a place holds came to be.
+    Origin(Place),
+    /// Where the tag of a place went.
+    Lost(Place),
+}
+
 /// A command of a session. The ranges are those of a command that [`command_of`](crate::command_of) reads.
 #[derive(Clone, Copy)]
 pub enum Command {
@@ -123,6 +147,10 @@ pub enum Command {
     Gives(Events),
     /// It shows, and changes nothing.
     Shows(View),
+    /// It shows what came before, and changes nothing.
+    Recalls(Recall),
+    /// It takes back so many events, 1 or more.
+    Back(u64),
     /// It sets the stops, and changes nothing of the machine.
     Sets(SetStops),
     /// The end.

@@ -8,7 +8,7 @@ mod operands;
 mod table;
 mod words;
 
-pub use command::{Command, Events, Horizon, May, SetStops, Stop, View};
+pub use command::{Command, Events, Horizon, May, Place, Recall, SetStops, Stop, View};
 pub use fault::DebugFault;
 pub use table::{command_of, help_text};
 pub use words::split_word;

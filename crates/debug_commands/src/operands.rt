@@ -2,13 +2,17 @@
 ghost use Rattle.std.specs.Prelude.{◌≡◌, ◌≤◌, ◌<◌, ◌%◌, ◌^◌, IfOk, IfSome};
 ghost use Rattle.debug_commands.specs.Command as spec;
 ghost use Rattle.debug_commands.specs.Command.{words_of, number_between, read_number};
+ghost use Rattle.debug_commands.specs.Limits.{IsHolder};
 
-use crate::command::Horizon;
+use crate::command::{Horizon, Place};
 use crate::fault::DebugFault;
 use crate::words::split_word;
 use asm_lines::natural;
-use asm_names::register_named;
+use asm_names::{register_named, scr_named};
 use symbols::Symbols;
+
+/// The bytes of a granule.
+const CAPABILITY_BYTES: u64 = 16;
 
 /// A number of `low` to `high`.
 fn number(text: &[u8], low: u64, high: u64) -> Option<u64>
@@ -100,6 +104,71 @@ pub(crate) fn one_register(operands: &[u8]) -> Result<u8, DebugFault>
         return Err(DebugFault::B2);
     }
     register_named(word).ok_or(DebugFault::B2)
+}
+
+/// The granule at an address, a multiple of 16.
+fn granule_at(address: u64) -> Option<Place>
+    ensures value { result ≡ spec.granule_at address }
+    ensures place { IfSome result IsHolder }
+{
+    if address % CAPABILITY_BYTES == 0 {
+        Some(Place::Granule(address))
+    } else {
+        None
+    }
+}
+
+/// What holds a capability: a register or a special capability register by its name, or else the granule at an address.
+fn holder_in(symbols: &Symbols, text: &[u8]) -> Option<Place>
+    ensures value { result ≡ spec.holder_in symbols.now text.now }
+    ensures place { IfSome result IsHolder }
+{
+    if let Some(number) = register_named(text) {
+        return Some(Place::Register(number));
+    }
+    if let Some(number) = scr_named(text) {
+        return Some(Place::Special(number));
+    }
+    granule_at(address_in(symbols, text)?)
+}
+
+/// The only operand, what holds a capability, or B2.
+pub(crate) fn one_holder(symbols: &Symbols, operands: &[u8]) -> Result<Place, DebugFault>
+    ensures value { result ≡ spec.one_holder symbols.now (words_of operands.now) }
+    ensures place { IfOk result IsHolder }
+{
+    let Some((word, rest)) = split_word(operands) else {
+        return Err(DebugFault::B2);
+    };
+    if split_word(rest).is_some() {
+        return Err(DebugFault::B2);
+    }
+    holder_in(symbols, word).ok_or(DebugFault::B2)
+}
+
+/// The only two operands, what holds a capability and a number of 1 to `high`, or B2.
+pub(crate) fn holder_and_number(
+    symbols: &Symbols,
+    operands: &[u8],
+    high: u64,
+) -> Result<(Place, u64), DebugFault>
+    ensures value { result ≡ spec.holder_and_number symbols.now high (words_of operands.now) }
+    ensures place { IfOk result (λ p. IsHolder p.0) }
+    ensures bound { IfOk result (λ p. p.1 ≤ high) }
+{
+    let Some((place, rest)) = split_word(operands) else {
+        return Err(DebugFault::B2);
+    };
+    let Some((count, rest)) = split_word(rest) else {
+        return Err(DebugFault::B2);
+    };
+    if split_word(rest).is_some() {
+        return Err(DebugFault::B2);
+    }
+    match (holder_in(symbols, place), number(count, 1, high)) {
+        (Some(place), Some(count)) => Ok((place, count)),
+        _ => Err(DebugFault::B2),
+    }
 }
 
 /// How far an answer is to hold: what follows a question's own operands is nothing, or `through doors`, or else it is B2.

@@ -4,11 +4,11 @@ ghost use Rattle.debug_commands.specs.Command.{words_of};
 ghost use Rattle.debug_commands.specs.Command as spec;
 ghost use Rattle.debug_commands.specs.Limits.{IsWithinLimits};
 
-use crate::command::{Command, Events, Horizon, May, SetStops, Stop, View};
+use crate::command::{Command, Events, Horizon, May, Recall, SetStops, Stop, View};
 use crate::fault::DebugFault;
 use crate::operands::{
-    address_and_number, bytes_and_horizon, horizon, number_and_horizon, one_address, one_number,
-    one_register,
+    address_and_number, bytes_and_horizon, holder_and_number, horizon, number_and_horizon,
+    one_address, one_holder, one_number, one_register,
 };
 use crate::words::split_word;
 use asm_lines::{Class, run_length};
@@ -26,7 +26,7 @@ const MOST_SHOWN: u64 = 4096;
 /// The most words that a command disassembles.
 const MOST_WORDS: u64 = 1024;
 
-/// The most bytes that a question is about: all that a number of 64 bits counts.
+/// The most bytes that a question is about, and the most events that are taken back: all that a number of 64 bits counts.
 const MOST_ASKED: u64 = u64::MAX;
 
 /// The greatest object type, of 18 bits.
@@ -43,6 +43,11 @@ macro_rules! commands {
             "until" " ADDR N" (place 1 MOST_EVENTS) p => Command::Gives(Events::Until { stop: Stop::Address(p.0), most: p.1 });
             "trap" " N" (number 1 MOST_EVENTS) n => Command::Gives(Events::Until { stop: Stop::Trap, most: n });
             "go" "" (nothing) n => Command::Gives(Events::Go);
+            "changed" " R|ADDR N" (holder_and_number MOST_EVENTS) p => Command::Gives(Events::Changed { place: p.0, most: p.1 });
+            "back" " N" (number 1 MOST_ASKED) n => Command::Back(n);
+            "ago" "" (nothing) n => Command::Recalls(Recall::Ago);
+            "origin" " R|ADDR" (holder) p => Command::Recalls(Recall::Origin(p));
+            "lost" " R|ADDR" (holder) p => Command::Recalls(Recall::Lost(p));
             "stop" " at ADDR|trap|off" (verb stop_of) n => ();
             "stops" "" (nothing) n => Command::Shows(View::Stops);
             "reg" " R" (register) n => Command::Shows(View::Register(n));
@@ -137,6 +142,14 @@ macro_rules! made_of {
     }};
     ((register) $said:ident $made:expr, $symbols:ident $operands:ident) => {{
         let $said = one_register($operands)?;
+        Ok($made)
+    }};
+    ((holder) $said:ident $made:expr, $symbols:ident $operands:ident) => {{
+        let $said = one_holder($symbols, $operands)?;
+        Ok($made)
+    }};
+    ((holder_and_number $high:tt) $said:ident $made:expr, $symbols:ident $operands:ident) => {{
+        let $said = holder_and_number($symbols, $operands, $high)?;
         Ok($made)
     }};
     ((verb $read:ident) $said:ident $made:expr, $symbols:ident $operands:ident) => { $read($symbols, $operands) };

@@ -11,7 +11,7 @@ use Rattle.symbols.specs.Symbols.{Symbol}
 use Rattle.debug_commands.specs.declared.fault.DebugFault.{DebugFault}
 use Rattle.debug_commands.specs.declared.fault.DebugFault.TheVariants.{B2}
 use Rattle.debug_commands.specs.declared.command.Command.{Command}
-use Rattle.debug_commands.specs.declared.command.Command.TheVariants.{Gives, Shows, Sets, Quit}
+use Rattle.debug_commands.specs.declared.command.Command.TheVariants.{Gives, Shows, Recalls, Back, Sets, Quit}
 use Rattle.debug_commands.specs.Command.{command_of}
 use Rattle.debugger.specs.SessionState.{SessionState}
 use Rattle.debugger.specs.Reply.{answer_to, command_in, session_after, state_by, state_after}
@@ -42,6 +42,8 @@ kept_command symbols line = kept_at symbols line (nat_lt 255 (length line)) refl
 last_command : (c : Command) (s : SessionState) → is_end (answer_to c s) ≡ true → session_after c s ≡ s
 last_command (Gives events) s h = absurd (false≢true h)
 last_command (Shows what) s h = refl
+last_command (Recalls recall) s h = refl
+last_command (Back n) s h = absurd (false≢true h)
 last_command (Sets set) s h = absurd (false≢true h)
 last_command Quit s h = refl
 

@@ -30,13 +30,13 @@ module _ (line part : List ℕ) (kept : line ≡ take 256 part) (s : SessionStat
   command = ap (command_of s.symbols) kept ∙ kept_command s.symbols part
 
   pub same_reply : reply_to line s ≡ reply_to part s
-  same_reply = ap (λ r. reply_by (allowed r s.machine) s) command
+  same_reply = ap (λ r. reply_by (allowed r s.past s.machine) s) command
 
   pub same_last : is_last line s ≡ is_last part s
-  same_last = ap (λ r. ends_by (allowed r s.machine) s) command
+  same_last = ap (λ r. ends_by (allowed r s.past s.machine) s) command
 
   pub same_state : state_after line s ≡ state_after part s
-  same_state = ap (λ r. state_by (allowed r s.machine) s) command
+  same_state = ap (λ r. state_by (allowed r s.past s.machine) s) command
 
 -- ---- the beginning
 

@@ -8,12 +8,16 @@ use Rattle.sim_run.specs.declared.schedule.Schedule.{Schedule}
 use Rattle.sim_run.specs.Schedule.{first_steps, is_halted, steps_in, up_to_halt}
 use Rattle.debug_commands.specs.declared.command.Command.TheVariants.{Gives}
 use Rattle.debug_commands.specs.declared.command.Events.{Events}
-use Rattle.debug_commands.specs.declared.command.Events.TheVariants.{Steps, Ticks, Byte, Until, Go}
+use Rattle.debug_commands.specs.declared.command.Events.TheVariants.{Steps, Ticks, Byte, Until, Go, Changed}
 use Rattle.debug_commands.specs.declared.command.Stop.{Stop}
-use Rattle.debugger.specs.SessionState.{ReplayState, SessionState}
-use Rattle.debugger.specs.Stepping.{most_gone, most_sent, replayed, steps_while}
-use Rattle.debugger.specs.Reply.{are_scheduled, given, given_in, replay_after, session_after}
-use Rattle.debugger.specs.OnSchedule.{IsOnSchedule, events_so_far, session_after_all, steps_of_all}
+use Rattle.debugger.specs.SessionState.{SessionState, session_with}
+use Rattle.past.specs.Replay.{ReplayState}
+use Rattle.debugger.specs.Stepping.{most_gone, most_sent, steps_while}
+use Rattle.past.specs.Replay.{replayed}
+use Rattle.debugger.specs.Reply.{after_events, are_scheduled, given, given_in, owed_after, own_steps, replay_after, session_after}
+use Rattle.debugger.specs.Reply.{timeline_of}
+use Rattle.debugger.specs.OnSchedule.{IsOnSchedule, are_whole_steps, events_so_far, session_after_all, steps_of_all}
+use Rattle.debugger.proofs.Gives.{not_owed, own_are_streams}
 use Rattle.debugger.proofs.Replays.{done-counts, follows, input-stays, schedule-stays}
 
 -- the steps of a command on a schedule
@@ -22,13 +26,33 @@ IsStepping events r s =
     (first : List Stop) × (later : List Stop) × (n : ℕ) × (room : ℕ) × (events ≡ steps_while first later (Some r) n room s)
 
 is-stepping : (events : Events) (replay : Option ReplayState) (r : ReplayState) (stops : List Stop) (s : State)
-    → are_scheduled events ≡ true → replay ≡ Some r → IsStepping (given events replay stops s) r s
-unfolding given
-is-stepping (Steps n) replay r stops s scheduled is = ([], [], n, n, rw is refl)
-is-stepping (Ticks n) replay r stops s scheduled is = absurd (cc)
-is-stepping (Byte b) replay r stops s scheduled is = absurd (cc)
-is-stepping (Until stop n) replay r stops s scheduled is = (stop ∷ [], stop ∷ [], n, n, rw is refl)
-is-stepping Go replay r stops s scheduled is = ([], stops, most_gone, most_sent, rw is refl)
+    → are_whole_steps events ≡ true → replay ≡ Some r → IsStepping (given events replay false stops s) r s
+unfolding given own_steps
+is-stepping (Steps n) replay r stops s whole is = ([], [], n, n, rw is refl)
+is-stepping (Ticks n) replay r stops s whole is = absurd (cc)
+is-stepping (Byte b) replay r stops s whole is = absurd (cc)
+is-stepping (Until stop n) replay r stops s whole is = (stop ∷ [], stop ∷ [], n, n, rw is refl)
+is-stepping Go replay r stops s whole is = ([], stops, most_gone, most_sent, rw is refl)
+is-stepping (Changed place n) replay r stops s whole is = absurd (cc)
+
+is-scheduled : (events : Events) → are_whole_steps events ≡ true → are_scheduled events ≡ true
+is-scheduled (Steps n) whole = refl
+is-scheduled (Ticks n) whole = absurd (cc)
+is-scheduled (Byte b) whole = absurd (cc)
+is-scheduled (Until stop n) whole = refl
+is-scheduled Go whole = refl
+is-scheduled (Changed place n) whole = absurd (cc)
+
+-- after whole steps no tick is to come yet
+none-owed : (events : Events) (replay : Option ReplayState) (stops : List Stop) (s : State) → are_whole_steps events ≡ true
+    → owed_after events (given events replay false stops s) replay false s ≡ false
+unfolding given owed_after
+none-owed (Steps n) replay stops s whole = not_owed (own_are_streams (Steps n) replay stops s)
+none-owed (Ticks n) replay stops s whole = absurd (cc)
+none-owed (Byte b) replay stops s whole = absurd (cc)
+none-owed (Until stop n) replay stops s whole = not_owed (own_are_streams (Until stop n) replay stops s)
+none-owed Go replay stops s whole = not_owed (own_are_streams Go replay stops s)
+none-owed (Changed place n) replay stops s whole = absurd (cc)
 
 stands-after : (events : Events) (es : List Event) (replay : Option ReplayState) (r : ReplayState) → are_scheduled events ≡ true
     → replay ≡ Some r → replay_after events es replay ≡ Some (replayed es r)
@@ -49,25 +73,28 @@ module _ (start : State) (schedule : Schedule) (input : List ℕ) where
   On done s = IsOnSchedule start schedule input done s
 
   module _ (running : is_halted start ≡ false) where
-    pub one-more : (done : ℕ) (events : Events) (s : SessionState) → are_scheduled events ≡ true → On done s
+    pub one-more : (done : ℕ) (events : Events) (s : SessionState) → are_whole_steps events ≡ true → On done s
         → On (done + steps_in (given_in events s)) (session_after (Gives events) s)
-    one-more done events s scheduled on =
+    one-more done events s whole on =
         let r = on.replay in
-        let es = given_in events s in
-        let stepping = is-stepping events s.replay r s.stops s.machine scheduled on.is in
-        record {
+        let es = given events s.replay false s.stops s.machine in
+        let same : given_in events s ≡ es = ap (λ o. given events s.replay o s.stops s.machine) on.whole in
+        let stepping = is-stepping events s.replay r s.stops s.machine whole on.is in
+        subst (λ given. On (done + steps_in given) (session_with (after_events events given (timeline_of s)) s.symbols s.stops)) (sym same)
+        (record {
           replay = replayed es r;
-          is = stands-after events es s.replay r scheduled on.is;
+          is = stands-after events es s.replay r (is-scheduled events whole) on.is;
           schedule_is = schedule-stays es r ∙ on.schedule_is;
           input_is = input-stays es r ∙ on.input_is;
           done_is = done-counts es r ∙ ap (λ n. n + steps_in es) on.done_is;
+          whole = ap (λ o. owed_after events es s.replay o s.machine) on.whole ∙ none-owed events s.replay s.stops s.machine whole;
           machine = subst
               (λ (steps : List Event). run_after steps s.machine ≡ run_after (up_to_halt (events_so_far (replayed steps r)) start) start)
               (sym stepping.4)
               (follows start running stepping.2 stepping.0 stepping.1 r stepping.3 s.machine on.machine);
-        }
+        })
 
-    pub all-more : (commands : List Events) (done : ℕ) (s : SessionState) → All (λ events. are_scheduled events ≡ true) commands
+    pub all-more : (commands : List Events) (done : ℕ) (s : SessionState) → All (λ events. are_whole_steps events ≡ true) commands
         → On done s → On (done + steps_of_all commands s) (session_after_all commands s)
     all-more [] done s scheduled on = subst (λ n. On n s) (add_none done) on
     all-more (events ∷ rest) done s scheduled on =
@@ -77,7 +104,7 @@ module _ (start : State) (schedule : Schedule) (input : List ℕ) where
         (λ k d below. scheduled (suc k) d (omega (arith, below)))
         (one-more done events s (scheduled 0 events (omega arith)) on))
 
-    pub from-start : (commands : List Events) (s : SessionState) → All (λ events. are_scheduled events ≡ true) commands → On 0 s
+    pub from-start : (commands : List Events) (s : SessionState) → All (λ events. are_whole_steps events ≡ true) commands → On 0 s
         → On (steps_of_all commands s) (session_after_all commands s)
     from-start commands s scheduled on =
         subst (λ n. On n (session_after_all commands s)) (none_add (steps_of_all commands s)) (all-more commands 0 s scheduled on)

@@ -10,8 +10,9 @@ use Rattle.hart.specs.Event.{after, sent}
 use Rattle.machine.specs.Run.{run_after, run_sent}
 use Rattle.sim_run.proofs.Events.{run_after-append, run_sent-append, run_sent-brought}
 use Rattle.debug_commands.specs.declared.command.Stop.{Stop}
-use Rattle.debugger.specs.SessionState.{ReplayState}
-use Rattle.debugger.specs.Stepping.{byte_due, byte_events, is_any_stop, is_at_end, replayed, step_done, step_events, steps_while}
+use Rattle.past.specs.Replay.{ReplayState}
+use Rattle.debugger.specs.Stepping.{is_any_stop, is_at_end, step_events, steps_while}
+use Rattle.past.specs.Replay.{byte_due, byte_events, replayed, step_done}
 use Rattle.debugger.proofs.RunSteps.{if_not}
 use Rattle.debugger.proofs.Replays.{replayed-append, byte-is-passed, tick-is-passed}
 

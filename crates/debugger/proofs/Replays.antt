@@ -10,8 +10,9 @@ use Rattle.machine.specs.Run.{run_after}
 use Rattle.sim_run.specs.Schedule.{byte_before, first_steps, is_halted, is_tick_after, steps_in, up_to_halt}
 use Rattle.sim_run.proofs.Events.{is_halted-brought, no_more, run_after-append, state_after}
 use Rattle.debug_commands.specs.declared.command.Stop.{Stop}
-use Rattle.debugger.specs.SessionState.{ReplayState}
-use Rattle.debugger.specs.Stepping.{byte_due, byte_events, is_any_stop, is_at_end, ready, replayed, step_done, step_events, steps_while}
+use Rattle.past.specs.Replay.{ReplayState}
+use Rattle.debugger.specs.Stepping.{is_any_stop, is_at_end, ready, step_events, steps_while}
+use Rattle.past.specs.Replay.{byte_due, byte_events, replayed, step_done}
 use Rattle.debugger.specs.OnSchedule.{events_so_far}
 
 -- ---- where a schedule stands after events

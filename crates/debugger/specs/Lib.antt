@@ -11,3 +11,4 @@ pub mod OnSchedule
 pub mod Lines
 pub mod Standing
 pub mod Heard
+pub mod Keeping

@@ -6,7 +6,7 @@ use Rattle.special_regs.specs.Scrs.{Scrs, scr_value}
 use Rattle.special_regs.specs.CsrValues.{csr_value}
 use Rattle.hart.specs.State.{State, pc_of}
 use Rattle.debug_commands.specs.declared.command.Events.{Events}
-use Rattle.debug_commands.specs.declared.command.Events.TheVariants.{Steps, Ticks, Byte, Until, Go}
+use Rattle.debug_commands.specs.declared.command.Events.TheVariants.{Steps, Ticks, Byte, Until, Go, Changed}
 use Rattle.debug_commands.specs.declared.command.Stop.{Stop}
 use Rattle.registers.specs.Registers.{register}
 use Rattle.asm_names.specs.Registers.{register_name}
@@ -57,3 +57,4 @@ most_of (Ticks n) = n
 most_of (Byte b) = 1
 most_of (Until stop n) = n
 most_of Go = most_sent
+most_of (Changed place n) = n

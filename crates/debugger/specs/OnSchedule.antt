@@ -1,5 +1,5 @@
 -- A session on a schedule stands where the run on that schedule stands.
-use Rattle.std.specs.Prelude.{◌≡◌, ℕ, ◌+◌, if◌then◌else◌, List, [], ◌∷◌, ◌++◌, map, Some, option_to_list}
+use Rattle.std.specs.Prelude.{◌≡◌, ℕ, ◌+◌, Bool, true, false, if◌then◌else◌, List, [], ◌∷◌, ◌++◌, map, Some, option_to_list}
 use Rattle.hart.specs.declared.event.Event.{Event}
 use Rattle.hart.specs.declared.event.Event.TheVariants as event
 use Rattle.hart.specs.State.{State}
@@ -8,7 +8,9 @@ use Rattle.sim_run.specs.declared.schedule.Schedule.{Schedule}
 use Rattle.sim_run.specs.Schedule.{byte_before, first_steps, steps_in, up_to_halt}
 use Rattle.debug_commands.specs.declared.command.Command.TheVariants.{Gives}
 use Rattle.debug_commands.specs.declared.command.Events.{Events}
-use Rattle.debugger.specs.SessionState.{ReplayState, SessionState}
+use Rattle.debug_commands.specs.declared.command.Events.TheVariants.{Steps, Until, Go}
+use Rattle.debugger.specs.SessionState.{SessionState}
+use Rattle.past.specs.Replay.{ReplayState}
 use Rattle.debugger.specs.Reply.{given_in, session_after}
 
 -- the events of a schedule's steps that were given, and the byte before the next step, if it was given
@@ -24,7 +26,16 @@ pub record IsOnSchedule (start : State) (schedule : Schedule) (input : List ℕ)
   pub schedule_is : replay.schedule ≡ schedule
   pub input_is : replay.input ≡ input
   pub done_is : replay.done ≡ done
+  -- no tick is to come yet
+  pub whole : s.owed ≡ false
   pub machine : s.machine ≡ run_after (up_to_halt (events_so_far replay) start) start
+
+-- the commands that give whole steps: each with the byte before it and the tick after it
+abbrev pub are_whole_steps : Events → Bool
+are_whole_steps (Steps n) = true
+are_whole_steps (Until stop n) = true
+are_whole_steps Go = true
+are_whole_steps other = false
 
 -- commands that give events, one after the other, and how many steps they give
 abbrev pub session_after_all : List Events → SessionState → SessionState

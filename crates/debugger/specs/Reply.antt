@@ -1,5 +1,6 @@
 -- The replies of a session, and the state after a command, as functions of the state and the command.
-use Rattle.std.specs.Prelude.{ℕ, zero, suc, ◌+◌, ◌*◌, Bool, true, false, not, ◌==◌, if◌then◌else◌, List, [], ◌∷◌, ◌++◌, length, take}
+use Rattle.std.specs.Prelude.{ℕ, zero, suc, ◌+◌, ◌-◌, ◌*◌, Bool, true, false, not, ◌&&◌, ◌==◌, nat_lt, if◌then◌else◌, List, [], ◌∷◌, ◌++◌}
+use Rattle.std.specs.Prelude.{length, take}
 use Rattle.std.specs.Prelude.{drop, replicate, Option, Some, None, option_map, Result, Ok, Err, codes, decimal}
 use Rattle.std.specs.List.{flat_map, list_any}
 use Rattle.base.specs.Ram.{ram_base}
@@ -24,31 +25,32 @@ use Rattle.effect_texts.specs.ValueText.{value_line}
 use Rattle.debug_commands.specs.declared.command.Stop.{Stop}
 use Rattle.debug_commands.specs.declared.command.Stop.TheVariants.{Address, Trap}
 use Rattle.debug_commands.specs.declared.command.Command.{Command}
-use Rattle.debug_commands.specs.declared.command.Command.TheVariants.{Gives, Shows, Sets, Quit}
+use Rattle.debug_commands.specs.declared.command.Command.TheVariants.{Gives, Shows, Recalls, Back, Sets, Quit}
 use Rattle.debug_commands.specs.declared.command.Events.{Events}
-use Rattle.debug_commands.specs.declared.command.Events.TheVariants.{Steps, Ticks, Byte, Until, Go}
+use Rattle.debug_commands.specs.declared.command.Events.TheVariants.{Steps, Ticks, Byte, Until, Go, Changed}
+use Rattle.debug_commands.specs.declared.command.Place.{Place}
+use Rattle.debug_commands.specs.declared.command.Place.TheVariants.{Granule}
+use Rattle.debug_commands.specs.declared.command.Recall.{Recall}
+use Rattle.debug_commands.specs.declared.command.Recall.TheVariants.{Ago, Origin, Lost}
 use Rattle.debug_commands.specs.declared.command.SetStops.{SetStops}
 use Rattle.debug_commands.specs.declared.command.SetStops.TheVariants.{Add, Clear}
 use Rattle.debug_commands.specs.declared.command.View.{View}
 use Rattle.debug_commands.specs.declared.command.View.TheVariants as view
 use Rattle.debug_commands.specs.Command.{help_text, command_of}
 use Rattle.symbols.specs.Symbols.{Symbol}
-use Rattle.debugger.specs.SessionState.{SessionState, ReplayState}
-use Rattle.debugger.specs.Stepping.{counted_steps, most_gone, most_sent, replayed, steps_while}
+use Rattle.debugger.specs.SessionState.{SessionState, TimelineState, session_with}
+use Rattle.origins.specs.Places.{held}
+use Rattle.origin_texts.specs.Origin.{lost_text, origin_text}
+use Rattle.past.specs.Given.{PastState, count_of, first_of, position_at, state_at}
+use Rattle.past.specs.Position.{at, position_after}
+use Rattle.past.specs.Replay.{ReplayState, replayed}
+use Rattle.past.specs.declared.given.Given.{Given}
+use Rattle.past.specs.declared.given.Given.TheVariants as gave
+use Rattle.sim_run.specs.Schedule.{is_halted}
+use Rattle.debugger.specs.Stepping.{counted_steps, most_gone, most_sent, steps_holding, steps_while}
 use Rattle.debugger.specs.Reaching.{graph_reply, may_reply, members_reply, reach_reply}
 
 -- ---- commands that give events
-
--- the events of a command, with the schedule and the stops of its session
-unfoldable pub given : Events → Option ReplayState → List Stop → State → List Event
-given (Steps n) replay stops s = counted_steps replay n s
-given (Ticks n) replay stops s = replicate n event.Tick
-given (Byte b) replay stops s = event.Byte b ∷ []
-given (Until stop n) replay stops s = steps_while (stop ∷ []) (stop ∷ []) replay n n s
-given Go replay stops s = steps_while [] stops replay most_gone most_sent s
-
-abbrev pub given_in : Events → SessionState → List Event
-given_in events s = given events s.replay s.stops s.machine
 
 -- whether the events are those of the schedule, if there is one; those of `tick` and `byte` come beside it
 abbrev pub are_scheduled : Events → Bool
@@ -56,9 +58,63 @@ are_scheduled (Ticks n) = false
 are_scheduled (Byte b) = false
 are_scheduled other = true
 
+-- steps, with the schedule and the stops of a session
+unfoldable pub own_steps : Events → Option ReplayState → List Stop → State → List Event
+own_steps (Steps n) replay stops s = counted_steps replay n s
+own_steps (Until stop n) replay stops s = steps_while (stop ∷ []) (stop ∷ []) replay n n s
+own_steps Go replay stops s = steps_while [] stops replay most_gone most_sent s
+own_steps other replay stops s = []
+
+-- before them the tick that is to come yet
+abbrev pub owed_events : Bool → List Event
+owed_events owed = if owed then event.Tick ∷ [] else []
+
+abbrev pub with_tick : Events → Option ReplayState → Bool → List Stop → State → List Event
+with_tick events replay owed stops s = owed_events owed ++ own_steps events replay stops (run_after (owed_events owed) s)
+
+-- the events of a command
+unfoldable pub given : Events → Option ReplayState → Bool → List Stop → State → List Event
+given (Ticks n) replay owed stops s = replicate n event.Tick
+given (Byte b) replay owed stops s = event.Byte b ∷ []
+given (Changed place n) replay owed stops s = steps_holding place (held place s) n (at replay owed) s
+given events replay owed stops s = with_tick events replay owed stops s
+
+abbrev pub given_on : Events → List Stop → TimelineState → List Event
+given_on events stops t = given events t.replay t.owed stops t.machine
+
 -- where the schedule stands after a command's events
 unfoldable pub replay_after : Events → List Event → Option ReplayState → Option ReplayState
-replay_after events given replay = if are_scheduled events then option_map (replayed given) replay else replay
+replay_after events es replay = if are_scheduled events then option_map (replayed es) replay else replay
+
+-- and whether a tick is to come yet; after the halt none comes
+unfoldable pub owed_after : Events → List Event → Option ReplayState → Bool → State → Bool
+owed_after events es replay owed s =
+    if are_scheduled events then (position_after (length es) (at replay owed)).owed && not (is_halted (run_after es s)) else owed
+
+-- what is kept of so many events of a command
+abbrev pub given_of : Events → ℕ → Given
+given_of (Ticks n) count = gave.Ticks count
+given_of (Byte b) count = gave.Byte b
+given_of other count = gave.Steps count
+
+abbrev pub past_after : Events → List Event → Option PastState → Option PastState
+past_after events es (Some past) = Some (record past { given = past.given ++ given_of events (length es) ∷ [] })
+past_after events es None = None
+
+-- the timeline after them
+abbrev pub after_events : Events → List Event → TimelineState → TimelineState
+after_events events es t = record t {
+  machine = run_after es t.machine;
+  replay = replay_after events es t.replay;
+  owed = owed_after events es t.replay t.owed t.machine;
+  past = past_after events es t.past;
+}
+
+abbrev pub timeline_of : SessionState → TimelineState
+timeline_of s = record { machine = s.machine; replay = s.replay; owed = s.owed; past = s.past }
+
+abbrev pub given_in : Events → SessionState → List Event
+given_in events s = given_on events s.stops (timeline_of s)
 
 -- the bytes that were sent, two digits each, or `-` for none
 abbrev pub shown_sent : List ℕ → List ℕ
@@ -74,6 +130,66 @@ abbrev pub events_line : List Event → State → List ℕ
 events_line events s =
     codes "events " ++ decimal (length events) ++ codes " out " ++ shown_sent (run_sent events s)
     ++ codes " pc " ++ hex_of 16 (pc_of (run_after events s)) ++ codes " " ++ shown_end (run_after events s).devices.halted ++ codes "\n"
+
+-- ---- commands that go back, and that show what came before
+
+-- all events of a past but the last n
+abbrev pub left_of : ℕ → PastState → ℕ
+left_of n past = count_of past.given - n
+
+abbrev pub taken_back_to : ℕ → PastState → TimelineState → TimelineState
+taken_back_to n past t = record t {
+  machine = state_at n past t.replay;
+  replay = (position_at n past t.replay).replay;
+  owed = (position_at n past t.replay).owed && not (is_halted (state_at n past t.replay));
+  past = Some (record past { given = first_of n past.given });
+}
+
+abbrev pub taken_back_in : ℕ → Option PastState → TimelineState → TimelineState
+taken_back_in n (Some past) t = taken_back_to (left_of n past) past t
+taken_back_in n None t = t
+
+abbrev pub taken_back : ℕ → TimelineState → TimelineState
+taken_back n t = taken_back_in n t.past t
+
+-- the line of so many events less, and where the machine stands
+abbrev pub back_line : ℕ → State → List ℕ
+back_line n s =
+    codes "events -" ++ decimal n ++ codes " out - pc " ++ hex_of 16 (pc_of s) ++ codes " " ++ shown_end s.devices.halted ++ codes "\n"
+
+abbrev pub count_line : ℕ → List ℕ
+count_line n = codes "events " ++ decimal n ++ codes "\n"
+
+-- what is shown of a past
+unfoldable pub recalled : Recall → PastState → Option ReplayState → List ℕ
+recalled Ago past replay = count_line (count_of past.given)
+recalled (Origin place) past replay = origin_text past replay place
+recalled (Lost place) past replay = lost_text past replay place
+
+abbrev pub recalled_in : Recall → Option PastState → Option ReplayState → List ℕ
+recalled_in recall (Some past) replay = recalled recall past replay
+recalled_in recall None replay = []
+
+-- the most events that a search goes through
+abbrev pub most_searched : ℕ
+most_searched = 100000000
+
+-- a past has fewer events than are to be taken back, or more than a search goes through
+abbrev pub is_beyond_past : Command → PastState → Bool
+is_beyond_past (Back n) past = nat_lt (count_of past.given) n
+is_beyond_past (Recalls (Origin place)) past = nat_lt most_searched (count_of past.given)
+is_beyond_past (Recalls (Lost place)) past = nat_lt most_searched (count_of past.given)
+is_beyond_past other past = false
+
+-- a session without a past can't go back, and recalls nothing
+abbrev pub needs_past : Command → Bool
+needs_past (Back n) = true
+needs_past (Recalls recall) = true
+needs_past other = false
+
+abbrev pub is_beyond : Command → Option PastState → Bool
+is_beyond command (Some past) = is_beyond_past command past
+is_beyond command None = needs_past command
 
 -- ---- commands that show
 
@@ -119,8 +235,15 @@ is_view_outside (view.Memory address n) s = not (is_in_ram s.memory address n)
 is_view_outside (view.Words address n) s = not (is_in_ram s.memory address (4 * n))
 is_view_outside other s = false
 
+abbrev pub is_place_outside : Place → State → Bool
+is_place_outside (Granule address) s = not (is_in_ram s.memory address 16)
+is_place_outside other s = false
+
 abbrev pub is_outside : Command → State → Bool
 is_outside (Shows what) s = is_view_outside what s
+is_outside (Gives (Changed place n)) s = is_place_outside place s
+is_outside (Recalls (Origin place)) s = is_place_outside place s
+is_outside (Recalls (Lost place)) s = is_place_outside place s
 is_outside other s = false
 
 -- a stop, as it stands after `stop`
@@ -176,26 +299,27 @@ pub data Answer : Type 0 where
 abbrev pub answer_to : Command → SessionState → Answer
 answer_to (Gives events) s = told (events_line (given_in events s) s.machine)
 answer_to (Shows what) s = told (view_text s.symbols s.stops what s.machine)
+answer_to (Back n) s = told (back_line n (taken_back n (timeline_of s)).machine)
+answer_to (Recalls recall) s = told (recalled_in recall s.past s.replay)
 answer_to (Sets set) s = told (stops_text (stops_after set s.stops))
 answer_to Quit s = ended
 
--- what a line is refused by in a state: what it writes, then addresses outside RAM
-abbrev pub refused_outside : Command → State → Result Command DebugFault
-refused_outside command s = if is_outside command s then Err B3 else Ok command
+-- what a line is refused by in a session: what it writes, then events that it wasn't given, then addresses outside RAM
+abbrev pub refused_in : Command → Option PastState → State → Result Command DebugFault
+refused_in command past s = if is_beyond command past then Err B2 else (if is_outside command s then Err B3 else Ok command)
 
-abbrev pub allowed : Result Command DebugFault → State → Result Command DebugFault
-allowed (Ok command) s = refused_outside command s
-allowed (Err fault) s = Err fault
+abbrev pub allowed : Result Command DebugFault → Option PastState → State → Result Command DebugFault
+allowed (Ok command) past s = refused_in command past s
+allowed (Err fault) past s = Err fault
 
 abbrev pub command_in : List ℕ → SessionState → Result Command DebugFault
-command_in line s = allowed (command_of s.symbols line) s.machine
+command_in line s = allowed (command_of s.symbols line) s.past s.machine
 
 -- the session after a command; none changes the labels
 abbrev pub session_after : Command → SessionState → SessionState
-session_after (Gives events) s = record s {
-  machine = run_after (given_in events s) s.machine;
-  replay = replay_after events (given_in events s) s.replay;
-}
+session_after (Gives events) s = session_with (after_events events (given_in events s) (timeline_of s)) s.symbols s.stops
+session_after (Back n) s = session_with (taken_back n (timeline_of s)) s.symbols s.stops
+session_after (Recalls recall) s = s
 session_after (Shows what) s = s
 session_after (Sets set) s = record s { stops = stops_after set s.stops }
 session_after Quit s = s

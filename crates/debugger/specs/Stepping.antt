@@ -1,17 +1,22 @@
 -- The steps of a command, with the byte before each and the tick after it where a session has a schedule; and where they stop.
-use Rattle.std.specs.Prelude.{ℕ, zero, suc, ◌+◌, ◌-◌, ◌==◌, nat_le, Bool, true, false, not, ◌&&◌, ◌||◌, if◌then◌else◌, List, [], ◌∷◌, ◌++◌}
-use Rattle.std.specs.Prelude.{length, map, replicate, Option, Some, None, option_to_list}
+use Rattle.std.specs.Prelude.{ℕ, zero, suc, ◌-◌, ◌==◌, nat_lt, Bool, true, false, not, ◌&&◌, ◌||◌, if◌then◌else◌, List, [], ◌∷◌, ◌++◌}
+use Rattle.std.specs.Prelude.{length, replicate, Option, Some, None, option_to_list}
 use Rattle.std.specs.List.{list_any}
 use Rattle.hart.specs.declared.event.Event.{Event}
-use Rattle.hart.specs.declared.event.Event.TheVariants.{Step, Tick, Byte}
+use Rattle.hart.specs.declared.event.Event.TheVariants.{Step, Tick}
 use Rattle.hart.specs.State.{State, pc_of}
 use Rattle.hart.specs.Event.{after, sent}
 use Rattle.hart.specs.Outcome.{is_trap, step_outcome}
 use Rattle.machine.specs.Run.{run_after}
-use Rattle.sim_run.specs.Schedule.{byte_before, is_halted, is_tick_after}
+use Rattle.sim_run.specs.Schedule.{is_halted}
 use Rattle.debug_commands.specs.declared.command.Stop.{Stop}
 use Rattle.debug_commands.specs.declared.command.Stop.TheVariants.{Address, Trap}
-use Rattle.debugger.specs.SessionState.{ReplayState}
+use Rattle.debug_commands.specs.declared.command.Place.{Place}
+use Rattle.cap_bounds.specs.CapValue.{CapValue}
+use Rattle.cap_rights.specs.Derivations.{equal_exact}
+use Rattle.origins.specs.Places.{held}
+use Rattle.past.specs.Position.{Position, next_event, next_position}
+use Rattle.past.specs.Replay.{ReplayState, byte_events, is_over, is_tick_due, step_done}
 
 -- ---- stops
 
@@ -25,42 +30,13 @@ is_any_stop stops s = list_any (λ stop. is_stop stop s) stops
 
 -- ---- the schedule
 
--- whether all of its steps were given
-abbrev pub is_over : Option ReplayState → Bool
-is_over None = false
-is_over (Some r) = nat_le r.schedule.steps r.done
-
--- the byte before the next step, unless it was given
-abbrev pub byte_due : Option ReplayState → Option ℕ
-byte_due None = None
-byte_due (Some r) = if r.brought then None else byte_before r.schedule r.input (r.done + 1)
-
-abbrev pub byte_events : Option ReplayState → List Event
-byte_events replay = map Byte (option_to_list (byte_due replay))
-
--- whether a tick comes after the next step
-abbrev pub is_tick_due : Option ReplayState → Bool
-is_tick_due None = false
-is_tick_due (Some r) = is_tick_after r.schedule (r.done + 1)
-
 -- the next step, and the tick after it; after the halt nothing comes
 abbrev pub step_events : Option ReplayState → State → List Event
 step_events replay s = Step ∷ (if is_tick_due replay && not (is_halted (after Step s)) then Tick ∷ [] else [])
 
--- one step more was given
-abbrev pub step_done : ReplayState → ReplayState
-step_done r = record r { done = r.done + 1; brought = false }
-
 abbrev pub next_step : Option ReplayState → Option ReplayState
 next_step None = None
 next_step (Some r) = Some (step_done r)
-
--- where a schedule stands after events of its own
-abbrev pub replayed : List Event → ReplayState → ReplayState
-replayed [] r = r
-replayed (Step ∷ es) r = replayed es (step_done r)
-replayed (Tick ∷ es) r = replayed es r
-replayed (Byte b ∷ es) r = replayed es (record r { brought = true })
 
 -- ---- steps
 
@@ -88,6 +64,26 @@ steps_while first later replay (suc n) room s =
 abbrev pub counted_steps : Option ReplayState → ℕ → State → List Event
 counted_steps None n s = replicate n Step
 counted_steps (Some r) n s = steps_while [] [] (Some r) n n s
+
+-- ---- changes
+
+-- nothing is given any more
+abbrev pub is_done : Position → State → Bool
+is_done p s = is_halted s || (is_over p.replay && not p.owed)
+
+abbrev pub holds : Place → CapValue → State → Bool
+holds place v s = equal_exact v (held place s)
+
+-- whether one more is given
+abbrev pub holds_on : Place → CapValue → ℕ → Position → State → Bool
+holds_on place v n p s = nat_lt 0 n && (not (is_done p s) && holds place v s)
+
+-- Events of a session's steps, so many at most, while a place holds a value.
+abbrev pub steps_holding : Place → CapValue → ℕ → Position → State → List Event
+steps_holding place v zero p s = []
+steps_holding place v (suc n) p s =
+    if is_done p s || not (holds place v s) then []
+    else next_event p ∷ steps_holding place v n (next_position p) (after (next_event p) s)
 
 -- the most steps that `go` gives, and the most bytes that they send
 unfoldable pub most_gone : ℕ

@@ -3,25 +3,28 @@ ghost use Rattle.std.specs.Prelude.{◌≡◌, ◌++◌, false, IfOk, IfErr, OnO
 ghost use Rattle.cap_bounds.specs.CapValue.{value_flag};
 ghost use Rattle.special_regs.specs.Scrs.{scr_value};
 ghost use Rattle.debug_commands.specs.Limits.{IsWithinLimits, IsShownWithinLimits};
-ghost use Rattle.debugger.specs.Reply.{told, code_text, is_outside, is_view_outside, session_after, view_text, answer_to};
+ghost use Rattle.debugger.specs.Reply.{answer_to, code_text, is_beyond, is_outside, is_place_outside, is_view_outside, session_after};
+ghost use Rattle.debugger.specs.Reply.{told, view_text};
 ghost use Rattle.debugger.specs.Answers.{seen_reply};
 ghost use Rattle.debugger.specs.SessionState.{session_with};
 
 use crate::caps::put_caps;
 use crate::ram::{put_memory, put_words};
 use crate::reaching::{put_may, put_reach, put_reach_graph, put_reach_members};
-use crate::replay::Replay;
+use crate::recalling::{recalled, told_back};
 use crate::reply::Reply;
 use crate::run::told_events;
 use crate::state::{put_csrs, put_register, put_registers, put_scrs};
 use crate::stops::{put_stops, set_stops};
+use crate::timeline::Timeline;
 use cap_bounds::CapRep;
-use debug_commands::{Command, DebugFault, Stop, View, help_text};
+use debug_commands::{Command, DebugFault, Events, Place, Recall, Stop, View, help_text};
 use effect_texts::put;
 use explain::put_why;
 use machine::Machine;
 use std::alloc::{AllocError, Global};
 use symbols::Symbols;
+use word_cap::WordCap;
 
 /// The number of PCC.
 const PCC: u8 = 0;
@@ -34,7 +37,17 @@ fn mode<C: CapRep>(machine: &Machine<C>) -> bool
     machine.scr(PCC).flag()
 }
 
-/// Whether some byte that a command shows is outside RAM.
+/// Whether a place is a granule outside RAM.
+fn is_place_outside<C: CapRep>(machine: &Machine<C>, place: Place) -> bool
+    ensures { result ≡ is_place_outside place machine.now }
+{
+    match place {
+        Place::Granule(address) => !machine.memory().is_in_ram(address, 16),
+        _ => false,
+    }
+}
+
+/// Whether some byte that a command shows or asks for is outside RAM.
 pub(crate) fn is_outside<C: CapRep>(machine: &Machine<C>, command: Command) -> bool
     requires { IsWithinLimits command }
     ensures { result ≡ is_outside command machine.now }
@@ -45,6 +58,10 @@ pub(crate) fn is_outside<C: CapRep>(machine: &Machine<C>, command: Command) -> b
         }
         Command::Shows(View::Words { address, count }) => {
             !machine.memory().is_in_ram(address, 4 * count)
+        }
+        Command::Gives(Events::Changed { place, .. })
+        | Command::Recalls(Recall::Origin(place) | Recall::Lost(place)) => {
+            is_place_outside(machine, place)
         }
         _ => false,
     }
@@ -121,29 +138,34 @@ fn shown<C: CapRep>(
 }
 
 /// Does what a command asks for, and answers its reply: B4 where there is no memory, then nothing is done.
-pub(crate) fn answer<C: CapRep>(
+pub(crate) fn answer(
     alloc: Global,
-    machine: &mut Machine<C>,
+    timeline: &mut Timeline<WordCap>,
     symbols: &Symbols,
-    replay: &mut Option<Replay>,
     stops: &mut Vec<Stop>,
     command: Command,
 ) -> Result<Reply, DebugFault>
     requires limits { IsWithinLimits command }
-    requires inside { is_outside command machine.old ≡ false }
-    ensures reply { IfOk result (λ reply. seen_reply reply
-        ≡ answer_to command (session_with machine.old symbols.now replay.old stops.old.items)) }
-    ensures state { OnOk result (session_with machine.new symbols.now replay.new stops.new.items
-        ≡ session_after command (session_with machine.old symbols.now replay.old stops.old.items)) }
+    requires past { is_beyond command timeline.old.past ≡ false }
+    requires inside { is_outside command timeline.old.machine ≡ false }
+    ensures reply { IfOk result (λ reply. seen_reply reply ≡ answer_to command (session_with timeline.old symbols.now stops.old.items)) }
+    ensures state { OnOk result (session_with timeline.new symbols.now stops.new.items
+        ≡ session_after command (session_with timeline.old symbols.now stops.old.items)) }
     ensures err { IfErr result (λ fault. fault ≡ DebugFault.B4) }
-    ensures same { OnErr result (session_with machine.new symbols.now replay.new stops.new.items
-        ≡ session_with machine.old symbols.now replay.old stops.old.items) }
+    ensures same { OnErr result (session_with timeline.new symbols.now stops.new.items
+        ≡ session_with timeline.old symbols.now stops.old.items) }
 {
     match command {
-        Command::Gives(events) => Ok(Reply::Text(told_events(
-            alloc, machine, replay, stops, events,
+        Command::Gives(events) => Ok(Reply::Text(told_events(alloc, timeline, stops, events)?)),
+        Command::Shows(view) => Ok(Reply::Text(shown(
+            alloc,
+            &timeline.machine,
+            symbols,
+            stops,
+            view,
         )?)),
-        Command::Shows(view) => Ok(Reply::Text(shown(alloc, machine, symbols, stops, view)?)),
+        Command::Recalls(recall) => Ok(Reply::Text(recalled(alloc, timeline, recall)?)),
+        Command::Back(events) => Ok(Reply::Text(told_back(alloc, timeline, events)?)),
         Command::Sets(set) => Ok(Reply::Text(set_stops(alloc, stops, set)?)),
         Command::Quit => Ok(Reply::Quit),
     }

@@ -3,10 +3,11 @@
 
 mod answer;
 mod caps;
+mod changed;
 mod fault;
 mod ram;
 mod reaching;
-mod replay;
+mod recalling;
 mod reply;
 mod run;
 pub mod scheduled;
@@ -16,6 +17,7 @@ mod state;
 mod stepping;
 mod stops;
 mod talking;
+mod timeline;
 
 pub use debug_commands::{DebugFault, laws};
 pub use disassembler::disassemble;

@@ -1,21 +1,29 @@
 //! The events that a command gives, and the line that tells of them.
-ghost use Rattle.std.specs.Prelude.{◌≡◌, ◌+◌, ◌-◌, ◌*◌, ◌<◌, ◌≤◌, ◌++◌, IfOk, IfErr, OnOk, OnErr, replicate, length, vec_len, vec_capacity};
-ghost use Rattle.std.specs.Prelude.{string_bytes, string_len, string_capacity, option_map};
+ghost use Rattle.std.specs.Prelude.{◌≡◌, ◌+◌, ◌-◌, ◌*◌, ◌^◌, ◌<◌, ◌≤◌, ◌++◌, IfOk, IfErr, IfSome, OnOk, OnErr, replicate, length};
+ghost use Rattle.std.specs.Prelude.{vec_len, false};
+ghost use Rattle.std.specs.Prelude.{string_bytes, string_len, string_capacity, option_map, vec_capacity};
 ghost use Rattle.std.specs.List.{flat_map};
 ghost use Rattle.hart.specs.declared.event.Event.TheVariants.{Step};
 ghost use Rattle.machine.specs.Run.{run_after, run_sent};
 ghost use Rattle.disassembler.specs.Hex.{hex_of};
-ghost use Rattle.debugger.specs.Reply.{given, replay_after, events_line, shown_sent, shown_end};
-ghost use Rattle.debugger.specs.Stepping.{counted_steps, most_gone, most_sent, replayed};
-ghost use Rattle.debugger.specs.Lines.{given_part, place_part, most_of};
+ghost use Rattle.debugger.specs.Reply.{after_events, events_line, given, given_of, given_on, own_steps, owed_after, replay_after};
+ghost use Rattle.debugger.specs.Reply.{with_tick};
+ghost use Rattle.debugger.specs.Reply.{shown_end, shown_sent};
+ghost use Rattle.debugger.specs.Stepping.{counted_steps, most_gone, most_sent};
+ghost use Rattle.past.specs.Replay.{replayed};
+ghost use Rattle.debugger.specs.Keeping.{HasBegun, IsChangeThere, begun_past, kept_last};
+ghost use Rattle.debugger.specs.Lines.{given_part, most_of, place_part};
+ghost use Rattle.past.specs.Given.{count_of, count_of_one};
 ghost use Rattle.debug_commands.specs.Limits.{AreWithinLimits};
 
-use crate::replay::Replay;
-use crate::stepping::{pc, steps_while};
+use crate::changed::steps_holding;
+use crate::stepping::{pass, pc, steps_while};
+use crate::timeline::Timeline;
 use cap_bounds::CapRep;
 use debug_commands::{DebugFault, Events, Stop};
 use effect_texts::{put, put_decimal, put_hex};
 use machine::{Event, Machine, emit};
+use past::{Given, Past, Replay};
 use std::alloc::{AllocError, Global};
 
 /// The bytes that a line of events has at most, besides two for each byte that was sent.
@@ -77,7 +85,7 @@ fn most_bytes(events: Events) -> u64
 {
     match events {
         Events::Steps(n) | Events::Ticks(n) => n,
-        Events::Until { most, .. } => most,
+        Events::Until { most, .. } | Events::Changed { most, .. } => most,
         Events::Byte(_) => 1,
         Events::Go => most_sent(),
     }
@@ -105,10 +113,10 @@ fn give_steps<C: CapRep>(
     times
 }
 
-/// Gives the events of a command, appends what is sent to the other bytes, for which there is room, and answers how many there
-/// were.
-#[tactic(auto, unfolding(crate::specs::Reply::given, crate::specs::Reply::replay_after))]
-fn give<C: CapRep>(
+/// Gives steps of a command with the schedule of a session, if there is one, or without, appends what is sent to the other bytes, and
+/// answers how many events there were.
+#[tactic(auto, unfolding(crate::specs::Reply::own_steps))]
+fn give_own<C: CapRep>(
     machine: &mut Machine<C>,
     replay: &mut Option<Replay>,
     stops: &[Stop],
@@ -117,22 +125,15 @@ fn give<C: CapRep>(
 ) -> u64
     requires room { vec_len sent.old + most_of events ≤ vec_capacity sent.old }
     requires limits { AreWithinLimits events }
-    ensures state { machine.new ≡ run_after (given events replay.old stops.now machine.old) machine.old }
-    ensures bytes { sent.new.items ≡ sent.old.items ++ run_sent (given events replay.old stops.now machine.old) machine.old }
-    ensures replay { replay.new ≡ replay_after events (given events replay.old stops.now machine.old) replay.old }
-    ensures count { result ≡ length (given events replay.old stops.now machine.old) }
+    ensures state { machine.new ≡ run_after (own_steps events replay.old stops.now machine.old) machine.old }
+    ensures bytes { sent.new.items ≡ sent.old.items ++ run_sent (own_steps events replay.old stops.now machine.old) machine.old }
+    ensures replay { replay.new ≡ option_map (replayed (own_steps events replay.old stops.now machine.old)) replay.old }
+    ensures count { result ≡ length (own_steps events replay.old stops.now machine.old) }
+    ensures few { result ≤ 4000000000000 }
     ensures len { vec_len sent.new ≤ vec_len sent.old + most_of events }
 {
     match events {
         Events::Steps(n) => give_steps(machine, replay, n, sent),
-        Events::Ticks(n) => {
-            repeat(machine, Event::Tick, n, sent);
-            n
-        }
-        Events::Byte(byte) => {
-            repeat(machine, Event::Byte(byte), 1, sent);
-            1
-        }
         Events::Until { stop, most } => {
             let stops = [stop];
             steps_while(machine, replay, &stops, &stops, most, most, sent)
@@ -141,7 +142,172 @@ fn give<C: CapRep>(
             let (most, room) = (most_gone(), most_sent());
             steps_while(machine, replay, &[], stops, most, room, sent)
         }
+        Events::Ticks(_) => 0,
+        Events::Byte(_) => 0,
+        Events::Changed { .. } => 0,
     }
+}
+
+/// Gives the tick that is to come yet, if one is, and then steps of a command, appends what they send to the other bytes, and answers how
+/// many events there were.
+fn give_with_tick<C: CapRep>(
+    machine: &mut Machine<C>,
+    replay: &mut Option<Replay>,
+    owed: bool,
+    stops: &[Stop],
+    events: Events,
+    sent: &mut Vec<u8>,
+) -> u64
+    requires room { vec_len sent.old + most_of events ≤ vec_capacity sent.old }
+    requires limits { AreWithinLimits events }
+    ensures state { machine.new ≡ run_after (with_tick events replay.old owed stops.now machine.old) machine.old }
+    ensures bytes { sent.new.items ≡ sent.old.items ++ run_sent (with_tick events replay.old owed stops.now machine.old) machine.old }
+    ensures replay { replay.new ≡ option_map (replayed (with_tick events replay.old owed stops.now machine.old)) replay.old }
+    ensures count { result ≡ length (with_tick events replay.old owed stops.now machine.old) }
+    ensures few { result ≤ 4000000000001 }
+    ensures len { vec_len sent.new ≤ vec_len sent.old + most_of events }
+{
+    let ticks = pass(machine, owed);
+    ticks + give_own(machine, replay, stops, events, sent)
+}
+
+/// Gives the tick that is to come yet, if one is, and then steps of a command; after them none is to come.
+fn give_paid<C: CapRep>(
+    machine: &mut Machine<C>,
+    replay: &mut Option<Replay>,
+    owed: &mut bool,
+    stops: &[Stop],
+    events: Events,
+    sent: &mut Vec<u8>,
+) -> u64
+    requires room { vec_len sent.old + most_of events ≤ vec_capacity sent.old }
+    requires limits { AreWithinLimits events }
+    ensures state { machine.new ≡ run_after (with_tick events replay.old owed.old stops.now machine.old) machine.old }
+    ensures bytes { sent.new.items ≡ sent.old.items ++ run_sent (with_tick events replay.old owed.old stops.now machine.old) machine.old }
+    ensures replay { replay.new ≡ option_map (replayed (with_tick events replay.old owed.old stops.now machine.old)) replay.old }
+    ensures owed { owed.new ≡ false }
+    ensures count { result ≡ length (with_tick events replay.old owed.old stops.now machine.old) }
+    ensures few { result ≤ 4000000000001 }
+    ensures len { vec_len sent.new ≤ vec_len sent.old + most_of events }
+{
+    let count = give_with_tick(machine, replay, *owed, stops, events, sent);
+    *owed = false;
+    count
+}
+
+/// What a past keeps of so many events of a command.
+fn given_of(events: Events, count: u64) -> Given
+    ensures { result ≡ given_of events count }
+{
+    match events {
+        Events::Ticks(_) => Given::Ticks(count),
+        Events::Byte(byte) => Given::Byte(byte),
+        Events::Steps(_) | Events::Until { .. } | Events::Changed { .. } | Events::Go => {
+            Given::Steps(count)
+        }
+    }
+}
+
+/// Gives the events of a command, appends what is sent to the other bytes, and answers how many there were: the timeline without its past.
+#[tactic(auto, unfolding(crate::specs::Reply::given, crate::specs::Reply::replay_after, crate::specs::Reply::owed_after))]
+fn give<C: CapRep>(
+    machine: &mut Machine<C>,
+    replay: &mut Option<Replay>,
+    owed: &mut bool,
+    stops: &[Stop],
+    events: Events,
+    sent: &mut Vec<u8>,
+) -> u64
+    requires room { vec_len sent.old + most_of events ≤ vec_capacity sent.old }
+    requires limits { AreWithinLimits events }
+    requires there { IsChangeThere events machine.old }
+    ensures state { machine.new ≡ run_after (given events replay.old owed.old stops.now machine.old) machine.old }
+    ensures bytes { sent.new.items ≡ sent.old.items ++ run_sent (given events replay.old owed.old stops.now machine.old) machine.old }
+    ensures replay { replay.new ≡ replay_after events (given events replay.old owed.old stops.now machine.old) replay.old }
+    ensures owed { owed.new
+        ≡ owed_after events (given events replay.old owed.old stops.now machine.old) replay.old owed.old machine.old }
+    ensures count { result ≡ length (given events replay.old owed.old stops.now machine.old) }
+    ensures few { result ≤ 4000000000001 }
+    ensures len { vec_len sent.new ≤ vec_len sent.old + most_of events }
+{
+    match events {
+        Events::Ticks(n) => {
+            repeat(machine, Event::Tick, n, sent);
+            n
+        }
+        Events::Byte(byte) => {
+            repeat(machine, Event::Byte(byte), 1, sent);
+            1
+        }
+        Events::Changed { place, most } => {
+            let count = steps_holding(machine, replay, owed, place, most, sent);
+            *owed = *owed && machine.halted().is_none();
+            count
+        }
+        Events::Steps(_) => give_paid(machine, replay, owed, stops, events, sent),
+        Events::Until { .. } => give_paid(machine, replay, owed, stops, events, sent),
+        Events::Go => give_paid(machine, replay, owed, stops, events, sent),
+    }
+}
+
+/// The most events that a past keeps before one more command: far more than a session is ever given.
+const MOST_KEPT: u64 = 1 << 63;
+
+/// Makes room for one more command in a past, which counts as one without events.
+fn begin(past: &mut Option<Past>) -> Result<(), AllocError>
+    ensures past { OnOk result (past.new ≡ option_map begun_past past.old) }
+    ensures few { OnOk result (IfSome past.old (λ p. count_of p.given ≤ 2 ^ 63)) }
+    ensures same { OnErr result (past.new ≡ past.old) }
+{
+    let Some(past) = past else {
+        return Ok(());
+    };
+    if past.count() > MOST_KEPT {
+        return Err(AllocError);
+    }
+    past.push(Given::Steps(0))
+}
+
+/// Keeps what the command gave.
+fn keep(past: &mut Option<Past>, given: Given)
+    requires begun { HasBegun past.old }
+    requires few { count_of_one given ≤ 4000000000001 }
+    ensures { past.new ≡ option_map (kept_last given) past.old }
+{
+    if let Some(past) = past {
+        past.set_last(given);
+    }
+}
+
+/// Gives the events of a command to a timeline, appends what is sent to the other bytes, for which there is room, and answers how many
+/// there were. Where there is no memory in its past nothing is given.
+fn give_all<C: CapRep>(
+    timeline: &mut Timeline<C>,
+    stops: &[Stop],
+    events: Events,
+    sent: &mut Vec<u8>,
+) -> Result<u64, AllocError>
+    requires room { vec_len sent.old + most_of events ≤ vec_capacity sent.old }
+    requires limits { AreWithinLimits events }
+    requires there { IsChangeThere events timeline.old.machine }
+    ensures state { OnOk result (timeline.new ≡ after_events events (given_on events stops.now timeline.old) timeline.old) }
+    ensures bytes { OnOk result (sent.new.items
+        ≡ sent.old.items ++ run_sent (given_on events stops.now timeline.old) timeline.old.machine) }
+    ensures count { IfOk result (λ count. count ≡ length (given_on events stops.now timeline.old)) }
+    ensures len { OnOk result (vec_len sent.new ≤ vec_len sent.old + most_of events) }
+    ensures same { OnErr result (timeline.new ≡ timeline.old) }
+{
+    begin(&mut timeline.past)?;
+    let count = give(
+        &mut timeline.machine,
+        &mut timeline.replay,
+        &mut timeline.owed,
+        stops,
+        events,
+        sent,
+    );
+    keep(&mut timeline.past, given_of(events, count));
+    Ok(count)
 }
 
 /// Appends bytes, two digits each, to a text.
@@ -200,7 +366,10 @@ fn put_given(text: &mut String, count: u64, sent: &[u8]) -> Result<(), AllocErro
 }
 
 /// Appends where a machine stands to a text.
-fn put_place<C: CapRep>(text: &mut String, machine: &Machine<C>) -> Result<(), AllocError>
+pub(crate) fn put_place<C: CapRep>(
+    text: &mut String,
+    machine: &Machine<C>,
+) -> Result<(), AllocError>
     ensures bytes { OnOk result (string_bytes text.new ≡ string_bytes text.old ++ place_part machine.now) }
     ensures full { OnErr result (string_capacity text.old < string_len text.old + 80) }
 {
@@ -227,28 +396,27 @@ fn put_run_line<C: CapRep>(
 
 /// Gives the events of a command, and answers the line that tells of them.
 ///
-/// The line's room is made before the first event: B4 says that there is no memory for it, and then no event is given.
+/// The line's room, and that in the past, is made before the first event: B4 says that there is no memory for it, and then no event is
+/// given.
 pub(crate) fn told_events<C: CapRep>(
     alloc: Global,
-    machine: &mut Machine<C>,
-    replay: &mut Option<Replay>,
+    timeline: &mut Timeline<C>,
     stops: &[Stop],
     events: Events,
 ) -> Result<String, DebugFault>
-    requires { AreWithinLimits events }
+    requires limits { AreWithinLimits events }
+    requires there { IsChangeThere events timeline.old.machine }
     ensures text { IfOk result (λ text. string_bytes text
-        ≡ events_line (given events replay.old stops.now machine.old) machine.old) }
-    ensures state { OnOk result (machine.new ≡ run_after (given events replay.old stops.now machine.old) machine.old) }
-    ensures replay { OnOk result (replay.new ≡ replay_after events (given events replay.old stops.now machine.old) replay.old) }
+        ≡ events_line (given_on events stops.now timeline.old) timeline.old.machine) }
+    ensures state { OnOk result (timeline.new ≡ after_events events (given_on events stops.now timeline.old) timeline.old) }
     ensures err { IfErr result (λ fault. fault ≡ DebugFault.B4) }
-    ensures same { OnErr result (machine.new ≡ machine.old) }
-    ensures same_replay { OnErr result (replay.new ≡ replay.old) }
+    ensures same { OnErr result (timeline.new ≡ timeline.old) }
 {
     let most = most_bytes(events) as usize;
     let mut sent = Vec::with_capacity(alloc, most)?;
     let mut text = String::with_capacity(alloc, 2 * most + LINE_ROOM)?;
-    let count = give(machine, replay, stops, events, &mut sent);
-    match put_run_line(&mut text, machine, count, &sent) {
+    let count = give_all(timeline, stops, events, &mut sent)?;
+    match put_run_line(&mut text, &timeline.machine, count, &sent) {
         Ok(()) => Ok(text),
         Err(_) => unreachable!(),
     }

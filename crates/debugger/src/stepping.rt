@@ -9,15 +9,16 @@ ghost use Rattle.hart.specs.Applying.{meant, IsPlanned};
 ghost use Rattle.hart.specs.Outcome.{is_trap, outcome_of};
 ghost use Rattle.machine.specs.Run.{run_after, run_sent};
 ghost use Rattle.sim_run.specs.Schedule.{is_halted};
-ghost use Rattle.debugger.specs.Stepping.{byte_events, is_any_stop, is_at_end, is_over, is_stop, replayed, step_done, step_events};
+ghost use Rattle.debugger.specs.Stepping.{is_any_stop, is_at_end, is_stop, step_events};
+ghost use Rattle.past.specs.Replay.{byte_events, is_over, replayed, step_done};
 ghost use Rattle.debugger.specs.Stepping.{steps_while as steps_while_of};
 ghost use Rattle.debugger.specs.Lines.{goes_on};
 
-use crate::replay::Replay;
 use cap_bounds::CapRep;
 use debug_commands::Stop;
 use hart::Effect;
 use machine::{Event, Machine, Planned};
+use past::Replay;
 
 /// The number of PCC.
 const PCC: u8 = 0;
@@ -184,7 +185,7 @@ fn comes<C: CapRep>(machine: &Machine<C>, due: bool) -> bool
 }
 
 /// Gives a tick, if one comes, and answers how many events that are.
-fn pass<C: CapRep>(machine: &mut Machine<C>, ticks: bool) -> u64
+pub(crate) fn pass<C: CapRep>(machine: &mut Machine<C>, ticks: bool) -> u64
     ensures state { machine.new ≡ run_after (if ticks then Tick ∷ [] else []) machine.old }
     ensures count { result ≡ length (if ticks then Tick ∷ [] else []) }
     ensures bound { result ≤ 1 }

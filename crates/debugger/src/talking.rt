@@ -14,9 +14,9 @@ use crate::fault::TalkFault;
 use crate::reply::Reply;
 use crate::session::Session;
 use arrayvec::ArrayVec;
-use cap_bounds::CapRep;
 use debug_commands::DebugFault;
 use image::{Sink, Source, write_all};
+use word_cap::WordCap;
 
 /// The most bytes of a line that are kept: a longer line is refused for its length, as its beginning is.
 const MOST_KEPT: usize = 256;
@@ -70,8 +70,8 @@ fn put_refusal<W: Sink>(sink: &mut W, fault: DebugFault) -> Result<(), TalkFault
 }
 
 /// Does what a line asks for, writes its reply, and answers whether it ends the conversation.
-fn answer_line<C: CapRep, W: Sink>(
-    session: &mut Session<C>,
+fn answer_line<W: Sink>(
+    session: &mut Session<WordCap>,
     sink: &mut W,
     line: &[u8],
 ) -> Result<bool, TalkFault>
@@ -107,8 +107,8 @@ fn keep(line: &mut ArrayVec<u8, MOST_KEPT>, byte: u8)
 
 /// Answers each line that ends with a line feed, up to the end of the input or the line that ends the conversation, and answers
 /// whether such a line came. `line` is empty before, and holds the last line's beginning after.
-fn hear<C: CapRep, R: Source, W: Sink>(
-    session: &mut Session<C>,
+fn hear<R: Source, W: Sink>(
+    session: &mut Session<WordCap>,
     source: &mut R,
     sink: &mut W,
     line: &mut ArrayVec<u8, MOST_KEPT>,
@@ -149,8 +149,8 @@ fn hear<C: CapRep, R: Source, W: Sink>(
 /// `Read`, a call of the source failed: the replies to the lines before are written, and the session stands after those lines.
 /// `Write`, a call of the sink failed: a beginning of the text is written, and the session stands after the command whose reply
 /// was cut. `Memory`, there is no memory for a reply: as `Read`; the line's command is not done.
-pub fn talk<C: CapRep, R: Source, W: Sink>(
-    session: &mut Session<C>,
+pub fn talk<R: Source, W: Sink>(
+    session: &mut Session<WordCap>,
     source: &mut R,
     sink: &mut W,
 ) -> Result<(), TalkFault>

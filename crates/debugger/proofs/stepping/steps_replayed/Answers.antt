@@ -5,7 +5,8 @@ use Rattle.hart.specs.declared.event.Event.TheVariants.{Step}
 use Rattle.hart.specs.Event.{sent}
 use Rattle.machine.specs.Run.{run_after, run_sent}
 use Rattle.sim_run.proofs.Events.{run_sent-brought}
-use Rattle.debugger.specs.Stepping.{byte_due, is_any_stop, is_at_end, replayed, steps_while}
+use Rattle.debugger.specs.Stepping.{is_any_stop, is_at_end, steps_while}
+use Rattle.past.specs.Replay.{byte_due, replayed}
 use Rattle.debugger.proofs.ReplaySteps.{at-end, none-left, room-left, stops, state-goes-on, bytes-go-on, replay-goes-on, count-goes-on}
 use Rattle.debugger.proofs.stepping.steps_replayed.Goals as goal
 

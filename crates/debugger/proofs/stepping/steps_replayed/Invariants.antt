@@ -1,7 +1,8 @@
 use Rattle.std.proofs.Common.{◌≡◌, ◌+◌, ◌-◌, ◌*◌, ◌≤◌, ◌++◌, length, vec_len, vec_capacity}
 use Rattle.std.specs.Prelude.{Some}
 use Rattle.machine.specs.Run.{run_after, run_sent}
-use Rattle.debugger.specs.Stepping.{replayed, steps_while}
+use Rattle.debugger.specs.Stepping.{steps_while}
+use Rattle.past.specs.Replay.{replayed}
 use Rattle.debugger.proofs.stepping.steps_replayed.Given as goal
 
 -- what is still to come after the events so far is what comes after all of them

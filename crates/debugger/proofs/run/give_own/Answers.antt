@@ -1,0 +1,52 @@
+use Rattle.std.proofs.Common.{◌∷◌, [], ◌∙◌, ap₂, arith}
+use Rattle.std.specs.Prelude.{option_map}
+use Rattle.past.specs.Replay.{replayed}
+use Rattle.debugger.specs.Stepping.{steps_while}
+use Rattle.debugger.specs.Reply.{own_steps}
+use Rattle.debugger.proofs.Gives.{same_replay}
+use Rattle.debugger.proofs.Bounded.{counted_few, steps_few}
+use Rattle.debugger.proofs.run.give_own.Goals as goal
+
+pub returns-in-Steps-clause-few : goal.returns-in-Steps-clause-few
+returns-in-Steps-clause-few g c =
+    let few = counted_few c.args.replay.now c.in-Steps.n c.args.machine.now in
+    let most = rw c.in-Steps.is at c.requires.limits in
+    omega (arith, few, most, c.give_steps.ensures.count)
+
+pub returns-in-Until-clause-replay : goal.returns-in-Until-clause-replay
+unfolding own_steps
+returns-in-Until-clause-replay g c = rw c.in-Until.is c.steps_while.ensures.replay
+
+pub returns-in-Until-clause-few : goal.returns-in-Until-clause-few
+returns-in-Until-clause-few g c =
+    let few =
+    steps_few (c.in-Until.stop ∷ []) (c.in-Until.stop ∷ []) c.args.replay.now c.in-Until.most c.in-Until.most c.args.machine.now in
+    let most = rw c.in-Until.is at c.requires.limits in
+    omega (arith, few, most, c.steps_while.ensures.count)
+
+pub returns-in-Go-clause-replay : goal.returns-in-Go-clause-replay
+unfolding own_steps
+returns-in-Go-clause-replay g c =
+    let there =
+    c.steps_while-in-Go.ensures.replay
+    ∙ ap₂ (λ most room. option_map (replayed
+    (steps_while [] c.args.stops.now c.args.replay.now most room c.args.machine.now)) c.args.replay.now)
+    c.most_gone-most.ensures.value c.most_sent-room.ensures.value in
+    rw c.in-Go.is there
+
+pub returns-in-Go-clause-few : goal.returns-in-Go-clause-few
+returns-in-Go-clause-few g c =
+    let few = steps_few [] c.args.stops.now c.args.replay.now c.most_gone-most.result c.most_sent-room.result c.args.machine.now in
+    omega (arith, few, c.most_gone-most.ensures.bound, c.steps_while-in-Go.ensures.count)
+
+pub returns-in-Ticks-clause-replay : goal.returns-in-Ticks-clause-replay
+unfolding own_steps
+returns-in-Ticks-clause-replay g c = rw c.in-Ticks.is (same_replay c.args.replay.now)
+
+pub returns-in-Byte-clause-replay : goal.returns-in-Byte-clause-replay
+unfolding own_steps
+returns-in-Byte-clause-replay g c = rw c.in-Byte.is (same_replay c.args.replay.now)
+
+pub returns-in-Changed-clause-replay : goal.returns-in-Changed-clause-replay
+unfolding own_steps
+returns-in-Changed-clause-replay g c = rw c.in-Changed.is (same_replay c.args.replay.now)

@@ -1,0 +1,40 @@
+-- How a command's events are kept: the past has one command more before its first event, and what it gave in its place after the last.
+use Rattle.std.specs.Prelude.{ℕ, Bool, ◌+◌, ◌^◌, ◌≤◌, List, [], ◌∷◌, ◌++◌, length, Option, Some, None}
+use Rattle.debug_commands.specs.declared.command.Events.{Events}
+use Rattle.debug_commands.specs.declared.command.Events.TheVariants.{Changed}
+use Rattle.debug_commands.specs.declared.command.Recall.{Recall}
+use Rattle.debug_commands.specs.declared.command.Recall.TheVariants.{Ago, Origin, Lost}
+use Rattle.hart.specs.Opening.{opening}
+use Rattle.hart.specs.State.{State}
+use Rattle.origins.specs.Places.{IsThere}
+use Rattle.past.specs.Given.{PastState, but_last, count_of}
+use Rattle.past.specs.Replay.{ReplayState}
+use Rattle.past.specs.declared.given.Given.{Given}
+use Rattle.past.specs.declared.given.Given.TheVariants as gave
+use Rattle.debugger.specs.SessionState.{TimelineState}
+
+-- there is the place whose value is to differ
+abbrev pub IsChangeThere : Events → State → Type 0
+IsChangeThere (Changed place n) s = IsThere place s
+IsChangeThere other s = Unit {0}
+
+-- a past with one command more, which gave nothing yet; and with another in place of the last
+abbrev pub begun_past : PastState → PastState
+begun_past past = record past { given = past.given ++ gave.Steps 0 ∷ [] }
+
+abbrev pub kept_last : Given → PastState → PastState
+kept_last given past = record past { given = but_last past.given ++ given ∷ [] }
+
+abbrev pub HasBegun : Option PastState → Type 0
+HasBegun (Some past) = (1 ≤ length past.given) × (count_of (but_last past.given) ≤ 2 ^ 63)
+HasBegun None = Unit {0}
+
+-- there is the place that is asked for
+abbrev pub IsRecalledThere : Recall → PastState → Type 0
+IsRecalledThere Ago past = Unit {0}
+IsRecalledThere (Origin place) past = IsThere place (opening past.image)
+IsRecalledThere (Lost place) past = IsThere place (opening past.image)
+
+-- a timeline of these parts
+abbrev pub timeline : State → Option ReplayState → Bool → Option PastState → TimelineState
+timeline machine replay owed past = record { machine = machine; replay = replay; owed = owed; past = past }

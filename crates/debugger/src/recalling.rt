@@ -1,0 +1,167 @@
+//! Commands that go back, and that show what came before.
+ghost use Rattle.std.specs.Prelude.{◌≡◌, ◌≤◌, ◌++◌, false, Some, IfOk, IfErr, OnOk, OnErr, option_copied, string_bytes};
+ghost use Rattle.debug_commands.specs.declared.command.Command.TheVariants.{Back, Recalls};
+ghost use Rattle.debug_commands.specs.Limits.{IsRecalledWithinLimits};
+ghost use Rattle.debugger.specs.Keeping.{IsRecalledThere, timeline};
+ghost use Rattle.debugger.specs.Reply.{back_line, count_line, is_beyond, is_beyond_past, is_outside, recalled as recalled_text};
+ghost use Rattle.debugger.specs.Reply.{recalled_in};
+ghost use Rattle.debugger.specs.Reply.{taken_back};
+ghost use Rattle.debugger.specs.SessionState.{HasItsPast};
+ghost use Rattle.past.specs.Given.{count_of};
+
+use crate::run::put_place;
+use crate::timeline::Timeline;
+use cap_bounds::CapRep;
+use debug_commands::{Command, DebugFault, Recall};
+use effect_texts::{put, put_decimal};
+use machine::Machine;
+use origin_texts::{put_lost, put_origin};
+use past::{Past, Replay};
+use std::alloc::{AllocError, Global};
+use word_cap::WordCap;
+
+/// The most events that a search goes through.
+const MOST_SEARCHED: u64 = 100_000_000;
+
+/// Whether a past has fewer events than are to be taken back, or more than a search goes through.
+fn is_beyond_past(past: &Past, command: Command) -> bool
+    ensures { result ≡ is_beyond_past command past.now }
+{
+    match command {
+        Command::Back(events) => past.count() < events,
+        Command::Recalls(Recall::Origin(_) | Recall::Lost(_)) => past.count() > MOST_SEARCHED,
+        _ => false,
+    }
+}
+
+/// Whether a session was given too few events for a command, or too many, or has no past that it needs.
+pub(crate) fn is_beyond<C: CapRep>(timeline: &Timeline<C>, command: Command) -> bool
+    ensures { result ≡ is_beyond command timeline.now.past }
+{
+    match &timeline.past {
+        Some(past) => is_beyond_past(past, command),
+        None => matches!(command, Command::Back(_) | Command::Recalls(_)),
+    }
+}
+
+/// Appends how many events there were.
+fn put_count(text: &mut String, events: u64) -> Result<(), AllocError>
+    ensures { OnOk result (string_bytes text.new ≡ string_bytes text.old ++ count_line events) }
+{
+    put(text, "events ")?;
+    put_decimal(text, events)?;
+    put(text, "\n")
+}
+
+/// Appends what is shown of a past.
+#[tactic(auto, unfolding(crate::specs::Reply::recalled))]
+fn put_recalled(
+    text: &mut String,
+    alloc: Global,
+    past: &Past,
+    replay: Option<&Replay>,
+    recall: Recall,
+) -> Result<(), AllocError>
+    requires { IsRecalledThere recall past.now }
+    ensures { OnOk result (string_bytes text.new ≡ string_bytes text.old ++ recalled_text recall past.now (option_copied replay.entry)) }
+{
+    match recall {
+        Recall::Ago => put_count(text, past.count()),
+        Recall::Origin(place) => put_origin(text, alloc, past, replay, place),
+        Recall::Lost(place) => put_lost(text, alloc, past, replay, place),
+    }
+}
+
+/// The text of what is shown of a session's past, or B4.
+pub(crate) fn recalled(
+    alloc: Global,
+    timeline: &Timeline<WordCap>,
+    recall: Recall,
+) -> Result<String, DebugFault>
+    requires limits { IsRecalledWithinLimits recall }
+    requires inside { is_outside (Recalls recall) timeline.now.machine ≡ false }
+    ensures text { IfOk result (λ text. string_bytes text ≡ recalled_in recall timeline.now.past timeline.now.replay) }
+    ensures err { IfErr result (λ fault. fault ≡ DebugFault.B4) }
+{
+    let mut text = String::new(alloc);
+    if let Some(past) = &timeline.past {
+        put_recalled(&mut text, alloc, past, timeline.replay.as_ref(), recall)?;
+    }
+    Ok(text)
+}
+
+/// Appends the line of so many events less, and where a machine stands.
+fn put_back<C: CapRep>(
+    text: &mut String,
+    machine: &Machine<C>,
+    events: u64,
+) -> Result<(), AllocError>
+    ensures { OnOk result (string_bytes text.new ≡ string_bytes text.old ++ back_line events machine.now) }
+{
+    put(text, "events -")?;
+    put_decimal(text, events)?;
+    put(text, " out -")?;
+    put_place(text, machine)
+}
+
+/// Takes the parts of a timeline back to where they stood before the last events, and appends the line that tells of it. Where there is no
+/// memory nothing is taken back.
+fn take_back(
+    text: &mut String,
+    alloc: Global,
+    machine: &mut Machine<WordCap>,
+    replay: &mut Option<Replay>,
+    owed: &mut bool,
+    past: &mut Past,
+    events: u64,
+) -> Result<(), AllocError>
+    requires { events ≤ count_of past.old.given }
+    ensures text { OnOk result (string_bytes text.new ≡ string_bytes text.old ++ back_line events machine.new) }
+    ensures state { OnOk result (timeline machine.new replay.new owed.new (Some past.new)
+        ≡ taken_back events (timeline machine.old replay.old owed.old (Some past.old))) }
+    ensures stands { OnOk result (HasItsPast (timeline machine.new replay.new owed.new (Some past.new))) }
+    ensures same { OnErr result (timeline machine.new replay.new owed.new (Some past.new)
+        ≡ timeline machine.old replay.old owed.old (Some past.old)) }
+{
+    let left = past.count() - events;
+    let Ok((then, player)) = past.machine_at(alloc, replay.as_ref(), left) else {
+        return Err(AllocError);
+    };
+    put_back(text, &then, events)?;
+    let (done, brought, is_owed) = (player.done(), player.brought(), player.owed());
+    if let Some(replay) = replay {
+        replay.stand_at(done, brought);
+    }
+    *owed = is_owed && then.halted().is_none();
+    past.keep(left);
+    *machine = then;
+    Ok(())
+}
+
+/// Takes back the last events, and answers the line that tells of it: B4 where there is no memory, and then nothing is taken back.
+pub(crate) fn told_back(
+    alloc: Global,
+    timeline: &mut Timeline<WordCap>,
+    events: u64,
+) -> Result<String, DebugFault>
+    requires { is_beyond (Back events) timeline.old.past ≡ false }
+    ensures text { IfOk result (λ text. string_bytes text ≡ back_line events (taken_back events timeline.old).machine) }
+    ensures state { OnOk result (timeline.new ≡ taken_back events timeline.old) }
+    ensures err { IfErr result (λ fault. fault ≡ DebugFault.B4) }
+    ensures same { OnErr result (timeline.new ≡ timeline.old) }
+{
+    let mut text = String::new(alloc);
+    let Some(past) = &mut timeline.past else {
+        return Err(DebugFault::B4);
+    };
+    take_back(
+        &mut text,
+        alloc,
+        &mut timeline.machine,
+        &mut timeline.replay,
+        &mut timeline.owed,
+        past,
+        events,
+    )?;
+    Ok(text)
+}

@@ -1,0 +1,4 @@
+mod Facts
+mod Fuel
+mod There
+mod Pieces

@@ -1,0 +1,67 @@
+-- One link of a derivation, as a line: a place, where its value came from, what was cut, and the step that wrote it.
+use Rattle.std.specs.Prelude.{ℕ, ◌+◌, Bool, true, false, ◌&&◌, ◌==◌, if◌then◌else◌, List, [], ◌++◌, Option, Some, None, codes}
+use Rattle.asm_names.specs.Registers.{register_name}
+use Rattle.asm_names.specs.SpecialNames.{scr_name}
+use Rattle.cap_bounds.specs.CapValue.{CapValue, is_tagged, is_sealed, value_base, value_top, value_perms}
+use Rattle.debug_commands.specs.declared.command.Place.{Place}
+use Rattle.debug_commands.specs.declared.command.Place.TheVariants.{Register, Special, Granule}
+use Rattle.disassembler.specs.Hex.{hex_of}
+use Rattle.disassembler.specs.Shown.{name_or}
+use Rattle.effect_texts.specs.TraceLine.{trace_line}
+use Rattle.effect_texts.specs.ValueText.{value_line}
+use Rattle.hart.specs.Event.{after}
+use Rattle.hart.specs.State.{State}
+use Rattle.hart.specs.declared.event.Event.TheVariants.{Step}
+use Rattle.origins.specs.Making.{source}
+use Rattle.origins.specs.Places.{held}
+use Rattle.origins.specs.declared.search.Found.{Found}
+
+-- a place by its name, or a granule by its address
+unfoldable pub place_text : Place → List ℕ
+place_text (Register n) = name_or [] (register_name true n)
+place_text (Special n) = name_or [] (scr_name n)
+place_text (Granule address) = hex_of 16 address
+
+-- ---- what was cut
+
+abbrev pub unless : Bool → List ℕ → List ℕ
+unless same note = if same then [] else note
+
+abbrev pub has_same_bounds : CapValue → CapValue → Bool
+has_same_bounds v w = (value_base w == value_base v) && (value_top w == value_top v)
+
+abbrev pub seal_note : Bool → Bool → List ℕ
+seal_note false true = codes ", sealed"
+seal_note true false = codes ", unsealed"
+seal_note before after = []
+
+-- of a capability that was made of another
+abbrev pub kept_notes : CapValue → CapValue → List ℕ
+kept_notes v w =
+    unless (has_same_bounds v w) (codes ", bounds cut")
+    ++ (unless (value_perms w == value_perms v) (codes ", permissions cut") ++ seal_note (is_sealed v) (is_sealed w))
+
+-- Of what isn't tagged nothing can be cut.
+unfoldable pub notes : CapValue → CapValue → List ℕ
+notes v w = if is_tagged v then (if is_tagged w then kept_notes v w else codes ", tag cut") else []
+
+-- ---- lines
+
+-- where the value came from that the next step of a state writes at a place
+abbrev pub source_text : Place → Option Place → State → List ℕ
+source_text place None s = codes "no capability"
+source_text place (Some from) s = place_text from ++ notes (held from s) (held place (after Step s))
+
+-- the line of an event that wrote a place, which is the next step of this state
+unfoldable pub link_text : Place → Found → State → List ℕ
+link_text place found s =
+    place_text place
+    ++ (codes " from " ++ (source_text place (source found.making) s ++ (codes ": " ++ trace_line (found.before + 1) s)))
+
+-- what nothing wrote is as the image has it
+abbrev pub opening_name : Place → List ℕ
+opening_name (Granule address) = codes "image: "
+opening_name other = codes "opening state: "
+
+unfoldable pub opening_text : Place → State → List ℕ
+opening_text place s = opening_name place ++ value_line (place_text place) (held place s)

@@ -1,0 +1,222 @@
+//! Where a value came from, and where a tag was lost.
+//!
+//! A session's past is gone through on machines of this crate's own, whatever the session's represents capabilities by: their states are
+//! the same.
+ghost use Rattle.std.specs.Prelude.{◌≡◌, ◌++◌, ◌≤◌, ◌<◌, ◌-◌, ◌^◌, ℕ, List, OnOk, IfOk, IfSome, option_copied, string_bytes};
+ghost use Rattle.debug_commands.specs.declared.command.Place.{Place};
+ghost use Rattle.hart.specs.Opening.{opening};
+ghost use Rattle.origins.specs.Kept.{AreThere};
+ghost use Rattle.origins.specs.Places.{IsThere};
+ghost use Rattle.origin_texts.specs.Origin as spec;
+ghost use Rattle.origin_texts.specs.Origin.{loss_text, onward, tell_on, unless_tagged};
+ghost use Rattle.past.specs.Given.{state_at};
+ghost use Rattle.past.specs.Giving.{HasSameSize};
+
+use crate::conditions::put_conditions;
+use crate::link::{put_link, put_opening};
+use crate::place::put_place;
+use cap_bounds::CapRep;
+use debug_commands::Place;
+use effect_texts::put;
+use machine::Machine;
+use origins::{Found, Sought, held, tag_asked};
+use past::{Past, Replay};
+use std::alloc::{AllocError, Global};
+use word_cap::WordCap;
+
+/// The machine of a session as it stood after so many of its events.
+fn machine_after(
+    alloc: Global,
+    past: &Past,
+    replay: Option<&Replay>,
+    events: u64,
+) -> Result<Machine<WordCap>, AllocError>
+    ensures machine { IfOk result (λ machine. machine ≡ state_at events past.now (option_copied replay.entry)) }
+    ensures size { IfOk result (λ machine. HasSameSize (opening past.now.image) machine) }
+{
+    match past.machine_at(alloc, replay, events) {
+        Ok((machine, _)) => Ok(machine),
+        Err(_) => Err(AllocError),
+    }
+}
+
+/// The last of the first events that does what is sought.
+fn last_among(
+    alloc: Global,
+    past: &Past,
+    replay: Option<&Replay>,
+    sought: Sought,
+    place: Place,
+    events: u64,
+) -> Result<Option<Found>, AllocError>
+    requires { IsThere place (opening past.now.image) }
+    ensures found { IfOk result (λ found. found ≡ spec.last_among past.now (option_copied replay.entry) sought events place) }
+{
+    match past.last::<WordCap>(alloc, replay, sought, place, events) {
+        Ok((found, _)) => Ok(found),
+        Err(_) => Err(AllocError),
+    }
+}
+
+/// What is told of next: the source of what was written, over the events before.
+fn onward(source: Option<Place>, before: u64) -> Option<(Place, u64)>
+    ensures { result ≡ onward source before }
+{
+    match source {
+        Some(from) => Some((from, before)),
+        None => None,
+    }
+}
+
+/// Appends the line of the last of the first events that wrote a place, or what the opening state of the image has there, and answers
+/// what is told of next.
+fn put_next(
+    text: &mut String,
+    alloc: Global,
+    past: &Past,
+    replay: Option<&Replay>,
+    place: Place,
+    events: u64,
+) -> Result<Option<(Place, u64)>, AllocError>
+    requires { IsThere place (opening past.now.image) }
+    ensures text { IfOk result (λ next. (tell : Place → ℕ → List ℕ) → string_bytes text.new ++ tell_on tell next
+        ≡ string_bytes text.old ++ spec.origin_in past.now (option_copied replay.entry) tell place events) }
+    ensures there { IfOk result (λ next. IfSome next (λ p. IsThere p.0 (opening past.now.image) × (p.1 < events))) }
+{
+    let Some(found) = last_among(alloc, past, replay, Sought::Written, place, events)? else {
+        put_opening(text, &machine_after(alloc, past, replay, 0)?, place)?;
+        return Ok(None);
+    };
+    let mut machine = machine_after(alloc, past, replay, found.before)?;
+    put_link(text, &mut machine, place, found)?;
+    Ok(onward(found.making.source(), found.before))
+}
+
+/// Appends how what a place holds came to be: the last event that wrote it, and so on with its source, down to the opening state of the
+/// image or to a number. Each is one line.
+///
+/// Each line costs a pass over the events before it.
+///
+/// # Errors
+///
+/// Out of memory.
+#[tactic(auto, unfolding(crate::specs::Origin::origin_text))]
+pub fn put_origin(
+    text: &mut String,
+    alloc: Global,
+    past: &Past,
+    replay: Option<&Replay>,
+    place: Place,
+) -> Result<(), AllocError>
+    requires { IsThere place (opening past.now.image) }
+    ensures { OnOk result (string_bytes text.new ≡ string_bytes text.old ++ spec.origin_text past.now (option_copied replay.entry) place) }
+{
+    let mut next = Some((place, past.count()));
+    while let Some((place, events)) = next {
+        next = put_next(text, alloc, past, replay, place, events)?;
+    }
+    Ok(())
+}
+
+/// The source of what an event wrote, if it has no tag.
+fn untagged_source<C: CapRep>(machine: &Machine<C>, source: Option<Place>) -> Option<Place>
+    requires { IfSome source (λ from. IsThere from machine.now) }
+    ensures { result ≡ unless_tagged machine.now source }
+{
+    let from = source?;
+    if held(machine, from).tag() {
+        return None;
+    }
+    Some(from)
+}
+
+/// Appends the line of an event at which a tag went, which is the machine's next step, and the conditions of the tag.
+fn put_loss<C: CapRep>(
+    text: &mut String,
+    alloc: Global,
+    machine: &mut Machine<C>,
+    place: Place,
+    found: Found,
+) -> Result<(), AllocError>
+    requires few { found.before < 2 ^ 64 - 1 }
+    requires there { IsThere place machine.old }
+    requires source { AreThere found.making machine.old }
+    ensures { OnOk result (string_bytes text.new ≡ string_bytes text.old ++ loss_text place found machine.old) }
+{
+    let asked = tag_asked(alloc, machine, found.making)?;
+    let mut conditions = String::new(alloc);
+    put_conditions(&mut conditions, machine, &asked)?;
+    put_link(text, machine, place, found)?;
+    put(text, &conditions)
+}
+
+/// Appends what is told of the last of the first events at which the tag of a place went, if there was one, and answers what is told of
+/// next: the source, if it had no tag either.
+fn put_next_loss(
+    text: &mut String,
+    alloc: Global,
+    past: &Past,
+    replay: Option<&Replay>,
+    place: Place,
+    events: u64,
+) -> Result<Option<(Place, u64)>, AllocError>
+    requires { IsThere place (opening past.now.image) }
+    ensures text { IfOk result (λ next. (tell : Place → ℕ → List ℕ) → string_bytes text.new ++ tell_on tell next
+        ≡ string_bytes text.old ++ spec.loss_in past.now (option_copied replay.entry) tell place events) }
+    ensures there { IfOk result (λ next. IfSome next (λ p. IsThere p.0 (opening past.now.image) × (p.1 < events))) }
+{
+    let Some(found) = last_among(alloc, past, replay, Sought::Lost, place, events)? else {
+        return Ok(None);
+    };
+    let mut machine = machine_after(alloc, past, replay, found.before)?;
+    let from = untagged_source(&machine, found.making.source());
+    put_loss(text, alloc, &mut machine, place, found)?;
+    Ok(onward(from, found.before))
+}
+
+/// Appends where the tag of a place went, or nothing where it never did.
+fn put_losses(
+    text: &mut String,
+    alloc: Global,
+    past: &Past,
+    replay: Option<&Replay>,
+    place: Place,
+) -> Result<(), AllocError>
+    requires { IsThere place (opening past.now.image) }
+    ensures { OnOk result (string_bytes text.new ≡ string_bytes text.old ++ spec.all_losses past.now (option_copied replay.entry) place) }
+{
+    let mut next = Some((place, past.count()));
+    while let Some((place, events)) = next {
+        next = put_next_loss(text, alloc, past, replay, place, events)?;
+    }
+    Ok(())
+}
+
+/// Appends where the tag of a place went: the last event at which it did, with the conditions of the tag, and where its source had none
+/// either, where that one's went.
+///
+/// Each event costs a pass over those before it.
+///
+/// # Errors
+///
+/// Out of memory.
+#[tactic(auto, unfolding(crate::specs::Origin::lost_text))]
+pub fn put_lost(
+    text: &mut String,
+    alloc: Global,
+    past: &Past,
+    replay: Option<&Replay>,
+    place: Place,
+) -> Result<(), AllocError>
+    requires { IsThere place (opening past.now.image) }
+    ensures { OnOk result (string_bytes text.new ≡ string_bytes text.old ++ spec.lost_text past.now (option_copied replay.entry) place) }
+{
+    let mut lines = String::new(alloc);
+    put_losses(&mut lines, alloc, past, replay, place)?;
+    if !lines.is_empty() {
+        return put(text, &lines);
+    }
+    put(text, "no tag was lost at ")?;
+    put_place(text, place)?;
+    put(text, "\n")
+}

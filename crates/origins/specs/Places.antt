@@ -1,0 +1,36 @@
+-- What a state holds at a place: in a register, in a special capability register, in a granule of RAM.
+use Rattle.std.specs.Prelude.{◌≡◌, true}
+use Rattle.std.specs.Option.{unwrap_or}
+use Rattle.base.specs.declared.registers.scr.TheConstants.{PCC, DDC, MTCC, MEPCC}
+use Rattle.cap_bounds.specs.CapValue.{CapValue, value_of}
+use Rattle.debug_commands.specs.Limits.{IsHolder}
+use Rattle.debug_commands.specs.declared.command.Place.{Place}
+use Rattle.debug_commands.specs.declared.command.Place.TheVariants.{Register, Special, Granule}
+use Rattle.tagged_memory.specs.Memory.{has_tag, is_in_ram, word_at}
+use Rattle.special_regs.specs.Scrs.{scr_value}
+use Rattle.registers.specs.Registers.{null, register}
+use Rattle.hart.specs.State.{State}
+
+-- what a place holds
+unfoldable pub held : Place → State → CapValue
+held (Register n) s = register s.registers n
+held (Special n) s = unwrap_or (scr_value s.scrs n) null
+held (Granule address) s = value_of (word_at s.memory address) (has_tag s.memory address)
+
+-- the special registers that steps write by themselves
+abbrev pub pcc : Place
+pcc = Special PCC
+
+abbrev pub ddc : Place
+ddc = Special DDC
+
+abbrev pub mtcc : Place
+mtcc = Special MTCC
+
+abbrev pub mepcc : Place
+mepcc = Special MEPCC
+
+-- There is such a place: a register, or a granule that lies in RAM.
+abbrev pub IsThere : Place → State → Type 0
+IsThere (Granule address) s = IsHolder (Granule address) × (is_in_ram s.memory address 16 ≡ true)
+IsThere place s = IsHolder place

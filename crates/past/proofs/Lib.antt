@@ -1,0 +1,4 @@
+pub mod OneByOne
+pub mod InOrder
+pub mod Seeks
+mod Stay

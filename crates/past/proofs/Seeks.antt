@@ -1,0 +1,14 @@
+-- A search that meets events.
+use Rattle.std.proofs.Common.{◌≡◌, suc, List, ◌∷◌, refl}
+use Rattle.hart.specs.declared.event.Event.{Event}
+use Rattle.hart.specs.State.{State}
+use Rattle.hart.specs.Event.{after}
+use Rattle.origins.specs.Search.{done_at, newer}
+use Rattle.origins.specs.declared.search.Search.{Search}
+use Rattle.past.specs.Seeking.{found_by}
+
+-- one event more
+pub found_on : (old new : Search) (e : Event) (es : List Event) (s t : State) → t ≡ after e s → new.before ≡ suc old.before
+    → new.found ≡ newer old.before (done_at old.sought old.place e s) old.found → new.sought ≡ old.sought → new.place ≡ old.place
+    → found_by new es t ≡ found_by old (e ∷ es) s
+found_on old new e es s t state before found sought place = rw (state, before, found, sought, place) refl

@@ -1,0 +1,10 @@
+-- What a search finds, with the events that are still to come.
+use Rattle.std.specs.Prelude.{List, Option}
+use Rattle.hart.specs.State.{State}
+use Rattle.hart.specs.declared.event.Event.{Event}
+use Rattle.origins.specs.Search.{last_after}
+use Rattle.origins.specs.declared.search.Found.{Found}
+use Rattle.origins.specs.declared.search.Search.{Search}
+
+abbrev pub found_by : Search → List Event → State → Option Found
+found_by search events s = last_after search.sought search.place search.before search.found events s

@@ -1,0 +1,16 @@
+//! What a session was given since the opening state of its image, and the states that it went through.
+#![tactic(auto)]
+
+mod cutting;
+mod given;
+mod giving;
+pub mod laws;
+mod past;
+mod player;
+mod replay;
+mod seeking;
+
+pub use given::Given;
+pub use past::Past;
+pub use player::Player;
+pub use replay::Replay;

@@ -1,0 +1,139 @@
+//! What a session was given since the opening state of its image.
+ghost use Rattle.std.specs.Prelude.{◌≡◌, ◌+◌, ◌-◌, ◌^◌, ◌≤◌, ◌++◌, [], ◌∷◌, length, IfOk, IfErr, OnOk, OnErr, Option, option_copied, take};
+ghost use Rattle.hart.specs.Opening.{opening};
+ghost use Rattle.origins.specs.Places.{IsThere};
+ghost use Rattle.origins.specs.Search.{last};
+ghost use Rattle.past.specs.Giving.{HasSameSize};
+ghost use Rattle.past.specs.Given.{but_last, count_of, count_of_one, first_of, past_events, past_of, position_at, state_at};
+ghost use Rattle.past.specs.Replay.{ReplayState};
+
+use crate::cutting::{keep_first, set_last};
+use crate::given::{Given, count_of_one};
+use crate::giving::give_from_beginning;
+use crate::player::Player;
+use crate::replay::Replay;
+use crate::seeking::last_of;
+use cap_bounds::CapRep;
+use debug_commands::Place;
+use image::Image;
+use machine::{Machine, MachineFault};
+use origins::{Found, Sought};
+use std::alloc::{AllocError, Global};
+use std::marker::Model;
+
+/// An image, and what was given since its opening state.
+#[derive(Drop)]
+pub struct Past {
+    image: Image,
+    given: Vec<Given>,
+    /// How many events that were.
+    count: u64,
+}
+
+impl Model for Past {
+    ghost use Rattle.std.specs.Prelude.{◌≡◌};
+    ghost use Rattle.past.specs.Given.{PastState, count_of, past_of};
+
+    ghost Value = { PastState };
+
+    ghost view = { λ p. past_of p.image p.given.items };
+
+    ghost invariant = { λ p. p.count ≡ count_of p.given.items };
+}
+
+impl Past {
+    /// The past of a session that begins.
+    pub fn new(alloc: Global, image: Image) -> Self
+        ensures { result ≡ past_of image [] }
+    {
+        Past {
+            image,
+            given: Vec::new(alloc),
+            count: 0,
+        }
+    }
+
+    /// How many events there were.
+    pub fn count(&self) -> u64
+        ensures value { result ≡ count_of self.now.given }
+        ensures events { (replay : Option ReplayState) → result ≡ length (past_events self.now replay) }
+    {
+        self.count
+    }
+
+    /// Makes room for one more command.
+    pub fn make_room(&mut self) -> Result<(), AllocError>
+        ensures { self.new ≡ self.old }
+    {
+        self.given.reserve(1)
+    }
+
+    /// Notes what a command gave.
+    pub fn push(&mut self, given: Given) -> Result<(), AllocError>
+        requires few { count_of self.old.given + count_of_one given ≤ 2 ^ 64 - 1 }
+        ensures ok { OnOk result (self.new ≡ record self.old { given = self.old.given ++ given ∷ [] }) }
+        ensures err { OnErr result (self.new ≡ self.old) }
+    {
+        self.given.push(given)?;
+        self.count += count_of_one(given);
+        Ok(())
+    }
+
+    /// Puts what a command gave in place of what the last one did. It takes no memory.
+    pub fn set_last(&mut self, given: Given)
+        requires some { 1 ≤ length self.old.given }
+        requires few { count_of (but_last self.old.given) + count_of_one given ≤ 2 ^ 64 - 1 }
+        ensures { self.new ≡ record self.old { given = but_last self.old.given ++ given ∷ [] } }
+    {
+        let before = set_last(&mut self.given, given);
+        self.count -= count_of_one(before);
+        self.count += count_of_one(given);
+    }
+
+    /// Keeps the first `n` events, and forgets those after them. It takes no memory.
+    pub fn keep(&mut self, n: u64)
+        ensures { self.new ≡ record self.old { given = first_of n self.old.given } }
+    {
+        keep_first(&mut self.given, n);
+        self.count = self.count.min(n);
+    }
+
+    /// A machine after the first `n` events, and where the session's steps stand there: M2 where there is no memory for it, and no other
+    /// fault.
+    pub fn machine_at<'a, C: CapRep>(
+        &self,
+        alloc: Global,
+        replay: Option<&'a Replay>,
+        n: u64,
+    ) -> Result<(Machine<C>, Player<'a>), MachineFault>
+        ensures machine { IfOk result (λ p. p.0 ≡ state_at n self.now (option_copied replay.entry)) }
+        ensures position { IfOk result (λ p. p.1 ≡ position_at n self.now (option_copied replay.entry)) }
+        ensures size { IfOk result (λ p. HasSameSize (opening self.now.image) p.0) }
+        ensures fault { IfErr result (λ fault. fault ≡ MachineFault.M2) }
+    {
+        let mut machine = Machine::new(alloc, &self.image)?;
+        let player = give_from_beginning(&mut machine, replay, &self.given, n);
+        Ok((machine, player))
+    }
+
+    /// The last of the first `n` events that does what is sought at a place, with how many events were before it and how it made what it
+    /// wrote, and a machine after these `n`. M2 where there is no memory for the machine, and no other fault.
+    pub fn last<C: CapRep>(
+        &self,
+        alloc: Global,
+        replay: Option<&Replay>,
+        sought: Sought,
+        place: Place,
+        n: u64,
+    ) -> Result<(Option<Found>, Machine<C>), MachineFault>
+        requires { IsThere place (opening self.now.image) }
+        ensures found { IfOk result (λ p. p.0
+            ≡ last sought place (take n (past_events self.now (option_copied replay.entry))) (opening self.now.image)) }
+        ensures machine { IfOk result (λ p. p.1 ≡ state_at n self.now (option_copied replay.entry)) }
+        ensures fault { IfErr result (λ fault. fault ≡ MachineFault.M2) }
+    {
+        let mut machine = Machine::new(alloc, &self.image)?;
+        let found = last_of(&mut machine, replay, sought, place, &self.given, n);
+        Ok((found, machine))
+    }
+}

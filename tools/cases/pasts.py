@@ -1,0 +1,359 @@
+"""Conversations of the debugger about what came before, with what is answered by the model of recorded runs."""
+
+from cases.past import Past
+from cases.quoting import escaped
+from cases.sessions import conversation, typed
+from model.devices import RAM
+
+
+def session(about, text, commands, schedule=None):
+    """A conversation of commands, which are parted by `; `, with what the model answers."""
+    past, lines = Past(text, schedule), []
+    for command in commands.split("; "):
+        lines += [typed(command), *past.answer(command).splitlines()]
+    first = [f"% {schedule[0]} {schedule[1]} {escaped(bytes(schedule[2])) or '-'}"] if schedule else []
+    return about, text, "\n".join(first + lines)
+
+
+def after(text, commands):
+    """Commands after all statements of a text, which has no directive."""
+    return f"step {len(text.split('; '))}; {commands}"
+
+
+def each(form, names):
+    """A form of a command with each of these names."""
+    return "; ".join(form.format(name) for name in names.split())
+
+
+# ---- what makes a value without tag
+
+# In integer mode: root, a number, 16 bytes of RAM, root at type 5, those bytes sealed with it, and an entry; ct0 is tagged.
+HAS = ("cspecialrw ca0, ddc, cnull; auipc a1, 0x0; addi a1, a1, 1020; csetaddr ca2, ca0, a1; csetboundsimm ca2, ca2, 16; "
+       "addi a3, zero, 5; csetaddr ca3, ca0, a3; cseal ca4, ca2, ca3; csealentry ca5, ca0; cmove ct0, ca0; ")
+BYTES = RAM + 0x400
+
+# What leaves ct0 without tag, by the condition that fails.
+FALSE = [
+    ("CMove: the source has no tag", "cmove ct0, ca1"),
+    ("CClearTag keeps no tag", "ccleartag ct0, ca2"),
+    ("CClearTag of what has none", "ccleartag ct0, ca1"),
+    ("CIncOffset: the source has no tag", "cincoffset ct0, ca1, a3"),
+    ("CIncOffset: the source is sealed", "cincoffsetimm ct0, ca4, 4"),
+    ("CIncOffset by 0: the source is sealed", "cincoffsetimm ct0, ca4, 0"),
+    ("CIncOffset: out of the window", "cincoffset ct0, ca2, a1"),
+    ("CIncOffset: the last address in the window, and the next one",
+     "lui a6, 0x3; addi a6, a6, 1023; cincoffset ct0, ca2, a6; addi a6, a6, 1; cincoffset ct0, ca2, a6"),
+    ("CIncOffset: the first address in the window, and the one before",
+     "cincoffsetimm ct0, ca2, -1024; cincoffsetimm ct0, ct0, -2048; cincoffsetimm ct0, ct0, -1"),
+    ("CSetOffset: the source is an entry", "csetoffset ct0, ca5, a3"),
+    ("CSetOffset: out of the window", "csetoffset ct0, ca2, a1"),
+    ("CSetAddr: out of the window", "csetaddr ct0, ca2, a3"),
+    ("CSetAddr: the source has no tag", "csetaddr ct0, ca3, a3; csetaddr ct0, ca1, a3"),
+    ("CSetBounds: the source has no tag", "csetbounds ct0, ca1, a3"),
+    ("CSetBounds: the source is sealed", "csetboundsimm ct0, ca4, 8"),
+    ("CSetBounds: one byte too many", "csetboundsimm ct0, ca2, 17"),
+    ("CSetBounds: one byte too low", "cincoffsetimm ca6, ca2, -1; csetboundsimm ct0, ca6, 1"),
+    ("CSetBounds: 2^64 - 1 bytes", "addi a6, zero, -1; csetbounds ct0, ca2, a6"),
+    ("CSetBoundsExact: the source has no tag", "csetboundsexact ct0, ca1, a3"),
+    ("CSetBoundsExact: the source is sealed", "csetboundsexact ct0, ca4, a3"),
+    ("CSetBoundsExact: out of bounds", "csetboundsexact ct0, ca2, a1"),
+    ("CSetBoundsExact: bounds that are rounded", "cincoffsetimm ca7, ca0, 1; lui a6, 0x10; csetboundsexact ct0, ca7, a6"),
+    ("CAndPerm: the source has no tag", "candperm ct0, ca1, a3"),
+    ("CAndPerm: the source is sealed", "candperm ct0, ca4, a3"),
+    ("CSetFlags: the source has no tag", "csetflags ct0, ca1, a3"),
+    ("CSetFlags: the source is sealed", "csetflags ct0, ca5, a3"),
+    ("CSeal: the source has no tag", "cseal ct0, ca1, ca3"),
+    ("CSeal: the authority has no tag", "cseal ct0, ca2, ca1"),
+    ("CSeal: the source is sealed", "cseal ct0, ca4, ca3"),
+    ("CSeal: the authority is sealed", "cseal ct0, ca2, ca5"),
+    ("CSeal: the authority may not seal", "addi a6, zero, 0x3f; candperm ca6, ca3, a6; cseal ct0, ca2, ca6"),
+    ("CSeal: the authority's address is its top", "csetboundsimm ca6, ca3, 1; cincoffsetimm ca6, ca6, 1; cseal ct0, ca2, ca6"),
+    ("CSeal: the type is reserved", "lui a6, 0x40; addi a6, a6, -4; csetaddr ca6, ca0, a6; cseal ct0, ca2, ca6"),
+    ("CUnseal: the source has no tag", "cunseal ct0, ca1, ca3"),
+    ("CUnseal: the authority has no tag", "cunseal ct0, ca4, ca1"),
+    ("CUnseal: the source is unsealed", "cunseal ct0, ca2, ca3"),
+    ("CUnseal: the source is an entry", "cunseal ct0, ca5, ca3"),
+    ("CUnseal: the authority is sealed", "cunseal ct0, ca4, ca5"),
+    ("CUnseal: the authority may not unseal", "addi a6, zero, 0x3f; candperm ca6, ca3, a6; cunseal ct0, ca4, ca6"),
+    ("CUnseal: the authority's address is its top", "csetboundsimm ca6, ca3, 0; cunseal ct0, ca4, ca6"),
+    ("CUnseal: another type", "cincoffsetimm ca6, ca3, 1; cunseal ct0, ca4, ca6"),
+    ("CSealEntry: the source has no tag", "csealentry ct0, ca1"),
+    ("CSealEntry: the source is sealed", "csealentry ct0, ca4"),
+    ("CSealEntry: no Execute", "candperm ca6, ca2, a3; csealentry ct0, ca6"),
+    ("LC: the granule has no tag", "lc.cap ct0, (ca2)"),
+    ("LC: the authority has no Load_Capability", "sc.cap ca3, (ca2); addi a6, zero, 0xf; candperm ca6, ca2, a6; lc.cap ct0, (ca6)"),
+    ("LC through DDC without Load_Capability",
+     "sc.cap ca3, (ca2); addi a6, zero, 0x407; candperm ca6, ca0, a6; cspecialrw cnull, ddc, ca6; lc ct0, 0(a2)"),
+    ("LC.DDC without Load_Capability",
+     "sc.cap ca3, (ca2); addi a6, zero, 0x407; candperm ca6, ca0, a6; cspecialrw cnull, ddc, ca6; lc.ddc ct0, (a2)"),
+    ("CSpecialRW: the special register has no tag", "cspecialrw ct0, mtdc, cnull"),
+    ("A number", "addi t0, zero, 7"),
+    ("A number that is loaded", "lbu t0, 0(a1)"),
+    ("A number of a row over capabilities", "cgetaddr t0, ca2"),
+    ("A link in integer mode", "jal t0, .+4"),
+    ("AUIPC in integer mode", "auipc t0, 0x0"),
+    ("CSR rows write numbers", "csrrs t0, mstatus, zero"),
+]
+
+
+def false():
+    for about, more in FALSE:
+        yield session(about, HAS + more, after(HAS + more, "lost ct0; origin ct0"))
+
+
+# ---- chains
+
+# What is derived, each from the one before.
+DERIVED = ("cspecialrw ca0, ddc, cnull; auipc a1, 0x0; addi a1, a1, 1020; csetaddr ca1, ca0, a1; addi a2, zero, 64; "
+           "csetbounds ca2, ca1, a2; csetboundsimm ca3, ca2, 32; cincoffsetimm ca4, ca3, 16; addi a5, zero, 8; cincoffset ca5, ca4, a5; "
+           "addi a6, zero, 4; csetoffset ca6, ca5, a6; addi a7, zero, 8; csetboundsexact ca7, ca6, a7; addi s2, zero, 0x17; "
+           "candperm cs2, ca7, s2; addi s3, zero, 1; csetflags cs3, cs2, s3; cmove cs4, cs3; csealentry cs5, cs4; addi s6, zero, 9; "
+           "csetaddr cs6, ca0, s6; cseal cs7, cs4, cs6; cunseal cs8, cs7, cs6; addi s9, zero, 0x200; candperm cs9, cs6, s9; "
+           "cunseal cs10, cs7, cs9; ccleartag cs11, cs10; cincoffsetimm ct3, cs11, 1; cmove ca0, ct3; add a0, a0, zero")
+MOVES = ("cspecialrw ca0, ddc, cnull; addi a1, zero, 40; loop: cincoffsetimm ca0, ca0, 3; addi a1, a1, -1; bne a1, zero, loop")
+
+
+def chains():
+    yield session("A chain of every row that derives, up to the opening state", DERIVED, after(DERIVED, "origin cs4; lost cs4"))
+    for name in ("cs2", "cs5", "cs7", "cs8", "cs10", "cs11", "ct3", "ca0"):
+        yield session(f"The chain of {name}", DERIVED, after(DERIVED, f"origin {name}; lost {name}"))
+    yield session("Registers by each kind of name, register 0, and what no event wrote", DERIVED, after(
+        DERIVED, each("origin {}", "a1 ca1 x11 c11 fp cfp s0 zero c0 cnull ra t6 pcc mtdc") + "; "
+        + each("lost {}", "a1 zero fp pcc mtdc mepcc")))
+    yield session("A loop moves a capability on: a line for each time", MOVES, "step 122; origin ca0; back 62; origin ca0; origin a1")
+
+
+# ---- memory
+
+# Stores of each size before, at, at the end of and after a granule.
+EDGES = [(row, offset) for row, size in (("sb", 1), ("sh", 2), ("sw", 4), ("sd", 8)) for offset in (-size, 0, 16 - size, 16)]
+OVER = (HAS + "cincoffsetimm ca6, ca2, 15; sc.cap ca3, (ca2); sb.cap a3, (ca6); sb.cap zero, (ca6); sc.cap ca1, (ca2); "
+        "sc.cap cnull, (ca2)")
+ALL_BETWEEN = (HAS + "sc.cap ca3, (ca2); " + "; ".join(f"sb zero, {n}(a2); sc.cap ca3, (ca2)" for n in range(1, 15))
+               + "; sc.cap ca1, (ca2)")
+# Capabilities in the image, data, and code that loads and stores.
+IMAGE = (".mode 1; auipcc ca0, 0x0; cincoffsetimm ca0, ca0, 256; clc ca1, 0(ca0); clc ca2, 16(ca0); csc ca1, 48(ca0); csc ca2, 0(ca0); "
+         "cld a3, 32(ca0); csd a3, 32(ca0); .org 0x80000100; .cap 0x80000800, 32, 0x3f, 1; .cap 0, 0, 0, 0; "
+         ".dword 0x123456789abcdef, -1")
+
+
+def memory():
+    both = f"lost {BYTES:#x}; origin {BYTES:#x}"
+    for row, offset in EDGES:
+        yield session(f"`{row}` at byte {offset} of a granule", f"{HAS}sc.cap ca3, (ca2); {row} zero, {offset}(a2)",
+                      f"step 12; {both}; origin {BYTES + 16 * (offset // 16):#x}")
+    yield session("Two stores over a granule, of which the second finds no tag, and then what has none", OVER,
+                  "step 12; " + "; step 1; ".join(5 * [both]))
+    yield session("Each byte of a granule but the first and the last, and SC of what has no tag over what has one", ALL_BETWEEN,
+                  f"step 11; {'; step 1; '.join(29 * [f'lost {BYTES:#x}'])}; step 1; {both}")
+    yield session("What the image gave", IMAGE, each("origin {}", "0x80000000 0x80000010 0x80000100 0x80000110 0x80000120 0x80000130 "
+                                                     "0x80000ff0") + "; lost 0x80000100")
+    yield session("Chains up to the image", IMAGE, "step 4; origin ca1; origin ca2; step 1; origin 0x80000130; step 1; origin 0x80000100; "
+                  "origin 0x80000110; lost 0x80000100; step 2; origin 0x80000120; origin a3; lost 0x80000120; origin ca0")
+
+
+# ---- special registers
+
+SPECIALS = ("cspecialrw ca0, mtcc, cnull; cspecialrw ca1, mtcc, ca0; cspecialrw ca1, mscratchc, ca1; cspecialrw ca2, mscratchc, cnull; "
+            "cspecialrw ca3, pcc, cnull; cspecialrw cnull, mepcc, ca3; cspecialrw cnull, mtdc, ca3; cspecialrw ca4, mtdc, ca2; "
+            "addi a5, zero, 3; cspecialrw ca6, ddc, ca5; cspecialrw cnull, mtdc, ca5; cspecialrw cnull, mscratchc, ca3; "
+            "cspecialrw ca3, mscratchc, ca3; cspecialrw cnull, mtcc, cnull")
+VIEWS = "auipc a0, 0x0; addi a1, zero, 9; csrrw zero, mtvec, a0; csrrw zero, mepc, a0; "
+VIEW_ROWS = ["csrrw a2, mtvec, a1", "csrrs a2, mtvec, a1", "csrrc a2, mtvec, a1", "csrrwi a2, mtvec, 30", "csrrsi a2, mtvec, 2",
+             "csrrci a2, mtvec, 0", "csrrs a2, mtvec, zero", "csrrw a2, mepc, a1", "csrrs a2, mepc, a1", "csrrc a2, mepc, zero",
+             "csrrwi a2, mepc, 31", "csrrw a2, mscratch, a1"]
+
+
+def specials():
+    yield session("CSpecialRW reads and writes each special register", SPECIALS, after(
+        SPECIALS, each("origin {0}; lost {0}", "pcc ddc mtcc mtdc mscratchc mepcc") + "; " + each("origin ca{}", "0 1 2 3 4 6")
+        + "; lost ca4"))
+    for row in VIEW_ROWS:
+        yield session(f"`{row}`", VIEWS + row, "step 5; origin mtcc; origin mepcc; origin a2; lost mtcc; lost mepcc")
+    for csr, name in (("mtvec", "mtcc"), ("mepc", "mepcc")):
+        yield session(f"A write of {csr} takes the tag: out of the window, of what is sealed; and not of what has none",
+                      f"{HAS}cspecialrw cnull, {name}, ca2; csrrw zero, {csr}, a3; cspecialrw cnull, {name}, ca4; csrrw t1, {csr}, a1; "
+                      f"csrrwi t1, {csr}, 4",
+                      f"step 12; lost {name}; origin {name}; step 2; lost {name}; step 1; lost {name}; origin {name}; origin t1")
+
+
+# ---- traps
+
+HANDLED = ("auipc a0, 0x0; addi a0, a0, 24; csrrw zero, mtvec, a0; ecall; jal zero, .+0; nop; csrrs a1, mepc, zero; addi a1, a1, 4; "
+           "csrrw zero, mepc, a1; mret")
+# What MTCC or MEPCC holds as a trap or a return comes: ca2.
+KEPT = [
+    ("without a tag", "ccleartag ca2, ca2"),
+    ("sealed with a type", "cmove ca2, ca4"),
+    ("sealed with a type, between two instructions", "cincoffsetimm ca2, ca2, 2; cseal ca2, ca2, ca3"),
+    ("an entry", "csetaddr ca2, ca0, a1; csealentry ca2, ca2"),
+    ("an entry between two instructions", "csetaddr ca2, ca0, a1; cincoffsetimm ca2, ca2, 3; csealentry ca2, ca2"),
+    ("without Execute", "addi a6, zero, 0x15; candperm ca2, ca2, a6"),
+    ("between two instructions", "cincoffsetimm ca2, ca2, 2"),
+]
+# An interrupt of the timer is asked for, with MTCC at an address that is near the end of its window.
+INTERRUPTED = (HAS + "lui a6, 0x3; addi a6, a6, {}; cincoffset ca2, ca2, a6; cspecialrw cnull, mtcc, ca2; lui a1, 0x2004; "
+               "addi a6, zero, 128; csrrs zero, mie, a6; csrrsi zero, mstatus, 8; sd zero, 0(a1); nop")
+
+
+def traps():
+    yield session("A trap, and the return from it", HANDLED, "step 3; origin pcc; origin mepcc; step 1; origin pcc; origin mepcc; "
+                  "lost pcc; step 3; origin mepcc; step 1; origin pcc; origin mepcc; lost pcc; lost mepcc; step 2; origin pcc")
+    yield session("A word that is no instruction, and then fetches where there is no RAM", "addi a0, zero, 1",
+                  "step 2; origin pcc; origin mepcc; step 3; origin pcc; origin mepcc; lost pcc; lost mepcc; ago")
+    yield session("A trap writes no register and no granule", f"{HAS}lb.cap ct0, (ca4)",
+                  f"step 10; origin ct0; step 1; origin ct0; lost ct0; origin {BYTES:#x}; origin mepcc; origin mtcc")
+    yield session("A capability store that traps", f"{HAS}sc.cap ca3, (ca4)", f"step 11; origin {BYTES:#x}; origin pcc")
+    for about, text in KEPT:
+        for special, does in (("MTCC", "ecall"), ("MEPCC", "mret")):
+            whole = f"{HAS}{text}; cspecialrw cnull, {special.lower()}, ca2; {does}"
+            yield session(f"{special} is {about}", whole, after(
+                whole, "origin pcc; lost pcc; origin mepcc; step 1; origin pcc; lost pcc; origin mepcc; lost mepcc"))
+    for about, distance in (("out of its window", 0x3FD), ("in its window", 0x3E1), ("where it isn't vectored", 0x3FC)):
+        yield session(f"An interrupt goes from MTCC to its vector: {about}", INTERRUPTED.format(distance), "step 19; origin mtcc; step 1; "
+                      "origin pcc; lost pcc; origin mepcc; step 1; origin mepcc; lost mepcc")
+
+
+# ---- jumps
+
+PAIR = ("cspecialrw ca0, ddc, cnull; addi a1, zero, 7; csetaddr ca1, ca0, a1; cspecialrw ca2, pcc, cnull; cincoffsetimm ca2, ca2, 32; "
+        "cseal ca2, ca2, ca1; cincoffsetimm ca4, ca1, {}; addi a3, zero, 0x13d; candperm ca3, ca0, a3; cseal ca3, ca3, ca4; "
+        "cinvoke ca2, {}; nop; nop")
+ENTRY = ("cspecialrw ca0, pcc, cnull; cincoffsetimm ca0, ca0, 20; csealentry ca0, ca0; jalr.cap cra, ca0; nop; jalr.cap cra, cra; nop")
+IN_CAPABILITY_MODE = (".mode 1; cjal cra, .+12; auipcc ca1, 0x1; cjal cnull, .+16; cjalr cra, 0(cra); nop; cjalr cs0, 4(cra); "
+                      "csetoffset ca1, ca1, a0; cspecialrw ca2, pcc, cnull; lui a0, 0x1; cincoffset ca2, ca2, a0; candperm ca2, ca2, a0")
+
+
+def jumps():
+    yield session("CInvoke: PCC from the code, register 31 from the data, unsealed", PAIR.format(0, "ca3"),
+                  "step 11; origin pcc; origin ct6; lost pcc; lost ct6; step 1; origin pcc; origin cra")
+    for about, *parts in (("data that isn't sealed", 0, "ca0"), ("a pair of two types", 1, "ca3")):
+        yield session(f"CInvoke of {about} traps", PAIR.format(*parts), "step 11; origin ct6; origin pcc; lost pcc; lost ct6")
+    yield session("Entries and links in integer mode", ENTRY, "step 4; origin pcc; origin cra; lost pcc; lost cra; step 1; origin pcc; "
+                  "origin cra; origin ca0; step 1; origin pcc")
+    yield session("Links of JAL and JALR in integer mode are numbers, and PCC stays", "jal ra, .+8; nop; jalr a0, 0(ra); jal zero, .+8",
+                  "step 1; origin ra; origin pcc; step 1; origin a0; origin ra; origin pcc; lost pcc")
+    yield session("Links, AUIPCC and jumps in capability mode", IN_CAPABILITY_MODE, "step 1; origin cra; origin pcc; step 1; origin cra; "
+                  "origin pcc; step 1; origin ca1; step 1; origin cnull; origin pcc; step 3; origin ca1; origin ca2; lost ca1; lost ca2")
+    yield session("A jump to a capability without a tag traps", f"{HAS}jalr.cap cra, ca1", "step 11; origin pcc; origin cra; lost pcc")
+    yield session("PCC where no event wrote it", ".mode 1; nop", "origin pcc; lost pcc; step 1; origin pcc; origin mepcc")
+
+
+# ---- back and forth
+
+FIRST = "lui a1, 0x10000; addi a0, zero, 65; sb a0, 0(a1); lui a1, 0x100; sd zero, 0(a1)"
+RECEIVES = "lui a1, 0x10000; ld a0, 8(a1); ld a2, 8(a1); nop; nop"
+# A capability goes round: into memory, and back without its tag.
+ROUND = ("cspecialrw ca0, ddc, cnull; auipc a1, 0x0; addi a1, a1, 1020; sc ca0, 0(a1); lc ca2, 0(a1); sb zero, 3(a1); lc ca2, 0(a1); "
+         "cmove ca3, ca2; lui a4, 0x10000; sb a1, 0(a4); lui a4, 0x100; sd zero, 0(a4)")
+LOOP = "addi a0, zero, 3; loop: addi a1, a1, 1; bne a1, a0, loop; addi a1, zero, 0; j loop"
+
+
+def back_and_forth():
+    yield session("How many events were given; back to each boundary, and beyond", FIRST,
+                  "ago; back 1; back 0; step 1; ago; back 2; ago; back 1; ago; back 1; step 5; ago; back 6; back 5; ago; reg a0; step 5; "
+                  "back 4; step 4; ago; back 18446744073709551615; back 0x1; step 1")
+    for count in range(1, 7):
+        yield session(f"Back by {count} of 6 events, over the halt", FIRST, f"step 6; back {count}; ago; reg a0; reg a1; step 7; ago")
+    yield session("Steps of a halted machine are events, ticks and bytes too", FIRST,
+                  "step 8; ago; origin a1; tick 2; byte 7; ago; origin a0; lost a1; back 3; ago; back 3; ago; step 1; back 5; origin a1; "
+                  "changed a1 9")
+    yield session("Numbers of lines count ticks and bytes, and what is taken back counts no more", RECEIVES,
+                  "tick 3; byte 0x41; byte 0x42; step 2; origin a1; origin a0; back 1; tick 1; step 1; origin a0; back 6; ago; step 2; "
+                  "origin a0; reg a0; back 2; byte 0x43; step 3; origin a2; reg a0; reg a2")
+    for place in (f"{BYTES:#x}", "ca2", "pcc"):
+        yield session(f"Back and forth over what {place} holds", ROUND, "changed {0} 1; changed {0} 100; changed {0} 100; changed {0} 100; "
+                      "ago; back 2; changed {0} 1; changed {0} 3; origin {0}; lost {0}; back 1; origin {0}; lost {0}".format(place))
+    yield session("`changed` up to the halt, with what is sent; on a halted machine it gives nothing", ROUND,
+                  "changed mtcc 1000000; changed ca0 5; ago; back 3; changed 0x80000000 2; changed a4 10; changed a4 10; changed zero 1")
+    yield session("`changed` that doesn't stop, and where it does", LOOP, "changed zero 7; changed a2 0x10; changed mepcc 1; "
+                  "changed 0x80000ff0 3; changed a1 1; changed a1 100; changed a1 100; changed a0 100; changed pcc 5; ago")
+    yield session("`changed` where the same value is written, and a tag alone differs", f"{HAS}cmove ct0, ca0; ccleartag ct0, ca0",
+                  "step 10; changed ct0 5; reg ct0; back 1; changed mepcc 5; origin mepcc")
+    yield session("A step that is a jump to itself changes nothing", "jal zero, .+0", "changed pcc 9; step 3; back 2; ago; origin pcc")
+    yield session("`until`, `go`, `trap`, `tick` and `byte` are taken back as steps are; stops stay", LOOP,
+                  "until 0x8000000c 100; ago; back 3; origin a1; stop at 0x80000004; go; go; ago; back 7; stops; go; tick 5; byte 1; go; "
+                  "back 4; ago; trap 10; back 10; until 0x80000010 20; origin a1; lost a1")
+    yield session("`trap`, and then back", HANDLED,
+                  "trap 10; step 1; back 1; trap 10; origin mtcc; step 5; back 2; origin pcc; ago")
+
+
+# ---- refusals
+
+REFUSED = [
+    "ago 1", "ago x", "back", "back 1 1", "back x", "back -1", "back -0", "back 00", "back a0", "back 18446744073709551616",
+    *(f"{name}{rest}" for name in ("origin", "lost") for rest in (
+        "", " a0 a1", " a0 1", " 0x80000008", " 0x80000001", " 0x8000000f", " 8", " x", " x32", " A0", " PCC", " mstatus", " mtvec",
+        " .text", " 0x10000000000000000", " -16", " 0xffffffffffffffff", " pc", " c", " (ca0)")),
+    *(f"changed{rest}" for rest in (
+        "", " a0", " a0 0", " a0 1000001", " a0 -1", " a0 x", " a0 1 1", " 1 a0", " 0x80000008 1", " x 1", " x32 1", " mstatus 1",
+        " pcc", " 0x80001000 0", " 0x80001008 1", " 0x80001000", " 0 1000001")),
+]
+NO_COMMANDS = ["Ago", "agos", "backs 1", "BACK 1", "origins a0", "origi a0", "change a0 1", "Changed a0 1", "losts a0", "lose a0",
+               "forth 1"]
+OUTSIDE = "0 16 0x10000000 0x7ffffff0 0x80001000 0xfffffffffffffff0 0x80000ff0 2147483648"
+
+def refusals():
+    lines = [f"{typed(line)}\nfault {code}" for code, refused in (("B2", REFUSED), ("B1", NO_COMMANDS)) for line in refused]
+    yield "Operands and names that are refused; then nothing has changed", FIRST, "\n".join([
+        "> step 2\nevents 2 out - pc 0000000080000008 running", *lines,
+        "> ago\nevents 2\n> step 1\nevents 1 out 41 pc 000000008000000c running"])
+    yield session("Granules outside RAM", FIRST, "step 2; " + each("origin {0}; lost {0}; changed {0} 1", OUTSIDE))
+
+
+# ---- schedules
+
+# Receives without an end, and keeps each byte over a capability.
+KEEPS = ("cspecialrw ca3, ddc, cnull; auipc a2, 0x0; addi a2, a2, 1020; lui a1, 0x10000; loop: ld a0, 8(a1); sc ca3, 0(a2); sb a0, 0(a2); "
+         "lc ca4, 0(a2); j loop")
+# Lets the timer interrupt at its third tick, and waits.
+WAITS = ("lui a1, 0x2004; addi a0, zero, 3; sd a0, 0(a1); addi a2, zero, 128; csrrs zero, mie, a2; csrrsi zero, mstatus, 8; "
+         "loop: addi a3, a3, 1; j loop")
+BY_SECONDS = (2, 3, b"ABCDE")
+
+
+def schedules():
+    yield session("A byte before each second step and a tick after each third", KEEPS,
+                  "step 1; ago; step 1; ago; step 1; ago; step 9; ago; origin a0; origin ca4; lost 0x80000400", BY_SECONDS)
+    for count in range(1, 14):
+        yield session(f"Back by {count} of the 13 events of 7 steps", KEEPS, f"step 7; back {count}; ago; step 1; ago; step 1; step 7; ago",
+                      BY_SECONDS)
+    for count in range(1, 6):
+        yield session(f"Back by {count}, and then to a place: it is looked for after the tick and the byte", KEEPS,
+                      f"step 9; back {count}; until 0x80000014 20; back 1; until 0x80000014 20; ago", BY_SECONDS)
+    yield session("A byte and a tick around each step: events one by one, by `changed`", KEEPS, "; ".join(8 * ["changed mtdc 1"])
+                  + "; step 1; changed mtdc 1; step 1; ago; back 3; changed mtdc 4; step 2; ago", (1, 1, b"ABC"))
+    yield session("`changed` stops between a step and its tick", KEEPS, "changed a0 100; step 1; changed a0 100; tick 2; changed a0 100; "
+                  "origin a0; back 1; changed a0 100; ago; changed ca4 100; until 0x80000010 9; lost ca4", (1, 1, b"AB"))
+    yield session("Between a step and its tick: to where it stands, to a trap, and on", KEEPS,
+                  "changed a1 100; until 0x80000010 5; back 1; trap 1; back 4; changed a1 9; stop at 0x80000014; go; changed mtcc 5; go; "
+                  "ago", (3, 1, b"AB"))
+    yield session("Ticks and bytes beside the schedule are taken back with it", KEEPS,
+                  "step 2; tick 2; step 2; byte 0x5a; step 2; ago; back 3; step 2; back 4; step 1; byte 0x59; back 1; step 5; reg a0; "
+                  "origin a0; ago; back 7; step 7; reg a0", BY_SECONDS)
+    yield session("All of a schedule is taken back: it begins anew", KEEPS, "step 20; ago; back 32; back 31; ago; step 20; ago; reg a0",
+                  BY_SECONDS)
+    yield session("The halt: what stands between the last step and its tick", FIRST,
+                  "step 9; ago; back 1; step 1; step 1; back 2; ago; step 1; go; ago; changed a0 5; back 9; back 10; go", (2, 1, b"A"))
+    yield session("An interrupt that a tick asks for comes after it, also where it was taken back", WAITS,
+                  "trap 1000; ago; step 1; origin pcc; back 2; ago; trap 5; step 1; origin mepcc; back 3; step 1; origin pcc; ago",
+                  (1000, 5, b""))
+    yield session("`go` to a stop, and back", KEEPS, "stop at 0x80000010; go; go; ago; back 2; go; back 3; go; go; stops; ago",
+                  (3, 4, b"ABCDE"))
+    yield session("Without bytes", KEEPS, "step 10; back 3; step 3; ago; origin a0", (1, 2, b""))
+    yield session("Without ticks", KEEPS, "step 10; back 3; step 3; ago; origin a0; reg a0", (1, 0, b"ABC"))
+
+
+def conversations():
+    for part in (chains, false, memory, specials, traps, jumps, back_and_forth, refusals, schedules):
+        yield from part()
+
+
+def cases():
+    yield "# A conversation with the machine of a program about what came before"
+    for about, text, lines in conversations():
+        yield from conversation(about, text, lines)
+
+
+def files():
+    yield "pasts.txt", cases()
