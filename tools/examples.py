@@ -5,8 +5,8 @@
 
 PROGRAM is the proved program, as the gate leaves it: crates/cherisim/out/cherisim. An example is a text NAME.s in examples/, with what
 it sends in NAME.out, and NAME.in where bytes come in; it must halt with 0 within 100000 steps, and do the same under NAME.policy where
-there is one. Where a page shows a session with it, what is typed stands in NAME.commands and what is answered in NAME.replies; a session
-and a policy have the text's labels.
+there is one. Where a page shows a session with it, what is typed stands in NAME.commands and what is answered in NAME.replies. A policy has
+the text's labels, and so have sessions whose page gives them.
 """
 import glob
 import os
@@ -20,6 +20,9 @@ PROGRAM = os.path.join(TOP, "crates", "cherisim", "out", "cherisim")
 
 # The steps between two bytes and between two ticks, of examples whose texts ask for others than the program's own.
 OPTIONS = {"echo": ["--gap", "20"], "timer": ["--tick", "10"], "compartments": ["--tick", "0"]}
+
+# The examples whose sessions have labels.
+LABELLED = ("compartments",)
 
 STEPS = "100000"
 # How long a command may take.
@@ -55,7 +58,8 @@ def wrong(program, name, room):
         return "doesn't send what it is to send"
     if stands(f"{beside}.policy") and came([*run, "--policy", f"{beside}.policy", *labels]) != read(f"{beside}.out"):
         return "doesn't send what it is to send under its policy"
-    if stands(f"{beside}.commands") and came([program, "debug", image, *labels], read(f"{beside}.commands")) != read(f"{beside}.replies"):
+    debug = [program, "debug", image, *(labels if name in LABELLED else [])]
+    if stands(f"{beside}.commands") and came(debug, read(f"{beside}.commands")) != read(f"{beside}.replies"):
         return "isn't answered as it is to be answered"
     return ""
 

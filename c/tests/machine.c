@@ -455,7 +455,7 @@ static void why(cherisim_t *m, const char *expected) {
 static const char *bounds_text =
     "0000000080000030 f8c5045b sb.cap a2, (ca0)\n"
     "fetch at 0000000080000030\n"
-    "  pcc v:1 a:0000000080000030 b:0000000000000000 t:10000000000000000 p:78fff f:0 o:3ffff\n"
+    "  pcc v:1 a:0000000080000030 b:0000000000000000 t:10000000000000000 p:78fff f:0 o:3ffff GXRWcCLsiuSd\n"
     "  ok tag of pcc\n"
     "  ok seal of pcc\n"
     "  ok permit execute of pcc\n"
@@ -464,7 +464,7 @@ static const char *bounds_text =
     "decoding at 0000000080000030\n"
     "  ok the word is an instruction\n"
     "store of 1 byte at 0000000080000130\n"
-    "  ca0 v:1 a:0000000080000130 b:0000000080000120 t:00000000080000130 p:78fff f:0 o:3ffff\n"
+    "  ca0 v:1 a:0000000080000130 b:0000000080000120 t:00000000080000130 p:78fff f:0 o:3ffff GXRWcCLsiuSd\n"
     "  ok tag of ca0\n"
     "  ok seal of ca0\n"
     "  ok permit store of ca0\n"

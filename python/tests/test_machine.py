@@ -319,7 +319,7 @@ class Texts(unittest.TestCase):
         self.assertEqual(lines[-2], "  no length of ca0: 0000000080000130 + 1 in 0000000080000120 to 00000000080000130")
         self.assertEqual(lines[-1], "effect: trap CHERI exception, length violation at ca0, mcause 000000000000001c, "
                                     "mtval 0000000000000141")
-        self.assertEqual((len(lines), lines[2]), (17, "  pcc " + str(Cap.root(RAM + 0x30))))
+        self.assertEqual((len(lines), lines[2]), (17, "  pcc " + str(Cap.root(RAM + 0x30)) + " GXRWcCLsiuSd"))
         with mock.patch.dict(cherisim._ROOM, why=8):
             self.assertEqual(machine.why().splitlines(), lines)
 

@@ -9,9 +9,18 @@ from model.rights import UNSEALED
 from model.words import SPACE
 
 
-def value(name, tag, address, base, top, perms, flag, otype):
+LETTERS = "GXRWcCLsiuSd"
+
+
+def fields(name, tag, address, base, top, perms, flag, otype):
     """A register and its capability's fields."""
     return f"{name} v:{tag} a:{address:016x} b:{base:016x} t:{top:017x} p:{perms:05x} f:{flag} o:{otype:05x}"
+
+
+def value(name, tag, address, base, top, perms, flag, otype):
+    """A register that is asked, with its permissions in letters."""
+    letters = "".join(letter if perms >> bit & 1 else "-" for bit, letter in enumerate(LETTERS))
+    return f"{fields(name, tag, address, base, top, perms, flag, otype)} {letters}"
 
 
 def root(name, address):
@@ -20,6 +29,11 @@ def root(name, address):
 
 def number(name, address):
     return value(name, 0, address, 0, SPACE, 0, 0, UNSEALED)
+
+
+def written(name, address):
+    """A register and the number that a step gives it."""
+    return fields(f"{name} =", 0, address, 0, SPACE, 0, 0, UNSEALED)
 
 
 def stage(first, held, conditions):
@@ -94,7 +108,7 @@ def sealed(name, address, otype):
 
 CONVERSATIONS = [
     ("Why an ordinary sum is done, and what it changes; asking changes nothing", "add a0, a1, a2",
-     step_and_ask(0, begun(RAM, "00c58533 add a0, a1, a2"), f"effect: {number('ca0 =', 0)}") + "> csr\n! csr"),
+     step_and_ask(0, begun(RAM, "00c58533 add a0, a1, a2"), f"effect: {written('ca0', 0)}") + "> csr\n! csr"),
     ("Why a load past its authority's bounds traps", BOUNDED + "cincoffsetimm ca0, ca0, 16; ld.cap a2, (ca0)",
      step_and_ask(6, begun(RAM + 24, "fab5065b ld.cap a2, (ca0)"),
                   access("load of 8 bytes", value("ca0", 1, HIGH, LOW, HIGH, 0x78fff, 0, 0x3ffff), "ca0", "load", HIGH, 8, LOW, HIGH, True),
@@ -102,7 +116,7 @@ CONVERSATIONS = [
     ("A load in its authority's bounds is done", BOUNDED + "ld.cap a2, (ca0)",
      step_and_ask(5, begun(RAM + 20, "fab5065b ld.cap a2, (ca0)"),
                   access("load of 8 bytes", value("ca0", 1, LOW, LOW, HIGH, 0x78fff, 0, 0x3ffff), "ca0", "load", LOW, 8, LOW, HIGH, True),
-                  f"effect: {number('ca2 =', 0)}")),
+                  f"effect: {written('ca2', 0)}")),
     ("Why a load through a number traps", "auipc a1, 0x1; ld.cap a2, (ca1)",
      step_and_ask(1, begun(RAM + 4, "fab5865b ld.cap a2, (ca1)"),
                   access("load of 8 bytes", number("ca1", RAM + 0x1000), "ca1", "load", RAM + 0x1000, 8, 0, SPACE, False,
@@ -144,7 +158,7 @@ CONVERSATIONS = [
      step_and_ask(0, begun(RAM, "30002573 csrrs a0, mstatus, zero"),
                   stage(f"system register at {RAM:016x}", [root("pcc", RAM)], [
                       ("there is such a register, and it may be written where it is", True), ("access system registers of pcc", True)]),
-                  f"effect: {number('ca0 =', 0x1800)}")
+                  f"effect: {written('ca0', 0x1800)}")
      + "> step 1\nevents 1 out - pc 0000000080000004 running\n> why\n"
      + reply(begun(RAM + 4, "12302573 csrrs a0, 0x123, zero"),
              stage(f"system register at {RAM + 4:016x}", [root("pcc", RAM + 4)], [

@@ -3,10 +3,12 @@
 The statuses, the order of faults and the texts are those of the program's description; images and words are made here, field by field.
 """
 
+import re
+
 from cases.bounds_texts import length_text
 from cases.bounds_texts import text as bounds_text
 from cases.bounds_texts import word_text
-from cases.explanations import access, begun, fetch, number as held_number, reply, trapped as trap_effect
+from cases.explanations import access, begun, fetch, number as held_number, reply, root, trapped as trap_effect, written
 from cases.quoting import quoted
 from cases.reaching import answered
 from cases.sessions import ECHO_THREE
@@ -503,17 +505,48 @@ def fields_of_first():
     return f"{RAM:016x} {fields((high ^ NULL_HIGH, low, False))}"
 
 
+def with_labels(text, labels):
+    """A text with the label after each address: the nearest below it, by fewer than 4096 bytes."""
+    def shown(found):
+        address = int(found[0], 16)
+        below = [(place, -index, name) for index, (place, name) in enumerate(labels) if place <= address < place + 4096]
+        if not below:
+            return found[0]
+        place, _, name = max(below)
+        return f"{found[0]} <{name}>" if place == address else f"{found[0]} <{name}+{address - place}>"
+    return re.sub(r"(?<!:)\b[0-9a-f]{16}\b", shown, text)
+
+
+def labelled(session):
+    """Sessions whose replies show labels after addresses."""
+    labels = [(RAM, "start"), (RAM, "begin"), (RAM + 12, "halt")]
+    names = 't "' + "".join(f"{address:016x} {name}\\n" for address, name in labels) + '"'
+    yield "# after an address that `why`, `dis` or a line of events shows stands its label"
+    first = reply(begun(RAM, "100005b7 lui a1, 0x10000"), f"effect: {written('ca1', 0x10000000)}")
+    store = reply(begun(RAM + 8, "00a58023 sb a0, 0(a1)"),
+                  access("store of 1 byte", root("ddc", 0), "ddc", "store", 0x10000000, 1, 0, SPACE, True),
+                  "effect: device store 1 byte at 0000000010000000: 41")
+    yield session("why\nstep 2\nwhy\nback 1\ntrap 3", with_labels(
+        f"{first}\nevents 2 out - pc 0000000080000008 running\n{store}\nevents -1 out - pc 0000000080000004 running\n"
+        "events 3 out 41 pc 0000000080000010 running\n", labels), names)
+    yield session("dis 0x80000000 5", with_labels(
+        "".join(f"{RAM + 4 * at:016x} {line}\n" for at, line in enumerate((
+            "100005b7 lui a1, 0x10000", "04100513 addi a0, zero, 65", "00a58023 sb a0, 0(a1)", "001005b7 lui a1, 0x100",
+            "0005b023 sd zero, 0(a1)"))), labels), names)
+    yield session("why", f"{first}\n", 't "0000000080000004 after\\n"')
+
+
 def debugged(table):
     """Sessions over the first image whose commands name the labels of a table, `start` and `halt` among them."""
     def session(typed, answered, table=table):
         return case("debug first.img --symbols t", [FILE, table, f"input {quoted(typed.encode())}"], 0, "open first.img, open t", answered)
 
     yield "# a session takes a label where it takes an address; a label that the table lacks is an operand of another form"
-    yield session("until halt 9", "events 3 out 41 pc 000000008000000c running\n")
+    yield session("until halt 9", "events 3 out 41 pc 000000008000000c <halt> running\n")
     yield session("stop at halt\nstop at start\ngo\nstops", "at 000000008000000c\nat 000000008000000c\nat 0000000080000000\n"
-                  "events 3 out 41 pc 000000008000000c running\nat 000000008000000c\nat 0000000080000000\n")
+                  "events 3 out 41 pc 000000008000000c <halt> running\nat 000000008000000c\nat 0000000080000000\n")
     yield session("mem start 5\nmem 2147483660 1", "0000000080000000: b7 05 00 10 13\n000000008000000c: b7\n")
-    yield session("dis halt 1\nmem halt 1", "000000008000000c 001005b7 lui a1, 0x100\n000000008000000c: b7\n")
+    yield session("dis halt 1\nmem halt 1", "000000008000000c <halt> 001005b7 lui a1, 0x100\n000000008000000c: b7\n")
     for typed in ("until stop 9", "mem stop 1", "dis stop 1", "mem Start 1", "mem star 1", "mem starts 1", "mem start: 1", "mem start+0 1",
                   "mem start start", "until halt halt", "step start", "tick halt", "trap start", "byte start", "reg start", "mem start",
                   "dis halt", "stop at stop", "stop at halt halt", "stop halt", "go halt", "stops halt", "help halt"):
@@ -527,18 +560,19 @@ def debugged(table):
     places = 't "0000000080000002 odd\\n0000000080000FFF last\\nFFFFFFFFFFFFFFFF far\\n0000000000000000 zero\\n"'
     yield session("dis odd 1\nmem odd 1\nmem last 1\nmem last 2\nmem far 1\nmem zero 1\nuntil far 1",
                   "fault B2\n0000000080000002: 00\n0000000080000fff: 00\nfault B3\nfault B3\nfault B3\n"
-                  "events 1 out - pc 0000000080000004 running\n", places)
+                  "events 1 out - pc 0000000080000004 <odd+2> running\n", places)
     yield "# a place that holds a capability is a register, or else a special register, or else a label or a number, a multiple of 16"
     image_line = f"image: {fields_of_first()}\n"
     register_line = f"opening state: ca2 {integer(0)}\n"
     named = 't "0000000080000000 a2\\n0000000080000000 first\\n000000008000000C halt\\n0000000080000010 mtdc\\n0000000080001000 after\\n"'
     yield session("origin first\norigin 0x80000000\norigin a2\norigin ca2\nlost first\norigin mtdc\nchanged first 2", "".join([
         image_line, image_line, register_line, register_line, "no tag was lost at 0000000080000000\n",
-        f"opening state: mtdc {integer(0)}\n", "events 2 out - pc 0000000080000008 running\n"]), named)
+        f"opening state: mtdc {integer(0)}\n", "events 2 out - pc 0000000080000008 <a2+8> running\n"]), named)
     for typed in ("origin halt", "lost halt", "changed halt 1", "origin second", "changed first", "origin first+16", "back first",
                   "ago first"):
         yield session(typed + "\nmem first 1", "fault B2\n0000000080000000: b7\n", named)
     yield session("origin after\nlost after\nchanged after 1\nago", "fault B3\nfault B3\nfault B3\nevents 0\n", named)
+    yield from labelled(session)
     yield "# without a table, and with an empty one, there are no labels"
     yield session("mem start 1\nmem 0x80000000 1", "fault B2\n0000000080000000: b7\n", 't ""')
     yield case("debug first.img", [FILE, table, 'input "mem start 1\\nmem 0x80000000 1"'], 0, "open first.img",

@@ -46,7 +46,7 @@ quit
 # What the codes of refusals mean.
 CODES = {
     "B1": "B1 no such command, or no word on the line",
-    "B2": "B2 operands of another count, form or range, no such label, or a line too long or not ASCII",
+    "B2": "B2 operands of another count, form or range, no such label or past, too much to search, or a line too long or not ASCII",
     "B3": "B3 some byte to be shown lies outside RAM",
     "B4": "B4 no memory for the reply",
 }

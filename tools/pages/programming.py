@@ -33,9 +33,9 @@ TRAPS = Definitions("special_regs/specs/Traps")
 INTERRUPTS = Definitions("special_regs/specs/Interrupts")
 REFUSALS = Definitions("special_regs/specs/Refusals")
 OPENING = Definitions("hart/specs/Opening")
-MEMORY = Definitions("hart/specs/MemoryRows")
-SYSTEM = Definitions("hart/specs/SystemRows")
-STEP = Definitions("hart/specs/Step")
+MEMORY = Definitions("steps/specs/MemoryRows")
+SYSTEM = Definitions("steps/specs/SystemRows")
+STEP = Definitions("steps/specs/Step")
 
 NUMBERS = {
     name: worth(text)
@@ -431,8 +431,8 @@ CONDITION_MAKERS = ("within", "aligned", "capability_at")
 def mtval_by_cause():
     """What mtval holds, by the cause, wherever a definition makes such a fault."""
     found = {}
-    sources = ("base/specs/Fault", "cap_checks/specs/Question", "cap_checks/specs/FirstFault", "hart/specs/Looks", "hart/specs/MemoryRows",
-               "hart/specs/Step")
+    sources = ("base/specs/Fault", "cap_checks/specs/Question", "cap_checks/specs/FirstFault", "steps/specs/Looks", "steps/specs/MemoryRows",
+               "steps/specs/Step")
     for book in map(Definitions, sources):
         for body in (body for cases in book.equations.values() for _, body in cases):
             for text in faults_in(book, body):
@@ -599,24 +599,24 @@ def traps(*names):
 def trap_entry():
     saved, moved = assignments("special_regs/specs/Traps", "trapped_scrs")
     return steps([saved, *assignments("special_regs/specs/Traps", "trapped_csrs"), moved,
-                  defined("hart/specs/Effect", "applied", "(Trap fault) s")])
+                  defined("steps/specs/Effect", "applied", "(Trap fault) s")])
 
 
 def trap_return():
     return steps([*assignments("special_regs/specs/Traps", "returned_scrs"), *assignments("special_regs/specs/Traps", "returned_csrs"),
-                  defined("hart/specs/Effect", "applied", "(Return sealed) s")])
+                  defined("steps/specs/Effect", "applied", "(Return sealed) s")])
 
 
 def step_list():
-    step = "hart/specs/Step"
+    step = "steps/specs/Step"
     asked = defined("special_regs/specs/Interrupts", "is_asked")
     return steps([
         defined(step, "stepped_unless"),
         f"{asked}. {defined(step, 'decided')}: {pending_order()}",
         together(step, "fetched_effect", "fetch", "fetch_asked", "word_unless"),
         defined(step, "decoded_effect"),
-        f"{defined(step, 'kind_effect')}. {defined('hart/specs/Looks', 'where_all')}",
-        f"{defined('hart/specs/Effect', 'done_at')}; {defined('hart/specs/Effect', 'counted')}",
+        f"{defined(step, 'kind_effect')}. {defined('steps/specs/Looks', 'where_all')}",
+        f"{defined('steps/specs/Effect', 'done_at')}; {defined('steps/specs/Effect', 'counted')}",
     ])
 
 
@@ -640,16 +640,16 @@ def made_of_devices():
 
 
 def made_of_registers():
-    system = "hart/specs/SystemRows"
+    system = "steps/specs/SystemRows"
     return {
         "number": f"{defined('cap_bounds/specs/CapValue', 'integer')}; {defined('registers/specs/Registers', 'with_register')}",
         "general": general_table(),
-        "mode": defined("hart/specs/Looks", "in_capability_mode"),
+        "mode": defined("steps/specs/Looks", "in_capability_mode"),
         "csrs": csr_table(),
         "csr_checks": asked_of_register("csr_asked"),
         "csr_register": defined(system, "csr_asked"),
         "csr_writes": defined(system, "csr_writes"),
-        "csr_counted": defined("hart/specs/Effect", "applied", "(Csr w) s"),
+        "csr_counted": defined("steps/specs/Effect", "applied", "(Csr w) s"),
         "special": special_table(),
         "special_checks": asked_of_register("special_asked"),
         "special_register": defined(system, "special_asked"),
@@ -668,7 +668,7 @@ def made_of_traps():
         "vectors": vectors(),
         "trap_target": traps("trap_target", "sentry_opened", "placed_at"),
         "return_checks": asked_of_register("return_asked"),
-        "return_register": defined("hart/specs/SystemRows", "return_asked"),
+        "return_register": defined("steps/specs/SystemRows", "return_asked"),
         "return": trap_return(),
         "return_target": traps("target", "aligned"),
     }
@@ -685,13 +685,13 @@ def made_of_rows():
         "rounded": defined("cap_bounds/specs/Rounding", "rounding_granule"),
         "row_count": row_count(),
         "formats": format_table(),
-        "csr_fields": f"{defined('hart/specs/SystemRows', 'csr_source')}; {defined('hart/specs/SystemRows', 'csr_number')}",
+        "csr_fields": f"{defined('steps/specs/SystemRows', 'csr_source')}; {defined('steps/specs/SystemRows', 'csr_number')}",
         "rows": rows_table(),
     }
 
 
 def made_of_checks():
-    memory, jumps, tags = "hart/specs/MemoryRows", "hart/specs/JumpRows", "tagged_memory/specs/Memory"
+    memory, jumps, tags = "steps/specs/MemoryRows", "steps/specs/JumpRows", "tagged_memory/specs/Memory"
     first_fault = "cap_checks/specs/FirstFault"
     data = f"{defined(memory, 'load_done')}. {together(memory, 'store_done', 'stored_number')}"
     capabilities = together(memory, "memory_asked", "mapped_for", "capability_at")
@@ -701,7 +701,7 @@ def made_of_checks():
         "holds": defined(first_fault, "holds"),
         "fetch": fetch_table(),
         "place": defined(memory, "place_of"),
-        "authority": "; ".join([defined(memory, "authority_through"), defined("hart/specs/Accesses", "is_rs1"),
+        "authority": "; ".join([defined(memory, "authority_through"), defined("steps/specs/Accesses", "is_rs1"),
                                 defined(memory, "number_through")]),
         "access": access_table(),
         "mapped": f"{data}. {capabilities}",

@@ -4,7 +4,7 @@ The key is the source's own text, with single blanks. A text that changes there 
 definition says here, in words, what it says now; and an entry that nothing asks for is an error too.
 """
 
-# Conditions of the ordered lists (cap_checks/specs/FirstFault, special_regs/specs/Refusals, hart/specs/MemoryRows and Step).
+# Conditions of the ordered lists (cap_checks/specs/FirstFault, special_regs/specs/Refusals, steps/specs/MemoryRows and Step).
 CONDITIONS = {
     "is_tagged authority": "the authority has its tag",
     "not (is_sealed authority)": "it isn't sealed",
@@ -173,26 +173,26 @@ DEFINITIONS = {
         "The target of a jump is the sum of an address and the immediate, modulo 2^64, with bit 0 cleared",
     "cap_checks/specs/FirstFault invoke_target: jump_target (value_address code) 0":
         "The target is the address of cs1 with bit 0 cleared",
-    "hart/specs/MemoryRows place_of: (number_in s insn.rs1 + insn.imm) % 2 ^ 64":
+    "steps/specs/MemoryRows place_of: (number_in s insn.rs1 + insn.imm) % 2 ^ 64":
         "The address is the sum of the number in rs1 and the immediate, modulo 2^64; the explicit forms have no immediate",
-    "hart/specs/MemoryRows authority_through: if rs1 then register s.registers insn.rs1 else s.scrs.ddc":
+    "steps/specs/MemoryRows authority_through: if rs1 then register s.registers insn.rs1 else s.scrs.ddc":
         "The authority is the capability in rs1 or else DDC",
-    "hart/specs/MemoryRows number_through: if rs1 then insn.rs1 else ddc_register":
+    "steps/specs/MemoryRows number_through: if rs1 then insn.rs1 else ddc_register":
         "a fault names that register",
-    "hart/specs/Accesses is_rs1: capability_mode | false | true":
+    "steps/specs/Accesses is_rs1: capability_mode | false | true":
         "it is rs1 in capability mode and in the `.cap` forms, and DDC in integer mode and in the `.ddc` forms",
-    "hart/specs/MemoryRows load_done: if is_in_ram s.memory address (bytes_of size) then Write (record {rd = insn.rd; "
+    "steps/specs/MemoryRows load_done: if is_in_ram s.memory address (bytes_of size) then Write (record {rd = insn.rd; "
     "value = integer (loaded insn.row size (number_at s.memory address (bytes_of size)))}) else DeviceLoad (record {rd = insn.rd; "
     "value = integer (value_at address s.devices); address = address; size = size})":
         "A load that its authority allows reads RAM if all its bytes lie there, or else a device register",
-    "hart/specs/MemoryRows store_done: if is_in_ram s.memory address (bytes_of size) then Store (stored_number address size number) "
+    "steps/specs/MemoryRows store_done: if is_in_ram s.memory address (bytes_of size) then Store (stored_number address size number) "
     "else DeviceStore (stored_number address size number); stored_number: record {address = address; size = size; number = number}":
         "A store writes RAM if all its bytes lie there, or else a device register",
-    "hart/specs/MemoryRows memory_asked: access_asked a (mapped_for a (place_of insn s) s) insn s; mapped_for: loads_from address size s | "
+    "steps/specs/MemoryRows memory_asked: access_asked a (mapped_for a (place_of insn s) s) insn s; mapped_for: loads_from address size s | "
     "stores_to address size s | capability_at cause.LoadAccess address s | capability_at cause.StoreAccess address s; capability_at: asks "
     "(Ram otherwise address) (is_in_ram s.memory address 16)":
         "A capability is loaded from RAM alone, and stored into RAM alone",
-    "hart/specs/MemoryRows load_capability_done: Write (record {rd = rd; value = loaded_capability authority address s.memory}); "
+    "steps/specs/MemoryRows load_capability_done: Write (record {rd = rd; value = loaded_capability authority address s.memory}); "
     "loaded_capability: value_of (word_at m address) (has_tag m address && permits authority permission.LoadCapability)":
         "A capability that is loaded has the granule's tag if the authority has Load_Capability, and else none; it is no fault",
     "tagged_memory/specs/Memory data_written: record {bytes = replaced_at m address new; tags = set.retain m.tags (λ granule. not "
@@ -201,32 +201,32 @@ DEFINITIONS = {
     "tagged_memory/specs/Memory capability_written: record {bytes = replaced_at m address (memory_bytes word); tags = if tag then "
     "set.insert m.tags address else set.remove m.tags address;}":
         "a store of a capability gives its granule the tag of what is stored",
-    "hart/specs/Step stepped_unless: applied (step_effect s) s | s": "a machine that is halted ignores the step",
-    "hart/specs/Step decided: Trap (cause_of interrupt) | fetched_effect (fetch s) s":
+    "steps/specs/Step stepped_unless: applied (step_effect s) s | s": "a machine that is halted ignores the step",
+    "steps/specs/Step decided: Trap (cause_of interrupt) | fetched_effect (fetch s) s":
         "An interrupt that is pending is taken, and is the whole step",
-    "hart/specs/Step fetched_effect: decoded_effect (insn_of word) word s | Trap f; fetch: word_unless (first_false (fetch_asked "
+    "steps/specs/Step fetched_effect: decoded_effect (insn_of word) word s | Trap f; fetch: word_unless (first_false (fetch_asked "
     "s)) s; fetch_asked: fetch_checks s.scrs.pcc ++ fetches_from s ∷ []; word_unless: Err f | Ok (number_at s.memory (pc_of s) 4)":
         "the instruction is fetched; a fetch that fails is the trap",
-    "hart/specs/Step decoded_effect: kind_effect (kind_of insn.row) word insn s | illegal word":
+    "steps/specs/Step decoded_effect: kind_effect (kind_of insn.row) word insn s | illegal word":
         "The word is decoded; one that is no row is an illegal instruction",
-    "hart/specs/Step kind_effect: where_all (asked k word insn s) (does k insn s)":
+    "steps/specs/Step kind_effect: where_all (asked k word insn s) (does k insn s)":
         "the instruction's own checks are made, in the order of the lists below",
-    "hart/specs/Looks where_all: unless_fault (first_false conditions) effect":
+    "steps/specs/Looks where_all: unless_fault (first_false conditions) effect":
         "The first that fails is the trap, and nothing else changes",
-    "hart/specs/Effect done_at: record s {scrs = moved address s.scrs; csrs = counted s.csrs}":
+    "steps/specs/Effect done_at: record s {scrs = moved address s.scrs; csrs = counted s.csrs}":
         "The instruction is done: PCC's address becomes that of the next instruction, or the target of a jump",
-    "hart/specs/Effect counted: cycle_counted (instruction_counted c)": "mcycle and minstret are one more",
-    "hart/specs/SystemRows csr_writes: true | true | not (field == 0)":
+    "steps/specs/Effect counted: cycle_counted (instruction_counted c)": "mcycle and minstret are one more",
+    "steps/specs/SystemRows csr_writes: true | true | not (field == 0)":
         "CSRRW and CSRRWI always write; the forms that set or clear bits write unless their field rs1 is 0",
-    "hart/specs/SystemRows special_done: if insn.rs1 == 0 then Write (record {rd = insn.rd; value = old}) else Special (record {rd = "
+    "steps/specs/SystemRows special_done: if insn.rs1 == 0 then Write (record {rd = insn.rd; value = old}) else Special (record {rd = "
     "insn.rd; old = old; number = insn.rs2; value = register s.registers insn.rs1})":
         "CSpecialRW reads the register into cd, and writes cs1 into it unless its field rs1 is 0",
-    "hart/specs/SystemRows return_asked: asked_of_register pcc_register word (return_checks s.scrs)":
+    "steps/specs/SystemRows return_asked: asked_of_register pcc_register word (return_checks s.scrs)":
         "a fault names PCC",
-    "hart/specs/SystemRows csr_asked: asked_of_register pcc_register word (csr_checks s.scrs (csr_number insn) (csr_writes insn.row "
+    "steps/specs/SystemRows csr_asked: asked_of_register pcc_register word (csr_checks s.scrs (csr_number insn) (csr_writes insn.row "
     "insn.rs1))":
         "a fault names PCC",
-    "hart/specs/SystemRows special_asked: asked_of_register (special_register insn.rs2) word (scr_checks s.scrs insn.rs2 (not (insn.rs1 "
+    "steps/specs/SystemRows special_asked: asked_of_register (special_register insn.rs2) word (scr_checks s.scrs insn.rs2 (not (insn.rs1 "
     "== 0)))":
         "a fault names the special register",
     "special_regs/specs/Traps trap_target: placed_at (entry_address f (value_address v)) (sentry_opened v)":
@@ -243,10 +243,10 @@ DEFINITIONS = {
     "special_regs/specs/Traps target: aligned (sentry_opened v)": "A tagged sentry in MEPCC is unsealed first",
     "special_regs/specs/Traps aligned: if value_address v % 4 == 0 then v else at_address v (value_address v / 4 * 4)":
         "the low two bits of the address are cleared where they aren't 0",
-    "hart/specs/Effect applied (Trap fault) s: record s {scrs = trapped_scrs fault s.scrs; csrs = cycle_counted (trapped_csrs fault "
+    "steps/specs/Effect applied (Trap fault) s: record s {scrs = trapped_scrs fault s.scrs; csrs = cycle_counted (trapped_csrs fault "
     "s.csrs)}":
         "mcycle is one more; minstret stays, and so does everything else",
-    "hart/specs/Effect applied (Return sealed) s: record s {scrs = returned_scrs s.scrs; csrs = counted (returned_csrs s.csrs)}":
+    "steps/specs/Effect applied (Return sealed) s: record s {scrs = returned_scrs s.scrs; csrs = counted (returned_csrs s.csrs)}":
         "mcycle and minstret are one more",
     "registers/specs/Registers null_registers: replicate 32 null": "all 32 null",
     "hart/specs/Opening loaded_memory: with_sections i.sections (zeroed i.pages)": "the image's sections, and zeros",
@@ -264,29 +264,29 @@ DEFINITIONS = {
         "An interrupt is pending if MIE is 1 and its bit is 1 in mie and in mip",
     "cap_bounds/specs/CapValue is_sealed: if value_otype v == unsealed_type then false else true":
         "A value is sealed unless its type is the unsealed one",
-    "hart/specs/JumpRows invoke_asked: invoke_checks (register s.registers insn.rs1) insn.rs1 (register s.registers insn.rs2) insn.rs2; "
+    "steps/specs/JumpRows invoke_asked: invoke_checks (register s.registers insn.rs1) insn.rs1 (register s.registers insn.rs2) insn.rs2; "
     "invoke_done: let code : CapValue = register s.registers insn.rs1 in let datum : CapValue = register s.registers insn.rs2 in Enter "
     "(record {rd = 31; link = opened datum; code = opened code; target = invoke_target code; sealed = true})":
         "PCC becomes cs1, unsealed, at the target, and register 31 becomes cs2, unsealed",
-    "hart/specs/JumpRows enter_asked: jump_checks (register s.registers insn.rs1) insn.rs1 insn.imm; enter_done: let v : CapValue = "
+    "steps/specs/JumpRows enter_asked: jump_checks (register s.registers insn.rs1) insn.rs1 insn.imm; enter_done: let v : CapValue = "
     "register s.registers insn.rs1 in Enter (record {rd = insn.rd; link = sentry_link s; code = opened v; target = jump_target "
     "(value_address v) insn.imm; sealed = is_sealed v;})":
         "PCC becomes the capability, unsealed, at the target, and rd a sentry link",
-    "hart/specs/JumpRows sentry_link: seal_entry (at_address s.scrs.pcc (next_of s))":
+    "steps/specs/JumpRows sentry_link: seal_entry (at_address s.scrs.pcc (next_of s))":
         "a sentry link is PCC at the next instruction, sealed as an entry",
-    "hart/specs/JumpRows link_of: if in_capability_mode s then sentry_link s else integer (next_of s)":
+    "steps/specs/JumpRows link_of: if in_capability_mode s then sentry_link s else integer (next_of s)":
         "The link in rd is the next instruction's address in integer mode, and a sentry link in capability mode",
     "registers/specs/Registers with_register: if n == 0 then registers else slice_set registers n v":
         "a write to register 0 is lost",
     "cap_bounds/specs/CapValue integer: Data (with_address_of null_word n)":
         "A number in a register is null with that number as its address",
-    "hart/specs/Looks in_capability_mode: value_flag s.scrs.pcc":
+    "steps/specs/Looks in_capability_mode: value_flag s.scrs.pcc":
         "PCC's flag says the mode",
-    "hart/specs/SystemRows csr_source: insn.rs1 | insn.rs1 | insn.rs1 | number_in s insn.rs1":
+    "steps/specs/SystemRows csr_source: insn.rs1 | insn.rs1 | insn.rs1 | number_in s insn.rs1":
         "In CSRRWI, CSRRSI and CSRRCI the field rs1 is the number that is written, set or cleared",
-    "hart/specs/SystemRows csr_number: insn.imm % 2 ^ 12":
+    "steps/specs/SystemRows csr_number: insn.imm % 2 ^ 12":
         "in CSR instructions the immediate is the register's number",
-    "hart/specs/Effect applied (Csr w) s: record (register_written w.rd w.old s) {scrs = moved ((pc_of s + 4) % 2 ^ 64) (views_written "
+    "steps/specs/Effect applied (Csr w) s: record (register_written w.rd w.old s) {scrs = moved ((pc_of s + 4) % 2 ^ 64) (views_written "
     "w.number w.value s.scrs); csrs = csrs_written w.number w.value (counted s.csrs);}":
         "An instruction that writes mcycle or minstret is counted before it writes, so that the register holds what was written",
     "cap_bounds/specs/SetAddress at_address: if not (is_sealed (Cap r)) && window_holds r address then Cap (record r {address "

@@ -4,7 +4,7 @@
     python3 tools/pages/reading_order.py            prints the tables
     python3 tools/pages/reading_order.py --check    says whether they stand in docs/MODEL.md, and ends with 1 if not
 
-The thirteen pages of the step have to be all files that hart/specs/Step names, directly or not, each after those that it names; what
+The thirteen pages of the step have to be all files that steps/specs/Step names, directly or not, each after those that it names; what
 is missing, too much or too early is printed.
 """
 import os
@@ -27,12 +27,12 @@ STEP = [
     ("special registers and traps",
      "special_regs/specs/Scrs, Csrs, Numbered, Mtvec, CsrValues, Writes, Refusals, Interrupts, Traps"),
     ("devices", "devices/specs/Devices"),
-    ("a state, and what an effect makes of it", "registers/specs/Registers; hart/specs/State, Effect"),
-    ("the step: what each row asks, and what it does", "hart/specs/Looks, Accesses, ComputeRows, MemoryRows, JumpRows, SystemRows, Step"),
+    ("a state, and what an effect makes of it", "registers/specs/Registers; steps/specs/State, Effect"),
+    ("the step: what each row asks, and what it does", "steps/specs/Looks, Accesses, ComputeRows, MemoryRows, JumpRows, SystemRows, Step"),
 ]
 REST = [
     ("runs: the opening state, events, *machine run*, what is set from outside",
-     "image/specs/Image; hart/specs/Opening, Outcome, Event, Setting; machine/specs/Run"),
+     "image/specs/Image; hart/specs/Opening; steps/specs/Outcome, Event; hart/specs/Setting; machine/specs/Run"),
     ("what code can reach, and what that opens",
      "reached/specs/Reached, Links, Chain, Order; doors/specs/Roots; reach/specs/Reach, Opens, First, Ranges, Differs"),
     ("through doors, and by a policy",
@@ -44,10 +44,10 @@ REST = [
     ("a text: what it means", "assembler/specs/Places, Values, Bytes, Faults, Text"),
     ("shown texts", "disassembler/specs/Hex, Shown"),
     ("bounds, lengths and words, as texts", "bounds_text/specs/WindowEnds, Picture, BoundsText, Letters, LengthText, WordText"),
-    ("what a step comes to, as text", "trap_texts/specs/Names, Text; effect_texts/specs/ValueText, EffectText, TraceLine"),
+    ("what a step comes to, as text", "trap_texts/specs/Names, Text; effect_texts/specs/ValueText, EffectText, TraceLine, WordLine"),
     ("what the next step asks, and why", "explain/specs/Asked, Text"),
     ("what is shown, against the state", "text_laws/specs/Says, Shown, After"),
-    ("names: tables of symbols, listings with names", "symbols/specs/Symbols; image_listing/specs/Named, Header"),
+    ("names: tables of symbols, listings with names", "symbols/specs/Symbols, Labels; image_listing/specs/Named, Header"),
     ("what code can reach, as text", "reach_texts/specs/Text, Asked, Summary"),
     ("the command line and runs on a schedule",
      "command_line/specs/CommandLine; sim_run/specs/Schedule, Trace, Verdict, Unhandled, Ending, Listing"),
@@ -110,7 +110,7 @@ def table(pages):
 
 def main():
     listed = {file for _, text in STEP for file in files_of(text)}
-    named = named_from(("hart", "Step"))
+    named = named_from(("steps", "Step"))
     wrong = [f"missing: {file}" for file in sorted(named - listed)] + [f"too much: {file}" for file in sorted(listed - named)]
     wrong += too_early(STEP)
     wrong += [f"no such file: {file}" for _, text in REST for file in files_of(text) if not source(file)]

@@ -64,7 +64,7 @@ FILES = [
     File("listings", command_lines.listing, 21),
     File("worlds", programs.worlds, 14),
     File("schedules", schedules.schedule, 211, piece=8),
-    File("commands", commands.command, 409, piece=20),
+    File("commands", commands.command, 412, piece=20),
     File("policies", commands.command, 215, piece=20),
     File("callers", commands.command, 75, piece=20),
     File("audits", commands.command, 58, piece=20),

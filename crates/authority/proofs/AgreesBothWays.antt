@@ -7,7 +7,7 @@ use Rattle.tagged_memory.specs.Memory.{IsMemory, has_tag, word_at}
 use Rattle.tagged_memory.specs.MemoryLaws.{in_ram}
 use Rattle.special_regs.specs.Scrs.{Scrs}
 use Rattle.registers.specs.Registers.{register}
-use Rattle.hart.specs.State.{State}
+use Rattle.steps.specs.State.{State}
 use Rattle.authority.specs.Authority.{HasSystem, SameScrs}
 use Rattle.authority.specs.Reachable.{IsRoot, in_register, in_pcc, in_ddc, IsSpecial, in_mtcc, in_mtdc, in_mscratchc, in_mepcc, IsHeldAt}
 use Rattle.authority.specs.Reachable.{IsReachable, from_root, from_special, from_granule}

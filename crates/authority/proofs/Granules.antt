@@ -2,7 +2,7 @@
 use Rattle.std.proofs.Common.{◌≡◌, ℕ, ◌%◌, true, length, sym, ◌∙◌, inl, inr}
 use Rattle.std.proofs.lemmas.Bool.{cases_Bool}
 use Rattle.tagged_memory.specs.Memory.{Memory, IsMemory, is_in_ram, has_tag}
-use Rattle.hart.specs.State.{State}
+use Rattle.steps.specs.State.{State}
 use Rattle.authority.specs.SameEffectLaws.{in_ram-same}
 use Rattle.authority.specs.Worlds.{IsTagReadable}
 

@@ -6,7 +6,7 @@ use Rattle.std.proofs.lemmas.List.{get_or-set_other, length-set}
 use Rattle.std.proofs.Common.{subst}
 use Rattle.base.specs.Ram.{ram_base}
 use Rattle.special_regs.specs.Scrs.{Scrs}
-use Rattle.hart.specs.State.{State}
+use Rattle.steps.specs.State.{State}
 use Rattle.authority.specs.Authority.{Not, HasSystem}
 use Rattle.authority.specs.Worlds.{IsReadable, Agree}
 

@@ -10,9 +10,9 @@ use Rattle.cap_rights.specs.declared.permission.Permission.TheVariants as permis
 use Rattle.isa_rows.specs.declared.operands.Insn.{Insn}
 use Rattle.tagged_memory.specs.Memory.{is_in_ram}
 use Rattle.tagged_memory.specs.MemoryLaws.{in_ram}
-use Rattle.hart.specs.Accesses.{size_of}
-use Rattle.hart.specs.MemoryRows.{place_of, authority_of, authority_number_of}
-use Rattle.hart.specs.State.{State, pc_of}
+use Rattle.steps.specs.Accesses.{size_of}
+use Rattle.steps.specs.MemoryRows.{place_of, authority_of, authority_number_of}
+use Rattle.steps.specs.State.{State, pc_of}
 use Rattle.authority.specs.Reachable.{from_root, in_pcc}
 use Rattle.authority.specs.Grounded.{GrowsNot}
 use Rattle.authority.specs.RowLaws.{IsAllowed, allowed, IsFetched, fetched-pcc, system-pcc, reachable-authority}

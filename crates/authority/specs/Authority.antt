@@ -9,7 +9,7 @@ use Rattle.tagged_memory.specs.Memory.{Memory, has_tag}
 use Rattle.devices.specs.Devices.{Devices, halt, timer_compare, control_register, transmit}
 use Rattle.special_regs.specs.declared.csrs.Csrs.{Csrs}
 use Rattle.special_regs.specs.Scrs.{Scrs}
-use Rattle.hart.specs.State.{State}
+use Rattle.steps.specs.State.{State}
 use Rattle.authority.specs.Reachable.{IsReachable}
 
 abbrev pub Not : Type 0 → Type 0

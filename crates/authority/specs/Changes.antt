@@ -2,7 +2,7 @@
 use Rattle.std.specs.Prelude.{◌≡◌, ℕ, ◌-◌, ◌≤◌, length, slice_index, ◌⊎◌}
 use Rattle.base.specs.Ram.{ram_base}
 use Rattle.tagged_memory.specs.Memory.{has_tag}
-use Rattle.hart.specs.State.{State}
+use Rattle.steps.specs.State.{State}
 
 -- a part of two states, before a step and after it: afterwards it is the same in both, or the step leaves it in both
 abbrev pub IsChangedAlike : {A : Type 0} → A → A → A → A → Type 0

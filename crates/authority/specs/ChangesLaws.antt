@@ -17,15 +17,15 @@ use Rattle.tagged_memory.specs.Memory.{Memory, is_in_ram, has_tag, touches, data
 use Rattle.tagged_memory.specs.MemoryLaws.{in_ram, length-data_written, byte-data_written, tags-data_written, length-capability_written}
 use Rattle.tagged_memory.specs.MemoryLaws.{byte-capability_written, has_tag-capability_written}
 use Rattle.tagged_memory.specs.Replaced.{element-new}
-use Rattle.hart.specs.AppliedLaws.{IsSoundEffect}
-use Rattle.hart.specs.Effect.{applied, sent_by}
-use Rattle.hart.specs.EventLaws.{step_effect-sound}
-use Rattle.hart.specs.IsState.{IsState}
-use Rattle.hart.specs.Outcome.{is_trap, outcome_of, step_outcome_unless, step_outcome}
-use Rattle.hart.specs.State.{State}
-use Rattle.hart.specs.Step.{step_effect, stepped_unless, stepped, step_sent_unless, step_sent}
-use Rattle.hart.specs.declared.effect.Effect.{Effect}
-use Rattle.hart.specs.declared.effect.Effect.TheVariants as effect
+use Rattle.steps.specs.AppliedLaws.{IsSoundEffect}
+use Rattle.steps.specs.Effect.{applied, sent_by}
+use Rattle.steps.specs.EventLaws.{step_effect-sound}
+use Rattle.steps.specs.IsState.{IsState}
+use Rattle.steps.specs.Outcome.{is_trap, outcome_of, step_outcome_unless, step_outcome}
+use Rattle.steps.specs.State.{State}
+use Rattle.steps.specs.Step.{step_effect, stepped_unless, stepped, step_sent_unless, step_sent}
+use Rattle.steps.specs.declared.effect.Effect.{Effect}
+use Rattle.steps.specs.declared.effect.Effect.TheVariants as effect
 use Rattle.authority.specs.Authority.{SameScrs}
 use Rattle.authority.specs.Changes.{IsChangedAlike, ChangesAlike}
 use Rattle.authority.specs.Derives.{UsesSystem, Derives}

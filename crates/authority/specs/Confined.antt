@@ -9,7 +9,7 @@ use Rattle.cap_rights.specs.Rights.{IsInRightsOf, OpensGranule}
 use Rattle.cap_rights.specs.declared.permission.Permission.TheVariants as permission
 use Rattle.tagged_memory.specs.Memory.{has_tag}
 use Rattle.registers.specs.Registers.{register}
-use Rattle.hart.specs.State.{State}
+use Rattle.steps.specs.State.{State}
 use Rattle.authority.specs.Authority.{SameScrs, SameCsrs}
 
 -- the address lies in the bounds

@@ -8,7 +8,7 @@ use Rattle.cap_rights.specs.Rights.{IsInRightsOf, OpensSystem, OpensGranule, Ope
 use Rattle.cap_rights.specs.declared.permission.Permission.TheVariants as permission
 use Rattle.tagged_memory.specs.Memory.{has_tag}
 use Rattle.devices.specs.Devices.{halt, timer_compare, control_register, transmit}
-use Rattle.hart.specs.State.{State}
+use Rattle.steps.specs.State.{State}
 use Rattle.authority.specs.Reachable.{IsRoot, in_register, in_pcc, in_ddc, IsReachable, from_root, from_special, from_granule}
 use Rattle.authority.specs.Authority.{Not, NoNewRights, NewSealsAllowed, IsSealAllowed, held, sentry, sealed_by, IsWritable, HasSystem}
 use Rattle.authority.specs.Authority.{LeavesAlone, IsSilent}

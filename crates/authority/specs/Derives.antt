@@ -7,10 +7,10 @@ use Rattle.cap_bounds.specs.CapValue.{CapValue}
 use Rattle.cap_checks.specs.FirstFault.{fetch_fault}
 use Rattle.special_regs.specs.Refusals.{has_system_access}
 use Rattle.special_regs.specs.Traps.{is_sentry}
-use Rattle.hart.specs.declared.effect.Effect.{Effect}
-use Rattle.hart.specs.declared.effect.Effect.TheVariants.{Trap, Nothing, Write, Unseal, Store, StoreCapability, DeviceLoad, DeviceStore}
-use Rattle.hart.specs.declared.effect.Effect.TheVariants.{Jump, Link, Enter, Special, Csr, Return}
-use Rattle.hart.specs.State.{State}
+use Rattle.steps.specs.declared.effect.Effect.{Effect}
+use Rattle.steps.specs.declared.effect.Effect.TheVariants.{Trap, Nothing, Write, Unseal, Store, StoreCapability, DeviceLoad, DeviceStore}
+use Rattle.steps.specs.declared.effect.Effect.TheVariants.{Jump, Link, Enter, Special, Csr, Return}
+use Rattle.steps.specs.State.{State}
 use Rattle.authority.specs.Authority.{IsWritable}
 use Rattle.authority.specs.Grounded.{IsGroundedIfTagged}
 

@@ -6,12 +6,12 @@ use Rattle.base.specs.Size.{bytes_of}
 use Rattle.cap_bounds.specs.CapValue.{CapValue, Cap, Data, is_tagged}
 use Rattle.tagged_memory.specs.Memory.{IsMemory, is_in_ram, data_written}
 use Rattle.special_regs.specs.Writes.{views_written, scr_written}
-use Rattle.hart.specs.declared.effect.Effect.{Effect}
-use Rattle.hart.specs.declared.effect.Effect.TheVariants as effect
-use Rattle.hart.specs.Effect.{applied}
-use Rattle.hart.specs.Outcome.{Plain, Unseal, SealedJump, outcome_of}
-use Rattle.hart.specs.AppliedLaws.{IsSoundEffect}
-use Rattle.hart.specs.State.{State}
+use Rattle.steps.specs.declared.effect.Effect.{Effect}
+use Rattle.steps.specs.declared.effect.Effect.TheVariants as effect
+use Rattle.steps.specs.Effect.{applied}
+use Rattle.steps.specs.Outcome.{Plain, Unseal, SealedJump, outcome_of}
+use Rattle.steps.specs.AppliedLaws.{IsSoundEffect}
+use Rattle.steps.specs.State.{State}
 use Rattle.authority.specs.Grounded.{IsGroundedIfTagged, IsFramed}
 use Rattle.authority.specs.RowLaws.{system-used}
 use Rattle.authority.specs.Derives.{Derives}

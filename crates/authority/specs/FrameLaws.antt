@@ -20,9 +20,9 @@ use Rattle.special_regs.specs.Mtvec.{mtvec_of}
 use Rattle.special_regs.specs.Traps.{is_sentry, sentry_opened, aligned, target, returned_scrs}
 use Rattle.special_regs.specs.Writes.{views_written, scr_written}
 use Rattle.cap_bounds.specs.SoundLaws.{word_of-below}
-use Rattle.hart.specs.Effect.{moved}
+use Rattle.steps.specs.Effect.{moved}
 use Rattle.registers.specs.Registers.{register, with_register}
-use Rattle.hart.specs.State.{State}
+use Rattle.steps.specs.State.{State}
 use Rattle.authority.specs.Reachable.{IsRoot, in_register, in_pcc, in_ddc, IsSpecial, in_mtcc, in_mtdc, in_mscratchc, in_mepcc, IsHeldAt}
 use Rattle.authority.specs.Reachable.{from_root, from_special}
 use Rattle.authority.specs.Authority.{HasSystem}

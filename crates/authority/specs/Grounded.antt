@@ -1,7 +1,7 @@
 -- The words of the proof that authority doesn't grow: one invariant of values carries rights and seals together.
 use Rattle.std.specs.Prelude.{◌≡◌, ℕ, true, ◌⊎◌}
 use Rattle.cap_bounds.specs.CapValue.{CapValue, is_tagged, is_sealed}
-use Rattle.hart.specs.State.{State}
+use Rattle.steps.specs.State.{State}
 use Rattle.authority.specs.Reachable.{IsRoot, IsSpecial, IsHeldAt, IsReachable}
 use Rattle.authority.specs.Authority.{IsCovered, IsSealAllowed}
 

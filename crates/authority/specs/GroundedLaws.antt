@@ -6,7 +6,7 @@ use Rattle.cap_rights.specs.Rights.{IsInRightsOf, OpensSystem, OpensGranule}
 use Rattle.cap_rights.specs.RightsLaws.{IsInRightsOf-refl, IsInRightsOf-trans, OpensSystem-outer, OpensGranule-outer, OpensStore-outer}
 use Rattle.cap_rights.specs.RightsLaws.{OpensType-outer}
 use Rattle.cap_rights.specs.Derived.{IsDerivedIfTagged, IsMadeOf}
-use Rattle.hart.specs.State.{State}
+use Rattle.steps.specs.State.{State}
 use Rattle.authority.specs.Reachable.{IsSpecial, IsHeldAt, IsReachable, from_root, from_special, from_granule}
 use Rattle.authority.specs.Authority.{Not, IsCovered, NoNewRights, IsSealAllowed, held, sentry, sealed_by, NewSealsAllowed, IsWritable}
 use Rattle.authority.specs.Authority.{HasSystem, LeavesMemory, LeavesDevices, SameScrs, SameCsrs, LeavesAlone}

@@ -17,12 +17,12 @@ use Rattle.devices.specs.declared.devices.Effect.TheVariants as sends
 use Rattle.special_regs.specs.declared.csrs.Csrs.{Csrs}
 use Rattle.special_regs.specs.Scrs.{Scrs}
 use Rattle.special_regs.specs.Writes.{scr_written}
-use Rattle.hart.specs.declared.effect.Effect.{Effect}
-use Rattle.hart.specs.declared.effect.Effect.TheVariants as effect
-use Rattle.hart.specs.Effect.{applied, sent_by}
-use Rattle.hart.specs.Outcome.{Plain, outcome_of}
-use Rattle.hart.specs.AppliedLaws.{IsSoundEffect}
-use Rattle.hart.specs.State.{State}
+use Rattle.steps.specs.declared.effect.Effect.{Effect}
+use Rattle.steps.specs.declared.effect.Effect.TheVariants as effect
+use Rattle.steps.specs.Effect.{applied, sent_by}
+use Rattle.steps.specs.Outcome.{Plain, outcome_of}
+use Rattle.steps.specs.AppliedLaws.{IsSoundEffect}
+use Rattle.steps.specs.State.{State}
 use Rattle.authority.specs.Authority.{Not, IsWritable, HasSystem, LeavesMemory, LeavesDevices, SameScrs, SameCsrs, LeavesAlone}
 use Rattle.authority.specs.RowLaws.{system-used}
 use Rattle.authority.specs.Derives.{MayWrite, Derives}

@@ -5,7 +5,7 @@ use Rattle.cap_bounds.specs.CapValue.{CapValue, is_tagged, value_of}
 use Rattle.cap_rights.specs.Rights.{OpensSystem, OpensGranule}
 use Rattle.tagged_memory.specs.Memory.{Memory, has_tag, word_at}
 use Rattle.registers.specs.Registers.{register}
-use Rattle.hart.specs.State.{State}
+use Rattle.steps.specs.State.{State}
 
 -- what instructions name without further rights: the 32 registers, PCC and DDC (past the last register is null, which has no tag)
 pub data IsRoot (s : State) (v : CapValue) : Type 0 where

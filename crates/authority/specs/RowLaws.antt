@@ -43,26 +43,26 @@ use Rattle.isa_rows.specs.declared.kinds.Kind.TheVariants as kind
 use Rattle.isa_rows.specs.declared.operands.Insn.{Insn}
 use Rattle.isa_rows.specs.declared.rows.Row.{Row}
 use Rattle.isa_rows.specs.declared.rows.Row.TheVariants.{CUnseal}
-use Rattle.hart.specs.declared.effect.Effect.{Effect}
-use Rattle.hart.specs.declared.effect.Effect.TheVariants.{Nothing, Write, Jump, Store, DeviceStore, Special}
-use Rattle.hart.specs.Accesses.{size_of, through_rs1}
-use Rattle.hart.specs.ComputeRows.{integer_effect, mul_div_effect, written_by, capability_effect, auipc_effect}
-use Rattle.hart.specs.IsState.{IsState}
-use Rattle.hart.specs.AskedLaws.{access_asked-none, register-none}
-use Rattle.hart.specs.JumpRows.{sentry_link, link_of, link_asked, link_done, jal_target, enter_asked, enter_done}
-use Rattle.hart.specs.JumpRows.{jalr_target, invoke_asked, invoke_done}
-use Rattle.hart.specs.Looks.{number_in, in_capability_mode, next_of, unless_fault, where_all}
-use Rattle.hart.specs.MemoryRows.{place_of, authority_through, authority_of, authority_number_of, access_asked, memory_asked, load_done}
-use Rattle.hart.specs.MemoryRows.{stored_number, stores_to, store_done, loaded_capability}
-use Rattle.hart.specs.MemoryRows.{capability_at, load_capability_done}
-use Rattle.hart.specs.MemoryRows.{store_capability_done}
+use Rattle.steps.specs.declared.effect.Effect.{Effect}
+use Rattle.steps.specs.declared.effect.Effect.TheVariants.{Nothing, Write, Jump, Store, DeviceStore, Special}
+use Rattle.steps.specs.Accesses.{size_of, through_rs1}
+use Rattle.steps.specs.ComputeRows.{integer_effect, mul_div_effect, written_by, capability_effect, auipc_effect}
+use Rattle.steps.specs.IsState.{IsState}
+use Rattle.steps.specs.AskedLaws.{access_asked-none, register-none}
+use Rattle.steps.specs.JumpRows.{sentry_link, link_of, link_asked, link_done, jal_target, enter_asked, enter_done}
+use Rattle.steps.specs.JumpRows.{jalr_target, invoke_asked, invoke_done}
+use Rattle.steps.specs.Looks.{number_in, in_capability_mode, next_of, unless_fault, where_all}
+use Rattle.steps.specs.MemoryRows.{place_of, authority_through, authority_of, authority_number_of, access_asked, memory_asked, load_done}
+use Rattle.steps.specs.MemoryRows.{stored_number, stores_to, store_done, loaded_capability}
+use Rattle.steps.specs.MemoryRows.{capability_at, load_capability_done}
+use Rattle.steps.specs.MemoryRows.{store_capability_done}
 use Rattle.registers.specs.Registers.{register}
-use Rattle.hart.specs.State.{State, pc_of}
-use Rattle.hart.specs.Step.{asked, does, kind_effect}
-use Rattle.hart.specs.SystemRows.{asked_of_register, csr_number, csr_writes, csr_held, csr_done, special_held, special_done}
-use Rattle.hart.specs.SystemRows.{return_done}
-use Rattle.hart.specs.RowEffects.{branch_effect, link_effect, enter_effect, jalr_effect, invoke_effect, load_effect, store_effect}
-use Rattle.hart.specs.RowEffects.{load_capability_effect, store_capability_effect, csr_effect, special_effect, return_effect}
+use Rattle.steps.specs.State.{State, pc_of}
+use Rattle.steps.specs.Step.{asked, does, kind_effect}
+use Rattle.steps.specs.SystemRows.{asked_of_register, csr_number, csr_writes, csr_held, csr_done, special_held, special_done}
+use Rattle.steps.specs.SystemRows.{return_done}
+use Rattle.steps.specs.RowEffects.{branch_effect, link_effect, enter_effect, jalr_effect, invoke_effect, load_effect, store_effect}
+use Rattle.steps.specs.RowEffects.{load_capability_effect, store_capability_effect, csr_effect, special_effect, return_effect}
 use Rattle.authority.specs.Reachable.{IsSpecial, IsRoot, in_register, in_pcc, in_ddc, in_mtcc, in_mtdc, in_mscratchc, in_mepcc, IsReachable}
 use Rattle.authority.specs.Reachable.{from_root}
 use Rattle.authority.specs.Reachable.{from_granule}

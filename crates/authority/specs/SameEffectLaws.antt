@@ -41,25 +41,25 @@ use Rattle.special_regs.specs.Traps.{is_sentry}
 use Rattle.special_regs.specs.declared.interrupts.Interrupt.{Interrupt}
 use Rattle.special_regs.specs.declared.refusal.SpecialFault.{SpecialFault}
 use Rattle.tagged_memory.specs.Memory.{Memory, is_in_ram, has_tag, number_at, word_at}
-use Rattle.hart.specs.Accesses.{size_of, loaded}
-use Rattle.hart.specs.ComputeRows.{integer_effect, mul_div_effect, capability_effect, auipc_effect}
-use Rattle.hart.specs.AskedLaws.{access_asked-none, register-none}
-use Rattle.hart.specs.JumpRows.{link_of, jal_target}
-use Rattle.hart.specs.Looks.{number_in, unless_fault, where_all}
-use Rattle.hart.specs.MemoryRows.{place_of, authority_of, access_asked, loads_from, memory_asked, load_done, stored_number}
-use Rattle.hart.specs.MemoryRows.{stores_to, store_done, loaded_capability, capability_at}
-use Rattle.hart.specs.MemoryRows.{load_capability_done, store_capability_done}
+use Rattle.steps.specs.Accesses.{size_of, loaded}
+use Rattle.steps.specs.ComputeRows.{integer_effect, mul_div_effect, capability_effect, auipc_effect}
+use Rattle.steps.specs.AskedLaws.{access_asked-none, register-none}
+use Rattle.steps.specs.JumpRows.{link_of, jal_target}
+use Rattle.steps.specs.Looks.{number_in, unless_fault, where_all}
+use Rattle.steps.specs.MemoryRows.{place_of, authority_of, access_asked, loads_from, memory_asked, load_done, stored_number}
+use Rattle.steps.specs.MemoryRows.{stores_to, store_done, loaded_capability, capability_at}
+use Rattle.steps.specs.MemoryRows.{load_capability_done, store_capability_done}
 use Rattle.registers.specs.Registers.{register}
-use Rattle.hart.specs.State.{State, pc_of}
-use Rattle.hart.specs.AskedLaws.{fetch-fetched}
-use Rattle.hart.specs.RowEffects.{fetched}
-use Rattle.hart.specs.Step.{asked, does, kind_effect, decoded_effect, fetched_effect, decided, step_effect}
-use Rattle.hart.specs.SystemRows.{asked_of_register, csr_number, csr_source, csr_writes, csr_new, csr_held, csr_done}
-use Rattle.hart.specs.SystemRows.{special_held, special_done}
-use Rattle.hart.specs.RowEffects.{branch_effect, link_effect, enter_effect, jalr_effect, invoke_effect, load_effect, store_effect}
-use Rattle.hart.specs.RowEffects.{load_capability_effect, store_capability_effect, csr_effect, special_effect, return_effect}
-use Rattle.hart.specs.declared.effect.Effect.{Effect}
-use Rattle.hart.specs.declared.effect.Effect.TheVariants.{Write, Store, DeviceLoad, DeviceStore, Csr, Return}
+use Rattle.steps.specs.State.{State, pc_of}
+use Rattle.steps.specs.AskedLaws.{fetch-fetched}
+use Rattle.steps.specs.RowEffects.{fetched}
+use Rattle.steps.specs.Step.{asked, does, kind_effect, decoded_effect, fetched_effect, decided, step_effect}
+use Rattle.steps.specs.SystemRows.{asked_of_register, csr_number, csr_source, csr_writes, csr_new, csr_held, csr_done}
+use Rattle.steps.specs.SystemRows.{special_held, special_done}
+use Rattle.steps.specs.RowEffects.{branch_effect, link_effect, enter_effect, jalr_effect, invoke_effect, load_effect, store_effect}
+use Rattle.steps.specs.RowEffects.{load_capability_effect, store_capability_effect, csr_effect, special_effect, return_effect}
+use Rattle.steps.specs.declared.effect.Effect.{Effect}
+use Rattle.steps.specs.declared.effect.Effect.TheVariants.{Write, Store, DeviceLoad, DeviceStore, Csr, Return}
 use Rattle.authority.specs.Authority.{SameScrs}
 use Rattle.authority.specs.RowLaws.{csr-access, scr-access, return-access}
 use Rattle.authority.specs.WorldLooks.{IsNext, LoadsCapability, SameLooks}

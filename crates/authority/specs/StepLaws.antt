@@ -13,19 +13,19 @@ use Rattle.special_regs.specs.declared.interrupts.Interrupt.{Interrupt}
 use Rattle.isa_rows.specs.declared.operands.Insn.{Insn}
 use Rattle.isa_rows.specs.Kind.{kind_of}
 use Rattle.isa_rows.specs.Decoded.{insn_of}
-use Rattle.hart.specs.declared.event.Event.{Event}
-use Rattle.hart.specs.declared.event.Event.TheVariants.{Step, Tick, Byte}
-use Rattle.hart.specs.Effect.{applied}
-use Rattle.hart.specs.Event.{after, sent, outcome}
-use Rattle.hart.specs.EventLaws.{step_effect-sound}
-use Rattle.hart.specs.IsState.{IsState}
-use Rattle.hart.specs.Outcome.{Plain}
-use Rattle.hart.specs.State.{State, pc_of}
-use Rattle.hart.specs.AskedLaws.{fetch-fetched}
-use Rattle.hart.specs.RowEffects.{fetched}
-use Rattle.hart.specs.Step.{fetch, decoded_effect, fetched_effect, decided, step_effect, stepped_unless, stepped, step_sent_unless}
-use Rattle.hart.specs.Step.{step_sent}
-use Rattle.hart.specs.Outcome.{step_outcome_unless, step_outcome}
+use Rattle.steps.specs.declared.event.Event.{Event}
+use Rattle.steps.specs.declared.event.Event.TheVariants.{Step, Tick, Byte}
+use Rattle.steps.specs.Effect.{applied}
+use Rattle.steps.specs.Event.{after, sent, outcome}
+use Rattle.steps.specs.EventLaws.{step_effect-sound}
+use Rattle.steps.specs.IsState.{IsState}
+use Rattle.steps.specs.Outcome.{Plain}
+use Rattle.steps.specs.State.{State, pc_of}
+use Rattle.steps.specs.AskedLaws.{fetch-fetched}
+use Rattle.steps.specs.RowEffects.{fetched}
+use Rattle.steps.specs.Step.{fetch, decoded_effect, fetched_effect, decided, step_effect, stepped_unless, stepped, step_sent_unless}
+use Rattle.steps.specs.Step.{step_sent}
+use Rattle.steps.specs.Outcome.{step_outcome_unless, step_outcome}
 use Rattle.authority.specs.Authority.{Not, IsWritable, LeavesDevices, LeavesAlone}
 use Rattle.authority.specs.Grounded.{GrowsNot, IsFramed}
 use Rattle.authority.specs.GroundedLaws.{GrowsNot-framed, GrowsNot-refl, LeavesAlone-refl}

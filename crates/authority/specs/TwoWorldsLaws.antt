@@ -16,19 +16,19 @@ use Rattle.tagged_memory.specs.Memory.{Memory, is_in_ram, has_tag, touches, data
 use Rattle.tagged_memory.specs.MemoryLaws.{in_ram, length-data_written, byte-data_written, tags-data_written, length-capability_written}
 use Rattle.tagged_memory.specs.MemoryLaws.{byte-capability_written, has_tag-capability_written}
 use Rattle.tagged_memory.specs.Replaced.{element-new}
-use Rattle.hart.specs.AppliedLaws.{IsSoundEffect}
-use Rattle.hart.specs.Effect.{applied, moved, sent_by}
-use Rattle.hart.specs.Event.{after, sent, outcome}
-use Rattle.hart.specs.EventLaws.{step_effect-sound}
-use Rattle.hart.specs.IsState.{IsState}
-use Rattle.hart.specs.Outcome.{Plain, outcome_of}
-use Rattle.hart.specs.State.{State, pc_of}
-use Rattle.hart.specs.Step.{step_effect, stepped_unless, stepped, step_sent_unless, step_sent}
-use Rattle.hart.specs.Outcome.{step_outcome_unless, step_outcome}
-use Rattle.hart.specs.declared.effect.Effect.{Effect}
-use Rattle.hart.specs.declared.effect.Effect.TheVariants as effect
-use Rattle.hart.specs.declared.event.Event.{Event}
-use Rattle.hart.specs.declared.event.Event.TheVariants.{Step, Tick, Byte}
+use Rattle.steps.specs.AppliedLaws.{IsSoundEffect}
+use Rattle.steps.specs.Effect.{applied, moved, sent_by}
+use Rattle.steps.specs.Event.{after, sent, outcome}
+use Rattle.steps.specs.EventLaws.{step_effect-sound}
+use Rattle.steps.specs.IsState.{IsState}
+use Rattle.steps.specs.Outcome.{Plain, outcome_of}
+use Rattle.steps.specs.State.{State, pc_of}
+use Rattle.steps.specs.Step.{step_effect, stepped_unless, stepped, step_sent_unless, step_sent}
+use Rattle.steps.specs.Outcome.{step_outcome_unless, step_outcome}
+use Rattle.steps.specs.declared.effect.Effect.{Effect}
+use Rattle.steps.specs.declared.effect.Effect.TheVariants as effect
+use Rattle.steps.specs.declared.event.Event.{Event}
+use Rattle.steps.specs.declared.event.Event.TheVariants.{Step, Tick, Byte}
 use Rattle.authority.specs.AgreeLaws.{looks-agree, IsReadable-before, IsTagReadable-before}
 use Rattle.authority.specs.Authority.{HasSystem, SameScrs}
 use Rattle.authority.specs.Derives.{Derives}

@@ -11,9 +11,9 @@ use Rattle.isa_rows.specs.declared.operands.Insn.{Insn}
 use Rattle.isa_rows.specs.declared.kinds.Kind.TheVariants as kind
 use Rattle.isa_rows.specs.Kind.{kind_of}
 use Rattle.isa_rows.specs.Decoded.{insn_of}
-use Rattle.hart.specs.Accesses.{size_of}
-use Rattle.hart.specs.MemoryRows.{place_of, authority_of, authority_number_of}
-use Rattle.hart.specs.State.{State, pc_of}
+use Rattle.steps.specs.Accesses.{size_of}
+use Rattle.steps.specs.MemoryRows.{place_of, authority_of, authority_number_of}
+use Rattle.steps.specs.State.{State, pc_of}
 use Rattle.authority.specs.Authority.{SameScrs}
 
 -- the instruction is the next one: PCC passes the checks of the fetch, and RAM holds its word there

@@ -5,7 +5,7 @@ use Rattle.base.specs.Ram.{ram_base}
 use Rattle.cap_bounds.specs.CapValue.{CapValue}
 use Rattle.cap_rights.specs.Rights.{OpensByte, OpensGranule}
 use Rattle.tagged_memory.specs.Memory.{Memory, has_tag}
-use Rattle.hart.specs.State.{State}
+use Rattle.steps.specs.State.{State}
 use Rattle.authority.specs.Reachable.{IsReachable}
 use Rattle.authority.specs.Authority.{HasSystem, SameScrs}
 

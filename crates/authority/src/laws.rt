@@ -4,11 +4,11 @@
 ghost use Rattle.std.specs.Prelude.{◌≡◌, ℕ, None, ◌⊎◌};
 ghost use Rattle.cap_bounds.specs.CapValue.{CapValue};
 ghost use Rattle.devices.specs.Devices.{transmit, halt, timer_compare, timer, control_register};
-ghost use Rattle.hart.specs.declared.event.Event.{Event};
-ghost use Rattle.hart.specs.Event.{after, sent, outcome};
-ghost use Rattle.hart.specs.IsState.{IsState};
-ghost use Rattle.hart.specs.Outcome.{Plain};
-ghost use Rattle.hart.specs.State.{State};
+ghost use Rattle.steps.specs.declared.event.Event.{Event};
+ghost use Rattle.steps.specs.Event.{after, sent, outcome};
+ghost use Rattle.steps.specs.IsState.{IsState};
+ghost use Rattle.steps.specs.Outcome.{Plain};
+ghost use Rattle.steps.specs.State.{State};
 ghost use Rattle.authority.specs.Reachable.{IsReachable};
 ghost use Rattle.authority.specs.Authority.{Not, NoNewRights, NewSealsAllowed, IsWritable, HasSystem, LeavesAlone};
 ghost use Rattle.authority.specs.Worlds.{IsReadable};

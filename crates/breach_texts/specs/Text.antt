@@ -1,7 +1,7 @@
 -- What breaks a rule of a policy, as a text.
 use Rattle.std.specs.Prelude.{ℕ, List, [], ◌++◌, codes, decimal}
 use Rattle.disassembler.specs.Hex.{hex_of}
-use Rattle.hart.specs.State.{State, pc_of}
+use Rattle.steps.specs.State.{State, pc_of}
 use Rattle.symbols.specs.Symbols.{Symbol}
 use Rattle.policy.specs.declared.rule.Ban.{Ban}
 use Rattle.policy.specs.declared.rule.Ban.TheVariants.{Store, Load, Execute, Transmit, Halt, Timer, System, Seal, Types}

@@ -4,7 +4,7 @@ use Rattle.std.proofs.lemmas.Bool.{false≢true}
 use Rattle.std.specs.Prelude.{Option, None, Some, IfSome, false}
 use Rattle.cap_bounds.specs.CapValue.{CapValue}
 use Rattle.debug_commands.specs.declared.command.May.{May}
-use Rattle.hart.specs.State.{State}
+use Rattle.steps.specs.State.{State}
 use Rattle.reach.specs.Reach.{AreReachable, members_in}
 use Rattle.reach_texts.specs.Asked.{first_that, values_of}
 use Rattle.reached.specs.declared.member.Member.{Member}

@@ -5,11 +5,11 @@ use Rattle.std.specs.Prelude.{Option, None, Some, is_some, option_to_list, not, 
 use Rattle.std.proofs.lemmas.Bool.{cond_both}
 use Rattle.std.proofs.lemmas.Bool.Decides.{nat_tests}
 use Rattle.cap_bounds.specs.RemainderLaws.{mod-is}
-use Rattle.hart.specs.declared.event.Event.{Event}
-use Rattle.hart.specs.declared.event.Event.TheVariants.{Step, Tick, Byte}
-use Rattle.hart.specs.State.{State, pc_of}
-use Rattle.hart.specs.Ends.{why_of}
-use Rattle.hart.specs.Event.{after, sent, outcome}
+use Rattle.steps.specs.declared.event.Event.{Event}
+use Rattle.steps.specs.declared.event.Event.TheVariants.{Step, Tick, Byte}
+use Rattle.steps.specs.State.{State, pc_of}
+use Rattle.steps.specs.Ends.{why_of}
+use Rattle.steps.specs.Event.{after, sent, outcome}
 use Rattle.machine.specs.Run.{run_after, run_sent}
 use Rattle.cherisim_c.specs.declared.types.Asked.{Asked}
 use Rattle.cherisim_c.specs.Running.{stop_at, is_at_stop, is_tick_after, tick_after, end_code, run_from, run_events, steps_in}

@@ -29,7 +29,7 @@ use Rattle.std.specs.declared.alloc.Global.{Global}
 use Rattle.std.specs.contracts.alloc.Global as heap
 use Rattle.std.proofs.alloc.Global.TheLaws as heap_laws
 use Rattle.std.specs.contracts.impls.GlobalAllocator.TheImpl.{ghosts}
-use Rattle.hart.specs.State.{State as Machine}
+use Rattle.steps.specs.State.{State as Machine}
 use Rattle.cherisim_c.specs.Handle.{handle_owns}
 use Rattle.cherisim_c.specs.contracts.handle.Handle as handle
 

@@ -1,13 +1,13 @@
 -- Runs for C: the events that a run meets, and why it stops.
 use Rattle.std.specs.Prelude.{ℕ, zero, suc, ◌+◌, ◌-◌, ◌%◌, ◌==◌, ◌&&◌, not, Bool, true, false, if◌then◌else◌, List, [], ◌∷◌, ◌++◌, length}
 use Rattle.std.specs.Prelude.{Option, None, Some, is_some, option_to_list}
-use Rattle.hart.specs.declared.event.Event.{Event}
-use Rattle.hart.specs.declared.event.Event.TheVariants.{Step, Tick, Byte}
-use Rattle.hart.specs.declared.ends.Why.{Why}
-use Rattle.hart.specs.declared.ends.Why.TheVariants.{Trap, Unseal, SealedJump}
-use Rattle.hart.specs.Ends.{why_of}
-use Rattle.hart.specs.Event.{after, sent, outcome}
-use Rattle.hart.specs.State.{State, pc_of}
+use Rattle.steps.specs.declared.event.Event.{Event}
+use Rattle.steps.specs.declared.event.Event.TheVariants.{Step, Tick, Byte}
+use Rattle.steps.specs.declared.ends.Why.{Why}
+use Rattle.steps.specs.declared.ends.Why.TheVariants.{Trap, Unseal, SealedJump}
+use Rattle.steps.specs.Ends.{why_of}
+use Rattle.steps.specs.Event.{after, sent, outcome}
+use Rattle.steps.specs.State.{State, pc_of}
 use Rattle.machine.specs.Run.{run_after}
 use Rattle.cherisim_c.specs.declared.types.Asked.{Asked}
 use Rattle.cherisim_c.specs.declared.types.Halted.{Halted}

@@ -1,7 +1,7 @@
 -- What steps that are done in one call are to a run for C.
 use Rattle.std.specs.Prelude.{◌≡◌, ℕ, ◌+◌, ◌-◌, ◌<◌, ◌≤◌, false, [], ◌++◌, length, replicate, Option, None, option_to_list}
-use Rattle.hart.specs.declared.event.Event.TheVariants.{Step}
-use Rattle.hart.specs.State.{State}
+use Rattle.steps.specs.declared.event.Event.TheVariants.{Step}
+use Rattle.steps.specs.State.{State}
 use Rattle.machine.specs.Run.{run_after, run_sent}
 use Rattle.cherisim_c.specs.declared.types.Asked.{Asked}
 use Rattle.cherisim_c.specs.Running.{is_at_stop, is_tick_after, run_from, steps_in}

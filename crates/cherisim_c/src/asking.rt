@@ -1,11 +1,11 @@
 //! What the next step will do, and texts.
 
-ghost use Rattle.std.specs.Prelude.{◌≡◌, ◌⊎◌, ◌≤◌, ◌<◌, None, IfSome, IfOk, length, take, string_bytes};
+ghost use Rattle.std.specs.Prelude.{◌≡◌, ◌⊎◌, ◌≤◌, ◌<◌, [], None, IfSome, IfOk, length, take, string_bytes};
 ghost use Rattle.disassembler.specs.Shown.{shown_word};
 ghost use Rattle.explain.specs.Text.{why_text};
-ghost use Rattle.hart.specs.declared.event.Event.TheVariants.{Step};
-ghost use Rattle.hart.specs.Ends.{why_of};
-ghost use Rattle.hart.specs.Event.{outcome};
+ghost use Rattle.steps.specs.declared.event.Event.TheVariants.{Step};
+ghost use Rattle.steps.specs.Ends.{why_of};
+ghost use Rattle.steps.specs.Event.{outcome};
 ghost use Rattle.cherisim_c.specs.Status.{no_machine, no_memory, full};
 ghost use Rattle.cherisim_c.specs.Running.{end_code, code_or_zero};
 
@@ -16,6 +16,7 @@ use disassembler::disassemble;
 use explain::put_why;
 use machine::{Event, Machine};
 use std::alloc::{AllocError, Global};
+use symbols::Symbols;
 use word_cap::WordCap;
 
 /// Why the next step would end a stretch, or 0 where it would not.
@@ -38,10 +39,10 @@ pub extern "C" fn cherisim_next_ends(alloc: Global, machine: &mut Handle, why: &
 
 /// What the next step will do, and why, as a text.
 fn why_of(alloc: Global, machine: &Machine<WordCap>) -> Result<String, AllocError>
-    ensures { IfOk result (λ text. string_bytes text ≡ why_text machine.now) }
+    ensures { IfOk result (λ text. string_bytes text ≡ why_text [] machine.now) }
 {
     let mut text = String::new(alloc);
-    put_why(&mut text, machine.hart())?;
+    put_why(&mut text, &Symbols::new(alloc), machine.hart())?;
     Ok(text)
 }
 
@@ -71,9 +72,9 @@ pub extern "C" fn cherisim_why(
     ensures state { machine.new.machine ≡ machine.old.machine }
     ensures closed { machine.old.machine ≡ None → (result ≡ no_machine) × (text.new ≡ text.old) × (size.new ≡ size.old) }
     ensures memory { result ≡ no_memory → (text.new ≡ text.old) × (size.new ≡ size.old) }
-    ensures ok { IfSome machine.old.machine (λ s. result ≡ 0 → (size.new ≡ length (why_text s)) × (take size.new text.new ≡ why_text s)) }
+    ensures ok { IfSome machine.old.machine (λ s. result ≡ 0 → (size.new ≡ length (why_text [] s)) × (take size.new text.new ≡ why_text [] s)) }
     ensures full { IfSome machine.old.machine (λ s. result ≡ full
-        → (size.new ≡ length (why_text s)) × (length text.old < size.new) × (text.new ≡ text.old)) }
+        → (size.new ≡ length (why_text [] s)) × (length text.old < size.new) × (text.new ≡ text.old)) }
     ensures only { IfSome machine.old.machine (λ s. (result ≡ 0) ⊎ ((result ≡ full) ⊎ (result ≡ no_memory))) }
 {
     match machine.take(alloc) {

@@ -1,8 +1,8 @@
 //! Events, one at a time, and runs.
 
 ghost use Rattle.std.specs.Prelude.{◌≡◌, ◌-◌, ◌≤◌, Some, None, IfSome, option_map, option_to_list, length, take};
-ghost use Rattle.hart.specs.declared.event.Event.TheVariants.{Step, Tick, Byte};
-ghost use Rattle.hart.specs.Event.{after, sent as sent_at};
+ghost use Rattle.steps.specs.declared.event.Event.TheVariants.{Step, Tick, Byte};
+ghost use Rattle.steps.specs.Event.{after, sent as sent_at};
 ghost use Rattle.machine.specs.Run.{run_after, run_sent};
 ghost use Rattle.cherisim_c.specs.Status.{no_machine};
 ghost use Rattle.cherisim_c.specs.Running.{run_events, steps_in, stop_at, sent_of};

@@ -3,7 +3,7 @@
 ghost use Rattle.std.specs.Prelude.{◌≡◌, Option, Some, None};
 ghost use Rattle.std.specs.Option.{MatchOption};
 ghost use Rattle.cherisim_c.specs.Handle.{handle_owns};
-ghost use Rattle.hart.specs.State.{State};
+ghost use Rattle.steps.specs.State.{State};
 ghost use Rattle.std.specs.Coded.{codes};
 ghost use Rattle.tagged_memory.specs.Layout.{memory_code};
 

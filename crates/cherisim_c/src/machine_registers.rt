@@ -6,7 +6,7 @@ ghost use Rattle.base.specs.declared.registers.scr.TheConstants.{PCC};
 ghost use Rattle.c_types.specs.Words.{meant};
 ghost use Rattle.c_types.specs.declared.types.CheriCap.{CheriCap as Capability};
 ghost use Rattle.devices.specs.Devices.{interrupts_of};
-ghost use Rattle.hart.specs.Effect.{register_written};
+ghost use Rattle.steps.specs.Effect.{register_written};
 ghost use Rattle.registers.specs.Registers.{register};
 ghost use Rattle.hart.specs.Setting.{scr_set, csr_set};
 ghost use Rattle.special_regs.specs.CsrValues.{csr_value};

@@ -1,9 +1,9 @@
 //! Runs of steps into a buffer.
 
 ghost use Rattle.std.specs.Prelude.{◌≡◌, ℕ, ◌+◌, ◌-◌, ◌^◌, ◌<◌, ◌≤◌, ◌++◌, length, take, replicate, option_to_list, None, Some};
-ghost use Rattle.hart.specs.declared.event.Event.TheVariants.{Step};
-ghost use Rattle.hart.specs.Ends.{why_of};
-ghost use Rattle.hart.specs.State.{pc_of};
+ghost use Rattle.steps.specs.declared.event.Event.TheVariants.{Step};
+ghost use Rattle.steps.specs.Ends.{why_of};
+ghost use Rattle.steps.specs.State.{pc_of};
 ghost use Rattle.machine.specs.Run.{run_after, run_sent};
 ghost use Rattle.cherisim_c.specs.Running.{stop_at, is_at_stop, is_tick_after, tick_after, end_code, run_events, steps_in};
 ghost use Rattle.cherisim_c.specs.Walks.{WalksOn, NoTicks, GoesOnFrom};

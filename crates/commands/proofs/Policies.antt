@@ -4,10 +4,10 @@ use Rattle.std.specs.Prelude.{Option, Some, None, IfSome}
 use Rattle.std.specs.List.{HoldsAt}
 use Rattle.cap_bounds.specs.CapValue.{CapValue}
 use Rattle.reach.specs.First.{IsFirst}
-use Rattle.hart.specs.declared.event.Event.{Event}
-use Rattle.hart.specs.declared.event.Event.TheVariants.{Step, Tick, Byte}
-use Rattle.hart.specs.Event.{after}
-use Rattle.hart.specs.State.{State, pc_of}
+use Rattle.steps.specs.declared.event.Event.{Event}
+use Rattle.steps.specs.declared.event.Event.TheVariants.{Step, Tick, Byte}
+use Rattle.steps.specs.Event.{after}
+use Rattle.steps.specs.State.{State, pc_of}
 use Rattle.policy.specs.Terms.{Terms}
 use Rattle.policy.specs.Watch.{values_in}
 use Rattle.policy.specs.Lending.{in_force_after, in_force_from, next_door}

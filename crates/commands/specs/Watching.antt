@@ -4,9 +4,9 @@ use Rattle.std.specs.Prelude.{string_bytes, IsUtf8, ⊤}
 use Rattle.std.specs.Borrow.{Bor}
 use Rattle.std.specs.Io.KnownBytes.{Appends}
 use Rattle.breach_texts.specs.Text.{stopped_lines}
-use Rattle.hart.specs.declared.event.Event.{Event}
+use Rattle.steps.specs.declared.event.Event.{Event}
 use Rattle.hart.specs.Opening.{opening}
-use Rattle.hart.specs.State.{State}
+use Rattle.steps.specs.State.{State}
 use Rattle.image.specs.Grammar.{reading}
 use Rattle.image.specs.Image.{Image}
 use Rattle.machine.specs.Run.{run_after, run_sent, end_of}

@@ -1,7 +1,8 @@
 //! The command `run`, and the run without a command.
 
 ghost use Rattle.std.specs.Prelude.{◌≡◌, ◌≤◌, [], ◌∷◌, IfOk, IfSome, OnOk, is_some, string_bytes};
-ghost use Rattle.std.specs.Io.Buffered.{writer_contents};
+ghost use Rattle.std.specs.Io.Buffered.{line_writer_contents, writer_contents};
+ghost use Rattle.std.specs.Io.KnownBytes.{Keeps};
 ghost use Rattle.hart.specs.Opening.{opening};
 ghost use Rattle.machine.specs.Run.{run_after, end_of};
 ghost use Rattle.sim_run.specs.Schedule.{IsRunnable, steps_in};
@@ -14,7 +15,7 @@ ghost use Rattle.commands.specs.Running.{events_of, is_told, place_lines, stop_a
 
 use crate::fault::ProgramFault;
 use crate::files::{Folder, make_file, read_beginning, read_image};
-use crate::writing::Writing;
+use crate::writing::{UntilFailure, Writing};
 use command_line::Why;
 use image::{DeviceFailed, Image};
 use machine::{End, Machine};
@@ -23,7 +24,7 @@ use sim_run::{
     run_before, run_traced_before, stopped_lines,
 };
 use std::alloc::{AllocError, Global};
-use std::io::{BufWriter, Write};
+use std::io::{BufWriter, LineWriter, Write};
 use word_cap::WordCap;
 
 /// Where the first image begins.
@@ -128,8 +129,33 @@ fn ending<'a>(
     }
 }
 
-/// Runs a machine from its image, up to before the step of a number, where one is given; writes to `output` what it sends, and hands it
-/// back.
+/// An output that is written a line at a time.
+fn by_lines<'a, O: Write + Drop>(
+    alloc: Global,
+    output: O,
+) -> Result<LineWriter<UntilFailure<O>>, ProgramFault<'a>>
+    ensures { IfOk result (λ lines. Keeps (O.contents output) (line_writer_contents ⟦<UntilFailure<O> as Write>⟧.contents lines)) }
+{
+    match LineWriter::new(alloc, UntilFailure::new(output)) {
+        Ok(lines) => Ok(lines),
+        Err(_) => Err(ProgramFault::Memory),
+    }
+}
+
+/// The output, with what was left of its last line.
+fn whole_lines<'a, O: Write + Drop>(
+    lines: LineWriter<UntilFailure<O>>,
+) -> Result<O, ProgramFault<'a>>
+    ensures { IfOk result (λ output. Keeps (line_writer_contents ⟦<UntilFailure<O> as Write>⟧.contents lines) (O.contents output)) }
+{
+    match lines.into_inner() {
+        Ok(output) => Ok(output.into_inner()),
+        Err(_) => Err(ProgramFault::Write(DeviceFailed)),
+    }
+}
+
+/// Runs a machine from its image, up to before the step of a number, where one is given; writes to `output` what it sends, a line at a
+/// time, and hands it back.
 fn run_machine<'a, O: Write + Drop>(
     alloc: Global,
     image: &Image,
@@ -145,10 +171,10 @@ fn run_machine<'a, O: Write + Drop>(
         done.0 (O.contents output) (O.contents done.1)) }
 {
     let mut machine: ProgramMachine = Machine::new(alloc, image)?;
-    let mut sink = Writing::new(output);
+    let mut sink = Writing::new(by_lines(alloc, output)?);
     let ran = run_before(&mut machine, schedule, input, stop, &mut sink)?;
     let ended = ending(alloc, image, schedule, input, stop, quiet, &machine, ran)?;
-    Ok((ended, sink.into_inner()))
+    Ok((ended, whole_lines(sink.into_inner())?))
 }
 
 /// A new file of this name, or the one that there is, emptied, that is written in blocks.

@@ -34,6 +34,52 @@ impl<W: Write> Writing<W> {
     }
 }
 
+/// A writer that is not called again after a call of it that failed, or that wrote no byte of a piece that is not empty: so what is
+/// kept in front of it isn't tried a second time when that is dropped.
+#[derive(Drop)]
+pub struct UntilFailure<W> {
+    writer: W,
+    failed: bool,
+}
+
+impl<W: Write> UntilFailure<W> {
+    /// A writer that holds what `writer` holds.
+    pub fn new(writer: W) -> Self
+        ensures { ⟦<UntilFailure<W> as Write>⟧.contents result ≡ W.contents writer }
+    {
+        UntilFailure {
+            writer,
+            failed: false,
+        }
+    }
+
+    /// The writer.
+    pub fn into_inner(self) -> W
+        ensures { W.contents result ≡ ⟦<UntilFailure<W> as Write>⟧.contents self }
+    {
+        self.writer
+    }
+}
+
+impl<W: Write> Write for UntilFailure<W> {
+    ghost contents = { λ s. W.contents s.writer };
+
+    fn write(&mut self, bytes: &[u8]) -> io::Result<usize> {
+        if !self.failed
+            && let Ok(count) = self.writer.write(bytes)
+            && (count > 0 || bytes.is_empty())
+        {
+            return Ok(count);
+        }
+        self.failed = true;
+        Err(io::Error::from(io::ErrorKind::Other))
+    }
+
+    fn flush(&mut self) -> io::Result<()> {
+        self.writer.flush()
+    }
+}
+
 /// A writer that forgets what is written to it.
 #[derive(Drop)]
 pub struct Nowhere;

@@ -4,7 +4,7 @@ use Rattle.std.specs.Option.{unwrap_or}
 use Rattle.std.specs.Prelude.{Option, None, Some, IfSome, is_some}
 use Rattle.std.proofs.lemmas.Bool.{false≢true}
 use Rattle.hart.specs.Opening.{opening}
-use Rattle.hart.specs.State.{State}
+use Rattle.steps.specs.State.{State}
 use Rattle.machine.specs.Run.{run_after}
 use Rattle.past.proofs.InOrder.{first_events}
 use Rattle.past.specs.Given.{PastState, events_of, first_of, position_after_one, position_at, position_of, state_at}

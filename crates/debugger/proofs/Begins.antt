@@ -2,7 +2,7 @@
 use Rattle.std.proofs.Common.{◌≡◌, [], refl, sym, subst}
 use Rattle.std.specs.Prelude.{Option, Some}
 use Rattle.hart.specs.Opening.{opening}
-use Rattle.hart.specs.State.{State}
+use Rattle.steps.specs.State.{State}
 use Rattle.image.specs.Image.{Image}
 use Rattle.past.specs.Given.{PastState, past_of}
 use Rattle.past.specs.Replay.{ReplayState}

@@ -5,8 +5,8 @@ use Rattle.std.specs.Prelude.{Option, None, Some, IfSome, option_map}
 use Rattle.debug_commands.specs.declared.command.Events.{Events}
 use Rattle.debug_commands.specs.declared.command.Events.TheVariants.{Steps, Ticks, Byte, Until, Go, Changed}
 use Rattle.debug_commands.specs.declared.command.Stop.{Stop}
-use Rattle.hart.specs.State.{State}
-use Rattle.hart.specs.declared.event.Event.{Event}
+use Rattle.steps.specs.State.{State}
+use Rattle.steps.specs.declared.event.Event.{Event}
 use Rattle.machine.specs.Run.{run_after}
 use Rattle.past.specs.Given.{PastState, but_last, count_of, count_of_one}
 use Rattle.past.specs.Replay.{ReplayState}

@@ -6,9 +6,9 @@ use Rattle.std.specs.Prelude.{if◌then◌else◌, nat_lt}
 use Rattle.std.proofs.lemmas.Bool.Decides.{nat_tests}
 use Rattle.cap_bounds.specs.CapValue.{CapValue}
 use Rattle.debug_commands.specs.declared.command.Place.{Place}
-use Rattle.hart.specs.declared.event.Event.{Event}
-use Rattle.hart.specs.State.{State}
-use Rattle.hart.specs.Event.{after}
+use Rattle.steps.specs.declared.event.Event.{Event}
+use Rattle.steps.specs.State.{State}
+use Rattle.steps.specs.Event.{after}
 use Rattle.machine.specs.Run.{run_after}
 use Rattle.past.specs.Replay.{is_over}
 use Rattle.sim_run.specs.Schedule.{is_halted}

@@ -6,9 +6,9 @@ use Rattle.debug_commands.specs.declared.command.Events.{Events}
 use Rattle.debug_commands.specs.declared.command.Events.TheVariants.{Steps, Ticks, Byte, Until, Go, Changed}
 use Rattle.debug_commands.specs.declared.command.Place.{Place}
 use Rattle.debug_commands.specs.declared.command.Stop.{Stop}
-use Rattle.hart.specs.State.{State}
-use Rattle.hart.specs.declared.event.Event.{Event}
-use Rattle.hart.specs.declared.event.Event.TheVariants as event
+use Rattle.steps.specs.State.{State}
+use Rattle.steps.specs.declared.event.Event.{Event}
+use Rattle.steps.specs.declared.event.Event.TheVariants as event
 use Rattle.machine.specs.Run.{run_after, run_sent}
 use Rattle.origins.specs.Places.{held}
 use Rattle.cap_bounds.specs.CapValue.{CapValue}

@@ -7,11 +7,11 @@ use Rattle.debug_commands.specs.declared.command.Events.TheVariants.{Steps, Tick
 use Rattle.debug_commands.specs.declared.command.Stop.{Stop}
 use Rattle.std.proofs.lemmas.Bool.{true≢false}
 use Rattle.devices.specs.Devices.{received}
-use Rattle.hart.specs.Event.{after}
+use Rattle.steps.specs.Event.{after}
 use Rattle.hart.specs.Opening.{opening}
-use Rattle.hart.specs.State.{State}
-use Rattle.hart.specs.declared.event.Event.{Event}
-use Rattle.hart.specs.declared.event.Event.TheVariants as event
+use Rattle.steps.specs.State.{State}
+use Rattle.steps.specs.declared.event.Event.{Event}
+use Rattle.steps.specs.declared.event.Event.TheVariants as event
 use Rattle.machine.specs.Run.{run_after}
 use Rattle.past.proofs.InOrder.{events_of-append, position_of-append}
 use Rattle.past.specs.Given.{PastState, events_of, events_of_one, past_events, position_after_one, position_of}

@@ -9,7 +9,7 @@ use Rattle.debug_commands.specs.declared.command.Place.TheVariants as place
 use Rattle.debug_commands.specs.declared.command.Recall.{Recall}
 use Rattle.debug_commands.specs.declared.command.Recall.TheVariants.{Ago, Origin, Lost}
 use Rattle.hart.specs.Opening.{opening}
-use Rattle.hart.specs.State.{State}
+use Rattle.steps.specs.State.{State}
 use Rattle.origins.proofs.Stays.{place-stays}
 use Rattle.origins.specs.Places.{IsThere}
 use Rattle.past.specs.Given.{PastState, past_events}

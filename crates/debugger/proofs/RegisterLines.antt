@@ -2,7 +2,7 @@
 use Rattle.std.proofs.Common.{◌≡◌, ℕ, ◌+◌, ◌<◌, List, [], ◌∷◌, ◌++◌, get_or, drop, ap, sym, ◌∙◌, add-one, drop-cons, append_assoc}
 use Rattle.std.specs.Prelude.{true}
 use Rattle.std.proofs.lemmas.Option.{slice_get-get_or}
-use Rattle.hart.specs.State.{State}
+use Rattle.steps.specs.State.{State}
 use Rattle.registers.specs.Registers.{register}
 use Rattle.asm_names.specs.Registers.{capability_names, register_name}
 use Rattle.disassembler.specs.Shown.{name_or}

@@ -3,10 +3,10 @@ use Rattle.std.proofs.Common.{◌≡◌, ℕ, zero, suc, ◌+◌, ◌-◌, ◌<�
 use Rattle.std.proofs.Common.{refl, sym, ap, ◌∙◌}
 use Rattle.std.proofs.Common.{append-nil, length-append, arith}
 use Rattle.std.specs.Prelude.{Option, Some, None, if◌then◌else◌, map, option_to_list}
-use Rattle.hart.specs.declared.event.Event.{Event}
-use Rattle.hart.specs.declared.event.Event.TheVariants.{Step, Tick, Byte}
-use Rattle.hart.specs.State.{State}
-use Rattle.hart.specs.Event.{after, sent}
+use Rattle.steps.specs.declared.event.Event.{Event}
+use Rattle.steps.specs.declared.event.Event.TheVariants.{Step, Tick, Byte}
+use Rattle.steps.specs.State.{State}
+use Rattle.steps.specs.Event.{after, sent}
 use Rattle.machine.specs.Run.{run_after, run_sent}
 use Rattle.sim_run.proofs.Events.{run_after-append, run_sent-append, run_sent-brought}
 use Rattle.debug_commands.specs.declared.command.Stop.{Stop}

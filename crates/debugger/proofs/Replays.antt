@@ -2,10 +2,10 @@
 use Rattle.std.proofs.Common.{◌≡◌, ℕ, zero, suc, ◌+◌, ◌-◌, Bool, true, false, ◌&&◌, ◌||◌, List, [], ◌∷◌, ◌++◌, refl, sym, ap, ◌∙◌}
 use Rattle.std.proofs.Common.{append_assoc, append-nil, subst, arith}
 use Rattle.std.specs.Prelude.{Option, Some, None, if◌then◌else◌, length, map, not, option_to_list}
-use Rattle.hart.specs.declared.event.Event.{Event}
-use Rattle.hart.specs.declared.event.Event.TheVariants.{Step, Tick, Byte}
-use Rattle.hart.specs.State.{State}
-use Rattle.hart.specs.Event.{after, sent}
+use Rattle.steps.specs.declared.event.Event.{Event}
+use Rattle.steps.specs.declared.event.Event.TheVariants.{Step, Tick, Byte}
+use Rattle.steps.specs.State.{State}
+use Rattle.steps.specs.Event.{after, sent}
 use Rattle.machine.specs.Run.{run_after}
 use Rattle.sim_run.specs.Schedule.{byte_before, first_steps, is_halted, is_tick_after, steps_in, up_to_halt}
 use Rattle.sim_run.proofs.Events.{is_halted-brought, no_more, run_after-append, state_after}

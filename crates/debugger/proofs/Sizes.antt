@@ -9,21 +9,21 @@ use Rattle.cap_bounds.specs.CapValue.{CapValue}
 use Rattle.cap_checks.specs.Access.{stored_of}
 use Rattle.cap_checks.specs.Question.{first_false}
 use Rattle.cap_checks.specs.declared.access.Access.TheVariants as access
-use Rattle.hart.specs.AskedLaws.{access_asked-none}
-use Rattle.hart.specs.ComputeRows.{auipc_effect, capability_effect, integer_effect, mul_div_effect, written_by}
-use Rattle.hart.specs.Effect.{applied}
-use Rattle.hart.specs.Event.{after}
-use Rattle.hart.specs.Looks.{in_capability_mode, number_in}
-use Rattle.hart.specs.MemoryRows.{load_capability_done, load_done, mapped_for, place_of, store_capability_done, store_done}
-use Rattle.hart.specs.State.{State}
-use Rattle.hart.specs.Step.{asked, does, step_effect, stepped, stepped_unless}
-use Rattle.hart.specs.SystemRows.{csr_done, csr_held, csr_writes, special_done, special_held}
-use Rattle.hart.specs.declared.effect.Effect.{Effect}
-use Rattle.hart.specs.declared.effect.Effect.TheVariants.{Trap, Nothing, Write, Unseal, Store, StoreCapability, DeviceLoad, DeviceStore}
-use Rattle.hart.specs.declared.effect.Effect.TheVariants.{Jump, Link, Enter, Special, Csr, Return}
-use Rattle.hart.specs.declared.event.Event.{Event}
-use Rattle.hart.specs.declared.event.Event.TheVariants as event
-use Rattle.hart.specs.Accesses.{size_of}
+use Rattle.steps.specs.AskedLaws.{access_asked-none}
+use Rattle.steps.specs.ComputeRows.{auipc_effect, capability_effect, integer_effect, mul_div_effect, written_by}
+use Rattle.steps.specs.Effect.{applied}
+use Rattle.steps.specs.Event.{after}
+use Rattle.steps.specs.Looks.{in_capability_mode, number_in}
+use Rattle.steps.specs.MemoryRows.{load_capability_done, load_done, mapped_for, place_of, store_capability_done, store_done}
+use Rattle.steps.specs.State.{State}
+use Rattle.steps.specs.Step.{asked, does, step_effect, stepped, stepped_unless}
+use Rattle.steps.specs.SystemRows.{csr_done, csr_held, csr_writes, special_done, special_held}
+use Rattle.steps.specs.declared.effect.Effect.{Effect}
+use Rattle.steps.specs.declared.effect.Effect.TheVariants.{Trap, Nothing, Write, Unseal, Store, StoreCapability, DeviceLoad, DeviceStore}
+use Rattle.steps.specs.declared.effect.Effect.TheVariants.{Jump, Link, Enter, Special, Csr, Return}
+use Rattle.steps.specs.declared.event.Event.{Event}
+use Rattle.steps.specs.declared.event.Event.TheVariants as event
+use Rattle.steps.specs.Accesses.{size_of}
 use Rattle.isa_rows.specs.Kind.{kind_of}
 use Rattle.isa_rows.specs.declared.kinds.Kind.{Kind}
 use Rattle.isa_rows.specs.declared.kinds.Kind.TheVariants as kind

@@ -2,10 +2,10 @@
 use Rattle.std.proofs.Common.{◌≡◌, ℕ, zero, suc, ◌-◌, Bool, true, false, ◌&&◌, ◌||◌, List, [], ◌∷◌, ◌++◌, refl, sym, ap, ap₂, ◌∙◌, subst}
 use Rattle.std.proofs.Common.{append-nil}
 use Rattle.std.specs.Prelude.{Option, Some, None, if◌then◌else◌, length, map, not, option_map, option_to_list, replicate}
-use Rattle.hart.specs.declared.event.Event.{Event}
-use Rattle.hart.specs.declared.event.Event.TheVariants.{Step, Tick, Byte}
-use Rattle.hart.specs.State.{State}
-use Rattle.hart.specs.Event.{after, sent}
+use Rattle.steps.specs.declared.event.Event.{Event}
+use Rattle.steps.specs.declared.event.Event.TheVariants.{Step, Tick, Byte}
+use Rattle.steps.specs.State.{State}
+use Rattle.steps.specs.Event.{after, sent}
 use Rattle.machine.specs.Run.{run_after}
 use Rattle.sim_run.specs.Schedule.{is_halted}
 use Rattle.sim_run.proofs.Events.{run_after-append}

@@ -5,7 +5,7 @@ use Rattle.debug_commands.specs.declared.command.Events.TheVariants.{Changed}
 use Rattle.debug_commands.specs.declared.command.Recall.{Recall}
 use Rattle.debug_commands.specs.declared.command.Recall.TheVariants.{Ago, Origin, Lost}
 use Rattle.hart.specs.Opening.{opening}
-use Rattle.hart.specs.State.{State}
+use Rattle.steps.specs.State.{State}
 use Rattle.origins.specs.Places.{IsThere}
 use Rattle.past.specs.Given.{PastState, but_last, count_of}
 use Rattle.past.specs.Replay.{ReplayState}

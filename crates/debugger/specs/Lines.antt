@@ -4,7 +4,7 @@ use Rattle.cap_bounds.specs.CapValue.{CapValue}
 use Rattle.special_regs.specs.declared.csrs.Csrs.{Csrs}
 use Rattle.special_regs.specs.Scrs.{Scrs, scr_value}
 use Rattle.special_regs.specs.CsrValues.{csr_value}
-use Rattle.hart.specs.State.{State, pc_of}
+use Rattle.steps.specs.State.{State, pc_of}
 use Rattle.debug_commands.specs.declared.command.Events.{Events}
 use Rattle.debug_commands.specs.declared.command.Events.TheVariants.{Steps, Ticks, Byte, Until, Go, Changed}
 use Rattle.debug_commands.specs.declared.command.Stop.{Stop}
@@ -14,6 +14,8 @@ use Rattle.asm_names.specs.SpecialNames.{csr_name, scr_name}
 use Rattle.disassembler.specs.Hex.{hex_of}
 use Rattle.disassembler.specs.Shown.{name_or}
 use Rattle.effect_texts.specs.ValueText.{value_line}
+use Rattle.symbols.specs.Symbols.{Symbol}
+use Rattle.symbols.specs.Labels.{labelled}
 use Rattle.debugger.specs.Stepping.{is_any_stop, is_at_end, most_sent}
 use Rattle.debugger.specs.Reply.{shown_sent, shown_end}
 
@@ -43,8 +45,8 @@ spaced b = codes " " ++ hex_of 2 b
 abbrev pub given_part : ℕ → List ℕ → List ℕ
 given_part count bytes = codes "events " ++ decimal count ++ codes " out " ++ shown_sent bytes
 
-abbrev pub place_part : State → List ℕ
-place_part s = codes " pc " ++ hex_of 16 (pc_of s) ++ codes " " ++ shown_end s.devices.halted ++ codes "\n"
+abbrev pub place_part : List Symbol → State → List ℕ
+place_part symbols s = codes " pc " ++ labelled symbols (pc_of s) ++ codes " " ++ shown_end s.devices.halted ++ codes "\n"
 
 -- whether one more step is given without a schedule
 abbrev pub goes_on : List Stop → ℕ → ℕ → State → Bool

@@ -1,7 +1,7 @@
 -- What the code that runs from here on can reach, as replies: up to the next trap, unsealing or sealed jump, or through doors.
 use Rattle.std.specs.Prelude.{ℕ, List, []}
 use Rattle.symbols.specs.Symbols.{Symbol}
-use Rattle.hart.specs.State.{State}
+use Rattle.steps.specs.State.{State}
 use Rattle.debug_commands.specs.declared.command.Horizon.{Horizon}
 use Rattle.debug_commands.specs.declared.command.Horizon.TheVariants.{Stretch, Turn}
 use Rattle.debug_commands.specs.declared.command.May.{May}

@@ -9,9 +9,9 @@ use Rattle.tagged_memory.specs.Memory.{Memory, is_in_ram, bytes_at, number_at, w
 use Rattle.special_regs.specs.Scrs.{scr_values}
 use Rattle.special_regs.specs.CsrValues.{csr_values}
 use Rattle.devices.specs.Devices.{interrupts_of}
-use Rattle.hart.specs.declared.event.Event.{Event}
-use Rattle.hart.specs.declared.event.Event.TheVariants as event
-use Rattle.hart.specs.State.{State, pc_of}
+use Rattle.steps.specs.declared.event.Event.{Event}
+use Rattle.steps.specs.declared.event.Event.TheVariants as event
+use Rattle.steps.specs.State.{State, pc_of}
 use Rattle.registers.specs.Registers.{register}
 use Rattle.machine.specs.Run.{run_after, run_sent}
 use Rattle.explain.specs.Text.{why_text}
@@ -20,8 +20,10 @@ use Rattle.asm_names.specs.SpecialNames.{csr_name, scr_name}
 use Rattle.debug_commands.specs.declared.fault.DebugFault.{DebugFault}
 use Rattle.debug_commands.specs.declared.fault.DebugFault.TheVariants.{B1, B2, B3, B4}
 use Rattle.disassembler.specs.Hex.{hex_of}
-use Rattle.disassembler.specs.Shown.{name_or, word_line}
+use Rattle.disassembler.specs.Shown.{name_or}
 use Rattle.effect_texts.specs.ValueText.{value_line}
+use Rattle.effect_texts.specs.WordLine.{labelled_word}
+use Rattle.symbols.specs.Labels.{labelled}
 use Rattle.debug_commands.specs.declared.command.Stop.{Stop}
 use Rattle.debug_commands.specs.declared.command.Stop.TheVariants.{Address, Trap}
 use Rattle.debug_commands.specs.declared.command.Command.{Command}
@@ -126,10 +128,11 @@ shown_end None = codes "running"
 shown_end (Some number) = codes "halted " ++ decimal number
 
 -- how many events there were, what was sent, and where the machine stands
-abbrev pub events_line : List Event → State → List ℕ
-events_line events s =
+abbrev pub events_line : List Symbol → List Event → State → List ℕ
+events_line symbols events s =
     codes "events " ++ decimal (length events) ++ codes " out " ++ shown_sent (run_sent events s)
-    ++ codes " pc " ++ hex_of 16 (pc_of (run_after events s)) ++ codes " " ++ shown_end (run_after events s).devices.halted ++ codes "\n"
+    ++ codes " pc " ++ labelled symbols (pc_of (run_after events s)) ++ codes " " ++ shown_end (run_after events s).devices.halted
+    ++ codes "\n"
 
 -- ---- commands that go back, and that show what came before
 
@@ -153,9 +156,9 @@ abbrev pub taken_back : ℕ → TimelineState → TimelineState
 taken_back n t = taken_back_in n t.past t
 
 -- the line of so many events less, and where the machine stands
-abbrev pub back_line : ℕ → State → List ℕ
-back_line n s =
-    codes "events -" ++ decimal n ++ codes " out - pc " ++ hex_of 16 (pc_of s) ++ codes " " ++ shown_end s.devices.halted ++ codes "\n"
+abbrev pub back_line : List Symbol → ℕ → State → List ℕ
+back_line symbols n s =
+    codes "events -" ++ decimal n ++ codes " out - pc " ++ labelled symbols (pc_of s) ++ codes " " ++ shown_end s.devices.halted ++ codes "\n"
 
 abbrev pub count_line : ℕ → List ℕ
 count_line n = codes "events " ++ decimal n ++ codes "\n"
@@ -223,9 +226,10 @@ byte_lines (suc n) address bytes =
     if length bytes == 0 then [] else (byte_line address (take 16 bytes) ++ byte_lines n (address + 16) (drop 16 bytes))
 
 -- the words from an address on, one a line
-abbrev pub word_lines : Bool → Memory → ℕ → ℕ → List ℕ
-word_lines mode m zero address = []
-word_lines mode m (suc n) address = word_line mode address (number_at m address 4) ++ word_lines mode m n (address + 4)
+abbrev pub word_lines : List Symbol → Bool → Memory → ℕ → ℕ → List ℕ
+word_lines symbols mode m zero address = []
+word_lines symbols mode m (suc n) address =
+    labelled_word symbols mode address (number_at m address 4) ++ word_lines symbols mode m n (address + 4)
 
 -- ---- replies
 
@@ -257,7 +261,7 @@ stops_text stops = flat_map stop_line stops
 -- what a refusal's code means
 abbrev pub code_text : DebugFault → List ℕ
 code_text B1 = codes "B1 no such command, or no word on the line\n"
-code_text B2 = codes "B2 operands of another count, form or range, no such label, or a line too long or not ASCII\n"
+code_text B2 = codes "B2 operands of another count, form or range, no such label or past, too much to search, or a line too long or not ASCII\n"
 code_text B3 = codes "B3 some byte to be shown lies outside RAM\n"
 code_text B4 = codes "B4 no memory for the reply\n"
 
@@ -269,8 +273,8 @@ view_text symbols stops view.SpecialRegisters s = scr_lines (scr_values s.scrs)
 view_text symbols stops view.ControlRegisters s = csr_lines (csr_values s.csrs s.scrs (interrupts_of s.devices))
 view_text symbols stops view.Capabilities s = cap_lines s.memory
 view_text symbols stops (view.Memory address n) s = byte_lines n address (bytes_at s.memory address n)
-view_text symbols stops (view.Words address n) s = word_lines (value_flag s.scrs.pcc) s.memory n address
-view_text symbols stops view.Why s = why_text s
+view_text symbols stops (view.Words address n) s = word_lines symbols (value_flag s.scrs.pcc) s.memory n address
+view_text symbols stops view.Why s = why_text symbols s
 view_text symbols stops (view.Reach horizon) s = reach_reply horizon symbols s
 view_text symbols stops view.ReachMembers s = members_reply symbols s
 view_text symbols stops view.ReachGraph s = graph_reply symbols s
@@ -297,9 +301,9 @@ pub data Answer : Type 0 where
   ended : Answer
 
 abbrev pub answer_to : Command → SessionState → Answer
-answer_to (Gives events) s = told (events_line (given_in events s) s.machine)
+answer_to (Gives events) s = told (events_line s.symbols (given_in events s) s.machine)
 answer_to (Shows what) s = told (view_text s.symbols s.stops what s.machine)
-answer_to (Back n) s = told (back_line n (taken_back n (timeline_of s)).machine)
+answer_to (Back n) s = told (back_line s.symbols n (taken_back n (timeline_of s)).machine)
 answer_to (Recalls recall) s = told (recalled_in recall s.past s.replay)
 answer_to (Sets set) s = told (stops_text (stops_after set s.stops))
 answer_to Quit s = ended

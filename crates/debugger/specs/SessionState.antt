@@ -2,7 +2,7 @@
 -- stops, and what it was given since the opening state of its image, if it has one.
 use Rattle.std.specs.Prelude.{◌≡◌, ℕ, Bool, false, not, ◌&&◌, List, [], Option, Some, None, option_map}
 use Rattle.hart.specs.Opening.{opening}
-use Rattle.hart.specs.State.{State}
+use Rattle.steps.specs.State.{State}
 use Rattle.image.specs.Image.{Image}
 use Rattle.symbols.specs.Symbols.{Symbol}
 use Rattle.sim_run.specs.Schedule.{is_halted}

@@ -2,11 +2,11 @@
 use Rattle.std.specs.Prelude.{ℕ, zero, suc, ◌-◌, ◌==◌, nat_lt, Bool, true, false, not, ◌&&◌, ◌||◌, if◌then◌else◌, List, [], ◌∷◌, ◌++◌}
 use Rattle.std.specs.Prelude.{length, replicate, Option, Some, None, option_to_list}
 use Rattle.std.specs.List.{list_any}
-use Rattle.hart.specs.declared.event.Event.{Event}
-use Rattle.hart.specs.declared.event.Event.TheVariants.{Step, Tick}
-use Rattle.hart.specs.State.{State, pc_of}
-use Rattle.hart.specs.Event.{after, sent}
-use Rattle.hart.specs.Outcome.{is_trap, step_outcome}
+use Rattle.steps.specs.declared.event.Event.{Event}
+use Rattle.steps.specs.declared.event.Event.TheVariants.{Step, Tick}
+use Rattle.steps.specs.State.{State, pc_of}
+use Rattle.steps.specs.Event.{after, sent}
+use Rattle.steps.specs.Outcome.{is_trap, step_outcome}
 use Rattle.machine.specs.Run.{run_after}
 use Rattle.sim_run.specs.Schedule.{is_halted}
 use Rattle.debug_commands.specs.declared.command.Stop.{Stop}

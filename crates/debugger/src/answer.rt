@@ -74,7 +74,7 @@ fn put_code(text: &mut String, fault: DebugFault) -> Result<(), AllocError>
     let meaning = match fault {
         DebugFault::B1 => "B1 no such command, or no word on the line\n",
         DebugFault::B2 => {
-            "B2 operands of another count, form or range, no such label, or a line too long or not ASCII\n"
+            "B2 operands of another count, form or range, no such label or past, too much to search, or a line too long or not ASCII\n"
         }
         DebugFault::B3 => "B3 some byte to be shown lies outside RAM\n",
         DebugFault::B4 => "B4 no memory for the reply\n",
@@ -106,9 +106,16 @@ fn put_view<C: CapRep>(
             put_memory(text, alloc, machine.memory(), address, count)
         }
         View::Words { address, count } => {
-            put_words(text, machine.memory(), mode(machine), address, count)
+            put_words(
+                text,
+                symbols,
+                machine.memory(),
+                mode(machine),
+                address,
+                count,
+            )
         }
-        View::Why => put_why(text, machine.hart()),
+        View::Why => put_why(text, symbols, machine.hart()),
         View::Reach(horizon) => put_reach(text, alloc, symbols, machine.hart(), horizon),
         View::ReachMembers => put_reach_members(text, alloc, symbols, machine.hart()),
         View::ReachGraph => put_reach_graph(text, alloc, symbols, machine.hart()),
@@ -156,7 +163,9 @@ pub(crate) fn answer(
         ≡ session_with timeline.old symbols.now stops.old.items) }
 {
     match command {
-        Command::Gives(events) => Ok(Reply::Text(told_events(alloc, timeline, stops, events)?)),
+        Command::Gives(events) => Ok(Reply::Text(told_events(
+            alloc, timeline, symbols, stops, events,
+        )?)),
         Command::Shows(view) => Ok(Reply::Text(shown(
             alloc,
             &timeline.machine,
@@ -165,7 +174,7 @@ pub(crate) fn answer(
             view,
         )?)),
         Command::Recalls(recall) => Ok(Reply::Text(recalled(alloc, timeline, recall)?)),
-        Command::Back(events) => Ok(Reply::Text(told_back(alloc, timeline, events)?)),
+        Command::Back(events) => Ok(Reply::Text(told_back(alloc, timeline, symbols, events)?)),
         Command::Sets(set) => Ok(Reply::Text(set_stops(alloc, stops, set)?)),
         Command::Quit => Ok(Reply::Quit),
     }

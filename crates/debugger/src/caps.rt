@@ -1,7 +1,7 @@
 //! The capabilities that RAM holds, as lines of text.
 ghost use Rattle.std.specs.Prelude.{◌≡◌, ◌++◌, true, OnOk, string_bytes};
 ghost use Rattle.tagged_memory.specs.Memory.{has_tag};
-ghost use Rattle.hart.specs.State.{HoldsCapabilities};
+ghost use Rattle.steps.specs.State.{HoldsCapabilities};
 ghost use Rattle.debugger.specs.Reply.{cap_line, cap_lines};
 
 use crate::shown::put_value_line;

@@ -4,14 +4,13 @@ ghost use Rattle.std.specs.Prelude.{take, drop};
 ghost use Rattle.std.specs.List.{flat_map};
 ghost use Rattle.base.specs.Ram.{ram_base};
 ghost use Rattle.tagged_memory.specs.Memory.{is_in_ram, bytes_at, number_at};
-ghost use Rattle.disassembler.specs.Shown.{word_line as word_line_of};
 ghost use Rattle.debugger.specs.Reply.{byte_line, byte_lines, word_lines};
 ghost use Rattle.debugger.specs.Lines.{spaced};
 
 use base::Size;
-use disassembler::word_line;
-use effect_texts::{put, put_hex};
+use effect_texts::{put, put_hex, put_word_line};
 use std::alloc::{AllocError, Global};
+use symbols::Symbols;
 use tagged_memory::Memory;
 
 /// The most bytes of a line.
@@ -134,16 +133,10 @@ fn word_at(memory: &Memory, address: u64) -> u32
     memory.load(address, Size::Word) as u32
 }
 
-/// Appends a line to a text: an address, a word, and its text in a mode.
-fn put_word_line(text: &mut String, mode: bool, address: u64, word: u32) -> Result<(), AllocError>
-    ensures { OnOk result (string_bytes text.new ≡ string_bytes text.old ++ word_line_of mode address word) }
-{
-    put(text, word_line(address, word, mode).as_str())
-}
-
-/// Appends the lines of so many words from an address to a text.
+/// Appends the lines of so many words from an address, with their labels, to a text.
 fn put_words_from(
     text: &mut String,
+    symbols: &Symbols,
     memory: &Memory,
     mode: bool,
     address: u64,
@@ -153,20 +146,21 @@ fn put_words_from(
     requires low { ram_base ≤ address }
     requires high { address + 4 * count ≤ ram_base + length memory.now.bytes }
     requires fits { address + 4 * count < 2 ^ 64 }
-    ensures { OnOk result (string_bytes text.new ≡ string_bytes text.old ++ word_lines mode memory.now count address) }
+    ensures { OnOk result (string_bytes text.new ≡ string_bytes text.old ++ word_lines symbols.now mode memory.now count address) }
 {
     if count == 0 {
         return Ok(());
     }
-    put_word_line(text, mode, address, word_at(memory, address))?;
-    put_words_from(text, memory, mode, address + 4, count - 1)?;
+    put_word_line(text, symbols, address, word_at(memory, address), mode)?;
+    put_words_from(text, symbols, memory, mode, address + 4, count - 1)?;
     Ok(())
 }
 
-/// Appends the lines of so many words from an address to a text.
+/// Appends the lines of so many words from an address, with their labels, to a text.
 #[tactic(auto, unfolding(tagged_memory::specs::Memory::is_in_ram))]
 pub(crate) fn put_words(
     text: &mut String,
+    symbols: &Symbols,
     memory: &Memory,
     mode: bool,
     address: u64,
@@ -174,8 +168,8 @@ pub(crate) fn put_words(
 ) -> Result<(), AllocError>
     requires aligned { address % 4 ≡ 0 }
     requires in_ram { IsTrue (is_in_ram memory.now address (4 * count)) }
-    ensures { OnOk result (string_bytes text.new ≡ string_bytes text.old ++ word_lines mode memory.now count address) }
+    ensures { OnOk result (string_bytes text.new ≡ string_bytes text.old ++ word_lines symbols.now mode memory.now count address) }
 {
     let _pages = memory.pages();
-    put_words_from(text, memory, mode, address, count)
+    put_words_from(text, symbols, memory, mode, address, count)
 }

@@ -18,6 +18,7 @@ use machine::Machine;
 use origin_texts::{put_lost, put_origin};
 use past::{Past, Replay};
 use std::alloc::{AllocError, Global};
+use symbols::Symbols;
 use word_cap::WordCap;
 
 /// The most events that a search goes through.
@@ -93,15 +94,16 @@ pub(crate) fn recalled(
 /// Appends the line of so many events less, and where a machine stands.
 fn put_back<C: CapRep>(
     text: &mut String,
+    symbols: &Symbols,
     machine: &Machine<C>,
     events: u64,
 ) -> Result<(), AllocError>
-    ensures { OnOk result (string_bytes text.new ≡ string_bytes text.old ++ back_line events machine.now) }
+    ensures { OnOk result (string_bytes text.new ≡ string_bytes text.old ++ back_line symbols.now events machine.now) }
 {
     put(text, "events -")?;
     put_decimal(text, events)?;
     put(text, " out -")?;
-    put_place(text, machine)
+    put_place(text, symbols, machine)
 }
 
 /// Takes the parts of a timeline back to where they stood before the last events, and appends the line that tells of it. Where there is no
@@ -109,6 +111,7 @@ fn put_back<C: CapRep>(
 fn take_back(
     text: &mut String,
     alloc: Global,
+    symbols: &Symbols,
     machine: &mut Machine<WordCap>,
     replay: &mut Option<Replay>,
     owed: &mut bool,
@@ -116,7 +119,7 @@ fn take_back(
     events: u64,
 ) -> Result<(), AllocError>
     requires { events ≤ count_of past.old.given }
-    ensures text { OnOk result (string_bytes text.new ≡ string_bytes text.old ++ back_line events machine.new) }
+    ensures text { OnOk result (string_bytes text.new ≡ string_bytes text.old ++ back_line symbols.now events machine.new) }
     ensures state { OnOk result (timeline machine.new replay.new owed.new (Some past.new)
         ≡ taken_back events (timeline machine.old replay.old owed.old (Some past.old))) }
     ensures stands { OnOk result (HasItsPast (timeline machine.new replay.new owed.new (Some past.new))) }
@@ -127,7 +130,7 @@ fn take_back(
     let Ok((then, player)) = past.machine_at(alloc, replay.as_ref(), left) else {
         return Err(AllocError);
     };
-    put_back(text, &then, events)?;
+    put_back(text, symbols, &then, events)?;
     let (done, brought, is_owed) = (player.done(), player.brought(), player.owed());
     if let Some(replay) = replay {
         replay.stand_at(done, brought);
@@ -142,10 +145,11 @@ fn take_back(
 pub(crate) fn told_back(
     alloc: Global,
     timeline: &mut Timeline<WordCap>,
+    symbols: &Symbols,
     events: u64,
 ) -> Result<String, DebugFault>
     requires { is_beyond (Back events) timeline.old.past ≡ false }
-    ensures text { IfOk result (λ text. string_bytes text ≡ back_line events (taken_back events timeline.old).machine) }
+    ensures text { IfOk result (λ text. string_bytes text ≡ back_line symbols.now events (taken_back events timeline.old).machine) }
     ensures state { OnOk result (timeline.new ≡ taken_back events timeline.old) }
     ensures err { IfErr result (λ fault. fault ≡ DebugFault.B4) }
     ensures same { OnErr result (timeline.new ≡ timeline.old) }
@@ -157,6 +161,7 @@ pub(crate) fn told_back(
     take_back(
         &mut text,
         alloc,
+        symbols,
         &mut timeline.machine,
         &mut timeline.replay,
         &mut timeline.owed,

@@ -3,7 +3,7 @@ ghost use Rattle.std.specs.Prelude.{◌≡◌, ◌+◌, ◌-◌, ◌*◌, ◌^�
 ghost use Rattle.std.specs.Prelude.{vec_len, false};
 ghost use Rattle.std.specs.Prelude.{string_bytes, string_len, string_capacity, option_map, vec_capacity};
 ghost use Rattle.std.specs.List.{flat_map};
-ghost use Rattle.hart.specs.declared.event.Event.TheVariants.{Step};
+ghost use Rattle.steps.specs.declared.event.Event.TheVariants.{Step};
 ghost use Rattle.machine.specs.Run.{run_after, run_sent};
 ghost use Rattle.disassembler.specs.Hex.{hex_of};
 ghost use Rattle.debugger.specs.Reply.{after_events, events_line, given, given_of, given_on, own_steps, owed_after, replay_after};
@@ -21,13 +21,14 @@ use crate::stepping::{pass, pc, steps_while};
 use crate::timeline::Timeline;
 use cap_bounds::CapRep;
 use debug_commands::{DebugFault, Events, Stop};
-use effect_texts::{put, put_decimal, put_hex};
+use effect_texts::{put, put_decimal, put_hex, put_labelled};
 use machine::{Event, Machine, emit};
 use past::{Given, Past, Replay};
 use std::alloc::{AllocError, Global};
+use symbols::Symbols;
 
 /// The bytes that a line of events has at most, besides two for each byte that was sent.
-const LINE_ROOM: usize = 200;
+const LINE_ROOM: usize = 480;
 
 /// Gives an event so many times, and appends what is sent to the other bytes, for which there is room.
 fn repeat<C: CapRep>(machine: &mut Machine<C>, event: Event, times: u64, sent: &mut Vec<u8>)
@@ -368,13 +369,14 @@ fn put_given(text: &mut String, count: u64, sent: &[u8]) -> Result<(), AllocErro
 /// Appends where a machine stands to a text.
 pub(crate) fn put_place<C: CapRep>(
     text: &mut String,
+    symbols: &Symbols,
     machine: &Machine<C>,
 ) -> Result<(), AllocError>
-    ensures bytes { OnOk result (string_bytes text.new ≡ string_bytes text.old ++ place_part machine.now) }
-    ensures full { OnErr result (string_capacity text.old < string_len text.old + 80) }
+    ensures bytes { OnOk result (string_bytes text.new ≡ string_bytes text.old ++ place_part symbols.now machine.now) }
+    ensures full { OnErr result (string_capacity text.old < string_len text.old + 360) }
 {
     put(text, " pc ")?;
-    put_hex(text, 16, u128::from(pc(machine)))?;
+    put_labelled(text, symbols, pc(machine))?;
     put(text, " ")?;
     put_end(text, machine.halted())?;
     put(text, "\n")
@@ -383,15 +385,17 @@ pub(crate) fn put_place<C: CapRep>(
 /// Appends the line that tells of so many events and of what they sent to a text.
 fn put_run_line<C: CapRep>(
     text: &mut String,
+    symbols: &Symbols,
     machine: &Machine<C>,
     count: u64,
     sent: &[u8],
 ) -> Result<(), AllocError>
-    ensures bytes { OnOk result (string_bytes text.new ≡ string_bytes text.old ++ (given_part count sent.now ++ place_part machine.now)) }
-    ensures full { OnErr result (string_capacity text.old < string_len text.old + 2 * length sent.now + 200) }
+    ensures bytes { OnOk result (string_bytes text.new
+        ≡ string_bytes text.old ++ (given_part count sent.now ++ place_part symbols.now machine.now)) }
+    ensures full { OnErr result (string_capacity text.old < string_len text.old + 2 * length sent.now + 480) }
 {
     put_given(text, count, sent)?;
-    put_place(text, machine)
+    put_place(text, symbols, machine)
 }
 
 /// Gives the events of a command, and answers the line that tells of them.
@@ -401,13 +405,14 @@ fn put_run_line<C: CapRep>(
 pub(crate) fn told_events<C: CapRep>(
     alloc: Global,
     timeline: &mut Timeline<C>,
+    symbols: &Symbols,
     stops: &[Stop],
     events: Events,
 ) -> Result<String, DebugFault>
     requires limits { AreWithinLimits events }
     requires there { IsChangeThere events timeline.old.machine }
     ensures text { IfOk result (λ text. string_bytes text
-        ≡ events_line (given_on events stops.now timeline.old) timeline.old.machine) }
+        ≡ events_line symbols.now (given_on events stops.now timeline.old) timeline.old.machine) }
     ensures state { OnOk result (timeline.new ≡ after_events events (given_on events stops.now timeline.old) timeline.old) }
     ensures err { IfErr result (λ fault. fault ≡ DebugFault.B4) }
     ensures same { OnErr result (timeline.new ≡ timeline.old) }
@@ -416,7 +421,7 @@ pub(crate) fn told_events<C: CapRep>(
     let mut sent = Vec::with_capacity(alloc, most)?;
     let mut text = String::with_capacity(alloc, 2 * most + LINE_ROOM)?;
     let count = give_all(timeline, stops, events, &mut sent)?;
-    match put_run_line(&mut text, &timeline.machine, count, &sent) {
+    match put_run_line(&mut text, symbols, &timeline.machine, count, &sent) {
         Ok(()) => Ok(text),
         Err(_) => unreachable!(),
     }

@@ -2,7 +2,7 @@
 ghost use Rattle.std.specs.Prelude.{◌≡◌, ℕ, ◌+◌, false, true, All, List};
 ghost use Rattle.debug_commands.specs.declared.command.Command.TheVariants.{Gives};
 ghost use Rattle.debug_commands.specs.declared.command.Events.{Events};
-ghost use Rattle.hart.specs.State.{State};
+ghost use Rattle.steps.specs.State.{State};
 ghost use Rattle.machine.specs.Run.{run_after};
 ghost use Rattle.sim_run.specs.declared.schedule.Schedule.{Schedule};
 ghost use Rattle.sim_run.specs.Schedule.{first_steps, is_halted, steps_in, up_to_halt};

@@ -2,11 +2,11 @@
 ghost use Rattle.std.specs.Prelude.{◌≡◌, ◌+◌, ◌-◌, ◌*◌, ◌<◌, ◌≤◌, ◌++◌, length, option_map, option_to_list, vec_len, vec_capacity};
 ghost use Rattle.std.specs.Prelude.{[], ◌∷◌, ◌&&◌, not, if◌then◌else◌, true, false, IfSome, IfNone, OnSome, None, Some};
 ghost use Rattle.special_regs.specs.Scrs.{scr_value};
-ghost use Rattle.hart.specs.declared.event.Event.TheVariants.{Step, Tick};
-ghost use Rattle.hart.specs.Event.{sent as sent_at};
-ghost use Rattle.hart.specs.State.{pc_of};
-ghost use Rattle.hart.specs.Applying.{meant, IsPlanned};
-ghost use Rattle.hart.specs.Outcome.{is_trap, outcome_of};
+ghost use Rattle.steps.specs.declared.event.Event.TheVariants.{Step, Tick};
+ghost use Rattle.steps.specs.Event.{sent as sent_at};
+ghost use Rattle.steps.specs.State.{pc_of};
+ghost use Rattle.steps.specs.Applying.{meant, IsPlanned};
+ghost use Rattle.steps.specs.Outcome.{is_trap, outcome_of};
 ghost use Rattle.machine.specs.Run.{run_after, run_sent};
 ghost use Rattle.sim_run.specs.Schedule.{is_halted};
 ghost use Rattle.debugger.specs.Stepping.{is_any_stop, is_at_end, is_stop, step_events};
@@ -16,9 +16,9 @@ ghost use Rattle.debugger.specs.Lines.{goes_on};
 
 use cap_bounds::CapRep;
 use debug_commands::Stop;
-use hart::Effect;
 use machine::{Event, Machine, Planned};
 use past::Replay;
+use steps::Effect;
 
 /// The number of PCC.
 const PCC: u8 = 0;
@@ -32,7 +32,7 @@ pub(crate) fn pc<C: CapRep>(machine: &Machine<C>) -> u64
 }
 
 /// Whether an effect is a trap.
-#[tactic(auto, unfolding(hart::specs::Outcome::outcome_of))]
+#[tactic(auto, unfolding(steps::specs::Outcome::outcome_of))]
 fn is_trap_effect<C: CapRep>(effect: &Effect<C>) -> bool
     ensures { result ≡ is_trap (outcome_of (meant C.value effect.now)) }
 {
@@ -40,7 +40,7 @@ fn is_trap_effect<C: CapRep>(effect: &Effect<C>) -> bool
 }
 
 /// Whether a machine that isn't halted, and whose next step was planned, is where steps stop.
-#[tactic(auto, unfolding(hart::specs::Outcome::step_outcome))]
+#[tactic(auto, unfolding(steps::specs::Outcome::step_outcome))]
 fn is_stop<C: CapRep>(machine: &Machine<C>, stop: Stop, planned: &Planned<C>) -> bool
     requires planned { IsPlanned C.value planned.now.effect machine.now }
     requires running { machine.now.devices.halted ≡ None }

@@ -10,14 +10,14 @@ use Rattle.cap_rights.specs.DerivedLaws.{derived-self, derived-at_address, deriv
 use Rattle.cap_rights.specs.Opened.{opened}
 use Rattle.special_regs.specs.Traps.{is_sentry, sentry_opened, aligned, target}
 use Rattle.registers.specs.Registers.{register, with_register}
-use Rattle.hart.specs.declared.effect.Effect.{Effect}
-use Rattle.hart.specs.declared.effect.Effect.TheVariants as effect
-use Rattle.hart.specs.declared.effect.Enter.{Enter}
-use Rattle.hart.specs.Effect.{applied}
-use Rattle.hart.specs.JumpRows.{sentry_link}
-use Rattle.hart.specs.Looks.{next_of}
-use Rattle.hart.specs.Outcome.{Plain, Unseal, SealedJump, sealed_jump_if, outcome_of}
-use Rattle.hart.specs.State.{State}
+use Rattle.steps.specs.declared.effect.Effect.{Effect}
+use Rattle.steps.specs.declared.effect.Effect.TheVariants as effect
+use Rattle.steps.specs.declared.effect.Enter.{Enter}
+use Rattle.steps.specs.Effect.{applied}
+use Rattle.steps.specs.JumpRows.{sentry_link}
+use Rattle.steps.specs.Looks.{next_of}
+use Rattle.steps.specs.Outcome.{Plain, Unseal, SealedJump, sealed_jump_if, outcome_of}
+use Rattle.steps.specs.State.{State}
 use Rattle.authority.specs.Authority.{HasSystem, SameScrs, LeavesAlone}
 use Rattle.authority.specs.Derives.{Derives}
 use Rattle.authority.specs.Reachable.{IsRoot, in_register, in_pcc, in_ddc, IsSpecial, in_mtcc, in_mtdc, in_mscratchc, in_mepcc, IsHeldAt}

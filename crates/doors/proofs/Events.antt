@@ -4,14 +4,14 @@ use Rattle.std.proofs.Common.{ap, ◌∙◌, subst, ◌⊎◌, inl, inr, append_
 use Rattle.std.proofs.lemmas.Bool.{cases_lt}
 use Rattle.std.proofs.lemmas.List.{append-nil, take_more}
 use Rattle.std.specs.Prelude.{option_to_list}
-use Rattle.hart.specs.declared.ends.Why.{Why}
-use Rattle.hart.specs.declared.ends.Why.TheVariants as why
-use Rattle.hart.specs.declared.event.Event.{Event}
-use Rattle.hart.specs.Ends.{why_of}
-use Rattle.hart.specs.Event.{after, sent, outcome}
-use Rattle.hart.specs.IsState.{IsState}
-use Rattle.hart.specs.Outcome.{Outcome, Plain, Trap, Unseal, SealedJump}
-use Rattle.hart.specs.State.{State}
+use Rattle.steps.specs.declared.ends.Why.{Why}
+use Rattle.steps.specs.declared.ends.Why.TheVariants as why
+use Rattle.steps.specs.declared.event.Event.{Event}
+use Rattle.steps.specs.Ends.{why_of}
+use Rattle.steps.specs.Event.{after, sent, outcome}
+use Rattle.steps.specs.IsState.{IsState}
+use Rattle.steps.specs.Outcome.{Outcome, Plain, Trap, Unseal, SealedJump}
+use Rattle.steps.specs.State.{State}
 use Rattle.machine.specs.Run.{run_after, run_sent}
 use Rattle.machine.specs.Stretch.{EndsBefore}
 use Rattle.machine.proofs.Runs.{rest}

@@ -22,22 +22,22 @@ use Rattle.isa_rows.specs.declared.rows.Row.TheVariants.{CUnseal}
 use Rattle.isa_rows.specs.Decoded.{insn_of}
 use Rattle.isa_rows.specs.Kind.{kind_of}
 use Rattle.registers.specs.Registers.{register}
-use Rattle.hart.specs.Accesses.{size_of}
-use Rattle.hart.specs.ComputeRows.{integer_effect, mul_div_effect, written_by, capability_effect, auipc_effect}
-use Rattle.hart.specs.declared.effect.Effect.{Effect}
-use Rattle.hart.specs.declared.effect.Effect.TheVariants as effect
-use Rattle.hart.specs.declared.effect.CsrWrite.{CsrWrite}
-use Rattle.hart.specs.declared.effect.DeviceLoad.{DeviceLoad}
-use Rattle.hart.specs.declared.effect.Enter.{Enter}
-use Rattle.hart.specs.declared.effect.SpecialWrite.{SpecialWrite}
-use Rattle.hart.specs.declared.effect.Store.{Store}
-use Rattle.hart.specs.JumpRows.{sentry_link, branch_done, link_asked, link_done, jal_target, enter_asked, enter_done}
-use Rattle.hart.specs.JumpRows.{jalr_target, jalr_asked, jalr_done, invoke_asked, invoke_done}
-use Rattle.hart.specs.Looks.{number_in, in_capability_mode, unless_fault, where_all}
-use Rattle.hart.specs.MemoryRows.{place_of, authority_of, load_done, store_done, load_capability_done, store_capability_done}
-use Rattle.hart.specs.State.{State}
-use Rattle.hart.specs.Step.{asked, does, kind_effect, fetch, decoded_effect, fetched_effect, decided, step_effect}
-use Rattle.hart.specs.SystemRows.{csr_held, csr_done, special_held, special_done, return_done}
+use Rattle.steps.specs.Accesses.{size_of}
+use Rattle.steps.specs.ComputeRows.{integer_effect, mul_div_effect, written_by, capability_effect, auipc_effect}
+use Rattle.steps.specs.declared.effect.Effect.{Effect}
+use Rattle.steps.specs.declared.effect.Effect.TheVariants as effect
+use Rattle.steps.specs.declared.effect.CsrWrite.{CsrWrite}
+use Rattle.steps.specs.declared.effect.DeviceLoad.{DeviceLoad}
+use Rattle.steps.specs.declared.effect.Enter.{Enter}
+use Rattle.steps.specs.declared.effect.SpecialWrite.{SpecialWrite}
+use Rattle.steps.specs.declared.effect.Store.{Store}
+use Rattle.steps.specs.JumpRows.{sentry_link, branch_done, link_asked, link_done, jal_target, enter_asked, enter_done}
+use Rattle.steps.specs.JumpRows.{jalr_target, jalr_asked, jalr_done, invoke_asked, invoke_done}
+use Rattle.steps.specs.Looks.{number_in, in_capability_mode, unless_fault, where_all}
+use Rattle.steps.specs.MemoryRows.{place_of, authority_of, load_done, store_done, load_capability_done, store_capability_done}
+use Rattle.steps.specs.State.{State}
+use Rattle.steps.specs.Step.{asked, does, kind_effect, fetch, decoded_effect, fetched_effect, decided, step_effect}
+use Rattle.steps.specs.SystemRows.{csr_held, csr_done, special_held, special_done, return_done}
 use Rattle.doors.specs.Closed.{IsPair}
 
 -- a jump to the capability in a register, which is a sentry

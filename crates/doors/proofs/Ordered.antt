@@ -15,7 +15,7 @@ use Rattle.cap_rights.specs.Permission.{permits}
 use Rattle.cap_rights.specs.declared.permission.Permission.TheVariants.{CInvoke, Seal}
 use Rattle.cap_rights.specs.Rights.{OpensType}
 use Rattle.cap_checks.specs.FirstFault.{invoke_fault}
-use Rattle.hart.specs.State.{State}
+use Rattle.steps.specs.State.{State}
 use Rattle.reached.specs.declared.member.Member.{Member}
 use Rattle.reached.specs.declared.member.Place.{Place}
 use Rattle.reached.specs.declared.member.Place.TheVariants.{Root, Special, Granule}

@@ -11,7 +11,7 @@ use Rattle.std.specs.List.{Contains}
 use Rattle.cap_bounds.specs.CapValue.{CapValue, is_tagged}
 use Rattle.cap_rights.specs.Opened.{opened}
 use Rattle.tagged_memory.specs.Memory.{Memory}
-use Rattle.hart.specs.State.{State}
+use Rattle.steps.specs.State.{State}
 use Rattle.reached.specs.declared.member.Member.{Member}
 use Rattle.reached.specs.declared.member.Place.{Place}
 use Rattle.reached.specs.declared.member.Place.TheVariants.{Root, Special, Granule}

@@ -5,14 +5,14 @@ use Rattle.std.proofs.lemmas.List.{append-nil}
 use Rattle.std.specs.Prelude.{option_to_list}
 use Rattle.cap_bounds.specs.CapValue.{CapValue}
 use Rattle.devices.specs.Devices.{transmit}
-use Rattle.hart.specs.declared.event.Event.{Event}
-use Rattle.hart.specs.declared.event.Event.TheVariants.{Step, Tick, Byte}
-use Rattle.hart.specs.Event.{after, sent, outcome}
-use Rattle.hart.specs.EventLaws.{step_effect-sound, IsState-after}
-use Rattle.hart.specs.IsState.{IsState}
-use Rattle.hart.specs.Outcome.{Plain, SealedJump, step_outcome_unless, step_outcome}
-use Rattle.hart.specs.State.{State}
-use Rattle.hart.specs.Step.{step_effect, stepped_unless, stepped}
+use Rattle.steps.specs.declared.event.Event.{Event}
+use Rattle.steps.specs.declared.event.Event.TheVariants.{Step, Tick, Byte}
+use Rattle.steps.specs.Event.{after, sent, outcome}
+use Rattle.steps.specs.EventLaws.{step_effect-sound, IsState-after}
+use Rattle.steps.specs.IsState.{IsState}
+use Rattle.steps.specs.Outcome.{Plain, SealedJump, step_outcome_unless, step_outcome}
+use Rattle.steps.specs.State.{State}
+use Rattle.steps.specs.Step.{step_effect, stepped_unless, stepped}
 use Rattle.authority.specs.Authority.{LeavesAlone}
 use Rattle.authority.specs.EffectLaws.{effect-framed}
 use Rattle.authority.specs.FrameLaws.{framed-by, registers-same, scrs-same, memory-same}

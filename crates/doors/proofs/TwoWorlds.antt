@@ -7,14 +7,14 @@ use Rattle.base.specs.Ram.{ram_base}
 use Rattle.cap_bounds.specs.CapValue.{CapValue}
 use Rattle.cap_rights.specs.RightsLaws.{OpensByte-outer, OpensGranule-outer}
 use Rattle.devices.specs.Devices.{Devices, ticked, received}
-use Rattle.hart.specs.declared.event.Event.{Event}
-use Rattle.hart.specs.declared.event.Event.TheVariants.{Step, Tick, Byte}
-use Rattle.hart.specs.Event.{after, sent, outcome}
-use Rattle.hart.specs.EventLaws.{IsState-after}
-use Rattle.hart.specs.IsState.{IsState}
-use Rattle.hart.specs.Outcome.{is_trap}
-use Rattle.hart.specs.State.{State}
-use Rattle.hart.specs.Step.{stepped}
+use Rattle.steps.specs.declared.event.Event.{Event}
+use Rattle.steps.specs.declared.event.Event.TheVariants.{Step, Tick, Byte}
+use Rattle.steps.specs.Event.{after, sent, outcome}
+use Rattle.steps.specs.EventLaws.{IsState-after}
+use Rattle.steps.specs.IsState.{IsState}
+use Rattle.steps.specs.Outcome.{is_trap}
+use Rattle.steps.specs.State.{State}
+use Rattle.steps.specs.Step.{stepped}
 use Rattle.authority.specs.AgreeLaws.{looks-agree}
 use Rattle.authority.specs.Authority.{Not}
 use Rattle.authority.specs.Changes.{IsChangedAlike, ChangesAlike}

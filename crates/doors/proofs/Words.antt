@@ -1,7 +1,7 @@
 -- Over what is reachable, the words over a set say what *authority* says.
 use Rattle.std.proofs.Common.{ℕ, List}
 use Rattle.cap_bounds.specs.CapValue.{CapValue}
-use Rattle.hart.specs.State.{State}
+use Rattle.steps.specs.State.{State}
 use Rattle.authority.specs.Authority.{NoNewRights, IsSealAllowed, held, sentry, sealed_by, NewSealsAllowed, IsWritable}
 use Rattle.authority.specs.Authority.{HasSystem, LeavesAlone, IsSilent}
 use Rattle.authority.specs.Reachable.{IsReachable, from_root, from_special, from_granule}

@@ -7,7 +7,7 @@ use Rattle.cap_rights.specs.Permission.{permits}
 use Rattle.cap_rights.specs.declared.permission.Permission.TheVariants.{CInvoke}
 use Rattle.cap_rights.specs.Rights.{OpensSystem, OpensGranule, OpensType}
 use Rattle.cap_checks.specs.FirstFault.{invoke_fault}
-use Rattle.hart.specs.State.{State}
+use Rattle.steps.specs.State.{State}
 use Rattle.authority.specs.Reachable.{IsRoot, IsSpecial, IsHeldAt}
 use Rattle.doors.specs.Sets.{IsCoveredBy, IsSealAllowedBy}
 

@@ -4,7 +4,7 @@ use Rattle.std.specs.Prelude.{◌≡◌, ℕ, true, List}
 use Rattle.cap_bounds.specs.CapValue.{CapValue, is_tagged}
 use Rattle.cap_rights.specs.Opened.{opened}
 use Rattle.cap_rights.specs.Rights.{OpensSystem, OpensGranule}
-use Rattle.hart.specs.State.{State}
+use Rattle.steps.specs.State.{State}
 use Rattle.authority.specs.Reachable.{IsRoot, IsSpecial, IsHeldAt}
 use Rattle.doors.specs.Sets.{NoRightsBeyond, NoSealsBeyond, LeavesAloneBeyond, IsSilentBeyond}
 use Rattle.doors.specs.Closed.{IsOpenedBy}

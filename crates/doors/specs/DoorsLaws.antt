@@ -6,7 +6,7 @@ use Rattle.cap_bounds.specs.CapValue.{CapValue, is_tagged, value_otype}
 use Rattle.cap_rights.specs.Opened.{opened}
 use Rattle.cap_rights.specs.Rights.{OpensType}
 use Rattle.cap_rights.specs.RightsLaws.{OpensSystem-outer, OpensGranule-outer, OpensType-outer}
-use Rattle.hart.specs.State.{State}
+use Rattle.steps.specs.State.{State}
 use Rattle.authority.specs.Reachable.{IsReachable}
 use Rattle.doors.specs.Sets.{IsSealAllowedBy, as_member, as_sentry, by_member}
 use Rattle.doors.specs.Closed.{IsClosed, IsGroundedBy, Bounds, IsPair, IsOpenedBy, entry, as_code, as_data, own_seal, HasDoors}

@@ -2,7 +2,7 @@
 use Rattle.std.specs.Prelude.{List, [], ◌∷◌, ◌++◌}
 use Rattle.cap_bounds.specs.CapValue.{CapValue}
 use Rattle.special_regs.specs.Scrs.{Scrs}
-use Rattle.hart.specs.State.{State}
+use Rattle.steps.specs.State.{State}
 
 -- where a search begins: the 32 registers, PCC and DDC
 abbrev pub roots_of : State → List CapValue

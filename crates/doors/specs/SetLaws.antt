@@ -9,7 +9,7 @@ use Rattle.cap_rights.specs.Rights.{IsInRightsOf}
 use Rattle.cap_rights.specs.RightsLaws.{IsInRightsOf-refl, IsInRightsOf-trans, OpensSystem-outer, OpensGranule-outer, OpensStore-outer}
 use Rattle.cap_rights.specs.RightsLaws.{OpensType-outer}
 use Rattle.cap_rights.specs.Within.{IsWithin}
-use Rattle.hart.specs.State.{State}
+use Rattle.steps.specs.State.{State}
 use Rattle.authority.specs.Authority.{IsSealAllowed, held, sentry, sealed_by, IsWritable, HasSystem, LeavesAlone}
 use Rattle.authority.specs.Reachable.{IsReachable, from_root, from_special, from_granule}
 use Rattle.authority.specs.Grounded.{IsGrounded, IsFramed}

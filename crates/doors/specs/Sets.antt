@@ -6,7 +6,7 @@ use Rattle.cap_bounds.specs.CapValue.{CapValue, is_sealed, value_otype}
 use Rattle.cap_rights.specs.Rights.{IsInRightsOf, OpensSystem, OpensStore, OpensType}
 use Rattle.tagged_memory.specs.Memory.{Memory, has_tag}
 use Rattle.devices.specs.Devices.{Devices, halt, timer_compare, control_register, transmit}
-use Rattle.hart.specs.State.{State}
+use Rattle.steps.specs.State.{State}
 use Rattle.authority.specs.Authority.{Not, SameScrs, SameCsrs}
 use Rattle.authority.specs.Reachable.{IsReachable}
 

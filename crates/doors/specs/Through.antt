@@ -3,7 +3,7 @@ use Rattle.std.specs.Prelude.{◌≡◌, ◌≢◌, ℕ, ◌<◌, List, ◌++◌
 use Rattle.base.specs.ObjectType.{sentry_type}
 use Rattle.cap_bounds.specs.CapValue.{CapValue, value_otype}
 use Rattle.cap_rights.specs.Opened.{opened}
-use Rattle.hart.specs.State.{State}
+use Rattle.steps.specs.State.{State}
 use Rattle.reached.specs.declared.member.Member.{Member}
 use Rattle.reached.specs.declared.member.Place.{Place}
 use Rattle.reached.specs.declared.member.Place.TheVariants.{Root, Special, Granule}

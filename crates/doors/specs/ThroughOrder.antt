@@ -9,7 +9,7 @@ use Rattle.cap_rights.specs.Opened.{opened}
 use Rattle.cap_rights.specs.Permission.{permits}
 use Rattle.cap_rights.specs.declared.permission.Permission.TheVariants.{CInvoke, Seal}
 use Rattle.cap_checks.specs.FirstFault.{invoke_fault}
-use Rattle.hart.specs.State.{State}
+use Rattle.steps.specs.State.{State}
 use Rattle.reached.specs.declared.member.Place.{Place}
 use Rattle.reached.specs.Order.{Found, is_same_place, members_of}
 use Rattle.doors.specs.declared.through.Door.{Door}

@@ -1,12 +1,12 @@
 -- Turns: runs that go on through sealed jumps, up to the end of the list or to the first event that traps or unseals.
 use Rattle.std.specs.Prelude.{◌≡◌, List, [], ◌∷◌, ◌⊎◌, Option, None, Some}
-use Rattle.hart.specs.declared.ends.Why.{Why}
-use Rattle.hart.specs.declared.ends.Why.TheVariants as why
-use Rattle.hart.specs.declared.event.Event.{Event}
-use Rattle.hart.specs.Event.{after, outcome}
-use Rattle.hart.specs.IsState.{IsState}
-use Rattle.hart.specs.Outcome.{Outcome, Plain, Trap, Unseal, SealedJump}
-use Rattle.hart.specs.State.{State}
+use Rattle.steps.specs.declared.ends.Why.{Why}
+use Rattle.steps.specs.declared.ends.Why.TheVariants as why
+use Rattle.steps.specs.declared.event.Event.{Event}
+use Rattle.steps.specs.Event.{after, outcome}
+use Rattle.steps.specs.IsState.{IsState}
+use Rattle.steps.specs.Outcome.{Outcome, Plain, Trap, Unseal, SealedJump}
+use Rattle.steps.specs.State.{State}
 use Rattle.machine.specs.Stretch.{AreEvents}
 
 -- an outcome that ends a turn, as the reason

@@ -5,9 +5,9 @@ use Rattle.base.specs.Ram.{ram_base}
 use Rattle.cap_bounds.specs.CapValue.{CapValue}
 use Rattle.cap_rights.specs.Rights.{OpensByte, OpensGranule}
 use Rattle.tagged_memory.specs.Memory.{Memory, has_tag}
-use Rattle.hart.specs.declared.ends.Why.{Why}
-use Rattle.hart.specs.declared.event.Event.{Event}
-use Rattle.hart.specs.State.{State}
+use Rattle.steps.specs.declared.ends.Why.{Why}
+use Rattle.steps.specs.declared.event.Event.{Event}
+use Rattle.steps.specs.State.{State}
 use Rattle.authority.specs.Authority.{SameScrs}
 use Rattle.machine.specs.Run.{run_after, run_sent}
 use Rattle.machine.specs.Stretch.{EndsBefore}

@@ -3,11 +3,11 @@
 
 ghost use Rattle.std.specs.Prelude.{◌≡◌, ◌↔◌, ℕ, List, take};
 ghost use Rattle.cap_bounds.specs.CapValue.{CapValue};
-ghost use Rattle.hart.specs.declared.event.Event.{Event};
-ghost use Rattle.hart.specs.Event.{after, outcome};
-ghost use Rattle.hart.specs.IsState.{IsState};
-ghost use Rattle.hart.specs.Outcome.{Plain, SealedJump};
-ghost use Rattle.hart.specs.State.{State};
+ghost use Rattle.steps.specs.declared.event.Event.{Event};
+ghost use Rattle.steps.specs.Event.{after, outcome};
+ghost use Rattle.steps.specs.IsState.{IsState};
+ghost use Rattle.steps.specs.Outcome.{Plain, SealedJump};
+ghost use Rattle.steps.specs.State.{State};
 ghost use Rattle.authority.specs.Authority.{NoNewRights, NewSealsAllowed, LeavesAlone, IsSilent};
 ghost use Rattle.authority.specs.Reachable.{IsReachable};
 ghost use Rattle.machine.specs.Run.{run_after, run_sent};

@@ -1,5 +1,5 @@
 ghost use Rattle.cap_bounds.specs.CapValue.{CapValue};
-ghost use Rattle.hart.specs.State.{State};
+ghost use Rattle.steps.specs.State.{State};
 
 /// A set of capabilities for each state, over which the laws of `laws` hold. A type that has one has nothing else.
 pub trait CapSet {

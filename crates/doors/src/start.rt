@@ -1,6 +1,6 @@
 //! Where a search of a state begins.
 ghost use Rattle.std.specs.Prelude.{◌≡◌, map, IfOk};
-ghost use Rattle.hart.specs.IsState.{IsState};
+ghost use Rattle.steps.specs.IsState.{IsState};
 ghost use Rattle.doors.specs.Roots.{roots_of, specials_of};
 
 use cap_bounds::CapRep;

@@ -2,12 +2,12 @@
 
 ghost use Rattle.std.specs.Prelude.{◌≡◌, ◌≢◌, ℕ, ◌+◌, ◌≤◌, ◌++◌, length, take, drop, vec_len, vec_capacity, IsOk, IfOk, IfErr, OnOk, OnErr};
 ghost use Rattle.std.specs.Prelude.{None, Some};
-ghost use Rattle.hart.specs.Applying.{meant, IsPlanned};
-ghost use Rattle.hart.specs.declared.event.Event.TheVariants.{Step};
-ghost use Rattle.hart.specs.Event.{after, outcome, sent};
-ghost use Rattle.hart.specs.IsState.{IsState};
-ghost use Rattle.hart.specs.Outcome.{outcome_of, step_outcome};
-ghost use Rattle.hart.specs.State.{State};
+ghost use Rattle.steps.specs.Applying.{meant, IsPlanned};
+ghost use Rattle.steps.specs.declared.event.Event.TheVariants.{Step};
+ghost use Rattle.steps.specs.Event.{after, outcome, sent};
+ghost use Rattle.steps.specs.IsState.{IsState};
+ghost use Rattle.steps.specs.Outcome.{outcome_of, step_outcome};
+ghost use Rattle.steps.specs.State.{State};
 ghost use Rattle.machine.specs.Run.{run_after, run_sent};
 ghost use Rattle.machine.specs.Stretch.{EndsBefore};
 ghost use Rattle.doors.specs.Doors.{NoNewRightsThroughDoors, NewSealsAllowedThroughDoors, LeavesAloneThroughDoors, IsSilentThroughDoors};
@@ -15,8 +15,8 @@ ghost use Rattle.doors.specs.Turn.{turn_why_of, ArePlainOrJumps};
 ghost use Rattle.doors.specs.Worlds.{AgreeThroughDoors, IsSameTurn};
 
 use cap_bounds::CapRep;
-use hart::Effect;
 use machine::{Event, Machine, MachineFault, Out, Planned, Why, emit};
+use steps::Effect;
 
 /// How far a turn went.
 #[derive(Clone, Copy, Debug, PartialEq, Eq)]
@@ -29,7 +29,7 @@ pub struct Turn {
 
 /// Why an effect ends a turn, or `None` where it does not.
 #[inline]
-#[tactic(auto, unfolding(hart::specs::Outcome::outcome_of))]
+#[tactic(auto, unfolding(steps::specs::Outcome::outcome_of))]
 fn ends<C: CapRep>(effect: &Effect<C>) -> Option<Why>
     ensures { result ≡ turn_why_of (outcome_of (meant C.value effect.now)) }
 {
@@ -42,7 +42,7 @@ fn ends<C: CapRep>(effect: &Effect<C>) -> Option<Why>
 
 /// The same of a step that was planned. A machine that is halted ignores it.
 #[inline]
-#[tactic(auto, unfolding(hart::specs::Outcome::step_outcome))]
+#[tactic(auto, unfolding(steps::specs::Outcome::step_outcome))]
 fn step_ends<C: CapRep>(machine: &Machine<C>, planned: &Planned<C>) -> Option<Why>
     requires { IsPlanned C.value planned.now.effect machine.now }
     ensures { result ≡ turn_why_of (step_outcome machine.now) }

@@ -2,11 +2,11 @@
 
 ghost use Rattle.std.specs.Prelude.{◌≡◌, ◌↔◌, ℕ, ◌+◌, false, List, slice_set};
 ghost use Rattle.base.specs.Ram.{ram_base};
-ghost use Rattle.hart.specs.declared.event.Event.{Event};
-ghost use Rattle.hart.specs.Event.{after, outcome};
-ghost use Rattle.hart.specs.IsState.{IsState};
-ghost use Rattle.hart.specs.Outcome.{is_trap};
-ghost use Rattle.hart.specs.State.{State};
+ghost use Rattle.steps.specs.declared.event.Event.{Event};
+ghost use Rattle.steps.specs.Event.{after, outcome};
+ghost use Rattle.steps.specs.IsState.{IsState};
+ghost use Rattle.steps.specs.Outcome.{is_trap};
+ghost use Rattle.steps.specs.State.{State};
 ghost use Rattle.authority.specs.Authority.{Not};
 ghost use Rattle.authority.specs.Reachable.{IsReachable};
 ghost use Rattle.authority.specs.Worlds.{Agree};

@@ -14,10 +14,12 @@ use Rattle.asm_names.specs.SpecialNames.{csr_name, scr_name}
 use Rattle.disassembler.specs.Hex.{hex_of}
 use Rattle.disassembler.specs.Shown.{name_or}
 use Rattle.trap_texts.specs.Names.{cause_name, cheri_cause_name, register_at_fault}
-use Rattle.hart.specs.declared.effect.Effect.{Effect}
-use Rattle.hart.specs.declared.effect.Effect.TheVariants.{Trap, Nothing, Write, Unseal, Store, StoreCapability, DeviceLoad, DeviceStore}
-use Rattle.hart.specs.declared.effect.Effect.TheVariants.{Jump, Link, Enter, Special, Csr, Return}
-use Rattle.hart.specs.declared.effect.Store.{Store as Stored}
+use Rattle.steps.specs.declared.effect.Effect.{Effect}
+use Rattle.steps.specs.declared.effect.Effect.TheVariants.{Trap, Nothing, Write, Unseal, Store, StoreCapability, DeviceLoad, DeviceStore}
+use Rattle.steps.specs.declared.effect.Effect.TheVariants.{Jump, Link, Enter, Special, Csr, Return}
+use Rattle.steps.specs.declared.effect.Store.{Store as Stored}
+use Rattle.symbols.specs.Symbols.{Symbol}
+use Rattle.symbols.specs.Labels.{labelled}
 use Rattle.effect_texts.specs.ValueText.{shown_value}
 
 -- ---- traps
@@ -81,33 +83,34 @@ shown_size Word = codes "4 bytes"
 shown_size Double = codes "8 bytes"
 
 -- the bytes that are stored, as one number, the last byte first
-abbrev pub store_part : Stored → List ℕ
-store_part w =
-    codes "store " ++ shown_size w.size ++ codes " at " ++ hex_of 16 w.address ++ codes ": " ++ hex_of (2 * bytes_of w.size) w.number
+abbrev pub store_part : List Symbol → Stored → List ℕ
+store_part symbols w =
+    codes "store " ++ shown_size w.size ++ codes " at " ++ labelled symbols w.address ++ codes ": "
+    ++ hex_of (2 * bytes_of w.size) w.number
 
 -- ---- all effects
 
-abbrev pub jump_part : ℕ → List ℕ
-jump_part target = codes "jump to " ++ hex_of 16 target
+abbrev pub jump_part : List Symbol → ℕ → List ℕ
+jump_part symbols target = codes "jump to " ++ labelled symbols target
 
 abbrev pub return_part : Bool → List ℕ
 return_part sealed = if sealed then codes "return from trap through a sentry" else codes "return from trap"
 
 -- Registers have the value that an instruction gives them. PCC, where all of it changes, is shown as it becomes; else only its address
--- does. Of a number written to a control and status register it keeps the bits that it has.
-unfoldable pub effect_text : Effect CapValue → List ℕ
-effect_text (Trap fault) = trap_entry fault
-effect_text Nothing = codes "nothing"
-effect_text (Write w) = written_or (codes "nothing") w.rd w.value
-effect_text (Unseal w) = written_or (codes "nothing") w.rd w.value
-effect_text (Store w) = store_part w
-effect_text (StoreCapability w) = codes "store capability at " ++ hex_of 16 w.address ++ codes ": " ++ shown_value w.value
-effect_text (DeviceLoad l) = written_or (codes "load") l.rd l.value ++ codes " from device " ++ hex_of 16 l.address
-effect_text (DeviceStore w) = codes "device " ++ store_part w
-effect_text (Jump target) = jump_part target
-effect_text (Link l) = written_first l.rd l.link ++ jump_part l.target
-effect_text (Enter e) =
-    written_first e.rd e.link ++ jump_part e.target ++ codes ", " ++ value_part (codes "pcc") (at_address e.code e.target)
-effect_text (Special w) = written_first w.rd w.old ++ value_part (shown_special w.number) w.value
-effect_text (Csr w) = written_first w.rd w.old ++ shown_csr w.number ++ codes " = " ++ hex_of 16 w.value
-effect_text (Return sealed) = return_part sealed
+-- does. Of a number written to a control and status register it keeps the bits that it has. After an address stands its label.
+unfoldable pub effect_text : List Symbol → Effect CapValue → List ℕ
+effect_text symbols (Trap fault) = trap_entry fault
+effect_text symbols Nothing = codes "nothing"
+effect_text symbols (Write w) = written_or (codes "nothing") w.rd w.value
+effect_text symbols (Unseal w) = written_or (codes "nothing") w.rd w.value
+effect_text symbols (Store w) = store_part symbols w
+effect_text symbols (StoreCapability w) = codes "store capability at " ++ labelled symbols w.address ++ codes ": " ++ shown_value w.value
+effect_text symbols (DeviceLoad l) = written_or (codes "load") l.rd l.value ++ codes " from device " ++ labelled symbols l.address
+effect_text symbols (DeviceStore w) = codes "device " ++ store_part symbols w
+effect_text symbols (Jump target) = jump_part symbols target
+effect_text symbols (Link l) = written_first l.rd l.link ++ jump_part symbols l.target
+effect_text symbols (Enter e) =
+    written_first e.rd e.link ++ jump_part symbols e.target ++ codes ", " ++ value_part (codes "pcc") (at_address e.code e.target)
+effect_text symbols (Special w) = written_first w.rd w.old ++ value_part (shown_special w.number) w.value
+effect_text symbols (Csr w) = written_first w.rd w.old ++ shown_csr w.number ++ codes " = " ++ hex_of 16 w.value
+effect_text symbols (Return sealed) = return_part sealed

@@ -2,3 +2,4 @@
 pub mod ValueText
 pub mod EffectText
 pub mod TraceLine
+pub mod WordLine

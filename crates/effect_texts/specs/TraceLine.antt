@@ -1,14 +1,14 @@
 -- A line of a trace: the step's number, PCC's address, the word of the instruction there and its text in PCC's mode, and what the step
 -- comes to: `1 0000000080000000 10000597 auipc a1, 0x10000: ca1 = v:0 a:..`.
-use Rattle.std.specs.Prelude.{ℕ, ◌^◌, Bool, false, not, nat_lt, if◌then◌else◌, List, ◌++◌, Result, Ok, Err, codes, decimal}
+use Rattle.std.specs.Prelude.{ℕ, ◌^◌, Bool, false, not, nat_lt, if◌then◌else◌, List, [], ◌++◌, Result, Ok, Err, codes, decimal}
 use Rattle.base.specs.declared.fault.Fault.{Fault}
 use Rattle.cap_bounds.specs.CapValue.{CapValue, value_flag}
 use Rattle.disassembler.specs.Hex.{hex_of}
 use Rattle.disassembler.specs.Shown.{shown_word}
-use Rattle.hart.specs.declared.effect.Effect.{Effect}
-use Rattle.hart.specs.declared.effect.Effect.TheVariants.{Trap}
-use Rattle.hart.specs.State.{State, pc_of}
-use Rattle.hart.specs.Step.{fetch, step_effect}
+use Rattle.steps.specs.declared.effect.Effect.{Effect}
+use Rattle.steps.specs.declared.effect.Effect.TheVariants.{Trap}
+use Rattle.steps.specs.State.{State, pc_of}
+use Rattle.steps.specs.Step.{fetch, step_effect}
 use Rattle.effect_texts.specs.EffectText.{effect_text}
 
 -- whether an effect is an interrupt that is taken: bit 63 of mcause
@@ -28,5 +28,5 @@ step_word s = if is_interrupt (step_effect s) then codes "-" else word_part (val
 -- the line of the next step of a machine that is not halted, with the step's number
 abbrev pub trace_line : ℕ → State → List ℕ
 trace_line number s =
-    decimal number ++ codes " " ++ hex_of 16 (pc_of s) ++ codes " " ++ step_word s ++ codes ": " ++ effect_text (step_effect s)
+    decimal number ++ codes " " ++ hex_of 16 (pc_of s) ++ codes " " ++ step_word s ++ codes ": " ++ effect_text [] (step_effect s)
     ++ codes "\n"

@@ -7,9 +7,11 @@ mod strings;
 mod text;
 mod trap;
 mod value;
+mod word;
 
 pub use effect::{effect_text, size_text};
 pub use line::{Line, trace_line};
-pub use strings::{put, put_decimal, put_hex};
+pub use strings::{put, put_decimal, put_hex, put_labelled};
 pub use text::Text;
 pub use value::value_text;
+pub use word::put_word_line;

@@ -1,8 +1,8 @@
 //! A line of a trace.
 ghost use Rattle.std.specs.Prelude.{◌≡◌, ◌+◌, ◌<◌, ◌≤◌, ◌++◌};
 ghost use Rattle.arrayvec.specs.ArrayString.{array_string_len};
-ghost use Rattle.hart.specs.Applying.{meant, IsPlanned};
-ghost use Rattle.hart.specs.Step.{step_effect};
+ghost use Rattle.steps.specs.Applying.{meant, IsPlanned};
+ghost use Rattle.steps.specs.Step.{step_effect};
 ghost use Rattle.effect_texts.specs.TraceLine as spec;
 
 use crate::effect::effect_text;
@@ -10,11 +10,12 @@ use arrayvec::ArrayString;
 use base::interrupt;
 use cap_bounds::CapRep;
 use disassembler::{disassemble, hex_digits};
-use hart::{Effect, Hart, Planned};
+use hart::{Hart, Planned};
 use itoa::Buffer;
+use steps::Effect;
 
 /// The text of a line.
-pub type Line = ArrayString<384>;
+pub type Line = ArrayString<640>;
 
 /// Whether an effect is an interrupt that is taken.
 fn is_interrupt<C: CapRep>(effect: &Effect<C>) -> bool
@@ -30,7 +31,7 @@ fn is_interrupt<C: CapRep>(effect: &Effect<C>) -> bool
 #[tactic(auto, unfolding(crate::specs::TraceLine::step_word))]
 fn put_word<C: CapRep>(line: &mut Line, hart: &Hart<C>, effect: &Effect<C>)
     requires effect { meant C.value effect.now ≡ step_effect hart.now }
-    requires room { array_string_len line.old + 80 ≤ 384 }
+    requires room { array_string_len line.old + 80 ≤ 640 }
     ensures text { line.new.bytes ≡ line.old.bytes ++ spec.step_word hart.now }
     ensures within { array_string_len line.new ≤ array_string_len line.old + 80 }
 {
@@ -62,7 +63,7 @@ pub fn trace_line<C: CapRep>(number: u64, hart: &Hart<C>, planned: &Planned<C>) 
     line.push_str(" ");
     put_word(&mut line, hart, &planned.effect);
     line.push_str(": ");
-    line.push_str(effect_text(&planned.effect).as_str());
+    line.push_str(effect_text(None, &planned.effect).as_str());
     line.push_str("\n");
     line
 }

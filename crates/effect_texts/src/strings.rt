@@ -1,10 +1,12 @@
 //! Texts and numbers appended to a string.
 ghost use Rattle.std.specs.Prelude.{◌≡◌, ◌+◌, ◌<◌, ◌≤◌, ◌++◌, length, OnOk, OnErr, string_bytes, string_len, string_capacity, decimal};
 ghost use Rattle.disassembler.specs.Hex.{hex_of};
+ghost use Rattle.symbols.specs.Labels.{labelled};
 
 use disassembler::hex_digits;
 use itoa::Buffer;
 use std::alloc::AllocError;
+use symbols::Symbols;
 
 /// Appends the lowest `width` hexadecimal digits of a number, at most 17, to a string.
 ///
@@ -35,6 +37,22 @@ pub fn put_decimal(text: &mut String, n: u64) -> Result<(), AllocError>
 {
     let mut buffer = Buffer::new();
     text.push_str(buffer.format(n))
+}
+
+/// Appends an address and its label to a string: 294 bytes at most.
+///
+/// # Errors
+///
+/// Out of memory.
+#[tactic(auto, unfolding(symbols::specs::Labels::labelled))]
+pub fn put_labelled(text: &mut String, symbols: &Symbols, address: u64) -> Result<(), AllocError>
+    ensures bytes { OnOk result (string_bytes text.new ≡ string_bytes text.old ++ labelled symbols.now address) }
+    ensures len { OnOk result (string_len text.new ≤ string_len text.old + 294) }
+    ensures capacity { string_capacity text.old ≤ string_capacity text.new }
+    ensures full { OnErr result (string_capacity text.old < string_len text.old + 294) }
+{
+    put_hex(text, 16, u128::from(address))?;
+    put(text, symbols.label_of(address).as_str())
 }
 
 /// Appends a text to a string.

@@ -11,7 +11,7 @@ use trap_texts::{cause_name, cheri_cause_name, register_at_fault};
 /// Appends a cause's name, where it has one, to a text.
 #[tactic(auto, using(trap_texts::specs::LengthLaws::cause_name_short))]
 fn put_cause(text: &mut Text, mcause: u64)
-    requires { array_string_len text.old + 32 ≤ 256 }
+    requires { array_string_len text.old + 32 ≤ 544 }
     ensures text { text.new.bytes ≡ text.old.bytes ++ cause_part (cause_name_of mcause) }
     ensures within { array_string_len text.new ≤ array_string_len text.old + 32 }
 {
@@ -24,7 +24,7 @@ fn put_cause(text: &mut Text, mcause: u64)
 /// Appends what a capability forbids and at which register to a text, where the trap is a CHERI exception and both have names.
 #[tactic(auto, using(trap_texts::specs::LengthLaws::cheri_cause_name_short, trap_texts::specs::LengthLaws::register_at_fault_short))]
 fn put_violation(text: &mut Text, fault: Fault)
-    requires { array_string_len text.old + 66 ≤ 256 }
+    requires { array_string_len text.old + 66 ≤ 544 }
     ensures text { text.new.bytes ≡ text.old.bytes ++ violation_part fault }
     ensures within { array_string_len text.new ≤ array_string_len text.old + 66 }
 {
@@ -48,7 +48,7 @@ fn put_violation(text: &mut Text, fault: Fault)
 /// Appends whether an exception traps or an interrupt is taken to a text.
 #[tactic(auto, unfolding(crate::specs::EffectText::taken))]
 fn put_taken(text: &mut Text, mcause: u64)
-    requires { array_string_len text.old + 5 ≤ 256 }
+    requires { array_string_len text.old + 5 ≤ 544 }
     ensures text { text.new.bytes ≡ text.old.bytes ++ taken mcause }
     ensures within { array_string_len text.new ≤ array_string_len text.old + 5 }
 {
@@ -61,7 +61,7 @@ fn put_taken(text: &mut Text, mcause: u64)
 
 /// Appends a trap to a text.
 pub(crate) fn put_trap(text: &mut Text, fault: Fault)
-    requires { array_string_len text.old + 160 ≤ 256 }
+    requires { array_string_len text.old + 160 ≤ 544 }
     ensures text { text.new.bytes ≡ text.old.bytes ++ trap_entry fault }
     ensures within { array_string_len text.new ≤ array_string_len text.old + 160 }
 {

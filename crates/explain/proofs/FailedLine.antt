@@ -12,18 +12,19 @@ use Rattle.special_regs.specs.declared.interrupts.Interrupt.{Interrupt}
 use Rattle.isa_rows.specs.declared.operands.Insn.{Insn}
 use Rattle.isa_rows.specs.Kind.{kind_of}
 use Rattle.isa_rows.specs.Decoded.{insn_of}
-use Rattle.hart.specs.State.{State}
-use Rattle.hart.specs.Step.{asked, fetch_asked, fetch, word_unless}
+use Rattle.steps.specs.State.{State}
+use Rattle.symbols.specs.Symbols.{Symbol}
+use Rattle.steps.specs.Step.{asked, fetch_asked, fetch, word_unless}
 use Rattle.explain.specs.Asked.{all_conditions, stages_of, stages_unless, word_stages}
 use Rattle.explain.specs.Text.{condition_line, failed_line, false_line}
 
 -- conditions that hold are passed over
-all-hold : (s : State) (cs rest : List Condition) → first_false cs ≡ None → false_line s (cs ++ rest) ≡ false_line s rest
-all-hold s [] rest none = refl
-all-hold s (c ∷ cs) rest none =
+all-hold : (symbols : List Symbol) (s : State) (cs rest : List Condition) → first_false cs ≡ None → false_line symbols s (cs ++ rest) ≡ false_line symbols s rest
+all-hold symbols s [] rest none = refl
+all-hold symbols s (c ∷ cs) rest none =
     elim c.holds as (λ b. (if b then first_false cs else Some (fault_of c.question)) ≡ None
-    → (if b then false_line s (cs ++ rest) else condition_line s c) ≡ false_line s rest)
-    [ true ↦ λ e. all-hold s cs rest e | false ↦ λ e. cc ] none
+    → (if b then false_line symbols s (cs ++ rest) else condition_line symbols s c) ≡ false_line symbols s rest)
+    [ true ↦ λ e. all-hold symbols s cs rest e | false ↦ λ e. cc ] none
 
 fetched : (f : Option Fault) (s : State) (word : ℕ) → word_unless f s ≡ Ok word → f ≡ None
 fetched None s word e = refl
@@ -34,26 +35,26 @@ none-is None e = refl
 none-is (Some x) e = cc
 
 -- a word that is an instruction
-pub failed-insn : (word : ℕ) (s : State) (insn : Insn) → insn_of word ≡ Some insn
-    → false_line s (asked (kind_of insn.row) word insn s) ≡ false_line s (all_conditions (word_stages (insn_of word) word s))
-failed-insn word s insn some = rw some (ap (false_line s) (sym (append-nil (asked (kind_of insn.row) word insn s))))
+pub failed-insn : (symbols : List Symbol) (word : ℕ) (s : State) (insn : Insn) → insn_of word ≡ Some insn
+    → false_line symbols s (asked (kind_of insn.row) word insn s) ≡ false_line symbols s (all_conditions (word_stages (insn_of word) word s))
+failed-insn symbols word s insn some = rw some (ap (false_line symbols s) (sym (append-nil (asked (kind_of insn.row) word insn s))))
 
 -- and a word of no row
-pub failed-none : (word : ℕ) (s : State) → insn_of word ≡ None
-    → condition_line s (asks (Instruction word) false) ≡ false_line s (all_conditions (word_stages (insn_of word) word s))
-failed-none word s none = rw none refl
+pub failed-none : (symbols : List Symbol) (word : ℕ) (s : State) → insn_of word ≡ None
+    → condition_line symbols s (asks (Instruction word) false) ≡ false_line symbols s (all_conditions (word_stages (insn_of word) word s))
+failed-none symbols word s none = rw none refl
 
-module _ (s : State) (running : is_some (pending s.csrs (interrupts_of s.devices)) ≡ false) where
+module _ (symbols : List Symbol) (s : State) (running : is_some (pending s.csrs (interrupts_of s.devices)) ≡ false) where
   pub failed-word : (word : ℕ) → fetch s ≡ Ok word
-      → false_line s (all_conditions (word_stages (insn_of word) word s)) ≡ failed_line s
+      → false_line symbols s (all_conditions (word_stages (insn_of word) word s)) ≡ failed_line symbols s
   unfolding failed_line stages_of
   failed-word word is =
       rw (none-is (pending s.csrs (interrupts_of s.devices)) running, is)
-      (sym (all-hold s (fetch_asked s) (all_conditions (word_stages (insn_of word) word s))
+      (sym (all-hold symbols s (fetch_asked s) (all_conditions (word_stages (insn_of word) word s))
       (fetched (first_false (fetch_asked s)) s word is)))
 
-  pub failed-fetch : (fault : Fault) → fetch s ≡ Err fault → false_line s (fetch_asked s) ≡ failed_line s
+  pub failed-fetch : (fault : Fault) → fetch s ≡ Err fault → false_line symbols s (fetch_asked s) ≡ failed_line symbols s
   unfolding failed_line stages_of
   failed-fetch fault is =
       rw (none-is (pending s.csrs (interrupts_of s.devices)) running, is)
-      (ap (false_line s) (sym (append-nil (fetch_asked s))))
+      (ap (false_line symbols s) (sym (append-nil (fetch_asked s))))

@@ -11,14 +11,15 @@ use Rattle.base.specs.declared.size.Size.{Size}
 use Rattle.cap_checks.specs.declared.question.Condition.{Condition}
 use Rattle.cap_checks.specs.declared.question.Question.{Question}
 use Rattle.cap_checks.specs.declared.question.Question.TheVariants.{Right, Bounds, Multiple, Ram, RamOrDevice, Instruction, SystemRegister}
-use Rattle.disassembler.specs.Hex.{hex_of}
+use Rattle.symbols.specs.Symbols.{Symbol}
+use Rattle.symbols.specs.Labels.{labelled}
 use Rattle.devices.specs.Devices.{interrupts_of}
 use Rattle.special_regs.specs.Interrupts.{pending}
 use Rattle.isa_rows.specs.declared.operands.Insn.{Insn}
 use Rattle.isa_rows.specs.Kind.{kind_of}
 use Rattle.isa_rows.specs.Decoded.{insn_of}
-use Rattle.hart.specs.State.{State, pc_of}
-use Rattle.hart.specs.Step.{asked, fetch_asked, fetch}
+use Rattle.steps.specs.State.{State, pc_of}
+use Rattle.steps.specs.Step.{asked, fetch_asked, fetch}
 use Rattle.explain.specs.Asked.{decoding, word_stages, stages_of}
 use Rattle.explain.specs.Text.{place_text, stage_text, stages_text, capability_line, capability_lines}
 
@@ -53,54 +54,54 @@ none-is : {T : Type 0} (o : Option T) → is_some o ≡ false → o ≡ None
 none-is None e = refl
 none-is (Some x) e = cc
 
-module _ (word : ℕ) (s : State) (old between new : List ℕ) (found : Option Insn) (holds : Bool) (same : found ≡ insn_of word)
-    (is : holds ≡ is_some found) (first : between ≡ old ++ stage_text s (decoding holds word)) where
+module _ (symbols : List Symbol) (word : ℕ) (s : State) (old between new : List ℕ) (found : Option Insn) (holds : Bool) (same : found ≡ insn_of word)
+    (is : holds ≡ is_some found) (first : between ≡ old ++ stage_text symbols s (decoding holds word)) where
   pub shown-insn : (insn : Insn) (conditions : List Condition) → found ≡ Some insn
-      → conditions ≡ asked (kind_of insn.row) word insn s → new ≡ between ++ stage_text s conditions
-      → new ≡ old ++ flat_map (stage_text s) (word_stages (insn_of word) word s)
+      → conditions ≡ asked (kind_of insn.row) word insn s → new ≡ between ++ stage_text symbols s conditions
+      → new ≡ old ++ flat_map (stage_text symbols s) (word_stages (insn_of word) word s)
   shown-insn insn conditions some lists last =
       let here : insn_of word ≡ Some insn = sym same ∙ some in
       rw here
-      (two_texts (stage_text s) old (decoding true word) between new (asked (kind_of insn.row) word insn s)
-      (first ∙ ap (λ b. old ++ stage_text s (decoding b word)) (is ∙ ap is_some some))
-      (last ∙ ap (λ l. between ++ stage_text s l) lists))
+      (two_texts (stage_text symbols s) old (decoding true word) between new (asked (kind_of insn.row) word insn s)
+      (first ∙ ap (λ b. old ++ stage_text symbols s (decoding b word)) (is ∙ ap is_some some))
+      (last ∙ ap (λ l. between ++ stage_text symbols s l) lists))
 
-  pub shown-word : found ≡ None → new ≡ between ++ [] → new ≡ old ++ flat_map (stage_text s) (word_stages (insn_of word) word s)
+  pub shown-word : found ≡ None → new ≡ between ++ [] → new ≡ old ++ flat_map (stage_text symbols s) (word_stages (insn_of word) word s)
   shown-word none last =
       let here : insn_of word ≡ None = sym same ∙ none in
       rw here
-      (one_text (stage_text s) old (decoding false word) new
-      (last ∙ append-nil between ∙ first ∙ ap (λ b. old ++ stage_text s (decoding b word)) (is ∙ ap is_some none)))
+      (one_text (stage_text symbols s) old (decoding false word) new
+      (last ∙ append-nil between ∙ first ∙ ap (λ b. old ++ stage_text symbols s (decoding b word)) (is ∙ ap is_some none)))
 
-module _ (s : State) (old between new : List ℕ) (conditions : List Condition)
+module _ (symbols : List Symbol) (s : State) (old between new : List ℕ) (conditions : List Condition)
     (running : is_some (pending s.csrs (interrupts_of s.devices)) ≡ false)
-    (lists : conditions ≡ fetch_asked s) (first : between ≡ old ++ stage_text s conditions) where
-  fetch-shown : between ≡ old ++ stage_text s (fetch_asked s)
-  fetch-shown = first ∙ ap (λ l. old ++ stage_text s l) lists
+    (lists : conditions ≡ fetch_asked s) (first : between ≡ old ++ stage_text symbols s conditions) where
+  fetch-shown : between ≡ old ++ stage_text symbols s (fetch_asked s)
+  fetch-shown = first ∙ ap (λ l. old ++ stage_text symbols s l) lists
 
-  pub stages-shown : (word : ℕ) → fetch s ≡ Ok word → new ≡ between ++ flat_map (stage_text s) (word_stages (insn_of word) word s)
-      → new ≡ old ++ stages_text s
+  pub stages-shown : (word : ℕ) → fetch s ≡ Ok word → new ≡ between ++ flat_map (stage_text symbols s) (word_stages (insn_of word) word s)
+      → new ≡ old ++ stages_text symbols s
   unfolding stages_text stages_of
   stages-shown word fetched last =
       rw (none-is (pending s.csrs (interrupts_of s.devices)) running, fetched)
-      (text_more (stage_text s) old (fetch_asked s) between new (word_stages (insn_of word) word s) fetch-shown last)
+      (text_more (stage_text symbols s) old (fetch_asked s) between new (word_stages (insn_of word) word s) fetch-shown last)
 
-  pub fetch-alone : (fault : Fault) → fetch s ≡ Err fault → new ≡ between ++ [] → new ≡ old ++ stages_text s
+  pub fetch-alone : (fault : Fault) → fetch s ≡ Err fault → new ≡ between ++ [] → new ≡ old ++ stages_text symbols s
   unfolding stages_text stages_of
   fetch-alone fault refused last =
       rw (none-is (pending s.csrs (interrupts_of s.devices)) running, refused)
-      (one_text (stage_text s) old (fetch_asked s) new (last ∙ append-nil between ∙ fetch-shown))
+      (one_text (stage_text symbols s) old (fetch_asked s) new (last ∙ append-nil between ∙ fetch-shown))
 
-pub other-place : (invokes : Bool) (last : Question) (s : State)
+pub other-place : (symbols : List Symbol) (invokes : Bool) (last : Question) (s : State)
     → ((otherwise : Cause) (address size : ℕ) → last ≡ Multiple otherwise address size → ⊥)
     → ((otherwise : Cause) (address : ℕ) → last ≡ Ram otherwise address → ⊥)
     → ((otherwise : Cause) (address : ℕ) (size : Size) → last ≡ RamOrDevice otherwise address size → ⊥)
     → ((word : ℕ) → last ≡ Instruction word → ⊥)
-    → codes "system register at " ++ hex_of 16 (pc_of s) ≡ place_text invokes last s
-other-place invokes (Right register what) s a b c d = refl
-other-place invokes (Bounds register address size) s a b c d = refl
-other-place invokes (Multiple otherwise address size) s a b c d = absurd (a otherwise address size refl)
-other-place invokes (Ram otherwise address) s a b c d = absurd (b otherwise address refl)
-other-place invokes (RamOrDevice otherwise address size) s a b c d = absurd (c otherwise address size refl)
-other-place invokes (Instruction word) s a b c d = absurd (d word refl)
-other-place invokes (SystemRegister word) s a b c d = refl
+    → codes "system register at " ++ labelled symbols (pc_of s) ≡ place_text symbols invokes last s
+other-place symbols invokes (Right register what) s a b c d = refl
+other-place symbols invokes (Bounds register address size) s a b c d = refl
+other-place symbols invokes (Multiple otherwise address size) s a b c d = absurd (a otherwise address size refl)
+other-place symbols invokes (Ram otherwise address) s a b c d = absurd (b otherwise address refl)
+other-place symbols invokes (RamOrDevice otherwise address size) s a b c d = absurd (c otherwise address size refl)
+other-place symbols invokes (Instruction word) s a b c d = absurd (d word refl)
+other-place symbols invokes (SystemRegister word) s a b c d = refl

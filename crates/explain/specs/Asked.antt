@@ -11,11 +11,11 @@ use Rattle.special_regs.specs.declared.interrupts.Interrupt.{Interrupt}
 use Rattle.isa_rows.specs.declared.operands.Insn.{Insn}
 use Rattle.isa_rows.specs.Kind.{kind_of}
 use Rattle.isa_rows.specs.Decoded.{insn_of}
-use Rattle.hart.specs.declared.effect.Effect.{Effect}
-use Rattle.hart.specs.declared.effect.Effect.TheVariants.{Trap, Nothing}
-use Rattle.hart.specs.Looks.{where_all}
-use Rattle.hart.specs.State.{State}
-use Rattle.hart.specs.Step.{asked, does, fetch_asked, fetch, step_effect}
+use Rattle.steps.specs.declared.effect.Effect.{Effect}
+use Rattle.steps.specs.declared.effect.Effect.TheVariants.{Trap, Nothing}
+use Rattle.steps.specs.Looks.{where_all}
+use Rattle.steps.specs.State.{State}
+use Rattle.steps.specs.Step.{asked, does, fetch_asked, fetch, step_effect}
 
 -- whether a word is an instruction
 abbrev pub decoding : Bool → ℕ → List Condition

@@ -12,12 +12,12 @@ use Rattle.special_regs.specs.declared.interrupts.Interrupt.{Interrupt}
 use Rattle.isa_rows.specs.declared.operands.Insn.{Insn}
 use Rattle.isa_rows.specs.Kind.{kind_of}
 use Rattle.isa_rows.specs.Decoded.{insn_of}
-use Rattle.hart.specs.declared.effect.Effect.{Effect}
-use Rattle.hart.specs.declared.effect.Effect.TheVariants.{Nothing}
+use Rattle.steps.specs.declared.effect.Effect.{Effect}
+use Rattle.steps.specs.declared.effect.Effect.TheVariants.{Nothing}
 use Rattle.tagged_memory.specs.Memory.{number_at}
-use Rattle.hart.specs.Looks.{unless_fault, where_all}
-use Rattle.hart.specs.State.{State, pc_of}
-use Rattle.hart.specs.Step.{asked, does, kind_effect, fetch_asked, word_unless, fetch, decoded_effect, fetched_effect, decided, step_effect}
+use Rattle.steps.specs.Looks.{unless_fault, where_all}
+use Rattle.steps.specs.State.{State, pc_of}
+use Rattle.steps.specs.Step.{asked, does, kind_effect, fetch_asked, word_unless, fetch, decoded_effect, fetched_effect, decided, step_effect}
 use Rattle.explain.specs.Asked.{word_stages, fetched_stages, stages_unless, stages_of, all_conditions, done_by_insn, done_by_word}
 use Rattle.explain.specs.Asked.{effect_unless, TrapsByItsStages}
 

@@ -12,22 +12,24 @@ use effect_texts::put;
 use hart::Hart;
 use isa_table::decode;
 use std::alloc::AllocError;
+use symbols::Symbols;
 
 /// Appends the line of the first condition that is false to a text, where one is.
 fn put_false<C: CapRep>(
     text: &mut String,
+    symbols: &Symbols,
     hart: &Hart<C>,
     conditions: &[Condition],
 ) -> Result<(), AllocError>
-    ensures { OnOk result (string_bytes text.new ≡ string_bytes text.old ++ false_line hart.now conditions.now) }
+    ensures { OnOk result (string_bytes text.new ≡ string_bytes text.old ++ false_line symbols.now hart.now conditions.now) }
 {
     match conditions {
         [] => put(text, ""),
         [first, rest @ ..] => {
             if first.holds {
-                put_false(text, hart, rest)
+                put_false(text, symbols, hart, rest)
             } else {
-                put_line(text, hart, *first)
+                put_line(text, symbols, hart, *first)
             }
         }
     }
@@ -36,45 +38,50 @@ fn put_false<C: CapRep>(
 /// Appends the line of the condition that fails of a word that was fetched to a text, where one does.
 fn put_word_failed<C: CapRep>(
     text: &mut String,
+    symbols: &Symbols,
     hart: &Hart<C>,
     word: u32,
 ) -> Result<(), AllocError>
     ensures { OnOk result (string_bytes text.new
-        ≡ string_bytes text.old ++ false_line hart.now (all_conditions (word_stages (insn_of word) word hart.now))) }
+        ≡ string_bytes text.old ++ false_line symbols.now hart.now (all_conditions (word_stages (insn_of word) word hart.now))) }
 {
     match decode(word) {
         Some(insn) => {
             let asked = hart.asked(*text.allocator(), word, insn)?;
-            put_false(text, hart, &asked)
+            put_false(text, symbols, hart, &asked)
         }
         None => {
             let question = Question::Instruction {
                 word: u64::from(word),
             };
             let holds = false;
-            put_line(text, hart, Condition { question, holds })
+            put_line(text, symbols, hart, Condition { question, holds })
         }
     }
 }
 
 /// Appends the line of the condition that fails at the next step of a machine that is not halted to a text: what it asks, of which
-/// register, and the numbers. Where none fails, as at an interrupt or an ECALL, it appends nothing.
+/// register, and the numbers, addresses with their labels. Where none fails, as at an interrupt or an ECALL, it appends nothing.
 ///
 /// # Errors
 ///
 /// Out of memory.
 #[tactic(auto, unfolding(crate::specs::Asked::stages_of, crate::specs::Text::failed_line))]
-pub fn put_failed<C: CapRep>(text: &mut String, hart: &Hart<C>) -> Result<(), AllocError>
-    ensures { OnOk result (string_bytes text.new ≡ string_bytes text.old ++ failed_line hart.now) }
+pub fn put_failed<C: CapRep>(
+    text: &mut String,
+    symbols: &Symbols,
+    hart: &Hart<C>,
+) -> Result<(), AllocError>
+    ensures { OnOk result (string_bytes text.new ≡ string_bytes text.old ++ failed_line symbols.now hart.now) }
 {
     if is_interrupted(hart) {
         return put(text, "");
     }
     match hart.fetch() {
-        Ok(word) => put_word_failed(text, hart, word),
+        Ok(word) => put_word_failed(text, symbols, hart, word),
         Err(_) => {
             let asked = hart.fetch_asked(*text.allocator())?;
-            put_false(text, hart, &asked)
+            put_false(text, symbols, hart, &asked)
         }
     }
 }

@@ -1,8 +1,9 @@
 //! Registers as mtval counts them, and their capabilities.
 ghost use Rattle.std.specs.Prelude.{◌≡◌, ◌++◌, OnOk, string_bytes};
-ghost use Rattle.explain.specs.Text.{register_text, capability_in, capability_line};
+ghost use Rattle.explain.specs.Text.{register_text, capability_in, capability_line, fields_text};
 
 use base::FIRST_SPECIAL;
+use bounds_text::permission_letters;
 use cap_bounds::CapRep;
 use cap_insns::integer;
 use effect_texts::{put, value_text};
@@ -30,6 +31,15 @@ pub(crate) fn put_register(text: &mut String, register: u64) -> Result<(), Alloc
     put(text, register_at_fault(register).unwrap_or(""))
 }
 
+/// Appends a capability's fields, and its permissions in letters, to a text.
+fn put_fields<C: CapRep>(text: &mut String, capability: C) -> Result<(), AllocError>
+    ensures { OnOk result (string_bytes text.new ≡ string_bytes text.old ++ fields_text (C.value capability)) }
+{
+    put(text, value_text(capability).as_str())?;
+    put(text, " ")?;
+    put(text, permission_letters(capability.perms()).as_str())
+}
+
 /// Appends the line of the capability in a register to a text.
 pub(crate) fn put_capability<C: CapRep>(
     text: &mut String,
@@ -41,6 +51,6 @@ pub(crate) fn put_capability<C: CapRep>(
     put(text, "  ")?;
     put_register(text, register)?;
     put(text, " ")?;
-    put(text, value_text(capability_in(hart, register)).as_str())?;
+    put_fields(text, capability_in(hart, register))?;
     put(text, "\n")
 }

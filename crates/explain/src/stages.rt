@@ -3,7 +3,7 @@ ghost use Rattle.std.specs.Prelude.{◌≡◌, ◌++◌, OnOk, flat_map, is_some
 ghost use Rattle.devices.specs.Devices.{interrupts_of};
 ghost use Rattle.special_regs.specs.Interrupts as interrupts;
 ghost use Rattle.isa_rows.specs.Decoded.{insn_of};
-ghost use Rattle.hart.specs.State.{pc_of};
+ghost use Rattle.steps.specs.State.{pc_of};
 ghost use Rattle.explain.specs.Asked.{word_stages};
 ghost use Rattle.explain.specs.Text as spec;
 ghost use Rattle.explain.specs.Text.{ram_name, moved_name, sized_place, place_text, tag_lines, capability_lines, stage_text, stages_text};
@@ -19,6 +19,7 @@ use hart::Hart;
 use isa_table::decode;
 use special_regs::pending;
 use std::alloc::AllocError;
+use symbols::Symbols;
 
 /// What RAM alone is asked for.
 fn ram_name(cause: Cause) -> &'static str
@@ -42,12 +43,18 @@ fn moved_name(cause: Cause) -> &'static str
 }
 
 /// Appends a size, and where, to a text.
-fn put_sized(text: &mut String, name: &str, size: Size, address: u64) -> Result<(), AllocError>
-    ensures { OnOk result (string_bytes text.new ≡ string_bytes text.old ++ sized_place name.now size address) }
+fn put_sized(
+    text: &mut String,
+    symbols: &Symbols,
+    name: &str,
+    size: Size,
+    address: u64,
+) -> Result<(), AllocError>
+    ensures { OnOk result (string_bytes text.new ≡ string_bytes text.old ++ sized_place symbols.now name.now size address) }
 {
     put(text, name)?;
     put(text, size_text(size))?;
-    put_at(text, " at ", address)
+    put_at(text, symbols, " at ", address)
 }
 
 /// PCC's address.
@@ -60,23 +67,29 @@ fn here<C: CapRep>(hart: &Hart<C>) -> u64
 /// Appends what a stage asks and where, as its last question says it, to a text.
 fn put_place<C: CapRep>(
     text: &mut String,
+    symbols: &Symbols,
     hart: &Hart<C>,
     invokes: bool,
     last: Question,
 ) -> Result<(), AllocError>
-    ensures { OnOk result (string_bytes text.new ≡ string_bytes text.old ++ place_text invokes last hart.now) }
+    ensures { OnOk result (string_bytes text.new ≡ string_bytes text.old ++ place_text symbols.now invokes last hart.now) }
 {
     match last {
-        Question::Multiple { address, .. } if invokes => put_at(text, "invocation of ", address),
-        Question::Multiple { address, .. } => put_at(text, "jump to ", address),
-        Question::Ram { cause, address } => put_at(text, ram_name(cause), address),
+        Question::Multiple { address, .. } if invokes => put_at(
+            text,
+            symbols,
+            "invocation of ",
+            address,
+        ),
+        Question::Multiple { address, .. } => put_at(text, symbols, "jump to ", address),
+        Question::Ram { cause, address } => put_at(text, symbols, ram_name(cause), address),
         Question::RamOrDevice {
             cause,
             address,
             size,
-        } => put_sized(text, moved_name(cause), size, address),
-        Question::Instruction { .. } => put_at(text, "decoding at ", here(hart)),
-        _ => put_at(text, "system register at ", here(hart)),
+        } => put_sized(text, symbols, moved_name(cause), size, address),
+        Question::Instruction { .. } => put_at(text, symbols, "decoding at ", here(hart)),
+        _ => put_at(text, symbols, "system register at ", here(hart)),
     }
 }
 
@@ -133,36 +146,48 @@ fn put_capabilities<C: CapRep>(
 #[tactic(auto, unfolding(crate::specs::Text::stage_text))]
 fn put_stage<C: CapRep>(
     text: &mut String,
+    symbols: &Symbols,
     hart: &Hart<C>,
     conditions: &[Condition],
 ) -> Result<(), AllocError>
-    ensures { OnOk result (string_bytes text.new ≡ string_bytes text.old ++ stage_text hart.now conditions.now) }
+    ensures { OnOk result (string_bytes text.new ≡ string_bytes text.old ++ stage_text symbols.now hart.now conditions.now) }
 {
     match (conditions.first(), conditions.last()) {
         (Some(first), Some(last)) => {
-            put_place(text, hart, is_invocation(conditions), last.question)?;
+            put_place(
+                text,
+                symbols,
+                hart,
+                is_invocation(conditions),
+                last.question,
+            )?;
             put(text, "\n")?;
             put_capabilities(text, hart, first.question, conditions)?;
-            put_conditions(text, hart, conditions)
+            put_conditions(text, symbols, hart, conditions)
         }
         _ => put(text, ""),
     }
 }
 
 /// Appends the decoding of a word, and what it asks as an instruction, to a text.
-fn put_word<C: CapRep>(text: &mut String, hart: &Hart<C>, word: u32) -> Result<(), AllocError>
+fn put_word<C: CapRep>(
+    text: &mut String,
+    symbols: &Symbols,
+    hart: &Hart<C>,
+    word: u32,
+) -> Result<(), AllocError>
     ensures { OnOk result (string_bytes text.new
-        ≡ string_bytes text.old ++ flat_map (stage_text hart.now) (word_stages (insn_of word) word hart.now)) }
+        ≡ string_bytes text.old ++ flat_map (stage_text symbols.now hart.now) (word_stages (insn_of word) word hart.now)) }
 {
     let found = decode(word);
     let number = u64::from(word);
     let question = Question::Instruction { word: number };
     let holds = found.is_some();
-    put_stage(text, hart, &[Condition { question, holds }])?;
+    put_stage(text, symbols, hart, &[Condition { question, holds }])?;
     match found {
         Some(insn) => {
             let asked = hart.asked(*text.allocator(), word, insn)?;
-            put_stage(text, hart, &asked)
+            put_stage(text, symbols, hart, &asked)
         }
         None => put(text, ""),
     }
@@ -177,16 +202,20 @@ pub(crate) fn is_interrupted<C: CapRep>(hart: &Hart<C>) -> bool
 
 /// Appends the stages of the next step to a text; there are none where an interrupt is taken.
 #[tactic(auto, unfolding(crate::specs::Asked::stages_of, crate::specs::Text::stages_text))]
-pub(crate) fn put_stages<C: CapRep>(text: &mut String, hart: &Hart<C>) -> Result<(), AllocError>
-    ensures { OnOk result (string_bytes text.new ≡ string_bytes text.old ++ stages_text hart.now) }
+pub(crate) fn put_stages<C: CapRep>(
+    text: &mut String,
+    symbols: &Symbols,
+    hart: &Hart<C>,
+) -> Result<(), AllocError>
+    ensures { OnOk result (string_bytes text.new ≡ string_bytes text.old ++ stages_text symbols.now hart.now) }
 {
     if is_interrupted(hart) {
         return put(text, "");
     }
     let asked = hart.fetch_asked(*text.allocator())?;
-    put_stage(text, hart, &asked)?;
+    put_stage(text, symbols, hart, &asked)?;
     match hart.fetch() {
-        Ok(word) => put_word(text, hart, word),
+        Ok(word) => put_word(text, symbols, hart, word),
         Err(_) => put(text, ""),
     }
 }

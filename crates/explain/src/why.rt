@@ -6,10 +6,10 @@ ghost use Rattle.explain.specs.Text.{instruction_text, running_text, why_text};
 use crate::stages::put_stages;
 use base::{INSTRUCTION_BYTES, Size};
 use cap_bounds::CapRep;
-use disassembler::word_line;
-use effect_texts::{effect_text, put, put_decimal};
+use effect_texts::{effect_text, put, put_decimal, put_word_line};
 use hart::Hart;
 use std::alloc::AllocError;
+use symbols::Symbols;
 use tagged_memory::Memory;
 
 /// The word at an address in RAM.
@@ -24,38 +24,54 @@ fn word_at(memory: &Memory, address: u64) -> u32
 
 /// Appends the line of the instruction at PCC to a text, where there is RAM.
 #[tactic(auto, unfolding(crate::specs::Text::instruction_text))]
-fn put_instruction<C: CapRep>(text: &mut String, hart: &Hart<C>) -> Result<(), AllocError>
-    ensures { OnOk result (string_bytes text.new ≡ string_bytes text.old ++ instruction_text hart.now) }
+fn put_instruction<C: CapRep>(
+    text: &mut String,
+    symbols: &Symbols,
+    hart: &Hart<C>,
+) -> Result<(), AllocError>
+    ensures { OnOk result (string_bytes text.new ≡ string_bytes text.old ++ instruction_text symbols.now hart.now) }
 {
     let pcc = hart.scrs().pcc();
     let address = pcc.address();
     if hart.memory().is_in_ram(address, INSTRUCTION_BYTES) {
         let word = word_at(hart.memory(), address);
-        put(text, word_line(address, word, pcc.flag()).as_str())
+        put_word_line(text, symbols, address, word, pcc.flag())
     } else {
         put(text, "")
     }
 }
 
 /// Appends what the next step will do, and why, to a text.
-fn put_running<C: CapRep>(text: &mut String, hart: &Hart<C>) -> Result<(), AllocError>
-    ensures { OnOk result (string_bytes text.new ≡ string_bytes text.old ++ running_text hart.now) }
+fn put_running<C: CapRep>(
+    text: &mut String,
+    symbols: &Symbols,
+    hart: &Hart<C>,
+) -> Result<(), AllocError>
+    ensures { OnOk result (string_bytes text.new ≡ string_bytes text.old ++ running_text symbols.now hart.now) }
 {
-    put_instruction(text, hart)?;
-    put_stages(text, hart)?;
+    put_instruction(text, symbols, hart)?;
+    put_stages(text, symbols, hart)?;
     put(text, "effect: ")?;
-    put(text, effect_text(&hart.next().effect).as_str())?;
+    put(
+        text,
+        effect_text(Some(symbols), &hart.next().effect).as_str(),
+    )?;
     put(text, "\n")
 }
 
 /// Appends what the next step will do, and why, to a text: PCC's instruction, the stages that it asks, and the effect; or *halted*.
+/// After an address stands its label.
 ///
 /// # Errors
 ///
 /// Where there is no memory for the text.
 #[tactic(auto, unfolding(crate::specs::Text::why_text))]
-pub fn put_why<C: CapRep>(text: &mut String, hart: &Hart<C>) -> Result<(), AllocError>
-    ensures { OnOk result (string_bytes text.new ≡ string_bytes text.old ++ why_text hart.now) }
+pub fn put_why<C: CapRep>(
+    text: &mut String,
+    symbols: &Symbols,
+    hart: &Hart<C>,
+) -> Result<(), AllocError>
+    ensures { OnOk result (string_bytes text.new ≡ string_bytes text.old ++ why_text symbols.now hart.now) }
 {
     match hart.halted() {
         Some(number) => {
@@ -63,6 +79,6 @@ pub fn put_why<C: CapRep>(text: &mut String, hart: &Hart<C>) -> Result<(), Alloc
             put_decimal(text, number)?;
             put(text, "\n")
         }
-        None => put_running(text, hart),
+        None => put_running(text, symbols, hart),
     }
 }

@@ -1,11 +1,1 @@
-pub mod Fetch
 pub mod Loading
-pub mod Loads
-pub mod Places
-pub mod PlainRun
-pub mod PlainSteps
-pub mod Plans
-pub mod Polled
-pub mod Quiet
-pub mod Words
-pub mod Written

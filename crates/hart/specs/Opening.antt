@@ -10,7 +10,7 @@ use Rattle.special_regs.specs.Scrs.{Scrs}
 use Rattle.image.specs.declared.cap_entry.CapEntry.{CapEntry}
 use Rattle.image.specs.Image.{Image, Section}
 use Rattle.registers.specs.Registers.{null, null_registers}
-use Rattle.hart.specs.State.{State}
+use Rattle.steps.specs.State.{State}
 
 -- memory with sections written into it, one after the other
 abbrev pub with_sections : List Section → Memory → Memory

@@ -20,8 +20,8 @@ use Rattle.tagged_memory.specs.MemoryLaws.{tagged-before_data_written, in_ram-fr
 use Rattle.image.specs.declared.cap_entry.CapEntry.{CapEntry}
 use Rattle.image.specs.Image.{Section, Image}
 use Rattle.image.specs.ImageLaws.{IsGoodCapability, AreGoodCapabilities}
-use Rattle.hart.specs.State.{HoldsCapabilities}
-use Rattle.hart.specs.StateLaws.{HoldsCapabilities-capability_written}
+use Rattle.steps.specs.State.{HoldsCapabilities}
+use Rattle.steps.specs.StateLaws.{HoldsCapabilities-capability_written}
 use Rattle.hart.specs.Opening.{with_sections, loaded_memory, entry_record, with_capabilities}
 
 abbrev pub HasNoTag : Memory → Type 0

@@ -17,10 +17,10 @@ use Rattle.image.specs.Image.{Image, Section, IsImage, is_good_header, mode_numb
 use Rattle.image.specs.ImageLaws.{AllInRam, AllInRam-image, AreGoodCapabilities-image, image_parts, entry_aligned, header_ranges}
 use Rattle.image.specs.ImageLaws.{pages_some}
 use Rattle.registers.specs.Registers.{null, register}
-use Rattle.hart.specs.State.{HoldsCapabilities}
+use Rattle.steps.specs.State.{HoldsCapabilities}
 use Rattle.hart.specs.Opening.{with_sections, loaded_memory, opening_memory, opening_scrs, opening}
 use Rattle.hart.specs.OpeningLaws.{HoldsCapabilities-loaded, capabilities-put}
-use Rattle.hart.specs.IsState.{IsState}
+use Rattle.steps.specs.IsState.{IsState}
 
 IsSound-null : IsSound null
 IsSound-null = IsSound-integer 0 (lit< tt)

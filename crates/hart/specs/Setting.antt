@@ -5,7 +5,7 @@ use Rattle.cap_bounds.specs.CapValue.{CapValue, word_of, is_tagged}
 use Rattle.tagged_memory.specs.Memory.{data_written, capability_written}
 use Rattle.special_regs.specs.Scrs.{Scrs}
 use Rattle.special_regs.specs.Writes.{csrs_written, views_written, scr_written}
-use Rattle.hart.specs.State.{State}
+use Rattle.steps.specs.State.{State}
 
 -- a special capability register is replaced, PCC too
 abbrev pub scrs_set : ℕ → CapValue → Scrs → Scrs

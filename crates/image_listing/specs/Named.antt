@@ -1,6 +1,5 @@
 -- The listing of an image with names: labels before the words at their addresses, and the place in names after a branch or jal.
-use Rattle.std.specs.Prelude.{ℕ, ◌+◌, ◌-◌, ◌%◌, ◌^◌, Bool, true, false, ◌==◌, nat_lt, if◌then◌else◌, List, [], ◌∷◌, ◌++◌, Option, Some}
-use Rattle.std.specs.Prelude.{None, codes, decimal}
+use Rattle.std.specs.Prelude.{ℕ, ◌+◌, ◌%◌, ◌^◌, Bool, true, false, if◌then◌else◌, List, [], ◌∷◌, ◌++◌, Option, Some, None, codes}
 use Rattle.std.specs.List.{flat_map}
 use Rattle.byteorder.specs.Endian.{little_number}
 use Rattle.isa_rows.specs.declared.formats.Format.{Format}
@@ -11,7 +10,8 @@ use Rattle.isa_rows.specs.Line.{line_of}
 use Rattle.image.specs.Image.{Image, Section}
 use Rattle.disassembler.specs.Hex.{hex_of}
 use Rattle.disassembler.specs.Shown.{byte_line, shown_word}
-use Rattle.symbols.specs.Symbols.{Symbol, name_at, nearest}
+use Rattle.symbols.specs.Symbols.{Symbol, name_at}
+use Rattle.symbols.specs.Labels.{label_of}
 
 -- where a branch or jal at an address leads
 abbrev pub leads : Format → Bool
@@ -26,19 +26,9 @@ target_in address None = None
 unfoldable pub target_of : ℕ → ℕ → Option ℕ
 target_of address word = target_in address (insn_of word)
 
--- an address by a name at it or fewer than 4096 bytes below it
-unfoldable pub distance_text : List ℕ → ℕ → List ℕ
-distance_text name distance =
-    if distance == 0 then codes " <" ++ name ++ codes ">"
-    else (if nat_lt distance 4096 then codes " <" ++ name ++ codes "+" ++ decimal distance ++ codes ">" else [])
-
-abbrev pub place_text : Option Symbol → ℕ → List ℕ
-place_text None address = []
-place_text (Some s) address = distance_text s.name (address - s.address)
-
 unfoldable pub target_text : List Symbol → Option ℕ → List ℕ
 target_text symbols None = []
-target_text symbols (Some target) = place_text (nearest symbols target) target
+target_text symbols (Some target) = label_of symbols target
 
 -- the line of a label, where there is one
 unfoldable pub label_text : Option (List ℕ) → List ℕ

@@ -2,15 +2,13 @@
 ghost use Rattle.std.specs.Prelude.{◌≡◌, ◌+◌, ◌≤◌, ◌++◌, length, IfSome};
 ghost use Rattle.std.specs.Option.{option_copied};
 ghost use Rattle.arrayvec.specs.ArrayVec.{array_vec_len};
-ghost use Rattle.image_listing.specs.Named.{distance_text, label_text, named_byte};
-ghost use Rattle.image_listing.specs.Named.{named_word, place_text, target_text};
+ghost use Rattle.image_listing.specs.Named.{label_text, named_byte, named_word, target_text};
 ghost use Rattle.image_listing.specs.Named.{word_text as word_text_of};
 
 use crate::target::target_of;
 use arrayvec::{ArrayString, ArrayVec};
 use disassembler::{byte_line, disassemble, hex_digits};
-use itoa::Buffer;
-use symbols::{Symbol, Symbols};
+use symbols::Symbols;
 
 /// Lines of at most 640 bytes: a label has 256 with its colon and line feed, a word 90, its target 278.
 pub(crate) type Lines = ArrayVec<u8, 640>;
@@ -53,42 +51,6 @@ fn word_text(address: u64, word: u32, mode: bool) -> ArrayString<90>
     text
 }
 
-/// A name, with a distance from it unless that is 0; nothing where the distance is 4096 or more.
-#[tactic(auto, unfolding(crate::specs::Named::distance_text))]
-fn push_distance(lines: &mut Lines, name: &[u8], distance: u64)
-    requires name { length name.now ≤ 254 }
-    requires room { array_vec_len lines.old + 278 ≤ 640 }
-    ensures text { lines.new.items ≡ lines.old.items ++ distance_text name.now distance }
-    ensures within { array_vec_len lines.new ≤ array_vec_len lines.old + 278 }
-{
-    if distance >= 4096 {
-        return;
-    }
-    push(lines, b" <");
-    push(lines, name);
-    if distance > 0 {
-        let mut buffer = Buffer::new();
-        push(lines, b"+");
-        push(lines, buffer.format(distance).as_bytes());
-    }
-    push(lines, b">");
-}
-
-/// An address by a symbol at it or below it.
-fn push_place(lines: &mut Lines, symbol: Option<&Symbol>, address: u64)
-    requires { array_vec_len lines.old + 278 ≤ 640 }
-    ensures text { lines.new.items ≡ lines.old.items ++ place_text (option_copied symbol.entry) address }
-    ensures within { array_vec_len lines.new ≤ array_vec_len lines.old + 278 }
-{
-    if let Some(symbol) = symbol {
-        push_distance(
-            lines,
-            symbol.name(),
-            address.saturating_sub(symbol.address()),
-        );
-    }
-}
-
 /// The place in names where a word leads.
 #[tactic(auto, unfolding(crate::specs::Named::target_text))]
 fn push_target(lines: &mut Lines, symbols: &Symbols, target: Option<u64>)
@@ -97,7 +59,7 @@ fn push_target(lines: &mut Lines, symbols: &Symbols, target: Option<u64>)
     ensures within { array_vec_len lines.new ≤ array_vec_len lines.old + 278 }
 {
     if let Some(target) = target {
-        push_place(lines, symbols.nearest(target), target);
+        push(lines, symbols.label_of(target).as_bytes());
     }
 }
 

@@ -2,11 +2,11 @@
 use Rattle.std.proofs.Common.{ℕ, zero, suc, List, [], ◌∷◌, ◌++◌, take, refl, sym, ap, subst, ◌∙◌, append_assoc}
 use Rattle.std.proofs.lemmas.List.{append-nil}
 use Rattle.std.specs.Prelude.{option_to_list}
-use Rattle.hart.specs.declared.event.Event.{Event}
-use Rattle.hart.specs.Event.{after, sent}
-use Rattle.hart.specs.EventLaws.{IsState-after}
-use Rattle.hart.specs.IsState.{IsState}
-use Rattle.hart.specs.State.{State}
+use Rattle.steps.specs.declared.event.Event.{Event}
+use Rattle.steps.specs.Event.{after, sent}
+use Rattle.steps.specs.EventLaws.{IsState-after}
+use Rattle.steps.specs.IsState.{IsState}
+use Rattle.steps.specs.State.{State}
 use Rattle.authority.specs.TwoWorldsLaws.{event-agrees, outcome-same, sent-same}
 use Rattle.authority.specs.Worlds.{Agree}
 use Rattle.machine.specs.Run.{run_after, run_sent}

@@ -6,12 +6,12 @@ use Rattle.std.proofs.Math.Seq.{take-length}
 use Rattle.std.proofs.lemmas.Bool.Decides.{nat_tests}
 use Rattle.std.proofs.lemmas.List.{length-drop}
 use Rattle.std.specs.Prelude.{Option, None, Bool, true, ◌==◌, option_to_list}
-use Rattle.hart.specs.declared.event.Event.{Event}
-use Rattle.hart.specs.declared.event.Event.TheVariants.{Step}
-use Rattle.hart.specs.State.{State}
-use Rattle.hart.specs.Event.{after, sent}
-use Rattle.hart.specs.Step.{stepped, step_sent}
-use Rattle.hart.specs.Steps.{steps_after}
+use Rattle.steps.specs.declared.event.Event.{Event}
+use Rattle.steps.specs.declared.event.Event.TheVariants.{Step}
+use Rattle.steps.specs.State.{State}
+use Rattle.steps.specs.Event.{after, sent}
+use Rattle.steps.specs.Step.{stepped, step_sent}
+use Rattle.steps.specs.Steps.{steps_after}
 use Rattle.machine.specs.Run.{run_after, run_sent}
 use Rattle.machine.specs.Steps.{BeginWithSteps}
 

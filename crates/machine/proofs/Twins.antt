@@ -3,13 +3,13 @@ use Rattle.std.proofs.Common.{◌≡◌, ℕ, zero, suc, ◌+◌, ◌<◌, ◌�
 use Rattle.std.proofs.Common.{inl, inr, refl, sym, ap, ◌∙◌, subst, arith}
 use Rattle.std.proofs.lemmas.Bool.{cases_lt}
 use Rattle.std.specs.Prelude.{option_to_list}
-use Rattle.hart.specs.declared.ends.Why.{Why}
-use Rattle.hart.specs.declared.event.Event.{Event}
-use Rattle.hart.specs.Ends.{why_of}
-use Rattle.hart.specs.Event.{after, sent, outcome}
-use Rattle.hart.specs.IsState.{IsState}
-use Rattle.hart.specs.Outcome.{Plain}
-use Rattle.hart.specs.State.{State}
+use Rattle.steps.specs.declared.ends.Why.{Why}
+use Rattle.steps.specs.declared.event.Event.{Event}
+use Rattle.steps.specs.Ends.{why_of}
+use Rattle.steps.specs.Event.{after, sent, outcome}
+use Rattle.steps.specs.IsState.{IsState}
+use Rattle.steps.specs.Outcome.{Plain}
+use Rattle.steps.specs.State.{State}
 use Rattle.authority.specs.TwoWorldsLaws.{event-agrees, outcome-same, sent-same}
 use Rattle.authority.specs.Worlds.{Agree}
 use Rattle.machine.specs.Run.{run_after, run_sent}

@@ -1,8 +1,8 @@
 -- Runs: a machine meets a list of events, one after the other.
 use Rattle.std.specs.Prelude.{ℕ, List, [], ◌∷◌, ◌++◌, Option, Some, None, option_to_list}
-use Rattle.hart.specs.declared.event.Event.{Event}
-use Rattle.hart.specs.State.{State}
-use Rattle.hart.specs.Event.{after, sent}
+use Rattle.steps.specs.declared.event.Event.{Event}
+use Rattle.steps.specs.State.{State}
+use Rattle.steps.specs.Event.{after, sent}
 use Rattle.machine.specs.declared.end.End.{End}
 use Rattle.machine.specs.declared.end.End.TheVariants.{Running, Halted}
 

@@ -1,7 +1,7 @@
 -- Steps among other events.
 use Rattle.std.specs.Prelude.{◌≡◌, ℕ, zero, suc, List, [], ◌∷◌}
-use Rattle.hart.specs.declared.event.Event.{Event}
-use Rattle.hart.specs.declared.event.Event.TheVariants.{Step}
+use Rattle.steps.specs.declared.event.Event.{Event}
+use Rattle.steps.specs.declared.event.Event.TheVariants.{Step}
 
 -- the first n events are steps
 abbrev pub BeginWithSteps : ℕ → List Event → Type 0

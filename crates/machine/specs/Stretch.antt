@@ -1,13 +1,13 @@
 -- Stretches: runs in which the outcome of every event is plain, up to the end of the list or to the first event that is not.
 use Rattle.std.specs.Prelude.{◌≡◌, ℕ, ◌≤◌, List, [], ◌∷◌, length, take, drop, Option, None, Some}
-use Rattle.hart.specs.declared.ends.Why.{Why}
-use Rattle.hart.specs.declared.event.Event.{Event}
-use Rattle.hart.specs.Ends.{why_of}
-use Rattle.hart.specs.Event.{after, outcome}
-use Rattle.hart.specs.IsEvent.{IsEvent}
-use Rattle.hart.specs.IsState.{IsState}
-use Rattle.hart.specs.Outcome.{Plain}
-use Rattle.hart.specs.State.{State}
+use Rattle.steps.specs.declared.ends.Why.{Why}
+use Rattle.steps.specs.declared.event.Event.{Event}
+use Rattle.steps.specs.Ends.{why_of}
+use Rattle.steps.specs.Event.{after, outcome}
+use Rattle.steps.specs.IsEvent.{IsEvent}
+use Rattle.steps.specs.IsState.{IsState}
+use Rattle.steps.specs.Outcome.{Plain}
+use Rattle.steps.specs.State.{State}
 use Rattle.authority.specs.Worlds.{Agree}
 use Rattle.machine.specs.Run.{run_after, run_sent}
 

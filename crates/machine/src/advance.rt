@@ -1,15 +1,15 @@
 //! Many steps in one call, and runs of them among other events.
 
 ghost use Rattle.std.specs.Prelude.{◌≡◌, ◌≤◌, ◌-◌, ℕ, ◌<◌, [], length, take, replicate, option_to_list};
-ghost use Rattle.hart.specs.declared.event.Event.TheVariants.{Step};
-ghost use Rattle.hart.specs.IsState.{IsState};
-ghost use Rattle.hart.specs.Steps.{GoesBy};
+ghost use Rattle.steps.specs.declared.event.Event.TheVariants.{Step};
+ghost use Rattle.steps.specs.IsState.{IsState};
+ghost use Rattle.steps.specs.Steps.{GoesBy};
 ghost use Rattle.machine.specs.Run.{run_after, run_sent};
 ghost use Rattle.machine.specs.Steps.{BeginWithSteps};
 
 use crate::machine::Machine;
 use cap_bounds::CapRep;
-use hart::{Advance, Event};
+use steps::{Advance, Event};
 
 /// How many steps events begin with.
 fn leading_steps(events: &[Event]) -> usize

@@ -3,9 +3,9 @@
 
 ghost use Rattle.std.specs.Prelude.{◌≡◌, ℕ, List, [], take, true};
 ghost use Rattle.cap_bounds.specs.CapValue.{CapValue, is_sealed};
-ghost use Rattle.hart.specs.declared.event.Event.{Event};
-ghost use Rattle.hart.specs.IsState.{IsState};
-ghost use Rattle.hart.specs.State.{State};
+ghost use Rattle.steps.specs.declared.event.Event.{Event};
+ghost use Rattle.steps.specs.IsState.{IsState};
+ghost use Rattle.steps.specs.State.{State};
 ghost use Rattle.authority.specs.Reachable.{IsReachable};
 ghost use Rattle.authority.specs.Authority.{NoNewRights, NewSealsAllowed, LeavesAlone, IsSilent};
 ghost use Rattle.authority.specs.Worlds.{Agree};

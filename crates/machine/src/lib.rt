@@ -12,7 +12,8 @@ mod worlds;
 
 pub use end::End;
 pub use fault::MachineFault;
-pub use hart::{Advance, Event, Hart, Out, Planned, Why};
+pub use hart::{Hart, Planned};
 pub use machine::{Machine, emit};
+pub use steps::{Advance, Event, Out, Why};
 pub use stretch::Stretch;
 pub use worlds::{Both, events_make_one_stretch, run_both};

@@ -7,11 +7,11 @@ ghost use Rattle.special_regs.specs.Scrs.{IsAligned, scr_value};
 ghost use Rattle.base.specs.Registers.{is_csr};
 ghost use Rattle.special_regs.specs.CsrValues.{csr_value};
 ghost use Rattle.registers.specs.Registers.{register};
-ghost use Rattle.hart.specs.State.{HoldsCapabilities};
-ghost use Rattle.hart.specs.IsState.{IsState};
-ghost use Rattle.hart.specs.Applying.{IsPlanned};
-ghost use Rattle.hart.specs.Event.{after, sent};
-ghost use Rattle.hart.specs.declared.event.Event.TheVariants.{Step};
+ghost use Rattle.steps.specs.State.{HoldsCapabilities};
+ghost use Rattle.steps.specs.IsState.{IsState};
+ghost use Rattle.steps.specs.Applying.{IsPlanned};
+ghost use Rattle.steps.specs.Event.{after, sent};
+ghost use Rattle.steps.specs.declared.event.Event.TheVariants.{Step};
 ghost use Rattle.hart.specs.Opening.{opening};
 ghost use Rattle.machine.specs.Run.{run_after, run_sent, end_of};
 
@@ -20,10 +20,11 @@ use crate::end::End;
 use crate::fault::MachineFault;
 use cap_bounds::CapRep;
 use devices::Devices;
-use hart::{Event, Hart, Out, Planned};
+use hart::{Hart, Planned};
 use image::Image;
 use std::alloc::Global;
 use std::marker::Model;
+use steps::{Event, Out};
 use tagged_memory::Memory;
 
 /// A machine that meets events, one at a time or in runs.
@@ -35,7 +36,7 @@ pub struct Machine<C: CapRep> {
 impl<C: CapRep> Model for Machine<C> {
     ghost use Rattle.std.specs.Coded.{codes};
     ghost use Rattle.tagged_memory.specs.Layout.{memory_code};
-    ghost use Rattle.hart.specs.State.{State};
+    ghost use Rattle.steps.specs.State.{State};
 
     ghost Value = { State };
 

@@ -6,8 +6,8 @@ ghost use Rattle.base.specs.Registers.{is_scr, is_csr};
 ghost use Rattle.base.specs.declared.registers.scr.TheConstants.{PCC};
 ghost use Rattle.tagged_memory.specs.Memory.{place_fault, fill_fault};
 ghost use Rattle.special_regs.specs.Scrs.{IsAligned};
-ghost use Rattle.hart.specs.Effect.{register_written};
-ghost use Rattle.hart.specs.IsState.{IsState};
+ghost use Rattle.steps.specs.Effect.{register_written};
+ghost use Rattle.steps.specs.IsState.{IsState};
 ghost use Rattle.hart.specs.Setting.{scr_set, csr_set, bytes_set, cap_set};
 
 use crate::fault::MachineFault;

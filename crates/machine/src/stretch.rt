@@ -2,19 +2,19 @@
 
 ghost use Rattle.std.specs.Prelude.{◌≡◌, ℕ, ◌+◌, ◌≤◌, ◌++◌, length, take, drop, vec_len, vec_capacity, IsOk, IfOk, IfErr, OnErr};
 ghost use Rattle.std.specs.Prelude.{None, Some, OnOk};
-ghost use Rattle.hart.specs.Ends.{why_of};
-ghost use Rattle.hart.specs.Event.{after, outcome, sent};
-ghost use Rattle.hart.specs.IsState.{IsState};
+ghost use Rattle.steps.specs.Ends.{why_of};
+ghost use Rattle.steps.specs.Event.{after, outcome, sent};
+ghost use Rattle.steps.specs.IsState.{IsState};
 ghost use Rattle.machine.specs.Run.{run_after, run_sent};
 ghost use Rattle.machine.specs.Stretch.{ArePlain, EndsBefore, IsSameStretch};
-ghost use Rattle.hart.specs.State.{State};
+ghost use Rattle.steps.specs.State.{State};
 ghost use Rattle.authority.specs.Authority.{NoNewRights, NewSealsAllowed, LeavesAlone, IsSilent};
 ghost use Rattle.authority.specs.Worlds.{Agree};
 
 use crate::fault::MachineFault;
 use crate::machine::{Machine, emit};
 use cap_bounds::CapRep;
-use hart::{Event, Out, Why};
+use steps::{Event, Out, Why};
 
 /// How far a stretch went.
 #[derive(Clone, Copy, Debug, PartialEq, Eq)]

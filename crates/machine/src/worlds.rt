@@ -2,10 +2,10 @@
 
 ghost use Rattle.std.specs.Prelude.{◌≡◌, ℕ, ◌+◌, ◌≤◌, ◌++◌, List, Option, length, take, vec_len, vec_capacity};
 ghost use Rattle.std.specs.Prelude.{IsOk, IfOk, IfErr, OnOk, OnErr};
-ghost use Rattle.hart.specs.declared.ends.Why.{Why};
-ghost use Rattle.hart.specs.declared.event.Event.{Event};
-ghost use Rattle.hart.specs.IsState.{IsState};
-ghost use Rattle.hart.specs.State.{State};
+ghost use Rattle.steps.specs.declared.ends.Why.{Why};
+ghost use Rattle.steps.specs.declared.event.Event.{Event};
+ghost use Rattle.steps.specs.IsState.{IsState};
+ghost use Rattle.steps.specs.State.{State};
 ghost use Rattle.authority.specs.Worlds.{Agree};
 ghost use Rattle.machine.specs.Run.{run_after, run_sent};
 ghost use Rattle.machine.specs.Stretch.{IsStretch};
@@ -14,7 +14,7 @@ use crate::fault::MachineFault;
 use crate::machine::Machine;
 use crate::stretch::Stretch;
 use cap_bounds::CapRep;
-use hart::Event;
+use steps::Event;
 
 /// The stretches of two machines over the same events.
 #[derive(Clone, Copy, Debug, PartialEq, Eq)]

@@ -6,9 +6,9 @@ use Rattle.std.proofs.lemmas.List.{length-append}
 use Rattle.cap_bounds.specs.CapValue.{is_tagged}
 use Rattle.debug_commands.specs.declared.command.Place.{Place}
 use Rattle.hart.specs.Opening.{opening}
-use Rattle.hart.specs.State.{State}
-use Rattle.hart.specs.declared.event.Event.{Event}
-use Rattle.hart.specs.declared.event.Event.TheVariants.{Step, Tick, Byte}
+use Rattle.steps.specs.State.{State}
+use Rattle.steps.specs.declared.event.Event.{Event}
+use Rattle.steps.specs.declared.event.Event.TheVariants.{Step, Tick, Byte}
 use Rattle.machine.specs.Run.{run_after}
 use Rattle.origins.proofs.Last.{last-found}
 use Rattle.origins.proofs.Stays.{place-stays}

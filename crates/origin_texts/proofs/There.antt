@@ -5,7 +5,7 @@ use Rattle.cap_bounds.specs.CapValue.{value_address}
 use Rattle.debug_commands.specs.Limits.{IsHolder}
 use Rattle.debug_commands.specs.declared.command.Place.{Place}
 use Rattle.debug_commands.specs.declared.command.Place.TheVariants as place
-use Rattle.hart.specs.State.{State}
+use Rattle.steps.specs.State.{State}
 use Rattle.origins.specs.Kept.{AreThere}
 use Rattle.origins.specs.Places.{IsThere, held}
 use Rattle.origins.specs.Tags.{tag_asked}

@@ -1,6 +1,6 @@
 -- That there are the places that conditions name.
 use Rattle.std.specs.Prelude.{List, [], ◌∷◌}
-use Rattle.hart.specs.State.{State}
+use Rattle.steps.specs.State.{State}
 use Rattle.origins.specs.Places.{IsThere}
 use Rattle.origins.specs.declared.tag_question.TagCondition.{TagCondition}
 use Rattle.origins.specs.declared.tag_question.TagQuestion.{TagQuestion}

@@ -2,9 +2,10 @@
 use Rattle.std.specs.Prelude.{ℕ, if◌then◌else◌, List, [], ◌∷◌, ◌++◌, codes, decimal}
 use Rattle.cap_rights.specs.declared.permission.Permission.{Permission}
 use Rattle.cap_rights.specs.declared.permission.Permission.TheVariants as permission
+use Rattle.cap_bounds.specs.CapValue.{CapValue, value_base, value_top}
 use Rattle.disassembler.specs.Hex.{hex_of}
-use Rattle.explain.specs.Text.{bounds_text, mark}
-use Rattle.hart.specs.State.{State}
+use Rattle.explain.specs.Text.{mark}
+use Rattle.steps.specs.State.{State}
 use Rattle.origins.specs.Places.{held}
 use Rattle.origins.specs.declared.tag_question.TagCondition.{TagCondition}
 use Rattle.origins.specs.declared.tag_question.TagQuestion.{TagQuestion}
@@ -25,6 +26,12 @@ permission_text permission.CInvoke = codes "CInvoke"
 permission_text permission.Unseal = codes "unseal"
 permission_text permission.AccessSystemRegisters = codes "access system registers"
 permission_text permission.SetCid = codes "set CID"
+
+-- the bytes that are asked for, and a capability's bounds
+abbrev pub bounds_text : ℕ → ℕ → CapValue → List ℕ
+bounds_text address size v =
+    codes ": " ++ hex_of 16 address ++ codes " + " ++ decimal size ++ codes " in " ++ hex_of 16 (value_base v) ++ codes " to "
+    ++ hex_of 17 (value_top v)
 
 abbrev pub exact_text : ℕ → ℕ → List ℕ
 exact_text address length = codes "exact bounds: " ++ (hex_of 16 address ++ (codes " + " ++ decimal length))

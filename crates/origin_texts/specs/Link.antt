@@ -9,9 +9,9 @@ use Rattle.disassembler.specs.Hex.{hex_of}
 use Rattle.disassembler.specs.Shown.{name_or}
 use Rattle.effect_texts.specs.TraceLine.{trace_line}
 use Rattle.effect_texts.specs.ValueText.{value_line}
-use Rattle.hart.specs.Event.{after}
-use Rattle.hart.specs.State.{State}
-use Rattle.hart.specs.declared.event.Event.TheVariants.{Step}
+use Rattle.steps.specs.Event.{after}
+use Rattle.steps.specs.State.{State}
+use Rattle.steps.specs.declared.event.Event.TheVariants.{Step}
 use Rattle.origins.specs.Making.{source}
 use Rattle.origins.specs.Places.{held}
 use Rattle.origins.specs.declared.search.Found.{Found}

@@ -3,7 +3,7 @@ use Rattle.cap_bounds.specs.CapValue.{is_tagged}
 use Rattle.std.specs.Prelude.{ℕ, zero, suc, if◌then◌else◌, List, [], ◌∷◌, ◌++◌, take, Option, Some, None, codes}
 use Rattle.debug_commands.specs.declared.command.Place.{Place}
 use Rattle.hart.specs.Opening.{opening}
-use Rattle.hart.specs.State.{State}
+use Rattle.steps.specs.State.{State}
 use Rattle.origins.specs.Making.{source}
 use Rattle.origins.specs.Places.{held}
 use Rattle.origins.specs.Search.{last}

@@ -1,7 +1,7 @@
 //! The conditions of a tag as lines.
 ghost use Rattle.std.specs.Prelude.{◌≡◌, ◌++◌, OnOk, string_bytes};
-ghost use Rattle.explain.specs.Text.{bounds_text, mark};
-ghost use Rattle.origin_texts.specs.Conditions.{condition_line, condition_lines, exact_text, permission_text, question_text};
+ghost use Rattle.explain.specs.Text.{mark};
+ghost use Rattle.origin_texts.specs.Conditions.{bounds_text, condition_line, condition_lines, exact_text, permission_text, question_text};
 ghost use Rattle.debug_commands.specs.Limits.{IsHolder};
 ghost use Rattle.origin_texts.specs.Asked.{AreAskedThere, IsAskedThere};
 ghost use Rattle.origin_texts.specs.Link.{place_text};

@@ -3,7 +3,7 @@ ghost use Rattle.std.specs.Prelude.{◌≡◌, ◌<◌, ◌-◌, ◌^◌, ◌++�
 ghost use Rattle.cap_bounds.specs.CapValue.{is_sealed};
 ghost use Rattle.debug_commands.specs.Limits.{IsHolder};
 ghost use Rattle.effect_texts.specs.ValueText.{value_line};
-ghost use Rattle.hart.specs.Applying.{IsPlanned};
+ghost use Rattle.steps.specs.Applying.{IsPlanned};
 ghost use Rattle.origins.specs.Making.{source};
 ghost use Rattle.origins.specs.Places.{IsThere};
 ghost use Rattle.origin_texts.specs.Link.{kept_notes, link_text, notes, opening_name, opening_text, place_text, seal_note};

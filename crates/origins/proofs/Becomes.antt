@@ -2,9 +2,9 @@
 use Rattle.std.proofs.Common.{◌≡◌, Option, Some, None, refl, subst}
 use Rattle.cap_bounds.specs.CapValue.{CapValue}
 use Rattle.debug_commands.specs.declared.command.Place.{Place}
-use Rattle.hart.specs.State.{State}
-use Rattle.hart.specs.declared.effect.Effect.{Effect}
-use Rattle.hart.specs.declared.effect.Effect.TheVariants.{Trap}
+use Rattle.steps.specs.State.{State}
+use Rattle.steps.specs.declared.effect.Effect.{Effect}
+use Rattle.steps.specs.declared.effect.Effect.TheVariants.{Trap}
 use Rattle.origins.specs.Kept.{IsKept}
 use Rattle.origins.specs.Making.{IsMade}
 use Rattle.origins.specs.Places.{held}

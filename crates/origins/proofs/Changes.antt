@@ -10,18 +10,18 @@ use Rattle.isa_rows.specs.Kind.{kind_of}
 use Rattle.isa_rows.specs.declared.operands.Insn.{Insn}
 use Rattle.machine.specs.Run.{run_after}
 use Rattle.machine.specs.Stretch.{AreEvents}
-use Rattle.hart.specs.AppliedLaws.{IsSoundEffect}
-use Rattle.hart.specs.Effect.{applied}
-use Rattle.hart.specs.Event.{after}
-use Rattle.hart.specs.EventLaws.{IsState-after, step_effect-sound}
-use Rattle.hart.specs.IsState.{IsState}
-use Rattle.hart.specs.State.{State}
-use Rattle.hart.specs.Step.{fetch, step_effect, stepped, stepped_unless}
-use Rattle.hart.specs.declared.effect.Effect.{Effect}
-use Rattle.hart.specs.declared.effect.Effect.TheVariants.{Trap, Nothing, Write, Unseal, Store, StoreCapability, DeviceLoad, DeviceStore}
-use Rattle.hart.specs.declared.effect.Effect.TheVariants.{Jump, Link, Enter, Special, Csr, Return}
-use Rattle.hart.specs.declared.event.Event.{Event}
-use Rattle.hart.specs.declared.event.Event.TheVariants.{Step, Tick, Byte}
+use Rattle.steps.specs.AppliedLaws.{IsSoundEffect}
+use Rattle.steps.specs.Effect.{applied}
+use Rattle.steps.specs.Event.{after}
+use Rattle.steps.specs.EventLaws.{IsState-after, step_effect-sound}
+use Rattle.steps.specs.IsState.{IsState}
+use Rattle.steps.specs.State.{State}
+use Rattle.steps.specs.Step.{fetch, step_effect, stepped, stepped_unless}
+use Rattle.steps.specs.declared.effect.Effect.{Effect}
+use Rattle.steps.specs.declared.effect.Effect.TheVariants.{Trap, Nothing, Write, Unseal, Store, StoreCapability, DeviceLoad, DeviceStore}
+use Rattle.steps.specs.declared.effect.Effect.TheVariants.{Jump, Link, Enter, Special, Csr, Return}
+use Rattle.steps.specs.declared.event.Event.{Event}
+use Rattle.steps.specs.declared.event.Event.TheVariants.{Step, Tick, Byte}
 use Rattle.origins.specs.Kept.{IsKept}
 use Rattle.origins.specs.Made.{decoded, if_written, insn_made, made_at, made_by, made_by_insn, made_unless, register_making, step_made}
 use Rattle.origins.specs.Made.{trap_made}

@@ -19,18 +19,18 @@ use Rattle.isa_rows.specs.declared.operands.Insn.{Insn}
 use Rattle.isa_rows.specs.declared.rows.Row.{Row}
 use Rattle.isa_rows.specs.declared.rows.Row.TheVariants as row
 use Rattle.registers.specs.Registers.{register}
-use Rattle.hart.specs.Accesses.{through_rs1, size_of}
-use Rattle.hart.specs.ComputeRows.{integer_effect, mul_div_effect, capability_effect, auipc_effect, written_by}
-use Rattle.hart.specs.JumpRows.{link_of, enter_done, jalr_target, sentry_link}
-use Rattle.hart.specs.Looks.{in_capability_mode, next_of, number_in}
-use Rattle.hart.specs.MemoryRows.{place_of, authority_of, authority_through, load_done, store_done}
-use Rattle.hart.specs.MemoryRows.{load_capability_done, store_capability_done, stored_number, loaded_capability}
-use Rattle.hart.specs.State.{State, pc_of}
-use Rattle.hart.specs.Step.{does}
-use Rattle.hart.specs.SystemRows.{csr_done, csr_held, csr_writes, special_done, special_held}
-use Rattle.hart.specs.declared.effect.Effect.{Effect}
-use Rattle.hart.specs.declared.effect.Effect.TheVariants.{Nothing, Write, Unseal, Store, StoreCapability, DeviceLoad, DeviceStore}
-use Rattle.hart.specs.declared.effect.Effect.TheVariants.{Jump, Link, Enter, Special, Csr}
+use Rattle.steps.specs.Accesses.{through_rs1, size_of}
+use Rattle.steps.specs.ComputeRows.{integer_effect, mul_div_effect, capability_effect, auipc_effect, written_by}
+use Rattle.steps.specs.JumpRows.{link_of, enter_done, jalr_target, sentry_link}
+use Rattle.steps.specs.Looks.{in_capability_mode, next_of, number_in}
+use Rattle.steps.specs.MemoryRows.{place_of, authority_of, authority_through, load_done, store_done}
+use Rattle.steps.specs.MemoryRows.{load_capability_done, store_capability_done, stored_number, loaded_capability}
+use Rattle.steps.specs.State.{State, pc_of}
+use Rattle.steps.specs.Step.{does}
+use Rattle.steps.specs.SystemRows.{csr_done, csr_held, csr_writes, special_done, special_held}
+use Rattle.steps.specs.declared.effect.Effect.{Effect}
+use Rattle.steps.specs.declared.effect.Effect.TheVariants.{Nothing, Write, Unseal, Store, StoreCapability, DeviceLoad, DeviceStore}
+use Rattle.steps.specs.declared.effect.Effect.TheVariants.{Jump, Link, Enter, Special, Csr}
 use Rattle.origins.specs.Made.{register_making, row_making, link_making, auipc_making, authority_place}
 use Rattle.origins.specs.Making.{IsMade, loaded}
 use Rattle.origins.specs.Places.{held, ddc}

@@ -18,14 +18,14 @@ use Rattle.tagged_memory.specs.MemoryLaws.{word_at-capability_written_here}
 use Rattle.tagged_memory.specs.Replaced.{part-kept, part-untouched}
 use Rattle.isa_rows.specs.declared.operands.Insn.{Insn}
 use Rattle.registers.specs.Registers.{register}
-use Rattle.hart.specs.AppliedLaws.{IsSoundEffect}
-use Rattle.hart.specs.Effect.{applied}
-use Rattle.hart.specs.State.{State}
-use Rattle.hart.specs.declared.effect.Effect.{Effect}
-use Rattle.hart.specs.declared.effect.StoreCapability.{StoreCapability as CapabilityStore}
-use Rattle.hart.specs.declared.effect.Store.{Store as Storing}
-use Rattle.hart.specs.declared.effect.Effect.TheVariants.{Trap, Nothing, Write, Unseal, Store, StoreCapability, DeviceLoad, DeviceStore}
-use Rattle.hart.specs.declared.effect.Effect.TheVariants.{Jump, Link, Enter, Special, Csr, Return}
+use Rattle.steps.specs.AppliedLaws.{IsSoundEffect}
+use Rattle.steps.specs.Effect.{applied}
+use Rattle.steps.specs.State.{State}
+use Rattle.steps.specs.declared.effect.Effect.{Effect}
+use Rattle.steps.specs.declared.effect.StoreCapability.{StoreCapability as CapabilityStore}
+use Rattle.steps.specs.declared.effect.Store.{Store as Storing}
+use Rattle.steps.specs.declared.effect.Effect.TheVariants.{Trap, Nothing, Write, Unseal, Store, StoreCapability, DeviceLoad, DeviceStore}
+use Rattle.steps.specs.declared.effect.Effect.TheVariants.{Jump, Link, Enter, Special, Csr, Return}
 use Rattle.origins.specs.Made.{granule_made}
 use Rattle.origins.specs.Places.{IsThere, held}
 use Rattle.origins.specs.declared.making.Making.{Making}

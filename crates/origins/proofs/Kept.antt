@@ -4,7 +4,7 @@ use Rattle.base.specs.declared.registers.scr.TheConstants.{PCC}
 use Rattle.cap_bounds.specs.CapValue.{CapValue}
 use Rattle.debug_commands.specs.declared.command.Place.{Place}
 use Rattle.debug_commands.specs.declared.command.Place.TheVariants as place
-use Rattle.hart.specs.State.{State}
+use Rattle.steps.specs.State.{State}
 use Rattle.origins.specs.Kept.{IsKept, IsKeptBut, MovesAtMost}
 use Rattle.origins.specs.Places.{held}
 

@@ -2,9 +2,9 @@
 use Rattle.std.proofs.Common.{◌≡◌, ℕ, suc, ◌+◌, List, [], ◌∷◌, ◌++◌, length, Option, Some, None, ◌⊎◌, inl, inr, refl, ap, sym, subst, ◌∙◌}
 use Rattle.std.proofs.Common.{arith}
 use Rattle.debug_commands.specs.declared.command.Place.{Place}
-use Rattle.hart.specs.Event.{after}
-use Rattle.hart.specs.State.{State}
-use Rattle.hart.specs.declared.event.Event.{Event}
+use Rattle.steps.specs.Event.{after}
+use Rattle.steps.specs.State.{State}
+use Rattle.steps.specs.declared.event.Event.{Event}
 use Rattle.machine.specs.Run.{run_after}
 use Rattle.origins.specs.Search.{IsLast, NoneDoes, done_at, last, last_after, newer}
 use Rattle.origins.specs.declared.making.Making.{Making}

@@ -2,9 +2,9 @@
 use Rattle.std.proofs.Common.{◌≡◌, Bool, true, false, not, ◌&&◌, Option, Some, None, refl, ap, ◌∙◌, if◌then◌else◌}
 use Rattle.cap_bounds.specs.CapValue.{is_tagged}
 use Rattle.debug_commands.specs.declared.command.Place.{Place}
-use Rattle.hart.specs.Event.{after}
-use Rattle.hart.specs.State.{State}
-use Rattle.hart.specs.declared.event.Event.{Event}
+use Rattle.steps.specs.Event.{after}
+use Rattle.steps.specs.State.{State}
+use Rattle.steps.specs.declared.event.Event.{Event}
 use Rattle.origins.specs.Parts.{had_tag}
 use Rattle.origins.specs.Places.{held}
 use Rattle.origins.specs.Search.{lost_at}

@@ -3,16 +3,16 @@ use Rattle.std.proofs.Common.{◌≡◌, ℕ, Bool, eqb, Option, Some, None, fal
 use Rattle.std.proofs.lemmas.Bool.{cond-false}
 use Rattle.cap_bounds.specs.CapValue.{CapValue}
 use Rattle.isa_rows.specs.declared.operands.Insn.{Insn}
-use Rattle.hart.specs.Applying.{meant}
-use Rattle.hart.specs.Looks.{next_of}
-use Rattle.hart.specs.State.{State}
-use Rattle.hart.specs.declared.effect.Effect.{Effect}
-use Rattle.hart.specs.declared.effect.CsrWrite.{CsrWrite}
-use Rattle.hart.specs.declared.effect.Enter.{Enter as Entry}
-use Rattle.hart.specs.declared.effect.Link.{Link as Linking}
-use Rattle.hart.specs.declared.effect.SpecialWrite.{SpecialWrite}
-use Rattle.hart.specs.declared.effect.Effect.TheVariants.{Trap, Nothing, Write, Unseal, Store, StoreCapability, DeviceLoad, DeviceStore}
-use Rattle.hart.specs.declared.effect.Effect.TheVariants.{Jump, Link, Enter, Special, Csr, Return}
+use Rattle.steps.specs.Applying.{meant}
+use Rattle.steps.specs.Looks.{next_of}
+use Rattle.steps.specs.State.{State}
+use Rattle.steps.specs.declared.effect.Effect.{Effect}
+use Rattle.steps.specs.declared.effect.CsrWrite.{CsrWrite}
+use Rattle.steps.specs.declared.effect.Enter.{Enter as Entry}
+use Rattle.steps.specs.declared.effect.Link.{Link as Linking}
+use Rattle.steps.specs.declared.effect.SpecialWrite.{SpecialWrite}
+use Rattle.steps.specs.declared.effect.Effect.TheVariants.{Trap, Nothing, Write, Unseal, Store, StoreCapability, DeviceLoad, DeviceStore}
+use Rattle.steps.specs.declared.effect.Effect.TheVariants.{Jump, Link, Enter, Special, Csr, Return}
 use Rattle.base.specs.declared.registers.scr.TheConstants.{PCC}
 use Rattle.debug_commands.specs.declared.command.Place.TheVariants as place
 use Rattle.origins.specs.Made.{other_made, pcc_made, pcc_moved, insn_made, made_by_insn}

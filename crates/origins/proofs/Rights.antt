@@ -32,8 +32,8 @@ use Rattle.tagged_memory.specs.Memory.{has_tag, word_at}
 use Rattle.special_regs.specs.Scrs.{scr_value}
 use Rattle.special_regs.specs.SoundLaws.{IsSound-scr_value}
 use Rattle.special_regs.specs.Traps.{is_sentry, placed_at, sentry_opened}
-use Rattle.hart.specs.IsState.{IsState}
-use Rattle.hart.specs.State.{State}
+use Rattle.steps.specs.IsState.{IsState}
+use Rattle.steps.specs.State.{State}
 use Rattle.registers.specs.Registers.{null}
 use Rattle.origins.specs.Making.{IsMade, IsWithinSource, loaded, rights_of, source}
 use Rattle.origins.specs.Places.{held, pcc}

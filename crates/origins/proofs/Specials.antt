@@ -18,14 +18,14 @@ use Rattle.special_regs.specs.Traps.{aligned, placed_at, sentry_opened}
 use Rattle.special_regs.specs.Writes.{scr_written, views_written}
 use Rattle.isa_rows.specs.declared.operands.Insn.{Insn}
 use Rattle.registers.specs.Registers.{null, register}
-use Rattle.hart.specs.Effect.{applied}
-use Rattle.hart.specs.Looks.{next_of}
-use Rattle.hart.specs.State.{State}
-use Rattle.hart.specs.declared.effect.CsrWrite.{CsrWrite}
-use Rattle.hart.specs.declared.effect.Effect.{Effect}
-use Rattle.hart.specs.declared.effect.SpecialWrite.{SpecialWrite}
-use Rattle.hart.specs.declared.effect.Effect.TheVariants.{Trap, Nothing, Write, Unseal, Store, StoreCapability, DeviceLoad, DeviceStore}
-use Rattle.hart.specs.declared.effect.Effect.TheVariants.{Jump, Link, Enter, Special, Csr, Return}
+use Rattle.steps.specs.Effect.{applied}
+use Rattle.steps.specs.Looks.{next_of}
+use Rattle.steps.specs.State.{State}
+use Rattle.steps.specs.declared.effect.CsrWrite.{CsrWrite}
+use Rattle.steps.specs.declared.effect.Effect.{Effect}
+use Rattle.steps.specs.declared.effect.SpecialWrite.{SpecialWrite}
+use Rattle.steps.specs.declared.effect.Effect.TheVariants.{Trap, Nothing, Write, Unseal, Store, StoreCapability, DeviceLoad, DeviceStore}
+use Rattle.steps.specs.declared.effect.Effect.TheVariants.{Jump, Link, Enter, Special, Csr, Return}
 use Rattle.origins.specs.Kept.{IsKept, IsKeptBut, MovesAtMost}
 use Rattle.origins.specs.Made.{special_made, other_made, pcc_made, pcc_moved, trap_made}
 use Rattle.origins.specs.Making.{IsMade}

@@ -9,18 +9,18 @@ use Rattle.debug_commands.specs.declared.command.Place.TheVariants as place
 use Rattle.tagged_memory.specs.AccessLaws.{in_ram-place_fault}
 use Rattle.tagged_memory.specs.Memory.{Memory, is_in_ram}
 use Rattle.tagged_memory.specs.MemoryLaws.{length-data_written, length-capability_written}
-use Rattle.hart.specs.AppliedLaws.{IsSoundEffect}
-use Rattle.hart.specs.Effect.{applied}
-use Rattle.hart.specs.Event.{after}
-use Rattle.hart.specs.EventLaws.{step_effect-sound}
-use Rattle.hart.specs.IsState.{IsState}
-use Rattle.hart.specs.State.{State}
-use Rattle.hart.specs.Step.{step_effect, stepped, stepped_unless}
-use Rattle.hart.specs.declared.effect.Effect.{Effect}
-use Rattle.hart.specs.declared.effect.Effect.TheVariants.{Trap, Nothing, Write, Unseal, Store, StoreCapability, DeviceLoad, DeviceStore}
-use Rattle.hart.specs.declared.effect.Effect.TheVariants.{Jump, Link, Enter, Special, Csr, Return}
-use Rattle.hart.specs.declared.event.Event.{Event}
-use Rattle.hart.specs.declared.event.Event.TheVariants.{Step, Tick, Byte}
+use Rattle.steps.specs.AppliedLaws.{IsSoundEffect}
+use Rattle.steps.specs.Effect.{applied}
+use Rattle.steps.specs.Event.{after}
+use Rattle.steps.specs.EventLaws.{step_effect-sound}
+use Rattle.steps.specs.IsState.{IsState}
+use Rattle.steps.specs.State.{State}
+use Rattle.steps.specs.Step.{step_effect, stepped, stepped_unless}
+use Rattle.steps.specs.declared.effect.Effect.{Effect}
+use Rattle.steps.specs.declared.effect.Effect.TheVariants.{Trap, Nothing, Write, Unseal, Store, StoreCapability, DeviceLoad, DeviceStore}
+use Rattle.steps.specs.declared.effect.Effect.TheVariants.{Jump, Link, Enter, Special, Csr, Return}
+use Rattle.steps.specs.declared.event.Event.{Event}
+use Rattle.steps.specs.declared.event.Event.TheVariants.{Step, Tick, Byte}
 use Rattle.origins.specs.Places.{IsThere}
 
 in_ram-length : (m n : Memory) (address size : ℕ) → length n.bytes ≡ length m.bytes → is_in_ram m address size ≡ true

@@ -12,11 +12,11 @@ use Rattle.isa_rows.specs.declared.operands.Insn.{Insn}
 use Rattle.isa_rows.specs.Decoded.{insn_of}
 use Rattle.isa_rows.specs.Kind.{kind_of}
 use Rattle.isa_rows.specs.OperandLaws.{AreInRange, AreInRange-insn_of}
-use Rattle.hart.specs.declared.effect.Effect.{Effect}
-use Rattle.hart.specs.declared.effect.Effect.TheVariants.{Trap}
-use Rattle.hart.specs.Looks.{unless_fault}
-use Rattle.hart.specs.State.{State}
-use Rattle.hart.specs.Step.{asked, does, kind_effect, fetch, decoded_effect, fetched_effect, decided, step_effect}
+use Rattle.steps.specs.declared.effect.Effect.{Effect}
+use Rattle.steps.specs.declared.effect.Effect.TheVariants.{Trap}
+use Rattle.steps.specs.Looks.{unless_fault}
+use Rattle.steps.specs.State.{State}
+use Rattle.steps.specs.Step.{asked, does, kind_effect, fetch, decoded_effect, fetched_effect, decided, step_effect}
 use Rattle.origins.specs.Made.{decoded}
 
 pub record IsDone (insn : Insn) (e : Effect CapValue) (s : State) : Type 0 where

@@ -25,17 +25,17 @@ use Rattle.isa_rows.specs.declared.kinds.Kind.TheVariants as kind
 use Rattle.isa_rows.specs.declared.operands.Insn.{Insn}
 use Rattle.isa_rows.specs.declared.rows.Row.{Row}
 use Rattle.isa_rows.specs.declared.rows.Row.TheVariants as row
-use Rattle.hart.specs.AskedLaws.{access_asked-none, register-none}
-use Rattle.hart.specs.Accesses.{through_rs1}
-use Rattle.hart.specs.Looks.{in_capability_mode, next_of}
-use Rattle.hart.specs.MemoryRows.{place_of, authority_of, authority_number_of, capability_at}
-use Rattle.hart.specs.State.{State}
-use Rattle.hart.specs.Step.{asked, fetch, step_effect}
-use Rattle.hart.specs.declared.effect.Effect.{Effect}
-use Rattle.hart.specs.declared.effect.Effect.TheVariants.{Trap, Nothing, Write, Unseal, Store, StoreCapability, DeviceLoad, DeviceStore}
-use Rattle.hart.specs.declared.effect.Effect.TheVariants.{Jump, Link, Enter, Special, Csr, Return}
-use Rattle.hart.specs.declared.event.Event.{Event}
-use Rattle.hart.specs.declared.event.Event.TheVariants.{Step, Tick, Byte}
+use Rattle.steps.specs.AskedLaws.{access_asked-none, register-none}
+use Rattle.steps.specs.Accesses.{through_rs1}
+use Rattle.steps.specs.Looks.{in_capability_mode, next_of}
+use Rattle.steps.specs.MemoryRows.{place_of, authority_of, authority_number_of, capability_at}
+use Rattle.steps.specs.State.{State}
+use Rattle.steps.specs.Step.{asked, fetch, step_effect}
+use Rattle.steps.specs.declared.effect.Effect.{Effect}
+use Rattle.steps.specs.declared.effect.Effect.TheVariants.{Trap, Nothing, Write, Unseal, Store, StoreCapability, DeviceLoad, DeviceStore}
+use Rattle.steps.specs.declared.effect.Effect.TheVariants.{Jump, Link, Enter, Special, Csr, Return}
+use Rattle.steps.specs.declared.event.Event.{Event}
+use Rattle.steps.specs.declared.event.Event.TheVariants.{Step, Tick, Byte}
 use Rattle.origins.specs.Kept.{AreThere}
 use Rattle.origins.specs.Made.{register_making, row_making, link_making, authority_place, insn_made, trap_made, step_made}
 use Rattle.origins.specs.Made.{if_written, pcc_moved, view_made, made_at, made_by, made_by_insn, made_unless, written_register, decoded}

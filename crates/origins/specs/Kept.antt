@@ -4,7 +4,7 @@ use Rattle.base.specs.declared.registers.scr.TheConstants.{PCC}
 use Rattle.cap_bounds.specs.CapValue.{CapValue, is_tagged, value_base, value_top, value_perms, value_flag, value_otype}
 use Rattle.debug_commands.specs.declared.command.Place.{Place}
 use Rattle.debug_commands.specs.declared.command.Place.TheVariants.{Special}
-use Rattle.hart.specs.State.{State}
+use Rattle.steps.specs.State.{State}
 use Rattle.origins.specs.Places.{IsThere, held}
 use Rattle.origins.specs.Making.{source}
 use Rattle.origins.specs.declared.making.Making.{Making}

@@ -18,16 +18,16 @@ use Rattle.isa_rows.specs.declared.operands.Insn.{Insn}
 use Rattle.isa_rows.specs.declared.rows.Row.{Row}
 use Rattle.isa_rows.specs.declared.rows.Row.TheVariants as row
 use Rattle.registers.specs.Registers.{register}
-use Rattle.hart.specs.Accesses.{through_rs1}
-use Rattle.hart.specs.Looks.{in_capability_mode, next_of, number_in}
-use Rattle.hart.specs.MemoryRows.{place_of}
-use Rattle.hart.specs.State.{State, pc_of}
-use Rattle.hart.specs.Step.{fetch, step_effect}
-use Rattle.hart.specs.declared.effect.Effect.{Effect}
-use Rattle.hart.specs.declared.effect.Effect.TheVariants.{Trap, Write, Unseal, Store, StoreCapability, DeviceLoad}
-use Rattle.hart.specs.declared.effect.Effect.TheVariants.{Jump, Link, Enter, Special, Csr, Return}
-use Rattle.hart.specs.declared.event.Event.{Event}
-use Rattle.hart.specs.declared.event.Event.TheVariants.{Step}
+use Rattle.steps.specs.Accesses.{through_rs1}
+use Rattle.steps.specs.Looks.{in_capability_mode, next_of, number_in}
+use Rattle.steps.specs.MemoryRows.{place_of}
+use Rattle.steps.specs.State.{State, pc_of}
+use Rattle.steps.specs.Step.{fetch, step_effect}
+use Rattle.steps.specs.declared.effect.Effect.{Effect}
+use Rattle.steps.specs.declared.effect.Effect.TheVariants.{Trap, Write, Unseal, Store, StoreCapability, DeviceLoad}
+use Rattle.steps.specs.declared.effect.Effect.TheVariants.{Jump, Link, Enter, Special, Csr, Return}
+use Rattle.steps.specs.declared.event.Event.{Event}
+use Rattle.steps.specs.declared.event.Event.TheVariants.{Step}
 use Rattle.special_regs.specs.Mtvec.{mtvec_of}
 use Rattle.special_regs.specs.Traps.{entry_address}
 use Rattle.tagged_memory.specs.Memory.{touches}

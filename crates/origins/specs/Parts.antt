@@ -2,7 +2,7 @@
 use Rattle.std.specs.Prelude.{Bool, false, ◌||◌, Option, Some, None}
 use Rattle.cap_bounds.specs.CapValue.{is_tagged}
 use Rattle.debug_commands.specs.declared.command.Place.{Place}
-use Rattle.hart.specs.State.{State}
+use Rattle.steps.specs.State.{State}
 use Rattle.isa_rows.specs.declared.operands.Insn.{Insn}
 use Rattle.origins.specs.Making.{source}
 use Rattle.origins.specs.Places.{held}

@@ -9,7 +9,7 @@ use Rattle.debug_commands.specs.declared.command.Place.TheVariants.{Register, Sp
 use Rattle.tagged_memory.specs.Memory.{has_tag, is_in_ram, word_at}
 use Rattle.special_regs.specs.Scrs.{scr_value}
 use Rattle.registers.specs.Registers.{null, register}
-use Rattle.hart.specs.State.{State}
+use Rattle.steps.specs.State.{State}
 
 -- what a place holds
 unfoldable pub held : Place → State → CapValue

@@ -2,9 +2,9 @@
 use Rattle.std.specs.Prelude.{◌≡◌, ℕ, suc, Bool, not, ◌&&◌, ◌||◌, if◌then◌else◌, List, [], ◌∷◌, ◌++◌, length, Option, Some, None}
 use Rattle.cap_bounds.specs.CapValue.{is_tagged}
 use Rattle.debug_commands.specs.declared.command.Place.{Place}
-use Rattle.hart.specs.Event.{after}
-use Rattle.hart.specs.State.{State}
-use Rattle.hart.specs.declared.event.Event.{Event}
+use Rattle.steps.specs.Event.{after}
+use Rattle.steps.specs.State.{State}
+use Rattle.steps.specs.declared.event.Event.{Event}
 use Rattle.machine.specs.Run.{run_after}
 use Rattle.origins.specs.Made.{made_at}
 use Rattle.origins.specs.Making.{source}

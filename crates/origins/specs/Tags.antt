@@ -9,7 +9,7 @@ use Rattle.cap_rights.specs.Permission.{permits}
 use Rattle.cap_rights.specs.declared.permission.Permission.TheVariants.{Execute, LoadCapability, Seal, Unseal}
 use Rattle.debug_commands.specs.declared.command.Place.{Place}
 use Rattle.debug_commands.specs.declared.command.Place.TheVariants.{Granule}
-use Rattle.hart.specs.State.{State}
+use Rattle.steps.specs.State.{State}
 use Rattle.special_regs.specs.Traps.{is_sentry}
 use Rattle.tagged_memory.specs.Memory.{has_tag}
 use Rattle.origins.specs.Places.{held, pcc}

@@ -2,7 +2,7 @@
 ghost use Rattle.std.specs.Prelude.{◌≡◌, ◌↔◌, IsTrue};
 ghost use Rattle.cap_bounds.specs.CapValue.{IsSound};
 ghost use Rattle.debug_commands.specs.Limits.{IsHolder};
-ghost use Rattle.hart.specs.IsState.{IsState};
+ghost use Rattle.steps.specs.IsState.{IsState};
 ghost use Rattle.origins.specs.Places.{IsThere};
 ghost use Rattle.origins.specs.Places as spec;
 

@@ -2,11 +2,11 @@
 
 ghost use Rattle.std.specs.Prelude.{◌≡◌, ℕ, List, Some, None};
 ghost use Rattle.cap_bounds.specs.CapValue.{CapValue, is_tagged};
-ghost use Rattle.hart.specs.Event.{after};
-ghost use Rattle.hart.specs.State.{State};
-ghost use Rattle.hart.specs.declared.event.Event.{Event};
+ghost use Rattle.steps.specs.Event.{after};
+ghost use Rattle.steps.specs.State.{State};
+ghost use Rattle.steps.specs.declared.event.Event.{Event};
 ghost use Rattle.debug_commands.specs.declared.command.Place.{Place};
-ghost use Rattle.hart.specs.IsState.{IsState};
+ghost use Rattle.steps.specs.IsState.{IsState};
 ghost use Rattle.machine.specs.Run.{run_after};
 ghost use Rattle.machine.specs.Stretch.{AreEvents};
 ghost use Rattle.origins.specs.Kept.{AreThere, IsKept};

@@ -1,10 +1,10 @@
 //! How an instruction makes what it writes into its register.
 ghost use Rattle.std.specs.Prelude.{◌≡◌, ◌<◌, IfSome};
-ghost use Rattle.hart.specs.Looks.{HasRegisters, number_in, in_capability_mode, next_of};
+ghost use Rattle.steps.specs.Looks.{HasRegisters, number_in, in_capability_mode, next_of};
 ghost use Rattle.cap_rights.specs.Perms.{perms_in_view};
-ghost use Rattle.hart.specs.Accesses.{through_rs1};
-ghost use Rattle.hart.specs.MemoryRows.{place_of};
-ghost use Rattle.hart.specs.Step.{fetch};
+ghost use Rattle.steps.specs.Accesses.{through_rs1};
+ghost use Rattle.steps.specs.MemoryRows.{place_of};
+ghost use Rattle.steps.specs.Step.{fetch};
 ghost use Rattle.isa_rows.specs.Kind.{kind_of};
 ghost use Rattle.origins.specs.Made as spec;
 
@@ -175,7 +175,7 @@ fn auipc_making<C: CapRep>(hart: &Hart<C>, insn: Insn) -> Making
 }
 
 /// Whether the authority of an access is the capability in rs1, or else the default data capability.
-#[tactic(auto, unfolding(hart::specs::Accesses::through_rs1))]
+#[tactic(auto, unfolding(steps::specs::Accesses::through_rs1))]
 fn is_through_rs1(row: Row, capability_mode: bool) -> bool
     ensures { result ≡ through_rs1 row capability_mode }
 {

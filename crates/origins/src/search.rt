@@ -1,9 +1,9 @@
 //! What is sought in a history of events.
 ghost use Rattle.std.specs.Prelude.{◌≡◌, ◌-◌, ◌^◌, ◌<◌, suc, ◌&&◌, if◌then◌else◌, None, IfSome};
 ghost use Rattle.cap_bounds.specs.CapValue as value;
-ghost use Rattle.hart.specs.Applying.{IsPlanned};
-ghost use Rattle.hart.specs.Event.{after};
-ghost use Rattle.hart.specs.declared.event.Event.TheVariants.{Step};
+ghost use Rattle.steps.specs.Applying.{IsPlanned};
+ghost use Rattle.steps.specs.Event.{after};
+ghost use Rattle.steps.specs.declared.event.Event.TheVariants.{Step};
 ghost use Rattle.origins.specs.Kept.{AreThere};
 ghost use Rattle.origins.specs.Made.{made_at};
 ghost use Rattle.origins.specs.Parts as parts;

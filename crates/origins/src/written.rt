@@ -3,8 +3,8 @@ ghost use Rattle.std.specs.Prelude.{◌≡◌, ◌*◌, ◌/◌, ◌&&◌, not, 
 ghost use Rattle.base.specs.Size.{bytes_of};
 ghost use Rattle.cap_bounds.specs.CapValue.{is_tagged, value_address};
 ghost use Rattle.cap_bounds.specs.SetAddress.{at_address};
-ghost use Rattle.hart.specs.Applying.{meant, IsPlanned};
-ghost use Rattle.hart.specs.Step.{fetch};
+ghost use Rattle.steps.specs.Applying.{meant, IsPlanned};
+ghost use Rattle.steps.specs.Step.{fetch};
 ghost use Rattle.special_regs.specs.Mtvec as mtvec;
 ghost use Rattle.special_regs.specs.Traps as traps;
 ghost use Rattle.origins.specs.Kept.{AreThere};
@@ -18,8 +18,9 @@ use crate::rows::{instruction, next_address, register_making};
 use base::{Fault, csr, scr};
 use cap_bounds::CapRep;
 use debug_commands::Place;
-use hart::{Effect, Hart};
+use hart::Hart;
 use machine::{Machine, Planned};
+use steps::Effect;
 
 // ---- registers
 

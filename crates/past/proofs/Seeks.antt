@@ -1,8 +1,8 @@
 -- A search that meets events.
 use Rattle.std.proofs.Common.{◌≡◌, suc, List, ◌∷◌, refl}
-use Rattle.hart.specs.declared.event.Event.{Event}
-use Rattle.hart.specs.State.{State}
-use Rattle.hart.specs.Event.{after}
+use Rattle.steps.specs.declared.event.Event.{Event}
+use Rattle.steps.specs.State.{State}
+use Rattle.steps.specs.Event.{after}
 use Rattle.origins.specs.Search.{done_at, newer}
 use Rattle.origins.specs.declared.search.Search.{Search}
 use Rattle.past.specs.Seeking.{found_by}

@@ -1,11 +1,11 @@
 -- RAM keeps its size over steps.
 use Rattle.std.proofs.Common.{◌≡◌, ℕ, zero, suc, length, refl, ◌∙◌}
 use Rattle.std.specs.Prelude.{replicate}
-use Rattle.hart.specs.Event.{after}
-use Rattle.hart.specs.EventLaws.{IsState-after}
-use Rattle.hart.specs.IsState.{IsState}
-use Rattle.hart.specs.State.{State}
-use Rattle.hart.specs.declared.event.Event.TheVariants.{Step}
+use Rattle.steps.specs.Event.{after}
+use Rattle.steps.specs.EventLaws.{IsState-after}
+use Rattle.steps.specs.IsState.{IsState}
+use Rattle.steps.specs.State.{State}
+use Rattle.steps.specs.declared.event.Event.TheVariants.{Step}
 use Rattle.machine.specs.Run.{run_after}
 use Rattle.origins.proofs.Stays.{length-after}
 

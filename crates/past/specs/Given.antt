@@ -1,9 +1,9 @@
 -- What a session was given since the opening state of its image: runs of events, one a command.
 use Rattle.std.specs.Prelude.{◌≡◌, ℕ, ◌+◌, ◌-◌, nat_le, if◌then◌else◌, List, [], ◌∷◌, ◌++◌, length, replicate, take, Option}
 use Rattle.hart.specs.Opening.{opening}
-use Rattle.hart.specs.State.{State}
-use Rattle.hart.specs.declared.event.Event.{Event}
-use Rattle.hart.specs.declared.event.Event.TheVariants as event
+use Rattle.steps.specs.State.{State}
+use Rattle.steps.specs.declared.event.Event.{Event}
+use Rattle.steps.specs.declared.event.Event.TheVariants as event
 use Rattle.image.specs.Image.{Image}
 use Rattle.machine.specs.Run.{run_after}
 use Rattle.past.specs.Position.{Position, beginning, events_from, position_after}

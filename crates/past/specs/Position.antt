@@ -2,8 +2,8 @@
 -- schedule, else steps alone.
 use Rattle.std.specs.Prelude.{ℕ, zero, suc, ◌+◌, Bool, true, false, if◌then◌else◌, List, [], ◌∷◌, Option, Some, None, option_map}
 use Rattle.std.specs.Prelude.{◌<◌, ◌^◌, IfSome}
-use Rattle.hart.specs.declared.event.Event.{Event}
-use Rattle.hart.specs.declared.event.Event.TheVariants.{Step, Tick, Byte}
+use Rattle.steps.specs.declared.event.Event.{Event}
+use Rattle.steps.specs.declared.event.Event.TheVariants.{Step, Tick, Byte}
 use Rattle.past.specs.Replay.{ReplayState, byte_due, is_tick_due, replay_from, step_done}
 
 -- Where they stand: in a schedule, if there is one, and whether the tick after the last step is to come yet.

@@ -1,7 +1,7 @@
 -- Where a schedule stands that a session's steps follow.
 use Rattle.std.specs.Prelude.{ℕ, ◌+◌, nat_le, Bool, true, false, if◌then◌else◌, List, [], ◌∷◌, map, Option, Some, None, option_to_list}
-use Rattle.hart.specs.declared.event.Event.{Event}
-use Rattle.hart.specs.declared.event.Event.TheVariants.{Step, Tick, Byte}
+use Rattle.steps.specs.declared.event.Event.{Event}
+use Rattle.steps.specs.declared.event.Event.TheVariants.{Step, Tick, Byte}
 use Rattle.sim_run.specs.Schedule.{byte_before, is_tick_after}
 use Rattle.sim_run.specs.declared.schedule.Schedule.{Schedule}
 

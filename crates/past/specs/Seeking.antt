@@ -1,7 +1,7 @@
 -- What a search finds, with the events that are still to come.
 use Rattle.std.specs.Prelude.{List, Option}
-use Rattle.hart.specs.State.{State}
-use Rattle.hart.specs.declared.event.Event.{Event}
+use Rattle.steps.specs.State.{State}
+use Rattle.steps.specs.declared.event.Event.{Event}
 use Rattle.origins.specs.Search.{last_after}
 use Rattle.origins.specs.declared.search.Found.{Found}
 use Rattle.origins.specs.declared.search.Search.{Search}

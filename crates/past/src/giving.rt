@@ -1,6 +1,6 @@
 //! Events of commands, given to a machine.
 ghost use Rattle.std.specs.Prelude.{◌≡◌, option_copied, replicate, take};
-ghost use Rattle.hart.specs.declared.event.Event.TheVariants.{Step};
+ghost use Rattle.steps.specs.declared.event.Event.TheVariants.{Step};
 ghost use Rattle.machine.specs.Run.{run_after};
 ghost use Rattle.past.specs.Given.{events_of, first_of, position_of};
 ghost use Rattle.past.specs.Giving.{HasSameSize, next_of, place_after, place_of, some_of};

@@ -1,6 +1,6 @@
 //! What holds of the events of commands. Each function's contract is a law, and its body is empty.
 ghost use Rattle.std.specs.Prelude.{◌≡◌, ℕ, List, [], ◌∷◌, ◌++◌, Option, replicate};
-ghost use Rattle.hart.specs.declared.event.Event.TheVariants as event;
+ghost use Rattle.steps.specs.declared.event.Event.TheVariants as event;
 ghost use Rattle.hart.specs.Opening.{opening};
 ghost use Rattle.machine.specs.Run.{run_after};
 ghost use Rattle.past.specs.declared.given.Given.{Given};

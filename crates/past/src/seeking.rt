@@ -1,6 +1,6 @@
 //! The last event of commands that does what is sought.
 ghost use Rattle.std.specs.Prelude.{◌≡◌, ◌+◌, ◌<◌, ◌++◌, ◌^◌, List, option_copied, take};
-ghost use Rattle.hart.specs.declared.event.Event.{Event};
+ghost use Rattle.steps.specs.declared.event.Event.{Event};
 ghost use Rattle.machine.specs.Run.{run_after};
 ghost use Rattle.origins.specs.Places.{IsThere};
 ghost use Rattle.origins.specs.Search.{last};

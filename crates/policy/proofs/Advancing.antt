@@ -16,18 +16,18 @@ use Rattle.tagged_memory.specs.MemoryLaws.{in_ram}
 use Rattle.devices.specs.Devices.{interrupts_of}
 use Rattle.special_regs.specs.Interrupts.{pending}
 use Rattle.special_regs.specs.declared.interrupts.Interrupt.{Interrupt}
-use Rattle.hart.specs.declared.effect.Effect.{Effect}
-use Rattle.hart.specs.declared.effect.Effect.TheVariants as effect
-use Rattle.hart.specs.declared.event.Event.TheVariants.{Step}
-use Rattle.hart.specs.AppliedLaws.{IsSoundEffect}
-use Rattle.hart.specs.AskedLaws.{fetch-fetched}
-use Rattle.hart.specs.EventLaws.{step_effect-sound, IsState-after}
-use Rattle.hart.specs.IsState.{IsState}
-use Rattle.hart.specs.Outcome.{Plain, outcome_of, step_outcome_unless, step_outcome}
-use Rattle.hart.specs.RowEffects.{fetched}
-use Rattle.hart.specs.State.{State, pc_of}
-use Rattle.hart.specs.Step.{fetched_effect, decided, step_effect}
-use Rattle.hart.specs.Steps.{steps_after, GoesBy}
+use Rattle.steps.specs.declared.effect.Effect.{Effect}
+use Rattle.steps.specs.declared.effect.Effect.TheVariants as effect
+use Rattle.steps.specs.declared.event.Event.TheVariants.{Step}
+use Rattle.steps.specs.AppliedLaws.{IsSoundEffect}
+use Rattle.steps.specs.AskedLaws.{fetch-fetched}
+use Rattle.steps.specs.EventLaws.{step_effect-sound, IsState-after}
+use Rattle.steps.specs.IsState.{IsState}
+use Rattle.steps.specs.Outcome.{Plain, outcome_of, step_outcome_unless, step_outcome}
+use Rattle.steps.specs.RowEffects.{fetched}
+use Rattle.steps.specs.State.{State, pc_of}
+use Rattle.steps.specs.Step.{fetched_effect, decided, step_effect}
+use Rattle.steps.specs.Steps.{steps_after, GoesBy}
 use Rattle.authority.specs.Reachable.{from_root, in_pcc}
 use Rattle.authority.specs.Authority.{IsWritable}
 use Rattle.authority.specs.Grounded.{IsGrounded}

@@ -15,17 +15,17 @@ use Rattle.tagged_memory.specs.Memory.{Memory, IsMemory, is_in_ram, has_tag, wor
 use Rattle.tagged_memory.specs.MemoryLaws.{in_ram, word_at-data_written, tagged-before_data_written, word_at-capability_written_here}
 use Rattle.tagged_memory.specs.MemoryLaws.{word_at-capability_written_other, has_tag-capability_written_here}
 use Rattle.tagged_memory.specs.MemoryLaws.{has_tag-capability_written_other}
-use Rattle.hart.specs.declared.effect.Effect.{Effect}
-use Rattle.hart.specs.declared.effect.Effect.TheVariants as effect
-use Rattle.hart.specs.declared.event.Event.{Event}
-use Rattle.hart.specs.declared.event.Event.TheVariants.{Tick, Byte}
-use Rattle.hart.specs.AppliedLaws.{IsSoundEffect}
-use Rattle.hart.specs.Effect.{applied}
-use Rattle.hart.specs.Event.{after}
-use Rattle.hart.specs.EventLaws.{step_effect-sound}
-use Rattle.hart.specs.IsState.{IsState}
-use Rattle.hart.specs.State.{State}
-use Rattle.hart.specs.Step.{step_effect, stepped_unless, stepped}
+use Rattle.steps.specs.declared.effect.Effect.{Effect}
+use Rattle.steps.specs.declared.effect.Effect.TheVariants as effect
+use Rattle.steps.specs.declared.event.Event.{Event}
+use Rattle.steps.specs.declared.event.Event.TheVariants.{Tick, Byte}
+use Rattle.steps.specs.AppliedLaws.{IsSoundEffect}
+use Rattle.steps.specs.Effect.{applied}
+use Rattle.steps.specs.Event.{after}
+use Rattle.steps.specs.EventLaws.{step_effect-sound}
+use Rattle.steps.specs.IsState.{IsState}
+use Rattle.steps.specs.State.{State}
+use Rattle.steps.specs.Step.{step_effect, stepped_unless, stepped}
 use Rattle.registers.specs.Registers.{null, register}
 use Rattle.authority.specs.Reachable.{IsRoot, in_register, in_pcc, in_ddc, IsHeldAt, IsReachable, from_root, from_special, from_granule}
 use Rattle.reach.specs.declared.range.Range.{Range}

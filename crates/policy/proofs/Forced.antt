@@ -5,14 +5,14 @@ use Rattle.std.proofs.lemmas.Bool.{true≢false, false≢true}
 use Rattle.std.specs.List.{list_any}
 use Rattle.std.specs.Prelude.{◌&&◌, ◌||◌, if◌then◌else◌}
 use Rattle.cap_bounds.specs.CapValue.{CapValue}
-use Rattle.hart.specs.declared.event.Event.{Event}
-use Rattle.hart.specs.declared.event.Event.TheVariants.{Step, Tick, Byte}
-use Rattle.hart.specs.Event.{after}
-use Rattle.hart.specs.declared.effect.Effect.{Effect}
-use Rattle.hart.specs.declared.effect.Effect.TheVariants as effect
-use Rattle.hart.specs.Outcome.{Plain, outcome_of, sealed_jump_if, step_outcome, step_outcome_unless}
-use Rattle.hart.specs.Step.{step_effect}
-use Rattle.hart.specs.State.{State, pc_of}
+use Rattle.steps.specs.declared.event.Event.{Event}
+use Rattle.steps.specs.declared.event.Event.TheVariants.{Step, Tick, Byte}
+use Rattle.steps.specs.Event.{after}
+use Rattle.steps.specs.declared.effect.Effect.{Effect}
+use Rattle.steps.specs.declared.effect.Effect.TheVariants as effect
+use Rattle.steps.specs.Outcome.{Plain, outcome_of, sealed_jump_if, step_outcome, step_outcome_unless}
+use Rattle.steps.specs.Step.{step_effect}
+use Rattle.steps.specs.State.{State, pc_of}
 use Rattle.machine.specs.Run.{run_after}
 use Rattle.policy.specs.declared.rule.Rule.{Rule}
 use Rattle.policy.specs.Terms.{Terms, terms, terms_of}

@@ -5,17 +5,17 @@ use Rattle.base.specs.Size.{bytes_of}
 use Rattle.cap_bounds.specs.CapValue.{CapValue, word_of, is_tagged}
 use Rattle.tagged_memory.specs.AccessLaws.{in_ram-place_fault}
 use Rattle.tagged_memory.specs.Memory.{Memory}
-use Rattle.hart.specs.declared.effect.Effect.{Effect}
-use Rattle.hart.specs.declared.effect.Effect.TheVariants as effect
-use Rattle.hart.specs.declared.event.Event.{Event}
-use Rattle.hart.specs.declared.event.Event.TheVariants.{Step, Tick, Byte}
-use Rattle.hart.specs.AppliedLaws.{IsSoundEffect}
-use Rattle.hart.specs.Effect.{applied}
-use Rattle.hart.specs.Event.{after}
-use Rattle.hart.specs.EventLaws.{step_effect-sound}
-use Rattle.hart.specs.IsState.{IsState}
-use Rattle.hart.specs.State.{State}
-use Rattle.hart.specs.Step.{step_effect, stepped_unless, stepped}
+use Rattle.steps.specs.declared.effect.Effect.{Effect}
+use Rattle.steps.specs.declared.effect.Effect.TheVariants as effect
+use Rattle.steps.specs.declared.event.Event.{Event}
+use Rattle.steps.specs.declared.event.Event.TheVariants.{Step, Tick, Byte}
+use Rattle.steps.specs.AppliedLaws.{IsSoundEffect}
+use Rattle.steps.specs.Effect.{applied}
+use Rattle.steps.specs.Event.{after}
+use Rattle.steps.specs.EventLaws.{step_effect-sound}
+use Rattle.steps.specs.IsState.{IsState}
+use Rattle.steps.specs.State.{State}
+use Rattle.steps.specs.Step.{step_effect, stepped_unless, stepped}
 use Rattle.authority.specs.AgreeLaws.{looks-agree}
 use Rattle.authority.specs.SameEffectLaws.{step_effect-same}
 use Rattle.authority.specs.TwoWorldsLaws.{event-agrees, outcome-same, sent-same}

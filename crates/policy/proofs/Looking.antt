@@ -6,11 +6,11 @@ use Rattle.std.specs.List.{HoldsAt}
 use Rattle.std.specs.Prelude.{◌&&◌, not, Option, Some, IfSome, IfNone, Contains}
 use Rattle.cap_bounds.specs.CapValue.{CapValue}
 use Rattle.tagged_memory.specs.Memory.{Memory}
-use Rattle.hart.specs.declared.event.Event.{Event}
-use Rattle.hart.specs.Event.{after, outcome}
-use Rattle.hart.specs.IsState.{IsState}
-use Rattle.hart.specs.Outcome.{Plain}
-use Rattle.hart.specs.State.{State, pc_of}
+use Rattle.steps.specs.declared.event.Event.{Event}
+use Rattle.steps.specs.Event.{after, outcome}
+use Rattle.steps.specs.IsState.{IsState}
+use Rattle.steps.specs.Outcome.{Plain}
+use Rattle.steps.specs.State.{State, pc_of}
 use Rattle.reached.specs.Links.{values}
 use Rattle.reached.specs.Order.{seen_members}
 use Rattle.reached.specs.declared.member.Member.{Member}

@@ -1,11 +1,11 @@
 -- An event that is no step changes nothing of what a watcher knows.
 use Rattle.std.proofs.Common.{◌≡◌, ℕ, Option, None, Some, List, refl, sym, subst}
-use Rattle.hart.specs.declared.event.Event.{Event}
-use Rattle.hart.specs.declared.event.Event.TheVariants.{Step, Tick, Byte}
-use Rattle.hart.specs.Event.{after, outcome}
-use Rattle.hart.specs.IsState.{IsState}
-use Rattle.hart.specs.Outcome.{Plain}
-use Rattle.hart.specs.State.{State}
+use Rattle.steps.specs.declared.event.Event.{Event}
+use Rattle.steps.specs.declared.event.Event.TheVariants.{Step, Tick, Byte}
+use Rattle.steps.specs.Event.{after, outcome}
+use Rattle.steps.specs.IsState.{IsState}
+use Rattle.steps.specs.Outcome.{Plain}
+use Rattle.steps.specs.State.{State}
 use Rattle.policy.specs.Terms.{Terms}
 use Rattle.policy.specs.declared.watcher.Watcher.{Watcher}
 use Rattle.policy.specs.Known.{AreCertified, AreKnown, Knows, rules_of}

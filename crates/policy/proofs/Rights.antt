@@ -12,11 +12,11 @@ use Rattle.cap_rights.specs.Rights.{IsInRightsOf}
 use Rattle.cap_rights.specs.RightsLaws.{permits-outer, unsealed-outer, OpensStore-outer, OpensSystem-outer}
 use Rattle.cap_rights.specs.Within.{IsWithin}
 use Rattle.devices.specs.Devices.{halt, timer_compare, transmit}
-use Rattle.hart.specs.declared.event.Event.{Event}
-use Rattle.hart.specs.Event.{after, outcome}
-use Rattle.hart.specs.IsState.{IsState}
-use Rattle.hart.specs.Outcome.{Plain}
-use Rattle.hart.specs.State.{State}
+use Rattle.steps.specs.declared.event.Event.{Event}
+use Rattle.steps.specs.Event.{after, outcome}
+use Rattle.steps.specs.IsState.{IsState}
+use Rattle.steps.specs.Outcome.{Plain}
+use Rattle.steps.specs.State.{State}
 use Rattle.authority.specs.Authority.{IsSealAllowed, held, sentry, sealed_by}
 use Rattle.authority.specs.Grounded.{IsGrounded}
 use Rattle.authority.specs.StepLaws.{event-grows_not}

@@ -5,9 +5,9 @@ use Rattle.std.proofs.lemmas.Bool.{cases_eq}
 use Rattle.std.proofs.lemmas.List.{append-nil, take_more, get_or_default}
 use Rattle.std.specs.List.{HoldsAt}
 use Rattle.std.specs.Prelude.{option_to_list, Option, None, Some, Result, Ok, Err, IfSome, IfNone, OnErr}
-use Rattle.hart.specs.declared.event.Event.{Event}
-use Rattle.hart.specs.Event.{after, sent}
-use Rattle.hart.specs.State.{State}
+use Rattle.steps.specs.declared.event.Event.{Event}
+use Rattle.steps.specs.Event.{after, sent}
+use Rattle.steps.specs.State.{State}
 use Rattle.machine.specs.Run.{run_after, run_sent}
 use Rattle.policy.specs.Terms.{Terms}
 use Rattle.policy.specs.Watch.{KeepsToEach}

@@ -5,10 +5,10 @@ use Rattle.std.proofs.lemmas.List.{take_more}
 use Rattle.std.specs.Prelude.{Contains, option_to_list}
 use Rattle.base.specs.Ram.{ram_base}
 use Rattle.tagged_memory.specs.Memory.{has_tag}
-use Rattle.hart.specs.declared.event.Event.{Event}
-use Rattle.hart.specs.declared.event.Event.TheVariants.{Step}
-use Rattle.hart.specs.Event.{after, sent}
-use Rattle.hart.specs.State.{State, pc_of}
+use Rattle.steps.specs.declared.event.Event.{Event}
+use Rattle.steps.specs.declared.event.Event.TheVariants.{Step}
+use Rattle.steps.specs.Event.{after, sent}
+use Rattle.steps.specs.State.{State, pc_of}
 use Rattle.machine.specs.Run.{run_after, run_sent}
 use Rattle.reach.specs.Ranges.{IsInOne}
 use Rattle.policy.specs.Terms.{Terms}

@@ -4,9 +4,9 @@ use Rattle.std.specs.Prelude.{◌≡◌, ℕ, ◌<◌, Bool, true, false, List, 
 use Rattle.std.specs.List.{HoldsAt}
 use Rattle.cap_bounds.specs.CapValue.{CapValue, is_tagged}
 use Rattle.tagged_memory.specs.Memory.{Memory}
-use Rattle.hart.specs.declared.effect.Effect.{Effect}
-use Rattle.hart.specs.declared.effect.Effect.TheVariants.{StoreCapability}
-use Rattle.hart.specs.State.{State}
+use Rattle.steps.specs.declared.effect.Effect.{Effect}
+use Rattle.steps.specs.declared.effect.Effect.TheVariants.{StoreCapability}
+use Rattle.steps.specs.State.{State}
 use Rattle.authority.specs.Reachable.{IsRoot, IsSpecial, IsHeldAt}
 use Rattle.reach.specs.Ranges.{IsInOne}
 use Rattle.policy.specs.declared.rule.Rule.{Rule}

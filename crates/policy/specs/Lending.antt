@@ -4,13 +4,13 @@ use Rattle.std.specs.Prelude.{ℕ, Bool, true, false, not, ◌&&◌, ◌||◌, i
 use Rattle.std.specs.List.{list_any}
 use Rattle.cap_bounds.specs.CapValue.{CapValue}
 use Rattle.devices.specs.Devices.{halt, timer_compare, transmit}
-use Rattle.hart.specs.declared.effect.Effect.{Effect}
-use Rattle.hart.specs.declared.effect.Effect.TheVariants as effect
-use Rattle.hart.specs.declared.event.Event.{Event}
-use Rattle.hart.specs.declared.event.Event.TheVariants.{Step, Tick, Byte}
-use Rattle.hart.specs.Event.{after}
-use Rattle.hart.specs.State.{State, pc_of}
-use Rattle.hart.specs.Step.{step_effect}
+use Rattle.steps.specs.declared.effect.Effect.{Effect}
+use Rattle.steps.specs.declared.effect.Effect.TheVariants as effect
+use Rattle.steps.specs.declared.event.Event.{Event}
+use Rattle.steps.specs.declared.event.Event.TheVariants.{Step, Tick, Byte}
+use Rattle.steps.specs.Event.{after}
+use Rattle.steps.specs.State.{State, pc_of}
+use Rattle.steps.specs.Step.{step_effect}
 use Rattle.reach.specs.declared.right.Right.TheVariants as right
 use Rattle.reach.specs.Ranges.{ranges_of}
 use Rattle.policy.specs.Terms.{Terms}

@@ -1,10 +1,10 @@
 -- Runs that rules watch.
 use Rattle.std.specs.Prelude.{◌≡◌, ℕ, ◌<◌, ◌≤◌, ◌≢◌, ◌++◌, List, length, take}
 use Rattle.std.specs.List.{HoldsAt}
-use Rattle.hart.specs.declared.event.Event.{Event}
-use Rattle.hart.specs.Event.{outcome}
-use Rattle.hart.specs.Outcome.{Trap}
-use Rattle.hart.specs.State.{State, pc_of}
+use Rattle.steps.specs.declared.event.Event.{Event}
+use Rattle.steps.specs.Event.{outcome}
+use Rattle.steps.specs.Outcome.{Trap}
+use Rattle.steps.specs.State.{State, pc_of}
 use Rattle.machine.specs.Run.{run_after, run_sent}
 use Rattle.policy.specs.Terms.{Terms}
 use Rattle.policy.specs.Watch.{IsAbout, KeepsToEach}

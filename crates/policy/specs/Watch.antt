@@ -5,10 +5,10 @@ use Rattle.std.specs.List.{HoldsAt}
 use Rattle.base.specs.Ram.{ram_base}
 use Rattle.cap_bounds.specs.CapValue.{CapValue}
 use Rattle.tagged_memory.specs.Memory.{has_tag}
-use Rattle.hart.specs.declared.event.Event.{Event}
-use Rattle.hart.specs.Event.{after, outcome, sent}
-use Rattle.hart.specs.Outcome.{Plain, Trap}
-use Rattle.hart.specs.State.{State, pc_of}
+use Rattle.steps.specs.declared.event.Event.{Event}
+use Rattle.steps.specs.Event.{after, outcome, sent}
+use Rattle.steps.specs.Outcome.{Plain, Trap}
+use Rattle.steps.specs.State.{State, pc_of}
 use Rattle.authority.specs.Authority.{SameScrs, SameCsrs}
 use Rattle.authority.specs.Reachable.{IsReachable}
 use Rattle.authority.specs.Worlds.{Agree}

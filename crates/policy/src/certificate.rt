@@ -3,23 +3,24 @@ ghost use Rattle.std.specs.Prelude.{◌≡◌, ◌↔◌, ℕ, ◌<◌, ◌≤�
 ghost use Rattle.cap_bounds.specs.CapValue.{CapValue, is_tagged};
 ghost use Rattle.tagged_memory.specs.Memory.{has_tag};
 ghost use Rattle.registers.specs.Registers.{register};
-ghost use Rattle.hart.specs.Applying.{meant};
-ghost use Rattle.hart.specs.IsState.{IsState};
-ghost use Rattle.hart.specs.State.{HoldsCapabilities};
+ghost use Rattle.steps.specs.Applying.{meant};
+ghost use Rattle.steps.specs.IsState.{IsState};
+ghost use Rattle.steps.specs.State.{HoldsCapabilities};
 ghost use Rattle.authority.specs.Reachable.{IsHeldAt};
 ghost use Rattle.reach.specs.Ranges.{IsIn, IsInOne};
 ghost use Rattle.policy.specs.Terms.{terms, terms_of};
 ghost use Rattle.policy.specs.Rule.{BreaksRule};
 ghost use Rattle.policy.specs.Watch.{Holds};
 ghost use Rattle.policy.specs.Known.{IsCertified, RootsKeep, SpecialsKeep, KeepsCertificate, KeepsThose};
-ghost use Rattle.hart.specs.declared.effect.Effect.TheVariants as effect;
+ghost use Rattle.steps.specs.declared.effect.Effect.TheVariants as effect;
 
 use crate::breach::breaks_rule;
 use crate::cover::holds;
 use crate::rule::Rule;
 use cap_bounds::CapRep;
-use hart::{Effect, Hart, StoreCapability};
+use hart::Hart;
 use reach::Range;
+use steps::{Effect, StoreCapability};
 use tagged_memory::Memory;
 
 /// Whether a value keeps a rule: what has no tag does.

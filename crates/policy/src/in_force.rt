@@ -2,8 +2,8 @@
 ghost use Rattle.std.specs.Prelude.{◌≡◌, ◌≤◌, ◌++◌, false, true, length, option_map, IfNone, IfOk, IfSome, OnOk, OnErr};
 ghost use Rattle.std.specs.Prelude.{if◌then◌else◌, ◌&&◌, ◌||◌};
 ghost use Rattle.std.specs.List.{list_any};
-ghost use Rattle.hart.specs.Applying.{meant};
-ghost use Rattle.hart.specs.State.{pc_of};
+ghost use Rattle.steps.specs.Applying.{meant};
+ghost use Rattle.steps.specs.State.{pc_of};
 ghost use Rattle.reached.specs.Links.{values};
 ghost use Rattle.reach.specs.Ranges.{ranges_of};
 ghost use Rattle.reach.specs.declared.right.Right.TheVariants as right;
@@ -11,7 +11,7 @@ ghost use Rattle.policy.specs.Terms.{terms, terms_of};
 ghost use Rattle.policy.specs.Tests as spec;
 ghost use Rattle.policy.specs.Opened.{types_with};
 ghost use Rattle.policy.specs.Lending.{door_of, each_after, in_force_after, is_call, lent, next_door, terms_after};
-ghost use Rattle.hart.specs.declared.event.Event.TheVariants.{Step};
+ghost use Rattle.steps.specs.declared.event.Event.TheVariants.{Step};
 ghost use Rattle.policy.specs.Known.{IsPaired, forced_by, held_by, said_by};
 
 use crate::about;
@@ -19,10 +19,10 @@ use crate::opened::{may_halt, may_seal, may_send, may_set_timer, may_use_system}
 use crate::rule::Rule;
 use crate::types::types_of;
 use cap_bounds::CapRep;
-use hart::Effect;
 use machine::{Event, Machine};
 use reach::{Range, Reach, Right};
 use std::alloc::{AllocError, Global};
+use steps::Effect;
 
 // ---- calls
 

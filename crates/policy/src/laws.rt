@@ -3,8 +3,8 @@ ghost use Rattle.std.specs.Prelude.{◌≡◌, ◌↔◌, true, ℕ, ◌+◌, �
 ghost use Rattle.base.specs.Ram.{ram_base};
 ghost use Rattle.cap_bounds.specs.CapValue.{CapValue};
 ghost use Rattle.tagged_memory.specs.Memory.{has_tag};
-ghost use Rattle.hart.specs.declared.event.Event.{Event};
-ghost use Rattle.hart.specs.State.{State};
+ghost use Rattle.steps.specs.declared.event.Event.{Event};
+ghost use Rattle.steps.specs.State.{State};
 ghost use Rattle.authority.specs.Authority.{SameScrs, SameCsrs};
 ghost use Rattle.machine.specs.Run.{run_after, run_sent};
 ghost use Rattle.reach.specs.Ranges.{IsInOne};

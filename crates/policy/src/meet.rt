@@ -1,18 +1,18 @@
 //! Events that are met, and whether they are plain.
 ghost use Rattle.std.specs.Prelude.{◌≡◌, length, IsTrue};
-ghost use Rattle.hart.specs.Applying.{meant, IsPlanned};
-ghost use Rattle.hart.specs.declared.event.Event.TheVariants.{Step};
-ghost use Rattle.hart.specs.Event.{after, outcome, sent};
-ghost use Rattle.hart.specs.IsState.{IsState};
-ghost use Rattle.hart.specs.Outcome.{Plain, outcome_of, step_outcome};
+ghost use Rattle.steps.specs.Applying.{meant, IsPlanned};
+ghost use Rattle.steps.specs.declared.event.Event.TheVariants.{Step};
+ghost use Rattle.steps.specs.Event.{after, outcome, sent};
+ghost use Rattle.steps.specs.IsState.{IsState};
+ghost use Rattle.steps.specs.Outcome.{Plain, outcome_of, step_outcome};
 ghost use Rattle.policy.specs.Terms.{terms_of};
 ghost use Rattle.policy.specs.Known.{AreCertified};
 
 use crate::certificate::keep_certificates;
 use crate::rule::Rule;
 use cap_bounds::CapRep;
-use hart::Effect;
 use machine::{Event, Machine, Planned};
+use steps::Effect;
 
 /// What an event came to.
 #[derive(Clone, Copy)]
@@ -24,7 +24,7 @@ pub(crate) struct Met {
 }
 
 /// Whether an effect neither traps nor unseals nor jumps through a seal.
-#[tactic(auto, unfolding(hart::specs::Outcome::outcome_of))]
+#[tactic(auto, unfolding(steps::specs::Outcome::outcome_of))]
 fn is_plain<C: CapRep>(effect: &Effect<C>) -> bool
     ensures { IsTrue result → outcome_of (meant C.value effect.now) ≡ Plain }
 {
@@ -38,7 +38,7 @@ fn is_plain<C: CapRep>(effect: &Effect<C>) -> bool
 }
 
 /// The same of a step that was planned. A machine that is halted ignores it.
-#[tactic(auto, unfolding(hart::specs::Outcome::step_outcome))]
+#[tactic(auto, unfolding(steps::specs::Outcome::step_outcome))]
 fn is_plain_step<C: CapRep>(machine: &Machine<C>, planned: &Planned<C>) -> bool
     requires { IsPlanned C.value planned.now.effect machine.now }
     ensures { IsTrue result → step_outcome machine.now ≡ Plain }

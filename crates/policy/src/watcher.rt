@@ -2,10 +2,10 @@
 ghost use Rattle.std.specs.Bool.{then_some};
 ghost use Rattle.std.specs.Prelude.{◌≡◌, ◌&&◌, not, ℕ, ◌<◌, ◌≤◌, ◌⊎◌, None, [], replicate, length, Contains};
 ghost use Rattle.std.specs.Prelude.{IfNone, IfOk, IfSome, IsTrue, OnOk, OnErr};
-ghost use Rattle.hart.specs.declared.event.Event.TheVariants.{Step};
-ghost use Rattle.hart.specs.Event.{after, sent};
-ghost use Rattle.hart.specs.IsState.{IsState};
-ghost use Rattle.hart.specs.State.{State};
+ghost use Rattle.steps.specs.declared.event.Event.TheVariants.{Step};
+ghost use Rattle.steps.specs.Event.{after, sent};
+ghost use Rattle.steps.specs.IsState.{IsState};
+ghost use Rattle.steps.specs.State.{State};
 ghost use Rattle.machine.specs.Run.{run_after, run_sent};
 ghost use Rattle.policy.specs.Terms.{Terms, terms_of};
 ghost use Rattle.policy.specs.Watch.{IsAbout, Holds, HoldEach, IsRefused};

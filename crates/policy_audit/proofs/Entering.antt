@@ -4,7 +4,7 @@ use Rattle.std.proofs.lemmas.List.{append-nil, map-append}
 use Rattle.std.specs.List.{concat, list_any}
 use Rattle.std.specs.Prelude.{Some, bytes_eq, ◌||◌}
 use Rattle.cap_bounds.specs.CapValue.{CapValue, value_base, value_top}
-use Rattle.hart.specs.State.{State}
+use Rattle.steps.specs.State.{State}
 use Rattle.policy.specs.Watch.{values_in}
 use Rattle.reach.specs.declared.range.Range.{Range}
 use Rattle.reach.specs.Ranges.{bounds_of}

@@ -5,7 +5,7 @@ use Rattle.std.proofs.lemmas.List.Elements.{All-nil, All-cons, All-append}
 use Rattle.std.specs.List.{flat_map}
 use Rattle.std.specs.Prelude.{All, Option, Some, None, if◌then◌else◌}
 use Rattle.cap_bounds.specs.CapValue.{CapValue}
-use Rattle.hart.specs.State.{State, pc_of}
+use Rattle.steps.specs.State.{State, pc_of}
 use Rattle.reached.specs.Links.{values}
 use Rattle.reached.specs.Order.{seen_members}
 use Rattle.reached.specs.declared.member.Member.{Member}

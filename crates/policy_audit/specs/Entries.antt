@@ -5,8 +5,8 @@ use Rattle.std.specs.List.{concat, flat_map, list_any}
 use Rattle.cap_bounds.specs.CapValue.{CapValue}
 use Rattle.devices.specs.Devices.{halt, timer_compare, transmit}
 use Rattle.disassembler.specs.Hex.{hex_of}
-use Rattle.hart.specs.declared.event.Event.{Event}
-use Rattle.hart.specs.State.{State}
+use Rattle.steps.specs.declared.event.Event.{Event}
+use Rattle.steps.specs.State.{State}
 use Rattle.reach.specs.declared.range.Range.{Range}
 use Rattle.reach.specs.declared.right.Right.{Right}
 use Rattle.reach.specs.declared.right.Right.TheVariants.{Store, Load, Execute, Seal, Unseal}

@@ -2,7 +2,7 @@
 use Rattle.std.specs.Prelude.{ℕ, ◌+◌, Bool, ◌&&◌, ◌==◌, if◌then◌else◌, List, [], ◌∷◌, ◌++◌, Option, Some, None}
 use Rattle.std.specs.List.{flat_map, list_all, list_any}
 use Rattle.cap_bounds.specs.CapValue.{CapValue}
-use Rattle.hart.specs.State.{State, pc_of}
+use Rattle.steps.specs.State.{State, pc_of}
 use Rattle.policy.specs.declared.rule.Ban.{Ban}
 use Rattle.policy.specs.declared.rule.Ban.TheVariants.{Store, Load, Execute, Transmit, Halt, Timer, System, Seal, Types}
 use Rattle.policy.specs.Terms.{Terms}

@@ -3,11 +3,11 @@ use Rattle.std.specs.Prelude.{ℕ, List, [], ◌++◌, Option, Some, None, slice
 use Rattle.std.specs.List.{flat_map}
 use Rattle.disassembler.specs.Hex.{hex_of}
 use Rattle.symbols.specs.Symbols.{Symbol}
-use Rattle.hart.specs.declared.event.Event.{Event}
-use Rattle.hart.specs.State.{State, pc_of}
+use Rattle.steps.specs.declared.event.Event.{Event}
+use Rattle.steps.specs.State.{State, pc_of}
 use Rattle.reached.specs.Order.{Found}
 use Rattle.reach.specs.Reach.{members_in}
-use Rattle.hart.specs.declared.event.Event.TheVariants.{Step}
+use Rattle.steps.specs.declared.event.Event.TheVariants.{Step}
 use Rattle.policy.specs.Terms.{Terms}
 use Rattle.policy.specs.Lending.{in_force_after}
 use Rattle.breach_texts.specs.declared.breach.RuleLine.{RuleLine}

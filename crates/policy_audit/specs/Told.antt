@@ -1,9 +1,9 @@
 -- What is told of a run step by step.
 use Rattle.std.specs.Prelude.{ℕ, ◌+◌, List, [], ◌∷◌, ◌++◌}
-use Rattle.hart.specs.declared.event.Event.{Event}
-use Rattle.hart.specs.declared.event.Event.TheVariants.{Step, Tick, Byte}
-use Rattle.hart.specs.Event.{after}
-use Rattle.hart.specs.State.{State}
+use Rattle.steps.specs.declared.event.Event.{Event}
+use Rattle.steps.specs.declared.event.Event.TheVariants.{Step, Tick, Byte}
+use Rattle.steps.specs.Event.{after}
+use Rattle.steps.specs.State.{State}
 
 -- What is remembered of the states before the steps among the events: each adds to it.
 abbrev pub remembered : {M : Type 0} → (M → State → M) → List Event → M → State → M

@@ -1,7 +1,7 @@
 -- The events of one step of a schedule.
 use Rattle.std.specs.Prelude.{ℕ, ◌+◌, List}
-use Rattle.hart.specs.declared.event.Event.{Event}
-use Rattle.hart.specs.State.{State}
+use Rattle.steps.specs.declared.event.Event.{Event}
+use Rattle.steps.specs.State.{State}
 use Rattle.sim_run.specs.declared.schedule.Schedule.{Schedule}
 use Rattle.sim_run.specs.Schedule.{block, byte_before, is_tick_after, up_to_halt}
 

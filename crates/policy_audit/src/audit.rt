@@ -5,7 +5,7 @@ ghost use Rattle.reached.specs.Links.{values};
 ghost use Rattle.reached.specs.Order.{seen_members};
 ghost use Rattle.reach.specs.Reach.{AreReachable, members_in};
 ghost use Rattle.policy_audit.specs.Found.{found_at};
-ghost use Rattle.hart.specs.declared.event.Event.TheVariants.{Step};
+ghost use Rattle.steps.specs.declared.event.Event.TheVariants.{Step};
 ghost use Rattle.policy.specs.Terms.{terms_of};
 ghost use Rattle.policy.specs.Lending.{in_force_after};
 ghost use Rattle.policy_audit.specs.Look.{IsWhole, found_in, notes_of, rules_of, said_to, seen_by};

@@ -1,7 +1,7 @@
 //! The events around a step on a schedule.
 ghost use Rattle.std.specs.Prelude.{◌≡◌, ◌&&◌, not, [], ◌∷◌, map, option_to_list, if◌then◌else◌};
-ghost use Rattle.hart.specs.declared.event.Event.TheVariants.{Step, Tick, Byte};
-ghost use Rattle.hart.specs.Event.{after};
+ghost use Rattle.steps.specs.declared.event.Event.TheVariants.{Step, Tick, Byte};
+ghost use Rattle.steps.specs.Event.{after};
 ghost use Rattle.machine.specs.Run.{run_after};
 ghost use Rattle.sim_run.specs.Schedule.{is_halted};
 

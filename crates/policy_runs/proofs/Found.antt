@@ -3,10 +3,10 @@ use Rattle.std.proofs.Common.{◌≡◌, ℕ, zero, suc, ◌+◌, ◌-◌, ◌<�
 use Rattle.std.proofs.Common.{◌∙◌, append-nil, subst, arith}
 use Rattle.std.proofs.lemmas.Bool.{false≢true}
 use Rattle.std.specs.Prelude.{Option, Some, None}
-use Rattle.hart.specs.declared.event.Event.{Event}
-use Rattle.hart.specs.declared.event.Event.TheVariants.{Step, Byte}
-use Rattle.hart.specs.Event.{after}
-use Rattle.hart.specs.State.{State}
+use Rattle.steps.specs.declared.event.Event.{Event}
+use Rattle.steps.specs.declared.event.Event.TheVariants.{Step, Byte}
+use Rattle.steps.specs.Event.{after}
+use Rattle.steps.specs.State.{State}
 use Rattle.machine.specs.Run.{run_after}
 use Rattle.policy.specs.Terms.{Terms}
 use Rattle.policy.specs.Watch.{IsRefused}

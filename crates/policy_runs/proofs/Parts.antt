@@ -3,12 +3,12 @@ use Rattle.std.proofs.Common.{◌≡◌, ℕ, zero, suc, ◌+◌, ◌-◌, ◌<�
 use Rattle.std.proofs.Common.{sym, ap, ◌∙◌, subst, arith}
 use Rattle.std.proofs.lemmas.List.{replicate-append-replicate}
 use Rattle.std.specs.Prelude.{Option, Some, None, is_some}
-use Rattle.hart.specs.declared.event.Event.{Event}
-use Rattle.hart.specs.declared.event.Event.TheVariants.{Step, Tick, Byte}
-use Rattle.hart.specs.Event.{after}
-use Rattle.hart.specs.EventLaws.{IsState-after}
-use Rattle.hart.specs.IsState.{IsState}
-use Rattle.hart.specs.State.{State, pc_of}
+use Rattle.steps.specs.declared.event.Event.{Event}
+use Rattle.steps.specs.declared.event.Event.TheVariants.{Step, Tick, Byte}
+use Rattle.steps.specs.Event.{after}
+use Rattle.steps.specs.EventLaws.{IsState-after}
+use Rattle.steps.specs.IsState.{IsState}
+use Rattle.steps.specs.State.{State, pc_of}
 use Rattle.machine.specs.Run.{run_after}
 use Rattle.policy.specs.Terms.{Terms}
 use Rattle.policy.specs.Watch.{HoldEach, KeepsToEach, values_in}

@@ -1,9 +1,9 @@
 -- Runs whose steps keep to rules.
 use Rattle.std.specs.Prelude.{List, [], ◌∷◌}
-use Rattle.hart.specs.declared.event.Event.{Event}
-use Rattle.hart.specs.declared.event.Event.TheVariants.{Step, Tick, Byte}
-use Rattle.hart.specs.Event.{after}
-use Rattle.hart.specs.State.{State}
+use Rattle.steps.specs.declared.event.Event.{Event}
+use Rattle.steps.specs.declared.event.Event.TheVariants.{Step, Tick, Byte}
+use Rattle.steps.specs.Event.{after}
+use Rattle.steps.specs.State.{State}
 use Rattle.policy.specs.Terms.{Terms}
 use Rattle.policy.specs.Watch.{KeepsToEach}
 use Rattle.policy.specs.Lending.{in_force_after}

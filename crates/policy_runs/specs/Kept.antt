@@ -1,8 +1,8 @@
 -- What the parts of a search for the first breach answer. No definition of a run needs this.
 use Rattle.std.specs.Prelude.{◌≡◌, ℕ, ◌-◌, ◌≤◌, false, List, ◌++◌, replicate}
-use Rattle.hart.specs.declared.event.Event.{Event}
-use Rattle.hart.specs.declared.event.Event.TheVariants.{Step}
-use Rattle.hart.specs.State.{State}
+use Rattle.steps.specs.declared.event.Event.{Event}
+use Rattle.steps.specs.declared.event.Event.TheVariants.{Step}
+use Rattle.steps.specs.State.{State}
 use Rattle.machine.specs.Run.{run_after}
 use Rattle.policy.specs.Terms.{Terms}
 use Rattle.policy.specs.Watch.{IsRefused}

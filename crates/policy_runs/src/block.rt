@@ -1,14 +1,14 @@
 //! Steps with the byte before the first of them and the tick after the last.
 
 ghost use Rattle.std.specs.Prelude.{◌≡◌, false, [], ◌∷◌, map, option_to_list, if◌then◌else◌, IfNone, IfOk, IfSome};
-ghost use Rattle.hart.specs.declared.event.Event.TheVariants.{Tick, Byte};
+ghost use Rattle.steps.specs.declared.event.Event.TheVariants.{Tick, Byte};
 ghost use Rattle.machine.specs.Run.{run_after};
 ghost use Rattle.policy.specs.Known.{Knows, rules_of, said_to};
 ghost use Rattle.sim_run.specs.Schedule.{block, is_halted};
 ghost use Rattle.policy_runs.specs.Kept.{Kept, IsBreachPast};
 
 use crate::breach::Breach;
-use crate::steps::keep_steps;
+use crate::keeping::keep_steps;
 use cap_bounds::CapRep;
 use machine::{Event, Machine};
 use policy::Watcher;

@@ -3,6 +3,6 @@
 
 mod block;
 mod breach;
-mod steps;
+mod keeping;
 
 pub use breach::{Breach, find_breach};

@@ -4,7 +4,7 @@ use Rattle.std.proofs.Common.{refl, sym, ap, subst, arith, inl, inr}
 use Rattle.std.proofs.lemmas.Bool.{cases_lt}
 use Rattle.std.specs.Prelude.{◌↔◌}
 use Rattle.cap_bounds.specs.CapValue.{CapValue}
-use Rattle.hart.specs.State.{State}
+use Rattle.steps.specs.State.{State}
 use Rattle.reach.specs.declared.range.Range.{Range}
 use Rattle.reach.specs.declared.right.Right.{Right}
 use Rattle.reach.specs.Ranges.{IsIn, IsInOne, IsOpen, AreApart}

@@ -3,7 +3,7 @@ use Rattle.std.proofs.Common.{ℕ, ◌+◌, ◌<◌, ◌≤◌, List, ap, inl, i
 use Rattle.std.proofs.lemmas.Bool.{cases_lt}
 use Rattle.cap_bounds.specs.CapValue.{CapValue}
 use Rattle.cap_rights.specs.Rights.{OpensSystem, OpensGranule, OpensStore, OpensByte, OpensType}
-use Rattle.hart.specs.State.{State}
+use Rattle.steps.specs.State.{State}
 use Rattle.authority.specs.Authority.{IsWritable, HasSystem}
 use Rattle.authority.specs.Worlds.{IsReadable, Agree}
 use Rattle.reach.specs.declared.right.Right.TheVariants.{Store, Load, Execute, Capabilities, Seal, Unseal}

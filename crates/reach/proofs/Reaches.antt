@@ -3,7 +3,7 @@ use Rattle.std.proofs.Common.{◌≡◌, List, [], ◌∷◌, map, refl, sym, ap
 use Rattle.std.specs.List.{Contains}
 use Rattle.cap_bounds.specs.CapValue.{CapValue}
 use Rattle.tagged_memory.specs.Memory.{Memory}
-use Rattle.hart.specs.State.{State}
+use Rattle.steps.specs.State.{State}
 use Rattle.authority.specs.Reachable.{IsReachable, from_root as reachable-root, from_special as reachable-special}
 use Rattle.authority.specs.Reachable.{from_granule as reachable-granule}
 use Rattle.reached.specs.Links.{AreLinked, values}

@@ -2,7 +2,7 @@
 use Rattle.std.specs.Prelude.{◌≡◌, ℕ, ◌+◌, ◌-◌, ◌<◌, ◌≤◌, length, slice_index, ◌⊎◌}
 use Rattle.base.specs.Ram.{ram_base}
 use Rattle.tagged_memory.specs.Memory.{Memory, has_tag}
-use Rattle.hart.specs.State.{State}
+use Rattle.steps.specs.State.{State}
 
 -- the bytes of RAM among the `size` from an address are the same in both memories
 abbrev pub KeepsBytes : Memory → Memory → ℕ → ℕ → Type 0

@@ -2,7 +2,7 @@
 use Rattle.std.specs.Prelude.{List, Contains}
 use Rattle.cap_bounds.specs.CapValue.{CapValue}
 use Rattle.cap_rights.specs.Rights.{IsInRightsOf}
-use Rattle.hart.specs.State.{State}
+use Rattle.steps.specs.State.{State}
 use Rattle.authority.specs.Reachable.{IsReachable}
 use Rattle.reached.specs.Order.{Found, members_of}
 use Rattle.doors.specs.Roots.{roots_of, specials_of}

@@ -1,6 +1,5 @@
 pub mod Asking
 pub mod Counting
-pub mod Labels
 pub mod Numbered
 pub mod RangeLines
 pub mod Refused

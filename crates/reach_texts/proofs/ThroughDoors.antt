@@ -3,7 +3,7 @@ use Rattle.std.proofs.Common.{ℕ, ◌+◌, ◌<◌, ◌≤◌, List, ap, inl, i
 use Rattle.std.proofs.lemmas.Bool.{cases_lt}
 use Rattle.cap_bounds.specs.CapValue.{CapValue}
 use Rattle.cap_rights.specs.Rights.{OpensSystem, OpensStore}
-use Rattle.hart.specs.State.{State}
+use Rattle.steps.specs.State.{State}
 use Rattle.doors.specs.Doors.{IsReachableThroughDoors}
 use Rattle.doors.specs.Sets.{IsWritableBy, HasSystemBy}
 use Rattle.doors.specs.Through.{AreReachableThroughDoors}

@@ -11,6 +11,7 @@ use Rattle.debug_commands.specs.declared.command.May.{May}
 use Rattle.debug_commands.specs.declared.command.May.TheVariants.{Load, Store, System}
 use Rattle.disassembler.specs.Hex.{hex_of}
 use Rattle.symbols.specs.Symbols.{Symbol}
+use Rattle.symbols.specs.Labels.{labelled}
 use Rattle.reached.specs.declared.member.Place.{Place}
 use Rattle.reached.specs.declared.member.Place.TheVariants.{Root, Special, Granule}
 use Rattle.reached.specs.Order.{Found}
@@ -21,7 +22,7 @@ use Rattle.reach.specs.Ranges.{ranges_of}
 use Rattle.reach_texts.specs.declared.counts.Kind.{Kind}
 use Rattle.reach_texts.specs.declared.counts.Kind.TheVariants as kind
 use Rattle.reach_texts.specs.Asked.{first_that, values_of}
-use Rattle.reach_texts.specs.Text.{labelled, member_line, numbered, state_roots}
+use Rattle.reach_texts.specs.Text.{member_line, numbered, state_roots}
 
 -- ---- how many members there are, and how many of each kind
 

@@ -7,20 +7,16 @@ use Rattle.disassembler.specs.Hex.{hex_of}
 use Rattle.disassembler.specs.Shown.{name_or}
 use Rattle.trap_texts.specs.Names.{register_at_fault}
 use Rattle.effect_texts.specs.ValueText.{shown_value}
-use Rattle.symbols.specs.Symbols.{Symbol, nearest}
+use Rattle.symbols.specs.Symbols.{Symbol}
+use Rattle.symbols.specs.Labels.{labelled}
 use Rattle.debug_commands.specs.declared.command.Horizon.{Horizon}
 use Rattle.debug_commands.specs.declared.command.Horizon.TheVariants.{Stretch, Turn}
 use Rattle.doors.specs.declared.through.Door.{Door}
-use Rattle.image_listing.specs.Named.{place_text}
 use Rattle.reached.specs.declared.member.Place.{Place}
 use Rattle.reached.specs.declared.member.Place.TheVariants.{Root, Special, Granule}
 use Rattle.reached.specs.Order.{Found, chain_of}
 
 -- ---- places
-
--- an address, and after it the label at it or below it, if there is one
-unfoldable pub labelled : List Symbol → ℕ → List ℕ
-labelled symbols address = hex_of 16 address ++ place_text (nearest symbols address) address
 
 -- a register's name, of the general ones as a capability register; PCC and DDC come after the general registers; or a granule's address
 unfoldable pub place_name : List Symbol → Place → List ℕ

@@ -16,5 +16,5 @@ pub use answer::{put_answer, put_held};
 pub use asked::first_that;
 pub use graph::put_graph;
 pub use members::{put_capability, put_members};
-pub use places::{put_labelled, put_place};
+pub use places::put_place;
 pub use summary::put_summary;

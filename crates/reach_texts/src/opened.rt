@@ -4,10 +4,9 @@ ghost use Rattle.std.specs.List.{flat_map};
 ghost use Rattle.reached.specs.Order.{seen_members};
 ghost use Rattle.reach_texts.specs.Summary.{address_line, is_of_types, or_none, range_line, ranges_text, right_name, type_line};
 
-use crate::places::put_labelled;
 use base::otype;
 use cap_bounds::CapRep;
-use effect_texts::{put, put_hex};
+use effect_texts::{put, put_hex, put_labelled};
 use reach::{Range, Right, ranges};
 use reached::Member;
 use std::alloc::{AllocError, Global};

@@ -1,19 +1,17 @@
 //! The places where members are found.
-ghost use Rattle.std.specs.Prelude.{◌≡◌, ◌+◌, ◌<◌, ◌++◌, true, [], OnOk, string_bytes};
+ghost use Rattle.std.specs.Prelude.{◌≡◌, ◌+◌, ◌<◌, ◌++◌, [], OnOk, string_bytes};
 ghost use Rattle.std.specs.Option.{option_copied};
-ghost use Rattle.image_listing.specs.Named.{distance_text, place_text};
 ghost use Rattle.base.specs.declared.registers.scr.TheConstants.{MTCC};
-ghost use Rattle.symbols.specs.Symbols.{is_label};
-ghost use Rattle.reach_texts.specs.Text.{behind_text, labelled, place_name, place_through, state_roots};
+ghost use Rattle.reach_texts.specs.Text.{behind_text, place_name, place_through, state_roots};
 ghost use Rattle.disassembler.specs.Shown.{name_or};
 ghost use Rattle.trap_texts.specs.Names.{register_at_fault as register_name_of};
 
 use base::scr;
 use doors::Door;
-use effect_texts::{put, put_decimal, put_hex};
+use effect_texts::{put, put_labelled};
 use reached::Place;
 use std::alloc::AllocError;
-use symbols::{Symbol, Symbols};
+use symbols::Symbols;
 use trap_texts::register_at_fault;
 
 /// Where the special registers of a reach begin among those that mtval counts: after the 32 general registers, with MTCC.
@@ -21,57 +19,6 @@ const FIRST_SPECIAL: u64 = 32 + scr::MTCC as u64;
 
 /// How many roots a state has: the 32 registers, PCC and DDC. What doors lead to comes after them.
 pub(crate) const STATE_ROOTS: usize = 34;
-
-/// A label as a text.
-fn name_text(name: &[u8]) -> &str
-    requires { is_label name.now ≡ true }
-    ensures { result.now ≡ name.now }
-{
-    match str::from_utf8(name) {
-        Ok(text) => text,
-        Err(_) => unreachable!(),
-    }
-}
-
-/// Appends a name and the distance from it, unless that is 0; nothing where it is 4096 or more.
-#[tactic(auto, unfolding(image_listing::specs::Named::distance_text))]
-fn put_distance(text: &mut String, name: &str, distance: u64) -> Result<(), AllocError>
-    ensures { OnOk result (string_bytes text.new ≡ string_bytes text.old ++ distance_text name.now distance) }
-{
-    if distance >= 4096 {
-        return put(text, "");
-    }
-    put(text, " <")?;
-    put(text, name)?;
-    if distance > 0 {
-        put(text, "+")?;
-        put_decimal(text, distance)?;
-    }
-    put(text, ">")
-}
-
-/// Appends an address as a symbol at it or below it has it.
-fn put_symbol(text: &mut String, symbol: Option<&Symbol>, address: u64) -> Result<(), AllocError>
-    ensures { OnOk result (string_bytes text.new ≡ string_bytes text.old ++ place_text (option_copied symbol.entry) address) }
-{
-    match symbol {
-        Some(symbol) => put_distance(
-            text,
-            name_text(symbol.name()),
-            address.saturating_sub(symbol.address()),
-        ),
-        None => put(text, ""),
-    }
-}
-
-/// Appends an address, and after it the label at it or below it, if there is one.
-#[tactic(auto, unfolding(crate::specs::Text::labelled))]
-pub fn put_labelled(text: &mut String, symbols: &Symbols, address: u64) -> Result<(), AllocError>
-    ensures { OnOk result (string_bytes text.new ≡ string_bytes text.old ++ labelled symbols.now address) }
-{
-    put_hex(text, 16, u128::from(address))?;
-    put_symbol(text, symbols.nearest(address), address)
-}
 
 /// Appends a register's name, by its number among those that mtval counts.
 fn put_register(text: &mut String, number: u64) -> Result<(), AllocError>

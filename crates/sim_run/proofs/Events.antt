@@ -5,10 +5,10 @@ use Rattle.std.specs.Prelude.{Option, Some, None, Result, Ok, Err, OnErr, is_som
 use Rattle.std.specs.Io.KnownBytes.{Appends, Keeps}
 use Rattle.std.proofs.KnownBytes.{Appends-nil, Appends-trans, Appends-kept}
 use Rattle.devices.specs.Devices.{received}
-use Rattle.hart.specs.declared.event.Event.{Event}
-use Rattle.hart.specs.declared.event.Event.TheVariants.{Step, Tick, Byte}
-use Rattle.hart.specs.State.{State}
-use Rattle.hart.specs.Event.{after, sent}
+use Rattle.steps.specs.declared.event.Event.{Event}
+use Rattle.steps.specs.declared.event.Event.TheVariants.{Step, Tick, Byte}
+use Rattle.steps.specs.State.{State}
+use Rattle.steps.specs.Event.{after, sent}
 use Rattle.machine.specs.Run.{run_after, run_sent}
 use Rattle.sim_run.specs.Schedule.{block, is_halted, steps_in, up_to_halt, IsCutShort}
 

@@ -7,10 +7,10 @@ use Rattle.std.specs.Prelude.{Option, Some, None, is_some, max, if◌then◌else
 use Rattle.std.specs.Io.KnownBytes.{Appends}
 use Rattle.std.proofs.KnownBytes.{Appends-nil}
 use Rattle.devices.specs.Devices.{received}
-use Rattle.hart.specs.declared.event.Event.{Event}
-use Rattle.hart.specs.declared.event.Event.TheVariants.{Step, Tick, Byte}
-use Rattle.hart.specs.State.{State}
-use Rattle.hart.specs.Event.{after}
+use Rattle.steps.specs.declared.event.Event.{Event}
+use Rattle.steps.specs.declared.event.Event.TheVariants.{Step, Tick, Byte}
+use Rattle.steps.specs.State.{State}
+use Rattle.steps.specs.Event.{after}
 use Rattle.machine.specs.declared.end.End.{End}
 use Rattle.machine.specs.declared.end.End.TheVariants.{Running}
 use Rattle.machine.specs.Run.{run_after, run_sent, end_of, ended}

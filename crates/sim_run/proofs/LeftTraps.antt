@@ -10,15 +10,15 @@ use Rattle.cap_bounds.specs.SetAddress.{at_address}
 use Rattle.special_regs.specs.Mtvec.{is_vectored}
 use Rattle.special_regs.specs.Traps.{entry_address, placed_at, sentry_opened, trap_target, vector_of}
 use Rattle.special_regs.specs.Writes.{has_bit}
-use Rattle.hart.specs.declared.effect.Effect.{Effect}
-use Rattle.hart.specs.declared.effect.Effect.TheVariants as effect
-use Rattle.hart.specs.declared.event.Event.{Event}
-use Rattle.hart.specs.declared.event.Event.TheVariants.{Step, Tick, Byte}
-use Rattle.hart.specs.Effect.{applied}
-use Rattle.hart.specs.Event.{after, outcome}
-use Rattle.hart.specs.Outcome.{Outcome, Plain, Unseal, SealedJump, is_trap, outcome_of, step_outcome, step_outcome_unless}
-use Rattle.hart.specs.State.{State, pc_of}
-use Rattle.hart.specs.Step.{fetch, step_effect, stepped, stepped_unless}
+use Rattle.steps.specs.declared.effect.Effect.{Effect}
+use Rattle.steps.specs.declared.effect.Effect.TheVariants as effect
+use Rattle.steps.specs.declared.event.Event.{Event}
+use Rattle.steps.specs.declared.event.Event.TheVariants.{Step, Tick, Byte}
+use Rattle.steps.specs.Effect.{applied}
+use Rattle.steps.specs.Event.{after, outcome}
+use Rattle.steps.specs.Outcome.{Outcome, Plain, Unseal, SealedJump, is_trap, outcome_of, step_outcome, step_outcome_unless}
+use Rattle.steps.specs.State.{State, pc_of}
+use Rattle.steps.specs.Step.{fetch, step_effect, stepped, stepped_unless}
 use Rattle.machine.specs.Run.{run_after}
 use Rattle.explain.specs.Text.{failed_line}
 use Rattle.trap_texts.specs.Text.{trap_text}
@@ -136,14 +136,14 @@ module _ (s : State) (running : is_halted s ≡ false) where
   -- the trap that is taken, as it is told
   pub told-trap : (f : Fault) (number : ℕ) → step_effect s ≡ effect.Trap f
       → codes "; first trap: " ++ trap_part f.mcause f.mtval (pc_of s) ++ codes ", step " ++ decimal number ++ codes "\n"
-      ++ failed_line s
+      ++ failed_line [] s
       ≡ first_trap number s
   unfolding first_trap
   told-trap f number is =
       ap (λ c. codes "; first trap: " ++ trap_part c f.mtval (pc_of s) ++ codes ", step " ++ decimal number ++ codes "\n"
-      ++ failed_line s) (sym (cause-left f is))
+      ++ failed_line [] s) (sym (cause-left f is))
       ∙ ap (λ v. codes "; first trap: " ++ trap_part (after Step s).csrs.mcause v (pc_of s) ++ codes ", step " ++ decimal number
-      ++ codes "\n" ++ failed_line s) (sym (value-left f is))
+      ++ codes "\n" ++ failed_line [] s) (sym (value-left f is))
 
   pub trap-taken : (number : ℕ) (found : Option Trapped) (f : Fault) → trap_in (step_effect s) ≡ Some f
       → Some (first_of number s found) ≡ after_step number s found

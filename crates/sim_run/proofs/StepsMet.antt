@@ -3,8 +3,8 @@ use Rattle.std.proofs.Common.{◌≡◌, ℕ, ◌+◌, ◌-◌, ◌<◌, ◌≤�
 use Rattle.std.specs.Prelude.{Option, List, [], is_some, option_to_list}
 use Rattle.std.specs.Io.KnownBytes.{Appends, Keeps}
 use Rattle.devices.specs.Devices.{Devices}
-use Rattle.hart.specs.declared.event.Event.TheVariants.{Step}
-use Rattle.hart.specs.State.{State}
+use Rattle.steps.specs.declared.event.Event.TheVariants.{Step}
+use Rattle.steps.specs.State.{State}
 use Rattle.machine.specs.Run.{run_after, run_sent}
 use Rattle.sim_run.specs.Schedule.{is_halted, steps_in, up_to_halt, IsCutShort}
 use Rattle.sim_run.proofs.Events.{AreRunning, all_are_met, state_after, sent_after, count_after, steps_in-steps, cut_after, cut_at_step}

@@ -10,10 +10,10 @@ use Rattle.std.proofs.lemmas.List.Folds.{concat-append}
 use Rattle.std.proofs.KnownBytes.{Appends-nil, Appends-trans, Appends-kept}
 use Rattle.image.specs.Devices.{AppendsBeginning}
 use Rattle.image.specs.BeginningLaws.{beginning_after}
-use Rattle.hart.specs.declared.event.Event.{Event}
-use Rattle.hart.specs.declared.event.Event.TheVariants.{Step, Tick, Byte}
-use Rattle.hart.specs.Event.{after, sent}
-use Rattle.hart.specs.State.{State}
+use Rattle.steps.specs.declared.event.Event.{Event}
+use Rattle.steps.specs.declared.event.Event.TheVariants.{Step, Tick, Byte}
+use Rattle.steps.specs.Event.{after, sent}
+use Rattle.steps.specs.State.{State}
 use Rattle.machine.specs.Run.{run_after, run_sent}
 use Rattle.effect_texts.specs.TraceLine.{trace_line}
 use Rattle.sim_run.specs.declared.schedule.Schedule.{Schedule}

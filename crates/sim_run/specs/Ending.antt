@@ -3,9 +3,9 @@
 use Rattle.std.specs.Prelude.{ℕ, Bool, not, ◌==◌, ◌&&◌, List, [], ◌++◌, Option, Some, None, codes, decimal, if◌then◌else◌}
 use Rattle.cap_bounds.specs.CapValue.{value_address}
 use Rattle.disassembler.specs.Hex.{hex_of}
-use Rattle.hart.specs.declared.event.Event.TheVariants.{Step}
-use Rattle.hart.specs.Event.{after}
-use Rattle.hart.specs.State.{State, pc_of}
+use Rattle.steps.specs.declared.event.Event.TheVariants.{Step}
+use Rattle.steps.specs.Event.{after}
+use Rattle.steps.specs.State.{State, pc_of}
 use Rattle.trap_texts.specs.Text.{trap_text}
 use Rattle.explain.specs.Text.{failed_line}
 use Rattle.sim_run.specs.Unhandled.{Trapped}
@@ -28,7 +28,7 @@ last_trap s =
 unfoldable pub first_trap : ℕ → State → List ℕ
 first_trap number s =
     codes "; first trap: " ++ trap_part (after Step s).csrs.mcause (after Step s).csrs.mtval (pc_of s) ++ codes ", step "
-    ++ decimal number ++ codes "\n" ++ failed_line s
+    ++ decimal number ++ codes "\n" ++ failed_line [] s
 
 -- how many steps since the first trap were traps of the fetch
 unfoldable pub since_line : ℕ → List ℕ

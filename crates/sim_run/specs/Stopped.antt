@@ -1,7 +1,7 @@
 -- What a search for the step to stop before answers. No definition of a run needs this.
 use Rattle.std.specs.Prelude.{ℕ, ◌≤◌, Bool, Option, map, option_to_list}
-use Rattle.hart.specs.declared.event.Event.TheVariants.{Byte}
-use Rattle.hart.specs.State.{State}
+use Rattle.steps.specs.declared.event.Event.TheVariants.{Byte}
+use Rattle.steps.specs.State.{State}
 use Rattle.machine.specs.Run.{run_after}
 use Rattle.sim_run.specs.declared.schedule.Schedule.{Schedule}
 use Rattle.sim_run.specs.declared.stopping.StopAt.{StopAt}

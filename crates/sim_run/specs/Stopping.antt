@@ -4,12 +4,12 @@ use Rattle.std.specs.Prelude.{Option, Some, None, codes, decimal}
 use Rattle.base.specs.declared.cause.Cause.TheVariants as cause
 use Rattle.base.specs.Fault.{number_of}
 use Rattle.disassembler.specs.Hex.{hex_of}
-use Rattle.hart.specs.declared.event.Event.{Event}
-use Rattle.hart.specs.declared.event.Event.TheVariants.{Step, Tick, Byte}
-use Rattle.hart.specs.Event.{after, outcome}
-use Rattle.hart.specs.Outcome.{is_trap}
-use Rattle.hart.specs.State.{State, pc_of}
-use Rattle.hart.specs.Step.{fetch}
+use Rattle.steps.specs.declared.event.Event.{Event}
+use Rattle.steps.specs.declared.event.Event.TheVariants.{Step, Tick, Byte}
+use Rattle.steps.specs.Event.{after, outcome}
+use Rattle.steps.specs.Outcome.{is_trap}
+use Rattle.steps.specs.State.{State, pc_of}
+use Rattle.steps.specs.Step.{fetch}
 use Rattle.explain.specs.Text.{why_text}
 use Rattle.sim_run.specs.declared.schedule.Schedule.{Schedule}
 use Rattle.sim_run.specs.declared.stopping.StopAt.{StopAt}
@@ -63,4 +63,4 @@ events_before (Some number) schedule input s =
 -- how many steps were done, where PCC is, and what the next step will do, and why
 unfoldable pub stopped_lines : ℕ → State → List ℕ
 stopped_lines steps s =
-    codes "cherisim: steps " ++ decimal steps ++ codes ", pcc " ++ hex_of 16 (pc_of s) ++ codes "\n" ++ why_text s
+    codes "cherisim: steps " ++ decimal steps ++ codes ", pcc " ++ hex_of 16 (pc_of s) ++ codes "\n" ++ why_text [] s

@@ -3,10 +3,10 @@ use Rattle.std.specs.Prelude.{◌≡◌, ℕ, ◌+◌, ◌-◌, true, List, [], 
 use Rattle.std.specs.List.{concat}
 use Rattle.std.specs.Io.KnownBytes.{Appends}
 use Rattle.image.specs.Devices.{AppendsBeginning}
-use Rattle.hart.specs.declared.event.Event.{Event}
-use Rattle.hart.specs.declared.event.Event.TheVariants.{Step, Tick, Byte}
-use Rattle.hart.specs.Event.{after, sent}
-use Rattle.hart.specs.State.{State}
+use Rattle.steps.specs.declared.event.Event.{Event}
+use Rattle.steps.specs.declared.event.Event.TheVariants.{Step, Tick, Byte}
+use Rattle.steps.specs.Event.{after, sent}
+use Rattle.steps.specs.State.{State}
 use Rattle.machine.specs.Run.{run_after, run_sent}
 use Rattle.effect_texts.specs.TraceLine.{trace_line}
 use Rattle.sim_run.specs.declared.traced.TraceFault.{TraceFault}

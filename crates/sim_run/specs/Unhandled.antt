@@ -2,12 +2,12 @@
 -- first trap is a trap again, of the fetch at the entry.
 use Rattle.std.specs.Prelude.{ℕ, ◌+◌, if◌then◌else◌, List, [], ◌∷◌, Option, Some, None, Result, Ok, Err}
 use Rattle.base.specs.declared.fault.Fault.{Fault}
-use Rattle.hart.specs.declared.event.Event.{Event}
-use Rattle.hart.specs.declared.event.Event.TheVariants.{Step, Tick, Byte}
-use Rattle.hart.specs.Event.{after, outcome}
-use Rattle.hart.specs.Outcome.{is_trap}
-use Rattle.hart.specs.State.{State}
-use Rattle.hart.specs.Step.{fetch}
+use Rattle.steps.specs.declared.event.Event.{Event}
+use Rattle.steps.specs.declared.event.Event.TheVariants.{Step, Tick, Byte}
+use Rattle.steps.specs.Event.{after, outcome}
+use Rattle.steps.specs.Outcome.{is_trap}
+use Rattle.steps.specs.State.{State}
+use Rattle.steps.specs.Step.{fetch}
 
 -- a trap: the number of its step, counted from 1, the state before it, and how many later steps were traps of the fetch
 pub record Trapped : Type 0 where

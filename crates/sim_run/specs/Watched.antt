@@ -2,8 +2,8 @@
 use Rattle.std.specs.Prelude.{◌≡◌, ℕ, List, Option, Some, None, ⊤}
 use Rattle.base.specs.declared.fault.Fault.{Fault}
 use Rattle.cap_bounds.specs.CapValue.{CapValue}
-use Rattle.hart.specs.declared.effect.Effect.{Effect}
-use Rattle.hart.specs.declared.effect.Effect.TheVariants.{Trap}
+use Rattle.steps.specs.declared.effect.Effect.{Effect}
+use Rattle.steps.specs.declared.effect.Effect.TheVariants.{Trap}
 use Rattle.sim_run.specs.Unhandled.{Trapped}
 use Rattle.sim_run.specs.Ending.{first_trap}
 

@@ -3,8 +3,8 @@
 ghost use Rattle.std.specs.Prelude.{◌≡◌, ◌<◌, ◌-◌, ◌^◌, List, Some, IfOk, IfErr, IfSome, OnOk, OnErr, false};
 ghost use Rattle.std.specs.Io.KnownBytes.{Appends};
 ghost use Rattle.image.specs.Devices.{Counts};
-ghost use Rattle.hart.specs.State.{State};
-ghost use Rattle.hart.specs.declared.event.Event.{Event};
+ghost use Rattle.steps.specs.State.{State};
+ghost use Rattle.steps.specs.declared.event.Event.{Event};
 ghost use Rattle.machine.specs.Run.{run_after, run_sent, end_of};
 ghost use Rattle.sim_run.specs.Schedule.{is_halted, steps_in, IsCutShort, IsRunnable};
 ghost use Rattle.sim_run.specs.Stopped.{IsPlaceOf};

@@ -1,11 +1,12 @@
 //! How a run ended, for whoever called the program.
 
-ghost use Rattle.std.specs.Prelude.{◌≡◌, ◌++◌, OnOk, IfOk, Option, codes, decimal, false, string_bytes};
+ghost use Rattle.std.specs.Prelude.{◌≡◌, [], ◌++◌, OnOk, IfOk, Option, codes, decimal, false, string_bytes};
 ghost use Rattle.cap_bounds.specs.CapValue.{value_address};
 ghost use Rattle.disassembler.specs.Hex.{hex_of};
-ghost use Rattle.hart.specs.State.{pc_of};
-ghost use Rattle.hart.specs.Step.{step_effect};
-ghost use Rattle.hart.specs.declared.effect.Effect.TheVariants.{Trap};
+ghost use Rattle.steps.specs.State.{pc_of};
+ghost use Rattle.steps.specs.Step.{step_effect};
+ghost use Rattle.steps.specs.declared.effect.Effect.TheVariants.{Trap};
+ghost use Rattle.explain.specs.Text.{failed_line};
 ghost use Rattle.hart.specs.Opening.{opening};
 ghost use Rattle.machine.specs.Run.{run_after};
 ghost use Rattle.sim_run.specs.Ending.{ending_lines, first_trap, is_trapped, last_trap, since_line, trap_lines, trap_part};
@@ -26,6 +27,7 @@ use image::Image;
 use itoa::Buffer;
 use machine::{End, Machine};
 use std::alloc::{AllocError, Global};
+use symbols::Symbols;
 use trap_texts::trap_text;
 
 /// The status of a run that ended so, and the line for standard error, empty at status 0.
@@ -134,6 +136,14 @@ fn put_trap(text: &mut String, fault: Fault, mepc: u64, number: u64) -> Result<(
     put(text, "\n")
 }
 
+/// Appends the line of the condition that fails at the next step to a text, where one does.
+fn put_condition<C: CapRep>(text: &mut String, machine: &Machine<C>) -> Result<(), AllocError>
+    ensures { OnOk result (string_bytes text.new ≡ string_bytes text.old ++ failed_line [] machine.now) }
+{
+    let symbols = Symbols::new(*text.allocator());
+    put_failed(text, &symbols, machine.hart())
+}
+
 /// Appends the trap of the next step, which was planned, to a text: with the step's number and, on a line of its own, the condition that
 /// fails.
 pub(crate) fn put_first_trap<C: CapRep>(
@@ -147,7 +157,7 @@ pub(crate) fn put_first_trap<C: CapRep>(
     ensures { OnOk result (string_bytes text.new ≡ string_bytes text.old ++ first_trap number machine.now) }
 {
     put_trap(text, fault, pc(machine), number)?;
-    put_failed(text, machine.hart())
+    put_condition(text, machine)
 }
 
 /// Appends how many steps since the first trap were traps of the fetch to a text.

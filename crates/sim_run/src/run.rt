@@ -3,7 +3,7 @@ ghost use Rattle.std.specs.Prelude.{replicate, option_to_list};
 ghost use Rattle.std.specs.Prelude.{if◌then◌else◌};
 ghost use Rattle.std.specs.Io.KnownBytes.{Appends, Keeps};
 ghost use Rattle.image.specs.Devices.{Counts};
-ghost use Rattle.hart.specs.declared.event.Event.TheVariants.{Step, Tick, Byte};
+ghost use Rattle.steps.specs.declared.event.Event.TheVariants.{Step, Tick, Byte};
 ghost use Rattle.machine.specs.Run.{run_after, run_sent, end_of};
 ghost use Rattle.sim_run.specs.Schedule.{byte_before, is_tick_after, block, AreAlone, is_halted, steps_in};
 ghost use Rattle.sim_run.specs.Schedule.{first_steps, up_to_halt, scheduled, IsCutShort, IsInRange, IsRunnable};

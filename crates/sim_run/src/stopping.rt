@@ -1,8 +1,8 @@
 //! A run that ends before a step that traps, to show why.
 
 ghost use Rattle.std.specs.Prelude.{◌≡◌, Some, IfOk, IfSome, false, string_bytes};
-ghost use Rattle.hart.specs.Event.{after};
-ghost use Rattle.hart.specs.declared.event.Event.TheVariants.{Step};
+ghost use Rattle.steps.specs.Event.{after};
+ghost use Rattle.steps.specs.declared.event.Event.TheVariants.{Step};
 ghost use Rattle.machine.specs.Run.{run_after};
 ghost use Rattle.sim_run.specs.Schedule.{block, is_halted, scheduled, up_to_halt, IsRunnable};
 ghost use Rattle.sim_run.specs.Stopping.{events_before, events_met, is_asked, is_stop, is_violation, stop_met, stopped_lines};
@@ -18,6 +18,7 @@ use effect_texts::put;
 use explain::put_why;
 use machine::Machine;
 use std::alloc::{AllocError, Global};
+use symbols::Symbols;
 
 /// Which trap a run ends before.
 #[derive(Clone, Copy, Debug, PartialEq, Eq)]
@@ -125,6 +126,6 @@ pub fn stopped_lines<C: CapRep>(
     let mut text = String::new(alloc);
     put_place(&mut text, machine, steps)?;
     put(&mut text, "\n")?;
-    put_why(&mut text, machine.hart())?;
+    put_why(&mut text, &Symbols::new(alloc), machine.hart())?;
     Ok(text)
 }

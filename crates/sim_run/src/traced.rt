@@ -2,8 +2,8 @@
 
 ghost use Rattle.std.specs.Prelude.{◌≡◌, ◌<◌, ◌+◌, ◌-◌, ◌^◌, IfOk, IfErr, OnOk, false, [], ◌∷◌, option_to_list};
 ghost use Rattle.std.specs.Io.KnownBytes.{Appends};
-ghost use Rattle.hart.specs.Event.{after, sent};
-ghost use Rattle.hart.specs.declared.event.Event.TheVariants.{Step};
+ghost use Rattle.steps.specs.Event.{after, sent};
+ghost use Rattle.steps.specs.declared.event.Event.TheVariants.{Step};
 ghost use Rattle.machine.specs.Run.{run_after, run_sent, end_of};
 ghost use Rattle.effect_texts.specs.TraceLine.{trace_line as trace_line_of};
 ghost use Rattle.sim_run.specs.Schedule.{block, is_halted, scheduled, steps_in, up_to_halt, IsRunnable};

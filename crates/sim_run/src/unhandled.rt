@@ -2,14 +2,14 @@
 
 ghost use Rattle.std.specs.Prelude.{◌≡◌, ◌≤◌, ◌<◌, ◌+◌, ◌^◌, ℕ, true, List, Option, None, Some, IfOk, IfSome, OnOk, false, string_bytes};
 ghost use Rattle.special_regs.specs.Traps.{entry_address};
-ghost use Rattle.hart.specs.Applying.{meant};
-ghost use Rattle.hart.specs.Event.{after};
+ghost use Rattle.steps.specs.Applying.{meant};
+ghost use Rattle.steps.specs.Event.{after};
 ghost use Rattle.hart.specs.Opening.{opening};
-ghost use Rattle.hart.specs.State.{State};
-ghost use Rattle.hart.specs.Step.{fetch, step_effect};
-ghost use Rattle.hart.specs.declared.effect.Effect.TheVariants.{Trap};
-ghost use Rattle.hart.specs.declared.event.Event.{Event};
-ghost use Rattle.hart.specs.declared.event.Event.TheVariants.{Step};
+ghost use Rattle.steps.specs.State.{State};
+ghost use Rattle.steps.specs.Step.{fetch, step_effect};
+ghost use Rattle.steps.specs.declared.effect.Effect.TheVariants.{Trap};
+ghost use Rattle.steps.specs.declared.event.Event.{Event};
+ghost use Rattle.steps.specs.declared.event.Event.TheVariants.{Step};
 ghost use Rattle.machine.specs.Run.{run_after};
 ghost use Rattle.sim_run.specs.Schedule.{block, is_halted, scheduled, up_to_halt, IsRunnable};
 ghost use Rattle.sim_run.specs.Unhandled.{after_step, first_of, trap_left, unfetched_in, unhandled, Trapped};
@@ -20,10 +20,11 @@ use crate::run::{bring, pass};
 use crate::schedule::Schedule;
 use base::Fault;
 use cap_bounds::CapRep;
-use hart::{Effect, Planned};
+use hart::Planned;
 use image::Image;
 use machine::Machine;
 use std::alloc::{AllocError, Global};
+use steps::Effect;
 
 /// The fault of a step that traps.
 pub(crate) fn trap_in<C: CapRep>(planned: &Planned<C>) -> Option<Fault>

@@ -1,4 +1,5 @@
 mod BeginningLemmas
+mod LabelTexts
 mod LineLemmas
 mod PlaceLemmas
 mod TableLemmas

@@ -3,6 +3,7 @@
 
 mod beginning;
 mod fault;
+mod labels;
 pub mod laws;
 mod lines;
 mod places;
@@ -12,6 +13,7 @@ mod writing;
 
 pub use beginning::{Beginning, look_at_beginning};
 pub use fault::SymbolsFault;
+pub use labels::Label;
 pub use lines::split_line;
 pub use symbol::{Symbol, is_label};
 pub use table::{Symbols, read_symbols};

@@ -15,14 +15,16 @@ use Rattle.cap_checks.specs.Question.{first_false}
 use Rattle.disassembler.specs.Hex.{hex_of}
 use Rattle.disassembler.specs.Shown.{shown_word}
 use Rattle.registers.specs.Registers.{register}
-use Rattle.hart.specs.declared.effect.CsrWrite.{CsrWrite}
-use Rattle.hart.specs.declared.effect.Effect.{Effect}
-use Rattle.hart.specs.declared.effect.Effect.TheVariants.{Trap, Nothing, Write, Unseal, Store, StoreCapability, DeviceLoad, DeviceStore}
-use Rattle.hart.specs.declared.effect.Effect.TheVariants.{Jump, Link, Enter, Special, Csr, Return}
-use Rattle.hart.specs.declared.effect.Store.{Store as Stored}
-use Rattle.hart.specs.IsState.{IsState}
-use Rattle.hart.specs.State.{State, pc_of}
-use Rattle.hart.specs.Step.{fetch_asked, step_effect, stepped, step_sent}
+use Rattle.symbols.specs.Symbols.{Symbol}
+use Rattle.symbols.specs.Labels.{labelled}
+use Rattle.steps.specs.declared.effect.CsrWrite.{CsrWrite}
+use Rattle.steps.specs.declared.effect.Effect.{Effect}
+use Rattle.steps.specs.declared.effect.Effect.TheVariants.{Trap, Nothing, Write, Unseal, Store, StoreCapability, DeviceLoad, DeviceStore}
+use Rattle.steps.specs.declared.effect.Effect.TheVariants.{Jump, Link, Enter, Special, Csr, Return}
+use Rattle.steps.specs.declared.effect.Store.{Store as Stored}
+use Rattle.steps.specs.IsState.{IsState}
+use Rattle.steps.specs.State.{State, pc_of}
+use Rattle.steps.specs.Step.{fetch_asked, step_effect, stepped, step_sent}
 use Rattle.effect_texts.specs.EffectText.{trap_entry, register_text, shown_special, shown_csr, shown_size, return_part}
 use Rattle.effect_texts.specs.TraceLine.{is_interrupt, step_word, trace_line}
 use Rattle.effect_texts.specs.ValueText.{shown_value}
@@ -43,56 +45,57 @@ abbrev pub register_first : ℕ → State → List ℕ
 register_first n t = if n == 0 then [] else register_now n t ++ codes ", "
 
 -- PCC's address
-abbrev pub jump_now : State → List ℕ
-jump_now t = codes "jump to " ++ hex_of 16 (pc_of t)
+abbrev pub jump_now : List Symbol → State → List ℕ
+jump_now symbols t = codes "jump to " ++ labelled symbols (pc_of t)
 
 -- the bytes in RAM
-abbrev pub bytes_now : Stored → State → List ℕ
-bytes_now w t =
-    codes "store " ++ shown_size w.size ++ codes " at " ++ hex_of 16 w.address ++ codes ": "
+abbrev pub bytes_now : List Symbol → Stored → State → List ℕ
+bytes_now symbols w t =
+    codes "store " ++ shown_size w.size ++ codes " at " ++ labelled symbols w.address ++ codes ": "
     ++ hex_of (2 * bytes_of w.size) (number_at t.memory w.address (bytes_of w.size))
 
 -- the granule in RAM, with its tag
-abbrev pub granule_now : ℕ → State → List ℕ
-granule_now address t =
-    codes "store capability at " ++ hex_of 16 address ++ codes ": "
+abbrev pub granule_now : List Symbol → ℕ → State → List ℕ
+granule_now symbols address t =
+    codes "store capability at " ++ labelled symbols address ++ codes ": "
     ++ shown_value (value_of (word_at t.memory address) (has_tag t.memory address))
 
 -- ---- the whole text
 
 -- What devices are given is not read from them again, nor is a number that a control and status register is given, of which it keeps what
 -- `kept` says.
-abbrev pub text_after : Effect CapValue → State → List ℕ
-text_after (Trap fault) t = trap_entry (record { mcause = t.csrs.mcause; mtval = t.csrs.mtval })
-text_after Nothing t = codes "nothing"
-text_after (Write w) t = register_or (codes "nothing") w.rd t
-text_after (Unseal w) t = register_or (codes "nothing") w.rd t
-text_after (Store w) t = bytes_now w t
-text_after (StoreCapability w) t = granule_now w.address t
-text_after (DeviceLoad l) t = register_or (codes "load") l.rd t ++ codes " from device " ++ hex_of 16 l.address
-text_after (DeviceStore w) t =
+abbrev pub text_after : List Symbol → Effect CapValue → State → List ℕ
+text_after symbols (Trap fault) t = trap_entry (record { mcause = t.csrs.mcause; mtval = t.csrs.mtval })
+text_after symbols Nothing t = codes "nothing"
+text_after symbols (Write w) t = register_or (codes "nothing") w.rd t
+text_after symbols (Unseal w) t = register_or (codes "nothing") w.rd t
+text_after symbols (Store w) t = bytes_now symbols w t
+text_after symbols (StoreCapability w) t = granule_now symbols w.address t
+text_after symbols (DeviceLoad l) t = register_or (codes "load") l.rd t ++ codes " from device " ++ labelled symbols l.address
+text_after symbols (DeviceStore w) t =
     codes "device "
-    ++ (codes "store " ++ shown_size w.size ++ codes " at " ++ hex_of 16 w.address ++ codes ": " ++ hex_of (2 * bytes_of w.size) w.number)
-text_after (Jump target) t = jump_now t
-text_after (Link l) t = register_first l.rd t ++ jump_now t
-text_after (Enter e) t = register_first e.rd t ++ jump_now t ++ codes ", " ++ (codes "pcc = " ++ shown_value t.scrs.pcc)
-text_after (Special w) t = register_first w.rd t ++ (shown_special w.number ++ codes " = " ++ shown_value (held t (32 + w.number)))
-text_after (Csr w) t = register_first w.rd t ++ shown_csr w.number ++ codes " = " ++ hex_of 16 w.value
-text_after (Return sealed) t = return_part (is_sentry t.scrs.mepcc)
+    ++ (codes "store " ++ shown_size w.size ++ codes " at " ++ labelled symbols w.address ++ codes ": " ++ hex_of (2 * bytes_of w.size) w.number)
+text_after symbols (Jump target) t = jump_now symbols t
+text_after symbols (Link l) t = register_first l.rd t ++ jump_now symbols t
+text_after symbols (Enter e) t = register_first e.rd t ++ jump_now symbols t ++ codes ", " ++ (codes "pcc = " ++ shown_value t.scrs.pcc)
+text_after symbols (Special w) t = register_first w.rd t ++ (shown_special w.number ++ codes " = " ++ shown_value (held t (32 + w.number)))
+text_after symbols (Csr w) t = register_first w.rd t ++ shown_csr w.number ++ codes " = " ++ hex_of 16 w.value
+text_after symbols (Return sealed) t = return_part (is_sentry t.scrs.mepcc)
 
 -- The law: what a line of a trace and `why` show of a step's effect is what the state after it has.
 abbrev pub ShowsTheStateAfter : Type 0
 ShowsTheStateAfter =
-    (s : State) → IsState s → s.devices.halted ≡ None
+    (symbols : List Symbol) (s : State) → IsState s → s.devices.halted ≡ None
     → (
     (number : ℕ)
     → trace_line number s
     ≡ decimal number ++ codes " " ++ hex_of 16 (value_address s.scrs.pcc) ++ codes " " ++ step_word s ++ codes ": "
-    ++ text_after (step_effect s) (stepped s) ++ codes "\n"
+    ++ text_after [] (step_effect s) (stepped s) ++ codes "\n"
     )
     × (
-    why_text s
-    ≡ instruction_text s ++ stages_text s ++ codes "effect: " ++ text_after (step_effect s) (stepped s) ++ codes "\n"
+    why_text symbols s
+    ≡ instruction_text symbols s ++ stages_text symbols s ++ codes "effect: " ++ text_after symbols (step_effect s) (stepped s)
+    ++ codes "\n"
     )
 
 -- ---- the word
@@ -106,10 +109,10 @@ word_shown s =
 -- The law: `why` shows the word at PCC's address where that lies in RAM, and a line of a trace shows the word that is fetched.
 abbrev pub ShowsTheWord : Type 0
 ShowsTheWord =
-    (s : State)
+    (symbols : List Symbol) (s : State)
     → (
     is_in_ram s.memory (value_address s.scrs.pcc) 4 ≡ true
-    → instruction_text s ≡ hex_of 16 (value_address s.scrs.pcc) ++ codes " " ++ word_shown s ++ codes "\n"
+    → instruction_text symbols s ≡ labelled symbols (value_address s.scrs.pcc) ++ codes " " ++ word_shown s ++ codes "\n"
     )
     × (is_interrupt (step_effect s) ≡ false → first_false (fetch_asked s) ≡ None → step_word s ≡ word_shown s)
 

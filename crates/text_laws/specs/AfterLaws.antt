@@ -32,17 +32,19 @@ use Rattle.special_regs.specs.Writes.{csrs_written, views_written, scr_written}
 use Rattle.disassembler.specs.Hex.{hex_of}
 use Rattle.disassembler.specs.Shown.{shown_word}
 use Rattle.registers.specs.Registers.{null, register, with_register, AreRegisters}
-use Rattle.hart.specs.AppliedLaws.{IsSoundEffect}
-use Rattle.hart.specs.declared.effect.CsrWrite.{CsrWrite}
-use Rattle.hart.specs.declared.effect.SpecialWrite.{SpecialWrite}
-use Rattle.hart.specs.declared.effect.Effect.{Effect}
-use Rattle.hart.specs.declared.effect.Effect.TheVariants.{Trap, Nothing, Write, Unseal, Store, StoreCapability, DeviceLoad, DeviceStore}
-use Rattle.hart.specs.declared.effect.Effect.TheVariants.{Jump, Link, Enter, Special, Csr, Return}
-use Rattle.hart.specs.Effect.{applied, sent_by}
-use Rattle.hart.specs.EventLaws.{step_effect-sound}
-use Rattle.hart.specs.IsState.{IsState}
-use Rattle.hart.specs.State.{State, pc_of}
-use Rattle.hart.specs.Step.{word_unless, step_effect, stepped_unless, stepped, step_sent_unless, step_sent}
+use Rattle.steps.specs.AppliedLaws.{IsSoundEffect}
+use Rattle.symbols.specs.Symbols.{Symbol}
+use Rattle.symbols.specs.Labels.{labelled}
+use Rattle.steps.specs.declared.effect.CsrWrite.{CsrWrite}
+use Rattle.steps.specs.declared.effect.SpecialWrite.{SpecialWrite}
+use Rattle.steps.specs.declared.effect.Effect.{Effect}
+use Rattle.steps.specs.declared.effect.Effect.TheVariants.{Trap, Nothing, Write, Unseal, Store, StoreCapability, DeviceLoad, DeviceStore}
+use Rattle.steps.specs.declared.effect.Effect.TheVariants.{Jump, Link, Enter, Special, Csr, Return}
+use Rattle.steps.specs.Effect.{applied, sent_by}
+use Rattle.steps.specs.EventLaws.{step_effect-sound}
+use Rattle.steps.specs.IsState.{IsState}
+use Rattle.steps.specs.State.{State, pc_of}
+use Rattle.steps.specs.Step.{word_unless, step_effect, stepped_unless, stepped, step_sent_unless, step_sent}
 use Rattle.effect_texts.specs.EffectText.{register_text, value_part, written_or, written_first, jump_part, effect_text}
 use Rattle.effect_texts.specs.EffectText.{shown_size, shown_special, shown_csr, return_part}
 use Rattle.effect_texts.specs.TraceLine.{word_part, step_word}
@@ -208,41 +210,41 @@ module _ (s : State) (is : IsState s) where
   jump-there : (v : CapValue) (target : ℕ) → target < 2 ^ 64 → target ≡ value_address (at_address v target)
   jump-there v target fits = sym (value_address-at_address v target fits)
 
-  text-after : (e : Effect CapValue) → IsSoundEffect e s → Fits e s → effect_text e ≡ text_after e (applied e s)
+  text-after : (symbols : List Symbol) (e : Effect CapValue) → IsSoundEffect e s → Fits e s → effect_text symbols e ≡ text_after symbols e (applied e s)
   unfolding effect_text applied
-  text-after (Trap fault) sound fits = refl
-  text-after Nothing sound fits = refl
-  text-after (Write w) sound fits = or-there s.registers w.rd w.value (applied (Write w) s) is.registers fits refl (codes "nothing")
-  text-after (Unseal w) sound fits = or-there s.registers w.rd w.value (applied (Unseal w) s) is.registers fits refl (codes "nothing")
-  text-after (Store w) sound fits =
-      ap (λ d. codes "store " ++ shown_size w.size ++ codes " at " ++ hex_of 16 w.address ++ codes ": " ++ d)
+  text-after symbols (Trap fault) sound fits = refl
+  text-after symbols Nothing sound fits = refl
+  text-after symbols (Write w) sound fits = or-there s.registers w.rd w.value (applied (Write w) s) is.registers fits refl (codes "nothing")
+  text-after symbols (Unseal w) sound fits = or-there s.registers w.rd w.value (applied (Unseal w) s) is.registers fits refl (codes "nothing")
+  text-after symbols (Store w) sound fits =
+      ap (λ d. codes "store " ++ shown_size w.size ++ codes " at " ++ labelled symbols w.address ++ codes ": " ++ d)
       (sym (ap (hex_of (2 * bytes_of w.size)) (number-stored s.memory w.address (bytes_of w.size) w.number sound)
       ∙ digits-of_bytes w.size w.number))
-  text-after (StoreCapability w) sound fits =
-      ap (λ v. codes "store capability at " ++ hex_of 16 w.address ++ codes ": " ++ shown_value v)
+  text-after symbols (StoreCapability w) sound fits =
+      ap (λ v. codes "store capability at " ++ labelled symbols w.address ++ codes ": " ++ shown_value v)
       (sym (value-stored s.memory w.address w.value sound.0 sound.1))
-  text-after (DeviceLoad l) sound fits =
-      ap (λ k. k ++ codes " from device " ++ hex_of 16 l.address)
+  text-after symbols (DeviceLoad l) sound fits =
+      ap (λ k. k ++ codes " from device " ++ labelled symbols l.address)
       (or-there s.registers l.rd l.value (applied (DeviceLoad l) s) is.registers fits refl (codes "load"))
-  text-after (DeviceStore w) sound fits = refl
-  text-after (Jump target) sound fits = ap jump_part (jump-there s.scrs.pcc target sound.0)
-  text-after (Link l) sound fits =
-      ap (λ k. k ++ jump_part l.target) (first-there s.registers l.rd l.link (applied (Link l) s) is.registers fits refl)
-      ∙ ap (λ n. register_first l.rd (applied (Link l) s) ++ jump_part n) (jump-there s.scrs.pcc l.target sound.1.0)
-  text-after (Enter e) sound fits =
-      ap (λ k. k ++ jump_part e.target ++ codes ", " ++ value_part (codes "pcc") (at_address e.code e.target))
+  text-after symbols (DeviceStore w) sound fits = refl
+  text-after symbols (Jump target) sound fits = ap (jump_part symbols) (jump-there s.scrs.pcc target sound.0)
+  text-after symbols (Link l) sound fits =
+      ap (λ k. k ++ jump_part symbols l.target) (first-there s.registers l.rd l.link (applied (Link l) s) is.registers fits refl)
+      ∙ ap (λ n. register_first l.rd (applied (Link l) s) ++ jump_part symbols n) (jump-there s.scrs.pcc l.target sound.1.0)
+  text-after symbols (Enter e) sound fits =
+      ap (λ k. k ++ jump_part symbols e.target ++ codes ", " ++ value_part (codes "pcc") (at_address e.code e.target))
       (first-there s.registers e.rd e.link (applied (Enter e) s) is.registers fits refl)
-      ∙ ap (λ n. register_first e.rd (applied (Enter e) s) ++ jump_part n ++ codes ", "
+      ∙ ap (λ n. register_first e.rd (applied (Enter e) s) ++ jump_part symbols n ++ codes ", "
       ++ value_part (codes "pcc") (at_address e.code e.target))
       (jump-there e.code e.target sound.2.0)
-  text-after (Special w) sound fits =
+  text-after symbols (Special w) sound fits =
       ap (λ k. k ++ value_part (shown_special w.number) w.value)
       (first-there s.registers w.rd w.old (applied (Special w) s) is.registers fits.0 refl)
       ∙ ap (λ v. register_first w.rd (applied (Special w) s) ++ value_part (shown_special w.number) v) (special-there s w fits.1)
-  text-after (Csr w) sound fits =
+  text-after symbols (Csr w) sound fits =
       ap (λ k. k ++ shown_csr w.number ++ codes " = " ++ hex_of 16 w.value)
       (first-there s.registers w.rd w.old (applied (Csr w) s) is.registers fits.0 refl)
-  text-after (Return sealed) sound fits = ap return_part fits
+  text-after symbols (Return sealed) sound fits = ap return_part fits
 
   -- ---- control and status registers
 
@@ -295,26 +297,27 @@ stepped-applied : (s : State) → s.devices.halted ≡ None → stepped s ≡ ap
 unfolding stepped
 stepped-applied s running = ap (λ halted. stepped_unless halted s) running
 
-effect-after : (s : State) → IsState s → s.devices.halted ≡ None → effect_text (step_effect s) ≡ text_after (step_effect s) (stepped s)
-effect-after s is running =
-    text-after s is (step_effect s) (step_effect-sound s is) (step-fits s)
-    ∙ ap (text_after (step_effect s)) (sym (stepped-applied s running))
+effect-after : (symbols : List Symbol) (s : State) → IsState s → s.devices.halted ≡ None
+    → effect_text symbols (step_effect s) ≡ text_after symbols (step_effect s) (stepped s)
+effect-after symbols s is running =
+    text-after s is symbols (step_effect s) (step_effect-sound s is) (step-fits s)
+    ∙ ap (text_after symbols (step_effect s)) (sym (stepped-applied s running))
 
 pub shows-the_state_after : ShowsTheStateAfter
 unfolding why_text
-shows-the_state_after s is running =
-    let same = effect-after s is running in (
+shows-the_state_after symbols s is running =
+    let same = effect-after symbols s is running in (
       λ number.
           ap (λ text. decimal number ++ codes " " ++ hex_of 16 (pc_of s) ++ codes " " ++ step_word s ++ codes ": " ++ text ++ codes "\n")
-          same,
-      ap (λ halted. why_unless halted s) running
-          ∙ ap (λ text. instruction_text s ++ stages_text s ++ codes "effect: " ++ text ++ codes "\n") same,
+          (effect-after [] s is running),
+      ap (λ halted. why_unless symbols halted s) running
+          ∙ ap (λ text. instruction_text symbols s ++ stages_text symbols s ++ codes "effect: " ++ text ++ codes "\n") same,
     )
 
 pub shows-the_word : ShowsTheWord
 unfolding instruction_text step_word
-shows-the_word s = (
-  λ inside. rw inside (word-line (hex_of 16 (pc_of s)) (hex_of 8 (word_here s)) (shown_word (value_flag s.scrs.pcc) (word_here s))),
+shows-the_word symbols s = (
+  λ inside. rw inside (word-line (labelled symbols (pc_of s)) (hex_of 8 (word_here s)) (shown_word (value_flag s.scrs.pcc) (word_here s))),
   λ instruction fetched. rw instruction (ap (λ f. word_part (value_flag s.scrs.pcc) (word_unless f s)) fetched),
 )
 

@@ -24,20 +24,20 @@ use Rattle.isa_rows.specs.declared.rows.Row.TheVariants.{CUnseal}
 use Rattle.isa_rows.specs.Kind.{kind_of}
 use Rattle.isa_rows.specs.Decoded.{insn_of}
 use Rattle.isa_rows.specs.OperandLaws.{AreInRange, AreInRange-insn_of}
-use Rattle.hart.specs.declared.effect.CsrWrite.{CsrWrite}
-use Rattle.hart.specs.declared.effect.Effect.{Effect}
-use Rattle.hart.specs.declared.effect.Effect.TheVariants.{Nothing, Write, Unseal, Store, DeviceLoad, DeviceStore}
-use Rattle.hart.specs.declared.effect.Effect.TheVariants.{Jump, Link, Enter, Special, Csr, Return}
-use Rattle.hart.specs.declared.effect.SpecialWrite.{SpecialWrite}
-use Rattle.hart.specs.declared.effect.Write.{Write as Written}
-use Rattle.hart.specs.AskedLaws.{register-none}
-use Rattle.hart.specs.ComputeRows.{integer_effect, mul_div_effect, written_by, capability_effect, auipc_effect}
-use Rattle.hart.specs.JumpRows.{branch_done, enter_done, jalr_done, jalr_target, link_done}
-use Rattle.hart.specs.Looks.{in_capability_mode, unless_fault}
-use Rattle.hart.specs.MemoryRows.{load_done, store_done, load_capability_done, store_capability_done}
-use Rattle.hart.specs.State.{State}
-use Rattle.hart.specs.Step.{asked, does, kind_effect, decoded_effect, fetched_effect, fetch, decided, step_effect}
-use Rattle.hart.specs.SystemRows.{csr_number, csr_writes, csr_done, csr_held, special_done, special_held}
+use Rattle.steps.specs.declared.effect.CsrWrite.{CsrWrite}
+use Rattle.steps.specs.declared.effect.Effect.{Effect}
+use Rattle.steps.specs.declared.effect.Effect.TheVariants.{Nothing, Write, Unseal, Store, DeviceLoad, DeviceStore}
+use Rattle.steps.specs.declared.effect.Effect.TheVariants.{Jump, Link, Enter, Special, Csr, Return}
+use Rattle.steps.specs.declared.effect.SpecialWrite.{SpecialWrite}
+use Rattle.steps.specs.declared.effect.Write.{Write as Written}
+use Rattle.steps.specs.AskedLaws.{register-none}
+use Rattle.steps.specs.ComputeRows.{integer_effect, mul_div_effect, written_by, capability_effect, auipc_effect}
+use Rattle.steps.specs.JumpRows.{branch_done, enter_done, jalr_done, jalr_target, link_done}
+use Rattle.steps.specs.Looks.{in_capability_mode, unless_fault}
+use Rattle.steps.specs.MemoryRows.{load_done, store_done, load_capability_done, store_capability_done}
+use Rattle.steps.specs.State.{State}
+use Rattle.steps.specs.Step.{asked, does, kind_effect, decoded_effect, fetched_effect, fetch, decided, step_effect}
+use Rattle.steps.specs.SystemRows.{csr_number, csr_writes, csr_done, csr_held, special_done, special_held}
 
 abbrev pub Fits : Effect CapValue → State → Type 0
 Fits (Write w) s = w.rd < 32

@@ -23,9 +23,9 @@ use Rattle.isa_rows.specs.declared.kinds.Kind.TheVariants as kind
 use Rattle.isa_rows.specs.Kind.{kind_of}
 use Rattle.isa_rows.specs.Decoded.{insn_of}
 use Rattle.registers.specs.Registers.{register}
-use Rattle.hart.specs.Accesses.{size_of, through_rs1}
-use Rattle.hart.specs.State.{State, pc_of}
-use Rattle.hart.specs.SystemRows.{csr_writes}
+use Rattle.steps.specs.Accesses.{size_of, through_rs1}
+use Rattle.steps.specs.State.{State, pc_of}
+use Rattle.steps.specs.SystemRows.{csr_writes}
 use Rattle.explain.specs.Asked.{stages_of}
 
 -- ---- registers, as mtval counts them (UCAM-CL-TR-987, CHERI exception): 0 to 31 general, from 32 on special

@@ -31,12 +31,12 @@ use Rattle.isa_rows.specs.Kind.{kind_of}
 use Rattle.isa_rows.specs.Decoded.{insn_of}
 use Rattle.isa_rows.specs.OperandLaws.{AreInRange, AreInRange-insn_of}
 use Rattle.registers.specs.Registers.{register}
-use Rattle.hart.specs.Accesses.{size_of, through_rs1}
-use Rattle.hart.specs.Looks.{in_capability_mode}
-use Rattle.hart.specs.MemoryRows.{place_of, authority_of, authority_number_of, authority_through, number_through, mapped_for, memory_asked}
-use Rattle.hart.specs.JumpRows.{branch_asked, link_asked, enter_asked, invoke_asked, jal_target, jalr_asked, jalr_target}
-use Rattle.hart.specs.State.{State, pc_of}
-use Rattle.hart.specs.Step.{asked, fetch_asked, word_unless}
+use Rattle.steps.specs.Accesses.{size_of, through_rs1}
+use Rattle.steps.specs.Looks.{in_capability_mode}
+use Rattle.steps.specs.MemoryRows.{place_of, authority_of, authority_number_of, authority_through, number_through, mapped_for, memory_asked}
+use Rattle.steps.specs.JumpRows.{branch_asked, link_asked, enter_asked, invoke_asked, jal_target, jalr_asked, jalr_target}
+use Rattle.steps.specs.State.{State, pc_of}
+use Rattle.steps.specs.Step.{asked, fetch_asked, word_unless}
 use Rattle.explain.specs.Asked.{insn_stages, fetched_stages, stages_unless, stages_of}
 use Rattle.text_laws.specs.Says.{held, lies_in, word_here, asked_at, asked_bytes, asked_through, FetchSays, seal_lets}
 use Rattle.text_laws.specs.Says.{ExecuteSays, InsnSays, Each, InsnStageSays, StagesSay, ConditionsSayWhatIsAsked}

@@ -8,7 +8,7 @@ use Rattle.base.specs.declared.cause.CheriCause.{CheriCause}
 use Rattle.base.specs.declared.cause.CheriCause.TheVariants as forbids
 use Rattle.base.specs.declared.size.Size.{Size}
 use Rattle.base.specs.Fault.{number_of, cheri_number_of}
-use Rattle.cap_bounds.specs.CapValue.{value_base, value_top}
+use Rattle.cap_bounds.specs.CapValue.{value_base, value_top, value_perms}
 use Rattle.cap_checks.specs.declared.question.Condition.{Condition}
 use Rattle.cap_checks.specs.declared.question.Question.{Question}
 use Rattle.cap_checks.specs.declared.question.Question.TheVariants.{Right, Bounds, Multiple, Ram, RamOrDevice, Instruction, SystemRegister}
@@ -16,11 +16,14 @@ use Rattle.asm_names.specs.Registers.{capability_names}
 use Rattle.disassembler.specs.Hex.{hex_of}
 use Rattle.disassembler.specs.Shown.{name_or}
 use Rattle.trap_texts.specs.Names.{cheri_cause_name, cheri_asked_name, register_at_fault}
-use Rattle.hart.specs.declared.effect.Effect.{Effect}
-use Rattle.hart.specs.declared.effect.Effect.TheVariants.{Trap}
+use Rattle.bounds_text.specs.Letters.{permission_letters}
+use Rattle.symbols.specs.Symbols.{Symbol}
+use Rattle.symbols.specs.Labels.{labelled}
+use Rattle.steps.specs.declared.effect.Effect.{Effect}
+use Rattle.steps.specs.declared.effect.Effect.TheVariants.{Trap}
 use Rattle.cap_bounds.specs.CapValue.{CapValue}
-use Rattle.hart.specs.State.{State, pc_of}
-use Rattle.hart.specs.Step.{step_effect}
+use Rattle.steps.specs.State.{State, pc_of}
+use Rattle.steps.specs.Step.{step_effect}
 use Rattle.effect_texts.specs.EffectText as traced
 use Rattle.effect_texts.specs.EffectText.{shown_size}
 use Rattle.effect_texts.specs.ValueText.{shown_value}
@@ -55,7 +58,8 @@ abbrev pub RegistersAreShown : Type 0
 RegistersAreShown =
     (map register_text (range_with_len 0 32) ≡ capability_names) × (map register_text (32 ∷ 33 ∷ 60 ∷ 61 ∷ 62 ∷ 63 ∷ []) ≡ special_names)
     × ((s : State) (n : ℕ) → capability_in s n ≡ held s n)
-    × ((s : State) (n : ℕ) → capability_line s n ≡ codes "  " ++ (register_text n ++ codes " " ++ shown_value (held s n) ++ codes "\n"))
+    × ((s : State) (n : ℕ) → capability_line s n ≡ codes "  " ++ register_text n ++ codes " "
+    ++ (shown_value (held s n) ++ codes " " ++ permission_letters (value_perms (held s n))) ++ codes "\n")
     × RegistersAreNamedInTraces
 
 -- ---- lines
@@ -64,37 +68,37 @@ abbrev pub mark_of : Bool → List ℕ
 mark_of holds = if holds then codes "  ok " else codes "  no "
 
 -- a line of bounds shows four numbers, and is marked as they compare
-abbrev pub bounds_line : ℕ → ℕ → ℕ → ℕ → ℕ → List ℕ
-bounds_line r address size base top =
+abbrev pub bounds_line : List Symbol → ℕ → ℕ → ℕ → ℕ → ℕ → List ℕ
+bounds_line symbols r address size base top =
     mark_of (nat_le base address && nat_le (address + size) top)
     ++ (codes "length of " ++ register_text r
-    ++ (codes ": " ++ hex_of 16 address ++ codes " + " ++ decimal size ++ codes " in " ++ hex_of 16 base ++ codes " to " ++ hex_of 17 top))
+    ++ (codes ": " ++ labelled symbols address ++ codes " + " ++ decimal size ++ codes " in " ++ labelled symbols base ++ codes " to " ++ hex_of 17 top))
     ++ codes "\n"
 
-abbrev pub multiple_line : ℕ → ℕ → List ℕ
-multiple_line address size =
-    mark_of (address % size == 0) ++ (codes "a multiple of " ++ decimal size ++ codes ": " ++ hex_of 16 address) ++ codes "\n"
+abbrev pub multiple_line : List Symbol → ℕ → ℕ → List ℕ
+multiple_line symbols address size =
+    mark_of (address % size == 0) ++ (codes "a multiple of " ++ decimal size ++ codes ": " ++ labelled symbols address) ++ codes "\n"
 
 -- the line of each question, `ok` where it holds
-abbrev pub line_of : State → Question → Bool → List ℕ
-line_of s (Right r what) holds =
+abbrev pub line_of : List Symbol → State → Question → Bool → List ℕ
+line_of symbols s (Right r what) holds =
     mark_of holds ++ (name_or [] (cheri_asked_name (cheri_number_of what)) ++ codes " of " ++ register_text r) ++ codes "\n"
-line_of s (Bounds r address size) holds = bounds_line r address size (value_base (held s r)) (value_top (held s r))
-line_of s (Multiple otherwise address size) holds = multiple_line address size
-line_of s (Ram otherwise address) holds = mark_of holds ++ (codes "RAM at " ++ hex_of 16 address) ++ codes "\n"
-line_of s (RamOrDevice otherwise address size) holds =
-    mark_of holds ++ (codes "RAM or a device at " ++ hex_of 16 address) ++ codes "\n"
-line_of s (Instruction word) holds = mark_of holds ++ codes "the word is an instruction" ++ codes "\n"
-line_of s (SystemRegister word) holds =
+line_of symbols s (Bounds r address size) holds = bounds_line symbols r address size (value_base (held s r)) (value_top (held s r))
+line_of symbols s (Multiple otherwise address size) holds = multiple_line symbols address size
+line_of symbols s (Ram otherwise address) holds = mark_of holds ++ (codes "RAM at " ++ labelled symbols address) ++ codes "\n"
+line_of symbols s (RamOrDevice otherwise address size) holds =
+    mark_of holds ++ (codes "RAM or a device at " ++ labelled symbols address) ++ codes "\n"
+line_of symbols s (Instruction word) holds = mark_of holds ++ codes "the word is an instruction" ++ codes "\n"
+line_of symbols s (SystemRegister word) holds =
     mark_of holds ++ codes "there is such a register, and it may be written where it is" ++ codes "\n"
 
-abbrev pub LineSays : State → Question → Bool → Type 0
-LineSays s q holds = condition_line s (record { question = q; holds = holds }) ≡ line_of s q holds
+abbrev pub LineSays : List Symbol → State → Question → Bool → Type 0
+LineSays symbols s q holds = condition_line symbols s (record { question = q; holds = holds }) ≡ line_of symbols s q holds
 
 -- The law: the line of a condition of bounds is `ok` exactly if base <= address and address + size <= top, of the numbers that it shows,
 -- and those are the bounds of what the register that it names holds; that of a multiple exactly if the address that it shows is one.
 abbrev pub LinesSayWhatIsHeld : Type 0
-LinesSayWhatIsHeld = (s : State) → Each (LineSays s) (all_conditions (stages_of s))
+LinesSayWhatIsHeld = (symbols : List Symbol) (s : State) → Each (LineSays symbols s) (all_conditions (stages_of s))
 
 -- ---- stages
 
@@ -106,30 +110,30 @@ abbrev pub Has : List ℕ → List ℕ → Type 0
 Has text part = (before : List ℕ) × (after : List ℕ) × (text ≡ before ++ part ++ after)
 
 -- the line of the place that a question is about
-abbrev pub place_line : List ℕ → ℕ → List ℕ
-place_line what address = what ++ hex_of 16 address ++ codes "\n"
+abbrev pub place_line : List Symbol → List ℕ → ℕ → List ℕ
+place_line symbols what address = what ++ labelled symbols address ++ codes "\n"
 
 abbrev pub sized : Size → List ℕ
 sized size = shown_size size ++ codes " at "
 
 -- what the text of a stage shows of each of its questions: which capability, and as its first line where
-abbrev pub StageShows : State → List ℕ → Question → Type 0
-StageShows s text (Right r forbids.Tag) = Has text (capability_line s r)
-StageShows s text (Right r forbids.AccessSystemRegisters) =
-    Begins text (place_line (codes "system register at ") (pc_of s) ++ capability_line s 32)
-StageShows s text (Right r what) = Unit {0}
-StageShows s text (Bounds r address size) =
-    (what : List ℕ) × (between : List ℕ) × Begins text (place_line what address ++ between ++ capability_line s r)
-StageShows s text (Multiple cause.MisalignedJump address size) =
-    Begins text (place_line (codes "jump to ") address) ⊎ Begins text (place_line (codes "invocation of ") address)
-StageShows s text (Multiple otherwise address size) = (what : List ℕ) × Begins text (place_line what address)
-StageShows s text (Ram cause.FetchAccess address) = Begins text (place_line (codes "fetch at ") address)
-StageShows s text (Ram cause.LoadAccess address) = Begins text (place_line (codes "load of a capability at ") address)
-StageShows s text (Ram otherwise address) = Begins text (place_line (codes "store of a capability at ") address)
-StageShows s text (RamOrDevice cause.LoadAccess address size) = Begins text (place_line (codes "load of " ++ sized size) address)
-StageShows s text (RamOrDevice otherwise address size) = Begins text (place_line (codes "store of " ++ sized size) address)
-StageShows s text (Instruction word) = Begins text (place_line (codes "decoding at ") (pc_of s))
-StageShows s text (SystemRegister word) = Begins text (place_line (codes "system register at ") (pc_of s) ++ capability_line s 32)
+abbrev pub StageShows : List Symbol → State → List ℕ → Question → Type 0
+StageShows symbols s text (Right r forbids.Tag) = Has text (capability_line s r)
+StageShows symbols s text (Right r forbids.AccessSystemRegisters) =
+    Begins text (place_line symbols (codes "system register at ") (pc_of s) ++ capability_line s 32)
+StageShows symbols s text (Right r what) = Unit {0}
+StageShows symbols s text (Bounds r address size) =
+    (what : List ℕ) × (between : List ℕ) × Begins text (place_line symbols what address ++ between ++ capability_line s r)
+StageShows symbols s text (Multiple cause.MisalignedJump address size) =
+    Begins text (place_line symbols (codes "jump to ") address) ⊎ Begins text (place_line symbols (codes "invocation of ") address)
+StageShows symbols s text (Multiple otherwise address size) = (what : List ℕ) × Begins text (place_line symbols what address)
+StageShows symbols s text (Ram cause.FetchAccess address) = Begins text (place_line symbols (codes "fetch at ") address)
+StageShows symbols s text (Ram cause.LoadAccess address) = Begins text (place_line symbols (codes "load of a capability at ") address)
+StageShows symbols s text (Ram otherwise address) = Begins text (place_line symbols (codes "store of a capability at ") address)
+StageShows symbols s text (RamOrDevice cause.LoadAccess address size) = Begins text (place_line symbols (codes "load of " ++ sized size) address)
+StageShows symbols s text (RamOrDevice otherwise address size) = Begins text (place_line symbols (codes "store of " ++ sized size) address)
+StageShows symbols s text (Instruction word) = Begins text (place_line symbols (codes "decoding at ") (pc_of s))
+StageShows symbols s text (SystemRegister word) = Begins text (place_line symbols (codes "system register at ") (pc_of s) ++ capability_line s 32)
 
 abbrev pub EachStage : (List Condition → Type 0) → List (List Condition) → Type 0
 EachStage P [] = Unit {0}
@@ -144,9 +148,9 @@ until_false (c ∷ cs) = c ∷ (if c.holds then until_false cs else [])
 -- condition up to the first false one.
 abbrev pub StagesShowWhatTheyAsk : Type 0
 StagesShowWhatTheyAsk =
-    (s : State) → (stages_text s ≡ flat_map (stage_text s) (stages_of s))
-    × EachStage (λ stage. Each (λ q holds. StageShows s (stage_text s stage) q) stage
-    × ((before : List ℕ) × (stage_text s stage ≡ before ++ flat_map (condition_line s) (until_false stage)))) (stages_of s)
+    (symbols : List Symbol) (s : State) → (stages_text symbols s ≡ flat_map (stage_text symbols s) (stages_of s))
+    × EachStage (λ stage. Each (λ q holds. StageShows symbols s (stage_text symbols s stage) q) stage
+    × ((before : List ℕ) × (stage_text symbols s stage ≡ before ++ flat_map (condition_line symbols s) (until_false stage)))) (stages_of s)
 
 -- ---- the first false condition, and the trap
 
@@ -163,5 +167,5 @@ trap_by (SystemRegister word) = Trap (record { mcause = 2; mtval = word })
 -- The law: where a condition is false, the step is the trap by the first, and the stages' text ends with that condition's line.
 abbrev pub TrapsByTheShown : Type 0
 TrapsByTheShown =
-    (s : State) (c : Condition) → find (λ c. not c.holds) (all_conditions (stages_of s)) ≡ Some c
-    → (step_effect s ≡ trap_by c.question) × ((before : List ℕ) × (stages_text s ≡ before ++ condition_line s c))
+    (symbols : List Symbol) (s : State) (c : Condition) → find (λ c. not c.holds) (all_conditions (stages_of s)) ≡ Some c
+    → (step_effect s ≡ trap_by c.question) × ((before : List ℕ) × (stages_text symbols s ≡ before ++ condition_line symbols s c))

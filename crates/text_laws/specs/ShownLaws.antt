@@ -18,22 +18,22 @@ use Rattle.trap_texts.specs.Names.{cause_name, cheri_cause_name, cheri_asked_nam
 use Rattle.disassembler.specs.Hex.{hex_of}
 use Rattle.disassembler.specs.Shown.{name_or}
 use Rattle.effect_texts.specs.EffectText.{violation_names, taken, trap_entry}
+use Rattle.symbols.specs.Symbols.{Symbol}
 use Rattle.isa_rows.specs.declared.operands.Insn.{Insn}
 use Rattle.isa_rows.specs.declared.kinds.Kind.{Kind}
 use Rattle.isa_rows.specs.Kind.{kind_of}
 use Rattle.isa_rows.specs.Decoded.{insn_of}
-use Rattle.hart.specs.declared.effect.Effect.TheVariants.{Trap}
-use Rattle.hart.specs.Looks.{unless_fault}
-use Rattle.hart.specs.State.{State}
-use Rattle.hart.specs.Step.{fetch}
-use Rattle.effect_texts.specs.ValueText.{value_line}
+use Rattle.steps.specs.declared.effect.Effect.TheVariants.{Trap}
+use Rattle.steps.specs.Looks.{unless_fault}
+use Rattle.steps.specs.State.{State}
+use Rattle.steps.specs.Step.{fetch}
 use Rattle.explain.specs.Asked.{stages_unless, stages_of, all_conditions, done_by_word, effect_unless}
 use Rattle.explain.specs.AskedLaws.{traps-by_its_stages}
 use Rattle.text_laws.specs.StageLaws.{text-ends}
 use Rattle.text_laws.specs.Says.{held, lies_in, word_here, FetchSays, InsnSays, Each, InsnStageSays, StagesSay}
 use Rattle.text_laws.specs.SaysLaws.{held-shown, each-append, conditions-say}
 use Rattle.text_laws.specs.Shown.{RegistersAreShown, LineSays, LinesSayWhatIsHeld, trap_by, TrapsByTheShown}
-use Rattle.explain.specs.Text.{name_text, bounds_text, multiple_text, mark, question_text, condition_line, register_text}
+use Rattle.explain.specs.Text.{name_text, bounds_text, multiple_text, mark, question_text, condition_line, register_text, fields_text}
 
 -- mtval of a CHERI exception, taken apart
 entry-parts : (r k : ℕ) → k < 32 → ((32 * r + k) % 32 ≡ k) × ((32 * r + k) / 32 ≡ r)
@@ -89,75 +89,75 @@ registers-shown = (
   refl,
   refl,
   held-shown,
-  λ s n. ap (λ v. codes "  " ++ value_line (register_text n) v) (held-shown s n),
+  λ s n. ap (λ v. codes "  " ++ register_text n ++ codes " " ++ fields_text v ++ codes "\n") (held-shown s n),
   (refl, refl, refl, entry-named),
 )
 
 -- ---- lines
 
-line-bounds : (s : State) (r address size : ℕ) (b : Bool) → b ≡ lies_in (held s r) address size
-    → LineSays s (Bounds r address size) b
+line-bounds : (symbols : List Symbol) (s : State) (r address size : ℕ) (b : Bool) → b ≡ lies_in (held s r) address size
+    → LineSays symbols s (Bounds r address size) b
 unfolding condition_line question_text cheri_asked_name
-line-bounds s r address size b says =
-    ap (λ v. mark b ++ (name_text r forbids.Length ++ bounds_text address size v) ++ codes "\n") (held-shown s r)
-    ∙ ap (λ b. mark b ++ (name_text r forbids.Length ++ bounds_text address size (held s r)) ++ codes "\n") says
+line-bounds symbols s r address size b says =
+    ap (λ v. mark b ++ (name_text r forbids.Length ++ bounds_text symbols address size v) ++ codes "\n") (held-shown s r)
+    ∙ ap (λ b. mark b ++ (name_text r forbids.Length ++ bounds_text symbols address size (held s r)) ++ codes "\n") says
 
-line-right : (s : State) (r : ℕ) (what : CheriCause) (b : Bool) → LineSays s (Right r what) b
+line-right : (symbols : List Symbol) (s : State) (r : ℕ) (what : CheriCause) (b : Bool) → LineSays symbols s (Right r what) b
 unfolding condition_line question_text
-line-right s r what b = refl
+line-right symbols s r what b = refl
 
-line-multiple : (s : State) (otherwise : Cause) (address size : ℕ) (b : Bool) → b ≡ eqb (address % size) 0
-    → LineSays s (Multiple otherwise address size) b
+line-multiple : (symbols : List Symbol) (s : State) (otherwise : Cause) (address size : ℕ) (b : Bool) → b ≡ eqb (address % size) 0
+    → LineSays symbols s (Multiple otherwise address size) b
 unfolding condition_line question_text
-line-multiple s otherwise address size b says = ap (λ b. mark b ++ multiple_text size address ++ codes "\n") says
+line-multiple symbols s otherwise address size b says = ap (λ b. mark b ++ multiple_text symbols size address ++ codes "\n") says
 
-line-of_pcc : (s : State) (r address size : ℕ) (b : Bool) → r ≡ 32 → b ≡ lies_in s.scrs.pcc address size
-    → LineSays s (Bounds r address size) b
-line-of_pcc s r address size b is says = line-bounds s r address size b (says ∙ ap (λ n. lies_in (held s n) address size) (sym is))
+line-of_pcc : (symbols : List Symbol) (s : State) (r address size : ℕ) (b : Bool) → r ≡ 32 → b ≡ lies_in s.scrs.pcc address size
+    → LineSays symbols s (Bounds r address size) b
+line-of_pcc symbols s r address size b is says = line-bounds symbols s r address size b (says ∙ ap (λ n. lies_in (held s n) address size) (sym is))
 
-line-fetch : (s : State) (q : Question) (b : Bool) → FetchSays s q b → LineSays s q b
+line-fetch : (symbols : List Symbol) (s : State) (q : Question) (b : Bool) → FetchSays s q b → LineSays symbols s q b
 unfolding condition_line question_text
-line-fetch s (Bounds r address size) b says = line-of_pcc s r address size b says.0 says.3
-line-fetch s (Multiple otherwise address size) b says = absurd says
-line-fetch s (Right r what) b says = line-right s r what b
-line-fetch s (Ram otherwise address) b says = refl
-line-fetch s (RamOrDevice otherwise address size) b says = refl
-line-fetch s (Instruction word) b says = refl
-line-fetch s (SystemRegister word) b says = refl
+line-fetch symbols s (Bounds r address size) b says = line-of_pcc symbols s r address size b says.0 says.3
+line-fetch symbols s (Multiple otherwise address size) b says = absurd says
+line-fetch symbols s (Right r what) b says = line-right symbols s r what b
+line-fetch symbols s (Ram otherwise address) b says = refl
+line-fetch symbols s (RamOrDevice otherwise address size) b says = refl
+line-fetch symbols s (Instruction word) b says = refl
+line-fetch symbols s (SystemRegister word) b says = refl
 
-line-insn : (s : State) (k : Kind) (insn : Insn) (q : Question) (b : Bool) → InsnSays s k insn q b → LineSays s q b
+line-insn : (symbols : List Symbol) (s : State) (k : Kind) (insn : Insn) (q : Question) (b : Bool) → InsnSays s k insn q b → LineSays symbols s q b
 unfolding condition_line question_text
-line-insn s k insn (Bounds r address size) b says = line-bounds s r address size b says.3
-line-insn s k insn (Multiple otherwise address size) b says = line-multiple s otherwise address size b says.2
-line-insn s k insn (Right r what) b says = line-right s r what b
-line-insn s k insn (Ram otherwise address) b says = refl
-line-insn s k insn (RamOrDevice otherwise address size) b says = refl
-line-insn s k insn (Instruction word) b says = refl
-line-insn s k insn (SystemRegister word) b says = refl
+line-insn symbols s k insn (Bounds r address size) b says = line-bounds symbols s r address size b says.3
+line-insn symbols s k insn (Multiple otherwise address size) b says = line-multiple symbols s otherwise address size b says.2
+line-insn symbols s k insn (Right r what) b says = line-right symbols s r what b
+line-insn symbols s k insn (Ram otherwise address) b says = refl
+line-insn symbols s k insn (RamOrDevice otherwise address size) b says = refl
+line-insn symbols s k insn (Instruction word) b says = refl
+line-insn symbols s k insn (SystemRegister word) b says = refl
 
 each-so : (P Q : Question → Bool → Type 0) → ((q : Question) (b : Bool) → P q b → Q q b) → (cs : List Condition) → Each P cs → Each Q cs
 each-so P Q so [] all = tt
 each-so P Q so (c ∷ cs) all = (so c.question c.holds all.0, each-so P Q so cs all.1)
 
-lines-insn : (s : State) (found : Option Insn) (stages : List (List Condition)) → InsnStageSays found s stages
-    → Each (LineSays s) (all_conditions stages)
-lines-insn s (Some insn) [] says = absurd says
-lines-insn s (Some insn) (stage ∷ []) says =
-    each-append (LineSays s) stage [] (each-so _ (LineSays s) (line-insn s (kind_of insn.row) insn) stage says) tt
-lines-insn s (Some insn) (stage ∷ other ∷ stages) says = absurd says
-lines-insn s None [] says = tt
-lines-insn s None (stage ∷ stages) says = absurd says
+lines-insn : (symbols : List Symbol) (s : State) (found : Option Insn) (stages : List (List Condition)) → InsnStageSays found s stages
+    → Each (LineSays symbols s) (all_conditions stages)
+lines-insn symbols s (Some insn) [] says = absurd says
+lines-insn symbols s (Some insn) (stage ∷ []) says =
+    each-append (LineSays symbols s) stage [] (each-so _ (LineSays symbols s) (line-insn symbols s (kind_of insn.row) insn) stage says) tt
+lines-insn symbols s (Some insn) (stage ∷ other ∷ stages) says = absurd says
+lines-insn symbols s None [] says = tt
+lines-insn symbols s None (stage ∷ stages) says = absurd says
 
-lines-stages : (s : State) (stages : List (List Condition)) → StagesSay s stages → Each (LineSays s) (all_conditions stages)
-lines-stages s [] says = tt
-lines-stages s (first ∷ []) says = each-append (LineSays s) first [] (each-so _ (LineSays s) (line-fetch s) first says) tt
-lines-stages s (first ∷ second ∷ stages) says =
-    each-append (LineSays s) first _ (each-so _ (LineSays s) (line-fetch s) first says.0)
-    (each-append (LineSays s) second _ (each-so _ (LineSays s) (line-fetch s) second says.1)
-    (lines-insn s (insn_of (word_here s)) stages says.2))
+lines-stages : (symbols : List Symbol) (s : State) (stages : List (List Condition)) → StagesSay s stages → Each (LineSays symbols s) (all_conditions stages)
+lines-stages symbols s [] says = tt
+lines-stages symbols s (first ∷ []) says = each-append (LineSays symbols s) first [] (each-so _ (LineSays symbols s) (line-fetch symbols s) first says) tt
+lines-stages symbols s (first ∷ second ∷ stages) says =
+    each-append (LineSays symbols s) first _ (each-so _ (LineSays symbols s) (line-fetch symbols s) first says.0)
+    (each-append (LineSays symbols s) second _ (each-so _ (LineSays symbols s) (line-fetch symbols s) second says.1)
+    (lines-insn symbols s (insn_of (word_here s)) stages says.2))
 
 pub lines-say : LinesSayWhatIsHeld
-lines-say s = lines-stages s (stages_of s) (conditions-say s)
+lines-say symbols s = lines-stages symbols s (stages_of s) (conditions-say s)
 
 -- ---- the trap
 
@@ -194,7 +194,7 @@ unless-traps None s c is found =
 
 pub traps-by_the_shown : TrapsByTheShown
 unfolding stages_of
-traps-by_the_shown s c found = (
+traps-by_the_shown symbols s c found = (
   traps-by_its_stages s ∙ unless-traps (pending s.csrs (interrupts_of s.devices)) s c refl found,
-  text-ends s c found,
+  text-ends symbols s c found,
 )

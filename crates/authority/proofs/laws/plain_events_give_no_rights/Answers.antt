@@ -1,4 +1,4 @@
-use Rattle.hart.specs.Event.{after}
+use Rattle.steps.specs.Event.{after}
 use Rattle.authority.specs.GroundedLaws.{NoNewRights-grows, NewSealsAllowed-grows}
 use Rattle.authority.specs.StepLaws.{event-grows_not}
 use Rattle.authority.proofs.laws.plain_events_give_no_rights.Goals as goal

@@ -1,6 +1,6 @@
 use Rattle.std.proofs.Common.{◌∙◌, ap, sym, subst}
 use Rattle.cap_bounds.specs.Record.{IsWordWellFormed}
-use Rattle.hart.specs.State.{HoldsCapabilities}
+use Rattle.steps.specs.State.{HoldsCapabilities}
 use Rattle.cherisim_c.proofs.RamBytes.{answer-is}
 use Rattle.cherisim_c.proofs.memory.granule.Goals as goal
 

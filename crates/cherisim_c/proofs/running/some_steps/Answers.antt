@@ -1,5 +1,5 @@
 use Rattle.std.proofs.Common.{replicate}
-use Rattle.hart.specs.declared.event.Event.TheVariants.{Step}
+use Rattle.steps.specs.declared.event.Event.TheVariants.{Step}
 use Rattle.machine.specs.Run.{run_after}
 use Rattle.cherisim_c.proofs.Runs.{not-there, silent-before}
 use Rattle.cherisim_c.proofs.running.some_steps.Goals as goal

@@ -1,5 +1,5 @@
 use Rattle.std.proofs.Common.{sym, subst}
-use Rattle.hart.specs.State.{HoldsCapabilities}
+use Rattle.steps.specs.State.{HoldsCapabilities}
 use Rattle.debugger.proofs.answer.put_view.Goals as goal
 
 pub put_caps-requires : goal.put_caps-requires

@@ -1,7 +1,7 @@
 use Rattle.std.proofs.Common.{◌≡◌, true, false, ◌-◌, ◌∷◌, ◌++◌, length, ◌∙◌, ap, sym, arith}
 use Rattle.std.specs.Prelude.{option_to_list}
 use Rattle.std.proofs.lemmas.Grind.{common_steps}
-use Rattle.hart.specs.Event.{after}
+use Rattle.steps.specs.Event.{after}
 use Rattle.origins.proofs.Stays.{stays-as}
 use Rattle.origins.specs.Places.{held}
 use Rattle.past.specs.Position.{Position, at, next_event, next_position, position_after}

@@ -1,5 +1,5 @@
 use Rattle.std.proofs.Common.{◌≡◌, ◌+◌, ◌-◌, ◌≤◌, ◌++◌, length, vec_len, vec_capacity}
-use Rattle.hart.specs.IsState.{IsState}
+use Rattle.steps.specs.IsState.{IsState}
 use Rattle.machine.specs.Run.{run_after, run_sent}
 use Rattle.origins.specs.Places.{IsThere, held}
 use Rattle.past.specs.Position.{at, position_after}

@@ -6,32 +6,32 @@ use Rattle.debugger.proofs.run.put_place.Goals as goal
 
 pub returns-in_err-put-clause-full : goal.returns-in_err-put-clause-full
 returns-in_err-put-clause-full g c =
-    on_err {P = string_capacity c.args.text.now < string_len c.args.text.now + 80} _ (omega (arith, c.in_err-put.ensures.full))
+    on_err {P = string_capacity c.args.text.now < string_len c.args.text.now + 360} _ (omega (arith, c.in_err-put.ensures.full))
 
-pub returns-in_err-put_hex-clause-full : goal.returns-in_err-put_hex-clause-full
-returns-in_err-put_hex-clause-full g c =
-    on_err {P = string_capacity c.args.text.now < string_len c.args.text.now + 80} _
-    (omega (arith, c.in_ok-put.ensures.len, c.in_ok-put.ensures.capacity, c.in_err-put_hex.ensures.full))
+pub returns-in_err-put_labelled-clause-full : goal.returns-in_err-put_labelled-clause-full
+returns-in_err-put_labelled-clause-full g c =
+    on_err {P = string_capacity c.args.text.now < string_len c.args.text.now + 360} _
+    (omega (arith, c.in_ok-put.ensures.len, c.in_ok-put.ensures.capacity, c.in_err-put_labelled.ensures.full))
 
 pub returns-in_err-put-2-clause-full : goal.returns-in_err-put-2-clause-full
 returns-in_err-put-2-clause-full g c =
-    on_err {P = string_capacity c.args.text.now < string_len c.args.text.now + 80} _ (omega (
+    on_err {P = string_capacity c.args.text.now < string_len c.args.text.now + 360} _ (omega (
       arith,
       c.in_ok-put.ensures.len,
       c.in_ok-put.ensures.capacity,
-      c.in_ok-put_hex.ensures.len,
-      c.in_ok-put_hex.ensures.capacity,
+      c.in_ok-put_labelled.ensures.len,
+      c.in_ok-put_labelled.ensures.capacity,
       c.in_err-put-2.ensures.full,
     ))
 
 pub returns-in_err-put_end-clause-full : goal.returns-in_err-put_end-clause-full
 returns-in_err-put_end-clause-full g c =
-    on_err {P = string_capacity c.args.text.now < string_len c.args.text.now + 80} _ (omega (
+    on_err {P = string_capacity c.args.text.now < string_len c.args.text.now + 360} _ (omega (
       arith,
       c.in_ok-put.ensures.len,
       c.in_ok-put.ensures.capacity,
-      c.in_ok-put_hex.ensures.len,
-      c.in_ok-put_hex.ensures.capacity,
+      c.in_ok-put_labelled.ensures.len,
+      c.in_ok-put_labelled.ensures.capacity,
       c.in_ok-put-2.ensures.len,
       c.in_ok-put-2.ensures.capacity,
       c.in_err-put_end.ensures.full,
@@ -44,8 +44,8 @@ returns-clause-full g c =
       arith,
       c.in_ok-put.ensures.len,
       c.in_ok-put.ensures.capacity,
-      c.in_ok-put_hex.ensures.len,
-      c.in_ok-put_hex.ensures.capacity,
+      c.in_ok-put_labelled.ensures.len,
+      c.in_ok-put_labelled.ensures.capacity,
       c.in_ok-put-2.ensures.len,
       c.in_ok-put-2.ensures.capacity,
       c.in_ok-put_end.ensures.len,

@@ -7,12 +7,12 @@ use Rattle.debugger.proofs.run.put_run_line.Goals as goal
 
 pub returns-in_err-put_given-clause-full : goal.returns-in_err-put_given-clause-full
 returns-in_err-put_given-clause-full g c =
-    on_err {P = string_capacity c.args.text.now < string_len c.args.text.now + 2 * length c.args.sent.now + 200} _
+    on_err {P = string_capacity c.args.text.now < string_len c.args.text.now + 2 * length c.args.sent.now + 480} _
     (omega (arith, c.in_err-put_given.ensures.full))
 
 pub returns-clause-bytes : goal.returns-clause-bytes
 returns-clause-bytes g c =
-    let place = place_part c.args.machine.now in
+    let place = place_part c.args.symbols.now c.args.machine.now in
     on_ok_weaker c.put_place.result (λ e.
     e ∙ ap (λ bytes. bytes ++ place) c.in_ok-put_given.ensures.bytes
     ∙ append_assoc (string_bytes c.args.text.now) (given_part c.args.count c.args.sent.now) place)

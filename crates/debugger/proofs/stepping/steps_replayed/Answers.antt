@@ -1,8 +1,8 @@
 use Rattle.std.proofs.Common.{◌≡◌, ◌-◌, ◌++◌, ◌∙◌, true, false, length, ap, sym, append_assoc, append-nil, arith, rules}
 use Rattle.std.specs.Prelude.{Some, option_to_list}
 use Rattle.std.proofs.lemmas.Grind.{common_steps}
-use Rattle.hart.specs.declared.event.Event.TheVariants.{Step}
-use Rattle.hart.specs.Event.{sent}
+use Rattle.steps.specs.declared.event.Event.TheVariants.{Step}
+use Rattle.steps.specs.Event.{sent}
 use Rattle.machine.specs.Run.{run_after, run_sent}
 use Rattle.sim_run.proofs.Events.{run_sent-brought}
 use Rattle.debugger.specs.Stepping.{is_any_stop, is_at_end, steps_while}

@@ -1,7 +1,7 @@
 use Rattle.std.proofs.Common.{◌≡◌, true, ◌-◌, ◌∷◌, ◌++◌, length, ◌∙◌, ap, sym, arith}
 use Rattle.std.specs.Prelude.{None, option_to_list}
 use Rattle.std.proofs.lemmas.Grind.{common_steps}
-use Rattle.hart.specs.declared.event.Event.TheVariants.{Step}
+use Rattle.steps.specs.declared.event.Event.TheVariants.{Step}
 use Rattle.debugger.specs.Lines.{goes_on}
 use Rattle.debugger.specs.Stepping.{steps_while}
 use Rattle.debugger.proofs.RunSteps.{state_goes_on, bytes_go_on, one_step, no_step, room_after, some_step}

@@ -1,6 +1,6 @@
 use Rattle.std.proofs.Common.{◌≡◌, ◌^◌, refl, ◌∙◌, length, map, ap, sym, subst, arith}
 use Rattle.std.proofs.lemmas.List.{length-append}
-use Rattle.hart.specs.State.{HoldsCapabilities}
+use Rattle.steps.specs.State.{HoldsCapabilities}
 use Rattle.reached.specs.Order.{seen_members}
 use Rattle.doors.specs.ThroughOrder.{OpenDoors, open_doors, members_behind, round as round_over}
 use Rattle.doors.proofs.Rounds.{IsRound}

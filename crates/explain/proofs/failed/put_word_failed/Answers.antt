@@ -15,8 +15,8 @@ returns-in_ok-asked-in-Some g c =
     let same : c.decode.result ≡ insn_of c.args.word =
     insn_of-answered c.args.word c.decode.result fits c.decode.ensures.found c.decode.ensures.only in
     let line =
-    ap (false_line c.args.hart.now) (c.deref.ensures.value ∙ c.in_ok-asked-in-Some.ensures)
-    ∙ failed-insn c.args.word c.args.hart.now c.in-Some.insn (sym same ∙ c.in-Some.is) in
+    ap (false_line c.args.symbols.now c.args.hart.now) (c.deref.ensures.value ∙ c.in_ok-asked-in-Some.ensures)
+    ∙ failed-insn c.args.symbols.now c.args.word c.args.hart.now c.in-Some.insn (sym same ∙ c.in-Some.is) in
     on_ok_weaker c.put_false.result (λ e. e ∙ ap (λ more. string_bytes c.args.text.now ++ more) line) c.put_false.ensures
 
 pub returns-in-None : goal.returns-in-None
@@ -25,6 +25,6 @@ returns-in-None g c =
     let same : c.decode.result ≡ insn_of c.args.word =
     insn_of-answered c.args.word c.decode.result fits c.decode.ensures.found c.decode.ensures.only in
     let line =
-    ap (λ n. condition_line c.args.hart.now (asks (Instruction n) false)) c.from.ensures
-    ∙ failed-none c.args.word c.args.hart.now (sym same ∙ c.in-None.is) in
+    ap (λ n. condition_line c.args.symbols.now c.args.hart.now (asks (Instruction n) false)) c.from.ensures
+    ∙ failed-none c.args.symbols.now c.args.word c.args.hart.now (sym same ∙ c.in-None.is) in
     on_ok_weaker c.put_line.result (λ e. e ∙ ap (λ more. string_bytes c.args.text.now ++ more) line) c.put_line.ensures

@@ -7,7 +7,7 @@ use Rattle.explain.proofs.why.put_running.Goals as goal
 
 pub returns : goal.returns
 returns g c =
-    let shown = c.as_str.ensures.value ∙ c.effect_text.ensures.text ∙ ap effect_text c.next.ensures.0 in
+    let shown = c.as_str.ensures.value ∙ c.effect_text.ensures.text ∙ ap (effect_text c.args.symbols.now) c.next.ensures.0 in
     let two = text_on _ _ _ _ _ c.in_ok-put_instruction.ensures c.in_ok-put_stages.ensures in
     let three = text_on _ _ _ _ _ two c.in_ok-put.ensures.bytes in
     let four = text_on _ _ _ _ _ three (c.in_ok-put-2.ensures.bytes ∙ ap (λ more. string_bytes c.put.new.text ++ more) shown) in

@@ -1,5 +1,5 @@
 use Rattle.std.proofs.Common.{rules}
-use Rattle.hart.specs.Accesses.{size_of}
+use Rattle.steps.specs.Accesses.{size_of}
 use Rattle.hart.proofs.accesses.size_of.Goals as goal
 
 pub returns-in_default : goal.returns-in_default

@@ -3,7 +3,7 @@ use Rattle.std.proofs.lemmas.List.{length-replicate}
 use Rattle.tagged_memory.specs.Memory.{zeroed, capability_written}
 use Rattle.image.specs.declared.cap_entry.CapEntry.{CapEntry}
 use Rattle.image.specs.ImageLaws.{AllInRam-image, AreGoodCapabilities, AreGoodCapabilities-image}
-use Rattle.hart.specs.State.{HoldsCapabilities}
+use Rattle.steps.specs.State.{HoldsCapabilities}
 use Rattle.hart.specs.OpeningLaws.{HoldsCapabilities-loaded, no_place_fault, length-put, HoldsCapabilities-put}
 use Rattle.hart.specs.OpeningStateLaws.{length-loaded}
 use Rattle.hart.proofs.opening.opened_memory.Goals as goal

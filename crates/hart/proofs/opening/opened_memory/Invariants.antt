@@ -1,6 +1,6 @@
 use Rattle.std.proofs.Common.{◌≡◌, ◌*◌, drop, length}
 use Rattle.image.specs.ImageLaws.{AreGoodCapabilities}
-use Rattle.hart.specs.State.{HoldsCapabilities}
+use Rattle.steps.specs.State.{HoldsCapabilities}
 use Rattle.hart.specs.Opening.{with_capabilities, opening_memory}
 use Rattle.hart.proofs.opening.opened_memory.Given as goal
 

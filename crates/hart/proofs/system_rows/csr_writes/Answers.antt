@@ -1,5 +1,5 @@
 use Rattle.std.proofs.Common.{rules}
-use Rattle.hart.specs.SystemRows.{csr_writes}
+use Rattle.steps.specs.SystemRows.{csr_writes}
 use Rattle.hart.proofs.system_rows.csr_writes.Goals as goal
 
 pub returns-in_default : goal.returns-in_default

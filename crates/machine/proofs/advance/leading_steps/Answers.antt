@@ -1,5 +1,5 @@
 use Rattle.std.proofs.Common.{◌+◌, get_or, ap, ◌∙◌, arith}
-use Rattle.hart.specs.declared.event.Event.TheVariants.{Step}
+use Rattle.steps.specs.declared.event.Event.TheVariants.{Step}
 use Rattle.machine.proofs.Steps.{BeginWithSteps-more}
 use Rattle.machine.proofs.advance.leading_steps.Goals as goal
 

@@ -1,5 +1,5 @@
 use Rattle.std.proofs.Common.{rules}
-use Rattle.hart.specs.declared.event.Event.TheVariants.{Step}
+use Rattle.steps.specs.declared.event.Event.TheVariants.{Step}
 use Rattle.origins.proofs.Stays.{stays-as}
 use Rattle.origin_texts.proofs.link.put_source.Goals as goal
 

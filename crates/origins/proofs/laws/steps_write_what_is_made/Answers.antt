@@ -1,4 +1,4 @@
-use Rattle.hart.specs.Event.{after}
+use Rattle.steps.specs.Event.{after}
 use Rattle.origins.specs.Made.{made_at}
 use Rattle.origins.proofs.Changes.{event-written}
 use Rattle.origins.proofs.Stays.{event-stays}

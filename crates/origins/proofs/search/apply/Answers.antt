@@ -1,4 +1,4 @@
-use Rattle.hart.specs.declared.event.Event.TheVariants.{Step}
+use Rattle.steps.specs.declared.event.Event.TheVariants.{Step}
 use Rattle.origins.proofs.Stays.{stays-as}
 use Rattle.origins.proofs.search.apply.Goals as goal
 

@@ -1,6 +1,6 @@
 use Rattle.std.proofs.Common.{ap, not, ◌∙◌}
 use Rattle.cap_bounds.specs.CapValue.{is_tagged}
-use Rattle.hart.specs.declared.event.Event.TheVariants.{Step}
+use Rattle.steps.specs.declared.event.Event.TheVariants.{Step}
 use Rattle.origins.specs.Places.{held}
 use Rattle.origins.specs.Search.{lost_at}
 use Rattle.origins.proofs.Lost.{lost-as}

@@ -1,5 +1,5 @@
-use Rattle.hart.specs.Step.{fetch}
-use Rattle.hart.specs.Applying.{meant}
+use Rattle.steps.specs.Step.{fetch}
+use Rattle.steps.specs.Applying.{meant}
 use Rattle.origins.specs.Made as spec
 use Rattle.origins.proofs.Parts.{none-by_insn, no-other_made}
 use Rattle.origins.proofs.written.other_made.Goals as goal

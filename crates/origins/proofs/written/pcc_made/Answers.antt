@@ -1,6 +1,6 @@
 use Rattle.std.proofs.Common.{ap, ◌∙◌}
-use Rattle.hart.specs.Applying.{meant}
-use Rattle.hart.specs.Step.{fetch}
+use Rattle.steps.specs.Applying.{meant}
+use Rattle.steps.specs.Step.{fetch}
 use Rattle.origins.specs.Made as spec
 use Rattle.origins.specs.Parts.{by_insn}
 use Rattle.origins.proofs.Parts.{same-by_insn, next-pcc_made}

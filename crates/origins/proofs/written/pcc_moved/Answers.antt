@@ -2,7 +2,7 @@ use Rattle.std.proofs.Common.{◌∙◌, ap, sym, None, ◌&&◌, not}
 use Rattle.std.proofs.lemmas.Bool.{cond-false}
 use Rattle.cap_bounds.specs.CapValue.{is_tagged}
 use Rattle.cap_bounds.specs.SetAddress.{at_address}
-use Rattle.hart.specs.Step.{fetch}
+use Rattle.steps.specs.Step.{fetch}
 use Rattle.origins.specs.Made as spec
 use Rattle.origins.proofs.Parts.{none-by_insn}
 use Rattle.origins.proofs.written.pcc_moved.Goals as goal

@@ -1,8 +1,8 @@
 use Rattle.std.proofs.Common.{◌∙◌}
 use Rattle.std.proofs.lemmas.Bool.{ne_eqb}
 use Rattle.base.specs.declared.registers.scr.TheConstants.{PCC}
-use Rattle.hart.specs.Applying.{meant}
-use Rattle.hart.specs.Step.{fetch}
+use Rattle.steps.specs.Applying.{meant}
+use Rattle.steps.specs.Step.{fetch}
 use Rattle.origins.specs.Made as spec
 use Rattle.origins.proofs.Parts.{other-special_made}
 use Rattle.origins.proofs.written.special_made.Goals as goal

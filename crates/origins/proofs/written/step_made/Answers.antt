@@ -1,6 +1,6 @@
 use Rattle.std.proofs.Common.{◌≡◌, ap, sym, subst, ◌∙◌}
 use Rattle.std.specs.Prelude.{IfSome}
-use Rattle.hart.specs.Step.{step_effect}
+use Rattle.steps.specs.Step.{step_effect}
 use Rattle.origins.specs.Kept.{AreThere}
 use Rattle.origins.specs.Made.{made_by}
 use Rattle.origins.proofs.Steps.{step-effect}

@@ -1,6 +1,6 @@
 use Rattle.std.proofs.Common.{arith}
 use Rattle.std.proofs.lemmas.Bool.Decides.{nat_tests}
-use Rattle.hart.specs.Step.{fetch}
+use Rattle.steps.specs.Step.{fetch}
 use Rattle.origins.specs.Made as spec
 use Rattle.origins.proofs.Parts.{none-by_insn}
 use Rattle.origins.proofs.written.view_made.Goals as goal

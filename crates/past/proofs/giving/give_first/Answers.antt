@@ -1,6 +1,6 @@
 use Rattle.std.proofs.Common.{◌≡◌, ◌≤◌, ◌+◌, ◌-◌, ◌∙◌, List, drop, get_or, take, sym, ap, subst, arith}
 use Rattle.std.proofs.lemmas.List.{drop_more}
-use Rattle.hart.specs.declared.event.Event.{Event}
+use Rattle.steps.specs.declared.event.Event.{Event}
 use Rattle.machine.specs.Run.{run_after}
 use Rattle.sim_run.proofs.Events.{run_after-append}
 use Rattle.past.specs.declared.given.Given.TheVariants.{Steps}

@@ -1,6 +1,6 @@
 use Rattle.std.proofs.Common.{◌-◌, ◌≡◌, ◌∙◌, ap, arith, length}
 use Rattle.std.specs.Prelude.{replicate}
-use Rattle.hart.specs.declared.event.Event.TheVariants.{Step}
+use Rattle.steps.specs.declared.event.Event.TheVariants.{Step}
 use Rattle.machine.specs.Run.{run_after}
 use Rattle.past.proofs.Stay.{steps-size}
 use Rattle.past.proofs.OneByOne.{state_many}

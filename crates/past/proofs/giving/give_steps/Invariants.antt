@@ -1,8 +1,8 @@
 use Rattle.std.proofs.Common.{◌≡◌}
 use Rattle.std.specs.Prelude.{replicate}
-use Rattle.hart.specs.declared.event.Event.TheVariants.{Step}
+use Rattle.steps.specs.declared.event.Event.TheVariants.{Step}
 use Rattle.machine.specs.Run.{run_after}
-use Rattle.hart.specs.IsState.{IsState}
+use Rattle.steps.specs.IsState.{IsState}
 use Rattle.past.specs.Giving.{HasSameSize}
 use Rattle.past.proofs.giving.give_steps.Given as goal
 

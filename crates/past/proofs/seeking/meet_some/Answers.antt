@@ -1,5 +1,5 @@
 use Rattle.std.proofs.Common.{◌≡◌, ◌-◌, ◌∷◌, ◌++◌, ◌∙◌, sym, ap, subst, arith}
-use Rattle.hart.specs.Event.{after}
+use Rattle.steps.specs.Event.{after}
 use Rattle.machine.specs.Run.{run_after}
 use Rattle.past.specs.Giving.{place_after, place_of, some_of}
 use Rattle.past.specs.Position.{MayGive}

@@ -1,5 +1,5 @@
 use Rattle.std.proofs.Common.{◌≡◌, ◌+◌, ◌++◌, List}
-use Rattle.hart.specs.declared.event.Event.{Event}
+use Rattle.steps.specs.declared.event.Event.{Event}
 use Rattle.machine.specs.Run.{run_after}
 use Rattle.origins.specs.Places.{IsThere}
 use Rattle.past.specs.Giving.{place_after, some_of}

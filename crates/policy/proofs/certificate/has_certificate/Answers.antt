@@ -1,5 +1,5 @@
 use Rattle.std.proofs.Common.{sym, subst}
-use Rattle.hart.specs.State.{HoldsCapabilities}
+use Rattle.steps.specs.State.{HoldsCapabilities}
 use Rattle.policy.specs.Terms.{terms}
 use Rattle.policy.specs.Known.{IsCertified}
 use Rattle.policy.proofs.certificate.has_certificate.Goals as goal

@@ -1,5 +1,5 @@
 use Rattle.std.proofs.Common.{sym, subst}
-use Rattle.hart.specs.Applying.{meant}
+use Rattle.steps.specs.Applying.{meant}
 use Rattle.policy.specs.Terms.{terms_of}
 use Rattle.policy.specs.Known.{KeepsThose}
 use Rattle.policy.proofs.certificate.keep_certificates.Goals as goal

@@ -1,7 +1,7 @@
 use Rattle.std.proofs.Common.{◌≡◌, ◌<◌, true, false, length, get_or, sym, ◌∙◌, arith}
 use Rattle.std.proofs.lemmas.Bool.{false≢true}
-use Rattle.hart.specs.Applying.{meant}
-use Rattle.hart.specs.declared.effect.Effect.TheVariants as effect
+use Rattle.steps.specs.Applying.{meant}
+use Rattle.steps.specs.declared.effect.Effect.TheVariants as effect
 use Rattle.std.proofs.lemmas.List.{length-map}
 use Rattle.policy.specs.Terms.{terms, terms_of}
 use Rattle.policy.specs.Known.{KeepsCertificate}

@@ -1,7 +1,7 @@
 use Rattle.std.proofs.Common.{◌≡◌, ℕ, ◌<◌, true, false, get_or}
 use Rattle.std.specs.List.{HoldsAt}
-use Rattle.hart.specs.Applying.{meant}
-use Rattle.hart.specs.declared.effect.Effect.TheVariants as effect
+use Rattle.steps.specs.Applying.{meant}
+use Rattle.steps.specs.declared.effect.Effect.TheVariants as effect
 use Rattle.policy.specs.Terms.{terms_of}
 use Rattle.policy.specs.Known.{KeepsCertificate}
 use Rattle.policy.proofs.certificate.take_certificates.Given as goal

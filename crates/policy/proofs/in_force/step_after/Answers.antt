@@ -3,7 +3,7 @@ use Rattle.std.specs.Prelude.{◌&&◌}
 use Rattle.std.proofs.Common.{◌≡◌, ap, ap₂, length, map, sym, ◌∙◌, subst}
 use Rattle.std.proofs.lemmas.List.{length-map}
 use Rattle.cap_bounds.specs.CapValue.{value_address}
-use Rattle.hart.specs.State.{pc_of}
+use Rattle.steps.specs.State.{pc_of}
 use Rattle.reached.specs.Links.{values}
 use Rattle.reach.proofs.Reaches.{values_seen}
 use Rattle.reach.specs.Reach.{members_in}

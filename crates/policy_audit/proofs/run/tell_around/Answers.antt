@@ -1,6 +1,6 @@
 use Rattle.std.proofs.Common.{◌≡◌, ◌+◌, ◌++◌, List, ap, ap₂, sym, ◌∙◌}
 use Rattle.std.specs.Prelude.{string_bytes}
-use Rattle.hart.specs.declared.event.Event.TheVariants.{Step}
+use Rattle.steps.specs.declared.event.Event.TheVariants.{Step}
 use Rattle.machine.specs.Run.{run_after}
 use Rattle.sim_run.specs.Schedule.{byte_before, is_tick_after}
 use Rattle.sim_run.proofs.Events.{brought}

@@ -1,7 +1,7 @@
-use Rattle.std.proofs.Common.{◌≡◌, ℕ, List, ◌++◌, ap, ◌∙◌}
+use Rattle.std.proofs.Common.{◌≡◌, ℕ, List, [], ◌++◌, ap, ◌∙◌}
 use Rattle.std.proofs.lemmas.Result.{on_ok_weaker}
 use Rattle.std.specs.Prelude.{codes, decimal, string_bytes}
-use Rattle.hart.specs.State.{pc_of}
+use Rattle.steps.specs.State.{pc_of}
 use Rattle.explain.specs.Text.{failed_line}
 use Rattle.sim_run.specs.Ending.{trap_part}
 use Rattle.sim_run.proofs.LeftTraps.{told-trap}
@@ -17,8 +17,8 @@ returns g c =
     ++ decimal c.args.number ++ codes "\n" in
     let first : string_bytes c.put_trap.new.text ≡ old ++ told (pc_of s) =
     c.in_ok-put_trap.ensures ∙ ap (λ mepc. old ++ told mepc) c.pc.ensures in
-    on_ok_weaker c.put_failed.result
-    (λ e. text_on old (string_bytes c.put_trap.new.text) (string_bytes c.put_failed.new.text) (told (pc_of s)) (failed_line s) first
-    (e ∙ ap (λ t. string_bytes c.put_trap.new.text ++ failed_line t) c.hart.ensures.value)
+    on_ok_weaker c.put_condition.result
+    (λ e. text_on old (string_bytes c.put_trap.new.text) (string_bytes c.put_condition.new.text) (told (pc_of s)) (failed_line [] s) first
+    e
     ∙ ap (λ more. old ++ more) (told-trap s c.requires.running f c.args.number c.requires.traps))
-    c.put_failed.ensures
+    c.put_condition.ensures

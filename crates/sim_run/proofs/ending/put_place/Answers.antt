@@ -2,7 +2,7 @@ use Rattle.std.proofs.Common.{◌++◌, ap, ◌∙◌}
 use Rattle.std.proofs.lemmas.Result.{on_ok_weaker}
 use Rattle.std.specs.Prelude.{codes, decimal, string_bytes}
 use Rattle.disassembler.specs.Hex.{hex_of}
-use Rattle.hart.specs.State.{pc_of}
+use Rattle.steps.specs.State.{pc_of}
 use Rattle.sim_run.proofs.Texts.{text_on}
 use Rattle.sim_run.proofs.ending.put_place.Goals as goal
 

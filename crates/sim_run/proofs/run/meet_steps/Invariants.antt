@@ -1,6 +1,6 @@
 use Rattle.std.proofs.Common.{◌≡◌, ◌-◌, ◌≤◌, false, replicate}
 use Rattle.std.specs.Io.KnownBytes.{Appends}
-use Rattle.hart.specs.declared.event.Event.TheVariants.{Step}
+use Rattle.steps.specs.declared.event.Event.TheVariants.{Step}
 use Rattle.machine.specs.Run.{run_after, run_sent}
 use Rattle.sim_run.specs.Schedule.{is_halted, steps_in, up_to_halt}
 use Rattle.sim_run.proofs.run.meet_steps.Given as goal

@@ -1,6 +1,6 @@
 use Rattle.std.proofs.Common.{◌≡◌, ap, sym, ◌∙◌, subst}
 use Rattle.std.specs.Prelude.{Some, None, string_bytes}
-use Rattle.hart.specs.Step.{step_effect}
+use Rattle.steps.specs.Step.{step_effect}
 use Rattle.sim_run.specs.Watched.{trap_in, IsTold}
 use Rattle.sim_run.proofs.LeftTraps.{trap-taken, none-taken}
 use Rattle.sim_run.proofs.unhandled.watch_step.Goals as goal

@@ -19,7 +19,7 @@ use denote.Triple.Walked.{Stays, stay_dropped, walk_of, Goes-dropped}
 use Rattle.core.proofs.alloc.Calls.{handle_tells}
 use Rattle.std.specs.Prelude.{Option, None}
 use Rattle.std.proofs.raw_atomic.Walks.{proved_at, leaves}
-use Rattle.hart.specs.State.{State as Machine}
+use Rattle.steps.specs.State.{State as Machine}
 use Rattle.cherisim_c.proofs.Values.{both, Z, al, handle_good, handle_in}
 use Rattle.cherisim_c.specs.contracts.handle.Handle.closed.{ended, clauses}
 use Rattle.cherisim_c.specs.contracts.handle.Handle.closed.Key.{name as #self}

@@ -22,7 +22,7 @@ use Rattle.std.specs.contracts.impls.GlobalAllocator.TheImpl.{ghosts}
 use Rattle.std.proofs.alloc.Global.TheLaws as heap_laws
 use Rattle.loose.proofs.Values.{loose_out, loose_good}
 use Rattle.loose.specs.contracts.Loose as loose
-use Rattle.hart.specs.State.{State as Machine}
+use Rattle.steps.specs.State.{State as Machine}
 use Rattle.cherisim_c.specs.Handle.{machine_row as the_row}
 use Rattle.cherisim_c.proofs.Values.{both, Z, handle_good, handle_in}
 use Rattle.cherisim_c.specs.contracts.handle.Handle.open.{ended, clauses}

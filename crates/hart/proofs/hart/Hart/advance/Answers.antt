@@ -1,6 +1,6 @@
 use Rattle.std.proofs.Common.{add-one, sym, ap, ◌∙◌, arith}
-use Rattle.hart.specs.Step.{stepped}
-use Rattle.hart.specs.Steps.{steps_after}
+use Rattle.steps.specs.Step.{stepped}
+use Rattle.steps.specs.Steps.{steps_after}
 use Rattle.hart.proofs.hart.Hart.advance.Goals as goal
 
 pub returns-clause-state : goal.returns-clause-state

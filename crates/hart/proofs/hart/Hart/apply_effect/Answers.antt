@@ -1,6 +1,6 @@
 use Rattle.std.proofs.Common.{rules, sym, ap, subst, ◌∙◌}
-use Rattle.hart.specs.Applying.{meant, CanApply}
-use Rattle.hart.specs.Effect.{applied}
+use Rattle.steps.specs.Applying.{meant, CanApply}
+use Rattle.steps.specs.Effect.{applied}
 use Rattle.hart.proofs.hart.Hart.apply_effect.Goals as goal
 
 pub write-requires : goal.write-requires

@@ -1,10 +1,10 @@
 use Rattle.std.proofs.Common.{◌≡◌, Bool, true, false, sym, ap, ◌∙◌}
 use Rattle.cap_bounds.specs.CapValue.{CapValue, value_flag}
 use Rattle.isa_rows.specs.declared.rows.Row.{Row}
-use Rattle.hart.specs.Accesses.{through_rs1}
-use Rattle.hart.specs.MemoryRows.{authority_through, number_through}
+use Rattle.steps.specs.Accesses.{through_rs1}
+use Rattle.steps.specs.MemoryRows.{authority_through, number_through}
 use Rattle.registers.specs.Registers.{register}
-use Rattle.hart.specs.State.{State}
+use Rattle.steps.specs.State.{State}
 use Rattle.hart.proofs.hart.Hart.authority.Goals as goal
 
 through : (row : Row) (b flag answer : Bool) (v : CapValue) (s u : State) → answer ≡ b → answer ≡ through_rs1 row flag → flag ≡ value_flag v

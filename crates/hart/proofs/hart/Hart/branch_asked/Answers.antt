@@ -1,7 +1,7 @@
 use Rattle.std.proofs.Common.{sym, ap, ◌∙◌}
 use Rattle.cap_bounds.specs.CapValue.{value_address}
 use Rattle.cap_checks.specs.FirstFault.{jump_target}
-use Rattle.hart.specs.State.{pc_of}
+use Rattle.steps.specs.State.{pc_of}
 use Rattle.hart.proofs.hart.Hart.branch_asked.Goals as goal
 
 pub returns : goal.returns

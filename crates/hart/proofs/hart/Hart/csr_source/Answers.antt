@@ -1,6 +1,6 @@
 use Rattle.std.proofs.Common.{inl, inr, sym, ap, ◌∙◌}
-use Rattle.hart.specs.SystemRows.{csr_source}
-use Rattle.hart.proofs.Plans.{csr_source-number}
+use Rattle.steps.specs.SystemRows.{csr_source}
+use Rattle.steps.proofs.Plans.{csr_source-number}
 use Rattle.hart.proofs.hart.Hart.csr_source.Goals as goal
 
 pub returns-in-Csrrwi : goal.returns-in-Csrrwi

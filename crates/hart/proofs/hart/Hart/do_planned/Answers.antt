@@ -1,8 +1,8 @@
 use Rattle.std.proofs.Common.{◌≡◌, ℕ, true, false, Option, Some, None, rules, refl, sym, ap, ◌∙◌}
 use Rattle.std.specs.Prelude.{is_some}
-use Rattle.hart.specs.Effect.{applied, sent_by}
-use Rattle.hart.specs.State.{State}
-use Rattle.hart.specs.Step.{stepped, stepped_unless, step_sent, step_sent_unless}
+use Rattle.steps.specs.Effect.{applied, sent_by}
+use Rattle.steps.specs.State.{State}
+use Rattle.steps.specs.Step.{stepped, stepped_unless, step_sent, step_sent_unless}
 use Rattle.hart.proofs.hart.Hart.do_planned.Goals as goal
 
 none-of : (o : Option ℕ) → is_some o ≡ false → o ≡ None

@@ -1,6 +1,6 @@
 use Rattle.std.proofs.Common.{ap, ◌∙◌}
 use Rattle.registers.specs.Registers.{register}
-use Rattle.hart.specs.State.{State}
+use Rattle.steps.specs.State.{State}
 use Rattle.hart.proofs.hart.Hart.invocation_asked.Goals as goal
 
 pub returns : goal.returns

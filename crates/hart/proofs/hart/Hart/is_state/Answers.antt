@@ -1,5 +1,5 @@
 use Rattle.std.proofs.Common.{subst}
-use Rattle.hart.specs.IsState.{IsState}
+use Rattle.steps.specs.IsState.{IsState}
 use Rattle.hart.proofs.hart.Hart.is_state.Goals as goal
 
 pub returns : goal.returns

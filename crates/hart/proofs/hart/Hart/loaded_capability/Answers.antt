@@ -3,7 +3,7 @@ use Rattle.cap_bounds.specs.CapValue.{value_of}
 use Rattle.cap_bounds.specs.Record.{IsWordWellFormed}
 use Rattle.cap_rights.specs.Permission.{permits}
 use Rattle.cap_rights.specs.declared.permission.Permission.TheVariants as permission
-use Rattle.hart.specs.MemoryRows.{loaded_capability}
+use Rattle.steps.specs.MemoryRows.{loaded_capability}
 use Rattle.hart.proofs.hart.Hart.loaded_capability.Goals as goal
 
 pub kept_if-requires : goal.kept_if-requires

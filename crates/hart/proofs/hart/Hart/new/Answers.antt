@@ -1,5 +1,5 @@
 use Rattle.std.proofs.Common.{◌%◌, ap, sym, subst, ◌∙◌}
-use Rattle.hart.specs.State.{HoldsCapabilities}
+use Rattle.steps.specs.State.{HoldsCapabilities}
 use Rattle.cap_bounds.specs.CapValue.{value_address}
 use Rattle.image.specs.ImageLaws.{entry_aligned}
 use Rattle.hart.proofs.hart.Hart.new.Goals as goal

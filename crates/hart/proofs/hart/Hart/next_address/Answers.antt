@@ -1,6 +1,6 @@
 use Rattle.std.proofs.Common.{◌+◌, ◌%◌, ◌^◌, ap, ◌∙◌}
 use Rattle.cap_bounds.specs.CapValue.{value_address}
-use Rattle.hart.specs.State.{State, pc_of}
+use Rattle.steps.specs.State.{State, pc_of}
 use Rattle.hart.proofs.hart.Hart.next_address.Goals as goal
 
 pub returns : goal.returns

@@ -1,6 +1,6 @@
 use Rattle.std.proofs.Common.{ap, ◌∙◌}
-use Rattle.hart.specs.Looks.{number_in}
-use Rattle.hart.specs.State.{State}
+use Rattle.steps.specs.Looks.{number_in}
+use Rattle.steps.specs.State.{State}
 use Rattle.hart.proofs.hart.Hart.number.Goals as goal
 
 pub returns : goal.returns

@@ -3,12 +3,12 @@ use Rattle.cap_bounds.specs.CapValue.{CapValue}
 use Rattle.isa_rows.specs.Kind.{kind_of}
 use Rattle.isa_rows.specs.declared.kinds.Kind.{Kind}
 use Rattle.isa_rows.specs.declared.operands.Insn.{Insn}
-use Rattle.hart.specs.Applying.{CanApply}
-use Rattle.hart.specs.Step.{asked, does, kind_effect}
-use Rattle.hart.specs.RowEffects.{branch_effect, link_effect, enter_effect, jalr_effect, invoke_effect, load_effect, store_effect}
-use Rattle.hart.specs.RowEffects.{load_capability_effect, store_capability_effect, csr_effect, special_effect, return_effect}
-use Rattle.hart.specs.declared.effect.Effect.{Effect}
-use Rattle.hart.specs.State.{State}
+use Rattle.steps.specs.Applying.{CanApply}
+use Rattle.steps.specs.Step.{asked, does, kind_effect}
+use Rattle.steps.specs.RowEffects.{branch_effect, link_effect, enter_effect, jalr_effect, invoke_effect, load_effect, store_effect}
+use Rattle.steps.specs.RowEffects.{load_capability_effect, store_capability_effect, csr_effect, special_effect, return_effect}
+use Rattle.steps.specs.declared.effect.Effect.{Effect}
+use Rattle.steps.specs.State.{State}
 use Rattle.hart.proofs.hart.Hart.plan.Goals as goal
 
 -- the effect of an instruction is that of its row's kind

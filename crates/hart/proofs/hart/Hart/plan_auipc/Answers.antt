@@ -2,10 +2,10 @@ use Rattle.std.proofs.Common.{◌≡◌, ◌+◌, ◌%◌, ◌^◌, Bool, sym, a
 use Rattle.std.specs.Prelude.{if◌then◌else◌}
 use Rattle.cap_bounds.specs.CapValue.{CapValue, value_address, value_flag, integer}
 use Rattle.cap_bounds.specs.SetAddress.{at_address}
-use Rattle.hart.specs.Applying.{CanApply}
-use Rattle.hart.specs.ComputeRows.{auipc_effect}
-use Rattle.hart.specs.State.{State, pc_of}
-use Rattle.hart.specs.declared.effect.Effect.TheVariants.{Write}
+use Rattle.steps.specs.Applying.{CanApply}
+use Rattle.steps.specs.ComputeRows.{auipc_effect}
+use Rattle.steps.specs.State.{State, pc_of}
+use Rattle.steps.specs.declared.effect.Effect.TheVariants.{Write}
 use Rattle.hart.proofs.hart.Hart.plan_auipc.Goals as goal
 use Rattle.hart.proofs.hart.Hart.plan_auipc.Goals.{then-flag, else-flag}
 

@@ -2,12 +2,12 @@ use Rattle.std.proofs.Common.{◌≡◌, sym, ap, ◌∙◌}
 use Rattle.cap_bounds.specs.CapValue.{CapValue}
 use Rattle.cap_insns.specs.CapabilityRows.{row_value}
 use Rattle.isa_rows.specs.declared.operands.Insn.{Insn}
-use Rattle.hart.specs.Applying.{CanApply}
-use Rattle.hart.specs.ComputeRows.{written_by, capability_effect}
+use Rattle.steps.specs.Applying.{CanApply}
+use Rattle.steps.specs.ComputeRows.{written_by, capability_effect}
 use Rattle.registers.specs.Registers.{register}
-use Rattle.hart.specs.State.{State}
-use Rattle.hart.specs.declared.effect.Effect.TheVariants.{Write, Unseal}
-use Rattle.hart.proofs.Plans.{written_by-other}
+use Rattle.steps.specs.State.{State}
+use Rattle.steps.specs.declared.effect.Effect.TheVariants.{Write, Unseal}
+use Rattle.steps.proofs.Plans.{written_by-other}
 use Rattle.hart.proofs.hart.Hart.plan_capability.Goals as goal
 
 abbrev value_in : Insn → State → CapValue

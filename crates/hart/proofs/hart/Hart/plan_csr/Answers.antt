@@ -3,10 +3,10 @@ use Rattle.base.specs.Registers.{pcc_register}
 use Rattle.devices.specs.Devices.{interrupts_of}
 use Rattle.special_regs.specs.CsrValues.{csr_value}
 use Rattle.special_regs.specs.Refusals.{csr_checks, csr_fault}
-use Rattle.hart.specs.AskedLaws.{register-allowed, register-refused}
-use Rattle.hart.specs.State.{State}
-use Rattle.hart.specs.SystemRows.{csr_number, csr_writes, csr_held, csr_done}
-use Rattle.hart.specs.RowEffects.{csr_effect}
+use Rattle.steps.specs.AskedLaws.{register-allowed, register-refused}
+use Rattle.steps.specs.State.{State}
+use Rattle.steps.specs.SystemRows.{csr_number, csr_writes, csr_held, csr_done}
+use Rattle.steps.specs.RowEffects.{csr_effect}
 use Rattle.hart.proofs.hart.Hart.plan_csr.Goals as goal
 
 pub returns-in-Err-clause-effect : goal.returns-in-Err-clause-effect

@@ -2,11 +2,11 @@ use Rattle.std.proofs.Common.{◌≡◌, sym, ap, ◌∙◌}
 use Rattle.alu.specs.Integer.{int_result}
 use Rattle.cap_bounds.specs.CapValue.{CapValue, integer}
 use Rattle.isa_rows.specs.Line.{line_of}
-use Rattle.hart.specs.Applying.{CanApply}
-use Rattle.hart.specs.ComputeRows.{second_of, integer_effect}
-use Rattle.hart.specs.Looks.{number_in}
-use Rattle.hart.specs.declared.effect.Effect.TheVariants.{Write}
-use Rattle.hart.proofs.Plans.{second_of-immediate}
+use Rattle.steps.specs.Applying.{CanApply}
+use Rattle.steps.specs.ComputeRows.{second_of, integer_effect}
+use Rattle.steps.specs.Looks.{number_in}
+use Rattle.steps.specs.declared.effect.Effect.TheVariants.{Write}
+use Rattle.steps.proofs.Plans.{second_of-immediate}
 use Rattle.hart.proofs.hart.Hart.plan_integer.Goals as goal
 use Rattle.hart.proofs.hart.Hart.plan_integer.Goals.{in-Register, in_default}
 

@@ -5,11 +5,11 @@ use Rattle.devices.specs.Devices.{value_at}
 use Rattle.tagged_memory.specs.Memory.{is_in_ram, number_at}
 use Rattle.base.specs.Size.{bytes_of}
 use Rattle.cap_checks.specs.Question.{fault_of}
-use Rattle.hart.specs.Accesses.{loaded}
-use Rattle.hart.specs.Applying.{CanApply}
-use Rattle.hart.specs.State.{State}
-use Rattle.hart.specs.declared.effect.Effect.TheVariants.{Trap, Write, DeviceLoad}
-use Rattle.hart.proofs.Loads.{load-ram, load-device, load-refused}
+use Rattle.steps.specs.Accesses.{loaded}
+use Rattle.steps.specs.Applying.{CanApply}
+use Rattle.steps.specs.State.{State}
+use Rattle.steps.specs.declared.effect.Effect.TheVariants.{Trap, Write, DeviceLoad}
+use Rattle.steps.proofs.Loads.{load-ram, load-device, load-refused}
 use Rattle.hart.proofs.hart.Hart.plan_mapped_load.Goals as goal
 
 pub returns-then-gives-clause-effect : goal.returns-then-gives-clause-effect

@@ -1,9 +1,9 @@
 use Rattle.std.proofs.Common.{rules, sym, ap, ◌∙◌}
 use Rattle.std.proofs.lemmas.Bool.{false≢true}
 use Rattle.cap_checks.specs.Question.{fault_of}
-use Rattle.hart.specs.Applying.{CanApply}
-use Rattle.hart.specs.declared.effect.Effect.TheVariants.{Trap}
-use Rattle.hart.proofs.Loads.{store-ram, store-device, store-refused}
+use Rattle.steps.specs.Applying.{CanApply}
+use Rattle.steps.specs.declared.effect.Effect.TheVariants.{Trap}
+use Rattle.steps.proofs.Loads.{store-ram, store-device, store-refused}
 use Rattle.hart.proofs.hart.Hart.plan_mapped_store.Goals as goal
 
 pub holds-requires : goal.holds-requires

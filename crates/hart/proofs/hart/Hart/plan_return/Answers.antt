@@ -2,12 +2,12 @@ use Rattle.std.proofs.Common.{sym, ap, ◌∙◌}
 use Rattle.base.specs.Registers.{pcc_register}
 use Rattle.special_regs.specs.Refusals.{return_checks, return_fault}
 use Rattle.special_regs.specs.Traps.{is_sentry}
-use Rattle.hart.specs.Applying.{CanApply}
-use Rattle.hart.specs.AskedLaws.{register-allowed, register-refused}
-use Rattle.hart.specs.State.{State}
-use Rattle.hart.specs.SystemRows.{return_done}
-use Rattle.hart.specs.RowEffects.{return_effect}
-use Rattle.hart.specs.declared.effect.Effect.TheVariants.{Return}
+use Rattle.steps.specs.Applying.{CanApply}
+use Rattle.steps.specs.AskedLaws.{register-allowed, register-refused}
+use Rattle.steps.specs.State.{State}
+use Rattle.steps.specs.SystemRows.{return_done}
+use Rattle.steps.specs.RowEffects.{return_effect}
+use Rattle.steps.specs.declared.effect.Effect.TheVariants.{Return}
 use Rattle.hart.proofs.hart.Hart.plan_return.Goals as goal
 
 pub returns-in-Ok-clause-effect : goal.returns-in-Ok-clause-effect

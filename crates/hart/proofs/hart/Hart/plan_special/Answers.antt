@@ -5,11 +5,11 @@ use Rattle.cap_bounds.specs.CapValue.{integer}
 use Rattle.cap_checks.specs.Question.{fault_of}
 use Rattle.special_regs.specs.Refusals.{scr_checks, scr_fault}
 use Rattle.special_regs.specs.Scrs.{scr_value}
-use Rattle.hart.specs.AskedLaws.{register-allowed, register-refused}
-use Rattle.hart.specs.State.{State}
-use Rattle.hart.specs.SystemRows.{question_of, special_held, special_done}
-use Rattle.hart.specs.RowEffects.{special_effect}
-use Rattle.hart.specs.declared.effect.Effect.TheVariants.{Trap}
+use Rattle.steps.specs.AskedLaws.{register-allowed, register-refused}
+use Rattle.steps.specs.State.{State}
+use Rattle.steps.specs.SystemRows.{question_of, special_held, special_done}
+use Rattle.steps.specs.RowEffects.{special_effect}
+use Rattle.steps.specs.declared.effect.Effect.TheVariants.{Trap}
 use Rattle.hart.proofs.hart.Hart.plan_special.Goals as goal
 
 pub special_done-requires : goal.special_done-requires

@@ -3,12 +3,12 @@ use Rattle.cap_bounds.specs.CapValue.{CapValue}
 use Rattle.isa_rows.specs.Kind.{kind_of}
 use Rattle.isa_rows.specs.declared.kinds.Kind.{Kind}
 use Rattle.isa_rows.specs.declared.operands.Insn.{Insn}
-use Rattle.hart.specs.ComputeRows.{integer_effect, mul_div_effect, capability_effect}
-use Rattle.hart.specs.PlainRun.{is_steady}
-use Rattle.hart.specs.RowEffects.{load_effect, store_effect, load_capability_effect, store_capability_effect}
-use Rattle.hart.specs.Step.{asked, does, kind_effect}
-use Rattle.hart.specs.State.{State}
-use Rattle.hart.specs.declared.effect.Effect.{Effect}
+use Rattle.steps.specs.ComputeRows.{integer_effect, mul_div_effect, capability_effect}
+use Rattle.steps.specs.PlainRun.{is_steady}
+use Rattle.steps.specs.RowEffects.{load_effect, store_effect, load_capability_effect, store_capability_effect}
+use Rattle.steps.specs.Step.{asked, does, kind_effect}
+use Rattle.steps.specs.State.{State}
+use Rattle.steps.specs.declared.effect.Effect.{Effect}
 use Rattle.hart.proofs.hart.Hart.plan_steady.Goals as goal
 
 -- the effect of an instruction is that of its row's kind

@@ -1,13 +1,13 @@
 use Rattle.std.proofs.Common.{◌≡◌, None, Some, ◌∙◌}
-use Rattle.hart.specs.MemoryRows.{place_of, authority_of, authority_number_of, stores_to, store_done}
-use Rattle.hart.specs.RowEffects.{store_effect}
-use Rattle.hart.specs.Accesses.{size_of}
-use Rattle.hart.specs.Looks.{number_in}
+use Rattle.steps.specs.MemoryRows.{place_of, authority_of, authority_number_of, stores_to, store_done}
+use Rattle.steps.specs.RowEffects.{store_effect}
+use Rattle.steps.specs.Accesses.{size_of}
+use Rattle.steps.specs.Looks.{number_in}
 use Rattle.cap_checks.specs.FirstFault.{access_fault}
 use Rattle.cap_checks.specs.declared.access.Access.{Access}
 use Rattle.cap_checks.specs.declared.access.Access.TheVariants as access
-use Rattle.hart.specs.AskedLaws.{access_asked-allowed, access_asked-refused}
-use Rattle.hart.specs.State.{State}
+use Rattle.steps.specs.AskedLaws.{access_asked-allowed, access_asked-refused}
+use Rattle.steps.specs.State.{State}
 use Rattle.hart.proofs.hart.Hart.plan_store.Goals as goal
 
 pub returns-in-Ok-clause-effect : goal.returns-in-Ok-clause-effect

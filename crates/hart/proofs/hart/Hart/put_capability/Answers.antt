@@ -1,7 +1,7 @@
 use Rattle.std.proofs.Common.{◌≡◌, None, sym, subst, rules}
 use Rattle.tagged_memory.specs.Memory.{place_fault}
-use Rattle.hart.specs.State.{State, HoldsCapabilities}
-use Rattle.hart.specs.StateLaws.{HoldsCapabilities-value_stored}
+use Rattle.steps.specs.State.{State, HoldsCapabilities}
+use Rattle.steps.specs.StateLaws.{HoldsCapabilities-value_stored}
 use Rattle.hart.proofs.hart.Hart.put_capability.Goals as goal
 
 pub invariant_of-self : goal.invariant_of-self

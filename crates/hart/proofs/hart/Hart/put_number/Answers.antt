@@ -1,8 +1,8 @@
 use Rattle.std.proofs.Common.{◌≡◌, None, sym, subst}
 use Rattle.base.specs.Size.{bytes_of}
 use Rattle.tagged_memory.specs.Memory.{place_fault}
-use Rattle.hart.specs.State.{State, HoldsCapabilities}
-use Rattle.hart.specs.StateLaws.{HoldsCapabilities-stored}
+use Rattle.steps.specs.State.{State, HoldsCapabilities}
+use Rattle.steps.specs.StateLaws.{HoldsCapabilities-stored}
 use Rattle.hart.proofs.hart.Hart.put_number.Goals as goal
 
 pub invariant_of-self : goal.invariant_of-self

@@ -1,7 +1,7 @@
 use Rattle.std.proofs.Common.{sym, subst}
 use Rattle.tagged_memory.specs.Memory.{IsMemory}
-use Rattle.hart.specs.State.{State, HoldsCapabilities}
-use Rattle.hart.proofs.Written.{filled}
+use Rattle.steps.specs.State.{State, HoldsCapabilities}
+use Rattle.steps.proofs.Written.{filled}
 use Rattle.hart.proofs.hart.Hart.set_bytes.Goals as goal
 
 pub invariant_of-self : goal.invariant_of-self

@@ -1,7 +1,7 @@
 use Rattle.std.proofs.Common.{sym, subst}
 use Rattle.tagged_memory.specs.Memory.{IsMemory}
-use Rattle.hart.specs.State.{State, HoldsCapabilities}
-use Rattle.hart.proofs.Written.{put}
+use Rattle.steps.specs.State.{State, HoldsCapabilities}
+use Rattle.steps.proofs.Written.{put}
 use Rattle.hart.proofs.hart.Hart.set_cap.Goals as goal
 
 pub invariant_of-self : goal.invariant_of-self

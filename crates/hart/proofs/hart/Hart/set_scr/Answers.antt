@@ -3,7 +3,7 @@ use Rattle.std.proofs.lemmas.Bool.{ne_eqb, cond-false}
 use Rattle.base.specs.declared.registers.scr.TheConstants.{PCC}
 use Rattle.special_regs.specs.Scrs.{Scrs}
 use Rattle.special_regs.specs.Writes.{scr_written}
-use Rattle.hart.specs.State.{State}
+use Rattle.steps.specs.State.{State}
 use Rattle.hart.proofs.hart.Hart.set_scr.Goals as goal
 
 pub returns-clause-state : goal.returns-clause-state

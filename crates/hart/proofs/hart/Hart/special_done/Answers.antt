@@ -2,11 +2,11 @@ use Rattle.std.proofs.Common.{not, None, ◌≡◌, subst, ap, ◌∙◌}
 use Rattle.std.proofs.lemmas.Bool.{ne_eqb}
 use Rattle.cap_bounds.specs.CapValue.{CapValue}
 use Rattle.special_regs.specs.Refusals.{scr_fault}
-use Rattle.hart.specs.Applying.{CanApply}
+use Rattle.steps.specs.Applying.{CanApply}
 use Rattle.registers.specs.Registers.{register}
-use Rattle.hart.specs.State.{State}
-use Rattle.hart.specs.declared.effect.Effect.TheVariants.{Special}
-use Rattle.hart.proofs.Plans.{special_done-read, special_done-write}
+use Rattle.steps.specs.State.{State}
+use Rattle.steps.specs.declared.effect.Effect.TheVariants.{Special}
+use Rattle.steps.proofs.Plans.{special_done-read, special_done-write}
 use Rattle.hart.proofs.hart.Hart.special_done.Goals as goal
 
 pub returns-then-insn-eq0-clause-effect : goal.returns-then-insn-eq0-clause-effect

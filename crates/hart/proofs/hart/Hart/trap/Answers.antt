@@ -3,7 +3,7 @@ use Rattle.special_regs.specs.Csrs.{cycle_counted}
 use Rattle.special_regs.specs.Scrs.{Scrs}
 use Rattle.special_regs.specs.Traps.{trapped_scrs, trapped_csrs}
 use Rattle.special_regs.specs.declared.csrs.Csrs.{Csrs}
-use Rattle.hart.specs.State.{State}
+use Rattle.steps.specs.State.{State}
 use Rattle.hart.proofs.hart.Hart.trap.Goals as goal
 
 pub returns : goal.returns

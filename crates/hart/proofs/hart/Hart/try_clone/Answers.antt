@@ -1,5 +1,5 @@
 use Rattle.std.proofs.Common.{sym, subst}
-use Rattle.hart.specs.State.{HoldsCapabilities}
+use Rattle.steps.specs.State.{HoldsCapabilities}
 use Rattle.hart.proofs.hart.Hart.try_clone.Goals as goal
 
 pub invariant_of-result : goal.invariant_of-result

@@ -1,8 +1,8 @@
 use Rattle.std.proofs.Common.{◌-◌, sym, ap, subst, ◌∙◌, arith}
 use Rattle.std.specs.Prelude.{option_to_list}
-use Rattle.hart.specs.State.{State}
-use Rattle.hart.specs.Step.{step_sent}
-use Rattle.hart.specs.Steps.{steps_after, AreQuiet}
+use Rattle.steps.specs.State.{State}
+use Rattle.steps.specs.Step.{step_sent}
+use Rattle.steps.specs.Steps.{steps_after, AreQuiet}
 use Rattle.machine.proofs.Steps.{run_after-steps, run_sent-steps, run_sent-none}
 use Rattle.machine.proofs.machine.Machine.advance.Goals as goal
 

@@ -1,5 +1,5 @@
 use Rattle.std.proofs.Common.{sym, ap, subst, ◌∙◌}
-use Rattle.hart.specs.Steps.{steps_after, AreQuiet, GoesBy}
+use Rattle.steps.specs.Steps.{steps_after, AreQuiet, GoesBy}
 use Rattle.machine.proofs.Steps.{run_after-steps, run_sent-none}
 use Rattle.machine.proofs.machine.Machine.advance_short_of.Goals as goal
 

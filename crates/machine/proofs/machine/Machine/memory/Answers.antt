@@ -1,5 +1,5 @@
 use Rattle.std.proofs.Common.{subst}
-use Rattle.hart.specs.State.{HoldsCapabilities}
+use Rattle.steps.specs.State.{HoldsCapabilities}
 use Rattle.machine.proofs.machine.Machine.memory.Goals as goal
 
 pub returns-clause-well_formed : goal.returns-clause-well_formed

@@ -5,8 +5,8 @@ use Rattle.std.specs.Prelude.{option_to_list}
 use Rattle.machine.proofs.Stretches.{KeepsUpTo-none, ArePlain-more, rights-kept, seals-kept, left-kept, silent-kept, ends-before}
 use Rattle.machine.proofs.Stretches.{plain-next, state-next, bytes-next, keeps-next}
 use Rattle.machine.proofs.Twins.{AreTwins-none, AreTwins-more, IsSameStretch-twins}
-use Rattle.hart.specs.IsState.{IsState}
-use Rattle.hart.specs.declared.ends.Why.{Why}
+use Rattle.steps.specs.IsState.{IsState}
+use Rattle.steps.specs.declared.ends.Why.{Why}
 use Rattle.machine.specs.Stretch.{EndsBefore}
 use Rattle.machine.specs.Run.{run_after}
 use Rattle.machine.proofs.machine.Machine.run_stretch.Goals as goal

@@ -3,7 +3,7 @@ use Rattle.machine.specs.Run.{run_after, run_sent}
 use Rattle.machine.specs.Stretch.{ArePlain}
 use Rattle.machine.proofs.Stretches.{KeepsUpTo}
 use Rattle.machine.proofs.Twins.{AreTwins}
-use Rattle.hart.specs.State.{State}
+use Rattle.steps.specs.State.{State}
 use Rattle.authority.specs.Worlds.{Agree}
 use Rattle.machine.proofs.machine.Machine.run_stretch.Given as goal
 

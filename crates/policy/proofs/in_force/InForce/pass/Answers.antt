@@ -1,6 +1,6 @@
 use Rattle.std.proofs.Common.{◌≡◌, ap, length, sym, ◌∙◌}
 use Rattle.std.proofs.lemmas.List.{length-map}
-use Rattle.hart.specs.State.{pc_of}
+use Rattle.steps.specs.State.{pc_of}
 use Rattle.policy.specs.Terms.{terms, terms_of}
 use Rattle.policy.specs.Watch.{values_in}
 use Rattle.policy.specs.Lending.{next_door}

@@ -3,8 +3,8 @@ use Rattle.std.proofs.lemmas.List.{with_items_is}
 use Rattle.std.specs.Prelude.{Some}
 use Rattle.std.specs.Vec.{with_items}
 use Rattle.cap_bounds.specs.CapValue.{value_address}
-use Rattle.hart.specs.State.{pc_of}
-use Rattle.hart.specs.declared.event.Event.TheVariants.{Step}
+use Rattle.steps.specs.State.{pc_of}
+use Rattle.steps.specs.declared.event.Event.TheVariants.{Step}
 use Rattle.machine.specs.Run.{run_after}
 use Rattle.policy.specs.Terms.{terms, terms_of}
 use Rattle.policy.specs.Watch.{HoldEach}

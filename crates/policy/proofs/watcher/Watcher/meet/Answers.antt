@@ -2,7 +2,7 @@ use Rattle.std.proofs.Common.{◌≡◌, length, rules, sym, ap, ◌∙◌, subs
 use Rattle.std.proofs.lemmas.List.{length-map, with_items_is}
 use Rattle.std.specs.Vec.{with_items}
 use Rattle.cap_bounds.specs.CapValue.{value_address}
-use Rattle.hart.specs.State.{pc_of}
+use Rattle.steps.specs.State.{pc_of}
 use Rattle.policy.specs.Terms.{terms, terms_of}
 use Rattle.policy.specs.Known.{AreCertified, forced_by, held_by, rules_of}
 use Rattle.policy.proofs.Looking.{certified-then, known-then}

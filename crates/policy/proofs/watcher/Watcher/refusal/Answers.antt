@@ -3,7 +3,7 @@ use Rattle.std.specs.Prelude.{Contains, IfSome, IfNone}
 use Rattle.std.proofs.lemmas.List.{with_items_is}
 use Rattle.std.specs.Vec.{with_items}
 use Rattle.cap_bounds.specs.CapValue.{value_address}
-use Rattle.hart.specs.State.{pc_of}
+use Rattle.steps.specs.State.{pc_of}
 use Rattle.policy.specs.Terms.{Terms, terms_of}
 use Rattle.policy.specs.Watch.{IsAbout, Holds, HoldEach, IsRefused}
 use Rattle.policy.specs.Known.{WasAbout, AreCertified, rules_of}

@@ -1,6 +1,6 @@
 use Rattle.std.proofs.Common.{◌≡◌, ◌++◌, ap, sym, ◌∙◌}
 use Rattle.cap_bounds.specs.CapValue.{value_address}
-use Rattle.hart.specs.State.{pc_of}
+use Rattle.steps.specs.State.{pc_of}
 use Rattle.policy.specs.Terms.{terms_of}
 use Rattle.policy.specs.Watch.{values_in}
 use Rattle.policy_audit.specs.Found.{found_at, found_from}

@@ -1,5 +1,5 @@
 use Rattle.std.proofs.Common.{◌∙◌, map, ap, sym, subst}
-use Rattle.hart.specs.State.{HoldsCapabilities}
+use Rattle.steps.specs.State.{HoldsCapabilities}
 use Rattle.reach.proofs.Reaches.{reach_of_search, links_of_search, members_of_search, reach_of_members}
 use Rattle.reach.proofs.reach.Reach.of.Goals as goal
 

@@ -1,0 +1,10 @@
+pub mod Fetch
+pub mod Loads
+pub mod Places
+pub mod PlainRun
+pub mod PlainSteps
+pub mod Plans
+pub mod Polled
+pub mod Quiet
+pub mod Words
+pub mod Written

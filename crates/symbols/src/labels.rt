@@ -1,0 +1,62 @@
+//! What stands after an address: the label at it or below it.
+ghost use Rattle.std.specs.Prelude.{◌≡◌, ◌+◌, ◌<◌, ◌≤◌, length, true};
+ghost use Rattle.arrayvec.specs.ArrayString.{array_string_len};
+ghost use Rattle.symbols.specs.Labels.{distance_text, label_of};
+ghost use Rattle.symbols.specs.Symbols.{is_label};
+
+use crate::table::Symbols;
+use arrayvec::ArrayString;
+use itoa::Buffer;
+
+/// A label and the distance from it, at most 278 bytes.
+pub type Label = ArrayString<280>;
+
+/// A label as a text.
+fn name_text(name: &[u8]) -> &str
+    requires { is_label name.now ≡ true }
+    ensures { result.now ≡ name.now }
+{
+    match str::from_utf8(name) {
+        Ok(text) => text,
+        Err(_) => unreachable!(),
+    }
+}
+
+/// A name and the distance from it, unless that is 0; nothing where it is 4096 or more.
+#[tactic(auto, unfolding(crate::specs::Labels::distance_text))]
+fn distance_text(name: &str, distance: u64) -> Label
+    requires { length name.now ≤ 254 }
+    ensures text { result.bytes ≡ distance_text name.now distance }
+    ensures within { array_string_len result ≤ 278 }
+{
+    let mut label = Label::new();
+    if distance >= 4096 {
+        return label;
+    }
+    label.push_str(" <");
+    label.push_str(name);
+    if distance > 0 {
+        label.push_str("+");
+        label.push_str(Buffer::new().format(distance));
+    }
+    label.push_str(">");
+    label
+}
+
+impl Symbols {
+    /// What stands after an address: ` <name>` or ` <name+4>`, by the symbol at it or nearest below it, of several at one address the
+    /// first; nothing where none is fewer than 4096 bytes below it. At most 278 bytes; it takes no memory.
+    #[tactic(auto, unfolding(crate::specs::Labels::label_of))]
+    pub fn label_of(&self, address: u64) -> Label
+        ensures text { result.bytes ≡ label_of self.now address }
+        ensures within { array_string_len result ≤ 278 }
+    {
+        match self.nearest(address) {
+            Some(symbol) => distance_text(
+                name_text(symbol.name()),
+                address.saturating_sub(symbol.address()),
+            ),
+            None => Label::new(),
+        }
+    }
+}
