@@ -6,6 +6,7 @@ Values are from the rules of the command line, of listings and of the schedule.
 from cases.programs.items import csr, halted, integer, line, sent
 from cases.programs.machines import FIRST_IMAGE
 from cases.quoting import quoted
+from model.listings import named, table_text
 
 # A command line, and its plan: of a run the image, the steps, the gap, the tick and the input, whether it is quiet, and its trace.
 PLANS = [
@@ -26,11 +27,14 @@ PLANS = [
     ("run hello.img 22 --policy hello.policy", "run hello.img 22 1000 100 - policy hello.policy"),
     ("run --symbols=hello.sym hello.img 22 --policy=hello.policy --input keys --gap 7",
      "run hello.img 22 7 100 keys policy hello.policy symbols hello.sym"),
+    ("run hello.img 22 --symbols hello.sym", "run hello.img 22 1000 100 - symbols hello.sym"),
+    ("run --symbols=hello.sym --why=all hello.img 22 --trace t", "run hello.img 22 1000 100 - why all trace t symbols hello.sym"),
     ("run hello.img 22 --trace t --policy hello.policy --quiet", "run hello.img 22 1000 100 - quiet trace t policy hello.policy"),
     ("audit hello.img 5", "audit hello.img 5 1000 100 -"),
     ("audit hello.img 22 --input keys --gap 1", "audit hello.img 22 1 100 keys"),
     ("audit --tick=0 hello.img 22 --policy=hello.policy", "audit hello.img 22 1000 0 - policy hello.policy"),
     ("audit hello.img --symbols hello.sym 22 --policy hello.policy", "audit hello.img 22 1000 100 - policy hello.policy symbols hello.sym"),
+    ("audit hello.img 22 --trace t --symbols hello.sym", "audit hello.img 22 1000 100 - trace t symbols hello.sym"),
     ("audit --quiet hello.img 22 --trace-from 3 --trace t", "audit hello.img 22 1000 100 - quiet trace t trace-from 3"),
     ("audit hello.img 22 --trace=t --trace-last 7 --policy hello.policy", "audit hello.img 22 1000 100 - trace t trace-last 7 policy hello.policy"),
     ("", "first"),
@@ -114,7 +118,9 @@ REFUSED = [
     ("run hello.img 5 --policy", "--policy"),
     ("run hello.img 5 --policy hello.policy --why", "--policy"),
     ("run hello.img 5 --why=all --policy hello.policy", "--policy"),
-    ("run hello.img 5 --symbols hello.sym", "--policy"),
+    ("run hello.img 5 --symbols", "--symbols"),
+    ("run hello.img 5 --symbols hello.sym --symbols hello.sym", "--symbols"),
+    ("run hello.img 5 --symbols hello.sym --trace hello.sym", "a file that is written"),
     ("run hello.img 5 --symbols hello.sym --policy", "--policy"),
     ("run hello.img 5 --policy hello.policy --trace hello.policy", "a file that is written"),
     ("run hello.img 5 --policy hello.policy --symbols hello.sym --trace hello.sym", "a file that is written"),
@@ -125,7 +131,7 @@ REFUSED = [
     ("audit hello.img 5 --gap 0", "--gap"),
     ("audit hello.img 5 --tick 1000001", "--tick"),
     ("audit hello.img 5 --times 0", "--times"),
-    ("audit hello.img 5 --symbols hello.sym", "--policy"),
+    ("audit hello.img 5 --symbols hello.sym --trace hello.sym", "a file that is written"),
     ("audit hello.img 5 --quiet --quiet", "--quiet"),
     ("audit hello.img 5 --trace-from 2", "--trace"),
     ("audit hello.img 5 --trace t --trace-last 0", "--trace-last"),
@@ -216,6 +222,37 @@ CUT_LISTING = """0000000080000000 100005b7 lui a1, 0x10000
 0000000080000005 .byte 0xff
 0000000080000006 .byte 0x00
 """
+CUT_LABELS = [(0x80000005, "a"), (0x80000000, "start"), (0x80000005, "b"), (0x80000000, "begin"), (0x80000005, "a.longer.name")]
+
+# A jump forth, a word and two branches back, and two bytes that are no word; another section of an instruction, a jump out of RAM, and a
+# byte.
+JUMPS = ".word 0x00c0006f, 0x13, 0x0, 0xfe000ce3, 0xfe0ff8e3\n.byte 1, 2\n.org 0x80000102\n.word 0x13, 0xf7fff06f\n.byte 3"
+JUMPS_LISTING = """0000000080000000 00c0006f jal zero, .+12
+0000000080000004 00000013 addi zero, zero, 0
+0000000080000008 00000000 .word 0x00000000
+000000008000000c fe000ce3 beq zero, zero, .-8
+0000000080000010 fe0ff8e3 bgeu t6, zero, .-16
+0000000080000014 .byte 0x01
+0000000080000015 .byte 0x02
+0000000080000102 00000013 addi zero, zero, 0
+0000000080000106 f7fff06f jal zero, .-130
+000000008000010a .byte 0x03
+"""
+# Two and three labels at one address, in two orders; at a byte that is no part of a word; inside a word; and outside the image, where
+# one names a target that has no nearer one, and one is too far below.
+TABLES = [
+    [],
+    [(0x80000004, "one"), (0x80000004, "two")],
+    [(0x80000004, "two"), (0x80000000, "start"), (0x80000004, "one"), (0x8000000c, "last"), (0x80000004, "three")],
+    [(0x80000015, "odd"), (0x80000014, "even"), (0x80000015, "odd.too"), (0x8000010a, "end"), (0x8000010a, "_"), (0x80000015, "odd")],
+    [(0x80000001, "within"), (0x8000000e, "half"), (0x80000001, "within.too"), (0x80000104, "half")],
+    [(0, "zero"), (0x7ffff001, "below"), (0x7ffff001, "below.too"), (0x80000016, "after"), (0x80000103, "odd"),
+     (0xffffffffffffffff, "top")],
+    [(0x7ffff000, "far"), (0x80000100, "before"), (0x80000100, "before.too"), (0x8000010b, "past"), (0x8000010b, "past.too")],
+]
+# So many labels at one address, between labels of others.
+MANY = 2000
+MANY_LABELS = [(0x80000000, "start"), *((0x80000008, f"l{number}") for number in range(MANY)), (0x80000000, "begin"), (0x8000000c, "last")]
 
 # How many bytes the sink of a listing takes a call.
 MOST = 7
@@ -249,6 +286,13 @@ def listings():
     for call in range(len(pieces)):
         yield f"{quoted(CUT)} {call} => cut 1 {quoted(''.join(pieces[:call]))}"
     yield f"{quoted(CUT)} {len(pieces)} => whole 0 {quoted(CUT_LISTING)}"
+    yield "# a text and a table of symbols => the same, with names; and with the call that fails"
+    for table in (*TABLES, MANY_LABELS):
+        yield f"{quoted(JUMPS)} {quoted(table_text(table))} => whole 0 {quoted(named(JUMPS_LISTING, table))}"
+    rows = named(CUT_LISTING, CUT_LABELS)
+    pieces = [row[at:at + MOST] for row in rows.splitlines(keepends=True) for at in range(0, len(row), MOST)]
+    for call in range(0, len(pieces), 2):
+        yield f"{quoted(CUT)} {quoted(table_text(CUT_LABELS))} {call} => cut 1 {quoted(''.join(pieces[:call]))}"
 
 
 def scheduled(program, steps, gap, tick, keys, *seen):

@@ -4,12 +4,14 @@ A session's events are recorded as they are given: steps with what they wrote, t
 are those that the schedule has in turn: a byte before a step, the step, and a tick after it.
 """
 
+import re
+
 from cases.recorded import Recorded
 from cases.row_texts import shown
 from model import origins
 from model.capabilities import flag
 from model.devices import RAM
-from model.origins import GRANULE, REGISTER, SPECIAL, Event, fields, held, name_of
+from model.origins import GRANULE, LABEL, REGISTER, SPECIAL, Event, fields, held, name_of, placed
 from model.reach import WORD
 from model.sessions import MOST_GONE, MOST_SENT
 from trying.names import REGISTERS, SCRS
@@ -19,7 +21,8 @@ MOST = 10 ** 6
 
 
 class Past:
-    """A session of the machine of a text, on a schedule of a gap, a tick and the bytes of the input, or on none."""
+    """A session of the machine of a text, on a schedule of a gap, a tick and the bytes of the input, or on none; with the
+    addresses of a table of symbols by their names, or without a table."""
 
     def __init__(self, text, schedule=None, labels=None):
         self.text, self.schedule, self.labels, self.stops = text, schedule, labels or {}, []
@@ -81,7 +84,7 @@ class Past:
     def told(self, before, sent):
         end = f"halted {self.machine.halted}" if self.is_halted() else "running"
         out = bytes(self.machine.sent[sent:]).hex() or "-"
-        return f"events {len(self.events) - before} out {out} pc {self.machine.pc():016x} {end}\n"
+        return f"events {len(self.events) - before} out {out} pc {placed(self.machine.pc())} {end}\n"
 
     def is_at(self, stops):
         return any(self.machine.would_trap() if stop is None else self.machine.pc() == stop for stop in stops)
@@ -105,7 +108,19 @@ class Past:
     def answer(self, line):
         """The reply to a line."""
         name, *operands = line.split()
-        return getattr(self, "on_" + name)(*operands)
+        return self.with_labels(getattr(self, "on_" + name)(*operands))
+
+    def with_labels(self, text):
+        """A text with the labels after its addresses."""
+        return re.sub(f"([0-9a-f]{{16}}){LABEL}", lambda found: found[1] + self.label_of(int(found[1], 16)), text)
+
+    def label_of(self, address):
+        """What stands after an address: the name at it or nearest below it, by fewer than 4096 bytes, of several there the first."""
+        near = [(address - place, name) for name, place in self.labels.items() if 0 <= address - place < 4096]
+        if not near:
+            return ""
+        distance, name = min(near, key=lambda it: it[0])
+        return f" <{name}+{distance}>" if distance else f" <{name}>"
 
     def number(self, word):
         return self.labels[word] if word in self.labels else int(word, 0)
@@ -214,7 +229,7 @@ class Past:
 
     def listed(self, address):
         word, row, operands = self.machine.rows[address]
-        return f"{address:016x} {word:08x} {shown(row, operands, flag(self.machine.special['pcc']))}\n"
+        return f"{placed(address)} {word:08x} {shown(row, operands, flag(self.machine.special['pcc']))}\n"
 
     def on_quit(self):
         return ""

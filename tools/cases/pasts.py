@@ -6,12 +6,13 @@ from cases.sessions import conversation, typed
 from model.devices import RAM
 
 
-def session(about, text, commands, schedule=None):
-    """A conversation of commands, which are parted by `; `, with what the model answers."""
-    past, lines = Past(text, schedule), []
+def session(about, text, commands, schedule=None, labels=None):
+    """A conversation of commands, which are parted by `; `, with what the model answers; maybe with a table of names and addresses."""
+    past, lines = Past(text, schedule, labels), []
     for command in commands.split("; "):
         lines += [typed(command), *past.answer(command).splitlines()]
     first = [f"% {schedule[0]} {schedule[1]} {escaped(bytes(schedule[2])) or '-'}"] if schedule else []
+    first += [] if labels is None else [" ".join(["&", *(f"{name}={address:x}" for name, address in labels.items())])]
     return about, text, "\n".join(first + lines)
 
 
@@ -344,8 +345,55 @@ def schedules():
     yield session("Without ticks", KEEPS, "step 10; back 3; step 3; ago; origin a0; reg a0", (1, 0, b"ABC"))
 
 
+# ---- tables of symbols
+
+# Stores of data beside and over a capability, of both kinds to RAM and of one to a device.
+STORES = (HAS + "sc.cap ca3, (ca2); sd a1, 16(a2); sb zero, 15(a2); lc.cap ct1, (ca2); lui a6, 0x10000; sb a3, 0(a6)")
+DEVICES = ("lui a1, 0x10000; ld a0, 8(a1); ld zero, 8(a1); cspecialrw ca2, ddc, cnull; addi a1, a1, 8; csetaddr ca2, ca2, a1; "
+           "ld.cap a3, (ca2); nop")
+TABLE = {"start": RAM, "begin": RAM, "loop": RAM + 0x14, "data": BYTES, "data_end": BYTES + 16, "console": 0x1000_0000}
+
+
+def named():
+    def labelled(about, text, commands, labels, schedule=None):
+        return session(about, text, commands, schedule, labels)
+
+    yield labelled("Labels after the addresses of steps, of granules and of stores; a label in place of a granule's address", STORES,
+                   "step 13; origin data; lost data; step 3; origin ct1; lost data; lost ct1; lost 0x80000400; origin data_end; "
+                   "lost data_end; back 4; origin data; changed data 3; lost ct0; origin 0x80000800; step 9; lost data", TABLE)
+    yield labelled("Of several labels at one address the first, whichever comes first in the table", STORES,
+                   "step 12; origin data; origin a1", {"begin": RAM, "data_end": BYTES + 16, "other": BYTES, "data": BYTES, "start": RAM})
+    for about, labels in (
+            ("A table without a line: no label", {}), ("The first label is above each address", {"high": BYTES + 17}),
+            ("4095 bytes above a label", {"far": RAM + 32 - 4095}), ("4096 bytes above a label", {"farther": RAM + 36 - 4096}),
+            ("Labels at 0 and at 2^64 - 1", {"last": 2 ** 64 - 1, "null": 0})):
+        yield labelled(about, STORES, "step 13; origin ct0; origin 0x80000400; step 1; lost 0x80000400; lost 0x80000410; origin pcc",
+                       labels)
+    for about, more in (
+            ("A window", "csetaddr ct0, ca2, a3"), ("A window, far away", "csetoffset ct0, ca2, a1"),
+            ("A length", "cincoffsetimm ca6, ca2, -1; csetboundsimm ct0, ca6, 1"), ("A length from 0 on", "csetboundsexact ct0, ca2, a1"),
+            ("Bounds that are rounded", "cincoffset ca7, ca0, a1; addi a6, a1, 1; csetboundsexact ct0, ca7, a6"),
+            ("The length of an authority", "csetboundsimm ca6, ca3, 0; cunseal ct0, ca4, ca6"),
+            ("A type", "cincoffsetimm ca6, ca3, 1; cunseal ct0, ca4, ca6"), ("A permission", "candperm ca6, ca2, a3; csealentry ct0, ca6"),
+            ("The tag of a granule", "lc.cap ct0, (ca2)")):
+        yield labelled(f"A condition with labels. {about}", HAS + more, after(HAS + more, "lost ct0; origin ct0"),
+                       TABLE | {"five": 5, "here": RAM + 0x28})
+    yield labelled("Loads of device registers", DEVICES,
+                   "byte 0x41; byte 0x42; byte 0x43; step 8; origin a0; origin a3; origin zero; lost a3", TABLE)
+    yield labelled("Jumps, branches and links", LOOP, "step 8; origin a1; origin pcc; until loop 5; origin a0; back 3; origin a1",
+                   TABLE | {"loop": RAM + 4})
+    yield labelled("Links and jumps to capabilities", ENTRY,
+                   "step 4; origin pcc; origin cra; lost pcc; lost cra; step 1; origin pcc; origin cra", TABLE)
+    yield labelled("CInvoke", PAIR.format(0, "ca3"), "step 11; origin pcc; origin ct6; lost pcc; lost ct6", TABLE)
+    yield labelled("Numbers of traps and of system registers have no labels", HANDLED,
+                   "step 4; origin pcc; origin mepcc; lost pcc; step 6; origin pcc; origin mepcc; lost mepcc; origin a1; origin mtcc",
+                   TABLE)
+    yield labelled("On a schedule", KEEPS, "step 9; origin ca4; lost data; back 3; until loop 9; lost data; ago; stop at start; stops",
+                   TABLE | {"loop": RAM + 16}, BY_SECONDS)
+
+
 def conversations():
-    for part in (chains, false, memory, specials, traps, jumps, back_and_forth, refusals, schedules):
+    for part in (chains, false, memory, specials, traps, jumps, back_and_forth, refusals, schedules, named):
         yield from part()
 
 

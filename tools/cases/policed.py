@@ -5,7 +5,7 @@ What is told of a run is what the model of a machine meets (cases/running.py, ca
 """
 
 from cases.encoded import image_of
-from cases.program_cases import BAD, FILE, TRACE, case, refused
+from cases.program_cases import BAD, FILE, TRACE, case, refused, table, with_labels
 from cases.quoting import quoted
 from cases.running import Running
 from cases.watched import GAP, TICK, ran
@@ -124,6 +124,11 @@ def first_image():
     yield watch.line()
     watch.words = "run first.img 9 --policy p --trace t"
     yield watch.line(opened=", make t", made="".join(TRACE.splitlines(True)[:4]).encode())
+    yield "# with a table the addresses of the trace and of where it stopped have labels"
+    labels = [(RAM, "start"), (RAM + 12, "halt"), (RAM + 12, "end")]
+    yield case("run first.img 9 --policy p --symbols s --trace t", [FILE, table("s", labels), f"p {quoted(last)}"], 1,
+               "open first.img, open s, open p, make t", b"A", with_labels(watch.told, labels),
+               with_labels("".join(TRACE.splitlines(True)[:4]), labels).encode())
 
 
 def which():
@@ -362,7 +367,7 @@ def files_and_words():
                told="cherisim: line 1: no address and label\n  t:1\n")
     yield case("run first.img 5 --policy p --input none", [FILE, 'p "x"'], 3, "open first.img, open p", told=policy.refused("P1", 1, "p"))
     yield "# command lines that are refused"
-    for words in ("--policy p --why", "--why=all --policy p", "--symbols t", "--policy", "--policy p --policy p",
+    for words in ("--policy p --why", "--why=all --policy p", "--policy", "--policy p --policy p",
                   "--policy p --symbols t --symbols t", "--policy p --trace p", "--policy p --symbols t --trace t"):
         yield refused(f"run first.img 5 {words}", [FILE, 'p ""', 't ""'])
 

@@ -76,34 +76,70 @@ BAD = 'bad.img "CHERIIMH"'
 TEXT_OF_CLAP = "a text"
 # a load at address 0, which nothing answers, and one by a capability register that is null
 LOADS_NOTHING = [immediate(0, 0, 0, A0, 0x03)]
-# Texts with a fault: its line, and what it says.
+# Texts with a fault in their last line or the one that has marks: its text, the lines, with marks around what stands over the carets,
+# and what stands after those.
 PAST = "(1 page; see .pages)"
 NUMBERS = "-9223372036854775808 to 18446744073709551615"
-DETAILED = [
-    (1, ["ecall a0"], "A2 operands: ecall takes no operands"),
-    (1, ["sc.cap a0"], "A2 operands: sc.cap takes cs2, (cs1)"),
-    (1, ["la a0"], "A2 operands: la takes rd, expression"),
-    (1, [".cap 0, 1, 0"], "A2 operands: .cap takes base, length, permissions, flag"),
-    (2, [".pages 2", ".pages 3"], "A2 operands: .pages stands once, before other statements"),
-    (2, [".entry 0x80000000", ".entry 0x80000000"], "A2 operands: .entry stands once"),
-    (1, [".byte 1, 256"], "A3 immediate out of range: 256 (-128 to 255)"),
-    (1, ["x: .byte 1, x"], f"A3 immediate out of range: x is {0x80000000} (-128 to 255)"),
-    (1, [".pages 65537"], "A3 immediate out of range: 65537 (1 to 65536)"),
-    (1, [".cap 0, 1, 70000, 0"], "A3 immediate out of range: 70000 (0 to 65535)"),
-    (1, ["lw a0, 4096 (a1)"], "A3 immediate out of range: 4096 (-2048 to 2047)"),
-    (1, [f"j {10 ** 20}"], f"A3 immediate out of range: {10 ** 20} ({NUMBERS})"),
-    (1, ["x: .dword 1, x, lop, lup"], "A5 label unknown: lop"),
-    (1, ["j .+3"], f"A6 target out of range: 3 bytes away (even, {-2 ** 20} to {2 ** 20 - 2})"),
-    (1, ["beq a0, a1, .+5000"], "A6 target out of range: 5000 bytes away (even, -4096 to 4094)"),
-    (1, [f"la a0, .+{2 ** 32}"], f"A6 target out of range: {2 ** 32} bytes away ({-2 ** 31} to {2 ** 31 - 2049})"),
-    (1, [".entry 0x80000002"], f"A6 target out of range: 0x0000000080000002 is no multiple of 4 in RAM {PAST}"),
-    (1, [".zero 5000"], f"A7 place: from 0x0000000080000000 on: past the end of RAM {PAST}"),
-    (2, [".org 0x1000", "nop"], "A7 place: from 0x0000000000001000 on: below RAM"),
-    (3, ["nop", ".org 0x80000000", "nop"], "A7 place: from 0x0000000080000000 on: where an earlier line places bytes"),
-    (2, [".byte 1", "nop"], "A7 place: from 0x0000000080000001 on: an instruction at no multiple of 4"),
-    (2, ["nop", ".cap 0, 1, 0, 0"], "A7 place: from 0x0000000080000004 on: a capability at no multiple of 16"),
-    (1, [".cap 0x80000001, 65537, 0, 0"], "A11 capability not exact: from 0x0000000080000001 on, 65537 bytes would be rounded"),
-    (1, [f".cap {ONES}, 2, 0, 0"], "A11 capability not exact: from 0xffffffffffffffff on, 2 bytes end above 2^64"),
+NO_MNEMONIC, OPERANDS, OUT_OF_RANGE = "A1 unknown mnemonic", "A2 operands", "A3 immediate out of range"
+TWICE, UNKNOWN, FAR = "A4 label twice", "A5 label unknown", "A6 target out of range"
+PLACE, NOT_EXACT = "A7 place", "A11 capability not exact"
+UNDERLINED = [
+    (OUT_OF_RANGE, ["addi a0, a0, «4096»"], "-2048 to 2047"),
+    (UNKNOWN, ["j «lop»"], ""),
+    (TWICE, ["x: nop", "«x»: nop"], ""),
+    (OPERANDS, ["addi «a0»"], "addi takes rd, rs1, imm"),
+    (NO_MNEMONIC, ["nop", "  here: «frob» a0"], ""),
+    (NO_MNEMONIC, ["«nops»"], ""),
+    (OPERANDS, ["ecall «a0»"], "ecall takes no operands"),
+    (OPERANDS, ["«jalr»"], "jalr takes rd, imm(rs1)"),
+    (OPERANDS, ["sc.cap «a0»"], "sc.cap takes cs2, (cs1)"),
+    (OPERANDS, ["la «a0»"], "la takes rd, expression"),
+    (OPERANDS, [".cap «0, 1, 0»"], ".cap takes base, length, permissions, flag"),
+    (OPERANDS, [".cap 0, «1x», 0, 2"], ".cap takes base, length, permissions, flag"),
+    (OPERANDS, ["\taddi\ta0,\t«b0»,\t5000\t# far"], "addi takes rd, rs1, imm"),
+    (OPERANDS, ["l:addi a0, «», 1"], "addi takes rd, rs1, imm"),
+    (OPERANDS, ["ld a0, «a1»"], "ld takes rd, imm(rs1)"),
+    (OPERANDS, ["li a0, «a1», 1"], "li takes rd, imm"),
+    (OPERANDS, ["li «a0, 1, 1»"], "li takes rd, imm"),
+    (OPERANDS, [".byte 1, «2 3»  "], ".byte takes one expression or more"),
+    (OPERANDS, ["«.half»"], ".half takes one expression or more"),
+    (OPERANDS, [".ascii «a, b»"], ".ascii takes a text in quotes"),
+    (OPERANDS, [".align «x»"], ".align takes a number"),
+    (OPERANDS, [".entry «1 2»"], ".entry takes an expression"),
+    (OPERANDS, [".pages 2", "«.pages» 3"], ".pages stands once, before other statements"),
+    (OPERANDS, [".entry 0x80000000", "«.entry» 0x80000000"], ".entry stands once"),
+    (OUT_OF_RANGE, [".byte 1, «256»"], "-128 to 255"),
+    (OUT_OF_RANGE, [".half x, «-32769», 65536"], "-32768 to 65535"),
+    (OUT_OF_RANGE, [".word «4294967296»"], "-2147483648 to 4294967295"),
+    (OUT_OF_RANGE, ["x: .byte 1, «x»"], f"is {0x80000000} (-128 to 255)"),
+    (OUT_OF_RANGE, [f"x: .dword «x + {ONES}»"], NUMBERS),
+    (OUT_OF_RANGE, [".pages «65537»"], "1 to 65536"),
+    (OUT_OF_RANGE, [".mode «2»"], "0 to 1"),
+    (OUT_OF_RANGE, [".org «-1»"], f"0 to {ONES}"),
+    (OUT_OF_RANGE, [".align «13»"], "0 to 12"),
+    (OUT_OF_RANGE, [".zero «268435457»"], "0 to 268435456"),
+    (OUT_OF_RANGE, [".cap 0, 1, «70000», 0"], "0 to 65535"),
+    (OUT_OF_RANGE, [".cap 0, 1, 0, «2»"], "0 to 1"),
+    (OUT_OF_RANGE, ["lw a0, «4096 (a1)»"], "-2048 to 2047"),
+    (OUT_OF_RANGE, ["slli a0, a0, «64»"], "0 to 63"),
+    (OUT_OF_RANGE, ["lui a0, «0x100000»"], "0 to 1048575"),
+    (OUT_OF_RANGE, ["csrrwi a0, mscratch, «32»"], "0 to 31"),
+    (OUT_OF_RANGE, ["csrrw a0, «4096», a0"], "0 to 4095"),
+    (OUT_OF_RANGE, [f"j «{10 ** 20}»"], NUMBERS),
+    (UNKNOWN, ["x: .dword 1, x, «lop + 4», lup"], ""),
+    (UNKNOWN, ["x: .cap x, «len», 0, 0"], ""),
+    (UNKNOWN, ["beq a0, a1, «lop»"], ""),
+    (FAR, ["j «.+3»"], f"3 bytes away (even, {-2 ** 20} to {2 ** 20 - 2})"),
+    (FAR, ["beq a0, a1, «.+5000»"], "5000 bytes away (even, -4096 to 4094)"),
+    (FAR, [f"la a0, «.+{2 ** 32}»"], f"{2 ** 32} bytes away ({-2 ** 31} to {2 ** 31 - 2049})"),
+    (FAR, [".entry «0x80000002»"], f"0x0000000080000002 is no multiple of 4 in RAM {PAST}"),
+    (PLACE, ["«.zero» 5000"], f"from 0x0000000080000000 on: past the end of RAM {PAST}"),
+    (PLACE, [".org 0x1000", "«nop»"], "from 0x0000000000001000 on: below RAM"),
+    (PLACE, ["nop", ".org 0x80000000", "x: «nop» # again"], "from 0x0000000080000000 on: where an earlier line places bytes"),
+    (PLACE, [".byte 1", "«nop»"], "from 0x0000000080000001 on: an instruction at no multiple of 4"),
+    (PLACE, ["nop", "«.cap» 0, 1, 0, 0"], "from 0x0000000080000004 on: a capability at no multiple of 16"),
+    (NOT_EXACT, [".cap «0x80000001, 65537, 0, 0»"], "from 0x0000000080000001 on, 65537 bytes would be rounded"),
+    (NOT_EXACT, [f".cap «{ONES}, 2, 0, 0»"], "from 0xffffffffffffffff on, 2 bytes end above 2^64"),
 ]
 
 LOADS_BY_NULL = [0xFA85855B]
@@ -493,6 +529,29 @@ def images():
                told="cherisim: L10 device failed\n  out.img: the file is cut short\n", made=flat_image(flat)[:3])
 
 
+def parted(lines):
+    """The number of the line with marks, what it has before them, between them and after them."""
+    number, line = next((number, line) for number, line in enumerate(lines, 1) if "«" in line)
+    before, _, rest = line.partition("«")
+    part, _, after = rest.partition("»")
+    return number, before, part, after
+
+
+def text_of(lines):
+    """The file a.s of lines, without their marks."""
+    text = "".join(f"{line}\n" for line in lines)
+    return f"a.s {quoted(text.replace('«', '').replace('»', '').encode())}"
+
+
+def underlined(fault, lines, words):
+    """What is told of the line with marks: its text, with carets under what stands between them, and words after those."""
+    number, before, part, after = parted(lines)
+    front = f"  a.s:{number}: "
+    under = " " * len(front) + re.sub("[^\t]", " ", before) + "^" * max(1, len(part))
+    line = (before + part + after).rstrip(" \t\r")
+    return f"cherisim: line {number}: {fault}\n{front}{line}\n{under}{words and ' ' + words}\n"
+
+
 def faulty_line(number, told):
     """What is told of a line of a.s with a fault, of which its words and what was read stand with a colon between."""
     words, _, read = told.partition(": ")
@@ -515,6 +574,99 @@ def with_labels(text, labels):
         place, _, name = max(below)
         return f"{found[0]} <{name}>" if place == address else f"{found[0]} <{name}+{address - place}>"
     return re.sub(r"(?<!:)\b[0-9a-f]{16}\b", shown, text)
+
+
+def table(name, labels):
+    """The file of this name with a table of labels, in their order."""
+    return f'{name} "' + "".join(f"{address:016x} {label}\\n" for address, label in labels) + '"'
+
+
+# jumps over three words, and back
+JUMPS = [0x0100006F, NOP, NOP, NOP, 0xFF9FF06F]
+
+
+def labelled_runs():
+    """Runs whose traces and ends show labels after addresses."""
+    labels = [(RAM, "start"), (RAM, "begin"), (RAM + 12, "halt"), (0x10000000, "console")]
+    started = "cherisim: not halted\ncherisim: steps"
+
+    def runs(words, labels, *expected, file=FILE, made=b"", opened="", parts=()):
+        name = file.split()[0]
+        yield case(f"run {name} {words} --symbols s", [file, table("s", labels), *parts], 1, f"open {name}, open s{opened}", *expected, made)
+
+    yield "# with a table of labels one stands after each address of a trace and of the end; of several at one address the first"
+    lines = ("1 0000000080000000 <start> 100005b7 lui a1, 0x10000: ca1 = " + integer(0x10000000) + "\n",
+             "2 0000000080000004 <start+4> 04100513 addi a0, zero, 65: ca0 = " + integer(65) + "\n",
+             "3 0000000080000008 <start+8> 00a58023 sb a0, 0(a1): device store 1 byte at 0000000010000000 <console>: 41\n",
+             "4 000000008000000c <halt> 001005b7 lui a1, 0x100: ca1 = " + integer(0x100000) + "\n")
+    four = "".join(lines)
+    assert four == with_labels("".join(TRACE.splitlines(True)[:4]), labels)
+    yield from runs("4 --trace t", labels, b"A", f"{started} 4, pcc 0000000080000010 <halt+4>\n", made=four.encode(), opened=", make t")
+    yield from runs("4 --trace t --trace-last 1", labels, b"A", f"{started} 4, pcc 0000000080000010 <halt+4>\n", made=lines[3].encode(),
+                    opened=", make t")
+    yield from runs("3", labels, b"A", f"{started} 3, pcc 000000008000000c <halt>\n")
+    yield from runs("3 --quiet", labels, b"A", "cherisim: not halted\n")
+    yield case("run first.img 5 --symbols s", [FILE, table("s", labels)], 0, "open first.img, open s", b"A")
+    yield "# where a jump leads"
+    jumps = f"jumps.img {quoted(image(*JUMPS))}"
+    made = ("1 0000000080000000 <start> 0100006f jal zero, .+16: jump to 0000000080000010 <halt+4>\n"
+            "2 0000000080000010 <halt+4> ff9ff06f jal zero, .-8: jump to 0000000080000008 <start+8>\n")
+    yield from runs("2 --trace t", labels, b"", f"{started} 2, pcc 0000000080000008 <start+8>\n", file=jumps, made=made.encode(),
+                    opened=", make t")
+    yield "# 4095 bytes after a label it stands, 4096 bytes after it and before the first it doesn't"
+    for steps, place, shown in ((0, RAM - 4095, [" <low+4095>", ""]), (0, RAM - 4096, ["", ""]), (1, RAM - 4091, [" <low+4091>", " <low+4095>"]),
+                                (1, RAM + 4, ["", " <low>"]), (1, RAM + 5, ["", ""])):
+        made = (f"1 0000000080000000{shown[0]} 100005b7 lui a1, 0x10000: ca1 = {integer(0x10000000)}\n"
+                f"2 0000000080000004{shown[1]} 04100513 addi a0, zero, 65: ca0 = {integer(65)}\n")
+        yield from runs("2 --trace t --quiet", [(place, "low")], b"", "cherisim: not halted\n", made=made.encode(), opened=", make t")
+        yield from runs(f"{steps + 1}", [(place, "low")], b"", f"{started} {steps + 1}, pcc {RAM + 4 + 4 * steps:016x}"
+                        + (shown[1] if steps == 0 else with_labels(f"{RAM + 8:016x}", [(place, "low")])[16:]) + "\n")
+    yield "# an empty table changes nothing"
+    yield from runs("4 --trace t", [], b"A", f"{started} 4, pcc 0000000080000010\n", made="".join(TRACE.splitlines(True)[:4]).encode(),
+                    opened=", make t")
+    yield "# the first trap that nothing handled and its condition, and the last that was handled; no label stands after mtval"
+    zero = [(RAM + 4, "load"), (RAM, "start"), (0, "zero")]
+    nothing = f"nothing.img {quoted(image(*LOADS_NOTHING))}"
+    yield from runs("1", zero, b"", f"{started} 1, pcc 0000000000000000 <zero>; first trap: load access fault, mtval 0000000000000000,"
+                    " mepc 0000000080000000 <start>, step 1\n  no RAM or a device at 0000000000000000 <zero>\n", file=nothing)
+    past = f"past.img {quoted(image(*LOADS_PAST_THE_END))}"
+    yield from runs("5", zero, b"", f"{started} 5, pcc 0000000000000000 <zero>; first trap: CHERI exception, length violation at ca0,"
+                    " mepc 000000008000000c <load+8>, step 4\n  no length of ca0: 0000000000000008 <zero+8> + 8 in 0000000000000000 <zero>"
+                    " to 00000000000000008\n  later traps at an entry that can't be fetched: 1\n", file=past)
+    handled = f"handled.img {quoted(image(*IS_HANDLED))}"
+    yield from runs("5", zero, b"", f"{started} 5, pcc 000000008000001c <load+24>; last trap: environment call, mtval 0000000000000000,"
+                    " mepc 000000008000000c <load+8>\n", file=handled)
+    yield "# why the next step traps"
+    null = f"null.img {quoted(image(NOP, *LOADS_BY_NULL))}"
+    word = f"{LOADS_BY_NULL[0]:08x} lb.cap a0, (ca1)"
+    parts = [begun(RAM + 4, word), *access("load of 1 byte", held_number("ca1", 0), "ca1", "load", 0, 1, 0, SPACE, False,
+                                          rights=(False, True, True)), trap_effect(28, "CHERI exception, tag violation at ca1", 32 * 11 + 2)]
+    for why in ("--why", "--why=all"):
+        yield from runs(f"9 {why}", labels, b"", with_labels(f"{started} 1, pcc {RAM + 4:016x}\n{reply(*parts)}\n", labels), file=null)
+    ecall = f"call.img {quoted(image(NOP, ECALL))}"
+    yield from runs("9 --why --trace t", labels, b"", f"{started} 1, pcc 0000000080000004 <start+4>\n"
+                    + reply(with_labels(begun(RAM + 4, "00000073 ecall"), labels),
+                            "effect: trap environment call, mcause 000000000000000b, mtval 0000000000000000") + "\n",
+                    file=ecall, made=b"1 0000000080000000 <start> 00000013 addi zero, zero, 0: nothing\n", opened=", make t")
+    yield "# an audit's trace has them too"
+    yield case("audit first.img 4 --symbols s --trace t --quiet", [FILE, table("s", labels)], 0, "open first.img, open s, make t",
+               made=four.encode())
+
+
+def runs_without_table():
+    """Runs whose table of labels is not read: nothing is done."""
+    yield "# the table is read after the image and before the input, and refused as that of a listing: nothing is run or made"
+    none = "cherisim: file none\n  No such file or directory\n"
+    for command in ("run", "audit"):
+        yield case(f"{command} first.img 5 --symbols none --trace t", [FILE], 3, "open first.img, open none", told=none)
+        yield case(f"{command} first.img 5 --symbols s --trace t", [FILE, 's "start"'], 3, "open first.img, open s",
+                   told="cherisim: line 1: no address and label\n  s:1\n")
+        yield case(f"{command} bad.img 5 --symbols none", [BAD], 3, "open bad.img", told="cherisim: L1 short header\n  bad.img\n")
+        yield case(f"{command} first.img 5 --input none --symbols s", [FILE, 's ""'], 3, "open first.img, open s, open none", told=none)
+        yield case(f"{command} first.img 5 --symbols d", [FILE, "directory d"], 3, "open first.img, open d",
+                   told="cherisim: file d\n  Is a directory\n")
+        for words in ("--symbols s --trace s", "--symbols s --trace ./s", "--symbols", "--symbols s --symbols s"):
+            yield refused(f"{command} first.img 5 {words}", [FILE, 's ""'])
 
 
 def labelled(session):
@@ -562,11 +714,11 @@ def debugged(table):
                   "fault B2\n0000000080000002: 00\n0000000080000fff: 00\nfault B3\nfault B3\nfault B3\n"
                   "events 1 out - pc 0000000080000004 <odd+2> running\n", places)
     yield "# a place that holds a capability is a register, or else a special register, or else a label or a number, a multiple of 16"
-    image_line = f"image: {fields_of_first()}\n"
+    image_line = f"image: {fields_of_first().replace(' ', ' <a2> ', 1)}\n"
     register_line = f"opening state: ca2 {integer(0)}\n"
     named = 't "0000000080000000 a2\\n0000000080000000 first\\n000000008000000C halt\\n0000000080000010 mtdc\\n0000000080001000 after\\n"'
     yield session("origin first\norigin 0x80000000\norigin a2\norigin ca2\nlost first\norigin mtdc\nchanged first 2", "".join([
-        image_line, image_line, register_line, register_line, "no tag was lost at 0000000080000000\n",
+        image_line, image_line, register_line, register_line, "no tag was lost at 0000000080000000 <a2>\n",
         f"opening state: mtdc {integer(0)}\n", "events 2 out - pc 0000000080000008 <a2+8> running\n"]), named)
     for typed in ("origin halt", "lost halt", "changed halt 1", "origin second", "changed first", "origin first+16", "back first",
                   "ago first"):
@@ -685,15 +837,16 @@ def named():
     nm = quoted(b"000000008000000c T halt\n                 U printf\n0000000080000004 D __global_pointer$\n                 w _\n"
                 b"0000000080000000 t start\n0000000080000004 t \n0000000080000000 T begin\n")
     yield case("dis first.img --symbols t", [FILE, f"t {nm}"], 0, "open first.img, open t",
-               "".join(["start:\n", *lines[:3], "halt:\n", *lines[3:]]))
+               "".join(["start:\nbegin:\n", *lines[:3], "halt:\n", *lines[3:]]))
     yield case("debug first.img --symbols t", [FILE, f"t {nm}", 'input "mem halt 1\\nmem printf 1"'], 0, "open first.img, open t",
                "000000008000000c: b7\nfault B2\n")
-    yield "# in whichever order a table stands, a place is that of the nearest address below, and of an address' names the first"
+    yield "# in whichever order a table stands, a place is that of the nearest address below, and of an address' names the first; all of"
+    yield "# them stand before the word there"
     jumps = f"jumps.img {quoted(image(0x00c0006f, 0x13, 0x13, 0xffdff06f))}"
     unsorted = 't "0000000080000008 b\\n0000000080000000 a\\n0000000080000008 c\\n0000000080000010 d\\n0000000080000000 e\\n"'
     yield case("dis jumps.img --symbols t", [jumps, unsorted], 0, "open jumps.img, open t",
-               "a:\n0000000080000000 00c0006f jal zero, .+12 <b+4>\n0000000080000004 00000013 addi zero, zero, 0\n"
-               "b:\n0000000080000008 00000013 addi zero, zero, 0\n000000008000000c ffdff06f jal zero, .-4 <b>\n")
+               "a:\ne:\n0000000080000000 00c0006f jal zero, .+12 <b+4>\n0000000080000004 00000013 addi zero, zero, 0\n"
+               "b:\nc:\n0000000080000008 00000013 addi zero, zero, 0\n000000008000000c ffdff06f jal zero, .-4 <b>\n")
     yield case("dis first.img --symbols t", [FILE, table.replace(" halt", "  halt")], 3, "open first.img, open t",
                told="cherisim: line 2: no address and label\n  t:2\n")
     yield case("dis first.img --symbols none", [FILE], 3, "open first.img, open none",
@@ -714,14 +867,27 @@ def named():
     yield case("word --memory 0xffff000000000000 0x80000000", [], 0, sent=joined(word_text(ROOT_HIGH, 0x80000000)))
     yield case("word 0 0", ["output 0"], 3, told="cherisim: write failed\n")
     yield "# what was read of a faulty line stands on a line of its own after the fault, with the file and the line"
-    for line, told in (("addi a0, a0, 4096", "A3 immediate out of range: 4096 (-2048 to 2047)"), ("j lop", "A5 label unknown: lop"),
-                       ("x: nop\\nx: nop", "A4 label twice: x"), ("addi a0", "A2 operands: addi takes rd, rs1, imm"),
-                        ("nop\\x01", "A8 byte not ASCII: 0x01 at column 4")):
-        number = line.count("nop") if "x:" in line else 1
-        yield case("asm a.s out.img", [f'a.s "{line}\\n"'], 3, "open a.s", told=faulty_line(number, told))
-    for number, lines, told in DETAILED:
-        text = "".join(f"{line}\\n" for line in lines)
-        yield case("asm a.s out.img", [f'a.s "{text}"'], 3, "open a.s", told=faulty_line(number, told))
+    yield from (case("asm a.s out.img", [text_of(lines)], 3, "open a.s", told=underlined(fault, lines, words))
+                for fault, lines, words in UNDERLINED)
+    yield case("asm a.s out.img", ['a.s "nop\\x01\\n"'], 3, "open a.s", told=faulty_line(1, "A8 byte not ASCII: 0x01 at column 4"))
+    yield "# carets stand right after a long name and a short one, and where the line's number has two digits"
+    for name in ("longer-name.s", "b.s"):
+        yield case(f"asm {name} out.img", [f'{name} "\\tj\\tlop\\n"'], 3, f"open {name}",
+                   told=f"cherisim: line 1: {UNKNOWN}\n  {name}:1: \tj\tlop\n{' ' * (len(name) + 6)}\t \t^^^\n")
+    tenth = "nop\\n" * 9 + "foo\\n"
+    yield case("asm a.s out.img", [f'a.s "{tenth}"'], 3, "open a.s",
+               told=f"cherisim: line 10: {NO_MNEMONIC}\n  a.s:10: foo\n          ^^^\n")
+    yield "# --quiet leaves the fault's text alone"
+    yield case("asm a.s out.img --quiet", ['a.s "addi a0, a0, 4096\\n"'], 3, "open a.s", told=f"cherisim: line 1: {OUT_OF_RANGE}\n")
+    yield case("asm --quiet a.s out.img", ['a.s "nop\\x01\\n"'], 3, "open a.s", told="cherisim: line 1: A8 byte not ASCII\n")
+    yield case("asm a.s out.img", ['a.s "addi a0, a0, 4096\\n"', "errors 0"], 3, "open a.s")
+    for command in ("asm none out.img", "image none out.img", "dis none", "debug none", "run none 1", "audit none 1"):
+        yield case(f"{command} --quiet", [], 3, "open none", told="cherisim: file none\n")
+    for command in ("dis bad.img", "debug bad.img", "run bad.img 1", "audit bad.img 1"):
+        yield case(f"{command} --quiet", [BAD], 3, "open bad.img", told="cherisim: L1 short header\n")
+    for command in ("dis first.img", "debug first.img"):
+        yield case(f"{command} --symbols t --quiet", [FILE, 't "x\\n"'], 3, "open first.img, open t",
+                   told="cherisim: line 1: no address and label\n")
 
 
 def header_lines(version, pages, entry, mode, capabilities=()):
@@ -759,7 +925,7 @@ def faults():
         yield case(command, [FILE], 3, "open none", told="cherisim: file none\n  No such file or directory\n")
     for command in ("run bad.img 5", "dis bad.img", "debug bad.img"):
         yield case(command, [BAD], 3, "open bad.img", told="cherisim: L1 short header\n  bad.img\n")
-    yield case("asm a.s out.img", ['a.s "nop\\nfrob a0\\n"'], 3, "open a.s", told="cherisim: line 2: A1 unknown mnemonic\n  a.s:2: frob\n")
+    yield case("asm a.s out.img", ['a.s "nop\\nfrob a0\\n"'], 3, "open a.s", told=underlined(NO_MNEMONIC, ["nop", "«frob» a0"], ""))
     yield case("asm a.s out.img", [TEXT, "full"], 3, "open a.s, make out.img", told="cherisim: file out.img\n  No such file or directory\n")
     yield case("run first.img 5 --input none", [FILE], 3, "open first.img, open none",
                told="cherisim: file none\n  No such file or directory\n")
@@ -770,7 +936,7 @@ def faults():
     yield case("run bad.img 5 --input none", [BAD], 3, "open bad.img", told="cherisim: L1 short header\n  bad.img\n")
     yield case("asm none out.img", ["full"], 3, "open none", told="cherisim: file none\n  No such file or directory\n")
     yield case("asm a.s out.img", ['a.s "frob\\nnop\\n"', "full"], 3, "open a.s",
-               told="cherisim: line 1: A1 unknown mnemonic\n  a.s:1: frob\n")
+               told=underlined(NO_MNEMONIC, ["«frob»"], ""))
     yield case("run first.img 5 --input none", [FILE, "output 0"], 3, "open first.img, open none",
                told="cherisim: file none\n  No such file or directory\n")
 
@@ -825,14 +991,14 @@ def read_so_far():
     yield "# where a line before it has a fault that a later label may mend, it is read to its end"
     blanks = " " * 300
     for number, text, told in ((2, "j x\\n\\x7f\\nx: nop\\n", "A8 byte not ASCII: 0x7f at column 1"),
-                                (1, "j x\\n\\x7f\\nnop\\n", "A5 label unknown: x"),
-                                (1, "frob\\n\\x7f\\nnop\\n", "A1 unknown mnemonic: frob"),
                                 (2, f"j x\\n{blanks}\\nx: nop\\n", "A9 line too long: 300 bytes"),
-                                (1, f"j x\\n{blanks}\\nnop\\n", "A5 label unknown: x"),
                                 (2, f"nop\\n{blanks}", "A9 line too long: 300 bytes"),
                                 (2, f"nop\\n{blanks}\\x7f\\xff\\n", "A8 byte not ASCII: 0x7f at column 301"),
                                 (2, f"nop\\nx\\x01{blanks}\\n\\x7f", "A8 byte not ASCII: 0x01 at column 2")):
         yield case("asm a.s out.img", [f'a.s "{text}"'], 3, "open a.s", told=faulty_line(number, told))
+    for fault, lines, rest in ((UNKNOWN, ["j «x»"], "\\x7f\\nnop\\n"), (NO_MNEMONIC, ["«frob»"], "\\x7f\\nnop\\n"),
+                               (UNKNOWN, ["j «x»"], f"{blanks}\\nnop\\n")):
+        yield case("asm a.s out.img", [text_of(lines)[:-1] + f'{rest}"'], 3, "open a.s", told=underlined(fault, lines, ""))
     yield case("asm a.s out.img", ['a.s 5 "j x\\n\\x7f\\nx: nop\\n"'], 3, "open a.s", told="cherisim: read failed\n  a.s: Broken pipe\n")
     yield "# a table is read up to its first faulty line, of which 19 bytes or its line feed have come"
     for call, text, line in ((21, "0000000080000000 x\\nx\\n0000000080000000 y\\n", 2), (19, "start 0000000080000000\\n", 1)):
@@ -879,6 +1045,6 @@ def fault_texts():
 
 def files():
     lines = ["# a command line, files and streams => the status, what is opened and made, sent, told, and what stands in the file made"]
-    lines += [*ends(), *ended_otherwise(), *not_begun(), *traces(), *images(), *named(), *headed(), *faults(), *failing(), *read_so_far()]
+    lines += [*ends(), *ended_otherwise(), *not_begun(), *traces(), *labelled_runs(), *runs_without_table(), *images(), *named(), *headed(), *faults(), *failing(), *read_so_far()]
     yield "commands.txt", lines
     yield "told.txt", fault_texts()

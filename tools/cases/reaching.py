@@ -42,6 +42,11 @@ def place_name(place, labels=(), doors=()):
         return f"behind {place_name(doors[n], labels)}"
     if kind != reach.GRANULE:
         return {reach.ROOT: ROOTS, reach.SPECIAL: SPECIALS}[kind][n]
+    return labelled(n, labels)
+
+
+def labelled(n, labels):
+    """An address with the label at it or fewer than 4096 bytes below it."""
     below = [(address, name) for address, name in labels if address <= n]
     # of several names of one address the first counts
     nearest = max(below, key=lambda label: label[0], default=None)

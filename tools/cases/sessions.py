@@ -2,7 +2,8 @@
 
 A conversation stands after its machine's program, `@` and statements: a line that begins with `> ` is typed after that, with escapes,
 one that begins with `< ` is typed and left unread, one that begins with `% ` has the gap, the tick and the input of the session's
-schedule, each `-` where it isn't given, and every other line is answered. An empty line ends the conversation.
+schedule, each `-` where it isn't given, one that begins with `&` has the session's table of symbols, as `NAME=ADDRESS`, and every other
+line is answered. An empty line ends the conversation.
 In the texts here a line that begins with `! ` stands for lines of the state.
 """
 

@@ -1,6 +1,6 @@
 """Runs that a policy watches, as the model meets them: what they send, what is told and the status; and audits of runs."""
 
-from cases.reaching import place_name, text
+from cases.reaching import labelled, place_name, text
 from model import policy, reach
 from model.capabilities import base, top
 from model.sessions import Schedule
@@ -59,7 +59,7 @@ def met(machine, rules, steps, schedule, labels):
 
     def look():
         breach = policy.first_breach(terms.terms, machine.pc(), terms.found) if terms.is_asked() else None
-        return breach and policy.stopped(breach, schedule.done, machine.pc(), held(terms.found, breach.member, labels))
+        return breach and policy.stopped(breach, schedule.done, labelled(machine.pc(), labels), held(terms.found, breach.member, labels))
     return run(machine, steps, schedule, look, terms.after)
 
 
@@ -100,4 +100,4 @@ def ran(machine, rules, steps, gap=GAP, tick=TICK, keys=b"", labels=()):
         return 1 if told else 0, told
     assert machine.csrs["mcause"] == 0
     ended = "not halted" if machine.halted is None else f"halted with {machine.halted}"
-    return 1, f"cherisim: {ended}\ncherisim: steps {schedule.done}, pcc {machine.pc():016x}\n"
+    return 1, f"cherisim: {ended}\ncherisim: steps {schedule.done}, pcc {labelled(machine.pc(), labels)}\n"

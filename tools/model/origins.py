@@ -2,7 +2,7 @@
 
 A place is what it is in and a name or an address: a register's number, a special register's name, or a granule's address. An event has
 what places held before it and after it, by place how it made what it wrote there, and the line that a trace has of it but for its
-number. Ticks and bytes write nothing.
+number. Ticks and bytes write nothing. In lines LABEL stands after each address that has a label where there is a table of symbols.
 """
 
 from typing import NamedTuple, Optional
@@ -52,9 +52,17 @@ NAMES = ["cnull", *("c" + name for name in ("ra sp gp tp t0 t1 t2 s0 s1 a0 a1 a2
                                             "t3 t4 t5 t6").split())]
 
 
+LABEL = "\0"
+
+
+def placed(address):
+    """An address, and the place of its label."""
+    return f"{address:016x}{LABEL}"
+
+
 def name_of(place):
     kind, n = place
-    return NAMES[n] if kind == REGISTER else f"{n:016x}" if kind == GRANULE else n
+    return NAMES[n] if kind == REGISTER else placed(n) if kind == GRANULE else n
 
 
 def fields(value):
@@ -114,14 +122,14 @@ class Asked:
 
     def window(self):
         address = self.number % SPACE
-        return (f"window of {name_of(self.source)}: {address:016x}",
+        return (f"window of {name_of(self.source)}: {placed(address)}",
                 decoded(self.value[0], address) == decoded(self.value[0], self.value[1]))
 
     def length(self):
         return self.bytes_of(self.source, self.value, self.number)
 
     def exact(self):
-        return f"exact bounds: {self.value[1]:016x} + {self.number}", set_bounds(self.value, self.number)[1]
+        return f"exact bounds: {placed(self.value[1])} + {self.number}", set_bounds(self.value, self.number)[1]
 
     def execute(self):
         return f"permit execute of {name_of(self.source)}", has(self.value, EXECUTE)
@@ -138,7 +146,7 @@ class Asked:
 
     @staticmethod
     def bytes_of(place, value, size):
-        return (f"length of {name_of(place)}: {value[1]:016x} + {size} in {base(value):016x} to {top(value):017x}",
+        return (f"length of {name_of(place)}: {placed(value[1])} + {size} in {placed(base(value))} to {top(value):017x}",
                 base(value) <= value[1] and value[1] + size <= top(value))
 
     def by_tag(self):

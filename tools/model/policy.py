@@ -224,8 +224,8 @@ def told(breach, held):
 
 
 def stopped(breach, steps, pc, held):
-    """The lines of a run that stops before a step."""
-    return f"cherisim: not halted\ncherisim: steps {steps}, pcc {pc:016x}\ncherisim: {told(breach, held)}"
+    """The lines of a run that stops before a step, at an address with its label."""
+    return f"cherisim: not halted\ncherisim: steps {steps}, pcc {pc}\ncherisim: {told(breach, held)}"
 
 
 def listed(breach, step, pc, held):

@@ -154,16 +154,21 @@ def word(bench, case):
 
 
 def listing(bench, case):
-    """A text in quotes, and the number of the call that fails of a sink, or nothing: `whole` or `cut`, how often a call has failed, and
-    the listing. The output is cut after so many bytes as the answer has."""
+    """A text in quotes, a table of symbols in quotes, or none, and the number of the call that fails of a sink, or nothing: `whole` or
+    `cut`, how often a call has failed, and the listing. The output is cut after so many bytes as the answer has."""
     text, rest = unquoted(case.inputs)
+    words = ["dis", "a.img"]
+    if rest.startswith(' "'):
+        table, rest = unquoted(rest[1:])
+        bench.file("a.sym", table)
+        words += ["--symbols", "a.sym"]
     image, told = bench.image_of(text)
     if image is None:
         return told
     if not rest:
-        status, sent, told = bench.run("dis", "a.img")
+        status, sent, told = bench.run(*words)
         return f"whole 0 {quoted(sent)}" if (status, told) == (0, b"") else told.decode()
     limit = len(unquoted(case.expected.split(" ", 2)[2])[0])
-    status, sent, told = bench.run_cut("dis", "a.img", limit=limit)
+    status, sent, told = bench.run_cut(*words, limit=limit)
     ended = {(0, b""): "whole 0", (3, b"cherisim: write failed\n"): "cut 1"}.get((status, told), f"status {status}: {told.decode()}")
     return f"{ended} {quoted(sent)}"

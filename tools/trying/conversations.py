@@ -12,10 +12,11 @@ from .reading import unescaped, unquoted
 
 class Conversation:
     """A block of lines: what is typed after `>`, or after `<` and left unread, over the program after `@`, and what is answered. After `%`
-    stand the gap, the tick and the bytes of the input of a session on a schedule, each `-` where it isn't given."""
+    stand the gap, the tick and the bytes of the input of a session on a schedule, each `-` where it isn't given, and after `&` the
+    labels of one with a table of symbols, in order, as `NAME=ADDRESS`."""
 
     def __init__(self, block):
-        self.statements, self.typed, self.left, self.answers, self.schedule = "", b"", 0, "", None
+        self.statements, self.typed, self.left, self.answers, self.schedule, self.labels = "", b"", 0, "", None, None
         for line in block.removesuffix("\n").split("\n"):
             self.take(line)
 
@@ -29,12 +30,22 @@ class Conversation:
             self.left += len(typed) if mark == "<" else 0
         elif mark == "%":
             self.schedule = rest.split(" ", 2)
+        elif mark == "&":
+            self.labels = [word.split("=") for word in rest.split()]
         elif mark != "#":
             self.answers += line + "\n"
 
     def without_end(self):
         """What is typed, without the last line's line feed where that line isn't empty."""
         return self.typed if self.typed.endswith(b"\n\n") or self.typed in (b"\n", b"") else self.typed[:-1]
+
+
+def table(bench, labels):
+    """The options of a session with a table of symbols."""
+    if labels is None:
+        return []
+    bench.file("a.sym", "".join(f"{address.zfill(16)} {name}\n" for name, address in labels).encode())
+    return ["--symbols", "a.sym"]
 
 
 def options(bench, schedule):
@@ -46,10 +57,11 @@ def options(bench, schedule):
     return [word for name, value, said in given if value != "-" for word in (name, said)]
 
 
-def conversed(bench, typed, schedule=None):
+def conversed(bench, typed, schedule=None, labels=None):
     """What a session over the image answers to what is typed, and how many bytes it leaves unread; or what it tells of a fault."""
+    words = [*options(bench, schedule), *table(bench, labels)]
     with open(bench.file("typed", typed), "rb", buffering=0) as given:
-        ran = subprocess.run([bench.program, "debug", "a.img", *options(bench, schedule)], stdin=given, capture_output=True,
+        ran = subprocess.run([bench.program, "debug", "a.img", *words], stdin=given, capture_output=True,
                              cwd=bench.folder, timeout=60, check=False)
         left = len(typed) - os.lseek(given.fileno(), 0, os.SEEK_CUR)
     if ran.returncode or ran.stderr:
@@ -75,7 +87,7 @@ def session(bench, case):
         return told
     for typed in (conversation.typed, conversation.without_end()):
         left = max(conversation.left - (len(conversation.typed) - len(typed)), 0)
-        said, unread = conversed(bench, typed, conversation.schedule)
+        said, unread = conversed(bench, typed, conversation.schedule, conversation.labels)
         if said != conversation.answers:
             return difference(said, conversation.answers)
         if unread != left:

@@ -19,8 +19,8 @@ BEHIND = b"\nz:"
 AT_ONE = b".byte 1\n"
 LINE_FAULTS = ("A8", "A9", "A1", "A2", "A3")
 ESCAPES = {"n": "\n", "0": "\0", "\\": "\\", '"': '"'}
-AWAY = re.compile(rb"A6 target out of range\n  a\.s:\d+: (-?\d+) bytes away")
-NOT_EXACT = re.compile(rb"A11 capability not exact\n  a\.s:\d+: from 0x([0-9a-f]{16}) on, (\d+) bytes")
+AWAY = re.compile(rb"A6 target out of range\n.*\n[ \t]*\^+ (-?\d+) bytes away")
+NOT_EXACT = re.compile(rb"A11 capability not exact\n.*\n[ \t]*\^+ from 0x([0-9a-f]{16}) on, (\d+) bytes")
 # Lines that set what is set once, and before anything is placed or .entry is set; and a jump over another line to a place that is too far
 # after it.
 SETTINGS = {"pages": b".pages 1\n", "mode": b".mode 0\n", "entry": b".entry 0x80000000\n"}

@@ -6,8 +6,8 @@ from .machines import Machine, Refused
 from .reading import unquoted
 from .image_cases import loaded
 
-# A fault of a text, as the program tells it: the fault alone, and a line that begins with the file and the line.
-TOLD = re.compile(r"cherisim: line (\d+): (A\d+) [^\n]*\n  a\.s:\1(?:: [^\n]*)?\n")
+# A fault of a text, as the program tells it: the fault alone, a line that begins with the file and the line, and carets, if any.
+TOLD = re.compile(r"cherisim: line (\d+): (A\d+) [^\n]*\n  a\.s:\1(?:: [^\n]*\n(?:[ \t]+\^+(?: [^\n]*)?\n)?|\n)")
 
 
 def fault_of(bench, text):

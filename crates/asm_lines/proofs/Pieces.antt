@@ -21,7 +21,7 @@ split_rest p x xs =
     elim (p x) as (λ b. cond (not b) (1 + position_or_len p xs) 0 ≡ length (x ∷ xs) → position_or_len p xs ≡ length xs)
     [ true ↦ λ h. absurd (omega arith) | false ↦ λ h. omega arith ]
 
-split_whole : (p : ℕ → Bool) (xs : List ℕ) → position_or_len p xs ≡ length xs → slice_split p xs ≡ xs ∷ []
+pub split_whole : (p : ℕ → Bool) (xs : List ℕ) → position_or_len p xs ≡ length xs → slice_split p xs ≡ xs ∷ []
 split_whole p [] h = refl
 split_whole p (x ∷ xs) h =
     let rest : slice_split p xs ≡ xs ∷ [] = split_whole p xs (split_rest p x xs h) in

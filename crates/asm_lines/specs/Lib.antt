@@ -4,7 +4,10 @@ pub mod Number
 pub mod Operand
 pub mod Statement
 pub mod Line
+pub mod Parts
+pub mod Forms
 -- Inner words
 pub mod Class
 pub mod Seen
 pub mod Bounded
+pub mod SeenParts

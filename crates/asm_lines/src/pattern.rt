@@ -23,7 +23,7 @@ const MOVED: &'static [Slot] = &[Slot::Rd(Naming::Integer), Slot::Rs1(Naming::In
 const JUMPED: &'static [Slot] = &[Slot::Target(21)];
 
 /// An instruction whose operands are 0.
-const fn plain(row: Row) -> Insn
+pub(crate) const fn plain(row: Row) -> Insn
     ensures { result ≡ insn row 0 0 0 0 }
 {
     Insn {

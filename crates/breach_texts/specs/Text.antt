@@ -1,8 +1,8 @@
 -- What breaks a rule of a policy, as a text.
 use Rattle.std.specs.Prelude.{ℕ, List, [], ◌++◌, codes, decimal}
-use Rattle.disassembler.specs.Hex.{hex_of}
 use Rattle.steps.specs.State.{State, pc_of}
 use Rattle.symbols.specs.Symbols.{Symbol}
+use Rattle.symbols.specs.Labels.{labelled}
 use Rattle.policy.specs.declared.rule.Ban.{Ban}
 use Rattle.policy.specs.declared.rule.Ban.TheVariants.{Store, Load, Execute, Transmit, Halt, Timer, System, Seal, Types}
 use Rattle.policy.specs.declared.refused.Refused.{Refused}
@@ -36,9 +36,10 @@ breach_text symbols members number rule ban member =
     ++ codes "\n"
 
 -- how many steps were done, and where PCC is; then what breaks the rule
-abbrev pub place_text : ℕ → State → List ℕ
-place_text steps s = codes "cherisim: steps " ++ decimal steps ++ codes ", pcc " ++ hex_of 16 (pc_of s) ++ codes "\ncherisim: "
+abbrev pub place_text : List Symbol → ℕ → State → List ℕ
+place_text symbols steps s =
+    codes "cherisim: steps " ++ decimal steps ++ codes ", pcc " ++ labelled symbols (pc_of s) ++ codes "\ncherisim: "
 
 unfoldable pub stopped_lines : List Symbol → ℕ → List ℕ → Refused → ℕ → State → List ℕ
 stopped_lines symbols number rule refused steps s =
-    place_text steps s ++ breach_text symbols (members_in s) number rule refused.ban refused.member
+    place_text symbols steps s ++ breach_text symbols (members_in s) number rule refused.ban refused.member

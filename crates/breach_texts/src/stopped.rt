@@ -34,7 +34,7 @@ pub fn stopped_lines<C: CapRep>(
 {
     let reach = Reach::of(alloc, machine.hart())?;
     let mut text = String::new(alloc);
-    put_place(&mut text, machine, steps)?;
+    put_place(&mut text, symbols, machine, steps)?;
     put(&mut text, "\ncherisim: ")?;
     put_breach(
         &mut text,

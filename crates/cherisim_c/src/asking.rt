@@ -72,7 +72,8 @@ pub extern "C" fn cherisim_why(
     ensures state { machine.new.machine ≡ machine.old.machine }
     ensures closed { machine.old.machine ≡ None → (result ≡ no_machine) × (text.new ≡ text.old) × (size.new ≡ size.old) }
     ensures memory { result ≡ no_memory → (text.new ≡ text.old) × (size.new ≡ size.old) }
-    ensures ok { IfSome machine.old.machine (λ s. result ≡ 0 → (size.new ≡ length (why_text [] s)) × (take size.new text.new ≡ why_text [] s)) }
+    ensures ok { IfSome machine.old.machine (λ s. result ≡ 0
+        → (size.new ≡ length (why_text [] s)) × (take size.new text.new ≡ why_text [] s)) }
     ensures full { IfSome machine.old.machine (λ s. result ≡ full
         → (size.new ≡ length (why_text [] s)) × (length text.old < size.new) × (text.new ≡ text.old)) }
     ensures only { IfSome machine.old.machine (λ s. (result ≡ 0) ⊎ ((result ≡ full) ⊎ (result ≡ no_memory))) }

@@ -74,16 +74,16 @@ both_numbers rows both none (Some base) length address fits = none base length a
 pub no_image : (rows : List Row)
     → ((layout : Layout) → IsLayoutOf rows layout → ⊥)
     → NoCommandFits (codes "image") rows
-no_image rows none (Asm input output symbols) fits sound =
+no_image rows none (Asm input output symbols quiet) fits sound =
     let bad : 105 ≡ 97 = ap (λ t. slice_index t 0) fits.0 in absurd (omega (arith, bad))
-no_image rows none (Image flat output layout) fits sound = none layout fits.3
+no_image rows none (Image flat output layout quiet) fits sound = none layout fits.3
 no_image rows none (Run image steps times gap tick input quiet why trace from last policy symbols) fits sound =
     let bad : 105 ≡ 114 = ap (λ t. slice_index t 0) fits.0 in absurd (omega (arith, bad))
 no_image rows none (Audit image steps times gap tick input quiet trace from last policy symbols) fits sound =
     let bad : 105 ≡ 97 = ap (λ t. slice_index t 0) fits.0 in absurd (omega (arith, bad))
-no_image rows none (Dis image symbols header) fits sound =
+no_image rows none (Dis image symbols header quiet) fits sound =
     let bad : 105 ≡ 100 = ap (λ t. slice_index t 0) fits.0 in absurd (omega (arith, bad))
-no_image rows none (Debug image symbols input gap tick) fits sound =
+no_image rows none (Debug image symbols input gap tick quiet) fits sound =
     let bad : 105 ≡ 100 = ap (λ t. slice_index t 0) fits.0 in absurd (omega (arith, bad))
 no_image rows none (Bounds base length address) fits sound =
     let bad : 105 ≡ 98 = ap (λ t. slice_index t 0) fits.0 in absurd (omega (arith, bad))
@@ -98,17 +98,17 @@ pub no_run : (rows : List Row)
     → AreNumbersOf rows steps times gap tick → AreInRange steps times gap tick → IsTraceOf rows file from last
     → IsTraceInRange from last → IsPolicyOf rows policy symbols → ⊥)
     → NoCommandFits (codes "run") rows
-no_run rows none (Asm input output symbols) fits sound =
+no_run rows none (Asm input output symbols quiet) fits sound =
     let bad : 114 ≡ 97 = ap (λ t. slice_index t 0) fits.0 in absurd (omega (arith, bad))
-no_run rows none (Image flat output layout) fits sound =
+no_run rows none (Image flat output layout quiet) fits sound =
     let bad : 114 ≡ 105 = ap (λ t. slice_index t 0) fits.0 in absurd (omega (arith, bad))
 no_run rows none (Run image steps times gap tick input quiet why trace from last policy symbols) fits sound =
     none steps times gap tick trace from last policy symbols fits.2 sound.0 fits.6 sound.1 fits.7
 no_run rows none (Audit image steps times gap tick input quiet trace from last policy symbols) fits sound =
     let bad : 114 ≡ 97 = ap (λ t. slice_index t 0) fits.0 in absurd (omega (arith, bad))
-no_run rows none (Dis image symbols header) fits sound =
+no_run rows none (Dis image symbols header quiet) fits sound =
     let bad : 114 ≡ 100 = ap (λ t. slice_index t 0) fits.0 in absurd (omega (arith, bad))
-no_run rows none (Debug image symbols input gap tick) fits sound =
+no_run rows none (Debug image symbols input gap tick quiet) fits sound =
     let bad : 114 ≡ 100 = ap (λ t. slice_index t 0) fits.0 in absurd (omega (arith, bad))
 no_run rows none (Bounds base length address) fits sound =
     let bad : 114 ≡ 98 = ap (λ t. slice_index t 0) fits.0 in absurd (omega (arith, bad))
@@ -160,18 +160,18 @@ pub no_trace : (rows : List Row) (image : Text) (input policy symbols trace : Op
     → IsFile (codes "trace") rows trace
     → reads_only image input policy symbols trace ≡ false
     → NoCommandFits (codes "run") rows
-no_trace rows image input policy symbols trace i n p s t shared (Asm from to labels) fits sound =
+no_trace rows image input policy symbols trace i n p s t shared (Asm from to labels q) fits sound =
     let bad : 114 ≡ 97 = ap (λ t. slice_index t 0) fits.0 in absurd (omega (arith, bad))
-no_trace rows image input policy symbols trace i n p s t shared (Image flat output layout) fits sound =
+no_trace rows image input policy symbols trace i n p s t shared (Image flat output layout quiet) fits sound =
     let bad : 114 ≡ 105 = ap (λ t. slice_index t 0) fits.0 in absurd (omega (arith, bad))
 no_trace rows image input policy symbols trace i n p s t shared (Run im steps times gap tick inp q why tr first last pol names) fits sound =
     no_files rows image input policy symbols trace i n p s t shared im.now inp pol names tr fits.1 fits.3 fits.7.file fits.7.labels
     fits.6.file sound.2
 no_trace rows image input policy symbols trace i n p s t shared (Audit im steps times gap tick inp q tr first last pol names) fits sound =
     let bad : 114 ≡ 97 = ap (λ t. slice_index t 0) fits.0 in absurd (omega (arith, bad))
-no_trace rows image input policy symbols trace i n p s t shared (Dis im labels header) fits sound =
+no_trace rows image input policy symbols trace i n p s t shared (Dis im labels header q) fits sound =
     let bad : 114 ≡ 100 = ap (λ t. slice_index t 0) fits.0 in absurd (omega (arith, bad))
-no_trace rows image input policy symbols trace i n p s t shared (Debug im labels inp gap tick) fits sound =
+no_trace rows image input policy symbols trace i n p s t shared (Debug im labels inp gap tick q) fits sound =
     let bad : 114 ≡ 100 = ap (λ t. slice_index t 0) fits.0 in absurd (omega (arith, bad))
 no_trace rows image input policy symbols trace i n p s t shared (Bounds base length address) fits sound =
     let bad : 114 ≡ 98 = ap (λ t. slice_index t 0) fits.0 in absurd (omega (arith, bad))
@@ -186,18 +186,18 @@ pub no_audit_trace : (rows : List Row) (image : Text) (input policy symbols trac
     → IsFile (codes "trace") rows trace
     → reads_only image input policy symbols trace ≡ false
     → NoCommandFits (codes "audit") rows
-no_audit_trace rows image input policy symbols trace i n p s t shared (Asm from to labels) fits sound =
+no_audit_trace rows image input policy symbols trace i n p s t shared (Asm from to labels q) fits sound =
     let bad : 117 ≡ 115 = ap (λ t. slice_index t 1) fits.0 in absurd (omega (arith, bad))
-no_audit_trace rows image input policy symbols trace i n p s t shared (Image flat output layout) fits sound =
+no_audit_trace rows image input policy symbols trace i n p s t shared (Image flat output layout quiet) fits sound =
     let bad : 97 ≡ 105 = ap (λ t. slice_index t 0) fits.0 in absurd (omega (arith, bad))
 no_audit_trace rows image input policy symbols trace i n p s t shared (Run im steps times gap tick inp q w to f l pol names) fits sound =
     let bad : 97 ≡ 114 = ap (λ t. slice_index t 0) fits.0 in absurd (omega (arith, bad))
 no_audit_trace rows image input policy symbols trace i n p s t shared (Audit im steps times gap tick inp q to f l pol names) fits sound =
     no_files rows image input policy symbols trace i n p s t shared im.now inp pol names to fits.1 fits.3 fits.6.file fits.6.labels
     fits.5.file sound.2
-no_audit_trace rows image input policy symbols trace i n p s t shared (Dis im labels header) fits sound =
+no_audit_trace rows image input policy symbols trace i n p s t shared (Dis im labels header q) fits sound =
     let bad : 97 ≡ 100 = ap (λ t. slice_index t 0) fits.0 in absurd (omega (arith, bad))
-no_audit_trace rows image input policy symbols trace i n p s t shared (Debug im labels inp gap tick) fits sound =
+no_audit_trace rows image input policy symbols trace i n p s t shared (Debug im labels inp gap tick q) fits sound =
     let bad : 97 ≡ 100 = ap (λ t. slice_index t 0) fits.0 in absurd (omega (arith, bad))
 no_audit_trace rows image input policy symbols trace i n p s t shared (Bounds base length address) fits sound =
     let bad : 97 ≡ 98 = ap (λ t. slice_index t 0) fits.0 in absurd (omega (arith, bad))
@@ -212,17 +212,17 @@ pub no_audit : (rows : List Row)
     → AreNumbersOf rows steps times gap tick → AreInRange steps times gap tick → IsTraceOf rows file from last
     → IsTraceInRange from last → IsPolicyOf rows policy symbols → ⊥)
     → NoCommandFits (codes "audit") rows
-no_audit rows none (Asm input output symbols) fits sound =
+no_audit rows none (Asm input output symbols quiet) fits sound =
     let bad : 117 ≡ 115 = ap (λ t. slice_index t 1) fits.0 in absurd (omega (arith, bad))
-no_audit rows none (Image flat output layout) fits sound =
+no_audit rows none (Image flat output layout quiet) fits sound =
     let bad : 97 ≡ 105 = ap (λ t. slice_index t 0) fits.0 in absurd (omega (arith, bad))
 no_audit rows none (Run image steps times gap tick input quiet why trace from last policy symbols) fits sound =
     let bad : 97 ≡ 114 = ap (λ t. slice_index t 0) fits.0 in absurd (omega (arith, bad))
 no_audit rows none (Audit image steps times gap tick input quiet trace from last policy symbols) fits sound =
     none steps times gap tick trace from last policy symbols fits.2 sound.0 fits.5 sound.1 fits.6
-no_audit rows none (Dis image symbols header) fits sound =
+no_audit rows none (Dis image symbols header quiet) fits sound =
     let bad : 97 ≡ 100 = ap (λ t. slice_index t 0) fits.0 in absurd (omega (arith, bad))
-no_audit rows none (Debug image symbols input gap tick) fits sound =
+no_audit rows none (Debug image symbols input gap tick quiet) fits sound =
     let bad : 97 ≡ 100 = ap (λ t. slice_index t 0) fits.0 in absurd (omega (arith, bad))
 no_audit rows none (Bounds base length address) fits sound =
     let bad : 97 ≡ 98 = ap (λ t. slice_index t 0) fits.0 in absurd (omega (arith, bad))
@@ -234,17 +234,17 @@ no_audit rows none First fits sound = fits
 pub no_debug : (rows : List Row)
     → ((gap tick : Option ℕ) → IsOptional (codes "gap") rows gap → IsOptional (codes "tick") rows tick → IsInputInRange gap tick → ⊥)
     → NoCommandFits (codes "debug") rows
-no_debug rows none (Asm input output symbols) fits sound =
+no_debug rows none (Asm input output symbols quiet) fits sound =
     let bad : 100 ≡ 97 = ap (λ t. slice_index t 0) fits.0 in absurd (omega (arith, bad))
-no_debug rows none (Image flat output layout) fits sound =
+no_debug rows none (Image flat output layout quiet) fits sound =
     let bad : 100 ≡ 105 = ap (λ t. slice_index t 0) fits.0 in absurd (omega (arith, bad))
 no_debug rows none (Run image steps times gap tick input quiet why trace from last policy symbols) fits sound =
     let bad : 100 ≡ 114 = ap (λ t. slice_index t 0) fits.0 in absurd (omega (arith, bad))
 no_debug rows none (Audit image steps times gap tick input quiet trace from last policy symbols) fits sound =
     let bad : 100 ≡ 97 = ap (λ t. slice_index t 0) fits.0 in absurd (omega (arith, bad))
-no_debug rows none (Dis image symbols header) fits sound =
+no_debug rows none (Dis image symbols header quiet) fits sound =
     let bad : 101 ≡ 105 = ap (λ t. slice_index t 1) fits.0 in absurd (omega (arith, bad))
-no_debug rows none (Debug image symbols input gap tick) fits sound = none gap tick fits.4 fits.5 sound
+no_debug rows none (Debug image symbols input gap tick quiet) fits sound = none gap tick fits.4 fits.5 sound
 no_debug rows none (Bounds base length address) fits sound =
     let bad : 100 ≡ 98 = ap (λ t. slice_index t 0) fits.0 in absurd (omega (arith, bad))
 no_debug rows none (Word high low memory) fits sound =
@@ -255,17 +255,17 @@ no_debug rows none First fits sound = fits
 pub no_bounds : (rows : List Row)
     → ((base : Option ℕ) (length : ℕ) (address : Option ℕ) → AreBoundsOf rows base length address → ⊥)
     → NoCommandFits (codes "bounds") rows
-no_bounds rows none (Asm input output symbols) fits sound =
+no_bounds rows none (Asm input output symbols quiet) fits sound =
     let bad : 98 ≡ 97 = ap (λ t. slice_index t 0) fits.0 in absurd (omega (arith, bad))
-no_bounds rows none (Image flat output layout) fits sound =
+no_bounds rows none (Image flat output layout quiet) fits sound =
     let bad : 98 ≡ 105 = ap (λ t. slice_index t 0) fits.0 in absurd (omega (arith, bad))
 no_bounds rows none (Run image steps times gap tick input quiet why trace from last policy symbols) fits sound =
     let bad : 98 ≡ 114 = ap (λ t. slice_index t 0) fits.0 in absurd (omega (arith, bad))
 no_bounds rows none (Audit image steps times gap tick input quiet trace from last policy symbols) fits sound =
     let bad : 98 ≡ 97 = ap (λ t. slice_index t 0) fits.0 in absurd (omega (arith, bad))
-no_bounds rows none (Dis image symbols header) fits sound =
+no_bounds rows none (Dis image symbols header quiet) fits sound =
     let bad : 98 ≡ 100 = ap (λ t. slice_index t 0) fits.0 in absurd (omega (arith, bad))
-no_bounds rows none (Debug image symbols input gap tick) fits sound =
+no_bounds rows none (Debug image symbols input gap tick quiet) fits sound =
     let bad : 98 ≡ 100 = ap (λ t. slice_index t 0) fits.0 in absurd (omega (arith, bad))
 no_bounds rows none (Bounds base length address) fits sound = none base length address fits.1
 no_bounds rows none (Word high low memory) fits sound =
@@ -276,17 +276,17 @@ no_bounds rows none First fits sound = fits
 pub no_word : (rows : List Row)
     → ((high low : ℕ) → IsNatural (codes "HIGH") rows (Some high) → IsNatural (codes "LOW") rows (Some low) → ⊥)
     → NoCommandFits (codes "word") rows
-no_word rows none (Asm input output symbols) fits sound =
+no_word rows none (Asm input output symbols quiet) fits sound =
     let bad : 119 ≡ 97 = ap (λ t. slice_index t 0) fits.0 in absurd (omega (arith, bad))
-no_word rows none (Image flat output layout) fits sound =
+no_word rows none (Image flat output layout quiet) fits sound =
     let bad : 119 ≡ 105 = ap (λ t. slice_index t 0) fits.0 in absurd (omega (arith, bad))
 no_word rows none (Run image steps times gap tick input quiet why trace from last policy symbols) fits sound =
     let bad : 119 ≡ 114 = ap (λ t. slice_index t 0) fits.0 in absurd (omega (arith, bad))
 no_word rows none (Audit image steps times gap tick input quiet trace from last policy symbols) fits sound =
     let bad : 119 ≡ 97 = ap (λ t. slice_index t 0) fits.0 in absurd (omega (arith, bad))
-no_word rows none (Dis image symbols header) fits sound =
+no_word rows none (Dis image symbols header quiet) fits sound =
     let bad : 119 ≡ 100 = ap (λ t. slice_index t 0) fits.0 in absurd (omega (arith, bad))
-no_word rows none (Debug image symbols input gap tick) fits sound =
+no_word rows none (Debug image symbols input gap tick quiet) fits sound =
     let bad : 119 ≡ 100 = ap (λ t. slice_index t 0) fits.0 in absurd (omega (arith, bad))
 no_word rows none (Bounds base length address) fits sound =
     let bad : 119 ≡ 98 = ap (λ t. slice_index t 0) fits.0 in absurd (omega (arith, bad))

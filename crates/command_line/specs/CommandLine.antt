@@ -39,18 +39,24 @@ by_default value rule = record rule { defaults = value ∷ [] }
 abbrev pub with_symbols : App → App
 with_symbols app = with_rule app (named (codes "symbols"))
 
--- asm IN OUT [--symbols FILE]
-abbrev pub asm_command : App
-asm_command = with_symbols (with_rule (with_rule (new_app (codes "asm")) (operand (codes "IN"))) (operand (codes "OUT")))
+-- [--quiet]
+abbrev pub with_quiet : App → App
+with_quiet app = with_rule app (flag (codes "quiet"))
 
--- image FLAT OUT [--at ADDRESS] [--entry ADDRESS] [--pages N] [--mode M]
+-- asm IN OUT [--symbols FILE] [--quiet]
+abbrev pub asm_command : App
+asm_command =
+    with_quiet (with_symbols (with_rule (with_rule (new_app (codes "asm")) (operand (codes "IN"))) (operand (codes "OUT"))))
+
+-- image FLAT OUT [--at ADDRESS] [--entry ADDRESS] [--pages N] [--mode M] [--quiet]
 abbrev pub with_layout : App → App
 with_layout app =
     with_rule (with_rule (with_rule (with_rule app (named (codes "at"))) (named (codes "entry"))) (named (codes "pages")))
     (named (codes "mode"))
 
 abbrev pub image_command : App
-image_command = with_layout (with_rule (with_rule (new_app (codes "image")) (operand (codes "FLAT"))) (operand (codes "OUT")))
+image_command =
+    with_quiet (with_layout (with_rule (with_rule (new_app (codes "image")) (operand (codes "FLAT"))) (operand (codes "OUT"))))
 
 -- STEPS of 1 to 100000000, and how many times as many, 1 to 1000000, by default once; a gap of 1 to 1000000, by default 1000; a tick of
 -- 0 to 1000000, by default 100
@@ -85,16 +91,13 @@ abbrev pub with_schedule : App → App
 with_schedule run = with_pace (with_rule (with_rule run times_rule) (named (codes "input")))
 
 -- [--quiet] [--why] [--trace FILE [--trace-from N] [--trace-last N]]
-abbrev pub with_quiet : App → App
-with_quiet run = with_rule run (flag (codes "quiet"))
-
 abbrev pub with_ends : Bool → App → App
 with_ends all run = with_rule (with_quiet run) (why_rule all)
 
 abbrev pub with_trace : App → App
 with_trace run = with_rule (with_rule (with_rule run (named (codes "trace"))) from_rule) last_rule
 
--- [--policy FILE [--symbols FILE]]
+-- [--policy FILE] [--symbols FILE]
 abbrev pub with_policy : App → App
 with_policy run = with_symbols (with_rule run (named (codes "policy")))
 
@@ -108,16 +111,17 @@ run_command all = with_policy (with_trace (with_ends all (scheduled_command (cod
 abbrev pub audit_command : App
 audit_command = with_policy (with_trace (with_quiet (scheduled_command (codes "audit"))))
 
--- dis IMAGE [--symbols FILE] [--header]
+-- dis IMAGE [--symbols FILE] [--header] [--quiet]
 abbrev pub dis_command : App
-dis_command = with_rule (with_symbols (with_rule (new_app (codes "dis")) (operand (codes "IMAGE")))) (flag (codes "header"))
+dis_command =
+    with_quiet (with_rule (with_symbols (with_rule (new_app (codes "dis")) (operand (codes "IMAGE")))) (flag (codes "header")))
 
--- debug IMAGE [--symbols FILE] [--input FILE] [--gap N] [--tick N]
+-- debug IMAGE [--symbols FILE] [--input FILE] [--gap N] [--tick N] [--quiet]
 abbrev pub with_input : App → App
 with_input debug = with_rule (with_rule (with_rule debug (named (codes "input"))) gap_rule) tick_rule
 
 abbrev pub debug_command : App
-debug_command = with_input (with_symbols (with_rule (new_app (codes "debug")) (operand (codes "IMAGE"))))
+debug_command = with_quiet (with_input (with_symbols (with_rule (new_app (codes "debug")) (operand (codes "IMAGE")))))
 
 -- bounds BASE LENGTH [--address ADDRESS], or bounds LENGTH: the first number is required
 abbrev pub bounds_command : App
@@ -251,13 +255,11 @@ pub record IsTraceOf (rows : List Row) (trace : Option (Bor Text)) (from : ℕ) 
   pub last_found : IsOptional (codes "trace-last") rows last
   pub traced : IsTrue (is_traced rows)
 
--- --symbols is used only where --policy is, and --policy only where --why is not
+-- --policy is used only where --why is not
 abbrev pub is_watched : List Row → Bool
-is_watched rows = if is_some (first_of (codes "policy") rows)
-    then not (is_some (why_of rows))
-    else not (is_some (first_of (codes "symbols") rows))
+is_watched rows = not (is_some (first_of (codes "policy") rows) && is_some (why_of rows))
 
--- the file of a policy, and the one with labels that it may name
+-- the file of a policy, and the one with labels, which stand after addresses and may be named by the policy
 pub record IsPolicyOf (rows : List Row) (policy symbols : Option (Bor Text)) : Type 0 where
   pub file : IsFile (codes "policy") rows policy
   pub labels : IsFile (codes "symbols") rows symbols
@@ -274,14 +276,14 @@ AreBoundsOf rows (Some base) length address =
 
 -- the plan is a command with the texts and the numbers that clap found
 abbrev pub IsPlanOfCommand : Text → List Row → Plan → Type 0
-IsPlanOfCommand name rows (Asm input output symbols) =
+IsPlanOfCommand name rows (Asm input output symbols quiet) =
     (name ≡ codes "asm")
     × (first_of (codes "IN") rows ≡ Some input.now) × (first_of (codes "OUT") rows ≡ Some output.now)
-    × IsFile (codes "symbols") rows symbols
-IsPlanOfCommand name rows (Image flat output layout) =
+    × IsFile (codes "symbols") rows symbols × (quiet ≡ is_used (codes "quiet") rows)
+IsPlanOfCommand name rows (Image flat output layout quiet) =
     (name ≡ codes "image")
     × (first_of (codes "FLAT") rows ≡ Some flat.now) × (first_of (codes "OUT") rows ≡ Some output.now)
-    × IsLayoutOf rows layout
+    × IsLayoutOf rows layout × (quiet ≡ is_used (codes "quiet") rows)
 IsPlanOfCommand name rows (Run image steps times gap tick input quiet why trace trace_from trace_last policy symbols) =
     (name ≡ codes "run")
     × (first_of (codes "IMAGE") rows ≡ Some image.now) × AreNumbersOf rows steps times gap tick
@@ -292,13 +294,14 @@ IsPlanOfCommand name rows (Audit image steps times gap tick input quiet trace tr
     × (first_of (codes "IMAGE") rows ≡ Some image.now) × AreNumbersOf rows steps times gap tick
     × IsFile (codes "input") rows input × (quiet ≡ is_used (codes "quiet") rows)
     × IsTraceOf rows trace trace_from trace_last × IsPolicyOf rows policy symbols
-IsPlanOfCommand name rows (Dis image symbols header) =
+IsPlanOfCommand name rows (Dis image symbols header quiet) =
     (name ≡ codes "dis") × (first_of (codes "IMAGE") rows ≡ Some image.now) × IsFile (codes "symbols") rows symbols
-    × (header ≡ is_used (codes "header") rows)
-IsPlanOfCommand name rows (Debug image symbols input gap tick) =
+    × (header ≡ is_used (codes "header") rows) × (quiet ≡ is_used (codes "quiet") rows)
+IsPlanOfCommand name rows (Debug image symbols input gap tick quiet) =
     (name ≡ codes "debug")
     × (first_of (codes "IMAGE") rows ≡ Some image.now) × IsFile (codes "symbols") rows symbols
     × IsFile (codes "input") rows input × IsOptional (codes "gap") rows gap × IsOptional (codes "tick") rows tick
+    × (quiet ≡ is_used (codes "quiet") rows)
 IsPlanOfCommand name rows (Bounds base length address) = (name ≡ codes "bounds") × AreBoundsOf rows base length address
 IsPlanOfCommand name rows (Word high low memory) =
     (name ≡ codes "word")
@@ -328,17 +331,17 @@ IsInputInRange gap tick = IsWithin 1 1000000 gap × IsWithin 0 1000000 tick
 
 -- the numbers of a plan lie in their ranges, and no file is written over one that is read, nor written twice
 abbrev pub IsSound : Plan → Type 0
-IsSound (Asm input output symbols) =
+IsSound (Asm input output symbols quiet) =
     IsTrue (not (bytes_eq input.now output.now) && (is_apart input.now symbols && is_apart output.now symbols))
-IsSound (Image flat output layout) = IsTrue (not (bytes_eq flat.now output.now))
+IsSound (Image flat output layout quiet) = IsTrue (not (bytes_eq flat.now output.now))
 IsSound (Run image steps times gap tick input quiet why trace trace_from trace_last policy symbols) =
     AreInRange steps times gap tick × IsTraceInRange trace_from trace_last
     × IsTrue ((is_apart image.now trace && are_apart input trace) && (are_apart policy trace && are_apart symbols trace))
 IsSound (Audit image steps times gap tick input quiet trace trace_from trace_last policy symbols) =
     AreInRange steps times gap tick × IsTraceInRange trace_from trace_last
     × IsTrue ((is_apart image.now trace && are_apart input trace) && (are_apart policy trace && are_apart symbols trace))
-IsSound (Dis image symbols header) = ⊤
-IsSound (Debug image symbols input gap tick) = IsInputInRange gap tick
+IsSound (Dis image symbols header quiet) = ⊤
+IsSound (Debug image symbols input gap tick quiet) = IsInputInRange gap tick
 IsSound (Bounds base length address) = ⊤
 IsSound (Word high low memory) = ⊤
 IsSound First = ⊤

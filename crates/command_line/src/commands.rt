@@ -43,6 +43,12 @@ The status is 0 where all went well, for `run` where the machine halted with 0; 
 otherwise, and where `audit` finds that a policy is broken; 2 for a command line that is no command;
 3 for any other fault.";
 
+/// What `--quiet` leaves of a fault.
+const ALONE: &str = "Leaves out what is told of a fault but its text";
+
+/// What `--quiet` leaves of a run.
+const STATUS: &str = "Leaves out what is told of a run but its status";
+
 /// Adds an argument, which is not global, to a command.
 fn with_argument<'a>(command: Command<'a>, argument: Arg<'a>) -> Result<Command<'a>, AllocError>
     requires bare { (out-Command command).has_globals ≡ false }
@@ -61,6 +67,19 @@ fn with_command<'a>(program: Command<'a>, command: Command<'a>) -> Result<Comman
     program.subcommand(command)
 }
 
+/// Adds the option that leaves out what is told besides, as its help says.
+fn with_quiet<'a>(
+    alloc: Global,
+    about: &'a str,
+    command: Command<'a>,
+) -> Result<Command<'a>, AllocError>
+    requires { (out-Command command).has_globals ≡ false }
+    ensures app { IfOk result (λ c. app_of c ≡ with_quiet (app_of command.entry)) }
+    ensures local { IfOk result (λ c. (out-Command c).has_globals ≡ false) }
+{
+    with_argument(command, flag(alloc, "quiet", about))
+}
+
 fn asm_command<'a>(alloc: Global) -> Result<Command<'a>, AllocError>
     ensures app { IfOk result (λ c. app_of c ≡ asm_command) }
     ensures local { IfOk result (λ c. (out-Command c).has_globals ≡ false) }
@@ -71,15 +90,9 @@ fn asm_command<'a>(alloc: Global) -> Result<Command<'a>, AllocError>
         asm,
         operand(alloc, "OUT", "The file that the image is written to"),
     )?;
-    with_argument(
-        asm,
-        named(
-            alloc,
-            "symbols",
-            "FILE",
-            "The file that the labels are written to",
-        ),
-    )
+    let labels = "The file that the labels are written to";
+    let asm = with_argument(asm, named(alloc, "symbols", "FILE", labels))?;
+    with_quiet(alloc, ALONE, asm)
 }
 
 /// Adds the options of `image`.
@@ -111,7 +124,8 @@ fn image_command<'a>(alloc: Global) -> Result<Command<'a>, AllocError>
         image,
         operand(alloc, "OUT", "The file that the image is written to"),
     )?;
-    with_layout(alloc, image)
+    let image = with_layout(alloc, image)?;
+    with_quiet(alloc, ALONE, image)
 }
 
 /// Adds the options of `run` that say how many steps lie between two bytes and two ticks.
@@ -136,23 +150,13 @@ fn with_schedule<'a>(alloc: Global, run: Command<'a>) -> Result<Command<'a>, All
     with_pace(alloc, run)
 }
 
-/// Adds the option that leaves out what is told.
-fn with_quiet<'a>(alloc: Global, run: Command<'a>) -> Result<Command<'a>, AllocError>
-    requires { (out-Command run).has_globals ≡ false }
-    ensures app { IfOk result (λ c. app_of c ≡ with_quiet (app_of run.entry)) }
-    ensures local { IfOk result (λ c. (out-Command c).has_globals ≡ false) }
-{
-    let quiet = "Leaves out what is told of a run but its status";
-    with_argument(run, flag(alloc, "quiet", quiet))
-}
-
 /// Adds the options of `run` that say what is told of its end; `all` says that the words have `--why=all`.
 fn with_ends<'a>(alloc: Global, all: bool, run: Command<'a>) -> Result<Command<'a>, AllocError>
     requires { (out-Command run).has_globals ≡ false }
     ensures app { IfOk result (λ c. app_of c ≡ with_ends all (app_of run.entry)) }
     ensures local { IfOk result (λ c. (out-Command c).has_globals ≡ false) }
 {
-    let run = with_quiet(alloc, run)?;
+    let run = with_quiet(alloc, STATUS, run)?;
     with_argument(run, why(alloc, all))
 }
 
@@ -168,14 +172,14 @@ fn with_trace<'a>(alloc: Global, run: Command<'a>) -> Result<Command<'a>, AllocE
     with_argument(run, trace_last(alloc))
 }
 
-/// Adds the options that say what a run is watched by.
+/// Adds the options that say what a run is watched by, and which labels it shows.
 fn with_policy<'a>(alloc: Global, run: Command<'a>) -> Result<Command<'a>, AllocError>
     requires { (out-Command run).has_globals ≡ false }
     ensures app { IfOk result (λ c. app_of c ≡ with_policy (app_of run.entry)) }
     ensures local { IfOk result (λ c. (out-Command c).has_globals ≡ false) }
 {
     let policy = "The file with the policy that the run is watched by";
-    let labels = "A file with labels, which the policy may name";
+    let labels = "A file with labels, which stand after addresses, and which the policy may name";
     let run = with_argument(run, named(alloc, "policy", "FILE", policy))?;
     with_argument(run, named(alloc, "symbols", "FILE", labels))
 }
@@ -213,7 +217,7 @@ fn audit_command<'a>(alloc: Global) -> Result<Command<'a>, AllocError>
     let about =
         "Runs an image, and lists what breaks a policy, or what a policy would have to allow";
     let audit = scheduled_command(alloc, "audit", about)?;
-    let audit = with_quiet(alloc, audit)?;
+    let audit = with_quiet(alloc, STATUS, audit)?;
     let audit = with_trace(alloc, audit)?;
     with_policy(alloc, audit)
 }
@@ -227,7 +231,8 @@ fn dis_command<'a>(alloc: Global) -> Result<Command<'a>, AllocError>
     let dis = Command::new(alloc, "dis").about("Lists an image as instructions");
     let dis = with_argument(dis, operand(alloc, "IMAGE", "The file with the image"))?;
     let dis = with_argument(dis, named(alloc, "symbols", "FILE", labels))?;
-    with_argument(dis, flag(alloc, "header", header))
+    let dis = with_argument(dis, flag(alloc, "header", header))?;
+    with_quiet(alloc, ALONE, dis)
 }
 
 /// Adds the options of `debug` that say what comes when.
@@ -252,7 +257,8 @@ fn debug_command<'a>(alloc: Global) -> Result<Command<'a>, AllocError>
     );
     let debug = with_argument(debug, operand(alloc, "IMAGE", "The file with the image"))?;
     let debug = with_argument(debug, named(alloc, "symbols", "FILE", labels))?;
-    with_input(alloc, debug)
+    let debug = with_input(alloc, debug)?;
+    with_quiet(alloc, ALONE, debug)
 }
 
 fn bounds_command<'a>(alloc: Global) -> Result<Command<'a>, AllocError>

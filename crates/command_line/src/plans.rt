@@ -20,6 +20,8 @@ pub enum Plan<'a> {
         output: &'a str,
         /// The file that the labels are written to, if one is named.
         symbols: Option<&'a str>,
+        /// Whether of a fault its text alone is told.
+        quiet: bool,
     },
     /// Make an image of a file's bytes.
     Image {
@@ -29,6 +31,8 @@ pub enum Plan<'a> {
         output: &'a str,
         /// Where the bytes go.
         layout: Layout,
+        /// Whether of a fault its text alone is told.
+        quiet: bool,
     },
     /// Run an image.
     Run {
@@ -56,7 +60,7 @@ pub enum Plan<'a> {
         trace_last: Option<u64>,
         /// The file with the policy that the run keeps to, if one is named; then no end is explained.
         policy: Option<&'a str>,
-        /// The file with labels that the policy may name, if one is named.
+        /// The file with labels, if one is named: they stand after the addresses that are told, and the policy may name them.
         symbols: Option<&'a str>,
     },
     /// List what breaks a policy in a run of an image, or the policy that the run keeps to.
@@ -83,7 +87,7 @@ pub enum Plan<'a> {
         trace_last: Option<u64>,
         /// The file with the policy, if one is named.
         policy: Option<&'a str>,
-        /// The file with labels that the policy may name, if one is named.
+        /// The file with labels, if one is named: they stand after the addresses that are told, and the policy may name them.
         symbols: Option<&'a str>,
     },
     /// List an image.
@@ -94,6 +98,8 @@ pub enum Plan<'a> {
         symbols: Option<&'a str>,
         /// Whether the image's header and capabilities come first.
         header: bool,
+        /// Whether of a fault its text alone is told.
+        quiet: bool,
     },
     /// Debug an image.
     Debug {
@@ -107,6 +113,8 @@ pub enum Plan<'a> {
         gap: Option<u64>,
         /// Steps from one tick of the timer to the next, at most 1000000, where it is said.
         tick: Option<u64>,
+        /// Whether of a fault its text alone is told.
+        quiet: bool,
     },
     /// Say what setting bounds gives, or how a length is rounded where no base is named.
     Bounds {

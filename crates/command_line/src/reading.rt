@@ -31,9 +31,6 @@ const SAME_FILE: Misfit = "a file that is written cannot be another file of the 
 /// A trace is described that isn't asked for.
 const UNTRACED: Misfit = "--trace-from and --trace-last go with --trace";
 
-/// Labels are named that no policy may name.
-const UNWATCHED: Misfit = "--symbols goes with --policy";
-
 /// A run would have two reasons to stop.
 const TWO_STOPS: Misfit = "--policy does not go with --why";
 
@@ -113,7 +110,7 @@ fn traced<'a>(found: &ArgMatches<'a>) -> Result<TraceAsked<'a>, Misfit>
     })
 }
 
-/// The policy that a run is watched by: its file, and the one with labels that it may name.
+/// The policy that a run is watched by: its file, and the one with labels, which stand after addresses and may be named by the policy.
 #[derive(Clone, Copy)]
 struct PolicyAsked<'a> {
     file: Option<&'a str>,
@@ -127,12 +124,8 @@ fn watched<'a>(found: &ArgMatches<'a>) -> Result<PolicyAsked<'a>, Misfit>
 {
     let file = text(found, "policy");
     let symbols = text(found, "symbols");
-    if file.is_some() {
-        if why_of(found).is_some() {
-            return Err(TWO_STOPS);
-        }
-    } else if symbols.is_some() {
-        return Err(UNWATCHED);
+    if file.is_some() && why_of(found).is_some() {
+        return Err(TWO_STOPS);
     }
     Ok(PolicyAsked { file, symbols })
 }
@@ -191,6 +184,7 @@ fn asm_plan<'a>(found: &ArgMatches<'a>) -> Result<Plan<'a>, Misfit>
             input,
             output,
             symbols,
+            quiet: is_used(found, "quiet"),
         })
     } else {
         Err(SAME_FILE)
@@ -212,6 +206,7 @@ fn image_plan<'a>(found: &ArgMatches<'a>) -> Result<Plan<'a>, Misfit>
         flat,
         output,
         layout,
+        quiet: is_used(found, "quiet"),
     })
 }
 
@@ -299,6 +294,7 @@ fn dis_plan<'a>(found: &ArgMatches<'a>) -> Result<Plan<'a>, Misfit>
         image: operand(found, "IMAGE")?,
         symbols: text(found, "symbols"),
         header: is_used(found, "header"),
+        quiet: is_used(found, "quiet"),
     })
 }
 
@@ -313,6 +309,7 @@ fn debug_plan<'a>(found: &ArgMatches<'a>) -> Result<Plan<'a>, Misfit>
         input: text(found, "input"),
         gap: optional(found, "gap", 1, MOST_GAP)?,
         tick: optional(found, "tick", 0, MOST_TICK)?,
+        quiet: is_used(found, "quiet"),
     })
 }
 

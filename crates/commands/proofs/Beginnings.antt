@@ -18,7 +18,7 @@ use Rattle.assembler.specs.declared.fault.AsmFault.{AsmFault}
 use Rattle.assembler.specs.Places.{lines_of}
 use Rattle.assembler.specs.Standing.{Standing, standing_of}
 use Rattle.assembler.specs.Text.{text_fault}
-use Rattle.fault_details.specs.Detail.{detail_of, line_at, behind_lines, foreign_at, foreign_read}
+use Rattle.fault_details.specs.Detail.{detail_of, line_at, after_lines, foreign_at, foreign_read}
 use Rattle.fault_details.specs.Pieces.{up_to}
 use Rattle.symbols.specs.declared.beginning.Beginning.TheVariants.{Faulty, Sound}
 use Rattle.symbols.specs.Reads.{Tells}
@@ -26,7 +26,7 @@ use Rattle.symbols.specs.Symbols as table
 use Rattle.symbols.specs.Symbols.{faulty_from, faulty_line}
 use Rattle.commands.specs.declared.fault.ProgramFault.{ProgramFault}
 use Rattle.commands.specs.declared.fault.ProgramFault.TheVariants.{Asm}
-use Rattle.commands.specs.Assembling.{IsAsmFault, IsRead}
+use Rattle.commands.specs.Assembling.{IsAsmFault, IsRead, indent_of}
 use Rattle.commands.specs.Beginnings.{IsLastFault, IsToldFault}
 
 -- ---- what was read of known bytes
@@ -74,19 +74,19 @@ length-onto : (b : ℕ) (lines : List (List ℕ)) → 0 < length lines → lengt
 length-onto b [] h = absurd (omega (arith, h))
 length-onto b (l ∷ ls) h = refl
 
-past-on : (count b : ℕ) (bs : List ℕ) → (b == 10) ≡ false → behind_lines (suc count) (b ∷ bs) ≡ behind_lines (suc count) bs
+past-on : (count b : ℕ) (bs : List ℕ) → (b == 10) ≡ false → after_lines (suc count) (b ∷ bs) ≡ after_lines (suc count) bs
 past-on count b bs e =
     let n : 1 + prefix_len (λ c. not (c == 10)) bs + 1 ≡ suc (prefix_len (λ c. not (c == 10)) bs + 1) = omega arith in
     rw (e, n) refl
 
-past-feed : (count b : ℕ) (bs : List ℕ) → (b == 10) ≡ true → behind_lines (suc count) (b ∷ bs) ≡ behind_lines count bs
+past-feed : (count b : ℕ) (bs : List ℕ) → (b == 10) ≡ true → after_lines (suc count) (b ∷ bs) ≡ after_lines count bs
 past-feed count b bs e = rw e refl
 
 -- a byte more before a text that is no line feed, by the number of line feeds in it
 record Stands (count : ℕ) (text : List ℕ) : Type 0 where
   line : List ℕ
   inside : (more : List ℕ) → prefix_len (λ c. not (c == 10)) (line ++ more) ≡ length line + prefix_len (λ c. not (c == 10)) more
-  behind : (more : List ℕ) → behind_lines count (text ++ more) ≡ line ++ more
+  behind : (more : List ℕ) → after_lines count (text ++ more) ≡ line ++ more
 
 stands-on : (count b : ℕ) (bs : List ℕ) → (b == 10) ≡ false → Stands count bs → Stands count (b ∷ bs)
 stands-on zero b bs e rest = record {
@@ -132,7 +132,7 @@ line-on text more number e =
     let at = stands text in
     let count : number - 1 ≡ length (slice_split is_feed text) - 1 =
     ap (λ n. n - 1) (e ∙ length-map (slice_split is_feed text) line_meaning) in
-    ap (λ n. up_to 10 (behind_lines n (text ++ more))) count ∙ ap (up_to 10) (at.behind more)
+    ap (λ n. up_to 10 (after_lines n (text ++ more))) count ∙ ap (up_to 10) (at.behind more)
     ∙ ap (λ n. take n (at.line ++ more)) (at.inside more) ∙ take-past at.line more (prefix_len (λ b. not (b == 10)) more)
 
 line-alone : (text : List ℕ) (number : ℕ) → number ≡ length (lines_of text) → line_at number text ≡ (stands text).line ++ []
@@ -140,19 +140,19 @@ line-alone text number e = ap (line_at number) (sym (append-nothing text)) ∙ l
 
 -- ---- a line that is too long
 
-detail-long : (code : AsmCode) (s t : Standing) (a b : List ℕ) → code ≡ A9 → a ≡ b → detail_of code s a ≡ detail_of code t b
+detail-long : (code : AsmCode) (n : ℕ) (s t : Standing) (a b : List ℕ) → code ≡ A9 → a ≡ b → detail_of code n s a ≡ detail_of code n t b
 unfolding detail_of
-detail-long code s t a b e same = rw (e, same) refl
+detail-long code n s t a b e same = rw (e, same) refl
 
 told-on : (input text longer : List ℕ) (found : AsmFault) (fault : ProgramFault) → text_fault longer ≡ Some (found.line, found.code)
-    → detail_of found.code (standing_of text) (line_at found.line text)
-    ≡ detail_of found.code (standing_of longer) (line_at found.line longer)
+    → detail_of found.code (indent_of input found.line) (standing_of text) (line_at found.line text)
+    ≡ detail_of found.code (indent_of input found.line) (standing_of longer) (line_at found.line longer)
     → IsAsmFault input text found fault → IsToldFault input (Some longer) fault
 told-on input text longer found (Asm name f read) first same h =
     let is = h.1 in (
       h.0,
       inr (first ∙ ap (λ (g : AsmFault). Some (g.line, g.code)) (sym is)),
-      elim h.2 as (λ _. IsRead longer f read.items) [
+      elim h.2 as (λ _. IsRead input longer f read.items) [
         | inl e ↦ inl e
         | inr e ↦ inr (rw is (rw is at e ∙ same))
       ],
@@ -165,7 +165,7 @@ pub told_long : (input text more : List ℕ) (found : AsmFault) (fault : Program
 told_long input text more found fault is code law h =
     let same = line-alone text found.line is.last ∙ sym (line-on text (10 ∷ more) found.line is.last) in
     told-on input text (text ++ 10 ∷ more) found fault (law is.first)
-    (detail-long found.code (standing_of text) (standing_of (text ++ 10 ∷ more)) _ _ code same) h
+    (detail-long found.code (indent_of input found.line) (standing_of text) (standing_of (text ++ 10 ∷ more)) _ _ code same) h
 
 -- ---- a byte that is not one of a text
 
@@ -212,10 +212,10 @@ foreign-same line byte xs ys e =
     let read = index-within line byte xs ys (foreign_at (line ++ byte ∷ ys)) (foreign-most line byte ys e) in
     rw (at, read) refl
 
-detail-foreign : (code : AsmCode) (s t : Standing) (a b : List ℕ) → code ≡ A8 → foreign_read a ≡ foreign_read b
-    → detail_of code s a ≡ detail_of code t b
+detail-foreign : (code : AsmCode) (n : ℕ) (s t : Standing) (a b : List ℕ) → code ≡ A8 → foreign_read a ≡ foreign_read b
+    → detail_of code n s a ≡ detail_of code n t b
 unfolding detail_of
-detail-foreign code s t a b e same = rw e same
+detail-foreign code n s t a b e same = rw e same
 
 up-to-on : (byte : ℕ) (more : List ℕ) → (byte == 10) ≡ false → up_to 10 (byte ∷ more) ≡ byte ∷ up_to 10 more
 up-to-on byte more e =
@@ -236,7 +236,9 @@ told-foreign input text more byte found fault foreign is code law h =
     let long = line-on text (byte ∷ more) found.line number ∙ ap (λ xs. line ++ xs) (up-to-on byte more e) in
     let same = ap foreign_read short ∙ foreign-same line byte (up_to 10 []) (up_to 10 more) foreign ∙ sym (ap foreign_read long) in
     told-on input (text ++ byte ∷ []) (text ++ byte ∷ more) found fault (law is.first)
-    (detail-foreign found.code (standing_of (text ++ byte ∷ [])) (standing_of (text ++ byte ∷ more)) _ _ code same) h
+    (detail-foreign found.code (indent_of input found.line) (standing_of (text ++ byte ∷ [])) (standing_of (text ++ byte ∷ more)) _ _
+    code same)
+    h
 
 -- ---- a text that is cut at a byte
 

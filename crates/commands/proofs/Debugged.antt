@@ -10,8 +10,8 @@ use Rattle.image.specs.Grammar.{reading}
 use Rattle.image.specs.Image.{Image}
 use Rattle.sim_run.specs.declared.schedule.Schedule.{Schedule}
 use Rattle.symbols.specs.Symbols.{Symbol}
-use Rattle.commands.specs.Debugging.{AreKeys, DebugsFile, IsTable, schedule_asked}
-use Rattle.commands.specs.Files.{Text, File}
+use Rattle.commands.specs.Debugging.{AreKeys, DebugsFile, schedule_asked}
+use Rattle.commands.specs.Files.{Text, File, IsTable}
 
 module _ {X E : Type 0} (contents : X → Option (List ℕ)) (files : Option (List File)) (symbols keys : Option (Bor Text))
     (gap tick : Option ℕ) (input old : Option (List ℕ)) (image : Image) (table : List Symbol) (typed : List ℕ) where

@@ -1,5 +1,6 @@
 -- What `asm` writes of a text, and how it tells its fault.
-use Rattle.std.specs.Prelude.{◌≡◌, ◌⊎◌, ℕ, List, [], ◌++◌, map, Option, Some, None}
+use Rattle.std.specs.Prelude.{◌≡◌, ◌⊎◌, ℕ, ◌+◌, ◌/◌, ◌==◌, Bool, if◌then◌else◌, List, [], ◌∷◌, ◌++◌, map, length}
+use Rattle.std.specs.Prelude.{decimal, Option, Some, None}
 use Rattle.std.specs.Borrow.{Bor}
 use Rattle.image.specs.Grammar.{spelling}
 use Rattle.assembler.specs.declared.fault.AsmFault.{AsmFault}
@@ -28,16 +29,29 @@ Assembles output symbols text old new =
     (text_fault text ≡ None)
     × Gains old new (whole output (spelling (text_image text)) ++ table_file symbols (symbols_of text))
 
+-- how many columns stand before a line where it is shown, after two blanks, the file's name, the line's number and two colons: one for
+-- each byte of the name that begins a character in UTF-8
+abbrev pub goes_on : ℕ → Bool
+goes_on byte = byte / 64 == 2
+
+abbrev pub columns : List ℕ → ℕ
+columns [] = 0
+columns (b ∷ bs) = (if goes_on b then 0 else 1) + columns bs
+
+unfoldable pub indent_of : Text → ℕ → ℕ
+indent_of name number = columns name + length (decimal number) + 5
+
 -- what is told of a fault of a text: what was read of its line, unless there was no memory for that
-abbrev pub IsRead : List ℕ → AsmFault → List ℕ → Type 0
-IsRead text fault read = (read ≡ []) ⊎ (read ≡ detail_of fault.code (standing_of text) (line_at fault.line text))
+abbrev pub IsRead : Text → List ℕ → AsmFault → List ℕ → Type 0
+IsRead input text fault read =
+    (read ≡ []) ⊎ (read ≡ detail_of fault.code (indent_of input fault.line) (standing_of text) (line_at fault.line text))
 
 abbrev pub IsAsmFault : Text → List ℕ → AsmFault → ProgramFault → Type 0
-IsAsmFault input text found (Asm name fault read) = (name.now ≡ input) × (fault ≡ found) × IsRead text fault read.items
+IsAsmFault input text found (Asm name fault read) = (name.now ≡ input) × (fault ≡ found) × IsRead input text fault read.items
 IsAsmFault input text found other = ⊥
 
 -- A fault of the text is its first, unless there was no memory, and no file is written; any other is the system's.
 abbrev pub IsTextFault : Text → List ℕ → Option (List File) → Option (List File) → ProgramFault → Type 0
 IsTextFault input text old new (Asm name fault read) =
-    (name.now ≡ input) × IsFaultOf (text_fault text) fault × IsRead text fault read.items × (new ≡ old)
+    (name.now ≡ input) × IsFaultOf (text_fault text) fault × IsRead input text fault read.items × (new ≡ old)
 IsTextFault input text old new other = IsOfSystem other

@@ -18,8 +18,7 @@ use Rattle.sim_run.specs.Trace.{trace_text}
 use Rattle.symbols.specs.Symbols.{Symbol}
 use Rattle.commands.specs.declared.auditing.Audited.{Audited}
 use Rattle.commands.specs.declared.running.Kept.{Kept}
-use Rattle.commands.specs.Debugging.{IsTable}
-use Rattle.commands.specs.Files.{Text, File, bytes_of}
+use Rattle.commands.specs.Files.{Text, File, IsTable, bytes_of}
 use Rattle.commands.specs.Running.{IsTyped, Traces}
 use Rattle.commands.specs.Watching.{IsPolicyOf}
 
@@ -47,39 +46,38 @@ abbrev pub Lists : Schedule → List ℕ → Image → Audited → Type 0
 Lists schedule input image audited =
     (string_bytes audited.text ≡ entries_text (scheduled schedule input (opening image)) (opening image)) × (audited.count ≡ 0)
 
--- The policy is that of a file, over the labels of another.
-abbrev pub AuditsBy : Text → Option (Bor Text) → Schedule → Option (Bor Text) → Image → Option (List File) → Audited → Type 0
-AuditsBy policy symbols schedule input image files audited =
-    (typed : List ℕ) × (table : List Symbol) × (rules : Policy) × IsTyped schedule input files typed × IsTable symbols files table
+-- The policy is that of a file, over these labels.
+abbrev pub AuditsBy : Text → List Symbol → Schedule → Option (Bor Text) → Image → Option (List File) → Audited → Type 0
+AuditsBy policy table schedule input image files audited =
+    (typed : List ℕ) × (rules : Policy) × IsTyped schedule input files typed
     × IfSome (bytes_of policy files)
     (λ text. IsPolicyOf text table rules × Audits text table rules schedule typed image audited)
 
 abbrev pub ListsAll : Schedule → Option (Bor Text) → Image → Option (List File) → Audited → Type 0
 ListsAll schedule input image files audited = (typed : List ℕ) × IsTyped schedule input files typed × Lists schedule typed image audited
 
-abbrev pub AuditsImage : Option (Bor Text) → Option (Bor Text) → Schedule → Option (Bor Text) → Image → Option (List File) → Audited
-    → Type 0
-AuditsImage None symbols schedule input image files audited = ListsAll schedule input image files audited
-AuditsImage (Some policy) symbols schedule input image files audited =
-    AuditsBy policy.now symbols schedule input image files audited
+abbrev pub AuditsImage : Option (Bor Text) → List Symbol → Schedule → Option (Bor Text) → Image → Option (List File) → Audited → Type 0
+AuditsImage None table schedule input image files audited = ListsAll schedule input image files audited
+AuditsImage (Some policy) table schedule input image files audited = AuditsBy policy.now table schedule input image files audited
 
 -- The lines of the run's trace that are kept are written to a file, if one is named.
-abbrev pub TracesRun : Schedule → Option (Bor Text) → Image → Option (Bor Text) → Kept → Option (List File) → Option (List File) → Type 0
-TracesRun schedule input image None kept files_old files_new = files_new ≡ files_old
-TracesRun schedule input image (Some trace) kept files_old files_new =
+abbrev pub TracesRun : List Symbol → Schedule → Option (Bor Text) → Image → Option (Bor Text) → Kept → Option (List File)
+    → Option (List File) → Type 0
+TracesRun table schedule input image None kept files_old files_new = files_new ≡ files_old
+TracesRun table schedule input image (Some trace) kept files_old files_new =
     (typed : List ℕ) × IsTyped schedule input files_old typed
-    × Traces (Some trace) (trace_text kept.from kept.last (events_before None schedule typed (opening image)) (opening image)) files_old
-    files_new
+    × Traces (Some trace) (trace_text table kept.from kept.last (events_before None schedule typed (opening image)) (opening image))
+    files_old files_new
 
 -- what is told, unless nothing is to be
 abbrev pub told_unless : Bool → List ℕ → List ℕ
 told_unless quiet text = if quiet then [] else text
 
--- The bytes of a file are an image, and what is told of its run is written.
+-- The bytes of a file are an image, and what is told of its run, with the labels of another, is written.
 abbrev pub AuditsFile : Option (Bor Text) → Option (Bor Text) → Schedule → Option (Bor Text) → Bool → List ℕ → Option (Bor Text) → Kept
     → Option (List File) → Option (List File) → ℕ → Option (List ℕ) → Option (List ℕ) → Type 0
 AuditsFile policy symbols schedule input quiet bytes trace kept files_old files_new count old new =
-    (image : Image) × (audited : Audited) × (reading bytes ≡ Ok image)
-    × AuditsImage policy symbols schedule input image files_old audited
-    × TracesRun schedule input image trace kept files_old files_new
+    (image : Image) × (table : List Symbol) × (audited : Audited) × (reading bytes ≡ Ok image) × IsTable symbols files_old table
+    × AuditsImage policy table schedule input image files_old audited
+    × TracesRun table schedule input image trace kept files_old files_new
     × (count ≡ audited.count) × Appends old new (told_unless quiet (string_bytes audited.text))

@@ -17,7 +17,8 @@ IsLineFault table bytes other = IsOfSystem other
 
 -- the fault of a text and what was read of its line, or a fault of the system
 abbrev pub IsToldFault : Text → Option (List ℕ) → ProgramFault → Type 0
-IsToldFault input (Some text) (Asm name fault read) = (name.now ≡ input) × IsFaultOf (text_fault text) fault × IsRead text fault read.items
+IsToldFault input (Some text) (Asm name fault read) =
+    (name.now ≡ input) × IsFaultOf (text_fault text) fault × IsRead input text fault read.items
 IsToldFault input None (Asm name fault read) = name.now ≡ input
 IsToldFault input text other = IsOfSystem other
 

@@ -34,15 +34,15 @@ status_of_done (done.Audit count) = if count == 0 then 0 else 1
 abbrev pub RunsBy : Option (Bor Text) → Option (Bor Text) → Option StopAt → Schedule → Option (Bor Text) → Bool → List ℕ
     → Option (Bor Text) → Kept → Option (List File) → Option (List File) → Ended → Option (List ℕ) → Option (List ℕ) → Type 0
 RunsBy None symbols at schedule input quiet bytes trace kept old new ended sent out =
-    RunsFile at schedule input quiet bytes trace kept old new ended sent out
+    RunsFile symbols at schedule input quiet bytes trace kept old new ended sent out
 RunsBy (Some policy) symbols at schedule input quiet bytes trace kept old new ended sent out =
     WatchesFile policy.now symbols schedule input quiet bytes trace kept old new ended sent out
 
 -- A plan was carried out wholly, with this status, where files and an output were known before.
 abbrev pub HasStatus : Plan → Option (List ℕ) → Option (List File) → Option (List File) → ℕ → Type 0
-HasStatus (Asm input output symbols) sent old new status =
+HasStatus (Asm input output symbols quiet) sent old new status =
     (status ≡ 0) × IfSome (bytes_of input.now old) (λ text. Assembles output.now symbols text old new)
-HasStatus (Image flat output layout) sent old new status =
+HasStatus (Image flat output layout quiet) sent old new status =
     (status ≡ 0) × IfSome (bytes_of flat.now old) (λ bytes. MakesImage layout output.now bytes old new)
 HasStatus (Run image steps times gap tick input quiet why trace trace_from trace_last policy symbols) sent old new status =
     (ended : Ended) × (out : Option (List ℕ)) × (status ≡ status_of ended.end)
@@ -54,9 +54,9 @@ HasStatus (Audit image steps times gap tick input quiet trace trace_from trace_l
     × IfSome (bytes_of image.now old)
     (λ bytes. AuditsFile policy symbols (record { steps = steps * times; gap = gap; tick = tick }) input quiet bytes trace
     (record { from = trace_from; last = trace_last }) old new count sent out)
-HasStatus (Dis image symbols header) sent old new status =
+HasStatus (Dis image symbols header quiet) sent old new status =
     (out : Option (List ℕ)) × (status ≡ 0) × IfSome (bytes_of image.now old) (λ bytes. ListsFile header old bytes symbols sent out)
-HasStatus (Debug image symbols input gap tick) sent old new status = status ≡ 0
+HasStatus (Debug image symbols input gap tick quiet) sent old new status = status ≡ 0
 HasStatus (Bounds base length address) sent old new status =
     (out : Option (List ℕ)) × (status ≡ 0) × Appends sent out (bounds_answer base length address)
 HasStatus (Word high low memory) sent old new status =

@@ -9,8 +9,8 @@ use Rattle.debugger.specs.Talk.{heard}
 use Rattle.image.specs.Grammar.{reading}
 use Rattle.image.specs.Image.{Image}
 use Rattle.sim_run.specs.declared.schedule.Schedule.{Schedule}
-use Rattle.symbols.specs.Symbols.{Symbol, faulty_line, symbols_of}
-use Rattle.commands.specs.Files.{Text, File, bytes_of}
+use Rattle.symbols.specs.Symbols.{Symbol}
+use Rattle.commands.specs.Files.{Text, File, IsTable, bytes_of}
 
 -- The schedule of a session, where a file of input, a gap or a tick is asked for; what isn't is as of `run`. It ends where its steps can't
 -- be counted any more.
@@ -18,11 +18,6 @@ abbrev pub schedule_asked : Bool → Option ℕ → Option ℕ → Option Schedu
 schedule_asked is_typed gap tick =
     if is_typed || (is_some gap || is_some tick)
     then Some (record { steps = 2 ^ 64 - 1; gap = unwrap_or gap 1000; tick = unwrap_or tick 100 }) else None
-
--- The labels are those of a file, if one is named, which is a table.
-abbrev pub IsTable : Option (Bor Text) → Option (List File) → List Symbol → Type 0
-IsTable None files symbols = symbols ≡ []
-IsTable (Some name) files symbols = IfSome (bytes_of name.now files) (λ text. (faulty_line text ≡ None) × (symbols ≡ symbols_of text))
 
 -- The bytes on the console are those of a file, if one is named.
 abbrev pub AreKeys : Option (Bor Text) → Option (List File) → List ℕ → Type 0

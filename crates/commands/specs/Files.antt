@@ -4,7 +4,7 @@ use Rattle.std.specs.Borrow.{Bor}
 use Rattle.std.specs.Io.KnownBytes.{Keeps}
 use Rattle.image.specs.Grammar.{reading}
 use Rattle.image.specs.Reads.{IsOfBytes}
-use Rattle.symbols.specs.Symbols.{faulty_line}
+use Rattle.symbols.specs.Symbols.{Symbol, faulty_line, symbols_of}
 use Rattle.commands.specs.declared.fault.ProgramFault.{ProgramFault}
 use Rattle.commands.specs.declared.fault.ProgramFault.TheVariants.{NoFile, Directory, Read, Write, CutShort, Memory}
 use Rattle.commands.specs.declared.fault.ProgramFault.TheVariants as program
@@ -50,6 +50,11 @@ last_of name (file ∷ files) found = last_of name files (if bytes_eq file.0 nam
 abbrev pub bytes_of : Text → Option (List File) → Option (List ℕ)
 bytes_of name None = None
 bytes_of name (Some files) = last_of name files None
+
+-- The labels are those of a file, if one is named, which is a table.
+abbrev pub IsTable : Option (Bor Text) → Option (List File) → List Symbol → Type 0
+IsTable None files symbols = symbols ≡ []
+IsTable (Some name) files symbols = IfSome (bytes_of name.now files) (λ text. (faulty_line text ≡ None) × (symbols ≡ symbols_of text))
 
 -- a fault of the system, its devices or its memory, and none of what was read
 abbrev pub IsOfSystem : ProgramFault → Type 0

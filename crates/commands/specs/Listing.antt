@@ -5,19 +5,13 @@ use Rattle.std.specs.Io.KnownBytes.{Appends}
 use Rattle.image.specs.Grammar.{reading}
 use Rattle.image.specs.Image.{Image}
 use Rattle.image_listing.specs.Header.{header_text}
-use Rattle.image_listing.specs.Named.{listing_named}
-use Rattle.sim_run.specs.Listing.{listing}
+use Rattle.image_listing.specs.Listing.{listing_by}
 use Rattle.symbols.specs.Symbols.{Symbol, faulty_line, symbols_of}
 use Rattle.commands.specs.Files.{Text, File, bytes_of}
 
--- with the labels of a table, if there is one
-abbrev pub lines_of : Option (List Symbol) → Image → List ℕ
-lines_of None image = listing image
-lines_of (Some symbols) image = listing_named symbols image
-
--- after the image's header and capabilities, if they are asked for
+-- with the names of a table, if there is one, after the image's header and capabilities, if they are asked for
 abbrev pub listing_of : Bool → Option (List Symbol) → Image → List ℕ
-listing_of header symbols image = if header then header_text image ++ lines_of symbols image else lines_of symbols image
+listing_of header table image = if header then header_text image ++ listing_by table image else listing_by table image
 
 -- The bytes are an image, and an output grows by its listing.
 abbrev pub Lists : Bool → Option (List Symbol) → List ℕ → Option (List ℕ) → Option (List ℕ) → Type 0

@@ -16,9 +16,9 @@ are_same same (Some name) (Some other) = same name.now other.now
 
 -- a file that is written is another file of the command
 abbrev pub overwrites : Sameness → Plan → Bool
-overwrites same (Asm input output symbols) =
+overwrites same (Asm input output symbols quiet) =
     (same output.now input.now || are_same same symbols (Some input)) || are_same same symbols (Some output)
-overwrites same (Image flat output layout) = same output.now flat.now
+overwrites same (Image flat output layout quiet) = same output.now flat.now
 overwrites same (Run image steps times gap tick input quiet why trace trace_from trace_last policy symbols) =
     (are_same same trace (Some image) || are_same same trace input) || (are_same same trace policy || are_same same trace symbols)
 overwrites same (Audit image steps times gap tick input quiet trace trace_from trace_last policy symbols) =

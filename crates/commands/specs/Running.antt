@@ -1,4 +1,4 @@
--- What `run` writes of a file, and where the run ends.
+-- What `run` writes of a file, and where the run ends. After an address stands its label, where a file with labels is named.
 use Rattle.std.specs.Prelude.{◌≡◌, ℕ, Bool, true, false, not, is_some, ◌==◌, ◌&&◌, if◌then◌else◌, List, [], Option, Some, None, Ok}
 use Rattle.std.specs.Prelude.{IfSome, string_bytes}
 use Rattle.std.specs.Borrow.{Bor}
@@ -19,11 +19,12 @@ use Rattle.sim_run.specs.Stopping.{events_met, stop_met, stopped_lines}
 use Rattle.sim_run.specs.Trace.{trace_text}
 use Rattle.sim_run.specs.Unhandled.{trap_left}
 use Rattle.sim_run.specs.Verdict.{status_of}
+use Rattle.symbols.specs.Symbols.{Symbol}
 use Rattle.command_line.specs.declared.plans.Why.{Why}
 use Rattle.command_line.specs.declared.plans.Why.TheVariants.{Unfetched, All}
 use Rattle.commands.specs.declared.running.Ended.{Ended}
 use Rattle.commands.specs.declared.running.Kept.{Kept}
-use Rattle.commands.specs.Files.{Text, File, Gains, bytes_of, whole}
+use Rattle.commands.specs.Files.{Text, File, Gains, IsTable, bytes_of, whole}
 
 -- which trap a run stops before that is to be explained
 abbrev pub stop_at : Option Why → Option StopAt
@@ -44,42 +45,44 @@ abbrev pub is_told : Bool → End → Bool
 is_told quiet end = not quiet && not (status_of end == 0)
 
 -- of a run that stopped before a trap, why its next step traps
-abbrev pub place_lines : Bool → List Event → State → List ℕ
-place_lines true events s = stopped_lines (steps_in events) (run_after events s)
-place_lines false events s = ending_lines (steps_in events) (trap_left events s) (run_after events s)
+abbrev pub place_lines : List Symbol → Bool → List Event → State → List ℕ
+place_lines table true events s = stopped_lines table (steps_in events) (run_after events s)
+place_lines table false events s = ending_lines table (steps_in events) (trap_left events s) (run_after events s)
 
-abbrev pub place_of : Bool → Bool → List Event → State → List ℕ
-place_of quiet stopped events s = if is_told quiet (end_of (run_after events s)) then place_lines stopped events s else []
+abbrev pub place_of : List Symbol → Bool → Bool → List Event → State → List ℕ
+place_of table quiet stopped events s =
+    if is_told quiet (end_of (run_after events s)) then place_lines table stopped events s else []
 
 -- how a run ended that met these events, and the lines that say where
-abbrev pub HasEnded : Bool → Bool → List Event → State → Ended → Type 0
-HasEnded quiet stopped events s ended =
-    (ended.end ≡ end_of (run_after events s)) × (string_bytes ended.place ≡ place_of quiet stopped events s)
+abbrev pub HasEnded : List Symbol → Bool → Bool → List Event → State → Ended → Type 0
+HasEnded table quiet stopped events s ended =
+    (ended.end ≡ end_of (run_after events s)) × (string_bytes ended.place ≡ place_of table quiet stopped events s)
 
 -- An output grows by what the machine of an image sends that meets these events, and the run ends as it does.
-abbrev pub Meets : Bool → List Event → Bool → Image → Ended → Option (List ℕ) → Option (List ℕ) → Type 0
-Meets stopped events quiet image ended old new =
-    Appends old new (run_sent events (opening image)) × HasEnded quiet stopped events (opening image) ended
+abbrev pub Meets : List Symbol → Bool → List Event → Bool → Image → Ended → Option (List ℕ) → Option (List ℕ) → Type 0
+Meets table stopped events quiet image ended old new =
+    Appends old new (run_sent events (opening image)) × HasEnded table quiet stopped events (opening image) ended
 
-abbrev pub Runs : Option StopAt → Schedule → List ℕ → Bool → Image → Ended → Option (List ℕ) → Option (List ℕ) → Type 0
-Runs at schedule input quiet image ended old new =
-    Meets (stops at schedule input image) (events_of at schedule input image) quiet image ended old new
+abbrev pub Runs : List Symbol → Option StopAt → Schedule → List ℕ → Bool → Image → Ended → Option (List ℕ) → Option (List ℕ) → Type 0
+Runs table at schedule input quiet image ended old new =
+    Meets table (stops at schedule input image) (events_of at schedule input image) quiet image ended old new
 
 -- the lines of a run's trace that are kept
-abbrev pub trace_of : Option StopAt → Schedule → List ℕ → Kept → Image → List ℕ
-trace_of at schedule input kept image = trace_text kept.from kept.last (events_of at schedule input image) (opening image)
+abbrev pub trace_of : List Symbol → Option StopAt → Schedule → List ℕ → Kept → Image → List ℕ
+trace_of table at schedule input kept image =
+    trace_text table kept.from kept.last (events_of at schedule input image) (opening image)
 
 -- A trace is written to a file, if one is named, and no other file is.
 abbrev pub Traces : Option (Bor Text) → List ℕ → Option (List File) → Option (List File) → Type 0
 Traces None lines old new = new ≡ old
 Traces (Some name) lines old new = Gains old new (whole name.now lines)
 
--- The bytes are an image, and it is run with these on its console.
-abbrev pub RunsWith : Option StopAt → Schedule → List ℕ → Bool → List ℕ → Option (Bor Text) → Kept → Option (List File)
+-- An image is run with these labels and these bytes on its console.
+abbrev pub RunsWith : List Symbol → Option StopAt → Schedule → List ℕ → Bool → Image → Option (Bor Text) → Kept → Option (List File)
     → Option (List File) → Ended → Option (List ℕ) → Option (List ℕ) → Type 0
-RunsWith at schedule input quiet bytes trace kept files_old files_new ended old new =
-    (image : Image) × (reading bytes ≡ Ok image) × Runs at schedule input quiet image ended old new
-    × Traces trace (trace_of at schedule input kept image) files_old files_new
+RunsWith table at schedule input quiet image trace kept files_old files_new ended old new =
+    Runs table at schedule input quiet image ended old new
+    × Traces trace (trace_of table at schedule input kept image) files_old files_new
 
 -- What is read of a file that is typed: no more than can come.
 abbrev pub IsTyped : Schedule → Option (Bor Text) → Option (List File) → List ℕ → Type 0
@@ -88,9 +91,17 @@ IsTyped schedule (Some name) files typed =
     IfSome (bytes_of name.now files) (λ input. (s : State) → scheduled schedule typed s ≡ scheduled schedule input s)
 
 -- The bytes on the console are those of a file, if one is named, and else none come.
-abbrev pub RunsFile : Option StopAt → Schedule → Option (Bor Text) → Bool → List ℕ → Option (Bor Text) → Kept → Option (List File)
-    → Option (List File) → Ended → Option (List ℕ) → Option (List ℕ) → Type 0
-RunsFile at schedule None quiet bytes trace kept files_old files_new ended old new =
-    RunsWith at schedule [] quiet bytes trace kept files_old files_new ended old new
-RunsFile at schedule (Some name) quiet bytes trace kept files_old files_new ended old new =
-    IfSome (bytes_of name.now files_old) (λ input. RunsWith at schedule input quiet bytes trace kept files_old files_new ended old new)
+abbrev pub RunsTyped : List Symbol → Option StopAt → Schedule → Option (Bor Text) → Bool → Image → Option (Bor Text) → Kept
+    → Option (List File) → Option (List File) → Ended → Option (List ℕ) → Option (List ℕ) → Type 0
+RunsTyped table at schedule None quiet image trace kept files_old files_new ended old new =
+    RunsWith table at schedule [] quiet image trace kept files_old files_new ended old new
+RunsTyped table at schedule (Some name) quiet image trace kept files_old files_new ended old new =
+    IfSome (bytes_of name.now files_old)
+    (λ input. RunsWith table at schedule input quiet image trace kept files_old files_new ended old new)
+
+-- The bytes are an image, and it is run with the labels of a file, if one is named.
+abbrev pub RunsFile : Option (Bor Text) → Option StopAt → Schedule → Option (Bor Text) → Bool → List ℕ → Option (Bor Text) → Kept
+    → Option (List File) → Option (List File) → Ended → Option (List ℕ) → Option (List ℕ) → Type 0
+RunsFile symbols at schedule input quiet bytes trace kept files_old files_new ended old new =
+    (image : Image) × (table : List Symbol) × (reading bytes ≡ Ok image) × IsTable symbols files_old table
+    × RunsTyped table at schedule input quiet image trace kept files_old files_new ended old new

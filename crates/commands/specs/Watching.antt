@@ -28,8 +28,7 @@ use Rattle.commands.specs.declared.fault.ProgramFault.TheVariants as program
 use Rattle.commands.specs.declared.running.Ended.{Ended}
 use Rattle.commands.specs.declared.running.Kept.{Kept}
 use Rattle.commands.specs.declared.watching.Stop.{Stop}
-use Rattle.commands.specs.Debugging.{IsTable}
-use Rattle.commands.specs.Files.{Text, File, IsOfSystem, bytes_of}
+use Rattle.commands.specs.Files.{Text, File, IsOfSystem, IsTable, bytes_of}
 use Rattle.commands.specs.Running.{IsTyped, Traces, place_of}
 
 -- A policy is the text of a file, with labels of a table, and says these rules.
@@ -84,11 +83,11 @@ IsStopOf text table policy schedule input quiet image (Some stop) =
     IsStop text table policy schedule input quiet image stop.number (string_bytes stop.lines)
 
 -- what is sent is written, the lines of the trace that are kept are written, if a file is named, and the run ends as its machine does
-pub record Ends (events : List Event) (image : Image) (trace : Option (Bor Text)) (kept : Kept) (files_old files_new : Option (List File))
-    (ended : Ended) (old new : Option (List ℕ))
+pub record Ends (table : List Symbol) (events : List Event) (image : Image) (trace : Option (Bor Text)) (kept : Kept)
+    (files_old files_new : Option (List File)) (ended : Ended) (old new : Option (List ℕ))
     : Type 0 where
   pub sent : Appends old new (run_sent events (opening image))
-  pub traced : Traces trace (trace_text kept.from kept.last events (opening image)) files_old files_new
+  pub traced : Traces trace (trace_text table kept.from kept.last events (opening image)) files_old files_new
   pub end : ended.end ≡ end_of (run_after events (opening image))
 
 -- A run of an image on a schedule is watched by a policy: it ends before the step at which the policy stops it, or as every run.
@@ -98,12 +97,12 @@ pub data IsWatchedRun (text : Text) (table : List Symbol) (policy : Policy) (sch
     : Type 0 where
   stopped :
       (number : ℕ) → IsStop text table policy schedule input quiet image number (string_bytes ended.place)
-      → Ends (events_before (Some number) schedule input (opening image)) image trace kept files_old files_new ended old new
+      → Ends table (events_before (Some number) schedule input (opening image)) image trace kept files_old files_new ended old new
       → IsWatchedRun text table policy schedule input quiet image trace kept files_old files_new ended old new
   whole :
       IsKept policy schedule input image
-      → string_bytes ended.place ≡ place_of quiet false (events_before None schedule input (opening image)) (opening image)
-      → Ends (events_before None schedule input (opening image)) image trace kept files_old files_new ended old new
+      → string_bytes ended.place ≡ place_of table quiet false (events_before None schedule input (opening image)) (opening image)
+      → Ends table (events_before None schedule input (opening image)) image trace kept files_old files_new ended old new
       → IsWatchedRun text table policy schedule input quiet image trace kept files_old files_new ended old new
 
 -- The bytes of a file are an image, which is run so, watched by the policy of another, over the labels of a third.

@@ -1,11 +1,11 @@
 //! The command `asm`.
 
-ghost use Rattle.std.specs.Prelude.{◌≡◌, ◌<◌, ◌==◌, ℕ, List, Option, Some, ◌∷◌, ◌++◌, length, IfErr, IfOk, IfNone, IfSome, OnOk};
+ghost use Rattle.std.specs.Prelude.{◌≡◌, ◌<◌, ◌≤◌, ◌==◌, ℕ, List, Option, Some, ◌∷◌, ◌++◌, length, IfErr, IfOk, IfNone, IfSome, OnOk};
 ghost use Rattle.std.specs.Io.KnownBytes.{Consumes, IsAtEnd};
 ghost use Rattle.assembler.specs.Places.{lines_of};
 ghost use Rattle.image.specs.Grammar.{spelling};
 ghost use Rattle.symbols.specs.Symbols.{table_text};
-ghost use Rattle.commands.specs.Assembling.{Assembles, IsAsmFault, IsTextFault, seen_labels, table_file};
+ghost use Rattle.commands.specs.Assembling.{Assembles, IsAsmFault, IsTextFault, columns, indent_of, seen_labels, table_file};
 ghost use Rattle.commands.specs.Beginnings.{IsLastFault, IsToldFault};
 ghost use Rattle.commands.specs.Files.{Gains, IsOfSystem, bytes_of, whole};
 
@@ -17,15 +17,38 @@ use asm_lines::{Class, run_length};
 use assembler::laws::beginnings_decide;
 use assembler::{AsmCode, AsmFault, Assembly, assemble};
 use fault_details::detail;
+use itoa::Buffer;
 use std::alloc::Global;
 use std::io::{ErrorKind, Read};
 use symbols::table_text;
+
+/// How many columns bytes in UTF-8 take: one for each that begins a character.
+fn columns(bytes: &[u8]) -> usize
+    ensures value { result ≡ columns bytes.now }
+    ensures most { result ≤ length bytes.now }
+{
+    match bytes.split_first() {
+        None => 0,
+        Some((byte, rest)) if *byte / 64 == 2 => columns(rest),
+        Some((_, rest)) => columns(rest) + 1,
+    }
+}
+
+/// How many columns stand before a line where it is shown after its file's name and its number.
+#[tactic(auto, unfolding(crate::specs::Assembling::indent_of))]
+fn indent_of(name: &str, number: u64) -> usize
+    ensures { result ≡ indent_of name.now number }
+{
+    let mut buffer = Buffer::new();
+    columns(name.as_bytes()) + buffer.format(number).len() + 5
+}
 
 /// The fault of a text, with what was read of its line; where there is no memory for that, without it.
 fn faulty_text<'a>(alloc: Global, name: &'a str, text: &[u8], fault: AsmFault) -> ProgramFault<'a>
     ensures { IsAsmFault name.entry.now text.now fault result }
 {
-    let read = match detail(alloc, text, fault) {
+    let indent = indent_of(name, fault.line);
+    let read = match detail(alloc, text, fault, indent) {
         Ok(read) => read,
         Err(_) => Vec::new(alloc),
     };

@@ -9,9 +9,8 @@ ghost use Rattle.commands.specs.Auditing.{AreLinesOf, Audits, AuditsBy, AuditsFi
 ghost use Rattle.commands.specs.Auditing.{TracesRun, told_unless};
 ghost use Rattle.commands.specs.Files.{bytes_of, IsOfSystem};
 
-use crate::debugging::table_of;
 use crate::fault::ProgramFault;
-use crate::files::{Folder, read_image};
+use crate::files::{Folder, read_image, table_of};
 use crate::running::{Kept, ProgramMachine, run_image, typed};
 use crate::watching::{policy_of, read_text, rule_line};
 use crate::writing::{Nowhere, Writing};
@@ -98,19 +97,18 @@ fn audit_by<'a, F: Folder>(
     folder: &F,
     image: &Image,
     policy: &'a str,
-    symbols: Option<&'a str>,
+    table: &Symbols,
     schedule: Schedule,
     input: Option<&'a str>,
 ) -> Result<Audited, ProgramFault<'a>>
     requires some_step { 1 ≤ schedule.steps }
     requires range { IsRunnable schedule }
-    ensures { IfOk result (AuditsBy policy.entry.now symbols.entry schedule input.entry image.now (F.files folder.now)) }
+    ensures { IfOk result (AuditsBy policy.entry.now table.now schedule input.entry image.now (F.files folder.now)) }
 {
-    let table = table_of(alloc, folder, symbols)?;
     let text = read_text(alloc, folder, policy)?;
-    let rules = policy_of(alloc, policy, &text, &table)?;
+    let rules = policy_of(alloc, policy, &text, table)?;
     let bytes = typed(alloc, folder, schedule, input)?;
-    let audited = audit_policy(alloc, image, &text, &table, &rules, schedule, &bytes)?;
+    let audited = audit_policy(alloc, image, &text, table, &rules, schedule, &bytes)?;
     Ok(audited)
 }
 
@@ -136,16 +134,16 @@ fn audit_image<'a, F: Folder>(
     folder: &F,
     image: &Image,
     policy: Option<&'a str>,
-    symbols: Option<&'a str>,
+    table: &Symbols,
     schedule: Schedule,
     input: Option<&'a str>,
 ) -> Result<Audited, ProgramFault<'a>>
     requires some_step { 1 ≤ schedule.steps }
     requires range { IsRunnable schedule }
-    ensures { IfOk result (AuditsImage policy.entry symbols.entry schedule input.entry image.now (F.files folder.now)) }
+    ensures { IfOk result (AuditsImage policy.entry table.now schedule input.entry image.now (F.files folder.now)) }
 {
     match policy {
-        Some(policy) => audit_by(alloc, folder, image, policy, symbols, schedule, input),
+        Some(policy) => audit_by(alloc, folder, image, policy, table, schedule, input),
         None => list_all(alloc, folder, image, schedule, input),
     }
 }
@@ -176,6 +174,7 @@ fn trace_run<'a, F: Folder>(
     alloc: Global,
     folder: &mut F,
     image: &Image,
+    table: &Symbols,
     schedule: Schedule,
     input: Option<&'a str>,
     trace: Option<&'a str>,
@@ -183,13 +182,13 @@ fn trace_run<'a, F: Folder>(
 ) -> Result<(), ProgramFault<'a>>
     requires some_step { 1 ≤ schedule.steps }
     requires range { IsRunnable schedule }
-    ensures { OnOk result (TracesRun schedule input.entry image.now trace.entry kept (F.files folder.old) (F.files folder.new)) }
+    ensures { OnOk result (TracesRun table.now schedule input.entry image.now trace.entry kept (F.files folder.old) (F.files folder.new)) }
 {
     match trace {
         Some(_) => {
             let bytes = typed(alloc, folder, schedule, input)?;
             run_image(
-                alloc, folder, image, schedule, &bytes, None, true, trace, kept, Nowhere,
+                alloc, folder, image, table, schedule, &bytes, None, true, trace, kept, Nowhere,
             )?;
             Ok(())
         }
@@ -199,7 +198,8 @@ fn trace_run<'a, F: Folder>(
 
 /// Audits the run of the image of a file on `output`: by the policy of the file `policy`, which may name labels of the file `symbols`,
 /// each part of a rule that is broken; or where no policy is named, a rule for each range of code that is entered. A line for each step
-/// that is kept goes to the file `trace`, where one is named. Answers how many parts are broken, and hands the output back.
+/// that is kept goes to the file `trace`, where one is named, with these labels. Answers how many parts are broken, and hands the output
+/// back.
 pub fn audit_file<'a, F: Folder, O: Write + Drop>(
     alloc: Global,
     folder: &mut F,
@@ -220,8 +220,9 @@ pub fn audit_file<'a, F: Folder, O: Write + Drop>(
         done.0 (O.contents output) (O.contents done.1))) }
 {
     let image = read_image(alloc, folder, name)?;
-    let audited = audit_image(alloc, folder, &image, policy, symbols, schedule, input)?;
-    trace_run(alloc, folder, &image, schedule, input, trace, kept)?;
+    let table = table_of(alloc, folder, symbols)?;
+    let audited = audit_image(alloc, folder, &image, policy, &table, schedule, input)?;
+    trace_run(alloc, folder, &image, &table, schedule, input, trace, kept)?;
     let output = tell(output, &audited.text, quiet)?;
     Ok((audited.count, output))
 }

@@ -67,6 +67,31 @@ pub fn tell_fault<E: Write>(errors: &mut E, fault: &ProgramFault<'_>) -> u8
     FAULT
 }
 
+/// Tells a fault by its text alone, which is the first line of what is told of it, and answers the status.
+fn tell_text<E: Write>(alloc: Global, errors: &mut E, fault: &ProgramFault<'_>) -> u8
+    ensures { result ≡ 3 }
+{
+    let Ok(told) = format!(in alloc; "{fault}") else {
+        return tell_fault(errors, fault);
+    };
+    let text = told.split('\n').next().unwrap_or("");
+    let _ = writeln!(errors, "cherisim: {text}");
+    FAULT
+}
+
+/// Whether a plan leaves out what is told besides.
+fn is_quiet(plan: Plan<'_>) -> bool {
+    match plan {
+        Plan::Asm { quiet, .. }
+        | Plan::Image { quiet, .. }
+        | Plan::Run { quiet, .. }
+        | Plan::Audit { quiet, .. }
+        | Plan::Dis { quiet, .. }
+        | Plan::Debug { quiet, .. } => quiet,
+        Plan::Bounds { .. } | Plan::Word { .. } | Plan::First => false,
+    }
+}
+
 /// The schedule of a run, whose numbers lie in their ranges.
 fn schedule_of(steps: u64, times: u64, gap: u64, tick: u64) -> Schedule
     requires { AreInRange steps times gap tick }
@@ -101,7 +126,7 @@ fn run_by<'a, F: Folder, O: Write + Drop>(
 {
     match policy {
         None => run_file(
-            alloc, folder, image, at, schedule, input, quiet, trace, kept, output,
+            alloc, folder, image, symbols, at, schedule, input, quiet, trace, kept, output,
         ),
         Some(policy) => watch_file(
             alloc, folder, image, policy, symbols, schedule, input, quiet, trace, kept, output,
@@ -190,6 +215,7 @@ fn carry_out<'a, F: Folder, I: Read + Drop, O: Write + Drop>(
             input,
             output,
             symbols,
+            ..
         } => {
             assemble_file(alloc, folder, input, output, symbols)?;
             Ok(Done::All)
@@ -198,6 +224,7 @@ fn carry_out<'a, F: Folder, I: Read + Drop, O: Write + Drop>(
             flat,
             output,
             layout,
+            ..
         } => {
             image_file(alloc, folder, flat, output, layout)?;
             Ok(Done::All)
@@ -206,6 +233,7 @@ fn carry_out<'a, F: Folder, I: Read + Drop, O: Write + Drop>(
             image,
             symbols,
             header,
+            ..
         } => {
             let _output = list_file(alloc, folder, image, symbols, header, output)?;
             Ok(Done::All)
@@ -216,6 +244,7 @@ fn carry_out<'a, F: Folder, I: Read + Drop, O: Write + Drop>(
             input: typed,
             gap,
             tick,
+            ..
         } => {
             let _output = debug_file(
                 alloc, folder, image, symbols, typed, gap, tick, input, output,
@@ -255,7 +284,13 @@ fn carry<'a, F: Folder, I: Read + Drop, O: Write + Drop, E: Write>(
         Ok(Done::Run(ended)) => tell_end(errors, &ended),
         Ok(Done::Audit(0)) => 0,
         Ok(Done::Audit(_)) => 1,
-        Err(fault) => tell_fault(errors, &fault),
+        Err(fault) => {
+            if is_quiet(plan) {
+                tell_text(alloc, errors, &fault)
+            } else {
+                tell_fault(errors, &fault)
+            }
+        }
     }
 }
 

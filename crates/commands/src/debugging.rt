@@ -5,11 +5,11 @@ ghost use Rattle.std.specs.Io.KnownBytes.{Appends};
 ghost use Rattle.debugger.specs.Conversation.{conversation};
 ghost use Rattle.debugger.specs.SessionState.{session_of_image};
 ghost use Rattle.debugger.specs.Talk.{heard};
-ghost use Rattle.commands.specs.Debugging.{AreKeys, DebugsFile, IsTable, schedule_asked};
+ghost use Rattle.commands.specs.Debugging.{AreKeys, DebugsFile, schedule_asked};
 ghost use Rattle.commands.specs.Files.{bytes_of};
 
 use crate::fault::ProgramFault;
-use crate::files::{Folder, read_file, read_image, read_table};
+use crate::files::{Folder, read_file, read_image, table_of};
 use crate::running::ProgramMachine;
 use crate::writing::Writing;
 use debugger::{Session, talk};
@@ -19,26 +19,13 @@ use sim_run::Schedule;
 use std::alloc::Global;
 use std::io::{Read, Write};
 use symbols::Symbols;
+use word_cap::WordCap;
 
 /// Steps from one byte to the next where no other number is asked for.
 const GAP: u64 = 1000;
 
 /// Steps from one tick to the next.
 const TICK: u64 = 100;
-
-/// The labels of the file `symbols`, or none where no file is named.
-pub fn table_of<'a, F: Folder>(
-    alloc: Global,
-    folder: &F,
-    symbols: Option<&'a str>,
-) -> Result<Symbols, ProgramFault<'a>>
-    ensures { IfOk result (λ table. IsTable symbols.entry (F.files folder.now) table) }
-{
-    match symbols {
-        Some(name) => read_table(alloc, folder, name),
-        None => Ok(Symbols::new(alloc)),
-    }
-}
 
 /// The bytes of the file `keys`, or none where no file is named.
 fn keys_of<'a, F: Folder>(
@@ -69,6 +56,21 @@ fn schedule_asked(is_typed: bool, gap: Option<u64>, tick: Option<u64>) -> Option
     None
 }
 
+/// Talks with a session: commands from `input`, replies to `output`, which is handed back.
+fn talk_with<'a, I: Read + Drop, O: Write + Drop>(
+    session: &mut Session<WordCap>,
+    input: I,
+    output: O,
+) -> Result<O, ProgramFault<'a>>
+    ensures { IfOk result (λ out. IfSome (I.remaining input) (λ typed. Appends (O.contents output) (O.contents out)
+        (conversation (heard typed) session.old))) }
+{
+    let mut source = FromRead::new(input);
+    let mut sink = Writing::new(output);
+    talk(session, &mut source, &mut sink)?;
+    Ok(sink.into_inner())
+}
+
 /// Debugs an image: commands from `input`, which may name the labels of a table, replies to `output`, which is handed back.
 fn debug_image<'a, I: Read + Drop, O: Write + Drop>(
     alloc: Global,
@@ -85,10 +87,7 @@ fn debug_image<'a, I: Read + Drop, O: Write + Drop>(
 {
     let machine: ProgramMachine = Machine::new(alloc, &image)?;
     let mut session = Session::with_past(alloc, machine, image, table, schedule, keys);
-    let mut source = FromRead::new(input);
-    let mut sink = Writing::new(output);
-    talk(&mut session, &mut source, &mut sink)?;
-    Ok(sink.into_inner())
+    talk_with(&mut session, input, output)
 }
 
 /// Debugs the image of a file: commands from `input`, which may name the labels of the file `symbols` if there is one, replies to

@@ -6,7 +6,7 @@ ghost use Rattle.std.specs.Io.KnownBytes.{Consumes, IsAtEnd};
 ghost use Rattle.image.specs.Grammar.{spelling, reading};
 ghost use Rattle.symbols.specs.Symbols.{faulty_line, symbols_of};
 ghost use Rattle.commands.specs.Beginnings.{IsLineFault};
-ghost use Rattle.commands.specs.Files.{File, begun, ended, whole, Gains, IsNew, IsOfSystem, IsImageFault, IsTableFault, bytes_of};
+ghost use Rattle.commands.specs.Files.{File, begun, ended, whole, Gains, IsNew, IsOfSystem, IsImageFault, IsTable, IsTableFault, bytes_of};
 ghost use Rattle.commands.specs.Overwriting.{Sameness};
 
 use crate::fault::{ProgramFault, opening_fault, reading_fault};
@@ -298,5 +298,19 @@ pub fn read_table<'a, F: Folder>(
         Ok(table) => Ok(table),
         Err(SymbolsFault::Line(number)) => Err(ProgramFault::Symbols(name, number)),
         Err(SymbolsFault::Memory) => Err(ProgramFault::Memory),
+    }
+}
+
+/// The labels of the file `symbols`, or none where no file is named.
+pub fn table_of<'a, F: Folder>(
+    alloc: Global,
+    folder: &F,
+    symbols: Option<&'a str>,
+) -> Result<Symbols, ProgramFault<'a>>
+    ensures { IfOk result (λ table. IsTable symbols.entry (F.files folder.now) table) }
+{
+    match symbols {
+        Some(name) => read_table(alloc, folder, name),
+        None => Ok(Symbols::new(alloc)),
     }
 }

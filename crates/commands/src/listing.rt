@@ -5,14 +5,14 @@ ghost use Rattle.std.specs.Option.{option_copied};
 ghost use Rattle.std.specs.Io.Buffered.{writer_contents};
 ghost use Rattle.std.specs.Io.KnownBytes.{Appends, Keeps};
 ghost use Rattle.commands.specs.Files.{bytes_of, IsOfSystem, IsSourceFault};
-ghost use Rattle.commands.specs.Listing.{ListsFile, lines_of, listing_of};
+ghost use Rattle.commands.specs.Listing.{ListsFile, listing_of};
+ghost use Rattle.image_listing.specs.Listing.{listing_by};
 
 use crate::fault::ProgramFault;
 use crate::files::{Folder, read_image, read_table};
 use crate::writing::Writing;
 use image::{DeviceFailed, Image, Sink};
-use image_listing::{list_named, put_header};
-use sim_run::list;
+use image_listing::{list, list_named, put_header};
 use std::alloc::Global;
 use std::io::{BufWriter, Write};
 use symbols::Symbols;
@@ -24,7 +24,7 @@ fn put_lines<W: Sink>(
     sink: &mut W,
 ) -> Result<(), DeviceFailed>
     requires { W.failed sink.old < 2 ^ 64 - 1 }
-    ensures { OnOk result (Appends (W.held sink.old) (W.held sink.new) (lines_of (option_copied table.entry) image.now)) }
+    ensures { OnOk result (Appends (W.held sink.old) (W.held sink.new) (listing_by (option_copied table.entry) image.now)) }
 {
     match table {
         Some(table) => list_named(image, table, sink),

@@ -28,6 +28,7 @@ pub fn overwrites<F: Folder>(folder: &F, plan: Plan<'_>) -> bool
             input,
             output,
             symbols,
+            ..
         } => {
             let text = folder.is_same(output, input);
             let labels = are_same(folder, symbols, Some(input));

@@ -1,6 +1,6 @@
 //! The command `run`, and the run without a command.
 
-ghost use Rattle.std.specs.Prelude.{◌≡◌, ◌≤◌, [], ◌∷◌, IfOk, IfSome, OnOk, is_some, string_bytes};
+ghost use Rattle.std.specs.Prelude.{◌≡◌, ◌≤◌, List, [], ◌∷◌, IfOk, IfSome, OnOk, is_some, string_bytes};
 ghost use Rattle.std.specs.Io.Buffered.{line_writer_contents, writer_contents};
 ghost use Rattle.std.specs.Io.KnownBytes.{Keeps};
 ghost use Rattle.hart.specs.Opening.{opening};
@@ -9,12 +9,13 @@ ghost use Rattle.sim_run.specs.Schedule.{IsRunnable, steps_in};
 ghost use Rattle.sim_run.specs.Stopped.{IsPlaceOf};
 ghost use Rattle.sim_run.specs.Stopping.{events_before};
 ghost use Rattle.sim_run.specs.Trace.{lines_past, trace_text};
+ghost use Rattle.symbols.specs.Symbols.{Symbol};
 ghost use Rattle.commands.specs.Files.{Closes, Gains, IsNew, begun, bytes_of, whole};
-ghost use Rattle.commands.specs.Running.{HasEnded, IsTyped, Meets, Runs, RunsFile, Traces};
+ghost use Rattle.commands.specs.Running.{HasEnded, IsTyped, Meets, Runs, RunsFile, RunsTyped, Traces};
 ghost use Rattle.commands.specs.Running.{events_of, is_told, place_lines, stop_at, stops, trace_of};
 
 use crate::fault::ProgramFault;
-use crate::files::{Folder, make_file, read_beginning, read_image};
+use crate::files::{Folder, make_file, read_beginning, read_image, table_of};
 use crate::writing::{UntilFailure, Writing};
 use command_line::Why;
 use image::{DeviceFailed, Image};
@@ -25,6 +26,7 @@ use sim_run::{
 };
 use std::alloc::{AllocError, Global};
 use std::io::{BufWriter, LineWriter, Write};
+use symbols::Symbols;
 use word_cap::WordCap;
 
 /// Where the first image begins.
@@ -81,6 +83,7 @@ fn is_told(end: End, quiet: bool) -> bool
 fn place(
     alloc: Global,
     image: &Image,
+    table: &Symbols,
     schedule: Schedule,
     input: &[u8],
     stop: Option<u64>,
@@ -90,12 +93,12 @@ fn place(
     requires range { IsRunnable schedule }
     requires state { machine.now ≡ run_after (events_before stop schedule input.now (opening image.now)) (opening image.now) }
     requires steps { steps ≡ steps_in (events_before stop schedule input.now (opening image.now)) }
-    ensures { IfOk result (λ text. string_bytes text ≡ place_lines (is_some stop)
+    ensures { IfOk result (λ text. string_bytes text ≡ place_lines table.now (is_some stop)
         (events_before stop schedule input.now (opening image.now)) (opening image.now)) }
 {
     match stop {
-        Some(_) => stopped_lines(alloc, machine, steps),
-        None => ending_lines(alloc, image, schedule, input, machine, steps),
+        Some(_) => stopped_lines(alloc, table, machine, steps),
+        None => ending_lines(alloc, table, image, schedule, input, machine, steps),
     }
 }
 
@@ -103,6 +106,7 @@ fn place(
 fn ending<'a>(
     alloc: Global,
     image: &Image,
+    table: &Symbols,
     schedule: Schedule,
     input: &[u8],
     stop: Option<u64>,
@@ -115,11 +119,13 @@ fn ending<'a>(
     requires end { ran.end ≡ end_of machine.now }
     requires steps { ran.steps ≡ steps_in (events_before stop schedule input.now (opening image.now)) }
     ensures { IfOk result
-        (HasEnded quiet (is_some stop) (events_before stop schedule input.now (opening image.now)) (opening image.now)) }
+        (HasEnded table.now quiet (is_some stop) (events_before stop schedule input.now (opening image.now)) (opening image.now)) }
 {
     let end = ran.end;
     if is_told(end, quiet) {
-        match place(alloc, image, schedule, input, stop, machine, ran.steps) {
+        match place(
+            alloc, image, table, schedule, input, stop, machine, ran.steps,
+        ) {
             Ok(place) => Ok(Ended { end, place }),
             Err(_) => Err(ProgramFault::Memory),
         }
@@ -159,6 +165,7 @@ fn whole_lines<'a, O: Write + Drop>(
 fn run_machine<'a, O: Write + Drop>(
     alloc: Global,
     image: &Image,
+    table: &Symbols,
     schedule: Schedule,
     input: &[u8],
     stop: Option<u64>,
@@ -167,13 +174,15 @@ fn run_machine<'a, O: Write + Drop>(
 ) -> Result<(Ended, O), ProgramFault<'a>>
     requires range { IsRunnable schedule }
     requires stop { IfSome stop (IsPlaceOf schedule) }
-    ensures { IfOk result (λ done. Meets (is_some stop) (events_before stop schedule input.now (opening image.now)) quiet image.now
-        done.0 (O.contents output) (O.contents done.1)) }
+    ensures { IfOk result (λ done. Meets table.now (is_some stop) (events_before stop schedule input.now (opening image.now)) quiet
+        image.now done.0 (O.contents output) (O.contents done.1)) }
 {
     let mut machine: ProgramMachine = Machine::new(alloc, image)?;
     let mut sink = Writing::new(by_lines(alloc, output)?);
     let ran = run_before(&mut machine, schedule, input, stop, &mut sink)?;
-    let ended = ending(alloc, image, schedule, input, stop, quiet, &machine, ran)?;
+    let ended = ending(
+        alloc, image, table, schedule, input, stop, quiet, &machine, ran,
+    )?;
     Ok((ended, whole_lines(sink.into_inner())?))
 }
 
@@ -220,6 +229,7 @@ fn trace_machine<'a, F: Folder, O: Write + Drop>(
     alloc: Global,
     folder: &mut F,
     image: &Image,
+    table: &Symbols,
     schedule: Schedule,
     input: &[u8],
     stop: Option<u64>,
@@ -230,10 +240,10 @@ fn trace_machine<'a, F: Folder, O: Write + Drop>(
 ) -> Result<(Ended, O), ProgramFault<'a>>
     requires range { IsRunnable schedule }
     requires stop { IfSome stop (IsPlaceOf schedule) }
-    ensures ok { IfOk result (λ done. Meets (is_some stop) (events_before stop schedule input.now (opening image.now)) quiet image.now
-        done.0 (O.contents output) (O.contents done.1)) }
+    ensures ok { IfOk result (λ done. Meets table.now (is_some stop) (events_before stop schedule input.now (opening image.now)) quiet
+        image.now done.0 (O.contents output) (O.contents done.1)) }
     ensures files { OnOk result (Gains (F.files folder.old) (F.files folder.new) (whole trace.entry.now
-        (lines_past skipped 0 (events_before stop schedule input.now (opening image.now)) (opening image.now)))) }
+        (lines_past table.now skipped 0 (events_before stop schedule input.now (opening image.now)) (opening image.now)))) }
 {
     let mut machine: ProgramMachine = Machine::new(alloc, image)?;
     let mut lines = Writing::new(make_trace(alloc, folder, trace)?);
@@ -244,12 +254,15 @@ fn trace_machine<'a, F: Folder, O: Write + Drop>(
         input,
         stop,
         skipped,
+        table,
         &mut sink,
         &mut lines,
     ) {
         Ok(ran) => {
             close_trace(folder, trace, lines.into_inner())?;
-            let ended = ending(alloc, image, schedule, input, stop, quiet, &machine, ran)?;
+            let ended = ending(
+                alloc, image, table, schedule, input, stop, quiet, &machine, ran,
+            )?;
             Ok((ended, sink.into_inner()))
         }
         Err(TraceFault::Output) => {
@@ -276,9 +289,9 @@ fn skipped<'a>(
 ) -> Result<u64, ProgramFault<'a>>
     requires range { IsRunnable schedule }
     requires stop { IfSome stop (IsPlaceOf schedule) }
-    ensures { IfOk result (λ skipped.
-        trace_text kept.from kept.last (events_before stop schedule input.now (opening image.now)) (opening image.now)
-        ≡ lines_past skipped 0 (events_before stop schedule input.now (opening image.now)) (opening image.now)) }
+    ensures { IfOk result (λ skipped. (table : List Symbol)
+        → trace_text table kept.from kept.last (events_before stop schedule input.now (opening image.now)) (opening image.now)
+        ≡ lines_past table skipped 0 (events_before stop schedule input.now (opening image.now)) (opening image.now)) }
 {
     match kept.last {
         None => Ok(kept.from.saturating_sub(1)),
@@ -296,6 +309,7 @@ pub fn run_image<'a, F: Folder, O: Write + Drop>(
     alloc: Global,
     folder: &mut F,
     image: &Image,
+    table: &Symbols,
     schedule: Schedule,
     input: &[u8],
     stop: Option<u64>,
@@ -306,20 +320,20 @@ pub fn run_image<'a, F: Folder, O: Write + Drop>(
 ) -> Result<(Ended, O), ProgramFault<'a>>
     requires range { IsRunnable schedule }
     requires stop { IfSome stop (IsPlaceOf schedule) }
-    ensures ok { IfOk result (λ done. Meets (is_some stop) (events_before stop schedule input.now (opening image.now)) quiet image.now
-        done.0 (O.contents output) (O.contents done.1)) }
+    ensures ok { IfOk result (λ done. Meets table.now (is_some stop) (events_before stop schedule input.now (opening image.now)) quiet
+        image.now done.0 (O.contents output) (O.contents done.1)) }
     ensures files { OnOk result (Traces trace.entry
-        (trace_text kept.from kept.last (events_before stop schedule input.now (opening image.now)) (opening image.now))
+        (trace_text table.now kept.from kept.last (events_before stop schedule input.now (opening image.now)) (opening image.now))
         (F.files folder.old) (F.files folder.new)) }
 {
     match trace {
         Some(name) => {
             let skipped = skipped(alloc, image, schedule, input, stop, kept)?;
             trace_machine(
-                alloc, folder, image, schedule, input, stop, quiet, name, skipped, output,
+                alloc, folder, image, table, schedule, input, stop, quiet, name, skipped, output,
             )
         }
-        None => run_machine(alloc, image, schedule, input, stop, quiet, output),
+        None => run_machine(alloc, image, table, schedule, input, stop, quiet, output),
     }
 }
 
@@ -353,6 +367,7 @@ fn run_to_stop<'a, F: Folder, O: Write + Drop>(
     alloc: Global,
     folder: &mut F,
     image: &Image,
+    table: &Symbols,
     at: Option<StopAt>,
     schedule: Schedule,
     input: &[u8],
@@ -362,13 +377,13 @@ fn run_to_stop<'a, F: Folder, O: Write + Drop>(
     output: O,
 ) -> Result<(Ended, O), ProgramFault<'a>>
     requires { IsRunnable schedule }
-    ensures ok { IfOk result (λ done. Runs at schedule input.now quiet image.now done.0 (O.contents output) (O.contents done.1)) }
+    ensures ok { IfOk result (λ done. Runs table.now at schedule input.now quiet image.now done.0 (O.contents output) (O.contents done.1)) }
     ensures files { OnOk result
-        (Traces trace.entry (trace_of at schedule input.now kept image.now) (F.files folder.old) (F.files folder.new)) }
+        (Traces trace.entry (trace_of table.now at schedule input.now kept image.now) (F.files folder.old) (F.files folder.new)) }
 {
     let stop = stop_of(alloc, image, at, schedule, input)?;
     run_image(
-        alloc, folder, image, schedule, input, stop, quiet, trace, kept, output,
+        alloc, folder, image, table, schedule, input, stop, quiet, trace, kept, output,
     )
 }
 
@@ -389,13 +404,40 @@ pub fn typed<'a, F: Folder>(
     }
 }
 
+/// Runs an image as `run_file` does, with these labels.
+fn run_typed<'a, F: Folder, O: Write + Drop>(
+    alloc: Global,
+    folder: &mut F,
+    image: &Image,
+    table: &Symbols,
+    at: Option<StopAt>,
+    schedule: Schedule,
+    input: Option<&'a str>,
+    quiet: bool,
+    trace: Option<&'a str>,
+    kept: Kept,
+    output: O,
+) -> Result<(Ended, O), ProgramFault<'a>>
+    requires some_step { 1 ≤ schedule.steps }
+    requires range { IsRunnable schedule }
+    ensures { IfOk result (λ done. RunsTyped table.now at schedule input.entry quiet image.now trace.entry kept (F.files folder.old)
+        (F.files folder.new) done.0 (O.contents output) (O.contents done.1)) }
+{
+    let bytes = typed(alloc, folder, schedule, input)?;
+    run_to_stop(
+        alloc, folder, image, table, at, schedule, &bytes, quiet, trace, kept, output,
+    )
+}
+
 /// Runs the image of a file, with the bytes of the file `input` on its console: no more of them are read than the schedule has room for.
 /// It ends before the trap that it is to stop `at`, if any. Where a file `trace` is named, the lines that are `kept` of its steps are
-/// written to it, in blocks of 64 KiB. A run that is `quiet` doesn't say where it ended. Hands the output back.
+/// written to it, in blocks of 64 KiB. Where a file `symbols` is named, its labels stand after the addresses in what is told. A run that
+/// is `quiet` doesn't say where it ended. Hands the output back.
 pub fn run_file<'a, F: Folder, O: Write + Drop>(
     alloc: Global,
     folder: &mut F,
     name: &'a str,
+    symbols: Option<&'a str>,
     at: Option<StopAt>,
     schedule: Schedule,
     input: Option<&'a str>,
@@ -407,14 +449,15 @@ pub fn run_file<'a, F: Folder, O: Write + Drop>(
     requires some_step { 1 ≤ schedule.steps }
     requires range { IsRunnable schedule }
     ensures { IfOk result (λ done. IfSome (bytes_of name.entry.now (F.files folder.old)) (λ bytes.
-        RunsFile at schedule input.entry quiet bytes trace.entry kept (F.files folder.old) (F.files folder.new) done.0
+        RunsFile symbols.entry at schedule input.entry quiet bytes trace.entry kept (F.files folder.old) (F.files folder.new) done.0
         (O.contents output) (O.contents done.1))) }
 {
     let image = read_image(alloc, folder, name)?;
-    let bytes = typed(alloc, folder, schedule, input)?;
-    run_to_stop(
-        alloc, folder, &image, at, schedule, &bytes, quiet, trace, kept, output,
-    )
+    let table = table_of(alloc, folder, symbols)?;
+    let done = run_typed(
+        alloc, folder, &image, &table, at, schedule, input, quiet, trace, kept, output,
+    )?;
+    Ok(done)
 }
 
 /// Runs the first image for its five steps: it sends `A` and halts with 0.
@@ -428,5 +471,6 @@ pub fn run_first<'a, O: Write + Drop>(
         gap: 1000,
         tick: 100,
     };
-    run_machine(alloc, &image, schedule, &[], None, false, output)
+    let table = Symbols::new(alloc);
+    run_machine(alloc, &image, &table, schedule, &[], None, false, output)
 }

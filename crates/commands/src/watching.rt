@@ -16,9 +16,8 @@ ghost use Rattle.sim_run.specs.Stopping.{events_before};
 ghost use Rattle.commands.specs.Files.{IsOfSystem, bytes_of};
 ghost use Rattle.commands.specs.Watching.{IsPolicyFault, IsPolicyOf, IsTextFault, TellsStop, WatchesFile, IsStopOf, IsWatchedRun};
 
-use crate::debugging::table_of;
 use crate::fault::ProgramFault;
-use crate::files::{Folder, read_beginning, read_image};
+use crate::files::{Folder, read_beginning, read_image, table_of};
 use crate::running::{Ended, Kept, ProgramMachine, run_image, typed};
 use breach_texts::{RuleLine, stopped_lines};
 use image::Image;
@@ -175,14 +174,34 @@ fn run_watched<'a, F: Folder, O: Write + Drop>(
         Some(stop) => {
             let number = Some(stop.number);
             let (ended, output) = run_image(
-                alloc, folder, image, schedule, input, number, true, trace, kept, output,
+                alloc,
+                folder,
+                image,
+                watch.table,
+                schedule,
+                input,
+                number,
+                true,
+                trace,
+                kept,
+                output,
             )?;
             let end = ended.end;
             let place = stop.lines;
             Ok((Ended { end, place }, output))
         }
         None => run_image(
-            alloc, folder, image, schedule, input, None, quiet, trace, kept, output,
+            alloc,
+            folder,
+            image,
+            watch.table,
+            schedule,
+            input,
+            None,
+            quiet,
+            trace,
+            kept,
+            output,
         ),
     }
 }

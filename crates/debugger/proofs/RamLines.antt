@@ -20,7 +20,8 @@ byte_step zero address bytes some most = absurd (omega arith)
 byte_step (suc n) address bytes some most = rw (not_none (length bytes) some, less_one n) refl
 
 word_step : (symbols : List Symbol) (mode : Bool) (m : Memory) (n address : ℕ) → 0 < n
-    → word_lines symbols mode m n address ≡ labelled_word symbols mode address (number_at m address 4) ++ word_lines symbols mode m (n - 1) (address + 4)
+    → word_lines symbols mode m n address
+    ≡ labelled_word symbols mode address (number_at m address 4) ++ word_lines symbols mode m (n - 1) (address + 4)
 word_step symbols mode m zero address some = absurd (omega arith)
 word_step symbols mode m (suc n) address some = rw (less_one n) refl
 
@@ -38,7 +39,8 @@ byte_lines_from n address bytes line rest old mid new some most first others one
     (byte_step n address bytes some most)
     (one ∙ ap (λ bs. old ++ byte_line address bs) first) (more ∙ ap (λ bs. mid ++ byte_lines (n - 1) (address + 16) bs) others)
 
-pub word_lines_from : (symbols : List Symbol) (mode : Bool) (m : Memory) (n address word : ℕ) (old mid new : List ℕ) → 0 < n → word ≡ number_at m address 4
+pub word_lines_from : (symbols : List Symbol) (mode : Bool) (m : Memory) (n address word : ℕ) (old mid new : List ℕ)
+    → 0 < n → word ≡ number_at m address 4
     → mid ≡ old ++ labelled_word symbols mode address word → new ≡ mid ++ word_lines symbols mode m (n - 1) (address + 4)
     → new ≡ old ++ word_lines symbols mode m n address
 word_lines_from symbols mode m n address word old mid new some is one more =

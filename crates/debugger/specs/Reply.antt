@@ -158,20 +158,21 @@ taken_back n t = taken_back_in n t.past t
 -- the line of so many events less, and where the machine stands
 abbrev pub back_line : List Symbol → ℕ → State → List ℕ
 back_line symbols n s =
-    codes "events -" ++ decimal n ++ codes " out - pc " ++ labelled symbols (pc_of s) ++ codes " " ++ shown_end s.devices.halted ++ codes "\n"
+    codes "events -" ++ decimal n ++ codes " out - pc " ++ labelled symbols (pc_of s) ++ codes " " ++ shown_end s.devices.halted
+    ++ codes "\n"
 
 abbrev pub count_line : ℕ → List ℕ
 count_line n = codes "events " ++ decimal n ++ codes "\n"
 
 -- what is shown of a past
-unfoldable pub recalled : Recall → PastState → Option ReplayState → List ℕ
-recalled Ago past replay = count_line (count_of past.given)
-recalled (Origin place) past replay = origin_text past replay place
-recalled (Lost place) past replay = lost_text past replay place
+unfoldable pub recalled : List Symbol → Recall → PastState → Option ReplayState → List ℕ
+recalled symbols Ago past replay = count_line (count_of past.given)
+recalled symbols (Origin place) past replay = origin_text symbols past replay place
+recalled symbols (Lost place) past replay = lost_text symbols past replay place
 
-abbrev pub recalled_in : Recall → Option PastState → Option ReplayState → List ℕ
-recalled_in recall (Some past) replay = recalled recall past replay
-recalled_in recall None replay = []
+abbrev pub recalled_in : List Symbol → Recall → Option PastState → Option ReplayState → List ℕ
+recalled_in symbols recall (Some past) replay = recalled symbols recall past replay
+recalled_in symbols recall None replay = []
 
 -- the most events that a search goes through
 abbrev pub most_searched : ℕ
@@ -261,7 +262,8 @@ stops_text stops = flat_map stop_line stops
 -- what a refusal's code means
 abbrev pub code_text : DebugFault → List ℕ
 code_text B1 = codes "B1 no such command, or no word on the line\n"
-code_text B2 = codes "B2 operands of another count, form or range, no such label or past, too much to search, or a line too long or not ASCII\n"
+code_text B2 =
+    codes "B2 operands of another count, form or range, no such label or past, too much to search, or a line too long or not ASCII\n"
 code_text B3 = codes "B3 some byte to be shown lies outside RAM\n"
 code_text B4 = codes "B4 no memory for the reply\n"
 
@@ -304,7 +306,7 @@ abbrev pub answer_to : Command → SessionState → Answer
 answer_to (Gives events) s = told (events_line s.symbols (given_in events s) s.machine)
 answer_to (Shows what) s = told (view_text s.symbols s.stops what s.machine)
 answer_to (Back n) s = told (back_line s.symbols n (taken_back n (timeline_of s)).machine)
-answer_to (Recalls recall) s = told (recalled_in recall s.past s.replay)
+answer_to (Recalls recall) s = told (recalled_in s.symbols recall s.past s.replay)
 answer_to (Sets set) s = told (stops_text (stops_after set s.stops))
 answer_to Quit s = ended
 

@@ -173,7 +173,7 @@ pub(crate) fn answer(
             stops,
             view,
         )?)),
-        Command::Recalls(recall) => Ok(Reply::Text(recalled(alloc, timeline, recall)?)),
+        Command::Recalls(recall) => Ok(Reply::Text(recalled(alloc, timeline, symbols, recall)?)),
         Command::Back(events) => Ok(Reply::Text(told_back(alloc, timeline, symbols, events)?)),
         Command::Sets(set) => Ok(Reply::Text(set_stops(alloc, stops, set)?)),
         Command::Quit => Ok(Reply::Quit),

@@ -59,17 +59,19 @@ fn put_count(text: &mut String, events: u64) -> Result<(), AllocError>
 fn put_recalled(
     text: &mut String,
     alloc: Global,
+    symbols: &Symbols,
     past: &Past,
     replay: Option<&Replay>,
     recall: Recall,
 ) -> Result<(), AllocError>
     requires { IsRecalledThere recall past.now }
-    ensures { OnOk result (string_bytes text.new ≡ string_bytes text.old ++ recalled_text recall past.now (option_copied replay.entry)) }
+    ensures { OnOk result (string_bytes text.new
+        ≡ string_bytes text.old ++ recalled_text symbols.now recall past.now (option_copied replay.entry)) }
 {
     match recall {
         Recall::Ago => put_count(text, past.count()),
-        Recall::Origin(place) => put_origin(text, alloc, past, replay, place),
-        Recall::Lost(place) => put_lost(text, alloc, past, replay, place),
+        Recall::Origin(place) => put_origin(text, alloc, symbols, past, replay, place),
+        Recall::Lost(place) => put_lost(text, alloc, symbols, past, replay, place),
     }
 }
 
@@ -77,16 +79,24 @@ fn put_recalled(
 pub(crate) fn recalled(
     alloc: Global,
     timeline: &Timeline<WordCap>,
+    symbols: &Symbols,
     recall: Recall,
 ) -> Result<String, DebugFault>
     requires limits { IsRecalledWithinLimits recall }
     requires inside { is_outside (Recalls recall) timeline.now.machine ≡ false }
-    ensures text { IfOk result (λ text. string_bytes text ≡ recalled_in recall timeline.now.past timeline.now.replay) }
+    ensures text { IfOk result (λ text. string_bytes text ≡ recalled_in symbols.now recall timeline.now.past timeline.now.replay) }
     ensures err { IfErr result (λ fault. fault ≡ DebugFault.B4) }
 {
     let mut text = String::new(alloc);
     if let Some(past) = &timeline.past {
-        put_recalled(&mut text, alloc, past, timeline.replay.as_ref(), recall)?;
+        put_recalled(
+            &mut text,
+            alloc,
+            symbols,
+            past,
+            timeline.replay.as_ref(),
+            recall,
+        )?;
     }
     Ok(text)
 }

@@ -48,7 +48,8 @@ fn put_store(text: &mut Text, symbols: Option<&Symbols>, store: Store)
 fn put_capability<C: CapRep>(text: &mut Text, symbols: Option<&Symbols>, store: StoreCapability<C>)
     requires { array_string_len text.old + 398 ≤ 544 }
     ensures text { text.new.bytes ≡ text.old.bytes
-        ++ codes "store capability at " ++ labelled (table_of (option_copied symbols.entry)) store.address ++ codes ": " ++ shown_value (C.value store.value) }
+        ++ codes "store capability at " ++ labelled (table_of (option_copied symbols.entry)) store.address
+        ++ codes ": " ++ shown_value (C.value store.value) }
     ensures within { array_string_len text.new ≤ array_string_len text.old + 398 }
 {
     text.push_str("store capability at ");
@@ -61,7 +62,8 @@ fn put_capability<C: CapRep>(text: &mut Text, symbols: Option<&Symbols>, store: 
 fn put_load<C: CapRep>(text: &mut Text, symbols: Option<&Symbols>, load: DeviceLoad<C>)
     requires { array_string_len text.old + 398 ≤ 544 }
     ensures text { text.new.bytes ≡ text.old.bytes
-        ++ spec.written_or (codes "load") load.rd (C.value load.value) ++ codes " from device " ++ labelled (table_of (option_copied symbols.entry)) load.address }
+        ++ spec.written_or (codes "load") load.rd (C.value load.value)
+        ++ codes " from device " ++ labelled (table_of (option_copied symbols.entry)) load.address }
     ensures within { array_string_len text.new ≤ array_string_len text.old + 398 }
 {
     put_written_or(text, "load", load.rd, load.value);
@@ -94,7 +96,8 @@ fn put_link<C: CapRep>(text: &mut Text, symbols: Option<&Symbols>, link: Link<C>
 fn put_enter<C: CapRep>(text: &mut Text, symbols: Option<&Symbols>, enter: Enter<C>)
     requires { array_string_len text.old + 486 ≤ 544 }
     ensures text { text.new.bytes ≡ text.old.bytes
-        ++ spec.written_first enter.rd (C.value enter.link) ++ spec.jump_part (table_of (option_copied symbols.entry)) enter.target ++ codes ", "
+        ++ spec.written_first enter.rd (C.value enter.link)
+        ++ spec.jump_part (table_of (option_copied symbols.entry)) enter.target ++ codes ", "
         ++ spec.value_part (codes "pcc") (at_address (C.value enter.code) enter.target) }
     ensures within { array_string_len text.new ≤ array_string_len text.old + 486 }
 {

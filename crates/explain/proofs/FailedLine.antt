@@ -19,7 +19,8 @@ use Rattle.explain.specs.Asked.{all_conditions, stages_of, stages_unless, word_s
 use Rattle.explain.specs.Text.{condition_line, failed_line, false_line}
 
 -- conditions that hold are passed over
-all-hold : (symbols : List Symbol) (s : State) (cs rest : List Condition) → first_false cs ≡ None → false_line symbols s (cs ++ rest) ≡ false_line symbols s rest
+all-hold : (symbols : List Symbol) (s : State) (cs rest : List Condition) → first_false cs ≡ None
+    → false_line symbols s (cs ++ rest) ≡ false_line symbols s rest
 all-hold symbols s [] rest none = refl
 all-hold symbols s (c ∷ cs) rest none =
     elim c.holds as (λ b. (if b then first_false cs else Some (fault_of c.question)) ≡ None
@@ -36,7 +37,8 @@ none-is (Some x) e = cc
 
 -- a word that is an instruction
 pub failed-insn : (symbols : List Symbol) (word : ℕ) (s : State) (insn : Insn) → insn_of word ≡ Some insn
-    → false_line symbols s (asked (kind_of insn.row) word insn s) ≡ false_line symbols s (all_conditions (word_stages (insn_of word) word s))
+    → false_line symbols s (asked (kind_of insn.row) word insn s)
+    ≡ false_line symbols s (all_conditions (word_stages (insn_of word) word s))
 failed-insn symbols word s insn some = rw some (ap (false_line symbols s) (sym (append-nil (asked (kind_of insn.row) word insn s))))
 
 -- and a word of no row

@@ -54,8 +54,8 @@ none-is : {T : Type 0} (o : Option T) → is_some o ≡ false → o ≡ None
 none-is None e = refl
 none-is (Some x) e = cc
 
-module _ (symbols : List Symbol) (word : ℕ) (s : State) (old between new : List ℕ) (found : Option Insn) (holds : Bool) (same : found ≡ insn_of word)
-    (is : holds ≡ is_some found) (first : between ≡ old ++ stage_text symbols s (decoding holds word)) where
+module _ (symbols : List Symbol) (word : ℕ) (s : State) (old between new : List ℕ) (found : Option Insn) (holds : Bool)
+    (same : found ≡ insn_of word) (is : holds ≡ is_some found) (first : between ≡ old ++ stage_text symbols s (decoding holds word)) where
   pub shown-insn : (insn : Insn) (conditions : List Condition) → found ≡ Some insn
       → conditions ≡ asked (kind_of insn.row) word insn s → new ≡ between ++ stage_text symbols s conditions
       → new ≡ old ++ flat_map (stage_text symbols s) (word_stages (insn_of word) word s)

@@ -17,7 +17,8 @@ use Rattle.steps.specs.declared.effect.Effect.TheVariants.{Nothing}
 use Rattle.tagged_memory.specs.Memory.{number_at}
 use Rattle.steps.specs.Looks.{unless_fault, where_all}
 use Rattle.steps.specs.State.{State, pc_of}
-use Rattle.steps.specs.Step.{asked, does, kind_effect, fetch_asked, word_unless, fetch, decoded_effect, fetched_effect, decided, step_effect}
+use Rattle.steps.specs.Step.{asked, does, kind_effect, fetch_asked, word_unless, fetch, decoded_effect, fetched_effect, decided}
+use Rattle.steps.specs.Step.{step_effect}
 use Rattle.explain.specs.Asked.{word_stages, fetched_stages, stages_unless, stages_of, all_conditions, done_by_insn, done_by_word}
 use Rattle.explain.specs.Asked.{effect_unless, TrapsByItsStages}
 

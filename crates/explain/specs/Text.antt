@@ -152,7 +152,8 @@ unfoldable pub stages_text : List Symbol → State → List ℕ
 stages_text symbols s = flat_map (stage_text symbols s) (stages_of s)
 
 abbrev pub running_text : List Symbol → State → List ℕ
-running_text symbols s = instruction_text symbols s ++ stages_text symbols s ++ codes "effect: " ++ effect_text symbols (step_effect s) ++ codes "\n"
+running_text symbols s =
+    instruction_text symbols s ++ stages_text symbols s ++ codes "effect: " ++ effect_text symbols (step_effect s) ++ codes "\n"
 
 abbrev pub why_unless : List Symbol → Option ℕ → State → List ℕ
 why_unless symbols (Some number) s = codes "halted " ++ decimal number ++ codes "\n"

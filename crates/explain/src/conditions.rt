@@ -35,8 +35,12 @@ fn put_name(text: &mut String, register: u64, cause: CheriCause) -> Result<(), A
     put_register(text, register)
 }
 
-/// Appends the bytes that are asked for, and a capability's bounds, to a text.
-fn put_bounds<C: CapRep>(
+/// Appends the bytes that are asked for, and a capability's bounds, addresses with their labels, to a text.
+///
+/// # Errors
+///
+/// Out of memory.
+pub fn put_bounds<C: CapRep>(
     text: &mut String,
     symbols: &Symbols,
     address: u64,

@@ -8,5 +8,6 @@ pub mod laws;
 mod stages;
 mod why;
 
+pub use conditions::put_bounds;
 pub use failed::put_failed;
 pub use why::put_why;

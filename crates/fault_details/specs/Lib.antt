@@ -1,8 +1,9 @@
 -- What to read
 pub mod Pieces
-pub mod Limits
-pub mod Forms
+pub mod Ranges
+pub mod Found
 pub mod Reasons
+pub mod Underlined
 pub mod Detail
 -- Inner words
-pub mod SeenForm
+pub mod SeenFound

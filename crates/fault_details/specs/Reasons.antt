@@ -1,99 +1,60 @@
--- What the whole text says of a fault: the value of an operand, a name, a distance, why a place is invalid, a range.
-use Rattle.std.specs.Prelude.{ℕ, ◌+◌, ◌-◌, ◌^◌, ◌==◌, Bool, true, false, ◌||◌, nat_lt, if◌then◌else◌, pos, neg_ℤ, ◌-ℤ◌, int_lt, List, []}
-use Rattle.std.specs.Prelude.{◌∷◌, ◌++◌, Option, Some, None, Result, Ok, Err, codes, decimal}
+-- What is said of a fault after its line: what was expected, a value, a distance, why a place is invalid, a range.
+use Rattle.std.specs.Prelude.{ℕ, ◌+◌, ◌-◌, ◌^◌, ◌==◌, nat_lt, if◌then◌else◌, pos, neg_ℤ, ◌-ℤ◌, List, []}
+use Rattle.std.specs.Prelude.{◌∷◌, ◌++◌, Option, Some, None, codes, decimal}
 use Rattle.isa_rows.specs.Line.{line_of}
-use Rattle.asm_lines.specs.declared.fault.LineFault.{LineFault}
+use Rattle.asm_lines.specs.declared.forms.Range.{Range}
+use Rattle.asm_lines.specs.declared.parsed.Directive.TheVariants.{Capability}
+use Rattle.asm_lines.specs.Forms.{Operand, form_of, range, range_of}
 use Rattle.asm_lines.specs.Number.{Expression, expression_of}
 use Rattle.asm_lines.specs.Operand.{wrapped}
+use Rattle.asm_lines.specs.Parts.{Part}
 use Rattle.asm_lines.specs.Statement.{Statement, instruction, setting, contents, Instruction, row, load, Setting, entry, Data, item}
-use Rattle.asm_lines.specs.Statement.{operand_at}
-use Rattle.asm_lines.specs.Text.{pieces_of}
+use Rattle.asm_lines.specs.Statement.{is_word, operand_at}
 use Rattle.assembler.specs.declared.misplaced.Misplaced.{Misplaced}
 use Rattle.assembler.specs.declared.misplaced.Misplaced.TheVariants.{BelowRam, PastRam, Taken, TooManySections, CodeAskew, CapabilityAskew}
 use Rattle.assembler.specs.declared.misplaced.Misplaced.TheVariants.{TooManyCapabilities}
 use Rattle.assembler.specs.declared.values.Worth.{Worth}
-use Rattle.assembler.specs.declared.values.Worth.TheVariants.{Unknown, Beyond, Known}
-use Rattle.asm_lines.specs.declared.parsed.Directive.TheVariants.{Capability}
+use Rattle.assembler.specs.declared.values.Worth.TheVariants.{Known}
 use Rattle.assembler.specs.Faults.{page_count}
 use Rattle.assembler.specs.Standing.{Standing}
-use Rattle.assembler.specs.Values.{value_of, reach_of}
-use Rattle.assembler.specs.Worth.{worth}
+use Rattle.assembler.specs.Values.{reach_of}
 use Rattle.disassembler.specs.Hex.{hex_of}
-use Rattle.fault_details.specs.declared.limits.Range.{Range}
-use Rattle.fault_details.specs.Limits.{range, range_text, bracketed, shown, later}
+use Rattle.fault_details.specs.Found.{worth_of, worth_read}
+use Rattle.fault_details.specs.Ranges.{range_text, bracketed, shown}
 
--- what an expression at the faulty line is worth
-abbrev pub worth_of : Standing → Expression → Worth
-worth_of s e = worth (value_of s.symbols s.assembled.places.place e)
+-- ---- A2: what the mnemonic takes, or, where its operands are right, that it stands elsewhere
 
-abbrev pub worth_read : Standing → Result Expression LineFault → Worth
-worth_read s (Ok e) = worth_of s e
-worth_read s (Err fault) = Unknown
+abbrev pub later_words : List Operand → List ℕ
+later_words [] = []
+later_words (o ∷ os) = (codes ", " ++ o.word) ++ later_words os
 
--- a name, or nothing
-abbrev pub named : Option (List ℕ) → List ℕ
-named None = []
-named (Some name) = name
+abbrev pub operand_words : List Operand → List ℕ
+operand_words [] = codes "no operands"
+operand_words (o ∷ os) = o.word ++ later_words os
 
-abbrev pub name_read : Result Expression LineFault → List ℕ
-name_read (Ok e) = named e.name
-name_read (Err fault) = []
+abbrev pub takes_text : List ℕ → List ℕ
+takes_text word = ((codes " " ++ word) ++ codes " takes ") ++ operand_words (form_of word).operands
 
--- ---- A3: the first operand whose value is out of its range, its value, and the range
+abbrev pub stands_words : List ℕ → List ℕ
+stands_words word = if is_word word (codes ".entry") then codes " stands once" else codes " stands once, before other statements"
 
-abbrev pub is_value_beyond : Range → Worth → Bool
-is_value_beyond r Unknown = false
-is_value_beyond r Beyond = true
-is_value_beyond r (Known value) = int_lt value r.least || int_lt r.most value
+abbrev pub stands_text : List ℕ → List ℕ
+stands_text word = (codes " " ++ word) ++ stands_words word
 
--- (a name that no line defines is A5; a value below -2 ^ 63 or from 2 ^ 64 on has no number to show)
-abbrev pub value_text : Worth → List ℕ
-value_text (Known value) = codes " is " ++ shown value
-value_text other = []
+-- ---- A3: the range of the operand, after its value where that is not written as a number
 
-abbrev pub value_in : Range → Worth → List ℕ → List ℕ
-value_in r w piece = (piece ++ value_text w) ++ range_text r
+abbrev pub range_words : Option (Operand × Part) → List ℕ
+range_words None = []
+range_words (Some found) = codes " " ++ range_text (range_of found.0.written)
 
-abbrev pub value_beyond_text : Standing → List Range → List (List ℕ) → List ℕ
-value_beyond_text s [] pieces = []
-value_beyond_text s (r ∷ rs) [] = []
-value_beyond_text s (r ∷ rs) (piece ∷ pieces) =
-    if is_value_beyond r (worth_read s (expression_of piece)) then value_in r (worth_read s (expression_of piece)) piece
-    else value_beyond_text s (later r rs) pieces
+-- (a value below -2 ^ 63 or from 2 ^ 64 on has no number to show)
+abbrev pub value_text : Range → Worth → List ℕ
+value_text r (Known value) = (codes " is " ++ shown value) ++ bracketed (codes " (") r
+value_text r other = codes " " ++ range_text r
 
--- ---- A5: the name of a statement's only expression, or the first of a list that no line defines
-
-abbrev pub is_unknown : Worth → Bool
-is_unknown Unknown = true
-is_unknown Beyond = false
-is_unknown (Known value) = false
-
-abbrev pub unknown_in : Standing → List (List ℕ) → List ℕ
-unknown_in s [] = []
-unknown_in s (piece ∷ pieces) =
-    if is_unknown (worth_read s (expression_of piece)) then name_read (expression_of piece) else unknown_in s pieces
-
-abbrev pub name_of_expression : Option Expression → List ℕ
-name_of_expression None = []
-name_of_expression (Some e) = named e.name
-
-abbrev pub name_of_instruction : Instruction → List ℕ
-name_of_instruction (row i target) = name_of_expression target
-name_of_instruction (load capability rd value) = named value.name
-
--- (no other setting, and no statement of another kind, has an expression: none has this fault)
-abbrev pub name_of_setting : Setting → List ℕ
-name_of_setting (entry e) = named e.name
-name_of_setting other = []
-
-abbrev pub name_of_data : Standing → Data → List ℕ
-name_of_data s (item d n operands) = unknown_in s (pieces_of operands)
-
-abbrev pub name_of_statement : Standing → Option Statement → List ℕ
-name_of_statement s (Some (instruction i)) = name_of_instruction i
-name_of_statement s (Some (setting t)) = name_of_setting t
-name_of_statement s (Some (contents d)) = name_of_data s d
-name_of_statement s other = []
+abbrev pub value_words : Standing → Option (Operand × Part) → List ℕ
+value_words s None = []
+value_words s (Some found) = value_text (range_of found.0.written) (worth_read s (expression_of found.1.text))
 
 -- ---- A6: how far the target is, and how far the instruction reaches; or the entry, and RAM
 

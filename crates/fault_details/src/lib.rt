@@ -1,10 +1,11 @@
 //! What was read of the line that has an assembler's fault.
 #![tactic(auto)]
 
-mod forms;
-mod limits;
+mod found;
+mod ranges;
 mod reading;
 mod reasons;
 mod text;
+mod underlined;
 
 pub use reading::detail;

@@ -1,244 +1,258 @@
 //! What was read of a faulty line, by the fault's code.
-ghost use Rattle.std.specs.Prelude.{◌≡◌, ◌++◌, IfOk, codes, decimal, length};
-ghost use Rattle.std.specs.Option.{option_copied};
-ghost use Rattle.asm_lines.specs.Line.{line_meaning};
-ghost use Rattle.asm_lines.specs.Text.{pieces_left};
+ghost use Rattle.std.specs.Prelude.{◌≡◌, ◌++◌, IfOk, OnOk};
+ghost use Rattle.asm_lines.specs.Parts.{parts_of};
 ghost use Rattle.assembler.specs.Standing.{standing_of};
-ghost use Rattle.fault_details.specs.Detail.{behind_label, beyond_read, detail_of, foreign_read, line_at, misplaced_read, operands_read};
-ghost use Rattle.fault_details.specs.Detail.{is_A3, out_of_range_read, statement_read, value_beyond_read, written_read};
-ghost use Rattle.fault_details.specs.Reasons.{far_text, inexact_text, name_of_statement, named};
+ghost use Rattle.fault_details.specs.Detail as spec;
+ghost use Rattle.fault_details.specs.Underlined.{underlined};
 
-use crate::forms::{ranges_read, written};
-use crate::limits::push_beyond;
+use crate::found::{Test, first_operand, part_found, statement_part};
 use crate::reasons::{
-    name_of_statement, push_far, push_inexact, push_misplaced, push_value_beyond,
+    push_far, push_inexact, push_misplaced, push_range_words, push_stands, push_takes,
+    push_value_words,
 };
-use crate::text::{first_word, line_at, up_to};
-use asm_lines::{Class, LineFault, parse_line, run_length, trimmed_start};
+use crate::text::line_at;
+use crate::underlined::push_underlined;
+use asm_lines::{Class, LineFault, Part, Parts, parse_line, parts_of, run_length};
 use assembler::{AsmCode, AsmFault, Standing, standing_before_fault};
 use disassembler::hex_digits;
 use itoa::Buffer;
 use std::alloc::{AllocError, Global};
 
-fn behind_label<'a>(label: Option<&[u8]>, text: &'a [u8]) -> &'a [u8]
-    ensures { result.now ≡ behind_label (option_copied label.entry) text.now }
-{
-    match label {
-        Some(name) if name.len() < text.len() => trimmed_start(&text[name.len() + 1..]),
-        Some(_) => &[],
-        None => text,
+/// A line at fault, and where its text stands there.
+#[derive(Clone, Copy)]
+struct Faulty<'a> {
+    standing: &'a Standing,
+    line: &'a [u8],
+    /// How many columns stand before the line where it is shown.
+    indent: usize,
+}
+
+impl Faulty<'_> {
+    /// Appends the line to a text, with carets under the first operand of which the answer is yes.
+    fn push_operand(&self, text: &mut Vec<u8>, test: Test) -> Result<(), AllocError>
+        ensures { OnOk result (text.new.items
+            ≡ text.old.items ++ spec.operand_underlined test self.now.indent self.now.standing.now self.now.line.now) }
+    {
+        let parts = parts_of(self.line);
+        let part = part_found(&parts, &first_operand(test, self.standing, &parts));
+        push_underlined(text, self.indent, self.line, part)
+    }
+
+    /// Appends the line to a text, with carets under its mnemonic.
+    fn push_mnemonic(&self, text: &mut Vec<u8>) -> Result<(), AllocError>
+        ensures { OnOk result (text.new.items
+            ≡ text.old.items ++ underlined self.now.indent self.now.line.now (parts_of self.now.line.now).mnemonic) }
+    {
+        push_underlined(text, self.indent, self.line, parts_of(self.line).mnemonic)
+    }
+
+    fn push_takes(&self, text: &mut Vec<u8>) -> Result<(), AllocError>
+        ensures { OnOk result (text.new.items
+            ≡ text.old.items ++ spec.takes_read self.now.indent self.now.standing.now self.now.line.now) }
+    {
+        self.push_operand(text, Test::IsMalformed)?;
+        push_takes(text, parts_of(self.line).mnemonic.text)
+    }
+
+    fn push_stands(&self, text: &mut Vec<u8>) -> Result<(), AllocError>
+        ensures { OnOk result (text.new.items ≡ text.old.items ++ spec.stands_read self.now.indent self.now.line.now) }
+    {
+        self.push_mnemonic(text)?;
+        push_stands(text, parts_of(self.line).mnemonic.text)
+    }
+
+    /// Appends what the mnemonic takes, or that it stands elsewhere.
+    fn push_malformed(&self, text: &mut Vec<u8>) -> Result<(), AllocError>
+        ensures { OnOk result (text.new.items
+            ≡ text.old.items ++ spec.malformed_read self.now.indent self.now.standing.now self.now.line.now) }
+    {
+        if matches!(parse_line(self.line).fault, Some(LineFault::A2)) {
+            self.push_takes(text)
+        } else {
+            self.push_stands(text)
+        }
+    }
+
+    fn push_number(&self, text: &mut Vec<u8>) -> Result<(), AllocError>
+        ensures { OnOk result (text.new.items
+            ≡ text.old.items ++ spec.number_read self.now.indent self.now.standing.now self.now.line.now) }
+    {
+        self.push_operand(text, Test::IsOutOfRange)?;
+        let parts = parts_of(self.line);
+        push_range_words(
+            text,
+            &first_operand(Test::IsOutOfRange, self.standing, &parts),
+        )
+    }
+
+    fn push_value(&self, text: &mut Vec<u8>) -> Result<(), AllocError>
+        ensures { OnOk result (text.new.items
+            ≡ text.old.items ++ spec.value_read self.now.indent self.now.standing.now self.now.line.now) }
+    {
+        self.push_operand(text, Test::IsBeyond)?;
+        let parts = parts_of(self.line);
+        let found = first_operand(Test::IsBeyond, self.standing, &parts);
+        push_value_words(text, self.standing, &found)
+    }
+
+    /// Appends the operand that is out of range, its value where that isn't written as a number, and the range.
+    fn push_out_of_range(&self, text: &mut Vec<u8>) -> Result<(), AllocError>
+        ensures { OnOk result (text.new.items
+            ≡ text.old.items ++ spec.out_of_range_read self.now.indent self.now.standing.now self.now.line.now) }
+    {
+        if matches!(parse_line(self.line).fault, Some(LineFault::A3)) {
+            self.push_number(text)
+        } else {
+            self.push_value(text)
+        }
+    }
+
+    fn push_label(&self, text: &mut Vec<u8>) -> Result<(), AllocError>
+        ensures { OnOk result (text.new.items ≡ text.old.items ++ underlined self.now.indent self.now.line.now
+            (spec.label_part (parts_of self.now.line.now) (parts_of self.now.line.now).label)) }
+    {
+        let parts = parts_of(self.line);
+        let label = match parts.label {
+            Some(label) => label,
+            None => parts.mnemonic,
+        };
+        push_underlined(text, self.indent, self.line, label)
+    }
+
+    /// Appends how far the target is.
+    fn push_far(&self, text: &mut Vec<u8>) -> Result<(), AllocError>
+        ensures { OnOk result (text.new.items
+            ≡ text.old.items ++ spec.far_read self.now.indent self.now.standing.now self.now.line.now) }
+    {
+        self.push_operand(text, Test::IsExpression)?;
+        text.extend_from_slice(b" ")?;
+        push_far(text, self.standing, &parse_line(self.line).statement)
+    }
+
+    /// Appends why the place of the statement is invalid.
+    fn push_misplaced(&self, text: &mut Vec<u8>) -> Result<(), AllocError>
+        ensures { OnOk result (text.new.items
+            ≡ text.old.items ++ spec.misplaced_read self.now.indent self.now.standing.now self.now.line.now) }
+    {
+        self.push_mnemonic(text)?;
+        text.extend_from_slice(b" ")?;
+        push_misplaced(
+            text,
+            self.standing.place(),
+            self.standing.page_count(),
+            self.standing.misplaced(self.line),
+        )
+    }
+
+    /// Appends the range of the capability, and why bounds are not exactly that.
+    fn push_inexact(&self, text: &mut Vec<u8>) -> Result<(), AllocError>
+        ensures { OnOk result (text.new.items
+            ≡ text.old.items ++ spec.inexact_read self.now.indent self.now.standing.now self.now.line.now) }
+    {
+        push_underlined(
+            text,
+            self.indent,
+            self.line,
+            statement_part(&parts_of(self.line)),
+        )?;
+        text.extend_from_slice(b" ")?;
+        push_inexact(text, self.standing, &parse_line(self.line).statement)
+    }
+
+    /// Appends the first byte that is no part of a text, and its column.
+    fn push_foreign(&self, text: &mut Vec<u8>) -> Result<(), AllocError>
+        ensures { OnOk result (text.new.items ≡ text.old.items ++ spec.foreign_read self.now.line.now) }
+    {
+        let at = run_length(self.line, Class::Plain);
+        let byte = if at < self.line.len() {
+            self.line[at]
+        } else {
+            0
+        };
+        let mut buffer = Buffer::new();
+        text.extend_from_slice(b"0x")?;
+        text.extend_from_slice(hex_digits(u128::from(byte), 2).as_bytes())?;
+        text.extend_from_slice(b" at column ")?;
+        text.extend_from_slice(buffer.format(at as u64 + 1).as_bytes())
+    }
+
+    /// Appends how long the line is.
+    fn push_length(&self, text: &mut Vec<u8>) -> Result<(), AllocError>
+        ensures { OnOk result (text.new.items ≡ text.old.items ++ spec.length_read self.now.line.now) }
+    {
+        let mut buffer = Buffer::new();
+        text.extend_from_slice(buffer.format(self.line.len() as u64).as_bytes())?;
+        text.extend_from_slice(b" bytes")
+    }
+
+    /// Appends what was read for a fault of this code.
+    #[tactic(auto, unfolding(crate::specs::Detail::detail_of))]
+    fn push_detail(&self, text: &mut Vec<u8>, code: AsmCode) -> Result<(), AllocError>
+        ensures { OnOk result (text.new.items
+            ≡ text.old.items ++ spec.detail_of code self.now.indent self.now.standing.now self.now.line.now) }
+    {
+        match code {
+            AsmCode::A1 => self.push_mnemonic(text),
+            AsmCode::A2 => self.push_malformed(text),
+            AsmCode::A3 => self.push_out_of_range(text),
+            AsmCode::A4 => self.push_label(text),
+            AsmCode::A5 => self.push_operand(text, Test::IsUnknown),
+            AsmCode::A6 => self.push_far(text),
+            AsmCode::A7 => self.push_misplaced(text),
+            AsmCode::A8 => self.push_foreign(text),
+            AsmCode::A9 => self.push_length(text),
+            AsmCode::A10 => Ok(()),
+            AsmCode::A11 => self.push_inexact(text),
+        }
     }
 }
 
-/// What a line says after its label, up to a comment.
-#[tactic(auto, unfolding(crate::specs::Detail::statement_read))]
-fn statement_read(line: &[u8]) -> &[u8]
-    ensures { result.now ≡ statement_read line.now }
-{
-    let label = parse_line(line).label;
-    up_to(b'#', behind_label(label, trimmed_start(line)))
-}
-
-/// The operands of a statement, if it has some.
-fn operands_read(statement: &[u8]) -> Option<&[u8]>
-    ensures { pieces_left (option_copied result) ≡ operands_read statement.now }
-{
-    let operands = trimmed_start(&statement[first_word(statement).len()..]);
-    if operands.is_empty() {
-        None
-    } else {
-        Some(operands)
-    }
-}
-
-/// The mnemonic of a line and how it is written.
-fn written_read(alloc: Global, line: &[u8]) -> Result<Vec<u8>, AllocError>
-    ensures { IfOk result (λ text. text.items ≡ written_read line.now) }
-{
-    let is_form = parse_line(line).fault == Some(LineFault::A2);
-    written(alloc, is_form, first_word(statement_read(line)))
-}
-
-/// The first operand whose number is out of range, and that range.
-fn beyond_read(alloc: Global, statement: &[u8]) -> Result<Vec<u8>, AllocError>
-    ensures { IfOk result (λ text. text.items ≡ beyond_read statement.now) }
-{
-    let ranges = ranges_read(alloc, first_word(statement))?;
-    let mut text = Vec::new(alloc);
-    push_beyond(&mut text, &ranges, operands_read(statement))?;
-    Ok(text)
-}
-
-fn label_read(line: &[u8]) -> &[u8]
-    ensures { result.now ≡ named (line_meaning line.now).label }
-{
-    match parse_line(line).label {
-        Some(name) => name,
-        None => &[],
-    }
-}
-
-/// The first operand whose value is out of its range, where the text stands at its line.
-fn value_beyond_at(
+/// What was read of the line at fault where the text stands there.
+fn detail_at(
     alloc: Global,
     standing: &Standing,
-    statement: &[u8],
+    code: AsmCode,
+    line: &[u8],
+    indent: usize,
 ) -> Result<Vec<u8>, AllocError>
-    ensures { IfOk result (λ detail. detail.items ≡ value_beyond_read standing.now statement.now) }
+    ensures { IfOk result (λ detail. detail.items ≡ spec.detail_of code indent standing.now line.now) }
 {
-    let ranges = ranges_read(alloc, first_word(statement))?;
-    let mut detail = Vec::new(alloc);
-    push_value_beyond(&mut detail, standing, &ranges, operands_read(statement))?;
-    Ok(detail)
+    let faulty = Faulty {
+        standing,
+        line,
+        indent,
+    };
+    let mut text = Vec::new(alloc);
+    faulty.push_detail(&mut text, code)?;
+    Ok(text)
 }
 
-/// The first operand whose value is out of its range, its value and that range.
-fn value_beyond_read(alloc: Global, text: &[u8], statement: &[u8]) -> Result<Vec<u8>, AllocError>
-    ensures { IfOk result (λ detail. detail.items ≡ value_beyond_read (standing_of text.now) statement.now) }
+/// What was read of the line at fault, for a fault that `assemble` gave for the text: the line, which `indent` columns stand before, and
+/// on the next line carets under what the fault is about, with what was expected: under the mnemonic of A1; the operand of A2 and
+/// what the mnemonic takes, or that it stands once; the number or value of A3 and its range; the label of A4; the operand of A5 whose
+/// name is unknown; the target of A6, how far it is and the range, or the entry; the mnemonic of A7, its place and why that is invalid;
+/// the operands of A11 and their range. Without the line, byte and column (counted from 1) of A8 and the length of A9; nothing of A10.
+///
+/// # Errors
+///
+/// Out of memory.
+pub fn detail(
+    alloc: Global,
+    text: &[u8],
+    fault: AsmFault,
+    indent: usize,
+) -> Result<Vec<u8>, AllocError>
+    ensures { IfOk result (λ detail. detail.items
+        ≡ spec.detail_of fault.code indent (standing_of text.now) (spec.line_at fault.line text.now)) }
 {
     let standing = standing_before_fault(alloc, text)?;
-    let detail = value_beyond_at(alloc, &standing, statement);
-    drop(standing);
-    detail
-}
-
-/// Whether a number of a line is out of range.
-fn has_number_beyond(line: &[u8]) -> bool
-    ensures { result ≡ is_A3 (line_meaning line.now).fault }
-{
-    matches!(parse_line(line).fault, Some(LineFault::A3))
-}
-
-/// The first operand whose number is out of range, and that range; where the line's numbers are in range, whose value.
-fn out_of_range_read(alloc: Global, text: &[u8], line: &[u8]) -> Result<Vec<u8>, AllocError>
-    ensures { IfOk result (λ detail. detail.items ≡ out_of_range_read (standing_of text.now) line.now) }
-{
-    if has_number_beyond(line) {
-        beyond_read(alloc, statement_read(line))
-    } else {
-        value_beyond_read(alloc, text, statement_read(line))
-    }
-}
-
-/// The name of a line's only expression, or the first of a list that no line defines.
-fn unknown_read(alloc: Global, text: &[u8], line: &[u8]) -> Result<Vec<u8>, AllocError>
-    ensures { IfOk result (λ detail. detail.items ≡ name_of_statement (standing_of text.now) (line_meaning line.now).statement) }
-{
-    let standing = standing_before_fault(alloc, text)?;
-    let name = Vec::from_slice(
+    let detail = detail_at(
         alloc,
-        name_of_statement(&standing, &parse_line(line).statement),
+        &standing,
+        fault.code,
+        line_at(fault.line, text),
+        indent,
     );
     drop(standing);
-    name
-}
-
-/// How far a line's target is, where the text stands at the line.
-fn far_at(alloc: Global, standing: &Standing, line: &[u8]) -> Result<Vec<u8>, AllocError>
-    ensures { IfOk result (λ detail. detail.items ≡ far_text standing.now (line_meaning line.now).statement) }
-{
-    let mut detail = Vec::new(alloc);
-    push_far(&mut detail, standing, &parse_line(line).statement)?;
-    Ok(detail)
-}
-
-/// How far a line's target is.
-fn far_read(alloc: Global, text: &[u8], line: &[u8]) -> Result<Vec<u8>, AllocError>
-    ensures { IfOk result (λ detail. detail.items ≡ far_text (standing_of text.now) (line_meaning line.now).statement) }
-{
-    let standing = standing_before_fault(alloc, text)?;
-    let detail = far_at(alloc, &standing, line);
-    drop(standing);
     detail
-}
-
-/// Why the place of a line's statement is invalid, where the text stands at the line.
-fn misplaced_at(alloc: Global, standing: &Standing, line: &[u8]) -> Result<Vec<u8>, AllocError>
-    ensures { IfOk result (λ detail. detail.items ≡ misplaced_read standing.now line.now) }
-{
-    let mut detail = Vec::new(alloc);
-    push_misplaced(
-        &mut detail,
-        standing.place(),
-        standing.page_count(),
-        standing.misplaced(line),
-    )?;
-    Ok(detail)
-}
-
-/// Why the place of a line's statement is invalid.
-fn misplaced_read(alloc: Global, text: &[u8], line: &[u8]) -> Result<Vec<u8>, AllocError>
-    ensures { IfOk result (λ detail. detail.items ≡ misplaced_read (standing_of text.now) line.now) }
-{
-    let standing = standing_before_fault(alloc, text)?;
-    let detail = misplaced_at(alloc, &standing, line);
-    drop(standing);
-    detail
-}
-
-/// The range of a line's capability, where the text stands at the line.
-fn inexact_at(alloc: Global, standing: &Standing, line: &[u8]) -> Result<Vec<u8>, AllocError>
-    ensures { IfOk result (λ detail. detail.items ≡ inexact_text standing.now (line_meaning line.now).statement) }
-{
-    let mut detail = Vec::new(alloc);
-    push_inexact(&mut detail, standing, &parse_line(line).statement)?;
-    Ok(detail)
-}
-
-/// The range of a line's capability, and why bounds are not exactly that.
-fn inexact_read(alloc: Global, text: &[u8], line: &[u8]) -> Result<Vec<u8>, AllocError>
-    ensures { IfOk result (λ detail. detail.items ≡ inexact_text (standing_of text.now) (line_meaning line.now).statement) }
-{
-    let standing = standing_before_fault(alloc, text)?;
-    let detail = inexact_at(alloc, &standing, line);
-    drop(standing);
-    detail
-}
-
-/// The first byte of a line that is no part of a text, and its column.
-fn foreign_read(alloc: Global, line: &[u8]) -> Result<Vec<u8>, AllocError>
-    ensures { IfOk result (λ text. text.items ≡ foreign_read line.now) }
-{
-    let at = run_length(line, Class::Plain);
-    let byte = if at < line.len() { line[at] } else { 0 };
-    let mut buffer = Buffer::new();
-    let mut text = Vec::from_slice(alloc, b"0x")?;
-    text.extend_from_slice(hex_digits(u128::from(byte), 2).as_bytes())?;
-    text.extend_from_slice(b" at column ")?;
-    text.extend_from_slice(buffer.format(at as u64 + 1).as_bytes())?;
-    Ok(text)
-}
-
-/// How long a line is.
-fn length_read(alloc: Global, line: &[u8]) -> Result<Vec<u8>, AllocError>
-    ensures { IfOk result (λ text. text.items ≡ decimal (length line.now) ++ codes " bytes") }
-{
-    let mut buffer = Buffer::new();
-    let mut text = Vec::from_slice(alloc, buffer.format(line.len() as u64).as_bytes())?;
-    text.extend_from_slice(b" bytes")?;
-    Ok(text)
-}
-
-/// What was read of the line at fault, for a fault that `assemble` gave for the text: the mnemonic of A1; that of A2 and what it
-/// takes, or that it stands once; the number or value of A3 and its range; the label of A4; the unknown name of A5; how far the
-/// target of A6 is and the range, or the entry; the place of A7 and why it is invalid; byte and column (counted from 1) of A8; the
-/// length of A9; the range of A11. Nothing of A10.
-#[tactic(auto, unfolding(crate::specs::Detail::detail_of))]
-pub fn detail(alloc: Global, text: &[u8], fault: AsmFault) -> Result<Vec<u8>, AllocError>
-    ensures { IfOk result (λ detail. detail.items ≡ detail_of fault.code (standing_of text.now) (line_at fault.line text.now)) }
-{
-    let line = line_at(fault.line, text);
-    match fault.code {
-        AsmCode::A1 => Vec::from_slice(alloc, first_word(statement_read(line))),
-        AsmCode::A2 => written_read(alloc, line),
-        AsmCode::A3 => out_of_range_read(alloc, text, line),
-        AsmCode::A4 => Vec::from_slice(alloc, label_read(line)),
-        AsmCode::A5 => unknown_read(alloc, text, line),
-        AsmCode::A6 => far_read(alloc, text, line),
-        AsmCode::A7 => misplaced_read(alloc, text, line),
-        AsmCode::A8 => foreign_read(alloc, line),
-        AsmCode::A9 => length_read(alloc, line),
-        AsmCode::A10 => Ok(Vec::new(alloc)),
-        AsmCode::A11 => inexact_read(alloc, text, line),
-    }
 }

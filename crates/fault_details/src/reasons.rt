@@ -1,40 +1,24 @@
-//! What the whole text says of a fault.
-ghost use Rattle.std.specs.Option.{option_copied};
-ghost use Rattle.asm_lines.specs.Text.{pieces_left};
-ghost use Rattle.std.specs.Prelude.{◌≡◌, ◌++◌, ◌<◌, ◌≤◌, ◌^◌, decimal, option_map, OnOk};
-ghost use Rattle.asm_lines.specs.Seen.{seen_data, seen_expression, seen_instruction, seen_result, seen_setting, seen_statement};
+//! What is said of a fault after its line.
+ghost use Rattle.std.specs.Prelude.{◌≡◌, ◌++◌, ◌<◌, ◌≤◌, ◌^◌, decimal, map, option_map, OnOk};
+ghost use Rattle.asm_lines.specs.Seen.{seen_data, seen_expression, seen_instruction, seen_setting, seen_statement};
+ghost use Rattle.asm_lines.specs.Forms.{slot_operand};
+ghost use Rattle.asm_lines.specs.SeenParts.{seen_form, seen_operand};
 ghost use Rattle.disassembler.specs.Hex.{hex_of};
+ghost use Rattle.fault_details.specs.Found.{worth_of};
 ghost use Rattle.fault_details.specs.Reasons as spec;
+ghost use Rattle.fault_details.specs.SeenFound.{seen_found};
 
-use crate::limits::{Range, push_bracketed, push_range, push_shown};
+use crate::found::{Found, worth_read};
+use crate::ranges::{push_bracketed, push_range, push_shown};
 use asm_lines::{
-    Data, Directive, Expression, Instruction, LineFault, Setting, Statement, expression,
-    first_rest, operand_at, split_piece, wrapped,
+    Data, Directive, Expression, Form, Instruction, Operand, Range, Setting, Statement, expression,
+    form_of, is_word, operand_at, slot_word, wrapped,
 };
+use asm_names::Slot;
 use assembler::{Misplaced, Standing, Worth, reach_of};
 use disassembler::hex_digits;
 use itoa::Buffer;
 use std::alloc::AllocError;
-
-/// What an operand is worth; nothing that is no expression is worth anything.
-fn worth_read(standing: &Standing, read: Result<Expression<'_>, LineFault>) -> Worth
-    ensures { result ≡ spec.worth_read standing.now (seen_result read.entry) }
-{
-    match read {
-        Ok(expression) => standing.worth(&expression),
-        Err(_) => Worth::Unknown,
-    }
-}
-
-fn is_value_beyond(range: Range, worth: Worth) -> bool
-    ensures { result ≡ spec.is_value_beyond range worth }
-{
-    match worth {
-        Worth::Unknown => false,
-        Worth::Beyond => true,
-        Worth::Known(value) => value < range.least || range.most < value,
-    }
-}
 
 /// Appends a number that is not below zero to a text.
 fn push_natural(text: &mut Vec<u8>, number: u64) -> Result<(), AllocError>
@@ -52,115 +36,145 @@ fn push_hex(text: &mut Vec<u8>, number: u128, width: usize) -> Result<(), AllocE
     text.extend_from_slice(hex_digits(number, width).as_bytes())
 }
 
-/// Appends an operand, its value and its range to a text.
-fn push_value_in(
-    text: &mut Vec<u8>,
-    range: Range,
-    worth: Worth,
-    piece: &[u8],
-) -> Result<(), AllocError>
-    ensures { OnOk result (text.new.items ≡ text.old.items ++ spec.value_in range worth piece.now) }
+/// Appends the words of a row's operands to a text, each after a comma.
+fn push_later_slots(text: &mut Vec<u8>, slots: &[Slot]) -> Result<(), AllocError>
+    ensures { OnOk result (text.new.items ≡ text.old.items ++ spec.later_words (map slot_operand slots.now)) }
 {
-    text.extend_from_slice(piece)?;
-    if let Worth::Known(value) = worth {
-        text.extend_from_slice(b" is ")?;
-        push_shown(text, value)?;
+    match slots.split_first() {
+        None => Ok(()),
+        Some((slot, later)) => {
+            text.extend_from_slice(b", ")?;
+            text.extend_from_slice(slot_word(*slot).as_bytes())?;
+            push_later_slots(text, later)
+        }
     }
-    push_range(text, range)
 }
 
-/// Appends the first operand whose value is out of its range to a text, its value and the range.
-pub(crate) fn push_value_beyond(
-    text: &mut Vec<u8>,
-    standing: &Standing,
-    ranges: &[Range],
-    operands: Option<&[u8]>,
-) -> Result<(), AllocError>
-    ensures { OnOk result (text.new.items
-        ≡ text.old.items ++ spec.value_beyond_text standing.now ranges.now (pieces_left (option_copied operands.entry))) }
+fn push_slots(text: &mut Vec<u8>, slots: &[Slot]) -> Result<(), AllocError>
+    ensures { OnOk result (text.new.items ≡ text.old.items ++ spec.operand_words (map slot_operand slots.now)) }
 {
-    let Some((range, later)) = ranges.split_first() else {
-        return Ok(());
-    };
-    let Some(left) = operands else {
-        return Ok(());
-    };
-    let (piece, rest) = split_piece(left);
-    let worth = worth_read(standing, expression(piece));
-    if is_value_beyond(*range, worth) {
-        return push_value_in(text, *range, worth, piece);
+    match slots.split_first() {
+        None => text.extend_from_slice(b"no operands"),
+        Some((slot, later)) => {
+            text.extend_from_slice(slot_word(*slot).as_bytes())?;
+            push_later_slots(text, later)
+        }
     }
-    if later.is_empty() {
-        push_value_beyond(text, standing, ranges, rest)
+}
+
+/// Appends the words of other operands to a text, each after a comma.
+fn push_later_operands(text: &mut Vec<u8>, operands: &[Operand]) -> Result<(), AllocError>
+    ensures { OnOk result (text.new.items ≡ text.old.items ++ spec.later_words (map seen_operand operands.now)) }
+{
+    match operands.split_first() {
+        None => Ok(()),
+        Some((operand, later)) => {
+            text.extend_from_slice(b", ")?;
+            text.extend_from_slice(operand.word.as_bytes())?;
+            push_later_operands(text, later)
+        }
+    }
+}
+
+fn push_operands(text: &mut Vec<u8>, operands: &[Operand]) -> Result<(), AllocError>
+    ensures { OnOk result (text.new.items ≡ text.old.items ++ spec.operand_words (map seen_operand operands.now)) }
+{
+    match operands.split_first() {
+        None => text.extend_from_slice(b"no operands"),
+        Some((operand, later)) => {
+            text.extend_from_slice(operand.word.as_bytes())?;
+            push_later_operands(text, later)
+        }
+    }
+}
+
+fn push_form(text: &mut Vec<u8>, form: Form) -> Result<(), AllocError>
+    ensures { OnOk result (text.new.items ≡ text.old.items ++ spec.operand_words (seen_form form).operands) }
+{
+    match form {
+        Form::Slots(slots) => push_slots(text, slots),
+        Form::Listed(operands, _) => push_operands(text, operands),
+    }
+}
+
+/// Appends what a mnemonic takes to a text.
+pub(crate) fn push_takes(text: &mut Vec<u8>, word: &[u8]) -> Result<(), AllocError>
+    ensures { OnOk result (text.new.items ≡ text.old.items ++ spec.takes_text word.now) }
+{
+    text.extend_from_slice(b" ")?;
+    text.extend_from_slice(word)?;
+    text.extend_from_slice(b" takes ")?;
+    push_form(text, form_of(word))
+}
+
+/// Where a statement of these words stands.
+fn stands_words(word: &[u8]) -> &'static str
+    ensures { result.now ≡ spec.stands_words word.now }
+{
+    if is_word(word, ".entry") {
+        " stands once"
     } else {
-        push_value_beyond(text, standing, later, rest)
+        " stands once, before other statements"
     }
 }
 
-/// The name of an expression, or nothing.
-pub(crate) fn name_of<'a>(expression: &Expression<'a>) -> &'a [u8]
-    ensures { result.now ≡ spec.named (seen_expression expression.now).name }
+/// Appends where a statement stands to a text.
+pub(crate) fn push_stands(text: &mut Vec<u8>, word: &[u8]) -> Result<(), AllocError>
+    ensures { OnOk result (text.new.items ≡ text.old.items ++ spec.stands_text word.now) }
 {
-    match expression.name {
-        Some(name) => name,
-        None => &[],
-    }
+    text.extend_from_slice(b" ")?;
+    text.extend_from_slice(word)?;
+    text.extend_from_slice(stands_words(word).as_bytes())
 }
 
-fn name_read<'a>(read: Result<Expression<'a>, LineFault>) -> &'a [u8]
-    ensures { result.now ≡ spec.name_read (seen_result read.entry) }
+/// Appends the range of an operand to a text, if one was found.
+pub(crate) fn push_range_words(
+    text: &mut Vec<u8>,
+    found: &Option<Found<'_>>,
+) -> Result<(), AllocError>
+    ensures { OnOk result (text.new.items ≡ text.old.items ++ spec.range_words (option_map seen_found found.now)) }
 {
-    match read {
-        Ok(expression) => name_of(&expression),
-        Err(_) => &[],
+    match found {
+        None => Ok(()),
+        Some(found) => {
+            text.extend_from_slice(b" ")?;
+            push_range(text, found.operand.written.range())
+        }
     }
 }
 
-/// The name of the first expression of a list that no line defines.
-fn unknown_in<'a>(standing: &Standing, operands: Option<&'a [u8]>) -> &'a [u8]
-    ensures { result.now ≡ spec.unknown_in standing.now (pieces_left (option_copied operands.entry)) }
+/// Appends a value and its range to a text.
+fn push_value(text: &mut Vec<u8>, range: Range, worth: Worth) -> Result<(), AllocError>
+    ensures { OnOk result (text.new.items ≡ text.old.items ++ spec.value_text range worth) }
 {
-    let Some(left) = operands else {
-        return &[];
-    };
-    let (piece, rest) = split_piece(left);
-    match worth_read(standing, expression(piece)) {
-        Worth::Unknown => name_read(expression(piece)),
-        _ => unknown_in(standing, rest),
+    match worth {
+        Worth::Known(value) => {
+            text.extend_from_slice(b" is ")?;
+            push_shown(text, value)?;
+            push_bracketed(text, " (", range)
+        }
+        _ => {
+            text.extend_from_slice(b" ")?;
+            push_range(text, range)
+        }
     }
 }
 
-fn name_of_instruction<'a>(instruction: &Instruction<'a>) -> &'a [u8]
-    ensures { result.now ≡ spec.name_of_instruction (seen_instruction instruction.now) }
-{
-    match instruction {
-        Instruction::Row(_, Some(target)) => name_of(target),
-        Instruction::Row(_, None) => &[],
-        Instruction::Load { value, .. } => name_of(value),
-    }
-}
-
-fn name_of_setting<'a>(setting: &Setting<'a>) -> &'a [u8]
-    ensures { result.now ≡ spec.name_of_setting (seen_setting setting.now) }
-{
-    match setting {
-        Setting::Entry(entry) => name_of(entry),
-        _ => &[],
-    }
-}
-
-/// The name of a statement's only expression, or the first of a list that no line defines.
-pub(crate) fn name_of_statement<'a>(
+/// Appends the value of an operand and its range to a text, if one was found.
+pub(crate) fn push_value_words(
+    text: &mut Vec<u8>,
     standing: &Standing,
-    statement: &Option<Statement<'a>>,
-) -> &'a [u8]
-    ensures { result.now ≡ spec.name_of_statement standing.now (option_map seen_statement statement.now) }
+    found: &Option<Found<'_>>,
+) -> Result<(), AllocError>
+    ensures { OnOk result (text.new.items ≡ text.old.items ++ spec.value_words standing.now (option_map seen_found found.now)) }
 {
-    match statement {
-        Some(Statement::Instruction(instruction)) => name_of_instruction(instruction),
-        Some(Statement::Setting(setting)) => name_of_setting(setting),
-        Some(Statement::Data(data)) => unknown_in(standing, first_rest(data.text)),
-        _ => &[],
+    match found {
+        None => Ok(()),
+        Some(found) => push_value(
+            text,
+            found.operand.written.range(),
+            worth_read(standing, expression(found.part.text)),
+        ),
     }
 }
 
@@ -190,7 +204,7 @@ fn push_distance(
     range: Range,
 ) -> Result<(), AllocError>
     ensures { OnOk result (text.new.items ≡ text.old.items ++ spec.distance_text standing.now.assembled.places.place
-        (spec.worth_of standing.now (seen_expression target.now)) opening.now range) }
+        (worth_of standing.now (seen_expression target.now)) opening.now range) }
 {
     let here = standing.place();
     match standing.worth(target) {

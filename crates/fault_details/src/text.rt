@@ -1,6 +1,6 @@
 //! Lines of a text, and pieces of a line.
 ghost use Rattle.std.specs.Prelude.{◌≡◌};
-ghost use Rattle.fault_details.specs.Detail.{behind_lines, first_word, line_at};
+ghost use Rattle.fault_details.specs.Detail.{after_lines, line_at};
 ghost use Rattle.fault_details.specs.Pieces.{past, up_to};
 
 use asm_lines::{Class, run_length};
@@ -25,8 +25,8 @@ fn past(byte: u8, text: &[u8]) -> &[u8]
 }
 
 /// What stands after so many lines.
-fn behind_lines(count: u64, text: &[u8]) -> &[u8]
-    ensures { result.now ≡ behind_lines count text.now }
+fn after_lines(count: u64, text: &[u8]) -> &[u8]
+    ensures { result.now ≡ after_lines count text.now }
 {
     let mut left = count;
     let mut rest = text;
@@ -41,12 +41,5 @@ fn behind_lines(count: u64, text: &[u8]) -> &[u8]
 pub(crate) fn line_at(number: u64, text: &[u8]) -> &[u8]
     ensures { result.now ≡ line_at number text.now }
 {
-    up_to(b'\n', behind_lines(number.saturating_sub(1), text))
-}
-
-/// A text up to its first white space.
-pub(crate) fn first_word(text: &[u8]) -> &[u8]
-    ensures { result.now ≡ first_word text.now }
-{
-    &text[..run_length(text, Class::Solid)]
+    up_to(b'\n', after_lines(number.saturating_sub(1), text))
 }

@@ -1,1 +1,2 @@
+mod Labels
 mod Listed

@@ -1,3 +1,4 @@
 -- What to read
 pub mod Named
+pub mod Listing
 pub mod Header

@@ -1,10 +1,11 @@
-//! The listing of an image with the names of a table of symbols, and what a listing may begin with.
+//! The listing of an image, with the names of a table of symbols or without, and what a listing may begin with.
 #![tactic(auto)]
 
 mod header;
+pub mod laws;
 mod line;
 mod listing;
 mod target;
 
 pub use header::put_header;
-pub use listing::list_named;
+pub use listing::{list, list_named};

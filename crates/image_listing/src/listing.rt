@@ -1,18 +1,99 @@
-//! The listing of an image, with names.
+//! The listing of an image, with names or without.
 
 ghost use Rattle.std.specs.Prelude.{◌+◌, ◌-◌, ◌*◌, ◌/◌, ◌^◌, ◌<◌, length, take, OnOk, OnErr};
+ghost use Rattle.std.specs.Option.{option_copied};
 ghost use Rattle.std.specs.Io.KnownBytes.{Appends};
 ghost use Rattle.image.specs.Devices.{Counts, AppendsBeginning};
-ghost use Rattle.image_listing.specs.Named.{listing_named, named_bytes, named_from, named_section};
+ghost use Rattle.image_listing.specs.Listing.{byte_lines, lines_from, lines_of_bytes, listing, listing_by, listing_named};
+ghost use Rattle.image_listing.specs.Listing.{section_lines, word_lines};
+ghost use Rattle.image_listing.specs.Named.{before, label_line, label_lines};
 
-use crate::line::{byte_lines, word_lines};
+use crate::line::named_line;
 use byteorder::{ByteOrder, LittleEndian};
+use disassembler::byte_line;
 use image::{DeviceFailed, Image, Section, Sink, write_all};
 use symbols::Symbols;
 
-/// Writes a line for each of the bytes that are left over.
+/// Writes the line of a label.
+fn put_label<W: Sink>(name: &[u8], sink: &mut W) -> Result<(), DeviceFailed>
+    requires { W.failed sink.old < 2 ^ 64 - 1 }
+    ensures ok { OnOk result (Appends (W.held sink.old) (W.held sink.new) (label_line name.now)) }
+    ensures err { OnErr result (AppendsBeginning (W.held sink.old) (W.held sink.new) (label_line name.now)) }
+    ensures count { Counts (W.failed sink.old) (W.failed sink.new) result }
+{
+    write_all(sink, name)?;
+    write_all(sink, b":\n")
+}
+
+/// Writes a line for each label of an address.
+fn put_labels<W: Sink>(symbols: &Symbols, address: u64, sink: &mut W) -> Result<(), DeviceFailed>
+    requires { W.failed sink.old < 2 ^ 64 - 1 }
+    ensures ok { OnOk result (Appends (W.held sink.old) (W.held sink.new) (label_lines symbols.now address)) }
+    ensures err { OnErr result (AppendsBeginning (W.held sink.old) (W.held sink.new) (label_lines symbols.now address)) }
+    ensures count { Counts (W.failed sink.old) (W.failed sink.new) result }
+{
+    let mut names = symbols.names_at(address);
+    while let Some(name) = names.next() {
+        put_label(name, sink)?;
+    }
+    Ok(())
+}
+
+/// Writes what stands before a line at an address: its labels, if there is a table.
+fn put_before<W: Sink>(
+    table: Option<&Symbols>,
+    address: u64,
+    sink: &mut W,
+) -> Result<(), DeviceFailed>
+    requires { W.failed sink.old < 2 ^ 64 - 1 }
+    ensures ok { OnOk result (Appends (W.held sink.old) (W.held sink.new) (before (option_copied table.entry) address)) }
+    ensures err { OnErr result (AppendsBeginning (W.held sink.old) (W.held sink.new) (before (option_copied table.entry) address)) }
+    ensures count { Counts (W.failed sink.old) (W.failed sink.new) result }
+{
+    match table {
+        Some(symbols) => put_labels(symbols, address, sink),
+        None => Ok(()),
+    }
+}
+
+/// Writes the lines of a word.
+fn put_word<W: Sink>(
+    table: Option<&Symbols>,
+    mode: bool,
+    address: u64,
+    word: u32,
+    sink: &mut W,
+) -> Result<(), DeviceFailed>
+    requires { W.failed sink.old < 2 ^ 64 - 1 }
+    ensures ok { OnOk result (Appends (W.held sink.old) (W.held sink.new) (word_lines (option_copied table.entry) mode address word)) }
+    ensures err { OnErr result (AppendsBeginning (W.held sink.old) (W.held sink.new)
+        (word_lines (option_copied table.entry) mode address word)) }
+    ensures count { Counts (W.failed sink.old) (W.failed sink.new) result }
+{
+    put_before(table, address, sink)?;
+    write_all(sink, named_line(table, address, word, mode).as_bytes())
+}
+
+/// Writes the lines of a byte that is no part of a word.
+fn put_byte<W: Sink>(
+    table: Option<&Symbols>,
+    address: u64,
+    byte: u8,
+    sink: &mut W,
+) -> Result<(), DeviceFailed>
+    requires { W.failed sink.old < 2 ^ 64 - 1 }
+    ensures ok { OnOk result (Appends (W.held sink.old) (W.held sink.new) (byte_lines (option_copied table.entry) address byte)) }
+    ensures err { OnErr result (AppendsBeginning (W.held sink.old) (W.held sink.new)
+        (byte_lines (option_copied table.entry) address byte)) }
+    ensures count { Counts (W.failed sink.old) (W.failed sink.new) result }
+{
+    put_before(table, address, sink)?;
+    write_all(sink, byte_line(address, byte).as_bytes())
+}
+
+/// Writes the lines of each of the bytes that are left over.
 fn list_bytes<W: Sink>(
-    symbols: &Symbols,
+    table: Option<&Symbols>,
     address: u64,
     bytes: &[u8],
     sink: &mut W,
@@ -20,22 +101,23 @@ fn list_bytes<W: Sink>(
     requires few { length bytes.now < 4 }
     requires fits { address + length bytes.now < 2 ^ 64 }
     requires failed { W.failed sink.old < 2 ^ 64 - 1 }
-    ensures ok { OnOk result (Appends (W.held sink.old) (W.held sink.new) (named_bytes symbols.now address bytes.now)) }
-    ensures err { OnErr result (AppendsBeginning (W.held sink.old) (W.held sink.new) (named_bytes symbols.now address bytes.now)) }
+    ensures ok { OnOk result (Appends (W.held sink.old) (W.held sink.new) (lines_of_bytes (option_copied table.entry) address bytes.now)) }
+    ensures err { OnErr result (AppendsBeginning (W.held sink.old) (W.held sink.new)
+        (lines_of_bytes (option_copied table.entry) address bytes.now)) }
     ensures count { Counts (W.failed sink.old) (W.failed sink.new) result }
 {
     match bytes {
         [] => Ok(()),
         [first, rest @ ..] => {
-            write_all(sink, byte_lines(symbols, address, *first).as_slice())?;
-            list_bytes(symbols, address + 1, rest, sink)
+            put_byte(table, address, *first, sink)?;
+            list_bytes(table, address + 1, rest, sink)
         }
     }
 }
 
-/// Writes a line for each whole word of the bytes from an address on.
+/// Writes the lines of each whole word of the bytes from an address on.
 fn list_words<W: Sink>(
-    symbols: &Symbols,
+    table: Option<&Symbols>,
     mode: bool,
     address: u64,
     bytes: &[u8],
@@ -43,42 +125,73 @@ fn list_words<W: Sink>(
 ) -> Result<(), DeviceFailed>
     requires fits { address + length bytes.now < 2 ^ 64 }
     requires failed { W.failed sink.old < 2 ^ 64 - 1 }
-    ensures ok { OnOk result (Appends (W.held sink.old) (W.held sink.new)
-        (named_from symbols.now mode address (take (4 * (length bytes.now / 4)) bytes.now))) }
-    ensures err { OnErr result (AppendsBeginning (W.held sink.old) (W.held sink.new) (named_from symbols.now mode address bytes.now)) }
+    ensures ok { OnOk result (Appends (W.held sink.old) (W.held sink.new) (
+        lines_from (option_copied table.entry) mode address (take (4 * (length bytes.now / 4)) bytes.now))) }
+    ensures err { OnErr result (AppendsBeginning (W.held sink.old) (W.held sink.new)
+        (lines_from (option_copied table.entry) mode address bytes.now)) }
     ensures count { Counts (W.failed sink.old) (W.failed sink.new) result }
 {
     for index in 0..bytes.len() / 4 {
         let at = 4 * index;
         let word = LittleEndian::read_u32(&bytes[at..]);
-        let lines = word_lines(symbols, address + at as u64, word, mode);
-        write_all(sink, lines.as_slice())?;
+        put_word(table, mode, address + at as u64, word, sink)?;
     }
     Ok(())
 }
 
 /// Writes the lines of a section: its words, and then the bytes left over.
 fn list_section<W: Sink>(
-    symbols: &Symbols,
+    table: Option<&Symbols>,
     mode: bool,
     section: &Section,
     sink: &mut W,
 ) -> Result<(), DeviceFailed>
     requires fits { section.now.address + length section.now.bytes < 2 ^ 64 }
     requires failed { W.failed sink.old < 2 ^ 64 - 1 }
-    ensures ok { OnOk result (Appends (W.held sink.old) (W.held sink.new) (named_section symbols.now mode section.now)) }
-    ensures err { OnErr result (AppendsBeginning (W.held sink.old) (W.held sink.new) (named_section symbols.now mode section.now)) }
+    ensures ok { OnOk result (Appends (W.held sink.old) (W.held sink.new) (section_lines (option_copied table.entry) mode section.now)) }
+    ensures err { OnErr result (AppendsBeginning (W.held sink.old) (W.held sink.new)
+        (section_lines (option_copied table.entry) mode section.now)) }
     ensures count { Counts (W.failed sink.old) (W.failed sink.new) result }
 {
     let bytes = section.bytes();
     let at = 4 * (bytes.len() / 4);
-    list_words(symbols, mode, section.address(), bytes, sink)?;
-    list_bytes(symbols, section.address() + at as u64, &bytes[at..], sink)
+    list_words(table, mode, section.address(), bytes, sink)?;
+    list_bytes(table, section.address() + at as u64, &bytes[at..], sink)
 }
 
-/// Writes the listing of an image with names: of each section from its first byte on a line for each word, in the image's mode, and for
-/// each of one to three bytes left over. A label stands in a line of its own before the word or byte at its address, and after a
-/// branch or jal the place where it leads, by a name at it or fewer than 4096 bytes below it. It takes no memory.
+/// Writes the listing of an image, with the names of a table if there is one.
+fn list_by<W: Sink>(
+    image: &Image,
+    table: Option<&Symbols>,
+    sink: &mut W,
+) -> Result<(), DeviceFailed>
+    requires { W.failed sink.old < 2 ^ 64 - 1 }
+    ensures ok { OnOk result (Appends (W.held sink.old) (W.held sink.new) (listing_by (option_copied table.entry) image.now)) }
+    ensures err { OnErr result (AppendsBeginning (W.held sink.old) (W.held sink.new) (listing_by (option_copied table.entry) image.now)) }
+    ensures count { Counts (W.failed sink.old) (W.failed sink.new) result }
+{
+    for section in image.sections() {
+        list_section(table, image.mode(), section, sink)?;
+    }
+    Ok(())
+}
+
+/// Writes the listing of an image: of each section from its first byte on a line for each word, in the image's mode, and for
+/// each of one to three bytes left over. It takes no memory.
+///
+/// An Err says that a call of the sink failed: it then holds a beginning of the listing.
+pub fn list<W: Sink>(image: &Image, sink: &mut W) -> Result<(), DeviceFailed>
+    requires { W.failed sink.old < 2 ^ 64 - 1 }
+    ensures ok { OnOk result (Appends (W.held sink.old) (W.held sink.new) (listing image.now)) }
+    ensures err { OnErr result (AppendsBeginning (W.held sink.old) (W.held sink.new) (listing image.now)) }
+    ensures count { Counts (W.failed sink.old) (W.failed sink.new) result }
+{
+    list_by(image, None, sink)
+}
+
+/// Writes the listing of an image with names: before the lines of a word or byte each label of its address in a line of its own, in
+/// the table's order, and after a branch or jal the place where it leads, by a name at it or fewer than 4096 bytes below it. It takes
+/// no memory.
 ///
 /// An Err says that a call of the sink failed: it then holds a beginning of the listing.
 pub fn list_named<W: Sink>(
@@ -91,8 +204,5 @@ pub fn list_named<W: Sink>(
     ensures err { OnErr result (AppendsBeginning (W.held sink.old) (W.held sink.new) (listing_named symbols.now image.now)) }
     ensures count { Counts (W.failed sink.old) (W.failed sink.new) result }
 {
-    for section in image.sections() {
-        list_section(symbols, image.mode(), section, sink)?;
-    }
-    Ok(())
+    list_by(image, Some(symbols), sink)
 }

@@ -9,10 +9,10 @@ use Rattle.origins.specs.declared.search.Found.{Found}
 use Rattle.origins.specs.declared.search.Sought.TheVariants.{Written, Lost}
 use Rattle.past.specs.Given.{PastState}
 use Rattle.past.specs.Replay.{ReplayState}
+use Rattle.symbols.specs.Symbols.{Symbol}
 use Rattle.origin_texts.specs.Link.{link_text}
 use Rattle.origin_texts.specs.Origin.{before, last_among, loss_by, loss_in, loss_text, losses, onward, origin_by, origin_in, origins}
-use Rattle.origin_texts.specs.Origin.{tell_on}
-use Rattle.origin_texts.specs.Origin.{unless_tagged}
+use Rattle.origin_texts.specs.Origin.{tell_on, unless_tagged}
 use Rattle.origin_texts.proofs.Facts.{early}
 
 -- what is told of fewer events
@@ -24,76 +24,79 @@ tell_alike : (tell other : Place → ℕ → List ℕ) (n : ℕ) (from : Option 
 tell_alike tell other n (Some p) m alike few = alike p m few
 tell_alike tell other n None m alike few = refl
 
-module _ (past : PastState) (replay : Option ReplayState) where
+module _ (symbols : List Symbol) (past : PastState) (replay : Option ReplayState) where
   origin_alike : (tell other : Place → ℕ → List ℕ) (place : Place) (n : ℕ) (found : Option Found)
       → last_among past replay Written n place ≡ found → TellAlike tell other n
-      → origin_by past replay tell place found ≡ origin_by past replay other place found
+      → origin_by symbols past replay tell place found ≡ origin_by symbols past replay other place found
   origin_alike tell other place n None e alike = refl
   origin_alike tell other place n (Some found) e alike =
-      ap (λ t. link_text place found (before past replay found) ++ t)
+      ap (λ t. link_text symbols place found (before past replay found) ++ t)
       (tell_alike tell other n (source found.making) found.before alike (early Written place n past replay found e))
 
-  enough : (a b : ℕ) (place : Place) (n : ℕ) → n < a → n < b → origins past replay a place n ≡ origins past replay b place n
+  enough : (a b : ℕ) (place : Place) (n : ℕ) → n < a → n < b
+      → origins symbols past replay a place n ≡ origins symbols past replay b place n
   enough zero b place n few fewer = absurd (omega (arith, few))
   enough (suc a) zero place n few fewer = absurd (omega (arith, fewer))
   enough (suc a) (suc b) place n few fewer =
-      origin_alike (origins past replay a) (origins past replay b) place n (last_among past replay Written n place) refl
+      origin_alike (origins symbols past replay a) (origins symbols past replay b) place n (last_among past replay Written n place) refl
       (λ p m less. enough a b p m (omega (arith, few, less)) (omega (arith, fewer, less)))
 
   -- with as many links as there are events, and one
-  pub as_many : (n : ℕ) (place : Place) (m : ℕ) → m < n → origins past replay n place m ≡ origins past replay (suc m) place m
+  pub as_many : (n : ℕ) (place : Place) (m : ℕ) → m < n
+      → origins symbols past replay n place m ≡ origins symbols past replay (suc m) place m
   as_many n place m few = enough n (suc m) place m few (omega arith)
 
   loss_alike : (tell other : Place → ℕ → List ℕ) (place : Place) (n : ℕ) (found : Option Found)
       → last_among past replay Lost n place ≡ found → TellAlike tell other n
-      → loss_by past replay tell place found ≡ loss_by past replay other place found
+      → loss_by symbols past replay tell place found ≡ loss_by symbols past replay other place found
   loss_alike tell other place n None e alike = refl
   loss_alike tell other place n (Some found) e alike =
-      ap (λ t. loss_text place found (before past replay found) ++ t)
+      ap (λ t. loss_text symbols place found (before past replay found) ++ t)
       (tell_alike tell other n (unless_tagged (before past replay found) (source found.making)) found.before alike
       (early Lost place n past replay found e))
 
-  enough_losses : (a b : ℕ) (place : Place) (n : ℕ) → n < a → n < b → losses past replay a place n ≡ losses past replay b place n
+  enough_losses : (a b : ℕ) (place : Place) (n : ℕ) → n < a → n < b
+      → losses symbols past replay a place n ≡ losses symbols past replay b place n
   enough_losses zero b place n few fewer = absurd (omega (arith, few))
   enough_losses (suc a) zero place n few fewer = absurd (omega (arith, fewer))
   enough_losses (suc a) (suc b) place n few fewer =
-      loss_alike (losses past replay a) (losses past replay b) place n (last_among past replay Lost n place) refl
+      loss_alike (losses symbols past replay a) (losses symbols past replay b) place n (last_among past replay Lost n place) refl
       (λ p m less. enough_losses a b p m (omega (arith, few, less)) (omega (arith, fewer, less)))
 
   pub as_many_losses : (n : ℕ) (place : Place) (m : ℕ) → m < n
-      → losses past replay n place m ≡ losses past replay (suc m) place m
+      → losses symbols past replay n place m ≡ losses symbols past replay (suc m) place m
   as_many_losses n place m few = enough_losses n (suc m) place m few (omega arith)
 
   -- ---- all that is told of a place
 
   abbrev pub all_origins : Place → ℕ → List ℕ
-  all_origins place n = origins past replay (suc n) place n
+  all_origins place n = origins symbols past replay (suc n) place n
 
   abbrev pub all_of_losses : Place → ℕ → List ℕ
-  all_of_losses place n = losses past replay (suc n) place n
+  all_of_losses place n = losses symbols past replay (suc n) place n
 
   told_on : (n : ℕ) (next : Option (Place × ℕ)) → IfSome next (λ p. p.1 < n)
-      → tell_on (origins past replay n) next ≡ tell_on all_origins next
+      → tell_on (origins symbols past replay n) next ≡ tell_on all_origins next
   told_on n (Some p) few = as_many n p.0 p.1 few
   told_on n None few = refl
 
   lost_on : (n : ℕ) (next : Option (Place × ℕ)) → IfSome next (λ p. p.1 < n)
-      → tell_on (losses past replay n) next ≡ tell_on all_of_losses next
+      → tell_on (losses symbols past replay n) next ≡ tell_on all_of_losses next
   lost_on n (Some p) few = as_many_losses n p.0 p.1 few
   lost_on n None few = refl
 
   -- one link more
   pub one_more : (text new all : List ℕ) (place : Place) (n : ℕ) (next : Option (Place × ℕ)) → IfSome next (λ p. p.1 < n)
-      → ((tell : Place → ℕ → List ℕ) → new ++ tell_on tell next ≡ text ++ origin_in past replay tell place n)
+      → ((tell : Place → ℕ → List ℕ) → new ++ tell_on tell next ≡ text ++ origin_in symbols past replay tell place n)
       → text ++ all_origins place n ≡ all → new ++ tell_on all_origins next ≡ all
   one_more text new all place n next few told whole =
-      ap (λ t. new ++ t) (sym (told_on n next few)) ∙ told (origins past replay n) ∙ whole
+      ap (λ t. new ++ t) (sym (told_on n next few)) ∙ told (origins symbols past replay n) ∙ whole
 
   pub one_more_loss : (text new all : List ℕ) (place : Place) (n : ℕ) (next : Option (Place × ℕ)) → IfSome next (λ p. p.1 < n)
-      → ((tell : Place → ℕ → List ℕ) → new ++ tell_on tell next ≡ text ++ loss_in past replay tell place n)
+      → ((tell : Place → ℕ → List ℕ) → new ++ tell_on tell next ≡ text ++ loss_in symbols past replay tell place n)
       → text ++ all_of_losses place n ≡ all → new ++ tell_on all_of_losses next ≡ all
   one_more_loss text new all place n next few told whole =
-      ap (λ t. new ++ t) (sym (lost_on n next few)) ∙ told (losses past replay n) ∙ whole
+      ap (λ t. new ++ t) (sym (lost_on n next few)) ∙ told (losses symbols past replay n) ∙ whole
 
 -- how many events are left to go through, and one
 abbrev pub left : Option (Place × ℕ) → ℕ

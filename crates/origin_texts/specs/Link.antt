@@ -5,9 +5,7 @@ use Rattle.asm_names.specs.SpecialNames.{scr_name}
 use Rattle.cap_bounds.specs.CapValue.{CapValue, is_tagged, is_sealed, value_base, value_top, value_perms}
 use Rattle.debug_commands.specs.declared.command.Place.{Place}
 use Rattle.debug_commands.specs.declared.command.Place.TheVariants.{Register, Special, Granule}
-use Rattle.disassembler.specs.Hex.{hex_of}
 use Rattle.disassembler.specs.Shown.{name_or}
-use Rattle.effect_texts.specs.TraceLine.{trace_line}
 use Rattle.effect_texts.specs.ValueText.{value_line}
 use Rattle.steps.specs.Event.{after}
 use Rattle.steps.specs.State.{State}
@@ -15,12 +13,15 @@ use Rattle.steps.specs.declared.event.Event.TheVariants.{Step}
 use Rattle.origins.specs.Making.{source}
 use Rattle.origins.specs.Places.{held}
 use Rattle.origins.specs.declared.search.Found.{Found}
+use Rattle.symbols.specs.Labels.{labelled}
+use Rattle.symbols.specs.Symbols.{Symbol}
+use Rattle.effect_texts.specs.TraceLine.{trace_line}
 
 -- a place by its name, or a granule by its address
-unfoldable pub place_text : Place → List ℕ
-place_text (Register n) = name_or [] (register_name true n)
-place_text (Special n) = name_or [] (scr_name n)
-place_text (Granule address) = hex_of 16 address
+unfoldable pub place_text : List Symbol → Place → List ℕ
+place_text symbols (Register n) = name_or [] (register_name true n)
+place_text symbols (Special n) = name_or [] (scr_name n)
+place_text symbols (Granule address) = labelled symbols address
 
 -- ---- what was cut
 
@@ -48,20 +49,20 @@ notes v w = if is_tagged v then (if is_tagged w then kept_notes v w else codes "
 -- ---- lines
 
 -- where the value came from that the next step of a state writes at a place
-abbrev pub source_text : Place → Option Place → State → List ℕ
-source_text place None s = codes "no capability"
-source_text place (Some from) s = place_text from ++ notes (held from s) (held place (after Step s))
+abbrev pub source_text : List Symbol → Place → Option Place → State → List ℕ
+source_text symbols place None s = codes "no capability"
+source_text symbols place (Some from) s = place_text symbols from ++ notes (held from s) (held place (after Step s))
 
 -- the line of an event that wrote a place, which is the next step of this state
-unfoldable pub link_text : Place → Found → State → List ℕ
-link_text place found s =
-    place_text place
-    ++ (codes " from " ++ (source_text place (source found.making) s ++ (codes ": " ++ trace_line (found.before + 1) s)))
+unfoldable pub link_text : List Symbol → Place → Found → State → List ℕ
+link_text symbols place found s =
+    place_text symbols place
+    ++ (codes " from " ++ (source_text symbols place (source found.making) s ++ (codes ": " ++ trace_line symbols (found.before + 1) s)))
 
 -- what nothing wrote is as the image has it
 abbrev pub opening_name : Place → List ℕ
 opening_name (Granule address) = codes "image: "
 opening_name other = codes "opening state: "
 
-unfoldable pub opening_text : Place → State → List ℕ
-opening_text place s = opening_name place ++ value_line (place_text place) (held place s)
+unfoldable pub opening_text : List Symbol → Place → State → List ℕ
+opening_text symbols place s = opening_name place ++ value_line (place_text symbols place) (held place s)

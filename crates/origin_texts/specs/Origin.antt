@@ -13,12 +13,13 @@ use Rattle.origins.specs.declared.search.Sought.{Sought}
 use Rattle.origins.specs.declared.search.Sought.TheVariants.{Written, Lost}
 use Rattle.past.specs.Given.{PastState, count_of, past_events, state_at}
 use Rattle.past.specs.Replay.{ReplayState}
+use Rattle.symbols.specs.Symbols.{Symbol}
 use Rattle.origin_texts.specs.Conditions.{condition_lines}
 use Rattle.origin_texts.specs.Link.{link_text, opening_text, place_text}
 
 -- what is told of an event at which a tag went, which is the next step of this state
-abbrev pub loss_text : Place → Found → State → List ℕ
-loss_text place found s = link_text place found s ++ condition_lines s (tag_asked found.making s)
+abbrev pub loss_text : List Symbol → Place → Found → State → List ℕ
+loss_text symbols place found s = link_text symbols place found s ++ condition_lines symbols s (tag_asked found.making s)
 
 -- the source of what is written, if it has no tag
 abbrev pub unless_tagged : State → Option Place → Option Place
@@ -35,9 +36,9 @@ tell_on tell (Some p) = tell p.0 p.1
 tell_on tell None = []
 
 -- that nothing is told of
-abbrev pub or_none : Place → List ℕ → List ℕ
-or_none place [] = codes "no tag was lost at " ++ place_text place ++ codes "\n"
-or_none place (b ∷ bs) = b ∷ bs
+abbrev pub or_none : List Symbol → Place → List ℕ → List ℕ
+or_none symbols place [] = codes "no tag was lost at " ++ place_text symbols place ++ codes "\n"
+or_none symbols place (b ∷ bs) = b ∷ bs
 
 module _ (past : PastState) (replay : Option ReplayState) where
   -- the last of the first n events that does what is sought
@@ -48,15 +49,16 @@ module _ (past : PastState) (replay : Option ReplayState) where
   abbrev pub before : Found → State
   before found = state_at found.before past replay
 
+module _ (symbols : List Symbol) (past : PastState) (replay : Option ReplayState) where
   -- ---- a derivation: a value's source, and the source's source, down to the opening state or to a number
 
   abbrev pub origin_by : (Place → ℕ → List ℕ) → Place → Option Found → List ℕ
-  origin_by tell place None = opening_text place (opening past.image)
+  origin_by tell place None = opening_text symbols place (opening past.image)
   origin_by tell place (Some found) =
-      link_text place found (before found) ++ tell_on tell (onward (source found.making) found.before)
+      link_text symbols place found (before past replay found) ++ tell_on tell (onward (source found.making) found.before)
 
   abbrev pub origin_in : (Place → ℕ → List ℕ) → Place → ℕ → List ℕ
-  origin_in tell place n = origin_by tell place (last_among Written n place)
+  origin_in tell place n = origin_by tell place (last_among past replay Written n place)
 
   -- among the first n events: each link's event comes before that of the link above it, so that n links suffice, and one
   abbrev pub origins : ℕ → Place → ℕ → List ℕ
@@ -72,11 +74,11 @@ module _ (past : PastState) (replay : Option ReplayState) where
   abbrev pub loss_by : (Place → ℕ → List ℕ) → Place → Option Found → List ℕ
   loss_by tell place None = []
   loss_by tell place (Some found) =
-      loss_text place found (before found)
-      ++ tell_on tell (onward (unless_tagged (before found) (source found.making)) found.before)
+      loss_text symbols place found (before past replay found)
+      ++ tell_on tell (onward (unless_tagged (before past replay found) (source found.making)) found.before)
 
   abbrev pub loss_in : (Place → ℕ → List ℕ) → Place → ℕ → List ℕ
-  loss_in tell place n = loss_by tell place (last_among Lost n place)
+  loss_in tell place n = loss_by tell place (last_among past replay Lost n place)
 
   abbrev pub losses : ℕ → Place → ℕ → List ℕ
   losses zero place n = []
@@ -87,4 +89,4 @@ module _ (past : PastState) (replay : Option ReplayState) where
 
   -- where the tag of a place went, and why
   unfoldable pub lost_text : Place → List ℕ
-  lost_text place = or_none place (all_losses place)
+  lost_text place = or_none symbols place (all_losses place)

@@ -17,6 +17,7 @@ use effect_texts::{put, trace_line, value_text};
 use machine::{Machine, Planned};
 use origins::{Found, Making, held};
 use std::alloc::AllocError;
+use symbols::Symbols;
 
 /// Whether a value has another type than what is unsealed.
 fn is_sealed<C: CapRep>(value: C) -> bool
@@ -69,6 +70,7 @@ fn put_notes<C: CapRep>(text: &mut String, from: C, made: C) -> Result<(), Alloc
 /// Appends where the value came from that the machine's next step, which was planned, writes at a place. It is done on the way.
 fn put_source<C: CapRep>(
     text: &mut String,
+    symbols: &Symbols,
     machine: &mut Machine<C>,
     planned: Planned<C>,
     place: Place,
@@ -77,12 +79,12 @@ fn put_source<C: CapRep>(
     requires planned { IsPlanned C.value planned.effect machine.old }
     requires there { IsThere place machine.old }
     requires source { IfSome (source making) (λ from. IsThere from machine.old) }
-    ensures { OnOk result (string_bytes text.new ≡ string_bytes text.old ++ source_text place (source making) machine.old) }
+    ensures { OnOk result (string_bytes text.new ≡ string_bytes text.old ++ source_text symbols.now place (source making) machine.old) }
 {
     let Some(from) = making.source() else {
         return put(text, "no capability");
     };
-    put_place(text, from)?;
+    put_place(text, symbols, from)?;
     let before = held(machine, from);
     machine.apply(planned);
     put_notes(text, before, held(machine, place))
@@ -92,6 +94,7 @@ fn put_source<C: CapRep>(
 #[tactic(auto, unfolding(crate::specs::Link::link_text))]
 pub(crate) fn put_link<C: CapRep>(
     text: &mut String,
+    symbols: &Symbols,
     machine: &mut Machine<C>,
     place: Place,
     found: Found,
@@ -99,23 +102,28 @@ pub(crate) fn put_link<C: CapRep>(
     requires few { found.before < 2 ^ 64 - 1 }
     requires there { IsThere place machine.old }
     requires source { IfSome (source found.making) (λ from. IsThere from machine.old) }
-    ensures { OnOk result (string_bytes text.new ≡ string_bytes text.old ++ link_text place found machine.old) }
+    ensures { OnOk result (string_bytes text.new ≡ string_bytes text.old ++ link_text symbols.now place found machine.old) }
 {
     let planned = machine.next();
-    let line = trace_line(found.before + 1, machine.hart(), &planned);
-    put_place(text, place)?;
+    let line = trace_line(symbols, found.before + 1, machine.hart(), &planned);
+    put_place(text, symbols, place)?;
     put(text, " from ")?;
-    put_source(text, machine, planned, place, found.making)?;
+    put_source(text, symbols, machine, planned, place, found.making)?;
     put(text, ": ")?;
     put(text, line.as_str())
 }
 
 /// Appends a place and what it holds.
-fn put_value<C: CapRep>(text: &mut String, place: Place, value: C) -> Result<(), AllocError>
+fn put_value<C: CapRep>(
+    text: &mut String,
+    symbols: &Symbols,
+    place: Place,
+    value: C,
+) -> Result<(), AllocError>
     requires { IsHolder place }
-    ensures { OnOk result (string_bytes text.new ≡ string_bytes text.old ++ value_line (place_text place) (C.value value)) }
+    ensures { OnOk result (string_bytes text.new ≡ string_bytes text.old ++ value_line (place_text symbols.now place) (C.value value)) }
 {
-    put_place(text, place)?;
+    put_place(text, symbols, place)?;
     put(text, " ")?;
     put(text, value_text(value).as_str())?;
     put(text, "\n")
@@ -135,12 +143,13 @@ fn opening_name(place: Place) -> &'static str
 #[tactic(auto, unfolding(crate::specs::Link::opening_text))]
 pub(crate) fn put_opening<C: CapRep>(
     text: &mut String,
+    symbols: &Symbols,
     machine: &Machine<C>,
     place: Place,
 ) -> Result<(), AllocError>
     requires { IsThere place machine.now }
-    ensures { OnOk result (string_bytes text.new ≡ string_bytes text.old ++ opening_text place machine.now) }
+    ensures { OnOk result (string_bytes text.new ≡ string_bytes text.old ++ opening_text symbols.now place machine.now) }
 {
     put(text, opening_name(place))?;
-    put_value(text, place, held(machine, place))
+    put_value(text, symbols, place, held(machine, place))
 }

@@ -22,6 +22,7 @@ use machine::Machine;
 use origins::{Found, Sought, held, tag_asked};
 use past::{Past, Replay};
 use std::alloc::{AllocError, Global};
+use symbols::Symbols;
 use word_cap::WordCap;
 
 /// The machine of a session as it stood after so many of its events.
@@ -73,6 +74,7 @@ fn onward(source: Option<Place>, before: u64) -> Option<(Place, u64)>
 fn put_next(
     text: &mut String,
     alloc: Global,
+    symbols: &Symbols,
     past: &Past,
     replay: Option<&Replay>,
     place: Place,
@@ -80,15 +82,20 @@ fn put_next(
 ) -> Result<Option<(Place, u64)>, AllocError>
     requires { IsThere place (opening past.now.image) }
     ensures text { IfOk result (λ next. (tell : Place → ℕ → List ℕ) → string_bytes text.new ++ tell_on tell next
-        ≡ string_bytes text.old ++ spec.origin_in past.now (option_copied replay.entry) tell place events) }
+        ≡ string_bytes text.old ++ spec.origin_in symbols.now past.now (option_copied replay.entry) tell place events) }
     ensures there { IfOk result (λ next. IfSome next (λ p. IsThere p.0 (opening past.now.image) × (p.1 < events))) }
 {
     let Some(found) = last_among(alloc, past, replay, Sought::Written, place, events)? else {
-        put_opening(text, &machine_after(alloc, past, replay, 0)?, place)?;
+        put_opening(
+            text,
+            symbols,
+            &machine_after(alloc, past, replay, 0)?,
+            place,
+        )?;
         return Ok(None);
     };
     let mut machine = machine_after(alloc, past, replay, found.before)?;
-    put_link(text, &mut machine, place, found)?;
+    put_link(text, symbols, &mut machine, place, found)?;
     Ok(onward(found.making.source(), found.before))
 }
 
@@ -104,16 +111,18 @@ fn put_next(
 pub fn put_origin(
     text: &mut String,
     alloc: Global,
+    symbols: &Symbols,
     past: &Past,
     replay: Option<&Replay>,
     place: Place,
 ) -> Result<(), AllocError>
     requires { IsThere place (opening past.now.image) }
-    ensures { OnOk result (string_bytes text.new ≡ string_bytes text.old ++ spec.origin_text past.now (option_copied replay.entry) place) }
+    ensures { OnOk result (string_bytes text.new
+        ≡ string_bytes text.old ++ spec.origin_text symbols.now past.now (option_copied replay.entry) place) }
 {
     let mut next = Some((place, past.count()));
     while let Some((place, events)) = next {
-        next = put_next(text, alloc, past, replay, place, events)?;
+        next = put_next(text, alloc, symbols, past, replay, place, events)?;
     }
     Ok(())
 }
@@ -134,6 +143,7 @@ fn untagged_source<C: CapRep>(machine: &Machine<C>, source: Option<Place>) -> Op
 fn put_loss<C: CapRep>(
     text: &mut String,
     alloc: Global,
+    symbols: &Symbols,
     machine: &mut Machine<C>,
     place: Place,
     found: Found,
@@ -141,12 +151,12 @@ fn put_loss<C: CapRep>(
     requires few { found.before < 2 ^ 64 - 1 }
     requires there { IsThere place machine.old }
     requires source { AreThere found.making machine.old }
-    ensures { OnOk result (string_bytes text.new ≡ string_bytes text.old ++ loss_text place found machine.old) }
+    ensures { OnOk result (string_bytes text.new ≡ string_bytes text.old ++ loss_text symbols.now place found machine.old) }
 {
     let asked = tag_asked(alloc, machine, found.making)?;
     let mut conditions = String::new(alloc);
-    put_conditions(&mut conditions, machine, &asked)?;
-    put_link(text, machine, place, found)?;
+    put_conditions(&mut conditions, symbols, machine, &asked)?;
+    put_link(text, symbols, machine, place, found)?;
     put(text, &conditions)
 }
 
@@ -155,6 +165,7 @@ fn put_loss<C: CapRep>(
 fn put_next_loss(
     text: &mut String,
     alloc: Global,
+    symbols: &Symbols,
     past: &Past,
     replay: Option<&Replay>,
     place: Place,
@@ -162,7 +173,7 @@ fn put_next_loss(
 ) -> Result<Option<(Place, u64)>, AllocError>
     requires { IsThere place (opening past.now.image) }
     ensures text { IfOk result (λ next. (tell : Place → ℕ → List ℕ) → string_bytes text.new ++ tell_on tell next
-        ≡ string_bytes text.old ++ spec.loss_in past.now (option_copied replay.entry) tell place events) }
+        ≡ string_bytes text.old ++ spec.loss_in symbols.now past.now (option_copied replay.entry) tell place events) }
     ensures there { IfOk result (λ next. IfSome next (λ p. IsThere p.0 (opening past.now.image) × (p.1 < events))) }
 {
     let Some(found) = last_among(alloc, past, replay, Sought::Lost, place, events)? else {
@@ -170,7 +181,7 @@ fn put_next_loss(
     };
     let mut machine = machine_after(alloc, past, replay, found.before)?;
     let from = untagged_source(&machine, found.making.source());
-    put_loss(text, alloc, &mut machine, place, found)?;
+    put_loss(text, alloc, symbols, &mut machine, place, found)?;
     Ok(onward(from, found.before))
 }
 
@@ -178,16 +189,18 @@ fn put_next_loss(
 fn put_losses(
     text: &mut String,
     alloc: Global,
+    symbols: &Symbols,
     past: &Past,
     replay: Option<&Replay>,
     place: Place,
 ) -> Result<(), AllocError>
     requires { IsThere place (opening past.now.image) }
-    ensures { OnOk result (string_bytes text.new ≡ string_bytes text.old ++ spec.all_losses past.now (option_copied replay.entry) place) }
+    ensures { OnOk result (string_bytes text.new
+        ≡ string_bytes text.old ++ spec.all_losses symbols.now past.now (option_copied replay.entry) place) }
 {
     let mut next = Some((place, past.count()));
     while let Some((place, events)) = next {
-        next = put_next_loss(text, alloc, past, replay, place, events)?;
+        next = put_next_loss(text, alloc, symbols, past, replay, place, events)?;
     }
     Ok(())
 }
@@ -204,19 +217,21 @@ fn put_losses(
 pub fn put_lost(
     text: &mut String,
     alloc: Global,
+    symbols: &Symbols,
     past: &Past,
     replay: Option<&Replay>,
     place: Place,
 ) -> Result<(), AllocError>
     requires { IsThere place (opening past.now.image) }
-    ensures { OnOk result (string_bytes text.new ≡ string_bytes text.old ++ spec.lost_text past.now (option_copied replay.entry) place) }
+    ensures { OnOk result (string_bytes text.new
+        ≡ string_bytes text.old ++ spec.lost_text symbols.now past.now (option_copied replay.entry) place) }
 {
     let mut lines = String::new(alloc);
-    put_losses(&mut lines, alloc, past, replay, place)?;
+    put_losses(&mut lines, alloc, symbols, past, replay, place)?;
     if !lines.is_empty() {
         return put(text, &lines);
     }
     put(text, "no tag was lost at ")?;
-    put_place(text, place)?;
+    put_place(text, symbols, place)?;
     put(text, "\n")
 }

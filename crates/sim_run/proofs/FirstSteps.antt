@@ -18,6 +18,7 @@ use Rattle.sim_run.specs.declared.schedule.Schedule.{Schedule}
 use Rattle.sim_run.specs.declared.traced.TraceFault.{TraceFault}
 use Rattle.sim_run.specs.declared.traced.TraceFault.TheVariants.{Output, Trace}
 use Rattle.sim_run.specs.Schedule.{around, byte_before, is_tick_after, first_steps, is_halted, scheduled, steps_in, up_to_halt, IsCutShort}
+use Rattle.symbols.specs.Symbols.{Symbol}
 use Rattle.sim_run.specs.Trace.{trace_lines, lines_past, trace_text, WasCut}
 use Rattle.sim_run.proofs.Events.{brought, run_after-append, run_sent-append, run_sent-brought, steps_in-append, steps_in-brought}
 use Rattle.sim_run.proofs.Events.{cut_within, ends_at_halt, up_to_halt-append, then_up_to_halt}
@@ -105,12 +106,12 @@ module _ (schedule : Schedule) (input : List ℕ) (m : ℕ) (s : State) where
   all_steps running = ap steps_in (met_all (first_steps schedule input m) s running) ∙ steps_in-first schedule input m
 
   -- none of their lines, where they are left out
-  pub no_lines_of_first : (k : ℕ) (a : Option (List ℕ)) → m ≤ k
-      → Appends a a (lines_past k 0 (up_to_halt (first_steps schedule input m) s) s)
-  no_lines_of_first k a past =
+  pub no_lines_of_first : (symbols : List Symbol) (k : ℕ) (a : Option (List ℕ)) → m ≤ k
+      → Appends a a (lines_past symbols k 0 (up_to_halt (first_steps schedule input m) s) s)
+  no_lines_of_first symbols k a past =
       let few = few_steps in
       subst (Appends a a)
-      (sym (no_lines_past k 0 (up_to_halt (first_steps schedule input m) s) s (omega (arith, few, past)))) (Appends-nil a)
+      (sym (no_lines_past symbols k 0 (up_to_halt (first_steps schedule input m) s) s (omega (arith, few, past)))) (Appends-nil a)
 
   module _ (few : m ≤ schedule.steps) (running : is_halted s ≡ false) where
     pub first_ends : is_halted (run_after (up_to_halt (first_steps schedule input m) s) s) ≡ true
@@ -127,9 +128,10 @@ module _ (schedule : Schedule) (input : List ℕ) (m : ℕ) (s : State) where
         ∙ ap (λ es. up_to_halt es s) (sym (more_follow schedule input m few))
 
     -- the output failed among them
-    pub first_cut : (k : ℕ) (u : State) (a b d : Option (List ℕ)) → m ≤ k
-        → IsCutShort (up_to_halt (first_steps schedule input m) s) s u a b → WasCut Output k 0 (scheduled schedule input s) s u a b d d
-    first_cut k u a b d past cut =
+    pub first_cut : (symbols : List Symbol) (k : ℕ) (u : State) (a b d : Option (List ℕ)) → m ≤ k
+        → IsCutShort (up_to_halt (first_steps schedule input m) s) s u a b
+        → WasCut symbols Output k 0 (scheduled schedule input s) s u a b d d
+    first_cut symbols k u a b d past cut =
         let later = then_up_to_halt (steps_from schedule input m (schedule.steps - m))
         (run_after (up_to_halt (first_steps schedule input m) s) s) in
         let done = cut.done ++ cut.last ∷ [] in
@@ -145,7 +147,7 @@ module _ (schedule : Schedule) (input : List ℕ) (m : ℕ) (s : State) where
           state = cut.state;
           unwritten = cut.unwritten;
           held = cut.held;
-          lines = subst (Appends d d) (sym (no_lines_past k 0 done s (omega (arith, total, few, past)))) (Appends-nil d);
+          lines = subst (Appends d d) (sym (no_lines_past symbols k 0 done s (omega (arith, total, few, past)))) (Appends-nil d);
         }
 
 -- ---- a byte after events
@@ -167,24 +169,26 @@ module _ (xs : List Event) (byte : Option ℕ) (s : State) where
       let none = steps_in-brought byte in
       omega (arith, is, both, none)
 
-  no_lines : (n : ℕ) (byte : Option ℕ) (t : State) → trace_lines n (brought byte) t ≡ []
-  no_lines n None t = refl
-  no_lines n (Some b) t = refl
+  no_lines : (symbols : List Symbol) (n : ℕ) (byte : Option ℕ) (t : State) → trace_lines symbols n (brought byte) t ≡ []
+  no_lines symbols n None t = refl
+  no_lines symbols n (Some b) t = refl
 
-  pub lines-then : (k : ℕ) (a b : Option (List ℕ)) → Appends a b (lines_past k 0 xs s) → Appends a b (lines_past k 0 (xs ++ brought byte) s)
-  lines-then k a b =
+  pub lines-then : (symbols : List Symbol) (k : ℕ) (a b : Option (List ℕ)) → Appends a b (lines_past symbols k 0 xs s)
+      → Appends a b (lines_past symbols k 0 (xs ++ brought byte) s)
+  lines-then symbols k a b =
       subst (Appends a b)
       (ap (λ (lines : List (List ℕ)). concat (drop k lines))
-      (sym (trace_lines-append 0 xs (brought byte) s
-      ∙ ap (λ (more : List (List ℕ)). trace_lines 0 xs s ++ more) (no_lines (0 + steps_in xs) byte (run_after xs s))
-      ∙ append-nil (trace_lines 0 xs s))))
+      (sym (trace_lines-append symbols 0 xs (brought byte) s
+      ∙ ap (λ (more : List (List ℕ)). trace_lines symbols 0 xs s ++ more) (no_lines symbols (0 + steps_in xs) byte (run_after xs s))
+      ∙ append-nil (trace_lines symbols 0 xs s))))
 
   pub cut-then : (u : State) (a b : Option (List ℕ)) → IsCutShort xs s u a b → IsCutShort (xs ++ brought byte) s u a b
   cut-then u a b cut = cut_within [] xs (brought byte) s u a a b (Appends-nil a) cut
 
-  pub traced-then : (k : ℕ) (fault : TraceFault) (u : State) (a b d e : Option (List ℕ)) → WasCut fault k 0 xs s u a b d e
-      → WasCut fault k 0 (xs ++ brought byte) s u a b d e
-  traced-then k Output u a b d e cut = record {
+  pub traced-then : (symbols : List Symbol) (k : ℕ) (fault : TraceFault) (u : State) (a b d e : Option (List ℕ))
+      → WasCut symbols fault k 0 xs s u a b d e
+      → WasCut symbols fault k 0 (xs ++ brought byte) s u a b d e
+  traced-then symbols k Output u a b d e cut = record {
     done = cut.done;
     last = cut.last;
     rest = cut.rest ++ brought byte;
@@ -194,7 +198,7 @@ module _ (xs : List Event) (byte : Option ℕ) (s : State) where
     held = cut.held;
     lines = cut.lines;
   }
-  traced-then k Trace u a b d e cut = record {
+  traced-then symbols k Trace u a b d e cut = record {
     done = cut.done;
     rest = cut.rest ++ brought byte;
     order = ap (λ es. es ++ brought byte) cut.order ∙ append_assoc cut.done (Step ∷ cut.rest) (brought byte);
@@ -222,11 +226,11 @@ ends-running s running = ap ended (sym (not-halted s.devices.halted running))
 
 -- ---- the lines that a trace leaves out
 
-pub last_kept : (from n skipped steps : ℕ) (events : List Event) (s : State) → skipped ≡ max (from - 1) (steps - n)
-    → steps ≡ steps_in events → trace_text from (Some n) events s ≡ lines_past skipped 0 events s
-last_kept from n skipped steps events s is count =
-    let lines = trace_lines 0 events s in
-    let long : length lines ≡ steps = length_lines 0 events s ∙ sym count in
+pub last_kept : (symbols : List Symbol) (from n skipped steps : ℕ) (events : List Event) (s : State) → skipped ≡ max (from - 1) (steps - n)
+    → steps ≡ steps_in events → trace_text symbols from (Some n) events s ≡ lines_past symbols skipped 0 events s
+last_kept symbols from n skipped steps events s is count =
+    let lines = trace_lines symbols 0 events s in
+    let long : length lines ≡ steps = length_lines symbols 0 events s ∙ sym count in
     let left = length-drop (from - 1) lines in
     let place : (from - 1) + (length (drop (from - 1) lines) - n) ≡ skipped = omega (arith, long, left, is) in
     ap concat (drop-drop (length (drop (from - 1) lines) - n) (from - 1) lines ∙ ap (λ k. drop k lines) place)

@@ -24,6 +24,7 @@ use Rattle.explain.specs.Text.{failed_line}
 use Rattle.trap_texts.specs.Text.{trap_text}
 use Rattle.sim_run.specs.declared.schedule.Schedule.{Schedule}
 use Rattle.sim_run.specs.Schedule.{block, first_steps, is_halted, steps_in, up_to_halt}
+use Rattle.symbols.specs.Symbols.{Symbol}
 use Rattle.sim_run.specs.Ending.{first_trap, trap_part}
 use Rattle.sim_run.specs.Unhandled.{Trapped, first_of, after_step, unfetched_in, unhandled, trap_left}
 use Rattle.sim_run.specs.Watched.{trap_in, IsTold}
@@ -134,16 +135,16 @@ module _ (s : State) (running : is_halted s ≡ false) where
   value-left f is = ap (λ (t : State). t.csrs.mtval) (after-trap f is)
 
   -- the trap that is taken, as it is told
-  pub told-trap : (f : Fault) (number : ℕ) → step_effect s ≡ effect.Trap f
-      → codes "; first trap: " ++ trap_part f.mcause f.mtval (pc_of s) ++ codes ", step " ++ decimal number ++ codes "\n"
-      ++ failed_line [] s
-      ≡ first_trap number s
+  pub told-trap : (symbols : List Symbol) (f : Fault) (number : ℕ) → step_effect s ≡ effect.Trap f
+      → codes "; first trap: " ++ trap_part symbols f.mcause f.mtval (pc_of s) ++ codes ", step " ++ decimal number ++ codes "\n"
+      ++ failed_line symbols s
+      ≡ first_trap symbols number s
   unfolding first_trap
-  told-trap f number is =
-      ap (λ c. codes "; first trap: " ++ trap_part c f.mtval (pc_of s) ++ codes ", step " ++ decimal number ++ codes "\n"
-      ++ failed_line [] s) (sym (cause-left f is))
-      ∙ ap (λ v. codes "; first trap: " ++ trap_part (after Step s).csrs.mcause v (pc_of s) ++ codes ", step " ++ decimal number
-      ++ codes "\n" ++ failed_line [] s) (sym (value-left f is))
+  told-trap symbols f number is =
+      ap (λ c. codes "; first trap: " ++ trap_part symbols c f.mtval (pc_of s) ++ codes ", step " ++ decimal number ++ codes "\n"
+      ++ failed_line symbols s) (sym (cause-left f is))
+      ∙ ap (λ v. codes "; first trap: " ++ trap_part symbols (after Step s).csrs.mcause v (pc_of s) ++ codes ", step " ++ decimal number
+      ++ codes "\n" ++ failed_line symbols s) (sym (value-left f is))
 
   pub trap-taken : (number : ℕ) (found : Option Trapped) (f : Fault) → trap_in (step_effect s) ≡ Some f
       → Some (first_of number s found) ≡ after_step number s found
@@ -154,21 +155,22 @@ module _ (s : State) (running : is_halted s ≡ false) where
 
 -- ---- the trap that is left, as it is told
 
-pub told-more : (n : ℕ) (text : List ℕ) (number : ℕ) (s : State) (found : Option Trapped) → IsTold (Some n) text found → (m : ℕ)
-    → m ≡ n + unfetched_in (fetch s) → IsTold (Some m) text (Some (first_of number s found))
-told-more n text number s None told m is = absurd told
-told-more n text number s (Some first) told m is = (is ∙ ap (λ k. k + unfetched_in (fetch s)) told.0, told.1)
+pub told-more : (symbols : List Symbol) (n : ℕ) (text : List ℕ) (number : ℕ) (s : State) (found : Option Trapped)
+    → IsTold symbols (Some n) text found → (m : ℕ) → m ≡ n + unfetched_in (fetch s)
+    → IsTold symbols (Some m) text (Some (first_of number s found))
+told-more symbols n text number s None told m is = absurd told
+told-more symbols n text number s (Some first) told m is = (is ∙ ap (λ k. k + unfetched_in (fetch s)) told.0, told.1)
 
-pub told-first : (number : ℕ) (s : State) (found : Option Trapped) (old new : List ℕ) → IsTold None old found
-    → new ≡ first_trap number s → IsTold (Some 0) new (Some (first_of number s found))
-told-first number s None old new told is = (refl, is)
-told-first number s (Some first) old new told is = absurd told
+pub told-first : (symbols : List Symbol) (number : ℕ) (s : State) (found : Option Trapped) (old new : List ℕ)
+    → IsTold symbols None old found → new ≡ first_trap symbols number s → IsTold symbols (Some 0) new (Some (first_of number s found))
+told-first symbols number s None old new told is = (refl, is)
+told-first symbols number s (Some first) old new told is = absurd told
 
-pub told-none : (unfetched : Option ℕ) (text : List ℕ) (found : Option Trapped) → unfetched ≡ None → IsTold unfetched text found
-    → found ≡ None
-told-none None text None is told = refl
-told-none None text (Some first) is told = absurd told
-told-none (Some n) text found is told = cc
+pub told-none : (symbols : List Symbol) (unfetched : Option ℕ) (text : List ℕ) (found : Option Trapped) → unfetched ≡ None
+    → IsTold symbols unfetched text found → found ≡ None
+told-none symbols None text None is told = refl
+told-none symbols None text (Some first) is told = absurd told
+told-none symbols (Some n) text found is told = cc
 
 -- ---- where PCC is after a trap
 

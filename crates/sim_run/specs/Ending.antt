@@ -1,11 +1,12 @@
--- Where a run ended, for whoever called the program: `cherisim: steps 10000, pcc 0000000080000010`, and after it the trap that nothing
--- handled, or else the last that was taken.
+-- Where a run ended, for whoever called the program: `cherisim: steps 10000, pcc 0000000080000010 <loop+4>`, and after it the trap that
+-- nothing handled, or else the last that was taken. After an address stands its label, where there is a table of symbols.
 use Rattle.std.specs.Prelude.{ℕ, Bool, not, ◌==◌, ◌&&◌, List, [], ◌++◌, Option, Some, None, codes, decimal, if◌then◌else◌}
 use Rattle.cap_bounds.specs.CapValue.{value_address}
-use Rattle.disassembler.specs.Hex.{hex_of}
 use Rattle.steps.specs.declared.event.Event.TheVariants.{Step}
 use Rattle.steps.specs.Event.{after}
 use Rattle.steps.specs.State.{State, pc_of}
+use Rattle.symbols.specs.Symbols.{Symbol}
+use Rattle.symbols.specs.Labels.{labelled}
 use Rattle.trap_texts.specs.Text.{trap_text}
 use Rattle.explain.specs.Text.{failed_line}
 use Rattle.sim_run.specs.Unhandled.{Trapped}
@@ -15,31 +16,31 @@ abbrev pub is_trapped : ℕ → ℕ → Bool
 is_trapped mcause mtval = not ((mcause == 0) && (mtval == 0))
 
 -- a trap in words, and where it was taken
-unfoldable pub trap_part : ℕ → ℕ → ℕ → List ℕ
-trap_part mcause mtval mepc = trap_text mcause mtval ++ codes ", mepc " ++ hex_of 16 mepc
+unfoldable pub trap_part : List Symbol → ℕ → ℕ → ℕ → List ℕ
+trap_part symbols mcause mtval mepc = trap_text mcause mtval ++ codes ", mepc " ++ labelled symbols mepc
 
-unfoldable pub last_trap : State → List ℕ
-last_trap s =
+unfoldable pub last_trap : List Symbol → State → List ℕ
+last_trap symbols s =
     if is_trapped s.csrs.mcause s.csrs.mtval
-    then codes "; last trap: " ++ trap_part s.csrs.mcause s.csrs.mtval (value_address s.scrs.mepcc)
+    then codes "; last trap: " ++ trap_part symbols s.csrs.mcause s.csrs.mtval (value_address s.scrs.mepcc)
     else []
 
 -- the trap of the next step, as it is left in mcause and mtval, with the step's number; and on a line of its own the condition that fails
-unfoldable pub first_trap : ℕ → State → List ℕ
-first_trap number s =
-    codes "; first trap: " ++ trap_part (after Step s).csrs.mcause (after Step s).csrs.mtval (pc_of s) ++ codes ", step "
-    ++ decimal number ++ codes "\n" ++ failed_line [] s
+unfoldable pub first_trap : List Symbol → ℕ → State → List ℕ
+first_trap symbols number s =
+    codes "; first trap: " ++ trap_part symbols (after Step s).csrs.mcause (after Step s).csrs.mtval (pc_of s) ++ codes ", step "
+    ++ decimal number ++ codes "\n" ++ failed_line symbols s
 
 -- how many steps since the first trap were traps of the fetch
 unfoldable pub since_line : ℕ → List ℕ
 since_line n = if n == 0 then [] else codes "  later traps at an entry that can't be fetched: " ++ decimal n ++ codes "\n"
 
 -- the trap that nothing handled; else the last
-abbrev pub trap_lines : Option Trapped → State → List ℕ
-trap_lines (Some first) s = first_trap first.number first.before ++ since_line first.unfetched
-trap_lines None s = last_trap s ++ codes "\n"
+abbrev pub trap_lines : List Symbol → Option Trapped → State → List ℕ
+trap_lines symbols (Some first) s = first_trap symbols first.number first.before ++ since_line first.unfetched
+trap_lines symbols None s = last_trap symbols s ++ codes "\n"
 
 -- how many steps were done, where PCC is, and the trap that matters
-abbrev pub ending_lines : ℕ → Option Trapped → State → List ℕ
-ending_lines steps found s =
-    codes "cherisim: steps " ++ decimal steps ++ codes ", pcc " ++ hex_of 16 (pc_of s) ++ trap_lines found s
+abbrev pub ending_lines : List Symbol → ℕ → Option Trapped → State → List ℕ
+ending_lines symbols steps found s =
+    codes "cherisim: steps " ++ decimal steps ++ codes ", pcc " ++ labelled symbols (pc_of s) ++ trap_lines symbols found s

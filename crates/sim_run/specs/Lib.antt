@@ -5,7 +5,6 @@ pub mod Verdict
 pub mod Unhandled
 pub mod Ending
 pub mod Stopping
-pub mod Listing
 -- Inner words
 pub mod Watched
 pub mod Stopped

@@ -3,13 +3,14 @@ use Rattle.std.specs.Prelude.{ℕ, ◌+◌, ◌-◌, ◌==◌, ◌&&◌, ◌||�
 use Rattle.std.specs.Prelude.{Option, Some, None, codes, decimal}
 use Rattle.base.specs.declared.cause.Cause.TheVariants as cause
 use Rattle.base.specs.Fault.{number_of}
-use Rattle.disassembler.specs.Hex.{hex_of}
 use Rattle.steps.specs.declared.event.Event.{Event}
 use Rattle.steps.specs.declared.event.Event.TheVariants.{Step, Tick, Byte}
 use Rattle.steps.specs.Event.{after, outcome}
 use Rattle.steps.specs.Outcome.{is_trap}
 use Rattle.steps.specs.State.{State, pc_of}
 use Rattle.steps.specs.Step.{fetch}
+use Rattle.symbols.specs.Symbols.{Symbol}
+use Rattle.symbols.specs.Labels.{labelled}
 use Rattle.explain.specs.Text.{why_text}
 use Rattle.sim_run.specs.declared.schedule.Schedule.{Schedule}
 use Rattle.sim_run.specs.declared.stopping.StopAt.{StopAt}
@@ -60,7 +61,7 @@ events_before None schedule input s = scheduled schedule input s
 events_before (Some number) schedule input s =
     up_to_halt (first_steps schedule input (number - 1)) s ++ map Byte (option_to_list (byte_before schedule input number))
 
--- how many steps were done, where PCC is, and what the next step will do, and why
-unfoldable pub stopped_lines : ℕ → State → List ℕ
-stopped_lines steps s =
-    codes "cherisim: steps " ++ decimal steps ++ codes ", pcc " ++ hex_of 16 (pc_of s) ++ codes "\n" ++ why_text [] s
+-- how many steps were done, where PCC is, and what the next step will do, and why; after an address stands its label
+unfoldable pub stopped_lines : List Symbol → ℕ → State → List ℕ
+stopped_lines symbols steps s =
+    codes "cherisim: steps " ++ decimal steps ++ codes ", pcc " ++ labelled symbols (pc_of s) ++ codes "\n" ++ why_text symbols s

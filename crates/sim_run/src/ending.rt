@@ -1,11 +1,11 @@
 //! How a run ended, for whoever called the program.
 
-ghost use Rattle.std.specs.Prelude.{◌≡◌, [], ◌++◌, OnOk, IfOk, Option, codes, decimal, false, string_bytes};
+ghost use Rattle.std.specs.Prelude.{◌≡◌, ◌++◌, OnOk, IfOk, Option, codes, decimal, false, string_bytes};
 ghost use Rattle.cap_bounds.specs.CapValue.{value_address};
-ghost use Rattle.disassembler.specs.Hex.{hex_of};
 ghost use Rattle.steps.specs.State.{pc_of};
 ghost use Rattle.steps.specs.Step.{step_effect};
 ghost use Rattle.steps.specs.declared.effect.Effect.TheVariants.{Trap};
+ghost use Rattle.symbols.specs.Labels.{labelled};
 ghost use Rattle.explain.specs.Text.{failed_line};
 ghost use Rattle.hart.specs.Opening.{opening};
 ghost use Rattle.machine.specs.Run.{run_after};
@@ -21,7 +21,7 @@ use arrayvec::ArrayString;
 use base::{Fault, csr, scr};
 use cap_bounds::CapRep;
 use disassembler::hex_digits;
-use effect_texts::{put, put_decimal, put_hex};
+use effect_texts::{put, put_decimal, put_labelled};
 use explain::put_failed;
 use image::Image;
 use itoa::Buffer;
@@ -98,66 +98,88 @@ fn is_trapped(mcause: u64, mtval: u64) -> bool
 }
 
 /// A trap in words, and where it was taken.
-#[tactic(auto, unfolding(crate::specs::Ending::trap_part))]
-fn trap_part(mcause: u64, mtval: u64, mepc: u64) -> ArrayString<192>
-    ensures { result.bytes ≡ trap_part mcause mtval mepc }
+#[tactic(auto, unfolding(crate::specs::Ending::trap_part, symbols::specs::Labels::labelled))]
+fn trap_part(symbols: &Symbols, mcause: u64, mtval: u64, mepc: u64) -> ArrayString<480>
+    ensures { result.bytes ≡ trap_part symbols.now mcause mtval mepc }
 {
     let mut part = ArrayString::new();
     part.push_str(trap_text(mcause, mtval).as_str());
     part.push_str(", mepc ");
     part.push_str(hex_digits(u128::from(mepc), 16).as_str());
+    part.push_str(symbols.label_of(mepc).as_str());
     part
 }
 
 /// Appends the last trap to a text, where one was taken.
 #[tactic(auto, unfolding(crate::specs::Ending::last_trap))]
-fn put_last_trap<C: CapRep>(text: &mut String, machine: &Machine<C>) -> Result<(), AllocError>
-    ensures { OnOk result (string_bytes text.new ≡ string_bytes text.old ++ last_trap machine.now) }
+fn put_last_trap<C: CapRep>(
+    text: &mut String,
+    symbols: &Symbols,
+    machine: &Machine<C>,
+) -> Result<(), AllocError>
+    ensures { OnOk result (string_bytes text.new ≡ string_bytes text.old ++ last_trap symbols.now machine.now) }
 {
     let mcause = mcause(machine);
     let mtval = mtval(machine);
     if is_trapped(mcause, mtval) {
         put(text, "; last trap: ")?;
-        put(text, trap_part(mcause, mtval, mepc(machine)).as_str())
+        put(
+            text,
+            trap_part(symbols, mcause, mtval, mepc(machine)).as_str(),
+        )
     } else {
         put(text, "")
     }
 }
 
 /// Appends a trap, where it was taken and the number of its step to a text.
-fn put_trap(text: &mut String, fault: Fault, mepc: u64, number: u64) -> Result<(), AllocError>
+fn put_trap(
+    text: &mut String,
+    symbols: &Symbols,
+    fault: Fault,
+    mepc: u64,
+    number: u64,
+) -> Result<(), AllocError>
     ensures { OnOk result (string_bytes text.new ≡ string_bytes text.old
-        ++ (codes "; first trap: " ++ trap_part fault.mcause fault.mtval mepc ++ codes ", step " ++ decimal number ++ codes "\n")) }
+        ++ (codes "; first trap: " ++ trap_part symbols.now fault.mcause fault.mtval mepc ++ codes ", step " ++ decimal number
+        ++ codes "\n")) }
 {
     put(text, "; first trap: ")?;
-    put(text, trap_part(fault.mcause, fault.mtval, mepc).as_str())?;
+    put(
+        text,
+        trap_part(symbols, fault.mcause, fault.mtval, mepc).as_str(),
+    )?;
     put(text, ", step ")?;
     put_decimal(text, number)?;
     put(text, "\n")
 }
 
 /// Appends the line of the condition that fails at the next step to a text, where one does.
-fn put_condition<C: CapRep>(text: &mut String, machine: &Machine<C>) -> Result<(), AllocError>
-    ensures { OnOk result (string_bytes text.new ≡ string_bytes text.old ++ failed_line [] machine.now) }
+fn put_condition<C: CapRep>(
+    text: &mut String,
+    symbols: &Symbols,
+    machine: &Machine<C>,
+) -> Result<(), AllocError>
+    ensures { OnOk result (string_bytes text.new ≡ string_bytes text.old ++ failed_line symbols.now machine.now) }
 {
-    let symbols = Symbols::new(*text.allocator());
-    put_failed(text, &symbols, machine.hart())
+    put_failed(text, symbols, machine.hart())
 }
 
 /// Appends the trap of the next step, which was planned, to a text: with the step's number and, on a line of its own, the condition that
 /// fails.
 pub(crate) fn put_first_trap<C: CapRep>(
     text: &mut String,
+    symbols: &Symbols,
     machine: &Machine<C>,
     number: u64,
     fault: Fault,
 ) -> Result<(), AllocError>
     requires running { is_halted machine.now ≡ false }
     requires traps { step_effect machine.now ≡ Trap fault }
-    ensures { OnOk result (string_bytes text.new ≡ string_bytes text.old ++ first_trap number machine.now) }
+    ensures { OnOk result (string_bytes text.new ≡ string_bytes text.old ++ first_trap symbols.now number machine.now) }
 {
-    put_trap(text, fault, pc(machine), number)?;
-    put_condition(text, machine)
+    put_trap(text, symbols, fault, pc(machine), number)?;
+    put_condition(text, symbols, machine)
 }
 
 /// Appends how many steps since the first trap were traps of the fetch to a text.
@@ -173,30 +195,32 @@ fn put_since(text: &mut String, count: u64) -> Result<(), AllocError>
     put(text, "\n")
 }
 
-/// Appends how many steps were done and where PCC is to a text.
+/// Appends how many steps were done and where PCC is to a text; after its address stands its label.
 pub fn put_place<C: CapRep>(
     text: &mut String,
+    symbols: &Symbols,
     machine: &Machine<C>,
     steps: u64,
 ) -> Result<(), AllocError>
     ensures { OnOk result (string_bytes text.new ≡ string_bytes text.old
-        ++ (codes "cherisim: steps " ++ decimal steps ++ codes ", pcc " ++ hex_of 16 (pc_of machine.now))) }
+        ++ (codes "cherisim: steps " ++ decimal steps ++ codes ", pcc " ++ labelled symbols.now (pc_of machine.now))) }
 {
     put(text, "cherisim: steps ")?;
     put_decimal(text, steps)?;
     put(text, ", pcc ")?;
-    put_hex(text, 16, u128::from(pc(machine)))
+    put_labelled(text, symbols, pc(machine))
 }
 
 /// Appends the trap that matters to a text: the first that nothing handled, with what was found of it, or else the last.
 fn put_trap_lines<C: CapRep>(
     text: &mut String,
+    symbols: &Symbols,
     machine: &Machine<C>,
     unfetched: Option<u64>,
     first: &str,
 ) -> Result<(), AllocError>
-    ensures { OnOk result ((found : Option Trapped) → IsTold unfetched first.now found
-        → string_bytes text.new ≡ string_bytes text.old ++ trap_lines found machine.now) }
+    ensures { OnOk result ((found : Option Trapped) → IsTold symbols.now unfetched first.now found
+        → string_bytes text.new ≡ string_bytes text.old ++ trap_lines symbols.now found machine.now) }
 {
     match unfetched {
         Some(count) => {
@@ -204,7 +228,7 @@ fn put_trap_lines<C: CapRep>(
             put_since(text, count)
         }
         None => {
-            put_last_trap(text, machine)?;
+            put_last_trap(text, symbols, machine)?;
             put(text, "\n")
         }
     }
@@ -212,13 +236,15 @@ fn put_trap_lines<C: CapRep>(
 
 /// The lines for standard error that say where a run of an image on a schedule ended: how many steps were done, where PCC is, and the
 /// trap that nothing handled, with its cause, what mtval says of it, the address where it was, the condition that failed, and how often
-/// the fetch of the trap's entry trapped later. Where every trap was handled it is the last of them, where one was taken.
+/// the fetch of the trap's entry trapped later. Where every trap was handled it is the last of them, where one was taken. After an
+/// address stands its label.
 ///
 /// # Errors
 ///
 /// Out of memory: the run is done again step by step where a trap may be left.
 pub fn ending_lines<C: CapRep>(
     alloc: Global,
+    symbols: &Symbols,
     image: &Image,
     schedule: Schedule,
     input: &[u8],
@@ -228,12 +254,12 @@ pub fn ending_lines<C: CapRep>(
     requires range { IsRunnable schedule }
     requires ended { machine.now ≡ run_after (scheduled schedule input.now (opening image.now)) (opening image.now) }
     ensures { IfOk result (λ text. string_bytes text
-        ≡ ending_lines steps (trap_left (scheduled schedule input.now (opening image.now)) (opening image.now)) machine.now) }
+        ≡ ending_lines symbols.now steps (trap_left (scheduled schedule input.now (opening image.now)) (opening image.now)) machine.now) }
 {
     let mut first = String::new(alloc);
-    let unfetched = trap_left(alloc, image, schedule, input, machine, &mut first)?;
+    let unfetched = trap_left(alloc, symbols, image, schedule, input, machine, &mut first)?;
     let mut text = String::new(alloc);
-    put_place(&mut text, machine, steps)?;
-    put_trap_lines(&mut text, machine, unfetched, &first)?;
+    put_place(&mut text, symbols, machine, steps)?;
+    put_trap_lines(&mut text, symbols, machine, unfetched, &first)?;
     Ok(text)
 }

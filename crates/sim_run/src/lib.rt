@@ -1,9 +1,8 @@
-//! A machine that is run on a schedule, and the listing of an image.
+//! A machine that is run on a schedule.
 #![tactic(auto)]
 
 mod before;
 mod ending;
-mod listing;
 mod run;
 mod schedule;
 mod stopping;
@@ -12,7 +11,6 @@ mod unhandled;
 
 pub use before::{count_steps, lines_skipped, run_before, run_traced_before};
 pub use ending::{ending_lines, put_place, verdict};
-pub use listing::list;
 pub use run::{Ran, run_counted, run_scheduled};
 pub use schedule::Schedule;
 pub use stopping::{StopAt, find_stop, stopped_lines};

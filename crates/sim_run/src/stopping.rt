@@ -110,7 +110,7 @@ pub fn find_stop<C: CapRep>(
 }
 
 /// The lines for standard error that say where a run ended before a step that traps: how many steps were done, where PCC is, and what
-/// the next step will do, and why.
+/// the next step will do, and why. After an address stands its label.
 ///
 /// # Errors
 ///
@@ -118,14 +118,15 @@ pub fn find_stop<C: CapRep>(
 #[tactic(auto, unfolding(crate::specs::Stopping::stopped_lines))]
 pub fn stopped_lines<C: CapRep>(
     alloc: Global,
+    symbols: &Symbols,
     machine: &Machine<C>,
     steps: u64,
 ) -> Result<String, AllocError>
-    ensures { IfOk result (λ text. string_bytes text ≡ stopped_lines steps machine.now) }
+    ensures { IfOk result (λ text. string_bytes text ≡ stopped_lines symbols.now steps machine.now) }
 {
     let mut text = String::new(alloc);
-    put_place(&mut text, machine, steps)?;
+    put_place(&mut text, symbols, machine, steps)?;
     put(&mut text, "\n")?;
-    put_why(&mut text, &Symbols::new(alloc), machine.hart())?;
+    put_why(&mut text, symbols, machine.hart())?;
     Ok(text)
 }

@@ -15,6 +15,7 @@ use cap_bounds::CapRep;
 use effect_texts::trace_line;
 use image::{Sink, write_all};
 use machine::{End, Machine};
+use symbols::Symbols;
 
 /// Which sink of a traced run failed.
 #[derive(Clone, Copy, Debug, PartialEq, Eq)]
@@ -29,6 +30,7 @@ pub enum TraceFault {
 fn meet_step<C: CapRep, W: Sink, T: Sink>(
     machine: &mut Machine<C>,
     before: u64,
+    symbols: &Symbols,
     sink: &mut W,
     trace: &mut T,
 ) -> Result<(), TraceFault>
@@ -37,13 +39,13 @@ fn meet_step<C: CapRep, W: Sink, T: Sink>(
     requires trace { T.failed trace.old < 2 ^ 64 - 1 }
     ensures state { OnOk result (machine.new ≡ after Step machine.old) }
     ensures bytes { OnOk result (Appends (W.held sink.old) (W.held sink.new) (option_to_list (sent Step machine.old))) }
-    ensures lines { OnOk result (Appends (T.held trace.old) (T.held trace.new) (trace_line_of (before + 1) machine.old)) }
-    ensures cut { IfErr result (λ fault. WasCut fault 0 before (Step ∷ []) machine.old machine.new (W.held sink.old) (W.held sink.new)
-        (T.held trace.old) (T.held trace.new)) }
+    ensures lines { OnOk result (Appends (T.held trace.old) (T.held trace.new) (trace_line_of symbols.now (before + 1) machine.old)) }
+    ensures cut { IfErr result (λ fault. WasCut symbols.now fault 0 before (Step ∷ []) machine.old machine.new (W.held sink.old)
+        (W.held sink.new) (T.held trace.old) (T.held trace.new)) }
     ensures count { CountsTraced result (W.failed sink.old) (W.failed sink.new) (T.failed trace.old) (T.failed trace.new) }
 {
     let planned = machine.next();
-    let line = trace_line(before + 1, machine.hart(), &planned);
+    let line = trace_line(symbols, before + 1, machine.hart(), &planned);
     match write_all(trace, line.as_bytes()) {
         Ok(()) => {}
         Err(_) => return Err(TraceFault::Trace),
@@ -61,6 +63,7 @@ fn meet_around<C: CapRep, W: Sink, T: Sink>(
     byte: Option<u8>,
     before: u64,
     ticks: bool,
+    symbols: &Symbols,
     sink: &mut W,
     trace: &mut T,
 ) -> Result<(), TraceFault>
@@ -72,13 +75,13 @@ fn meet_around<C: CapRep, W: Sink, T: Sink>(
     ensures bytes { OnOk result (Appends (W.held sink.old) (W.held sink.new)
         (run_sent (up_to_halt (block byte 1 ticks) machine.old) machine.old)) }
     ensures lines { OnOk result (Appends (T.held trace.old) (T.held trace.new)
-        (lines_past 0 before (up_to_halt (block byte 1 ticks) machine.old) machine.old)) }
-    ensures cut { IfErr result (λ fault. WasCut fault 0 before (up_to_halt (block byte 1 ticks) machine.old) machine.old machine.new
-        (W.held sink.old) (W.held sink.new) (T.held trace.old) (T.held trace.new)) }
+        (lines_past symbols.now 0 before (up_to_halt (block byte 1 ticks) machine.old) machine.old)) }
+    ensures cut { IfErr result (λ fault. WasCut symbols.now fault 0 before (up_to_halt (block byte 1 ticks) machine.old) machine.old
+        machine.new (W.held sink.old) (W.held sink.new) (T.held trace.old) (T.held trace.new)) }
     ensures count { CountsTraced result (W.failed sink.old) (W.failed sink.new) (T.failed trace.old) (T.failed trace.new) }
 {
     bring(machine, byte);
-    match meet_step(machine, before, sink, trace) {
+    match meet_step(machine, before, symbols, sink, trace) {
         Ok(()) => {}
         Err(fault) => return Err(fault),
     }
@@ -89,7 +92,7 @@ fn meet_around<C: CapRep, W: Sink, T: Sink>(
 
 /// Runs a machine as `run_counted` does, and past the first `skipped` steps step by step: of each of those steps it writes a line to
 /// `trace`, with the step's number, counted from 1, PCC's address, the word of the instruction there with its text, and what the step
-/// comes to.
+/// comes to; after an address stands its label.
 ///
 /// The line of a step is written before the step is done. Where it could not be written, the step is not done and the run ends there;
 /// where a byte could not be written, it ends after the step that sent it, as an untraced run does. It takes no memory.
@@ -98,6 +101,7 @@ pub fn run_traced<C: CapRep, W: Sink, T: Sink>(
     schedule: Schedule,
     input: &[u8],
     skipped: u64,
+    symbols: &Symbols,
     sink: &mut W,
     trace: &mut T,
 ) -> Result<Ran, TraceFault>
@@ -109,11 +113,11 @@ pub fn run_traced<C: CapRep, W: Sink, T: Sink>(
     ensures bytes { OnOk result (Appends (W.held sink.old) (W.held sink.new)
         (run_sent (scheduled schedule input.now machine.old) machine.old)) }
     ensures lines { OnOk result (Appends (T.held trace.old) (T.held trace.new)
-        (lines_past skipped 0 (scheduled schedule input.now machine.old) machine.old)) }
+        (lines_past symbols.now skipped 0 (scheduled schedule input.now machine.old) machine.old)) }
     ensures end { IfOk result (λ ran. ran.end ≡ end_of machine.new) }
     ensures steps { IfOk result (λ ran. ran.steps ≡ steps_in (scheduled schedule input.now machine.old)) }
-    ensures cut { IfErr result (λ fault. WasCut fault skipped 0 (scheduled schedule input.now machine.old) machine.old machine.new
-        (W.held sink.old) (W.held sink.new) (T.held trace.old) (T.held trace.new)) }
+    ensures cut { IfErr result (λ fault. WasCut symbols.now fault skipped 0 (scheduled schedule input.now machine.old) machine.old
+        machine.new (W.held sink.old) (W.held sink.new) (T.held trace.old) (T.held trace.new)) }
     ensures count { CountsTraced result (W.failed sink.old) (W.failed sink.new) (T.failed trace.old) (T.failed trace.new) }
 {
     let first = skipped.min(schedule.steps);
@@ -129,7 +133,7 @@ pub fn run_traced<C: CapRep, W: Sink, T: Sink>(
     while done < schedule.steps {
         let byte = schedule.byte_before(input, done + 1);
         let ticks = schedule.is_tick_after(done + 1);
-        match meet_around(machine, byte, done, ticks, sink, trace) {
+        match meet_around(machine, byte, done, ticks, symbols, sink, trace) {
             Ok(()) => {}
             Err(fault) => return Err(fault),
         }

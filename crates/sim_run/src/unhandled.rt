@@ -25,6 +25,7 @@ use image::Image;
 use machine::Machine;
 use std::alloc::{AllocError, Global};
 use steps::Effect;
+use symbols::Symbols;
 
 /// The fault of a step that traps.
 pub(crate) fn trap_in<C: CapRep>(planned: &Planned<C>) -> Option<Fault>
@@ -50,6 +51,7 @@ fn unfetched_in<C: CapRep>(machine: &Machine<C>) -> u64
 /// Counts the trap of the step of this number, which is planned: the first becomes `text`, and of the others those of the fetch are
 /// counted.
 fn count_trap<C: CapRep>(
+    symbols: &Symbols,
     machine: &Machine<C>,
     number: u64,
     fault: Fault,
@@ -60,15 +62,15 @@ fn count_trap<C: CapRep>(
     requires some { 0 < number }
     requires running { is_halted machine.now ≡ false }
     requires traps { step_effect machine.now ≡ Trap fault }
-    ensures told { IfOk result (λ n. (found : Option Trapped) → IsTold unfetched (string_bytes text.old) found
-        → IsTold (Some n) (string_bytes text.new) (Some (first_of number machine.now found))) }
+    ensures told { IfOk result (λ n. (found : Option Trapped) → IsTold symbols.now unfetched (string_bytes text.old) found
+        → IsTold symbols.now (Some n) (string_bytes text.new) (Some (first_of number machine.now found))) }
     ensures few { IfOk result (λ n. n < number + 1) }
 {
     match unfetched {
         Some(count) => Ok(count + unfetched_in(machine)),
         None => {
             text.clear();
-            put_first_trap(text, machine, number, fault)?;
+            put_first_trap(text, symbols, machine, number, fault)?;
             Ok(0)
         }
     }
@@ -77,6 +79,7 @@ fn count_trap<C: CapRep>(
 /// Does the step of this number, and answers of the trap that is then left how many later steps were traps of the fetch. Its lines
 /// are `text`.
 fn watch_step<C: CapRep>(
+    symbols: &Symbols,
     machine: &mut Machine<C>,
     number: u64,
     unfetched: Option<u64>,
@@ -86,14 +89,14 @@ fn watch_step<C: CapRep>(
     requires some { 0 < number }
     requires running { is_halted machine.old ≡ false }
     ensures state { OnOk result (machine.new ≡ after Step machine.old) }
-    ensures told { IfOk result (λ left. (found : Option Trapped) → IsTold unfetched (string_bytes text.old) found
-        → IsTold left (string_bytes text.new) (after_step number machine.old found)) }
+    ensures told { IfOk result (λ left. (found : Option Trapped) → IsTold symbols.now unfetched (string_bytes text.old) found
+        → IsTold symbols.now left (string_bytes text.new) (after_step number machine.old found)) }
     ensures few { IfOk result (λ left. IfSome left (λ n. n < number + 1)) }
 {
     let planned = machine.next();
     match trap_in(&planned) {
         Some(fault) => {
-            let count = count_trap(machine, number, fault, unfetched, text)?;
+            let count = count_trap(symbols, machine, number, fault, unfetched, text)?;
             machine.apply(planned);
             Ok(Some(count))
         }
@@ -106,6 +109,7 @@ fn watch_step<C: CapRep>(
 
 /// Does the step after so many others, with the byte before it and the tick after it, and answers as `watch_step`.
 fn watch_around<C: CapRep>(
+    symbols: &Symbols,
     machine: &mut Machine<C>,
     byte: Option<u8>,
     before: u64,
@@ -117,12 +121,13 @@ fn watch_around<C: CapRep>(
     requires before { before + 1 < 2 ^ 64 }
     requires running { is_halted machine.old ≡ false }
     ensures state { OnOk result (machine.new ≡ run_after (up_to_halt (block byte 1 ticks) machine.old) machine.old) }
-    ensures told { IfOk result (λ left. (found : Option Trapped) → IsTold unfetched (string_bytes text.old) found
-        → IsTold left (string_bytes text.new) (unhandled before found (up_to_halt (block byte 1 ticks) machine.old) machine.old)) }
+    ensures told { IfOk result (λ left. (found : Option Trapped) → IsTold symbols.now unfetched (string_bytes text.old) found
+        → IsTold symbols.now left (string_bytes text.new)
+        (unhandled before found (up_to_halt (block byte 1 ticks) machine.old) machine.old)) }
     ensures few { IfOk result (λ left. IfSome left (λ n. n < before + 1 + 1)) }
 {
     bring(machine, byte);
-    let left = watch_step(machine, before + 1, unfetched, text)?;
+    let left = watch_step(symbols, machine, before + 1, unfetched, text)?;
     let running = machine.halted().is_none();
     pass(machine, ticks && running);
     Ok(left)
@@ -131,6 +136,7 @@ fn watch_around<C: CapRep>(
 /// Runs a machine on a schedule step by step, and answers of the trap that is left how many later steps were traps of the fetch. Its
 /// lines are `text`.
 fn watch<C: CapRep>(
+    symbols: &Symbols,
     machine: &mut Machine<C>,
     schedule: Schedule,
     input: &[u8],
@@ -138,7 +144,7 @@ fn watch<C: CapRep>(
 ) -> Result<Option<u64>, AllocError>
     requires range { IsRunnable schedule }
     requires running { is_halted machine.old ≡ false }
-    ensures { IfOk result (λ left. IsTold left (string_bytes text.new)
+    ensures { IfOk result (λ left. IsTold symbols.now left (string_bytes text.new)
         (trap_left (scheduled schedule input.now machine.old) machine.old)) }
 {
     let mut done = 0;
@@ -146,7 +152,7 @@ fn watch<C: CapRep>(
     while done < schedule.steps {
         let byte = schedule.byte_before(input, done + 1);
         let ticks = schedule.is_tick_after(done + 1);
-        let found = watch_around(machine, byte, done, ticks, left, text)?;
+        let found = watch_around(symbols, machine, byte, done, ticks, left, text)?;
         left = found;
         done += 1;
         if machine.halted().is_some() {
@@ -175,6 +181,7 @@ fn may_be_trapped<C: CapRep>(machine: &Machine<C>) -> bool
 /// the fetch. Its lines are `text`. The run is done again, step by step, only where the last step may have been a trap.
 pub(crate) fn trap_left<C: CapRep>(
     alloc: Global,
+    symbols: &Symbols,
     image: &Image,
     schedule: Schedule,
     input: &[u8],
@@ -183,14 +190,14 @@ pub(crate) fn trap_left<C: CapRep>(
 ) -> Result<Option<u64>, AllocError>
     requires range { IsRunnable schedule }
     requires ended { machine.now ≡ run_after (scheduled schedule input.now (opening image.now)) (opening image.now) }
-    ensures { IfOk result (λ left. IsTold left (string_bytes text.new)
+    ensures { IfOk result (λ left. IsTold symbols.now left (string_bytes text.new)
         (trap_left (scheduled schedule input.now (opening image.now)) (opening image.now))) }
 {
     if !may_be_trapped(machine) {
         return Ok(None);
     }
     match Machine::<C>::new(alloc, image) {
-        Ok(mut again) => watch(&mut again, schedule, input, text),
+        Ok(mut again) => watch(symbols, &mut again, schedule, input, text),
         Err(_) => Err(AllocError),
     }
 }

@@ -1,5 +1,6 @@
 mod BeginningLemmas
 mod LabelTexts
+mod LaterLemmas
 mod LineLemmas
 mod PlaceLemmas
 mod TableLemmas

@@ -84,7 +84,11 @@ symbol_line s = hex_of 16 s.address ++ codes " " ++ s.name ++ codes "\n"
 abbrev pub table_text : List Symbol → List ℕ
 table_text symbols = flat_map symbol_line symbols
 
--- the first name of an address, and the first address of a name
+-- the names of an address, in the table's order; the first of them, and the first address of a name
+abbrev pub names_at : List Symbol → ℕ → List (List ℕ)
+names_at [] address = []
+names_at (s ∷ ss) address = if s.address == address then s.name ∷ names_at ss address else names_at ss address
+
 abbrev pub name_at : List Symbol → ℕ → Option (List ℕ)
 name_at [] address = None
 name_at (s ∷ ss) address = if s.address == address then Some s.name else name_at ss address

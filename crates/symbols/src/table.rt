@@ -1,25 +1,27 @@
 //! A table of symbols: reading one, and looking up in it.
-ghost use Rattle.std.specs.Prelude.{◌≡◌, ◌≤◌, [], ◌∷◌, ◌++◌, None, IfOk, IfErr, IfSome, OnOk, option_map, length};
+ghost use Rattle.std.specs.Prelude.{◌≡◌, ◌≤◌, [], ◌∷◌, ◌++◌, None, IfOk, IfErr, IfNone, IfSome, OnOk, option_map, length};
 ghost use Rattle.std.specs.Option.{option_copied};
 ghost use Rattle.std.proofs.Props.{props};
-ghost use Rattle.symbols.specs.Places.{IsPlacing};
+ghost use Rattle.symbols.specs.Places.{IsPlacing, later_of, names_from, names_left};
 ghost use Rattle.symbols.specs.Reads.{IsFaultOf};
-ghost use Rattle.symbols.specs.Symbols.{address_of, faulty_line, name_at, nearest, symbols_in, symbols_of};
+ghost use Rattle.symbols.specs.Symbols.{address_of, faulty_line, name_at, names_at, nearest, symbols_in, symbols_of};
 
 use crate::fault::SymbolsFault;
 use crate::lines::{address, is_line, is_symbol, name, split_line};
-use crate::places::{Places, from_end, place_symbols};
+use crate::places::{Later, Places, from_end, place_symbols, step};
 use crate::symbol::Symbol;
 use std::alloc::{AllocError, Global};
 use std::collections::BTreeMap;
 use std::marker::Model;
 
-/// Symbols, in the order of their lines, and where the first one of each address stands.
+/// Symbols, in the order of their lines, and where the first one of each address and the next one of each symbol's stand.
 #[derive(Drop, Debug)]
 pub struct Symbols {
     entries: Vec<Symbol>,
     places: Places,
+    later: Later,
     ghost placed: { IsPlacing places entries.items } by { Prim.hlevel props },
+    ghost linked: { later.items ≡ later_of entries.items } by { Prim.hlevel props },
 }
 
 impl Model for Symbols {
@@ -66,8 +68,12 @@ pub fn read_symbols(alloc: Global, text: &[u8]) -> Result<Symbols, SymbolsFault>
         number += 1;
         rest = after;
     }
-    let places = place_symbols(alloc, &entries)?;
-    Ok(Symbols { entries, places })
+    let (places, later) = place_symbols(alloc, &entries)?;
+    Ok(Symbols {
+        entries,
+        places,
+        later,
+    })
 }
 
 /// The name of a symbol, if there is one.
@@ -89,6 +95,7 @@ impl Symbols {
         Symbols {
             entries: Vec::new(alloc),
             places: BTreeMap::new(alloc),
+            later: Vec::new(alloc),
         }
     }
 
@@ -108,6 +115,24 @@ impl Symbols {
             Some(left) => name_of(from_end(self.entries(), *left)),
             None => None,
         }
+    }
+
+    /// How many symbols stand from the first one of an address on, if it has one.
+    pub(crate) fn first_left(&self, address: u64) -> Option<usize>
+        ensures { names_left self.now result ≡ names_at self.now address }
+    {
+        match self.places.get(&address) {
+            Some(left) => Some(*left),
+            None => None,
+        }
+    }
+
+    /// The symbol from which on so many stand, and where the next one of its address does.
+    pub(crate) fn step(&self, left: usize) -> Option<(&Symbol, Option<usize>)>
+        ensures some { IfSome result (λ found. names_from self.now left ≡ found.0.now.name ∷ names_left self.now found.1) }
+        ensures none { IfNone result (names_from self.now left ≡ []) }
+    {
+        step(&self.entries, &self.later, left)
     }
 
     /// The first address of a name.

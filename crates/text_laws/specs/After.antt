@@ -74,7 +74,8 @@ text_after symbols (StoreCapability w) t = granule_now symbols w.address t
 text_after symbols (DeviceLoad l) t = register_or (codes "load") l.rd t ++ codes " from device " ++ labelled symbols l.address
 text_after symbols (DeviceStore w) t =
     codes "device "
-    ++ (codes "store " ++ shown_size w.size ++ codes " at " ++ labelled symbols w.address ++ codes ": " ++ hex_of (2 * bytes_of w.size) w.number)
+    ++ (codes "store " ++ shown_size w.size ++ codes " at " ++ labelled symbols w.address ++ codes ": "
+    ++ hex_of (2 * bytes_of w.size) w.number)
 text_after symbols (Jump target) t = jump_now symbols t
 text_after symbols (Link l) t = register_first l.rd t ++ jump_now symbols t
 text_after symbols (Enter e) t = register_first e.rd t ++ jump_now symbols t ++ codes ", " ++ (codes "pcc = " ++ shown_value t.scrs.pcc)
@@ -88,9 +89,9 @@ ShowsTheStateAfter =
     (symbols : List Symbol) (s : State) → IsState s → s.devices.halted ≡ None
     → (
     (number : ℕ)
-    → trace_line number s
-    ≡ decimal number ++ codes " " ++ hex_of 16 (value_address s.scrs.pcc) ++ codes " " ++ step_word s ++ codes ": "
-    ++ text_after [] (step_effect s) (stepped s) ++ codes "\n"
+    → trace_line symbols number s
+    ≡ decimal number ++ codes " " ++ labelled symbols (value_address s.scrs.pcc) ++ codes " " ++ step_word s ++ codes ": "
+    ++ text_after symbols (step_effect s) (stepped s) ++ codes "\n"
     )
     × (
     why_text symbols s

@@ -210,12 +210,14 @@ module _ (s : State) (is : IsState s) where
   jump-there : (v : CapValue) (target : ℕ) → target < 2 ^ 64 → target ≡ value_address (at_address v target)
   jump-there v target fits = sym (value_address-at_address v target fits)
 
-  text-after : (symbols : List Symbol) (e : Effect CapValue) → IsSoundEffect e s → Fits e s → effect_text symbols e ≡ text_after symbols e (applied e s)
+  text-after : (symbols : List Symbol) (e : Effect CapValue) → IsSoundEffect e s → Fits e s
+      → effect_text symbols e ≡ text_after symbols e (applied e s)
   unfolding effect_text applied
   text-after symbols (Trap fault) sound fits = refl
   text-after symbols Nothing sound fits = refl
   text-after symbols (Write w) sound fits = or-there s.registers w.rd w.value (applied (Write w) s) is.registers fits refl (codes "nothing")
-  text-after symbols (Unseal w) sound fits = or-there s.registers w.rd w.value (applied (Unseal w) s) is.registers fits refl (codes "nothing")
+  text-after symbols (Unseal w) sound fits =
+      or-there s.registers w.rd w.value (applied (Unseal w) s) is.registers fits refl (codes "nothing")
   text-after symbols (Store w) sound fits =
       ap (λ d. codes "store " ++ shown_size w.size ++ codes " at " ++ labelled symbols w.address ++ codes ": " ++ d)
       (sym (ap (hex_of (2 * bytes_of w.size)) (number-stored s.memory w.address (bytes_of w.size) w.number sound)
@@ -308,8 +310,9 @@ unfolding why_text
 shows-the_state_after symbols s is running =
     let same = effect-after symbols s is running in (
       λ number.
-          ap (λ text. decimal number ++ codes " " ++ hex_of 16 (pc_of s) ++ codes " " ++ step_word s ++ codes ": " ++ text ++ codes "\n")
-          (effect-after [] s is running),
+          ap (λ text. decimal number ++ codes " " ++ labelled symbols (pc_of s) ++ codes " " ++ step_word s ++ codes ": " ++ text
+          ++ codes "\n")
+          same,
       ap (λ halted. why_unless symbols halted s) running
           ∙ ap (λ text. instruction_text symbols s ++ stages_text symbols s ++ codes "effect: " ++ text ++ codes "\n") same,
     )

@@ -72,7 +72,8 @@ abbrev pub bounds_line : List Symbol → ℕ → ℕ → ℕ → ℕ → ℕ →
 bounds_line symbols r address size base top =
     mark_of (nat_le base address && nat_le (address + size) top)
     ++ (codes "length of " ++ register_text r
-    ++ (codes ": " ++ labelled symbols address ++ codes " + " ++ decimal size ++ codes " in " ++ labelled symbols base ++ codes " to " ++ hex_of 17 top))
+    ++ (codes ": " ++ labelled symbols address ++ codes " + " ++ decimal size ++ codes " in " ++ labelled symbols base
+    ++ codes " to " ++ hex_of 17 top))
     ++ codes "\n"
 
 abbrev pub multiple_line : List Symbol → ℕ → ℕ → List ℕ
@@ -130,10 +131,12 @@ StageShows symbols s text (Multiple otherwise address size) = (what : List ℕ) 
 StageShows symbols s text (Ram cause.FetchAccess address) = Begins text (place_line symbols (codes "fetch at ") address)
 StageShows symbols s text (Ram cause.LoadAccess address) = Begins text (place_line symbols (codes "load of a capability at ") address)
 StageShows symbols s text (Ram otherwise address) = Begins text (place_line symbols (codes "store of a capability at ") address)
-StageShows symbols s text (RamOrDevice cause.LoadAccess address size) = Begins text (place_line symbols (codes "load of " ++ sized size) address)
+StageShows symbols s text (RamOrDevice cause.LoadAccess address size) =
+    Begins text (place_line symbols (codes "load of " ++ sized size) address)
 StageShows symbols s text (RamOrDevice otherwise address size) = Begins text (place_line symbols (codes "store of " ++ sized size) address)
 StageShows symbols s text (Instruction word) = Begins text (place_line symbols (codes "decoding at ") (pc_of s))
-StageShows symbols s text (SystemRegister word) = Begins text (place_line symbols (codes "system register at ") (pc_of s) ++ capability_line s 32)
+StageShows symbols s text (SystemRegister word) =
+    Begins text (place_line symbols (codes "system register at ") (pc_of s) ++ capability_line s 32)
 
 abbrev pub EachStage : (List Condition → Type 0) → List (List Condition) → Type 0
 EachStage P [] = Unit {0}

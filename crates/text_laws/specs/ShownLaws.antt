@@ -113,7 +113,8 @@ line-multiple symbols s otherwise address size b says = ap (λ b. mark b ++ mult
 
 line-of_pcc : (symbols : List Symbol) (s : State) (r address size : ℕ) (b : Bool) → r ≡ 32 → b ≡ lies_in s.scrs.pcc address size
     → LineSays symbols s (Bounds r address size) b
-line-of_pcc symbols s r address size b is says = line-bounds symbols s r address size b (says ∙ ap (λ n. lies_in (held s n) address size) (sym is))
+line-of_pcc symbols s r address size b is says =
+    line-bounds symbols s r address size b (says ∙ ap (λ n. lies_in (held s n) address size) (sym is))
 
 line-fetch : (symbols : List Symbol) (s : State) (q : Question) (b : Bool) → FetchSays s q b → LineSays symbols s q b
 unfolding condition_line question_text
@@ -125,7 +126,8 @@ line-fetch symbols s (RamOrDevice otherwise address size) b says = refl
 line-fetch symbols s (Instruction word) b says = refl
 line-fetch symbols s (SystemRegister word) b says = refl
 
-line-insn : (symbols : List Symbol) (s : State) (k : Kind) (insn : Insn) (q : Question) (b : Bool) → InsnSays s k insn q b → LineSays symbols s q b
+line-insn : (symbols : List Symbol) (s : State) (k : Kind) (insn : Insn) (q : Question) (b : Bool) → InsnSays s k insn q b
+    → LineSays symbols s q b
 unfolding condition_line question_text
 line-insn symbols s k insn (Bounds r address size) b says = line-bounds symbols s r address size b says.3
 line-insn symbols s k insn (Multiple otherwise address size) b says = line-multiple symbols s otherwise address size b says.2
@@ -148,9 +150,11 @@ lines-insn symbols s (Some insn) (stage ∷ other ∷ stages) says = absurd says
 lines-insn symbols s None [] says = tt
 lines-insn symbols s None (stage ∷ stages) says = absurd says
 
-lines-stages : (symbols : List Symbol) (s : State) (stages : List (List Condition)) → StagesSay s stages → Each (LineSays symbols s) (all_conditions stages)
+lines-stages : (symbols : List Symbol) (s : State) (stages : List (List Condition)) → StagesSay s stages
+    → Each (LineSays symbols s) (all_conditions stages)
 lines-stages symbols s [] says = tt
-lines-stages symbols s (first ∷ []) says = each-append (LineSays symbols s) first [] (each-so _ (LineSays symbols s) (line-fetch symbols s) first says) tt
+lines-stages symbols s (first ∷ []) says =
+    each-append (LineSays symbols s) first [] (each-so _ (LineSays symbols s) (line-fetch symbols s) first says) tt
 lines-stages symbols s (first ∷ second ∷ stages) says =
     each-append (LineSays symbols s) first _ (each-so _ (LineSays symbols s) (line-fetch symbols s) first says.0)
     (each-append (LineSays symbols s) second _ (each-so _ (LineSays symbols s) (line-fetch symbols s) second says.1)

@@ -57,7 +57,8 @@ module _ (symbols : List Symbol) where
         ∙ append_assoc (place ++ (before ++ line)) after conditions
         ∙ ap (λ k. k ++ (after ++ conditions)) (sym (append_assoc place before line))
 
-    begins-line : Begins (place_line symbols what address ++ (before ++ line ++ after) ++ conditions) (place_line symbols what address ++ before ++ line)
+    begins-line : Begins (place_line symbols what address ++ (before ++ line ++ after) ++ conditions)
+        (place_line symbols what address ++ before ++ line)
     begins-line = (after ++ conditions, by-line)
 
     has-line : Has (place_line symbols what address ++ (before ++ line ++ after) ++ conditions) line
@@ -145,7 +146,10 @@ module _ (symbols : List Symbol) where
         let line : List ℕ = capability_line s insn.rs1 in
         let conditions : List ℕ = condition_lines symbols s (enter_asked insn s) in (
           has-line what target [] line [] conditions,
-          (tt, (tt, ((what, [], begins-line what target [] line [] conditions), (inl (first-line what target (line ++ []) conditions), tt)))),
+          (
+            tt,
+            (tt, ((what, [], begins-line what target [] line [] conditions), (inl (first-line what target (line ++ []) conditions), tt))),
+          ),
         )
 
     jalr-shows : (b : Bool) → StageIsShown s (cond b (enter_asked insn s) (link_asked (jalr_target insn s) s))
@@ -254,7 +258,8 @@ module _ (symbols : List Symbol) where
       elim d.holds as
       (λ b. cond (not b) (Some d) (find is_false cs) ≡ Some c
       → EndsWith (condition_line symbols s d ++ cond b (condition_lines symbols s cs) []) (condition_line symbols s c)) [
-        | true ↦ λ e. ends-after (condition_line symbols s d) (condition_lines symbols s cs) (condition_line symbols s c) (conditions-end s c cs e)
+        | true ↦ λ e. ends-after (condition_line symbols s d) (condition_lines symbols s cs) (condition_line symbols s c)
+            (conditions-end s c cs e)
         | false ↦ λ e. let same : d ≡ c = cc in ([], append-nil (condition_line symbols s d) ∙ ap (condition_line symbols s) same)
       ] found
 
@@ -265,7 +270,8 @@ module _ (symbols : List Symbol) where
 
   between-ends : (s : State) (d last c : Condition) (o : Option Condition) (cs : List Condition) → o ≡ Some last → find is_false cs ≡ Some c
       → EndsWith (stage_between symbols (Some d) o cs s) (condition_line symbols s c)
-  between-ends s d last c (Some it) cs is found = ends-after _ (condition_lines symbols s cs) (condition_line symbols s c) (conditions-end s c cs found)
+  between-ends s d last c (Some it) cs is found =
+      ends-after _ (condition_lines symbols s cs) (condition_line symbols s c) (conditions-end s c cs found)
   between-ends s d last c None cs is found = cc
 
   stage-ends : (s : State) (c : Condition) (cs : List Condition) → find is_false cs ≡ Some c
@@ -305,7 +311,8 @@ module _ (symbols : List Symbol) where
       → find is_false (all_conditions (word_stages found word s)) ≡ Some c
       → EndsWith (texts s (word_stages found word s)) (condition_line symbols s c)
   found-ends s c (Some insn) word is =
-      ends-after (stage_text symbols s (decoding true word)) _ (condition_line symbols s c) (one-ends s c (asked (kind_of insn.row) word insn s) is)
+      ends-after (stage_text symbols s (decoding true word)) _ (condition_line symbols s c)
+      (one-ends s c (asked (kind_of insn.row) word insn s) is)
   found-ends s c None word is = one-ends s c (decoding false word) is
 
   fetched-ends : (s : State) (c : Condition) (f : Option Fault) → first_false (fetch_asked s) ≡ f
@@ -329,7 +336,8 @@ module _ (symbols : List Symbol) where
 
   -- ---- the lines of each stage
 
-  lines-until_false : (s : State) (cs : List Condition) → condition_lines symbols s cs ≡ flat_map (condition_line symbols s) (until_false cs)
+  lines-until_false : (s : State) (cs : List Condition)
+      → condition_lines symbols s cs ≡ flat_map (condition_line symbols s) (until_false cs)
   lines-until_false s [] = refl
   lines-until_false s (c ∷ cs) =
       elim c.holds as
@@ -345,7 +353,8 @@ module _ (symbols : List Symbol) where
       ends-after _ (condition_lines symbols s cs) (flat_map (condition_line symbols s) (until_false cs)) ([], lines-until_false s cs)
   between-lines s d last None cs is = cc
 
-  stage-lines : (s : State) (cs : List Condition) → EndsWith (stage_text symbols s cs) (flat_map (condition_line symbols s) (until_false cs))
+  stage-lines : (s : State) (cs : List Condition)
+      → EndsWith (stage_text symbols s cs) (flat_map (condition_line symbols s) (until_false cs))
   unfolding stage_text
   stage-lines s [] = ([], refl)
   stage-lines s (d ∷ cs) =
@@ -354,7 +363,8 @@ module _ (symbols : List Symbol) where
       between-lines s d last.0 (slice_get (d ∷ cs) (length (d ∷ cs) - 1)) (d ∷ cs) (ap (slice_get (d ∷ cs)) place ∙ last.1)
 
   each-lines : (s : State) (stages : List (List Condition)) → EachStage (StageIsShown s) stages
-      → EachStage (λ stage. StageIsShown s stage × EndsWith (stage_text symbols s stage) (flat_map (condition_line symbols s) (until_false stage))) stages
+      → EachStage (λ stage. StageIsShown s stage
+      × EndsWith (stage_text symbols s stage) (flat_map (condition_line symbols s) (until_false stage))) stages
   each-lines s [] shown = tt
   each-lines s (stage ∷ stages) shown = ((shown.0, stage-lines s stage), each-lines s stages shown.1)
 

@@ -87,7 +87,6 @@ class Examples(unittest.TestCase):
     def test_replies_are_those_of_the_model(self):
         for name in EXAMPLES:
             past = Past(example(f"{name}.s"))
-            past.labels = past.machine.labels
             self.assertEqual(past.answers(example(f"{name}.commands").splitlines()), example(f"{name}.replies"), name)
 
     def test_what_they_send(self):

@@ -4,7 +4,7 @@ import unittest
 
 from model.capabilities import capability, integer, seal, untagged, with_fields
 from model.devices import RAM
-from model.origins import (GRANULE, NUMBER, REGISTER, SPECIAL, WAYS, Event, Making, conditions, losses, lost, notes, origin)
+from model.origins import (GRANULE, LABEL, NUMBER, REGISTER, SPECIAL, WAYS, Event, Making, conditions, losses, lost, notes, origin)
 from model.reach import State
 from model.rights import ALL, EXECUTE, SEAL, SENTRY, UNSEAL
 from model.tests.begun import in_memory, root
@@ -41,7 +41,7 @@ class Chains(unittest.TestCase):
 
     def test_a_chain_goes_to_the_opening_state(self):
         self.assertEqual(origin(self.events[:5], self.opening, AT), [
-            f"{RAM:016x} from ca1: 5 step 5", "ca1 from ca1, tag cut: 4 step 4", "ca1 from ca0, bounds cut: 2 step 2",
+            f"{RAM:016x}{LABEL} from ca1: 5 step 5", "ca1 from ca1, tag cut: 4 step 4", "ca1 from ca0, bounds cut: 2 step 2",
             "ca0 from ddc: 1 step 1",
             f"opening state: ddc v:1 a:{0:016x} b:{0:016x} t:{SPACE:017x} p:78fff f:0 o:3ffff"])
 
@@ -49,18 +49,18 @@ class Chains(unittest.TestCase):
         self.assertEqual(origin(self.events, self.opening, A0), ["ca0 from no capability: 6 step 6"])
 
     def test_what_no_event_wrote(self):
-        for place, kind in ((A2, "opening state: ca2"), ((GRANULE, RAM + 16), f"image: {RAM + 16:016x}")):
+        for place, kind in ((A2, "opening state: ca2"), ((GRANULE, RAM + 16), f"image: {RAM + 16:016x}{LABEL}")):
             self.assertEqual(origin(self.events, self.opening, place), [
                 f"{kind} v:0 a:{0:016x} b:{0:016x} t:{SPACE:017x} p:00000 f:0 o:3ffff"])
 
     def test_a_tag_is_lost_where_the_address_leaves_the_window(self):
         self.assertEqual(lost(self.events, AT), [
-            f"{RAM:016x} from ca1: 5 step 5", "  no tag of ca1", "ca1 from ca1, tag cut: 4 step 4", "  ok tag of ca1", "  ok seal of ca1",
-            f"  no window of ca1: {1 << 40:016x}"])
+            f"{RAM:016x}{LABEL} from ca1: 5 step 5", "  no tag of ca1", "ca1 from ca1, tag cut: 4 step 4", "  ok tag of ca1",
+            "  ok seal of ca1", f"  no window of ca1: {1 << 40:016x}{LABEL}"])
 
     def test_a_number_loses_a_tag_and_what_had_none_loses_nothing(self):
         self.assertEqual(lost(self.events, A0), ["ca0 from no capability: 6 step 6", "  no a capability is written"])
-        self.assertEqual((losses(self.events, A2), lost(self.events[:3], AT)), ([], [f"no tag was lost at {RAM:016x}"]))
+        self.assertEqual((losses(self.events, A2), lost(self.events[:3], AT)), ([], [f"no tag was lost at {RAM:016x}{LABEL}"]))
 
 
 class Notes(unittest.TestCase):
@@ -95,7 +95,7 @@ class Conditions(unittest.TestCase):
                 continue
             if way == "loaded":
                 *shown, = conditions(Making(way, AT, A1), state({11: root(0)}, {RAM: root(0)}))
-                self.assertEqual(shown, [(f"tag of {RAM:016x}", True), ("permit load capability of ca1", True)])
+                self.assertEqual(shown, [(f"tag of {RAM:016x}{LABEL}", True), ("permit load capability of ca1", True)])
                 continue
             value = sealed if way == "unsealed" else root(0)
             self.assertEqual(self.count(way, value, root(7), 4)[:2], (len(words.split()), True), way)

@@ -7,7 +7,7 @@ use Rattle.commands.proofs.auditing.audit_by.Goals as goal
 
 pub returns : goal.returns
 returns g c =
-    let table = c.in_ok-table.table in
+    let table = c.args.table.now in
     let rules = c.in_ok-rules.rules in
     let text = c.in_ok-text.text.items in
     let typed = c.in_ok-bytes.bytes.items in
@@ -18,10 +18,8 @@ returns g c =
     let audits = subst (λ t. Audits t table rules c.args.schedule typed c.args.image.now audited) c.deref-2.ensures.value with_input in
     let both : Text → Type 0 = λ t. IsPolicyOf t table rules × Audits t table rules c.args.schedule typed c.args.image.now audited in (
       typed,
-      table,
       rules,
       c.in_ok-bytes.ensures,
-      c.in_ok-table.ensures,
       some-weaker (bytes_of c.args.policy.now (g.F.Folder.files c.args.folder.now)) (λ bytes. text ≡ bytes)
           both (λ bytes same. subst both same (said, audits)) c.in_ok-text.ensures.ok,
     )

@@ -14,4 +14,15 @@ returns g c =
     (λ t. Appends (g.O.Write.contents c.args.output) (g.O.Write.contents c.in_ok-output.output) (told_unless c.args.quiet t))
     c.deref.ensures c.in_ok-output.ensures in
     some-weaker (bytes_of c.args.name.now (g.F.Folder.files c.args.folder.now)) (λ bytes. reading bytes ≡ Ok image) _
-    (λ bytes read. (image, audited, read, c.in_ok-audited.ensures, c.in_ok-trace_run.ensures, refl, written)) c.in_ok-image.ensures.ok
+    (λ bytes read. (
+      image,
+      c.in_ok-table.table,
+      audited,
+      read,
+      c.in_ok-table.ensures,
+      c.in_ok-audited.ensures,
+      c.in_ok-trace_run.ensures,
+      refl,
+      written,
+    ))
+    c.in_ok-image.ensures.ok

@@ -21,8 +21,9 @@ returns-in-Instruction g c =
 pub returns-in_default : goal.returns-in_default
 returns-in_default g c =
     on_ok_weaker c.put_at-in_default.result
-    (λ e. e ∙ ap (λ n. string_bytes c.args.text.now ++ (codes "system register at " ++ labelled c.args.symbols.now n)) c.here-in_default.ensures
+    (λ e. e ∙ ap (λ n. string_bytes c.args.text.now ++ (codes "system register at " ++ labelled c.args.symbols.now n))
+    c.here-in_default.ensures
     ∙ ap (λ more. string_bytes c.args.text.now ++ more)
-    (other-place c.args.symbols.now c.args.invokes c.args.last c.args.hart.now (λ x y z. c.in_default.not-Multiple x y z) (λ x y. c.in_default.not-Ram x y)
-    (λ x y z. c.in_default.not-RamOrDevice x y z) (λ x. c.in_default.not-Instruction x)))
+    (other-place c.args.symbols.now c.args.invokes c.args.last c.args.hart.now (λ x y z. c.in_default.not-Multiple x y z)
+    (λ x y. c.in_default.not-Ram x y) (λ x y z. c.in_default.not-RamOrDevice x y z) (λ x. c.in_default.not-Instruction x)))
     c.put_at-in_default.ensures

@@ -7,13 +7,15 @@ use Rattle.explain.proofs.stages.put_stages.Goals as goal
 pub returns-in-Ok : goal.returns-in-Ok
 returns-in-Ok g c =
     on_ok_weaker c.put_word.result
-    (stages-shown c.args.symbols.now c.args.hart.now (string_bytes c.args.text.now) _ _ _ (sym c.is_interrupted.ensures ∙ c.if-is_interrupted.false)
-    (c.deref.ensures.value ∙ c.in_ok-asked.ensures) c.in_ok-put_stage.ensures c.in-Ok.word (sym c.fetch.ensures ∙ c.in-Ok.is))
+    (stages-shown c.args.symbols.now c.args.hart.now (string_bytes c.args.text.now) _ _ _
+    (sym c.is_interrupted.ensures ∙ c.if-is_interrupted.false) (c.deref.ensures.value ∙ c.in_ok-asked.ensures)
+    c.in_ok-put_stage.ensures c.in-Ok.word (sym c.fetch.ensures ∙ c.in-Ok.is))
     c.put_word.ensures
 
 pub returns : goal.returns
 returns g c =
     on_ok_weaker c.put-in-Err.result
-    (fetch-alone c.args.symbols.now c.args.hart.now (string_bytes c.args.text.now) _ _ _ (sym c.is_interrupted.ensures ∙ c.if-is_interrupted.false)
-    (c.deref.ensures.value ∙ c.in_ok-asked.ensures) c.in_ok-put_stage.ensures c.in-Err.field-0 (sym c.fetch.ensures ∙ c.in-Err.is))
+    (fetch-alone c.args.symbols.now c.args.hart.now (string_bytes c.args.text.now) _ _ _
+    (sym c.is_interrupted.ensures ∙ c.if-is_interrupted.false) (c.deref.ensures.value ∙ c.in_ok-asked.ensures)
+    c.in_ok-put_stage.ensures c.in-Err.field-0 (sym c.fetch.ensures ∙ c.in-Err.is))
     c.put-in-Err.ensures.bytes

@@ -14,9 +14,11 @@ returns-in_ok-asked-in-Some g c =
     let same : c.decode-found.result ≡ insn_of c.args.word =
     insn_of-answered c.args.word c.decode-found.result fits c.decode-found.ensures.found c.decode-found.ensures.only in
     on_ok_weaker c.put_stage-in-Some.result
-    (shown-insn c.args.symbols.now c.args.word c.args.hart.now (string_bytes c.args.text.now) _ _ _ c.is_some-holds.result same c.is_some-holds.ensures
+    (shown-insn c.args.symbols.now c.args.word c.args.hart.now (string_bytes c.args.text.now) _ _ _
+    c.is_some-holds.result same c.is_some-holds.ensures
     (c.in_ok-put_stage.ensures
-    ∙ ap (λ w. string_bytes c.args.text.now ++ stage_text c.args.symbols.now c.args.hart.now (decoding c.is_some-holds.result w)) c.from-number.ensures)
+    ∙ ap (λ w. string_bytes c.args.text.now ++ stage_text c.args.symbols.now c.args.hart.now (decoding c.is_some-holds.result w))
+    c.from-number.ensures)
     c.in-Some.insn c.deref.result.now c.in-Some.is (c.deref.ensures.value ∙ c.in_ok-asked-in-Some.ensures))
     c.put_stage-in-Some.ensures
 
@@ -26,8 +28,10 @@ returns-in-None g c =
     let same : c.decode-found.result ≡ insn_of c.args.word =
     insn_of-answered c.args.word c.decode-found.result fits c.decode-found.ensures.found c.decode-found.ensures.only in
     on_ok_weaker c.put.result
-    (shown-word c.args.symbols.now c.args.word c.args.hart.now (string_bytes c.args.text.now) _ _ _ c.is_some-holds.result same c.is_some-holds.ensures
+    (shown-word c.args.symbols.now c.args.word c.args.hart.now (string_bytes c.args.text.now) _ _ _
+    c.is_some-holds.result same c.is_some-holds.ensures
     (c.in_ok-put_stage.ensures
-    ∙ ap (λ w. string_bytes c.args.text.now ++ stage_text c.args.symbols.now c.args.hart.now (decoding c.is_some-holds.result w)) c.from-number.ensures)
+    ∙ ap (λ w. string_bytes c.args.text.now ++ stage_text c.args.symbols.now c.args.hart.now (decoding c.is_some-holds.result w))
+    c.from-number.ensures)
     c.in-None.is)
     c.put.ensures.bytes

@@ -9,8 +9,8 @@ use Rattle.origin_texts.proofs.origin.put_origin.Given as goal
 -- what is told from here on is what all of it tells
 abbrev pub invariant-loop-next : goal.invariant-loop-next
 invariant-loop-next l = record {
-  text : string_bytes l.text ++ tell_on (all_origins l.past (option_copied l.replay)) l.next
-      ≡ string_bytes l.fn.text ++ origin_text l.past (option_copied l.replay) l.fn.place;
+  text : string_bytes l.text ++ tell_on (all_origins l.symbols l.past (option_copied l.replay)) l.next
+      ≡ string_bytes l.fn.text ++ origin_text l.symbols l.past (option_copied l.replay) l.fn.place;
   there : IfSome l.next (λ p. IsThere p.0 (opening l.past.image));
 }
 

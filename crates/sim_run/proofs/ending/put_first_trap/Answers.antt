@@ -1,4 +1,4 @@
-use Rattle.std.proofs.Common.{◌≡◌, ℕ, List, [], ◌++◌, ap, ◌∙◌}
+use Rattle.std.proofs.Common.{◌≡◌, ℕ, List, ◌++◌, ap, ◌∙◌}
 use Rattle.std.proofs.lemmas.Result.{on_ok_weaker}
 use Rattle.std.specs.Prelude.{codes, decimal, string_bytes}
 use Rattle.steps.specs.State.{pc_of}
@@ -13,12 +13,12 @@ returns g c =
     let s = c.args.machine.now in
     let old = string_bytes c.args.text.now in
     let f = c.args.fault in
-    let told : ℕ → List ℕ = λ mepc. codes "; first trap: " ++ trap_part f.mcause f.mtval mepc ++ codes ", step "
+    let told : ℕ → List ℕ = λ mepc. codes "; first trap: " ++ trap_part c.args.symbols.now f.mcause f.mtval mepc ++ codes ", step "
     ++ decimal c.args.number ++ codes "\n" in
     let first : string_bytes c.put_trap.new.text ≡ old ++ told (pc_of s) =
     c.in_ok-put_trap.ensures ∙ ap (λ mepc. old ++ told mepc) c.pc.ensures in
     on_ok_weaker c.put_condition.result
-    (λ e. text_on old (string_bytes c.put_trap.new.text) (string_bytes c.put_condition.new.text) (told (pc_of s)) (failed_line [] s) first
-    e
-    ∙ ap (λ more. old ++ more) (told-trap s c.requires.running f c.args.number c.requires.traps))
+    (λ e. text_on old (string_bytes c.put_trap.new.text) (string_bytes c.put_condition.new.text) (told (pc_of s))
+    (failed_line c.args.symbols.now s) first e
+    ∙ ap (λ more. old ++ more) (told-trap s c.requires.running c.args.symbols.now f c.args.number c.requires.traps))
     c.put_condition.ensures

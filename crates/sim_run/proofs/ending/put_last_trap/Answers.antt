@@ -13,14 +13,14 @@ returns-in_ok-put g c =
     let old = string_bytes c.args.text.now in
     let is : is_trapped s.csrs.mcause s.csrs.mtval ≡ true =
     ap₂ is_trapped (sym c.mcause-mcause.ensures) (sym c.mtval-mtval.ensures) ∙ sym c.is_trapped.ensures ∙ c.if-is_trapped.true in
-    let part : c.as_str.result.now ≡ trap_part s.csrs.mcause s.csrs.mtval (value_address s.scrs.mepcc) =
+    let part : c.as_str.result.now ≡ trap_part c.args.symbols.now s.csrs.mcause s.csrs.mtval (value_address s.scrs.mepcc) =
     c.as_str.ensures.value ∙ c.trap_part.ensures
-    ∙ ap (λ m. trap_part m c.mtval-mtval.result c.mepc.result) c.mcause-mcause.ensures
-    ∙ ap (λ v. trap_part s.csrs.mcause v c.mepc.result) c.mtval-mtval.ensures
-    ∙ ap (λ a. trap_part s.csrs.mcause s.csrs.mtval a) c.mepc.ensures in
+    ∙ ap (λ m. trap_part c.args.symbols.now m c.mtval-mtval.result c.mepc.result) c.mcause-mcause.ensures
+    ∙ ap (λ v. trap_part c.args.symbols.now s.csrs.mcause v c.mepc.result) c.mtval-mtval.ensures
+    ∙ ap (λ a. trap_part c.args.symbols.now s.csrs.mcause s.csrs.mtval a) c.mepc.ensures in
     rw is
     (on_ok_weaker c.put-then-is_trapped.result
     (λ e. text_on old (string_bytes c.put.new.text) (string_bytes c.put-then-is_trapped.new.text) (codes "; last trap: ")
-    (trap_part s.csrs.mcause s.csrs.mtval (value_address s.scrs.mepcc)) c.in_ok-put.ensures.bytes
+    (trap_part c.args.symbols.now s.csrs.mcause s.csrs.mtval (value_address s.scrs.mepcc)) c.in_ok-put.ensures.bytes
     (e ∙ ap (λ more. string_bytes c.put.new.text ++ more) part))
     c.put-then-is_trapped.ensures.bytes)

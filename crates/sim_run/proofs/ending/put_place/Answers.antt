@@ -1,8 +1,8 @@
 use Rattle.std.proofs.Common.{◌++◌, ap, ◌∙◌}
 use Rattle.std.proofs.lemmas.Result.{on_ok_weaker}
 use Rattle.std.specs.Prelude.{codes, decimal, string_bytes}
-use Rattle.disassembler.specs.Hex.{hex_of}
 use Rattle.steps.specs.State.{pc_of}
+use Rattle.symbols.specs.Labels.{labelled}
 use Rattle.sim_run.proofs.Texts.{text_on}
 use Rattle.sim_run.proofs.ending.put_place.Goals as goal
 
@@ -16,7 +16,8 @@ returns g c =
     c.in_ok-put.ensures.bytes c.in_ok-put_decimal.ensures.bytes in
     let at_pcc = text_on old (string_bytes c.put_decimal.new.text) (string_bytes c.put-2.new.text) two (codes ", pcc ") at_number
     c.in_ok-put-2.ensures.bytes in
-    on_ok_weaker c.put_hex.result
-    (λ e. text_on old (string_bytes c.put-2.new.text) (string_bytes c.put_hex.new.text) three (hex_of 16 (pc_of c.args.machine.now)) at_pcc
-    (e ∙ ap (λ n. string_bytes c.put-2.new.text ++ hex_of 16 n) (c.from.ensures ∙ c.pc.ensures)))
-    c.put_hex.ensures.bytes
+    on_ok_weaker c.put_labelled.result
+    (λ e. text_on old (string_bytes c.put-2.new.text) (string_bytes c.put_labelled.new.text) three
+    (labelled c.args.symbols.now (pc_of c.args.machine.now)) at_pcc
+    (e ∙ ap (λ n. string_bytes c.put-2.new.text ++ labelled c.args.symbols.now n) c.pc.ensures))
+    c.put_labelled.ensures.bytes

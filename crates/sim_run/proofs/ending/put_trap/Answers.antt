@@ -8,7 +8,7 @@ use Rattle.sim_run.proofs.ending.put_trap.Goals as goal
 pub returns : goal.returns
 returns c =
     let old = string_bytes c.args.text.now in
-    let part = trap_part c.args.fault.mcause c.args.fault.mtval c.args.mepc in
+    let part = trap_part c.args.symbols.now c.args.fault.mcause c.args.fault.mtval c.args.mepc in
     let one = codes "; first trap: " in
     let two = one ++ part in
     let three = two ++ codes ", step " in

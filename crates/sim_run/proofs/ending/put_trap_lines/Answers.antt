@@ -11,7 +11,8 @@ returns-in_ok-put_last_trap-in-None g c =
     let s = c.args.machine.now in
     let old = string_bytes c.args.text.now in
     on_ok_weaker c.put-in-None.result
-    (λ e found told. text_on old (string_bytes c.put_last_trap.new.text) (string_bytes c.put-in-None.new.text) (last_trap s) (codes "\n")
-    c.in_ok-put_last_trap-in-None.ensures e
-    ∙ ap (λ o. old ++ trap_lines o s) (sym (told-none c.args.unfetched c.args.first.now found c.in-None.is told)))
+    (λ e found told. text_on old (string_bytes c.put_last_trap.new.text) (string_bytes c.put-in-None.new.text)
+    (last_trap c.args.symbols.now s) (codes "\n") c.in_ok-put_last_trap-in-None.ensures e
+    ∙ ap (λ o. old ++ trap_lines c.args.symbols.now o s)
+    (sym (told-none c.args.symbols.now c.args.unfetched c.args.first.now found c.in-None.is told)))
     c.put-in-None.ensures.bytes

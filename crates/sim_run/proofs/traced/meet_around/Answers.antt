@@ -8,8 +8,8 @@ use Rattle.sim_run.proofs.traced.meet_around.Goals.{then-ticks, else-ticks}
 
 pub returns-in-Err-clause-cut : goal.returns-in-Err-clause-cut
 returns-in-Err-clause-cut g c =
-    cut_in_one_block c.args.byte c.args.ticks c.args.machine.now c.bring.new.machine c.requires.running c.bring.ensures c.args.before
-    c.in-Err.fault c.meet_step.new.machine _ _ _ _ c.in-Err.ensures.cut
+    cut_in_one_block c.args.byte c.args.ticks c.args.machine.now c.bring.new.machine c.requires.running c.bring.ensures
+    c.args.symbols.now c.args.before c.in-Err.fault c.meet_step.new.machine _ _ _ _ c.in-Err.ensures.cut
 
 pub returns-clause-state : goal.returns-clause-state
 returns-clause-state g c =
@@ -30,5 +30,5 @@ returns-clause-bytes g c =
 
 pub returns-clause-lines : goal.returns-clause-lines
 returns-clause-lines g c =
-    lines_of_block c.args.byte c.args.ticks c.args.machine.now c.bring.new.machine c.requires.running c.bring.ensures c.args.before _ _
-    c.in-Ok.ensures.lines
+    lines_of_block c.args.byte c.args.ticks c.args.machine.now c.bring.new.machine c.requires.running c.bring.ensures
+    c.args.symbols.now c.args.before _ _ c.in-Ok.ensures.lines

@@ -12,7 +12,7 @@ use Rattle.sim_run.proofs.traced.run_traced.Goals as goal
 pub returns-in-Err-clause-cut : goal.returns-in-Err-clause-cut
 returns-in-Err-clause-cut g c =
     first_cut c.args.schedule c.args.input.now c.min-first.result c.args.machine.now (omega (arith, c.min-first.ensures))
-    c.requires.running c.args.skipped c.skip.new.machine _ _ _ (omega (arith, c.min-first.ensures)) c.in-Err.ensures.cut
+    c.requires.running c.args.symbols.now c.args.skipped c.skip.new.machine _ _ _ (omega (arith, c.min-first.ensures)) c.in-Err.ensures.cut
 
 pub returns-then-is_some-clause-state : goal.returns-then-is_some-clause-state
 returns-then-is_some-clause-state g c =
@@ -40,10 +40,11 @@ returns-then-is_some-clause-lines g c =
     let d = g.T.Sink.held c.args.trace.now in
     let halted : is_halted c.skip.new.machine ≡ true =
     ap is_some (sym c.halted.ensures.value) ∙ sym c.is_some.ensures ∙ c.if-is_some.true in
-    subst (λ es. Appends d d (lines_past c.args.skipped 0 es s))
+    subst (λ es. Appends d d (lines_past c.args.symbols.now c.args.skipped 0 es s))
     (first_ends c.args.schedule c.args.input.now c.min-first.result s (omega (arith, c.min-first.ensures)) c.requires.running
     (ap is_halted (sym c.in-Ok.ensures.state) ∙ halted))
-    (no_lines_of_first c.args.schedule c.args.input.now c.min-first.result s c.args.skipped d (omega (arith, c.min-first.ensures)))
+    (no_lines_of_first c.args.schedule c.args.input.now c.min-first.result s c.args.symbols.now c.args.skipped d
+    (omega (arith, c.min-first.ensures)))
 
 pub returns-then-is_some-clause-steps : goal.returns-then-is_some-clause-steps
 returns-then-is_some-clause-steps g c =
@@ -65,7 +66,7 @@ loop-done-init g c =
       past = omega arith;
       state = c.in-Ok.ensures.state;
       bytes = c.in-Ok.ensures.bytes;
-      lines = no_lines_of_first c.args.schedule c.args.input.now c.min-first.result s c.args.skipped _
+      lines = no_lines_of_first c.args.schedule c.args.input.now c.min-first.result s c.args.symbols.now c.args.skipped _
           (omega (arith, c.min-first.ensures));
       steps = all_steps c.args.schedule c.args.input.now c.min-first.result s (ap is_halted (sym c.in-Ok.ensures.state) ∙ still);
       running = still;
@@ -81,8 +82,9 @@ returns-in-Err-meet_around-clause-cut g c =
     ap₂ (λ byte ticks. block byte 1 ticks) c.byte_before-byte.ensures c.is_tick_after-ticks.ensures in
     let past : c.args.skipped ≤ l.done = omega (arith, l.invariant.past, c.loop-done-test.true) in
     more_cut c.args.schedule c.args.input.now l.done c.args.machine.now l.machine c.requires.running l.invariant.state l.invariant.running
-    few l.invariant.steps c.args.skipped c.in-Err-meet_around.fault c.meet_around.new.machine _ (g.W.Sink.held l.sink) _ _
-    (g.T.Sink.held l.trace) _ past l.invariant.bytes l.invariant.lines (rw same at c.in-Err-meet_around.ensures.cut)
+    few l.invariant.steps c.args.symbols.now c.args.skipped c.in-Err-meet_around.fault c.meet_around.new.machine _
+    (g.W.Sink.held l.sink) _ _ (g.T.Sink.held l.trace) _ past l.invariant.bytes l.invariant.lines
+    (rw same at c.in-Err-meet_around.ensures.cut)
 
 pub returns-in-Some-clause-state : goal.returns-in-Some-clause-state
 returns-in-Some-clause-state g c =
@@ -129,12 +131,12 @@ returns-in-Some-clause-lines g c =
     let halted : is_halted u ≡ true = ap is_some (sym c.halted-in-loop-done.ensures.value ∙ c.in-Some.is) in
     subst
     (λ es. Appends (g.T.Sink.held c.args.trace.now) (g.T.Sink.held c.meet_around.new.trace)
-    (lines_past c.args.skipped 0 es c.args.machine.now))
+    (lines_past c.args.symbols.now c.args.skipped 0 es c.args.machine.now))
     (block_ends c.args.schedule c.args.input.now l.done 1 c.args.machine.now l.machine u c.requires.running
     l.invariant.state l.invariant.running some few (one_alone c.args.schedule c.args.input.now l.done)
     (rw same at c.in-Ok-meet_around.ensures.state) halted)
     (more_lines c.args.schedule c.args.input.now l.done c.args.machine.now l.machine c.requires.running l.invariant.state
-    l.invariant.running few l.invariant.steps c.args.skipped _ (g.T.Sink.held l.trace) _ past l.invariant.lines
+    l.invariant.running few l.invariant.steps c.args.symbols.now c.args.skipped _ (g.T.Sink.held l.trace) _ past l.invariant.lines
     (rw same at c.in-Ok-meet_around.ensures.lines))
 
 pub returns-in-Some-clause-steps : goal.returns-in-Some-clause-steps
@@ -172,7 +174,7 @@ loop-done-preserved g c =
           l.invariant.state l.invariant.running some few (one_alone c.args.schedule c.args.input.now l.done) _ (g.W.Sink.held l.sink) _
           l.invariant.bytes (rw same at c.in-Ok-meet_around.ensures.bytes);
       lines = more_lines c.args.schedule c.args.input.now l.done c.args.machine.now l.machine c.requires.running l.invariant.state
-          l.invariant.running few l.invariant.steps c.args.skipped _ (g.T.Sink.held l.trace) _ past l.invariant.lines
+          l.invariant.running few l.invariant.steps c.args.symbols.now c.args.skipped _ (g.T.Sink.held l.trace) _ past l.invariant.lines
           (rw same at c.in-Ok-meet_around.ensures.lines);
       steps = more_count c.args.schedule c.args.input.now l.done c.args.machine.now l.machine c.requires.running l.invariant.state
           l.invariant.running few l.invariant.steps;
@@ -205,7 +207,7 @@ returns-clause-lines g c =
     let s = c.args.machine.now in
     subst
     (λ n. Appends (g.T.Sink.held c.args.trace.now) (g.T.Sink.held l.trace)
-    (lines_past c.args.skipped 0 (up_to_halt (first_steps c.args.schedule c.args.input.now n) s) s))
+    (lines_past c.args.symbols.now c.args.skipped 0 (up_to_halt (first_steps c.args.schedule c.args.input.now n) s) s))
     all l.invariant.lines
 
 pub returns-clause-end : goal.returns-clause-end

@@ -14,7 +14,7 @@ invariant-loop-done g l = record {
   bytes : Appends (g.W.Sink.held l.fn.sink) (g.W.Sink.held l.sink)
       (run_sent (up_to_halt (first_steps l.schedule l.input l.done) l.fn.machine) l.fn.machine);
   lines : Appends (g.T.Sink.held l.fn.trace) (g.T.Sink.held l.trace)
-      (lines_past l.skipped 0 (up_to_halt (first_steps l.schedule l.input l.done) l.fn.machine) l.fn.machine);
+      (lines_past l.symbols l.skipped 0 (up_to_halt (first_steps l.schedule l.input l.done) l.fn.machine) l.fn.machine);
   steps : steps_in (up_to_halt (first_steps l.schedule l.input l.done) l.fn.machine) ≡ l.done;
   running : is_halted l.machine ≡ false;
   count : g.W.Sink.failed l.sink ≡ g.W.Sink.failed l.fn.sink;

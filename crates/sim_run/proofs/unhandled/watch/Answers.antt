@@ -20,10 +20,10 @@ returns-then-is_some g c =
     let halted : is_halted u ≡ true = ap is_some (sym c.halted.ensures.value) ∙ sym c.is_some.ensures ∙ c.if-is_some.true in
     let told = c.in_ok-found.ensures.told (trap_left (up_to_halt (first_steps c.args.schedule c.args.input.now l.done) s) s)
     l.invariant.told in
-    subst (λ es. IsTold c.in_ok-found.found (string_bytes c.watch_around.new.text) (trap_left es s))
+    subst (λ es. IsTold c.args.symbols.now c.in_ok-found.found (string_bytes c.watch_around.new.text) (trap_left es s))
     (block_ends c.args.schedule c.args.input.now l.done 1 s l.machine u c.requires.running l.invariant.state l.invariant.running some few
     (one_alone c.args.schedule c.args.input.now l.done) (rw same at c.in_ok-found.ensures.state) halted)
-    (subst (IsTold c.in_ok-found.found (string_bytes c.watch_around.new.text))
+    (subst (IsTold c.args.symbols.now c.in_ok-found.found (string_bytes c.watch_around.new.text))
     (unhandled-more c.args.schedule c.args.input.now l.done s l.machine c.requires.running l.invariant.state l.invariant.running few
     l.invariant.steps)
     (rw same at told))
@@ -44,7 +44,7 @@ loop-done-preserved g c =
       state = block_state c.args.schedule c.args.input.now l.done 1 s l.machine u c.requires.running
           l.invariant.state l.invariant.running some few (one_alone c.args.schedule c.args.input.now l.done)
           (rw same at c.in_ok-found.ensures.state);
-      told = subst (IsTold c.in_ok-found.found (string_bytes c.watch_around.new.text))
+      told = subst (IsTold c.args.symbols.now c.in_ok-found.found (string_bytes c.watch_around.new.text))
           (unhandled-more c.args.schedule c.args.input.now l.done s l.machine c.requires.running l.invariant.state l.invariant.running few
           l.invariant.steps)
           (rw same at told);

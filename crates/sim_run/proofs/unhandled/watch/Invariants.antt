@@ -11,7 +11,8 @@ abbrev pub invariant-loop-done : goal.invariant-loop-done
 invariant-loop-done g l = record {
   few : l.done ≤ l.schedule.steps;
   state : l.machine ≡ run_after (up_to_halt (first_steps l.schedule l.input l.done) l.fn.machine) l.fn.machine;
-  told : IsTold l.left (string_bytes l.text) (trap_left (up_to_halt (first_steps l.schedule l.input l.done) l.fn.machine) l.fn.machine);
+  told : IsTold l.symbols l.left (string_bytes l.text)
+      (trap_left (up_to_halt (first_steps l.schedule l.input l.done) l.fn.machine) l.fn.machine);
   steps : steps_in (up_to_halt (first_steps l.schedule l.input l.done) l.fn.machine) ≡ l.done;
   small : IfSome l.left (λ n. n < l.done + 1);
   running : is_halted l.machine ≡ false;

@@ -33,6 +33,6 @@ returns-clause-state g c =
 
 pub returns-clause-told : goal.returns-clause-told
 returns-clause-told g c = λ found before.
-    subst (IsTold c.in_ok-left.left (string_bytes c.watch_step.new.text))
+    subst (IsTold c.args.symbols.now c.in_ok-left.left (string_bytes c.watch_step.new.text))
     (unhandled-block c.args.byte c.args.ticks c.args.machine.now c.bring.new.machine c.requires.running c.bring.ensures c.args.before found)
     (c.in_ok-left.ensures.told found before)

@@ -10,11 +10,11 @@ returns-in_ok-count-in-Some-clause-told g c = λ found before.
     let s = c.args.machine.now in
     let is : trap_in (step_effect s) ≡ Some c.in-Some.fault =
     ap trap_in (sym c.next-planned.ensures.0) ∙ sym c.trap_in.ensures ∙ c.in-Some.is in
-    subst (IsTold (Some c.in_ok-count-in-Some.count) (string_bytes c.count_trap.new.text))
+    subst (IsTold c.args.symbols.now (Some c.in_ok-count-in-Some.count) (string_bytes c.count_trap.new.text))
     (trap-taken s c.requires.running c.args.number found c.in-Some.fault is) (c.in_ok-count-in-Some.ensures.told found before)
 
 pub returns-in-None-clause-told : goal.returns-in-None-clause-told
 returns-in-None-clause-told g c = λ found before.
     let s = c.args.machine.now in
     let is : trap_in (step_effect s) ≡ None = ap trap_in (sym c.next-planned.ensures.0) ∙ sym c.trap_in.ensures ∙ c.in-None.is in
-    subst (IsTold None (string_bytes c.args.text.now)) (none-taken s c.requires.running c.args.number found is) tt
+    subst (IsTold c.args.symbols.now None (string_bytes c.args.text.now)) (none-taken s c.requires.running c.args.number found is) tt

@@ -1,0 +1,176 @@
+-- What each mnemonic is written with: its operands, with a word for each, and the numbers that it can be.
+use Rattle.base.specs.Ram.{most_pages}
+use Rattle.std.specs.Prelude.{ℕ, ◌-◌, ◌*◌, ◌^◌, Bool, true, false, not, ◌&&◌, nat_lt, if◌then◌else◌, ℤ, pos, neg_ℤ, int_lt, List, [], ◌∷◌, map}
+use Rattle.std.specs.Prelude.{Option, Some, None, codes}
+use Rattle.isa_rows.specs.declared.rows.Row.{Row}
+use Rattle.isa_rows.specs.declared.rows.Row.TheVariants.{Addi}
+use Rattle.isa_rows.specs.declared.slots.Slot.{Slot}
+use Rattle.isa_rows.specs.declared.slots.Slot.TheVariants.{Rd, Rs1, Rs2, Signed, Unsigned, Upper, Small, Csr, Special, Address, Authority}
+use Rattle.isa_rows.specs.declared.slots.Slot.TheVariants.{Target}
+use Rattle.isa_rows.specs.declared.slots.Naming.{Naming}
+use Rattle.isa_rows.specs.declared.slots.Naming.TheVariants.{Integer, Capability}
+use Rattle.asm_names.specs.Mnemonic.{row_named}
+use Rattle.asm_names.specs.Slots.{slots_of}
+use Rattle.asm_lines.specs.declared.fault.LineFault.{LineFault}
+use Rattle.asm_lines.specs.declared.forms.Range.{Range}
+use Rattle.asm_lines.specs.declared.forms.Written.{Written}
+use Rattle.asm_lines.specs.declared.forms.Written.TheVariants as written
+use Rattle.asm_lines.specs.declared.parsed.Directive.TheVariants.{Align, Zero}
+use Rattle.asm_lines.specs.Number.{number_of, expression_of}
+use Rattle.asm_lines.specs.Operand.{ranged, fault_of, filled_slot}
+use Rattle.asm_lines.specs.Statement.{is_word, most_of, value_fault, plain, draft_of}
+
+-- ---- the numbers that an operand can be
+
+abbrev pub range : ℤ → ℤ → Range
+range least most = record { least = least; most = most }
+
+abbrev pub natural : ℕ → Range
+natural most = range (pos 0) (pos most)
+
+-- what all numbers lie between
+abbrev pub every_number : Range
+every_number = range (neg_ℤ (pos (2 ^ 63))) (pos (2 ^ 64 - 1))
+
+-- a value of so many bytes: from the least signed to the greatest unsigned number of its size
+abbrev pub value_range : ℕ → Range
+value_range size = range (neg_ℤ (pos (2 ^ (8 * size - 1)))) (pos (2 ^ (8 * size) - 1))
+
+abbrev pub is_within : Range → ℤ → Bool
+is_within r n = not (int_lt n r.least) && not (int_lt r.most n)
+
+-- of a row's operand; of one that is no number, all numbers
+abbrev pub slot_range : Slot → Range
+slot_range Signed = range (neg_ℤ (pos 2048)) (pos 2047)
+slot_range (Address naming) = range (neg_ℤ (pos 2048)) (pos 2047)
+slot_range (Unsigned bits) = if nat_lt bits 64 then natural (2 ^ bits - 1) else every_number
+slot_range Upper = natural 0xFFFFF
+slot_range Small = natural 31
+slot_range Csr = natural 4095
+slot_range Special = natural 31
+slot_range other = every_number
+
+abbrev pub range_of : Written → Range
+range_of (written.Slot s) = slot_range s
+range_of (written.Number r) = r
+range_of (written.Value r) = r
+range_of written.Quoted = every_number
+
+-- ---- operands
+
+pub record Operand : Type 0 where
+  pub word : List ℕ
+  pub written : Written
+
+abbrev pub operand : List ℕ → Written → Operand
+operand word w = record { word = word; written = w }
+
+-- a row's operand as a manual writes it
+abbrev pub is_capability : Naming → Bool
+is_capability Capability = true
+is_capability other = false
+
+abbrev pub slot_word : Slot → List ℕ
+slot_word (Rd naming) = if is_capability naming then codes "cd" else codes "rd"
+slot_word (Rs1 naming) = if is_capability naming then codes "cs1" else codes "rs1"
+slot_word (Rs2 naming) = if is_capability naming then codes "cs2" else codes "rs2"
+slot_word Signed = codes "imm"
+slot_word (Unsigned bits) = codes "imm"
+slot_word Upper = codes "imm"
+slot_word Small = codes "imm"
+slot_word Csr = codes "csr"
+slot_word Special = codes "scr"
+slot_word (Address naming) = if is_capability naming then codes "imm(cs1)" else codes "imm(rs1)"
+slot_word (Authority naming) = if is_capability naming then codes "(cs1)" else codes "(rs1)"
+slot_word (Target bits) = codes "target"
+
+abbrev pub slot_operand : Slot → Operand
+slot_operand s = operand (slot_word s) (written.Slot s)
+
+-- the first fault of an operand's text that the text alone decides; that of a text in quotes its whole line decides
+unfoldable pub operand_fault : Written → List ℕ → Option LineFault
+operand_fault (written.Slot s) text = fault_of (filled_slot s text (draft_of (plain Addi [])))
+operand_fault (written.Number r) text = fault_of (ranged r.least r.most (number_of text))
+operand_fault (written.Value r) text = value_fault (is_within r) (expression_of text)
+operand_fault written.Quoted text = None
+
+-- ---- the table
+
+-- the operands of a statement; where it repeats, the last one stands once or more
+pub record Form : Type 0 where
+  pub operands : List Operand
+  pub repeats : Bool
+
+abbrev pub form : List Operand → Form
+form operands = record { operands = operands; repeats = false }
+
+abbrev pub a_number : Range → Form
+a_number r = form (operand (codes "a number") (written.Number r) ∷ [])
+
+abbrev pub values : ℕ → Form
+values size = record { operands = operand (codes "one expression or more") (written.Value (value_range size)) ∷ []; repeats = true }
+
+abbrev pub a_value : List ℕ → Range → Operand
+a_value word r = operand word (written.Value r)
+
+-- what is no row and no other name of one
+abbrev pub forms : List (List ℕ × Form)
+forms =
+    (codes "la", form (slot_operand (Rd Integer) ∷ a_value (codes "expression") every_number ∷ []))
+    ∷ (codes "cla", form (slot_operand (Rd Capability) ∷ a_value (codes "expression") every_number ∷ []))
+    ∷ (codes ".pages", a_number (range (pos 1) (pos most_pages)))
+    ∷ (codes ".mode", a_number (natural 1))
+    ∷ (codes ".entry", form (a_value (codes "an expression") every_number ∷ []))
+    ∷ (codes ".org", a_number (natural (2 ^ 64 - 1)))
+    ∷ (codes ".align", a_number (natural (most_of Align)))
+    ∷ (codes ".zero", a_number (natural (most_of Zero)))
+    ∷ (codes ".byte", values 1)
+    ∷ (codes ".half", values 2)
+    ∷ (codes ".word", values 4)
+    ∷ (codes ".dword", values 8)
+    ∷ (codes ".ascii", form (operand (codes "a text in quotes") written.Quoted ∷ []))
+    ∷ (
+      codes ".cap",
+      form
+          (a_value (codes "base") (natural (2 ^ 64 - 1))
+          ∷ a_value (codes "length") (natural (2 ^ 64 - 1))
+          ∷ a_value (codes "permissions") (natural 0xFFFF)
+          ∷ a_value (codes "flag") (natural 1)
+          ∷ []),
+    )
+    ∷ []
+
+abbrev pub form_in : List (List ℕ × Form) → List ℕ → Option Form
+form_in [] word = None
+form_in (f ∷ fs) word = if is_word word f.0 then Some f.1 else form_in fs word
+
+-- the operands of a row, or of another name of one
+abbrev pub row_slots : Option Row → List Slot
+row_slots (Some row) = slots_of row
+row_slots None = []
+
+unfoldable pub slots_named : List ℕ → List Slot
+slots_named word =
+    if is_word word (codes "li") then Rd Integer ∷ Signed ∷ []
+    else (if is_word word (codes "mv") then Rd Integer ∷ Rs1 Integer ∷ []
+    else (if is_word word (codes "j") then Target 21 ∷ [] else row_slots (row_named word)))
+
+abbrev pub form_or : Option Form → List Slot → Form
+form_or (Some f) slots = f
+form_or None slots = form (map slot_operand slots)
+
+-- what a mnemonic is written with
+unfoldable pub form_of : List ℕ → Form
+form_of word = form_or (form_in forms word) (slots_named word)
+
+-- the first operand of a form, and what is written after it
+abbrev pub later : Bool → Operand → List Operand → List Operand
+later repeats o [] = if repeats then o ∷ [] else []
+later repeats o (p ∷ ps) = p ∷ ps
+
+abbrev pub split_in : Bool → List Operand → Option (Operand × Form)
+split_in repeats [] = None
+split_in repeats (o ∷ os) = Some (o, record { operands = later repeats o os; repeats = repeats })
+
+abbrev pub split_form : Form → Option (Operand × Form)
+split_form f = split_in f.repeats f.operands
