@@ -1,16 +1,13 @@
 -- What each mnemonic is written with: its operands, with a word for each, and the numbers that it can be.
 use Rattle.base.specs.Ram.{most_pages}
-use Rattle.std.specs.Prelude.{ℕ, ◌-◌, ◌*◌, ◌^◌, Bool, true, false, not, ◌&&◌, nat_lt, if◌then◌else◌, ℤ, pos, neg_ℤ, int_lt, List, [], ◌∷◌, map}
-use Rattle.std.specs.Prelude.{Option, Some, None, codes}
-use Rattle.isa_rows.specs.declared.rows.Row.{Row}
+use Rattle.std.specs.Prelude.{ℕ, ◌-◌, ◌*◌, ◌^◌, Bool, true, false, not, ◌&&◌, nat_lt, if◌then◌else◌, ℤ, pos, neg_ℤ, int_lt}
+use Rattle.std.specs.Prelude.{List, [], ◌∷◌, map, Option, Some, None, codes}
 use Rattle.isa_rows.specs.declared.rows.Row.TheVariants.{Addi}
 use Rattle.isa_rows.specs.declared.slots.Slot.{Slot}
 use Rattle.isa_rows.specs.declared.slots.Slot.TheVariants.{Rd, Rs1, Rs2, Signed, Unsigned, Upper, Small, Csr, Special, Address, Authority}
 use Rattle.isa_rows.specs.declared.slots.Slot.TheVariants.{Target}
 use Rattle.isa_rows.specs.declared.slots.Naming.{Naming}
 use Rattle.isa_rows.specs.declared.slots.Naming.TheVariants.{Integer, Capability}
-use Rattle.asm_names.specs.Mnemonic.{row_named}
-use Rattle.asm_names.specs.Slots.{slots_of}
 use Rattle.asm_lines.specs.declared.fault.LineFault.{LineFault}
 use Rattle.asm_lines.specs.declared.forms.Range.{Range}
 use Rattle.asm_lines.specs.declared.forms.Written.{Written}
@@ -18,7 +15,7 @@ use Rattle.asm_lines.specs.declared.forms.Written.TheVariants as written
 use Rattle.asm_lines.specs.declared.parsed.Directive.TheVariants.{Align, Zero}
 use Rattle.asm_lines.specs.Number.{number_of, expression_of}
 use Rattle.asm_lines.specs.Operand.{ranged, fault_of, filled_slot}
-use Rattle.asm_lines.specs.Statement.{is_word, most_of, value_fault, plain, draft_of}
+use Rattle.asm_lines.specs.Statement.{Pattern, is_word, most_of, value_fault, plain, pattern_of, draft_of}
 
 -- ---- the numbers that an operand can be
 
@@ -145,15 +142,9 @@ form_in [] word = None
 form_in (f ∷ fs) word = if is_word word f.0 then Some f.1 else form_in fs word
 
 -- the operands of a row, or of another name of one
-abbrev pub row_slots : Option Row → List Slot
-row_slots (Some row) = slots_of row
-row_slots None = []
-
-unfoldable pub slots_named : List ℕ → List Slot
-slots_named word =
-    if is_word word (codes "li") then Rd Integer ∷ Signed ∷ []
-    else (if is_word word (codes "mv") then Rd Integer ∷ Rs1 Integer ∷ []
-    else (if is_word word (codes "j") then Target 21 ∷ [] else row_slots (row_named word)))
+abbrev pub pattern_slots : Option Pattern → List Slot
+pattern_slots (Some p) = p.slots
+pattern_slots None = []
 
 abbrev pub form_or : Option Form → List Slot → Form
 form_or (Some f) slots = f
@@ -161,7 +152,7 @@ form_or None slots = form (map slot_operand slots)
 
 -- what a mnemonic is written with
 unfoldable pub form_of : List ℕ → Form
-form_of word = form_or (form_in forms word) (slots_named word)
+form_of word = form_or (form_in forms word) (pattern_slots (pattern_of word false))
 
 -- the first operand of a form, and what is written after it
 abbrev pub later : Bool → Operand → List Operand → List Operand

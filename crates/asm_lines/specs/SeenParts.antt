@@ -1,5 +1,5 @@
 -- What parts and operands that are lent say.
-use Rattle.std.specs.Prelude.{ℕ, ◌+◌, ◌<◌, ◌^◌, List, map, false, Option, Some, None, option_map, length}
+use Rattle.std.specs.Prelude.{◌+◌, ◌<◌, ◌^◌, map, option_map, length}
 use Rattle.asm_lines.specs.declared.forms.Operand.{Operand as Named}
 use Rattle.asm_lines.specs.declared.forms.Form.{Form as Held}
 use Rattle.asm_lines.specs.declared.forms.Form.TheVariants.{Slots, Listed}

@@ -4,14 +4,15 @@ ghost use Rattle.isa_rows.specs.declared.rows.Row.TheVariants.{Addi};
 ghost use Rattle.asm_lines.specs.Number.{expression_of, number_of};
 ghost use Rattle.asm_lines.specs.Operand.{fault_of, filled_slot, ranged};
 ghost use Rattle.asm_lines.specs.Statement.{draft_of, plain as plain_pattern, value_fault};
+ghost use Rattle.asm_lines.specs.Seen.{seen_pattern};
 ghost use Rattle.asm_lines.specs.Forms as spec;
 ghost use Rattle.asm_lines.specs.SeenParts.{seen_form, seen_operand, seen_split};
 
 use crate::fault::LineFault;
 use crate::number::{expression, number};
 use crate::operand::{Draft, filled_slot};
-use crate::pattern::{is_word, plain};
-use asm_names::{Naming, Slot, row_named, slots_of};
+use crate::pattern::{Pattern, is_word, pattern_of, plain};
+use asm_names::{Naming, Slot};
 use base::ram;
 use isa_rows::Row;
 
@@ -199,7 +200,7 @@ macro_rules! number {
 }
 
 macro_rules! value {
-    ($word:literal $least:expr, $most:expr) => { operand!($word Value Range { least: $least, most: $most }) };
+    ($word:literal, $least:expr, $most:expr) => { operand!($word Value Range { least: $least, most: $most }) };
 }
 
 const LOADED: &'static [Operand] = &[
@@ -224,11 +225,11 @@ const ALIGNMENT: &'static [Operand] = &[number!(0, 12)];
 
 const ZEROS: &'static [Operand] = &[number!(0, 268_435_456)];
 
-const BYTES: &'static [Operand] = &[value!("one expression or more" - 0x80, 0xff)];
+const BYTES: &'static [Operand] = &[value!("one expression or more", -0x80, 0xff)];
 
-const HALVES: &'static [Operand] = &[value!("one expression or more" - 0x8000, 0xffff)];
+const HALVES: &'static [Operand] = &[value!("one expression or more", -0x8000, 0xffff)];
 
-const WORDS: &'static [Operand] = &[value!("one expression or more" - 0x8000_0000, 0xffff_ffff)];
+const WORDS: &'static [Operand] = &[value!("one expression or more", -0x8000_0000, 0xffff_ffff)];
 
 const DOUBLE_WORDS: &'static [Operand] = &[operand!("one expression or more" Value EVERY_NUMBER)];
 
@@ -238,10 +239,10 @@ const TEXT: &'static [Operand] = &[Operand {
 }];
 
 const CAPABILITY: &'static [Operand] = &[
-    value!("base" 0, 0xffff_ffff_ffff_ffff),
-    value!("length" 0, 0xffff_ffff_ffff_ffff),
-    value!("permissions" 0, 0xffff),
-    value!("flag" 0, 1),
+    value!("base", 0, 0xffff_ffff_ffff_ffff),
+    value!("length", 0, 0xffff_ffff_ffff_ffff),
+    value!("permissions", 0, 0xffff),
+    value!("flag", 0, 1),
 ];
 
 // The operands of the first of these names that a word is, and else another answer.
@@ -286,28 +287,12 @@ fn form_named(word: &[u8]) -> Option<Form>
     }
 }
 
-const MOVED: &'static [Slot] = &[Slot::Rd(Naming::Integer), Slot::Rs1(Naming::Integer)];
-
-const JUMPED: &'static [Slot] = &[Slot::Target(21)];
-
-const SET: &'static [Slot] = &[Slot::Rd(Naming::Integer), Slot::Signed];
-
 /// The operands of a row, or of another name of one.
-#[tactic(auto, unfolding(crate::specs::Forms::slots_named))]
-fn slots_named(word: &[u8]) -> &'static [Slot]
-    ensures { result.now ≡ spec.slots_named word.now }
+fn pattern_slots(pattern: Option<Pattern>) -> &'static [Slot]
+    ensures { result.now ≡ spec.pattern_slots (option_map seen_pattern pattern) }
 {
-    if is_word(word, "li") {
-        return SET;
-    }
-    if is_word(word, "mv") {
-        return MOVED;
-    }
-    if is_word(word, "j") {
-        return JUMPED;
-    }
-    match row_named(word) {
-        Some(row) => slots_of(row),
+    match pattern {
+        Some(pattern) => pattern.slots,
         None => &[],
     }
 }
@@ -319,7 +304,7 @@ pub fn form_of(word: &[u8]) -> Form
 {
     match form_named(word) {
         Some(form) => form,
-        None => Form::Slots(slots_named(word)),
+        None => Form::Slots(pattern_slots(pattern_of(word, false))),
     }
 }
 

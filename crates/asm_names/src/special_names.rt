@@ -1,6 +1,5 @@
-ghost use Rattle.std.specs.Prelude.{◌≡◌, ◌<◌, ◌==◌, IfSome, find, nat_eq, option_map};
-ghost use Rattle.std.specs.Cmp.Lexicographic.{pointwise};
-ghost use Rattle.asm_names.specs.SpecialNames.{csr_name as csr_name_of, csr_named as csr_of, scr_name as scr_name_of, scr_named as scr_of};
+ghost use Rattle.std.specs.Prelude.{◌≡◌, ◌<◌, IfSome, map, option_map};
+ghost use Rattle.asm_names.specs.SpecialNames.{csr_name as csr_name_of, csr_named as csr_of, scr_name as scr_name_of, scr_named as scr_of, number_in, name_in};
 
 use base::{CSRS, SPECIAL_REGISTERS};
 
@@ -41,14 +40,26 @@ pub fn scr_name(number: u8) -> Option<&'static str>
     name_in(&SPECIAL_REGISTERS, number as u16)
 }
 
+/// The number that a table gives a name.
 fn number_in(names: &[(u16, &str)], text: &[u8]) -> Option<u16>
-    ensures { result ≡ option_map (λ p. p.0) (find (λ p. pointwise nat_eq p.1.now text.now) names.now) }
+    ensures { result ≡ number_in (map (λ r. (r.0, r.1.now)) names.now) text.now }
 {
-    names.iter().find(|p| p.1.as_bytes() == text).map(|p| p.0)
+    let (first, rest) = names.split_first()?;
+    if first.1.as_bytes() == text {
+        Some(first.0)
+    } else {
+        number_in(rest, text)
+    }
 }
 
+/// The name that a table gives a number.
 fn name_in(names: &[(u16, &'static str)], number: u16) -> Option<&'static str>
-    ensures { option_map (λ name. name.now) result ≡ option_map (λ p. p.1.now) (find (λ p. p.0 == number) names.now) }
+    ensures { option_map (λ name. name.now) result ≡ name_in (map (λ r. (r.0, r.1.now)) names.now) number }
 {
-    names.iter().find(|p| p.0 == number).map(|p| p.1)
+    let (first, rest) = names.split_first()?;
+    if first.0 == number {
+        Some(first.1)
+    } else {
+        name_in(rest, number)
+    }
 }

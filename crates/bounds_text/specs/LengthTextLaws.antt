@@ -39,6 +39,8 @@ padding_of_crrl length rounded fits is =
     let near : whole < length + 2 ^ 55 = whole_length-near length in
     (omega (arith, round, high, near), omega (arith, round, high, near))
 
+pub ruleset lengths = (granule_of_mask, padding_of_crrl)
+
 -- what lies past a multiple of u takes as many granules as it takes from 0
 past_multiple : (u k n : ℕ) → 0 < u → granules_up_to u (k * u + n) ≡ k + granules_up_to u n
 past_multiple u k n some =

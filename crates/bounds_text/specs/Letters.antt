@@ -3,7 +3,7 @@ use Rattle.std.specs.Prelude.{ℕ, ◌==◌, if◌then◌else◌, List, ◌++◌
 use Rattle.std.specs.Int.{bit_at}
 
 -- a permission's letter, or `-` where the capability lacks it
-abbrev pub letter : List ℕ → ℕ → ℕ → List ℕ
+unfoldable pub letter : List ℕ → ℕ → ℕ → List ℕ
 letter name bit perms = if bit_at perms bit == 1 then name else codes "-"
 
 -- Global, Execute, Load (R), Store (W), Load_Capability (c), Store_Capability (C), Store_Local_Capability (L), Seal, CInvoke, Unseal,

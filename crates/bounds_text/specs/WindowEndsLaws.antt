@@ -1,13 +1,12 @@
 -- An address lies in a window exactly if it comes no later than the window's last one.
 use Rattle.std.proofs.Common.{◌≡◌, ℕ, ◌+◌, ◌-◌, ◌*◌, ◌/◌, ◌%◌, ◌^◌, ◌<◌, ◌≤◌, leb, ltb, sym, ◌∙◌, inl, inr, arith}
 use Rattle.std.proofs.Math.Pow.{pow_mono}
-use Rattle.std.proofs.lemmas.Nat.{pow-add, pow_pos}
+use Rattle.std.proofs.lemmas.Nat.{pow_pos}
 use Rattle.std.proofs.lemmas.Bool.{le-leb, lt-leb, lt-ltb, le-ltb, cases_lt, cond-true, cond-false}
 use Rattle.cap_bounds.specs.Window.{step_of}
 use Rattle.cap_bounds.specs.Record.{is_in_window}
 use Rattle.cap_bounds.specs.PowerLaws.{window_fits}
 use Rattle.bounds_text.specs.WindowEnds.{window_size, window_first, window_last, window_place}
-use Rattle.bounds_text.specs.Picture.{column_size}
 
 -- from e = 50 on the window has every address
 window_first-wide : (e base : ℕ) → 50 ≤ e → window_first e base ≡ 0
@@ -28,18 +27,26 @@ window_size-narrow : (e : ℕ) → e < 50 → window_size e ≡ 8 * step_of e
 unfolding window_size
 window_size-narrow e narrow = cond-false _ _ _ (lt-leb 50 e narrow)
 
+pub size_shifted : (e : ℕ) → e < 50 → 8 * 2 ^ (e + 11) % 2 ^ 128 ≡ window_size e
+size_shifted e narrow = rw (window_size-narrow e narrow) (omega (arith, window_fits e (omega arith)))
+
 -- a window has so many addresses
-pub window_size-some : (e : ℕ) → 0 < window_size e
-window_size-some e = elim (cases_lt e 50) [
-  | inl narrow ↦ rw (window_size-narrow e narrow) (omega (arith, pow_pos (e + 11)))
+pub size_some : (e : ℕ) → 16384 ≤ window_size e
+size_some e = elim (cases_lt e 50) [
+  | inl narrow ↦
+      let least : 11 ≤ e + 11 = omega arith in
+      let power : 2 ^ 11 ≤ 2 ^ (e + 11) = pow_mono least in
+      rw (window_size-narrow e narrow) (omega arith)
   | inr wide ↦ rw (window_size-wide e wide) (omega arith)
 ]
 
-window_size-fits : (e : ℕ) → window_size e ≤ 2 ^ 64
-window_size-fits e = elim (cases_lt e 50) [
+pub size_fits : (e : ℕ) → window_size e ≤ 2 ^ 64
+size_fits e = elim (cases_lt e 50) [
   | inl narrow ↦ rw (window_size-narrow e narrow) (window_fits e (omega arith))
   | inr wide ↦ rw (window_size-wide e wide) (omega arith)
 ]
+
+pub ruleset sizes = (size_shifted, size_some, size_fits)
 
 pub window_first-below : (e base : ℕ) → window_first e base < 2 ^ 64
 window_first-below e base = elim (cases_lt e 50) [
@@ -47,24 +54,10 @@ window_first-below e base = elim (cases_lt e 50) [
   | inr wide ↦ rw (window_first-wide e base wide) (omega arith)
 ]
 
--- below e = 50 a column has 2 ^ (e + 8) addresses, and 64 of them are the window
-pub window_size-columns : (e : ℕ) → e < 50 → 2 ^ (e + 8) * 64 ≡ window_size e
-window_size-columns e narrow = rw (window_size-narrow e narrow) (omega (arith, pow-add 2 e 8, pow-add 2 e 11))
-
-pub column_size-narrow : (e : ℕ) → e < 50 → 2 ^ (e + 8) ≡ column_size e
-unfolding column_size
-column_size-narrow e narrow = omega (arith, window_size-columns e narrow)
-
-pub column-bounds : (e : ℕ) → e < 50 → (256 ≤ 2 ^ (e + 8)) × (2 ^ (e + 8) ≤ 2 ^ 58)
-column-bounds e narrow =
-    let least : 8 ≤ e + 8 = omega arith in
-    let most : e + 8 ≤ 58 = omega arith in
-    (pow_mono least, pow_mono most)
-
 -- the last one lies so many past the first, less one
 window_place-last : (e base : ℕ) → window_place e base (window_last e base) ≡ window_size e - 1
 unfolding window_place window_last
-window_place-last e base = omega (arith, window_first-below e base, window_size-some e, window_size-fits e)
+window_place-last e base = omega (arith, window_first-below e base, size_some e, size_fits e)
 
 -- below e = 50 the place is counted from a step below the base's
 window_place-narrow : (e base address : ℕ) → e < 50 → base < 2 ^ 64 → address < 2 ^ 64

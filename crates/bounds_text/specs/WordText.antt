@@ -6,11 +6,9 @@ use Rattle.cap_format.specs.Word.{address_of, b_field_of, flag_of, ie_of, null_w
 use Rattle.cap_bounds.specs.Mantissa.{exponent_of}
 use Rattle.cap_bounds.specs.Window.{base_of_word, top_of_word}
 use Rattle.cap_bounds.specs.Record.{IsWordWellFormed}
-use Rattle.cap_bounds.specs.CapValue.{Data}
 use Rattle.cap_bounds.specs.SetAddress.{KeepsBounds}
 use Rattle.cap_rights.specs.Perms.{hardware_view}
-use Rattle.disassembler.specs.Hex.{hex_of}
-use Rattle.bounds_text.specs.BoundsText.{bounds_line, window_line}
+use Rattle.texts.specs.Hex.{hex_of}
 use Rattle.bounds_text.specs.Letters.{permission_letters}
 use Rattle.bounds_text.specs.WindowEnds.{window_first, window_last, window_place}
 
@@ -18,30 +16,9 @@ use Rattle.bounds_text.specs.WindowEnds.{window_first, window_last, window_place
 abbrev pub word_of_halves : ℕ → ℕ → Bool → ℕ
 word_of_halves high low memory = if memory then bit_xor (high * 2 ^ 64 + low) null_word else high * 2 ^ 64 + low
 
--- the halves of both forms, the upper one first
-abbrev pub logical_line : ℕ → List ℕ
-logical_line word = codes "logical  " ++ hex_of 16 (word / 2 ^ 64) ++ codes " " ++ hex_of 16 word ++ codes "\n"
-
-abbrev pub memory_line : ℕ → List ℕ
-memory_line word =
-    let stored = bit_xor word null_word in codes "memory   " ++ hex_of 16 (stored / 2 ^ 64) ++ codes " " ++ hex_of 16 stored ++ codes "\n"
-
-abbrev pub form_line : Bool → List ℕ
-form_line well_formed = if well_formed then codes "tag      0 or 1\n" else codes "tag      0, as the word is malformed\n"
-
-abbrev pub place_line : ℕ → List ℕ
-place_line address = codes "address  " ++ hex_of 16 address ++ codes "\n"
-
 -- from base to top, modulo 2 ^ 65
 abbrev pub bytes_between : ℕ → ℕ → ℕ
 bytes_between base top = (top + 2 ^ 65 - base) % 2 ^ 65
-
-abbrev pub length_line : ℕ → List ℕ
-length_line bytes = codes "length   " ++ decimal bytes ++ codes "\n"
-
--- as CGetPerm gives them, and the hardware permissions in letters
-abbrev pub perms_line : ℕ → List ℕ
-perms_line perms = codes "perms    " ++ hex_of 5 (hardware_view perms) ++ codes " " ++ permission_letters perms ++ codes "\n"
 
 unfoldable pub type_words : ℕ → List ℕ
 type_words otype =
@@ -50,31 +27,29 @@ type_words otype =
     else if is_reserved otype then codes " sealed, reserved\n"
     else codes " sealed\n"
 
-abbrev pub type_line : ℕ → List ℕ
-type_line otype = codes "otype    " ++ hex_of 5 otype ++ type_words otype
-
-abbrev pub flag_line : Bool → List ℕ
-flag_line flag = if flag then codes "flag     1\n" else codes "flag     0\n"
-
-unfoldable pub encoding_words : Bool → List ℕ
-encoding_words ie = if ie then codes "encoding IE 1 T " else codes "encoding IE 0 T "
-
--- the fields that the bounds are encoded by, as they stand in the word, and the exponent that they say
-abbrev pub encoding_line : ℕ → List ℕ
-encoding_line word =
-    encoding_words (ie_of word) ++ hex_of 3 (t_field_of word) ++ codes " B " ++ hex_of 4 (b_field_of word) ++ codes ", exponent "
-    ++ decimal (exponent_of word) ++ codes "\n"
-
--- what the word is, and where it lies
+-- the halves of both forms, the upper one first; whether the word may be tagged; its address and its bounds, the top modulo 2 ^ 65
 unfoldable pub form_lines : Bool → ℕ → List ℕ
 form_lines well_formed word =
-    logical_line word ++ memory_line word ++ form_line well_formed ++ place_line (address_of word) ++ bounds_line (Data word)
-    ++ length_line (bytes_between (base_of_word word) (top_of_word word))
+    let stored = bit_xor word null_word in
+    codes "logical  " ++ hex_of 16 (word / 2 ^ 64) ++ codes " " ++ hex_of 16 word
+    ++ codes "\nmemory   " ++ hex_of 16 (stored / 2 ^ 64) ++ codes " " ++ hex_of 16 stored
+    ++ (if well_formed then codes "\ntag      0 or 1\n" else codes "\ntag      0, as the word is malformed\n")
+    ++ codes "address  " ++ hex_of 16 (address_of word)
+    ++ codes "\nbounds   " ++ hex_of 16 (base_of_word word) ++ codes " " ++ hex_of 17 (top_of_word word) ++ codes "\n"
 
+-- How many bytes lie between the bounds; the permissions as CGetPerm gives them, and in letters; the type and the flag; the fields that
+-- the bounds are encoded by, as they stand in the word, and the exponent that they say; and the window's ends.
 unfoldable pub field_lines : ℕ → List ℕ
 field_lines word =
-    perms_line (perms_of word) ++ type_line (otype_of word) ++ flag_line (flag_of word) ++ encoding_line word
-    ++ window_line (window_first (exponent_of word) (base_of_word word)) (window_last (exponent_of word) (base_of_word word))
+    let e = exponent_of word in
+    let base = base_of_word word in
+    codes "length   " ++ decimal (bytes_between base (top_of_word word))
+    ++ codes "\nperms    " ++ hex_of 5 (hardware_view (perms_of word)) ++ codes " " ++ permission_letters (perms_of word)
+    ++ codes "\notype    " ++ hex_of 5 (otype_of word) ++ type_words (otype_of word)
+    ++ (if flag_of word then codes "flag     1\n" else codes "flag     0\n")
+    ++ (if ie_of word then codes "encoding IE 1 T " else codes "encoding IE 0 T ") ++ hex_of 3 (t_field_of word)
+    ++ codes " B " ++ hex_of 4 (b_field_of word) ++ codes ", exponent " ++ decimal e
+    ++ codes "\nwindow   " ++ hex_of 16 (window_first e base) ++ codes " " ++ hex_of 16 (window_last e base) ++ codes "\n"
 
 unfoldable pub word_text : Bool → ℕ → List ℕ
 word_text well_formed word = form_lines well_formed word ++ field_lines word

@@ -2,18 +2,20 @@
 #![tactic(auto)]
 
 mod bounds;
+mod either;
 pub mod laws;
 mod length;
 mod letters;
-mod lines;
 mod picture;
 mod set;
-mod text;
 mod window;
 mod word;
 
+use arrayvec::ArrayString;
 pub use bounds::bounds_text;
 pub use length::length_text;
 pub use letters::permission_letters;
-pub use text::Text;
 pub use word::word_text;
+
+/// A text: at most 13 lines of at most 80 bytes.
+pub type Text = ArrayString<1040>;

@@ -1,13 +1,10 @@
 //! The picture of bounds: which columns of their window they take.
 
-ghost use Rattle.std.specs.Prelude.{◌≡◌, ◌+◌, ◌<◌, ◌≤◌, ◌++◌, length};
+ghost use Rattle.std.specs.Prelude.{◌≡◌, ◌<◌, length};
 ghost use Rattle.arrayvec.specs.ArrayString.{array_string_len};
 ghost use Rattle.bounds_text.specs.Picture.{mark, picture};
 
-use crate::text::Text;
-
-/// How many columns a picture has.
-pub(crate) const COLUMNS: u64 = 64;
+use arrayvec::ArrayString;
 
 /// The columns that bounds take, and whether rounding moved their ends.
 #[derive(Clone, Copy, Debug)]
@@ -39,14 +36,15 @@ fn mark(span: Span, column: u64) -> &'static str
     }
 }
 
-/// Appends the columns to a text.
+/// The columns.
 #[tactic(auto, unfolding(crate::specs::Picture::picture))]
-pub(crate) fn put_picture(text: &mut Text, span: Span)
-    requires { array_string_len text.old + 64 ≤ 1040 }
-    ensures text { text.new.bytes ≡ text.old.bytes ++ picture span }
-    ensures length { array_string_len text.new ≡ array_string_len text.old + 64 }
+pub(crate) fn picture(span: Span) -> ArrayString<64>
+    ensures text { result.bytes ≡ picture span }
+    ensures length { array_string_len result ≡ 64 }
 {
-    for column in 0..COLUMNS {
+    let mut text = ArrayString::new();
+    for column in 0..64 {
         text.push_str(mark(span, column));
     }
+    text
 }

@@ -51,14 +51,6 @@ pub(crate) fn granule(base: u64, length: u64, e: u32) -> u64
     if length < 4096 { 1 } else { 1 << (e + 3) }
 }
 
-/// How many bytes rounding adds below.
-pub(crate) fn added_below(base: u64, rounded: u64) -> u64
-    requires { rounded ≤ base }
-    ensures { result ≡ base - rounded }
-{
-    base - rounded
-}
-
 /// How many bytes rounding adds above the request's end, where the rounded top is known modulo `2^65`.
 #[tactic(auto, using(crate::specs::SetLaws::added_found, crate::specs::SetLaws::added_few))]
 pub(crate) fn added_above(base: u64, length: u64, top: u128) -> u64

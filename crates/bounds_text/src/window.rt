@@ -1,6 +1,6 @@
 //! The window of bounds, and the columns that it is cut into.
 
-ghost use Rattle.std.specs.Prelude.{◌≡◌, ◌+◌, ◌-◌, ◌*◌, ◌/◌, ◌%◌, ◌^◌, ◌<◌, ◌≤◌, nat_le};
+ghost use Rattle.std.specs.Prelude.{◌≡◌, ◌+◌, ◌-◌, ◌%◌, ◌^◌, ◌<◌, ◌≤◌};
 ghost use Rattle.bounds_text.specs.WindowEnds.{window_first, window_last, window_size};
 ghost use Rattle.bounds_text.specs.Picture.{column_size};
 
@@ -13,34 +13,20 @@ pub(crate) struct Window {
     pub column: u64,
 }
 
-/// The first address of the window of an exponent and a base.
-#[tactic(auto, unfolding(crate::specs::WindowEnds::window_first))]
-fn first_of(e: u32, base: u64) -> u64
+/// How many addresses the window of an exponent has.
+#[tactic(auto, unfolding(crate::specs::WindowEnds::window_size), using(crate::specs::WindowEndsLaws::sizes))]
+fn size_of(e: u32) -> u128
     requires { e ≤ 52 }
-    ensures { result ≡ window_first e base }
+    ensures size { result ≡ window_size e }
+    ensures some { 16384 ≤ result }
+    ensures high { result ≤ 2 ^ 64 }
 {
-    if e >= 50 {
-        0
-    } else {
-        (base >> (e + 11) << (e + 11)).wrapping_sub(1 << (e + 11))
-    }
-}
-
-/// How many addresses a 64th of the window of an exponent has.
-#[tactic(auto, unfolding(crate::specs::Picture::column_size, crate::specs::WindowEnds::window_size))]
-fn column_of_exponent(e: u32) -> u64
-    requires { e ≤ 52 }
-    ensures column { result ≡ column_size e }
-    ensures some { 256 ≤ result }
-    ensures whole { result * 64 ≡ window_size e }
-    ensures high { result ≤ 2 ^ 58 }
-{
-    if e >= 50 { 1 << 58 } else { 1 << (e + 8) }
+    if e >= 50 { 1 << 64 } else { 8 << (e + 11) }
 }
 
 impl Window {
     /// The window of an exponent and a base.
-    #[tactic(auto, unfolding(crate::specs::WindowEnds::window_last))]
+    #[tactic(auto, unfolding(crate::specs::WindowEnds::window_first, crate::specs::WindowEnds::window_last, crate::specs::Picture::column_size))]
     pub fn of(e: u32, base: u64) -> Window
         requires { e ≤ 52 }
         ensures first { result.first ≡ window_first e base }
@@ -48,13 +34,16 @@ impl Window {
         ensures column { result.column ≡ column_size e }
         ensures some { 256 ≤ result.column }
     {
-        let first = first_of(e, base);
-        let column = column_of_exponent(e);
-        let size = u128::from(column) * 64;
+        let first = if e >= 50 {
+            0
+        } else {
+            (base >> (e + 11) << (e + 11)).wrapping_sub(1 << (e + 11))
+        };
+        let size = size_of(e);
         Window {
             first,
             last: first.wrapping_add((size - 1) as u64),
-            column,
+            column: (size / 64) as u64,
         }
     }
 
@@ -63,20 +52,5 @@ impl Window {
         ensures { result ≡ (address + 2 ^ 64 - self.first) % 2 ^ 64 }
     {
         address.wrapping_sub(self.first)
-    }
-
-    /// Whether an address comes no later than the window's last one.
-    pub fn holds(self, address: u64) -> bool
-        ensures { result ≡ nat_le ((address + 2 ^ 64 - self.first) % 2 ^ 64) ((self.last + 2 ^ 64 - self.first) % 2 ^ 64) }
-    {
-        self.place(address) <= self.place(self.last)
-    }
-
-    /// The column that an address falls in.
-    pub fn column_of(self, address: u64) -> u64
-        requires { 0 < self.column }
-        ensures { result ≡ (address + 2 ^ 64 - self.first) % 2 ^ 64 / self.column }
-    {
-        self.place(address) / self.column
     }
 }

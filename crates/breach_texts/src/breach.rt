@@ -5,7 +5,7 @@ ghost use Rattle.reached.specs.Order.{seen_members};
 ghost use Rattle.breach_texts.specs.Text.{ban_line, ban_word, breach_text, rule_part};
 
 use cap_bounds::CapRep;
-use effect_texts::{put, put_decimal};
+use explain::{put, put_decimal};
 use policy::Ban;
 use reach_texts::put_held;
 use reached::Member;

@@ -5,7 +5,7 @@ ghost use Rattle.breach_texts.specs.Text.{stopped_lines};
 
 use crate::breach::{RuleLine, put_breach};
 use cap_bounds::CapRep;
-use effect_texts::put;
+use explain::put;
 use machine::Machine;
 use policy::Refused;
 use reach::Reach;

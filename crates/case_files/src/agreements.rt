@@ -2,9 +2,9 @@
 
 ghost use Rattle.std.specs.Prelude.{◌≤◌};
 
+use crate::words::Words;
 use cap_bounds::{CapRep, PlainCap, is_well_formed};
 use cap_format::CapWord;
-use case_texts::Words;
 use word_cap::{WordCap, parts};
 
 /// A value in both forms.

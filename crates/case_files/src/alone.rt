@@ -1,7 +1,10 @@
 //! Calls that neither the libraries nor the program show.
 
 use crate::agreements::pair;
+use crate::fault::CaseError;
 use crate::forms::{PERMISSIONS, row};
+use crate::quoted::{put_quoted, unquoted};
+use crate::words::Words;
 use alu::int_op;
 use asm_lines::{expression, split_piece};
 use asm_names::register_named;
@@ -10,7 +13,6 @@ use bitflags::Flags;
 use cap_bounds::{CapRep, PlainCap};
 use cap_checks::check_target;
 use cap_rights::{OType, Perms, opened};
-use case_texts::{CaseError, Words, put_quoted, unquoted};
 use devices::{Devices, Effect};
 use isa_rows::Kind;
 use std::alloc::{AllocError, Global};

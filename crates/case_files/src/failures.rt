@@ -1,7 +1,10 @@
 //! Images that are read from devices whose calls fail, and written to such devices.
 
-use case_texts::{CaseError, Words, bytes, bytes_text};
-use failing::{Failure, Narrow, Reader, Slow, Writer};
+use crate::fault::CaseError;
+use crate::hexadecimal::{bytes, bytes_text};
+use crate::over_memory::{Narrow, Slow};
+use crate::over_std::{Failure, Reader, Writer};
+use crate::words::Words;
 use image::{DeviceFailed, FromRead, ImageFault, Sink, Source, ToWrite, read, write, write_all};
 use std::alloc::{AllocError, Global};
 use std::io::ErrorKind;

@@ -1,7 +1,8 @@
 //! The files of cases, tried one after the other.
 
+use crate::fault::CaseError;
+use crate::words::Words;
 use crate::{agreements, alone, failures, forms};
-use case_texts::{CaseError, Words};
 use std::alloc::Global;
 use std::mem::size_of;
 use std::{fs, io};

@@ -1,6 +1,7 @@
 //! Calls over capabilities in both forms, of which each is to say and to give the same.
 
 use crate::agreements::{Both, agree, agree_at, agree_over, pair, pair_of};
+use crate::words::Words;
 use base::{Fault, Size};
 use cap_bounds::{CapRep, representable};
 use cap_checks::{
@@ -12,7 +13,6 @@ use cap_rights::{
     Permission, Perms, and_perms, equal_exact, opened, permits, seal, seal_entry, set_flags,
     subset, unseal,
 };
-use case_texts::Words;
 use isa_rows::{Format, Insn, Kind, ROWS, Row};
 
 /// The hardware permissions by their bits, from 0 on.

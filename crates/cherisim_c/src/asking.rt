@@ -2,7 +2,7 @@
 
 ghost use Rattle.std.specs.Prelude.{◌≡◌, ◌⊎◌, ◌≤◌, ◌<◌, [], None, IfSome, IfOk, length, take, string_bytes};
 ghost use Rattle.disassembler.specs.Shown.{shown_word};
-ghost use Rattle.explain.specs.Text.{why_text};
+ghost use Rattle.explain.specs.WhyText.{why_text};
 ghost use Rattle.steps.specs.declared.event.Event.TheVariants.{Step};
 ghost use Rattle.steps.specs.Ends.{why_of};
 ghost use Rattle.steps.specs.Event.{outcome};

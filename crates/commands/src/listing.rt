@@ -12,7 +12,7 @@ use crate::fault::ProgramFault;
 use crate::files::{Folder, read_image, read_table};
 use crate::writing::Writing;
 use image::{DeviceFailed, Image, Sink};
-use image_listing::{list, list_named, put_header};
+use image_listing::{list, list_named, write_header};
 use std::alloc::Global;
 use std::io::{BufWriter, Write};
 use symbols::Symbols;
@@ -43,7 +43,7 @@ fn list_on<W: Sink>(
     ensures { OnOk result (Appends (W.held sink.old) (W.held sink.new) (listing_of header (option_copied table.entry) image.now)) }
 {
     if header {
-        put_header(image, sink)?;
+        write_header(image, sink)?;
         put_lines(image, table, sink)
     } else {
         put_lines(image, table, sink)

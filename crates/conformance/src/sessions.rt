@@ -2,8 +2,8 @@
 
 use crate::sameness::are_same;
 use crate::tried::{Done, Wrong};
+use case_files::Paper;
 use debugger::{DebugFault, Reply, Session, TalkFault, talk};
-use failing::Paper;
 use image::FromRead;
 use machine::{Event, Machine};
 use word_cap::WordCap;

@@ -4,7 +4,7 @@ use Rattle.std.proofs.Common.{append_assoc, arith}
 use Rattle.std.specs.Prelude.{◌==◌, false}
 use Rattle.std.proofs.lemmas.Bool.Decides.{nat_tests}
 use Rattle.tagged_memory.specs.Memory.{Memory, number_at}
-use Rattle.effect_texts.specs.WordLine.{labelled_word}
+use Rattle.explain.specs.WordLine.{labelled_word}
 use Rattle.symbols.specs.Symbols.{Symbol}
 use Rattle.debugger.specs.Reply.{byte_line, byte_lines, word_lines}
 

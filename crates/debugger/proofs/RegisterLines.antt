@@ -6,7 +6,7 @@ use Rattle.steps.specs.State.{State}
 use Rattle.registers.specs.Registers.{register}
 use Rattle.asm_names.specs.Registers.{capability_names, register_name}
 use Rattle.disassembler.specs.Shown.{name_or}
-use Rattle.effect_texts.specs.ValueText.{value_line}
+use Rattle.explain.specs.ValueText.{value_line}
 use Rattle.debugger.specs.Lines.{register_line}
 use Rattle.debugger.specs.Reply.{register_lines}
 

@@ -7,7 +7,7 @@ use Rattle.special_regs.specs.Scrs.{Scrs, scr_value}
 use Rattle.special_regs.specs.CsrValues.{csr_value}
 use Rattle.asm_names.specs.SpecialNames.{csr_name, scr_name}
 use Rattle.disassembler.specs.Shown.{name_or}
-use Rattle.effect_texts.specs.ValueText.{value_line}
+use Rattle.explain.specs.ValueText.{value_line}
 use Rattle.debugger.specs.Lines.{named_line, scr_line, number_line, csr_line}
 
 pub name_of : (found : Option (Bor (List ℕ))) (other : Bor (List ℕ)) (name : Option (List ℕ)) → other.now ≡ []

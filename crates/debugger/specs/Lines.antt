@@ -11,9 +11,9 @@ use Rattle.debug_commands.specs.declared.command.Stop.{Stop}
 use Rattle.registers.specs.Registers.{register}
 use Rattle.asm_names.specs.Registers.{register_name}
 use Rattle.asm_names.specs.SpecialNames.{csr_name, scr_name}
-use Rattle.disassembler.specs.Hex.{hex_of}
+use Rattle.texts.specs.Hex.{hex_of}
 use Rattle.disassembler.specs.Shown.{name_or}
-use Rattle.effect_texts.specs.ValueText.{value_line}
+use Rattle.explain.specs.ValueText.{value_line}
 use Rattle.symbols.specs.Symbols.{Symbol}
 use Rattle.symbols.specs.Labels.{labelled}
 use Rattle.debugger.specs.Stepping.{is_any_stop, is_at_end, most_sent}

@@ -14,15 +14,15 @@ use Rattle.steps.specs.declared.event.Event.TheVariants as event
 use Rattle.steps.specs.State.{State, pc_of}
 use Rattle.registers.specs.Registers.{register}
 use Rattle.machine.specs.Run.{run_after, run_sent}
-use Rattle.explain.specs.Text.{why_text}
+use Rattle.explain.specs.WhyText.{why_text}
 use Rattle.asm_names.specs.Registers.{capability_names, register_name}
 use Rattle.asm_names.specs.SpecialNames.{csr_name, scr_name}
 use Rattle.debug_commands.specs.declared.fault.DebugFault.{DebugFault}
 use Rattle.debug_commands.specs.declared.fault.DebugFault.TheVariants.{B1, B2, B3, B4}
-use Rattle.disassembler.specs.Hex.{hex_of}
+use Rattle.texts.specs.Hex.{hex_of}
 use Rattle.disassembler.specs.Shown.{name_or}
-use Rattle.effect_texts.specs.ValueText.{value_line}
-use Rattle.effect_texts.specs.WordLine.{labelled_word}
+use Rattle.explain.specs.ValueText.{value_line}
+use Rattle.explain.specs.WordLine.{labelled_word}
 use Rattle.symbols.specs.Labels.{labelled}
 use Rattle.debug_commands.specs.declared.command.Stop.{Stop}
 use Rattle.debug_commands.specs.declared.command.Stop.TheVariants.{Address, Trap}

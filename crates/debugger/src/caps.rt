@@ -7,9 +7,9 @@ ghost use Rattle.debugger.specs.Reply.{cap_line, cap_lines};
 use crate::shown::put_value_line;
 use base::ram;
 use cap_bounds::CapRep;
-use disassembler::hex_digits;
 use std::alloc::AllocError;
 use tagged_memory::Memory;
+use texts::hex_digits;
 
 /// The bytes of a line: an address, a space, a capability's text and a line feed.
 const LINE_BYTES: usize = 99;

@@ -8,7 +8,7 @@ ghost use Rattle.debugger.specs.Reply.{byte_line, byte_lines, word_lines};
 ghost use Rattle.debugger.specs.Lines.{spaced};
 
 use base::Size;
-use effect_texts::{put, put_hex, put_word_line};
+use explain::{put, put_hex, put_word_line};
 use std::alloc::{AllocError, Global};
 use symbols::Symbols;
 use tagged_memory::Memory;

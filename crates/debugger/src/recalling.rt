@@ -13,7 +13,7 @@ use crate::run::put_place;
 use crate::timeline::Timeline;
 use cap_bounds::CapRep;
 use debug_commands::{Command, DebugFault, Recall};
-use effect_texts::{put, put_decimal};
+use explain::{put, put_decimal};
 use machine::Machine;
 use origin_texts::{put_lost, put_origin};
 use past::{Past, Replay};

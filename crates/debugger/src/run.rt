@@ -5,7 +5,7 @@ ghost use Rattle.std.specs.Prelude.{string_bytes, string_len, string_capacity, o
 ghost use Rattle.std.specs.List.{flat_map};
 ghost use Rattle.steps.specs.declared.event.Event.TheVariants.{Step};
 ghost use Rattle.machine.specs.Run.{run_after, run_sent};
-ghost use Rattle.disassembler.specs.Hex.{hex_of};
+ghost use Rattle.texts.specs.Hex.{hex_of};
 ghost use Rattle.debugger.specs.Reply.{after_events, events_line, given, given_of, given_on, own_steps, owed_after, replay_after};
 ghost use Rattle.debugger.specs.Reply.{with_tick};
 ghost use Rattle.debugger.specs.Reply.{shown_end, shown_sent};
@@ -21,7 +21,7 @@ use crate::stepping::{pass, pc, steps_while};
 use crate::timeline::Timeline;
 use cap_bounds::CapRep;
 use debug_commands::{DebugFault, Events, Stop};
-use effect_texts::{put, put_decimal, put_hex, put_labelled};
+use explain::{put, put_decimal, put_hex, put_labelled};
 use machine::{Event, Machine, emit};
 use past::{Given, Past, Replay};
 use std::alloc::{AllocError, Global};

@@ -1,9 +1,9 @@
 //! Values as lines of text.
 ghost use Rattle.std.specs.Prelude.{◌≡◌, ◌++◌, OnOk, string_bytes};
-ghost use Rattle.effect_texts.specs.ValueText.{value_line};
+ghost use Rattle.explain.specs.ValueText.{value_line};
 
 use cap_bounds::CapRep;
-use effect_texts::{put, value_text};
+use explain::{put, value_text};
 use std::alloc::AllocError;
 
 /// Appends a line to a text: a name and a value.

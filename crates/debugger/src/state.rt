@@ -14,7 +14,7 @@ use crate::shown::put_value_line;
 use asm_names::{csr_name, register_name, scr_name};
 use base::{CSRS, SPECIAL_REGISTERS};
 use cap_bounds::CapRep;
-use effect_texts::{put, put_hex};
+use explain::{put, put_hex};
 use machine::Machine;
 use std::alloc::AllocError;
 

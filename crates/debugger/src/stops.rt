@@ -4,7 +4,7 @@ ghost use Rattle.std.specs.List.{list_any};
 ghost use Rattle.debugger.specs.Reply.{is_same_stop, stop_line, stops_after, stops_text};
 
 use debug_commands::{DebugFault, SetStops, Stop};
-use effect_texts::{put, put_hex};
+use explain::{put, put_hex};
 use std::alloc::{AllocError, Global};
 
 /// Appends the line of a stop to a text.

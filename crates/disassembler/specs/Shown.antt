@@ -15,7 +15,7 @@ use Rattle.asm_names.specs.Mnemonic.{mnemonic}
 use Rattle.asm_names.specs.Registers.{register_name}
 use Rattle.asm_names.specs.SpecialNames.{csr_name, scr_name}
 use Rattle.asm_names.specs.Slots.{slots_of}
-use Rattle.disassembler.specs.Hex.{hex_of, short_hex}
+use Rattle.texts.specs.Hex.{hex_of, short_hex}
 
 -- whether a register is shown as a capability register in a mode
 abbrev pub is_capability : Bool → Naming → Bool

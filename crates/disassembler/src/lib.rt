@@ -2,8 +2,6 @@
 #![tactic(auto)]
 
 mod disassembling;
-mod hex;
 mod operands;
 
 pub use disassembling::{byte_line, disassemble, word_line};
-pub use hex::hex_digits;

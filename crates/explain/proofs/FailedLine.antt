@@ -16,7 +16,7 @@ use Rattle.steps.specs.State.{State}
 use Rattle.symbols.specs.Symbols.{Symbol}
 use Rattle.steps.specs.Step.{asked, fetch_asked, fetch, word_unless}
 use Rattle.explain.specs.Asked.{all_conditions, stages_of, stages_unless, word_stages}
-use Rattle.explain.specs.Text.{condition_line, failed_line, false_line}
+use Rattle.explain.specs.WhyText.{condition_line, failed_line, false_line}
 
 -- conditions that hold are passed over
 all-hold : (symbols : List Symbol) (s : State) (cs rest : List Condition) → first_false cs ≡ None

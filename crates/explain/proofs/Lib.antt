@@ -1,3 +1,4 @@
+pub mod Lengths
 pub mod NoRegister
 pub mod StageTexts
 pub mod FailedLine

@@ -4,7 +4,7 @@ use Rattle.std.proofs.lemmas.Bool.{ne_eqb, le-ltb}
 use Rattle.cap_bounds.specs.CapValue.{integer}
 use Rattle.special_regs.specs.Scrs.{Scrs, scr_value}
 use Rattle.steps.specs.State.{State}
-use Rattle.explain.specs.Text.{capability_in}
+use Rattle.explain.specs.WhyText.{capability_in}
 
 no_special : (s : Scrs) (n : ℕ) → 32 ≤ n → scr_value s n ≡ None
 unfolding scr_value

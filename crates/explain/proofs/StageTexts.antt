@@ -21,7 +21,7 @@ use Rattle.isa_rows.specs.Decoded.{insn_of}
 use Rattle.steps.specs.State.{State, pc_of}
 use Rattle.steps.specs.Step.{asked, fetch_asked, fetch}
 use Rattle.explain.specs.Asked.{decoding, word_stages, stages_of}
-use Rattle.explain.specs.Text.{place_text, stage_text, stages_text, capability_line, capability_lines}
+use Rattle.explain.specs.WhyText.{place_text, stage_text, stages_text, capability_line, capability_lines}
 
 module _ {T : Type 0} (text_of : T → List ℕ) (old : List ℕ) (first : T) where
   pub one_text : (new : List ℕ) → new ≡ old ++ text_of first → new ≡ old ++ flat_map text_of (first ∷ [])

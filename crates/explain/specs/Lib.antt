@@ -1,5 +1,13 @@
 -- What to read
+pub mod TrapNames
+pub mod TrapText
+pub mod ValueText
+pub mod EffectText
+pub mod TraceLine
+pub mod WordLine
 pub mod Asked
-pub mod Text
+pub mod WhyText
 -- Laws
 pub mod AskedLaws
+-- How long names are
+pub mod LengthLaws

@@ -1,17 +1,17 @@
 //! The lines of conditions.
 ghost use Rattle.std.specs.Prelude.{◌≡◌, ◌++◌, OnOk, string_bytes};
 ghost use Rattle.symbols.specs.Labels.{labelled};
-ghost use Rattle.explain.specs.Text.{name_text, question_text, bounds_text, multiple_text, mark, condition_line, condition_lines};
+ghost use Rattle.explain.specs.WhyText.{name_text, question_text, bounds_text, multiple_text, mark, condition_line, condition_lines};
 
 use crate::fault_registers::{capability_in, put_register};
+use crate::strings::{put, put_decimal, put_hex, put_labelled};
+use crate::trap_names::cheri_asked_name;
 use base::CheriCause;
 use cap_bounds::CapRep;
 use cap_checks::{Condition, Question};
-use effect_texts::{put, put_decimal, put_hex, put_labelled};
 use hart::Hart;
 use std::alloc::AllocError;
 use symbols::Symbols;
-use trap_texts::cheri_asked_name;
 
 /// Appends a text, an address and its label to a text.
 pub(crate) fn put_at(
@@ -72,7 +72,7 @@ fn put_multiple(
 }
 
 /// Appends what a condition asks to a text.
-#[tactic(auto, unfolding(crate::specs::Text::question_text))]
+#[tactic(auto, unfolding(crate::specs::WhyText::question_text))]
 fn put_question<C: CapRep>(
     text: &mut String,
     symbols: &Symbols,
@@ -114,7 +114,7 @@ fn mark(holds: bool) -> &'static str
 }
 
 /// Appends the line of a condition to a text.
-#[tactic(auto, unfolding(crate::specs::Text::condition_line))]
+#[tactic(auto, unfolding(crate::specs::WhyText::condition_line))]
 pub(crate) fn put_line<C: CapRep>(
     text: &mut String,
     symbols: &Symbols,

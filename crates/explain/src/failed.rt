@@ -2,13 +2,13 @@
 ghost use Rattle.std.specs.Prelude.{◌≡◌, ◌++◌, OnOk, string_bytes};
 ghost use Rattle.isa_rows.specs.Decoded.{insn_of};
 ghost use Rattle.explain.specs.Asked.{all_conditions, word_stages};
-ghost use Rattle.explain.specs.Text.{failed_line, false_line};
+ghost use Rattle.explain.specs.WhyText.{failed_line, false_line};
 
 use crate::conditions::put_line;
 use crate::stages::is_interrupted;
+use crate::strings::put;
 use cap_bounds::CapRep;
 use cap_checks::{Condition, Question};
-use effect_texts::put;
 use hart::Hart;
 use isa_table::decode;
 use std::alloc::AllocError;
@@ -66,7 +66,7 @@ fn put_word_failed<C: CapRep>(
 /// # Errors
 ///
 /// Out of memory.
-#[tactic(auto, unfolding(crate::specs::Asked::stages_of, crate::specs::Text::failed_line))]
+#[tactic(auto, unfolding(crate::specs::Asked::stages_of, crate::specs::WhyText::failed_line))]
 pub fn put_failed<C: CapRep>(
     text: &mut String,
     symbols: &Symbols,

@@ -1,15 +1,16 @@
 //! Registers as mtval counts them, and their capabilities.
 ghost use Rattle.std.specs.Prelude.{◌≡◌, ◌++◌, OnOk, string_bytes};
-ghost use Rattle.explain.specs.Text.{register_text, capability_in, capability_line, fields_text};
+ghost use Rattle.explain.specs.WhyText.{register_text, capability_in, capability_line, fields_text};
 
+use crate::strings::put;
+use crate::trap_names::register_at_fault;
+use crate::value::value_text;
 use base::FIRST_SPECIAL;
 use bounds_text::permission_letters;
 use cap_bounds::CapRep;
 use cap_insns::integer;
-use effect_texts::{put, value_text};
 use hart::Hart;
 use std::alloc::AllocError;
-use trap_texts::register_at_fault;
 
 /// The capability in a register: 0 to 31 general, 32 and its number special. Null where there is no such register.
 pub(crate) fn capability_in<C: CapRep>(hart: &Hart<C>, register: u64) -> C

@@ -5,16 +5,17 @@ ghost use Rattle.special_regs.specs.Interrupts as interrupts;
 ghost use Rattle.isa_rows.specs.Decoded.{insn_of};
 ghost use Rattle.steps.specs.State.{pc_of};
 ghost use Rattle.explain.specs.Asked.{word_stages};
-ghost use Rattle.explain.specs.Text as spec;
-ghost use Rattle.explain.specs.Text.{ram_name, moved_name, sized_place, place_text, tag_lines, capability_lines, stage_text, stages_text};
+ghost use Rattle.explain.specs.WhyText as spec;
+ghost use Rattle.explain.specs.WhyText.{ram_name, moved_name, sized_place, place_text, tag_lines, capability_lines, stage_text, stages_text};
 
 use crate::conditions::{put_at, put_conditions};
+use crate::effect::size_text;
 use crate::fault_registers::put_capability;
+use crate::strings::put;
 use base::CheriCause::{CInvoke, Tag};
 use base::{Cause, PCC_REGISTER, Size};
 use cap_bounds::CapRep;
 use cap_checks::{Condition, Question};
-use effect_texts::{put, size_text};
 use hart::Hart;
 use isa_table::decode;
 use special_regs::pending;
@@ -143,7 +144,7 @@ fn put_capabilities<C: CapRep>(
 }
 
 /// Appends a stage to a text, if it asks for something.
-#[tactic(auto, unfolding(crate::specs::Text::stage_text))]
+#[tactic(auto, unfolding(crate::specs::WhyText::stage_text))]
 fn put_stage<C: CapRep>(
     text: &mut String,
     symbols: &Symbols,
@@ -201,7 +202,7 @@ pub(crate) fn is_interrupted<C: CapRep>(hart: &Hart<C>) -> bool
 }
 
 /// Appends the stages of the next step to a text; there are none where an interrupt is taken.
-#[tactic(auto, unfolding(crate::specs::Asked::stages_of, crate::specs::Text::stages_text))]
+#[tactic(auto, unfolding(crate::specs::Asked::stages_of, crate::specs::WhyText::stages_text))]
 pub(crate) fn put_stages<C: CapRep>(
     text: &mut String,
     symbols: &Symbols,

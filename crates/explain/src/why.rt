@@ -1,12 +1,14 @@
 //! The whole text.
 ghost use Rattle.std.specs.Prelude.{◌≡◌, ◌%◌, ◌++◌, OnOk, string_bytes, true};
 ghost use Rattle.tagged_memory.specs.Memory.{is_in_ram, number_at};
-ghost use Rattle.explain.specs.Text.{instruction_text, running_text, why_text};
+ghost use Rattle.explain.specs.WhyText.{instruction_text, running_text, why_text};
 
+use crate::effect::effect_text;
 use crate::stages::put_stages;
+use crate::strings::{put, put_decimal};
+use crate::word::put_word_line;
 use base::{INSTRUCTION_BYTES, Size};
 use cap_bounds::CapRep;
-use effect_texts::{effect_text, put, put_decimal, put_word_line};
 use hart::Hart;
 use std::alloc::AllocError;
 use symbols::Symbols;
@@ -23,7 +25,7 @@ fn word_at(memory: &Memory, address: u64) -> u32
 }
 
 /// Appends the line of the instruction at PCC to a text, where there is RAM.
-#[tactic(auto, unfolding(crate::specs::Text::instruction_text))]
+#[tactic(auto, unfolding(crate::specs::WhyText::instruction_text))]
 fn put_instruction<C: CapRep>(
     text: &mut String,
     symbols: &Symbols,
@@ -65,7 +67,7 @@ fn put_running<C: CapRep>(
 /// # Errors
 ///
 /// Where there is no memory for the text.
-#[tactic(auto, unfolding(crate::specs::Text::why_text))]
+#[tactic(auto, unfolding(crate::specs::WhyText::why_text))]
 pub fn put_why<C: CapRep>(
     text: &mut String,
     symbols: &Symbols,

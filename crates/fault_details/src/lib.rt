@@ -2,10 +2,7 @@
 #![tactic(auto)]
 
 mod found;
-mod ranges;
 mod reading;
 mod reasons;
-mod text;
-mod underlined;
 
 pub use reading::detail;

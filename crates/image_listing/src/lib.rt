@@ -7,5 +7,5 @@ mod line;
 mod listing;
 mod target;
 
-pub use header::put_header;
+pub use header::write_header;
 pub use listing::{list, list_named};

@@ -15,7 +15,7 @@ use image::{DeviceFailed, Image, Section, Sink, write_all};
 use symbols::Symbols;
 
 /// Writes the line of a label.
-fn put_label<W: Sink>(name: &[u8], sink: &mut W) -> Result<(), DeviceFailed>
+fn write_label<W: Sink>(name: &[u8], sink: &mut W) -> Result<(), DeviceFailed>
     requires { W.failed sink.old < 2 ^ 64 - 1 }
     ensures ok { OnOk result (Appends (W.held sink.old) (W.held sink.new) (label_line name.now)) }
     ensures err { OnErr result (AppendsBeginning (W.held sink.old) (W.held sink.new) (label_line name.now)) }
@@ -26,7 +26,7 @@ fn put_label<W: Sink>(name: &[u8], sink: &mut W) -> Result<(), DeviceFailed>
 }
 
 /// Writes a line for each label of an address.
-fn put_labels<W: Sink>(symbols: &Symbols, address: u64, sink: &mut W) -> Result<(), DeviceFailed>
+fn write_labels<W: Sink>(symbols: &Symbols, address: u64, sink: &mut W) -> Result<(), DeviceFailed>
     requires { W.failed sink.old < 2 ^ 64 - 1 }
     ensures ok { OnOk result (Appends (W.held sink.old) (W.held sink.new) (label_lines symbols.now address)) }
     ensures err { OnErr result (AppendsBeginning (W.held sink.old) (W.held sink.new) (label_lines symbols.now address)) }
@@ -34,13 +34,13 @@ fn put_labels<W: Sink>(symbols: &Symbols, address: u64, sink: &mut W) -> Result<
 {
     let mut names = symbols.names_at(address);
     while let Some(name) = names.next() {
-        put_label(name, sink)?;
+        write_label(name, sink)?;
     }
     Ok(())
 }
 
 /// Writes what stands before a line at an address: its labels, if there is a table.
-fn put_before<W: Sink>(
+fn write_before<W: Sink>(
     table: Option<&Symbols>,
     address: u64,
     sink: &mut W,
@@ -51,13 +51,13 @@ fn put_before<W: Sink>(
     ensures count { Counts (W.failed sink.old) (W.failed sink.new) result }
 {
     match table {
-        Some(symbols) => put_labels(symbols, address, sink),
+        Some(symbols) => write_labels(symbols, address, sink),
         None => Ok(()),
     }
 }
 
 /// Writes the lines of a word.
-fn put_word<W: Sink>(
+fn write_word<W: Sink>(
     table: Option<&Symbols>,
     mode: bool,
     address: u64,
@@ -70,12 +70,12 @@ fn put_word<W: Sink>(
         (word_lines (option_copied table.entry) mode address word)) }
     ensures count { Counts (W.failed sink.old) (W.failed sink.new) result }
 {
-    put_before(table, address, sink)?;
+    write_before(table, address, sink)?;
     write_all(sink, named_line(table, address, word, mode).as_bytes())
 }
 
 /// Writes the lines of a byte that is no part of a word.
-fn put_byte<W: Sink>(
+fn write_byte<W: Sink>(
     table: Option<&Symbols>,
     address: u64,
     byte: u8,
@@ -87,7 +87,7 @@ fn put_byte<W: Sink>(
         (byte_lines (option_copied table.entry) address byte)) }
     ensures count { Counts (W.failed sink.old) (W.failed sink.new) result }
 {
-    put_before(table, address, sink)?;
+    write_before(table, address, sink)?;
     write_all(sink, byte_line(address, byte).as_bytes())
 }
 
@@ -109,7 +109,7 @@ fn list_bytes<W: Sink>(
     match bytes {
         [] => Ok(()),
         [first, rest @ ..] => {
-            put_byte(table, address, *first, sink)?;
+            write_byte(table, address, *first, sink)?;
             list_bytes(table, address + 1, rest, sink)
         }
     }
@@ -134,7 +134,7 @@ fn list_words<W: Sink>(
     for index in 0..bytes.len() / 4 {
         let at = 4 * index;
         let word = LittleEndian::read_u32(&bytes[at..]);
-        put_word(table, mode, address + at as u64, word, sink)?;
+        write_word(table, mode, address + at as u64, word, sink)?;
     }
     Ok(())
 }

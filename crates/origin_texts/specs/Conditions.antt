@@ -2,7 +2,7 @@
 use Rattle.std.specs.Prelude.{ℕ, if◌then◌else◌, List, [], ◌∷◌, ◌++◌, codes, decimal}
 use Rattle.cap_rights.specs.declared.permission.Permission.{Permission}
 use Rattle.cap_rights.specs.declared.permission.Permission.TheVariants as permission
-use Rattle.explain.specs.Text.{bounds_text, mark}
+use Rattle.explain.specs.WhyText.{bounds_text, mark}
 use Rattle.steps.specs.State.{State}
 use Rattle.origins.specs.Places.{held}
 use Rattle.origins.specs.declared.tag_question.TagCondition.{TagCondition}

@@ -6,7 +6,7 @@ use Rattle.cap_bounds.specs.CapValue.{CapValue, is_tagged, is_sealed, value_base
 use Rattle.debug_commands.specs.declared.command.Place.{Place}
 use Rattle.debug_commands.specs.declared.command.Place.TheVariants.{Register, Special, Granule}
 use Rattle.disassembler.specs.Shown.{name_or}
-use Rattle.effect_texts.specs.ValueText.{value_line}
+use Rattle.explain.specs.ValueText.{value_line}
 use Rattle.steps.specs.Event.{after}
 use Rattle.steps.specs.State.{State}
 use Rattle.steps.specs.declared.event.Event.TheVariants.{Step}
@@ -15,7 +15,7 @@ use Rattle.origins.specs.Places.{held}
 use Rattle.origins.specs.declared.search.Found.{Found}
 use Rattle.symbols.specs.Labels.{labelled}
 use Rattle.symbols.specs.Symbols.{Symbol}
-use Rattle.effect_texts.specs.TraceLine.{trace_line}
+use Rattle.explain.specs.TraceLine.{trace_line}
 
 -- a place by its name, or a granule by its address
 unfoldable pub place_text : List Symbol → Place → List ℕ

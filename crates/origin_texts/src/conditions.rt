@@ -1,6 +1,6 @@
 //! The conditions of a tag as lines.
 ghost use Rattle.std.specs.Prelude.{◌≡◌, ◌++◌, OnOk, string_bytes};
-ghost use Rattle.explain.specs.Text.{mark};
+ghost use Rattle.explain.specs.WhyText.{mark};
 ghost use Rattle.origin_texts.specs.Conditions.{condition_line, condition_lines, exact_text, permission_text, question_text};
 ghost use Rattle.debug_commands.specs.Limits.{IsHolder};
 ghost use Rattle.origin_texts.specs.Asked.{AreAskedThere, IsAskedThere};
@@ -10,8 +10,7 @@ use crate::place::put_place;
 use cap_bounds::CapRep;
 use cap_rights::Permission;
 use debug_commands::Place;
-use effect_texts::{put, put_decimal, put_labelled};
-use explain::put_bounds;
+use explain::{put, put_bounds, put_decimal, put_labelled};
 use machine::Machine;
 use origins::{TagCondition, TagQuestion, held};
 use std::alloc::AllocError;

@@ -2,7 +2,7 @@
 ghost use Rattle.std.specs.Prelude.{◌≡◌, ◌<◌, ◌-◌, ◌^◌, ◌++◌, OnOk, string_bytes, IfSome};
 ghost use Rattle.cap_bounds.specs.CapValue.{is_sealed};
 ghost use Rattle.debug_commands.specs.Limits.{IsHolder};
-ghost use Rattle.effect_texts.specs.ValueText.{value_line};
+ghost use Rattle.explain.specs.ValueText.{value_line};
 ghost use Rattle.steps.specs.Applying.{IsPlanned};
 ghost use Rattle.origins.specs.Making.{source};
 ghost use Rattle.origins.specs.Places.{IsThere};
@@ -13,7 +13,7 @@ use crate::place::put_place;
 use cap_bounds::CapRep;
 use cap_rights::OType;
 use debug_commands::Place;
-use effect_texts::{put, trace_line, value_text};
+use explain::{put, trace_line, value_text};
 use machine::{Machine, Planned};
 use origins::{Found, Making, held};
 use std::alloc::AllocError;

@@ -17,7 +17,7 @@ use crate::link::{put_link, put_opening};
 use crate::place::put_place;
 use cap_bounds::CapRep;
 use debug_commands::Place;
-use effect_texts::put;
+use explain::put;
 use machine::Machine;
 use origins::{Found, Sought, held, tag_asked};
 use past::{Past, Replay};

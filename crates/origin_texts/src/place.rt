@@ -5,7 +5,7 @@ ghost use Rattle.origin_texts.specs.Link.{place_text};
 
 use asm_names::{register_name, scr_name};
 use debug_commands::Place;
-use effect_texts::{put, put_labelled};
+use explain::{put, put_labelled};
 use std::alloc::AllocError;
 use symbols::Symbols;
 

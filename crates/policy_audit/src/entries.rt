@@ -12,7 +12,7 @@ ghost use Rattle.policy_audit.specs.Turn.{turn_of};
 use crate::line::put_line;
 use crate::turn::{bring, step};
 use cap_bounds::CapRep;
-use effect_texts::put;
+use explain::put;
 use machine::Machine;
 use reach::{Range, Reach};
 use sim_run::Schedule;

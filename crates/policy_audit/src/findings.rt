@@ -8,7 +8,7 @@ ghost use Rattle.policy_audit.specs.Text.{breach_by, finding_text, step_line};
 use crate::finding::Finding;
 use breach_texts::{RuleLine, put_breach};
 use cap_bounds::CapRep;
-use effect_texts::{put, put_decimal, put_hex};
+use explain::{put, put_decimal, put_hex};
 use reached::Member;
 use std::alloc::{AllocError, Global};
 use symbols::Symbols;

@@ -6,7 +6,7 @@ ghost use Rattle.policy_audit.specs.Entries.{bytes_part, code_part, devices_part
 use crate::ranges::{put_range, put_within};
 use crate::types::put_types;
 use cap_bounds::CapRep;
-use effect_texts::put;
+use explain::put;
 use policy::{may_halt, may_seal, may_send, may_set_timer, may_use_system};
 use reach::{Range, Reach, Right};
 use std::alloc::{AllocError, Global};

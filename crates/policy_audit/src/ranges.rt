@@ -3,7 +3,7 @@ ghost use Rattle.std.specs.Prelude.{◌≡◌, ◌++◌, ◌<◌, ◌^◌, OnOk,
 ghost use Rattle.std.specs.List.{flat_map};
 ghost use Rattle.policy_audit.specs.Entries.{address_text, from_on, from_to, next_range, range_text, within_text};
 
-use effect_texts::{put, put_hex};
+use explain::{put, put_hex};
 use reach::Range;
 use std::alloc::AllocError;
 

@@ -14,7 +14,7 @@ use crate::findings::{Moment, put_findings};
 use crate::turn::{bring, step};
 use breach_texts::RuleLine;
 use cap_bounds::CapRep;
-use effect_texts::put;
+use explain::put;
 use machine::Machine;
 use policy::Rule;
 use sim_run::Schedule;

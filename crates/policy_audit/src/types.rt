@@ -5,7 +5,7 @@ ghost use Rattle.reached.specs.Links.{values};
 ghost use Rattle.policy_audit.specs.Entries.{next_type, types_part, types_text};
 
 use cap_bounds::CapRep;
-use effect_texts::{put, put_decimal};
+use explain::{put, put_decimal};
 use policy::types_of;
 use reached::Member;
 use std::alloc::{AllocError, Global};

@@ -9,7 +9,7 @@ use Rattle.debug_commands.specs.declared.command.Horizon.{Horizon}
 use Rattle.debug_commands.specs.declared.command.Horizon.TheVariants.{Stretch, Turn}
 use Rattle.debug_commands.specs.declared.command.May.{May}
 use Rattle.debug_commands.specs.declared.command.May.TheVariants.{Load, Store, System}
-use Rattle.disassembler.specs.Hex.{hex_of}
+use Rattle.texts.specs.Hex.{hex_of}
 use Rattle.symbols.specs.Symbols.{Symbol}
 use Rattle.symbols.specs.Labels.{labelled}
 use Rattle.reached.specs.declared.member.Place.{Place}

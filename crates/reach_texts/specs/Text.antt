@@ -3,10 +3,10 @@ use Rattle.std.specs.Prelude.{ℕ, ◌+◌, ◌-◌, nat_lt, Bool, if◌then◌e
 use Rattle.base.specs.declared.registers.scr.TheConstants.{MTCC}
 use Rattle.cap_bounds.specs.CapValue.{CapValue, is_sealed, value_base, value_top, value_perms}
 use Rattle.bounds_text.specs.Letters.{permission_letters}
-use Rattle.disassembler.specs.Hex.{hex_of}
+use Rattle.texts.specs.Hex.{hex_of}
 use Rattle.disassembler.specs.Shown.{name_or}
-use Rattle.trap_texts.specs.Names.{register_at_fault}
-use Rattle.effect_texts.specs.ValueText.{shown_value}
+use Rattle.explain.specs.TrapNames.{register_at_fault}
+use Rattle.explain.specs.ValueText.{shown_value}
 use Rattle.symbols.specs.Symbols.{Symbol}
 use Rattle.symbols.specs.Labels.{labelled}
 use Rattle.debug_commands.specs.declared.command.Horizon.{Horizon}

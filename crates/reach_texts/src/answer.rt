@@ -9,7 +9,7 @@ use crate::places::put_place_through;
 use cap_bounds::CapRep;
 use debug_commands::Horizon;
 use doors::Door;
-use effect_texts::put;
+use explain::put;
 use reached::{Member, chain};
 use std::alloc::{AllocError, Global};
 use symbols::Symbols;

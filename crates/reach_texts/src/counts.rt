@@ -8,7 +8,7 @@ use crate::asked::is_sealed;
 use crate::places::STATE_ROOTS;
 use cap_bounds::CapRep;
 use debug_commands::Horizon;
-use effect_texts::{put, put_decimal};
+use explain::{put, put_decimal};
 use reached::{Member, Place};
 use std::alloc::AllocError;
 

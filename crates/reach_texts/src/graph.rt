@@ -8,7 +8,7 @@ use crate::asked::is_sealed;
 use crate::places::put_place;
 use bounds_text::permission_letters;
 use cap_bounds::CapRep;
-use effect_texts::{put, put_decimal, put_hex};
+use explain::{put, put_decimal, put_hex};
 use reached::{Member, Place};
 use std::alloc::AllocError;
 use symbols::Symbols;

@@ -6,7 +6,7 @@ ghost use Rattle.reach_texts.specs.Text.{capability_text, from_text, member_line
 use crate::places::put_place;
 use bounds_text::permission_letters;
 use cap_bounds::CapRep;
-use effect_texts::{put, put_decimal, value_text};
+use explain::{put, put_decimal, value_text};
 use reached::{Member, Place};
 use std::alloc::AllocError;
 use symbols::Symbols;

@@ -9,7 +9,7 @@ use crate::opened::put_or_none;
 use cap_bounds::CapRep;
 use debug_commands::May;
 use devices::RECEIVE;
-use effect_texts::put;
+use explain::put;
 use reach::{CONTROL, HALT, STATUS, TIMER, TIMER_COMPARE, TRANSMIT};
 use reached::Member;
 use std::alloc::{AllocError, Global};

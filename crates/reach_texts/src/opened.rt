@@ -6,7 +6,7 @@ ghost use Rattle.reach_texts.specs.Summary.{address_line, is_of_types, or_none, 
 
 use base::otype;
 use cap_bounds::CapRep;
-use effect_texts::{put, put_hex, put_labelled};
+use explain::{put, put_hex, put_labelled};
 use reach::{Range, Right, ranges};
 use reached::Member;
 use std::alloc::{AllocError, Global};

@@ -4,15 +4,14 @@ ghost use Rattle.std.specs.Option.{option_copied};
 ghost use Rattle.base.specs.declared.registers.scr.TheConstants.{MTCC};
 ghost use Rattle.reach_texts.specs.Text.{behind_text, place_name, place_through, state_roots};
 ghost use Rattle.disassembler.specs.Shown.{name_or};
-ghost use Rattle.trap_texts.specs.Names.{register_at_fault as register_name_of};
+ghost use Rattle.explain.specs.TrapNames.{register_at_fault as register_name_of};
 
 use base::scr;
 use doors::Door;
-use effect_texts::{put, put_labelled};
+use explain::{put, put_labelled, register_at_fault};
 use reached::Place;
 use std::alloc::AllocError;
 use symbols::Symbols;
-use trap_texts::register_at_fault;
 
 /// Where the special registers of a reach begin among those that mtval counts: after the 32 general registers, with MTCC.
 const FIRST_SPECIAL: u64 = 32 + scr::MTCC as u64;

@@ -11,7 +11,7 @@ use crate::open_devices::{is_let, put_devices};
 use crate::opened::put_ranges;
 use cap_bounds::CapRep;
 use debug_commands::{Horizon, May};
-use effect_texts::put;
+use explain::put;
 use reach::Right;
 use reached::Member;
 use std::alloc::{AllocError, Global};

@@ -20,8 +20,8 @@ use Rattle.steps.specs.Outcome.{Outcome, Plain, Unseal, SealedJump, is_trap, out
 use Rattle.steps.specs.State.{State, pc_of}
 use Rattle.steps.specs.Step.{fetch, step_effect, stepped, stepped_unless}
 use Rattle.machine.specs.Run.{run_after}
-use Rattle.explain.specs.Text.{failed_line}
-use Rattle.trap_texts.specs.Text.{trap_text}
+use Rattle.explain.specs.WhyText.{failed_line}
+use Rattle.explain.specs.TrapText.{trap_text}
 use Rattle.sim_run.specs.declared.schedule.Schedule.{Schedule}
 use Rattle.sim_run.specs.Schedule.{block, first_steps, is_halted, steps_in, up_to_halt}
 use Rattle.symbols.specs.Symbols.{Symbol}

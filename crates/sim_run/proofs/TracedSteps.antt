@@ -16,7 +16,7 @@ use Rattle.steps.specs.Event.{after, sent}
 use Rattle.steps.specs.State.{State}
 use Rattle.machine.specs.Run.{run_after, run_sent}
 use Rattle.symbols.specs.Symbols.{Symbol}
-use Rattle.effect_texts.specs.TraceLine.{trace_line}
+use Rattle.explain.specs.TraceLine.{trace_line}
 use Rattle.sim_run.specs.declared.schedule.Schedule.{Schedule}
 use Rattle.sim_run.specs.declared.traced.TraceFault.{TraceFault}
 use Rattle.sim_run.specs.declared.traced.TraceFault.TheVariants.{Output, Trace}

@@ -7,8 +7,8 @@ use Rattle.steps.specs.Event.{after}
 use Rattle.steps.specs.State.{State, pc_of}
 use Rattle.symbols.specs.Symbols.{Symbol}
 use Rattle.symbols.specs.Labels.{labelled}
-use Rattle.trap_texts.specs.Text.{trap_text}
-use Rattle.explain.specs.Text.{failed_line}
+use Rattle.explain.specs.TrapText.{trap_text}
+use Rattle.explain.specs.WhyText.{failed_line}
 use Rattle.sim_run.specs.Unhandled.{Trapped}
 
 -- A trap was taken where mcause and mtval aren't both 0: the one trap whose cause is 0, a misaligned jump, leaves its target in mtval.

@@ -11,7 +11,7 @@ use Rattle.steps.specs.State.{State, pc_of}
 use Rattle.steps.specs.Step.{fetch}
 use Rattle.symbols.specs.Symbols.{Symbol}
 use Rattle.symbols.specs.Labels.{labelled}
-use Rattle.explain.specs.Text.{why_text}
+use Rattle.explain.specs.WhyText.{why_text}
 use Rattle.sim_run.specs.declared.schedule.Schedule.{Schedule}
 use Rattle.sim_run.specs.declared.stopping.StopAt.{StopAt}
 use Rattle.sim_run.specs.declared.stopping.StopAt.TheVariants.{Unfetched, Violation}

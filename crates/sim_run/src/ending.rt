@@ -6,7 +6,7 @@ ghost use Rattle.steps.specs.State.{pc_of};
 ghost use Rattle.steps.specs.Step.{step_effect};
 ghost use Rattle.steps.specs.declared.effect.Effect.TheVariants.{Trap};
 ghost use Rattle.symbols.specs.Labels.{labelled};
-ghost use Rattle.explain.specs.Text.{failed_line};
+ghost use Rattle.explain.specs.WhyText.{failed_line};
 ghost use Rattle.hart.specs.Opening.{opening};
 ghost use Rattle.machine.specs.Run.{run_after};
 ghost use Rattle.sim_run.specs.Ending.{ending_lines, first_trap, is_trapped, last_trap, since_line, trap_lines, trap_part};
@@ -20,15 +20,13 @@ use crate::unhandled::trap_left;
 use arrayvec::ArrayString;
 use base::{Fault, csr, scr};
 use cap_bounds::CapRep;
-use disassembler::hex_digits;
-use effect_texts::{put, put_decimal, put_labelled};
-use explain::put_failed;
+use explain::{put, put_decimal, put_failed, put_labelled, trap_text};
 use image::Image;
 use itoa::Buffer;
 use machine::{End, Machine};
 use std::alloc::{AllocError, Global};
 use symbols::Symbols;
-use trap_texts::trap_text;
+use texts::hex_digits;
 
 /// The status of a run that ended so, and the line for standard error, empty at status 0.
 pub fn verdict(end: End) -> (u8, ArrayString<64>)

@@ -5,14 +5,14 @@ ghost use Rattle.std.specs.Io.KnownBytes.{Appends};
 ghost use Rattle.steps.specs.Event.{after, sent};
 ghost use Rattle.steps.specs.declared.event.Event.TheVariants.{Step};
 ghost use Rattle.machine.specs.Run.{run_after, run_sent, end_of};
-ghost use Rattle.effect_texts.specs.TraceLine.{trace_line as trace_line_of};
+ghost use Rattle.explain.specs.TraceLine.{trace_line as trace_line_of};
 ghost use Rattle.sim_run.specs.Schedule.{block, is_halted, scheduled, steps_in, up_to_halt, IsRunnable};
 ghost use Rattle.sim_run.specs.Trace.{lines_past, CountsTraced, WasCut};
 
 use crate::run::{Ran, bring, pass, skip, write_sent};
 use crate::schedule::Schedule;
 use cap_bounds::CapRep;
-use effect_texts::trace_line;
+use explain::trace_line;
 use image::{Sink, write_all};
 use machine::{End, Machine};
 use symbols::Symbols;

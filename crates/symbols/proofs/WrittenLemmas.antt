@@ -10,7 +10,7 @@ use Rattle.std.specs.Str.Parse.{digits_value}
 use Rattle.std.proofs.lemmas.Bool.Decides.{nat_tests}
 use Rattle.std.proofs.lemmas.Int.Digits.{digits_value_push}
 use Rattle.asm_lines.specs.Text.{begins_name, continues_name, is_name}
-use Rattle.disassembler.specs.Hex.{hex_of}
+use Rattle.texts.specs.Hex.{hex_of}
 use Rattle.symbols.specs.Symbols.{Symbol, HasLine, symbol_line, symbol_of, symbols_in, symbols_of, table_text}
 use Rattle.symbols.specs.Symbols.{faulty_from, faulty_line, has_address, has_letter, is_hexadecimal_digit, is_label, is_line}
 use Rattle.symbols.specs.Symbols.{is_symbol, lines_of}

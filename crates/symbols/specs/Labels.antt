@@ -1,6 +1,6 @@
 -- Addresses by their labels: a name at an address or fewer than 4096 bytes below it.
 use Rattle.std.specs.Prelude.{ℕ, ◌-◌, ◌==◌, nat_lt, if◌then◌else◌, List, [], ◌++◌, Option, Some, None, codes, decimal}
-use Rattle.disassembler.specs.Hex.{hex_of}
+use Rattle.texts.specs.Hex.{hex_of}
 use Rattle.symbols.specs.Symbols.{Symbol, nearest}
 
 -- a table that may be left out

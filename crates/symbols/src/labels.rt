@@ -6,7 +6,8 @@ ghost use Rattle.symbols.specs.Symbols.{is_label};
 
 use crate::table::Symbols;
 use arrayvec::ArrayString;
-use itoa::Buffer;
+use texts::Piece::{Decimal, Text};
+use texts::text;
 
 /// A label and the distance from it, at most 278 bytes.
 pub type Label = ArrayString<280>;
@@ -29,18 +30,19 @@ fn distance_text(name: &str, distance: u64) -> Label
     ensures text { result.bytes ≡ distance_text name.now distance }
     ensures within { array_string_len result ≤ 278 }
 {
-    let mut label = Label::new();
     if distance >= 4096 {
-        return label;
+        return Label::new();
     }
-    label.push_str(" <");
-    label.push_str(name);
-    if distance > 0 {
-        label.push_str("+");
-        label.push_str(Buffer::new().format(distance));
+    if distance == 0 {
+        return text(&[Text(" <"), Text(name), Text(">")]);
     }
-    label.push_str(">");
-    label
+    text(&[
+        Text(" <"),
+        Text(name),
+        Text("+"),
+        Decimal(distance),
+        Text(">"),
+    ])
 }
 
 impl Symbols {

@@ -3,18 +3,18 @@ ghost use Rattle.std.specs.Prelude.{◌≡◌, ◌++◌, IfOk, OnOk};
 ghost use Rattle.symbols.specs.Reads.{seen_entries};
 ghost use Rattle.symbols.specs.Symbols.{symbol, symbol_line, table_text};
 
-use disassembler::hex_digits;
 use indexmap::IndexMap;
 use std::alloc::{AllocError, Global};
+use texts::Piece::{Hexadecimal, Text};
+use texts::append;
 
 /// Appends the line of a symbol to a text.
-fn push_line(text: &mut Vec<u8>, address: u128, name: &[u8]) -> Result<(), AllocError>
+fn append_line(text: &mut Vec<u8>, address: u128, name: &[u8]) -> Result<(), AllocError>
     ensures { OnOk result (text.new.items ≡ text.old.items ++ symbol_line (symbol address name.now)) }
 {
-    text.extend_from_slice(hex_digits(address, 16).as_bytes())?;
-    text.extend_from_slice(b" ")?;
+    append(text, &[Hexadecimal(16, address), Text(" ")])?;
     text.extend_from_slice(name)?;
-    text.extend_from_slice(b"\n")
+    append(text, &[Text("\n")])
 }
 
 /// The lines of symbols, in their order: of each the lowest 16 hexadecimal digits of its value, a blank and its name.
@@ -26,7 +26,7 @@ pub fn table_text(alloc: Global, symbols: &IndexMap<Vec<u8>, u128>) -> Result<Ve
     let entries = symbols.as_slice();
     let mut index = 0;
     while let Some((name, value)) = entries.get_index(index) {
-        push_line(&mut text, *value, name)?;
+        append_line(&mut text, *value, name)?;
         index += 1;
     }
     Ok(text)

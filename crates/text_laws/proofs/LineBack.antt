@@ -24,7 +24,7 @@ use Rattle.asm_lines.specs.Operand.{filled_draft, filled_fault, told_fault, wrap
 use Rattle.asm_lines.specs.Statement.{contents, values, said, said_unless, plain, pattern_of, pattern_said, row_said, values_fault}
 use Rattle.asm_lines.specs.Statement.{value_fault, is_in_size, said_by}
 use Rattle.asm_lines.specs.Line.{labelled, line_meaning}
-use Rattle.disassembler.specs.Hex.{hex_of}
+use Rattle.texts.specs.Hex.{hex_of}
 use Rattle.disassembler.specs.Shown.{shown_slot, shown_operands, shown_insn, shown_found, shown_word}
 use Rattle.text_laws.specs.ReadBack.{statement_of, statement_of_word, word_text, sound_line, ReadsBack}
 use Rattle.text_laws.proofs.Cut.{every, is_plain, IsPlain, ArePlain, joined, append_nil, pieces_back}

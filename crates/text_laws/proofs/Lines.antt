@@ -11,7 +11,7 @@ use Rattle.asm_lines.specs.Line.{labelled, line_said, line_of_text, line_meaning
 use Rattle.text_laws.proofs.Cut.{every, every-append, every_weaker, every_at, prefix_every, before_stop, after_stop, before_none}
 use Rattle.text_laws.proofs.Cut.{after_none, last, last-append, trimmed_end_back, trimmed_start_back, is_plain, plain_blank, IsPlain}
 use Rattle.text_laws.proofs.Cut.{ArePlain, joined, joined_last}
-use Rattle.disassembler.specs.HexLaws.{order}
+use Rattle.texts.specs.HexLaws.{order}
 
 -- a byte of a line that has no label, no comment and no quote
 abbrev pub is_line_byte : ℕ → Bool

@@ -12,11 +12,11 @@ use Rattle.asm_names.specs.SpecialNames.{name_in, csr_name, csr_named, scr_name,
 use Rattle.asm_names.specs.NameLaws.{register_named-register_name, csr_named-csr_name, scr_named-scr_name}
 use Rattle.asm_lines.specs.Number.{number_of}
 use Rattle.asm_lines.specs.Operand.{up_to, named_or}
-use Rattle.disassembler.specs.Hex.{short_hex}
+use Rattle.texts.specs.Hex.{short_hex}
 use Rattle.disassembler.specs.Shown.{is_capability, name_or, shown_register}
 use Rattle.text_laws.proofs.Cut.{every, is_plain, IsPlain}
 use Rattle.disassembler.specs.LengthLaws.{register_name_short, csr_name_short, scr_name_short}
-use Rattle.disassembler.specs.HexLaws.{length_hex_16}
+use Rattle.texts.specs.HexLaws.{length_hex_16}
 use Rattle.text_laws.proofs.Numbers.{number_decimal, number_short_hex, plain_decimal, plain_short_hex, short_decimal}
 
 abbrev is_plain_name : List ℕ → Bool

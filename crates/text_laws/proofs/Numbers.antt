@@ -13,10 +13,10 @@ use Rattle.std.proofs.lemmas.Int.{to_z_pos}
 use Rattle.std.proofs.Math.Facts.{to_z-neg}
 use Rattle.asm_lines.specs.Number.{is_numeral, is_in_limits, limited, is_hexadecimal, is_negative, number_of}
 use Rattle.asm_lines.specs.Operand.{wrapped}
-use Rattle.disassembler.specs.Hex.{hex_of, short_hex}
+use Rattle.texts.specs.Hex.{hex_of, short_hex}
 use Rattle.disassembler.specs.Shown.{shown_signed}
 use Rattle.text_laws.proofs.Cut.{every, every-append, every_weaker, every_at, prefix_every, is_plain, IsPlain}
-use Rattle.disassembler.specs.HexLaws.{order}
+use Rattle.texts.specs.HexLaws.{order}
 
 -- digits of a radix, as a test and as a fact
 abbrev pub is_digit_in : ℕ → ℕ → Bool

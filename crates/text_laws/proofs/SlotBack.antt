@@ -18,7 +18,7 @@ use Rattle.asm_lines.specs.Operand.{with_special, with_target, with_address, fil
 use Rattle.disassembler.specs.Shown.{shown_register, shown_signed, shown_target, shown_slot}
 use Rattle.text_laws.specs.ReadBack.{distance_to}
 use Rattle.text_laws.proofs.Cut.{every, every-append, is_plain, IsPlain}
-use Rattle.disassembler.specs.HexLaws.{order, length_hex_16}
+use Rattle.texts.specs.HexLaws.{order, length_hex_16}
 use Rattle.text_laws.proofs.Numbers.{number_decimal, number_signed, number_short_hex, plain_decimal, plain_signed, plain_short_hex}
 use Rattle.text_laws.proofs.Numbers.{unbracketed_signed, short_decimal, short_signed, signed_reading, wrapped_signed}
 use Rattle.text_laws.proofs.Bracketed.{bracketed, address_filled, authority_filled, expression_plus, expression_minus}

@@ -16,7 +16,7 @@ use Rattle.asm_names.specs.Mnemonic.{mnemonic}
 use Rattle.asm_names.specs.Slots.{slots_of}
 use Rattle.asm_lines.specs.Line.{line_meaning}
 use Rattle.assembler.specs.Places.{lines_of}
-use Rattle.disassembler.specs.Hex.{hex_of}
+use Rattle.texts.specs.Hex.{hex_of}
 use Rattle.disassembler.specs.Shown.{shown_slot, shown_operands, shown_insn, shown_found, shown_word}
 use Rattle.text_laws.specs.ReadBack.{word_text}
 use Rattle.text_laws.proofs.Cut.{every, every-append, every_weaker, is_plain}

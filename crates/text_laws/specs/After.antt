@@ -12,7 +12,7 @@ use Rattle.special_regs.specs.Mtvec.{mtvec_of}
 use Rattle.special_regs.specs.Traps.{is_sentry}
 use Rattle.special_regs.specs.Writes.{has_bit}
 use Rattle.cap_checks.specs.Question.{first_false}
-use Rattle.disassembler.specs.Hex.{hex_of}
+use Rattle.texts.specs.Hex.{hex_of}
 use Rattle.disassembler.specs.Shown.{shown_word}
 use Rattle.registers.specs.Registers.{register}
 use Rattle.symbols.specs.Symbols.{Symbol}
@@ -25,11 +25,11 @@ use Rattle.steps.specs.declared.effect.Store.{Store as Stored}
 use Rattle.steps.specs.IsState.{IsState}
 use Rattle.steps.specs.State.{State, pc_of}
 use Rattle.steps.specs.Step.{fetch_asked, step_effect, stepped, step_sent}
-use Rattle.effect_texts.specs.EffectText.{trap_entry, register_text, shown_special, shown_csr, shown_size, return_part}
-use Rattle.effect_texts.specs.TraceLine.{is_interrupt, step_word, trace_line}
-use Rattle.effect_texts.specs.ValueText.{shown_value}
+use Rattle.explain.specs.EffectText.{trap_entry, register_text, shown_special, shown_csr, shown_size, return_part}
+use Rattle.explain.specs.TraceLine.{is_interrupt, step_word, trace_line}
+use Rattle.explain.specs.ValueText.{shown_value}
 use Rattle.text_laws.specs.Says.{held}
-use Rattle.explain.specs.Text.{instruction_text, stages_text, why_text}
+use Rattle.explain.specs.WhyText.{instruction_text, stages_text, why_text}
 
 -- ---- parts, of the state t after the step
 

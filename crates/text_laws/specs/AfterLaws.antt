@@ -29,7 +29,7 @@ use Rattle.special_regs.specs.CsrValues.{csr_value}
 use Rattle.special_regs.specs.Mtvec.{is_vectored, mtvec_of}
 use Rattle.special_regs.specs.Refusals.{is_read_only}
 use Rattle.special_regs.specs.Writes.{csrs_written, views_written, scr_written}
-use Rattle.disassembler.specs.Hex.{hex_of}
+use Rattle.texts.specs.Hex.{hex_of}
 use Rattle.disassembler.specs.Shown.{shown_word}
 use Rattle.registers.specs.Registers.{null, register, with_register, AreRegisters}
 use Rattle.steps.specs.AppliedLaws.{IsSoundEffect}
@@ -45,12 +45,12 @@ use Rattle.steps.specs.EventLaws.{step_effect-sound}
 use Rattle.steps.specs.IsState.{IsState}
 use Rattle.steps.specs.State.{State, pc_of}
 use Rattle.steps.specs.Step.{word_unless, step_effect, stepped_unless, stepped, step_sent_unless, step_sent}
-use Rattle.effect_texts.specs.EffectText.{register_text, value_part, written_or, written_first, jump_part, effect_text}
-use Rattle.effect_texts.specs.EffectText.{shown_size, shown_special, shown_csr, return_part}
-use Rattle.effect_texts.specs.TraceLine.{word_part, step_word}
-use Rattle.effect_texts.specs.ValueText.{shown_value}
+use Rattle.explain.specs.EffectText.{register_text, value_part, written_or, written_first, jump_part, effect_text}
+use Rattle.explain.specs.EffectText.{shown_size, shown_special, shown_csr, return_part}
+use Rattle.explain.specs.TraceLine.{word_part, step_word}
+use Rattle.explain.specs.ValueText.{shown_value}
 use Rattle.text_laws.specs.Says.{held, word_here}
-use Rattle.explain.specs.Text.{instruction_text, stages_text, why_unless, why_text}
+use Rattle.explain.specs.WhyText.{instruction_text, stages_text, why_unless, why_text}
 use Rattle.text_laws.specs.After.{register_or, register_first, text_after, kept, ShowsTheStateAfter, ShowsTheWord}
 use Rattle.text_laws.specs.After.{CsrsKeepWhatIsShown, DevicesAreGivenWhatIsShown}
 use Rattle.text_laws.specs.FitsLaws.{Fits, step-fits}

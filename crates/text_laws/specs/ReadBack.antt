@@ -11,7 +11,7 @@ use Rattle.asm_lines.specs.Number.{Expression, expression, expression_of}
 use Rattle.asm_lines.specs.Operand.{wrapped}
 use Rattle.asm_lines.specs.Statement.{Statement, instruction, contents, row, values}
 use Rattle.asm_lines.specs.Line.{Line, line_meaning}
-use Rattle.disassembler.specs.Hex.{hex_of}
+use Rattle.texts.specs.Hex.{hex_of}
 use Rattle.disassembler.specs.Shown.{shown_word}
 
 abbrev pub is_target : Slot → Bool

@@ -40,7 +40,7 @@ use Rattle.steps.specs.Step.{asked, fetch_asked, word_unless}
 use Rattle.explain.specs.Asked.{insn_stages, fetched_stages, stages_unless, stages_of}
 use Rattle.text_laws.specs.Says.{held, lies_in, word_here, asked_at, asked_bytes, asked_through, FetchSays, seal_lets}
 use Rattle.text_laws.specs.Says.{ExecuteSays, InsnSays, Each, InsnStageSays, StagesSay, ConditionsSayWhatIsAsked}
-use Rattle.explain.specs.Text.{capability_in}
+use Rattle.explain.specs.WhyText.{capability_in}
 
 -- ---- what a register holds
 

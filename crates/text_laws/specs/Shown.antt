@@ -13,9 +13,8 @@ use Rattle.cap_checks.specs.declared.question.Condition.{Condition}
 use Rattle.cap_checks.specs.declared.question.Question.{Question}
 use Rattle.cap_checks.specs.declared.question.Question.TheVariants.{Right, Bounds, Multiple, Ram, RamOrDevice, Instruction, SystemRegister}
 use Rattle.asm_names.specs.Registers.{capability_names}
-use Rattle.disassembler.specs.Hex.{hex_of}
+use Rattle.texts.specs.Hex.{hex_of}
 use Rattle.disassembler.specs.Shown.{name_or}
-use Rattle.trap_texts.specs.Names.{cheri_cause_name, cheri_asked_name, register_at_fault}
 use Rattle.bounds_text.specs.Letters.{permission_letters}
 use Rattle.symbols.specs.Symbols.{Symbol}
 use Rattle.symbols.specs.Labels.{labelled}
@@ -24,12 +23,13 @@ use Rattle.steps.specs.declared.effect.Effect.TheVariants.{Trap}
 use Rattle.cap_bounds.specs.CapValue.{CapValue}
 use Rattle.steps.specs.State.{State, pc_of}
 use Rattle.steps.specs.Step.{step_effect}
-use Rattle.effect_texts.specs.EffectText as traced
-use Rattle.effect_texts.specs.EffectText.{shown_size}
-use Rattle.effect_texts.specs.ValueText.{shown_value}
+use Rattle.explain.specs.TrapNames.{cheri_cause_name, cheri_asked_name, register_at_fault}
+use Rattle.explain.specs.EffectText as traced
+use Rattle.explain.specs.EffectText.{shown_size}
+use Rattle.explain.specs.ValueText.{shown_value}
 use Rattle.explain.specs.Asked.{stages_of, all_conditions}
 use Rattle.text_laws.specs.Says.{held, Each}
-use Rattle.explain.specs.Text.{register_text, capability_in, capability_line, condition_line, stage_text, stages_text}
+use Rattle.explain.specs.WhyText.{register_text, capability_in, capability_line, condition_line, stage_text, stages_text}
 
 -- ---- registers
 

@@ -14,10 +14,8 @@ use Rattle.devices.specs.Devices.{interrupts_of}
 use Rattle.special_regs.specs.Interrupts.{pending}
 use Rattle.special_regs.specs.declared.interrupts.Interrupt.{Interrupt}
 use Rattle.asm_names.specs.SpecialNames.{csr_name, scr_name}
-use Rattle.trap_texts.specs.Names.{cause_name, cheri_cause_name, cheri_asked_name, register_at_fault}
-use Rattle.disassembler.specs.Hex.{hex_of}
+use Rattle.texts.specs.Hex.{hex_of}
 use Rattle.disassembler.specs.Shown.{name_or}
-use Rattle.effect_texts.specs.EffectText.{violation_names, taken, trap_entry}
 use Rattle.symbols.specs.Symbols.{Symbol}
 use Rattle.isa_rows.specs.declared.operands.Insn.{Insn}
 use Rattle.isa_rows.specs.declared.kinds.Kind.{Kind}
@@ -27,13 +25,15 @@ use Rattle.steps.specs.declared.effect.Effect.TheVariants.{Trap}
 use Rattle.steps.specs.Looks.{unless_fault}
 use Rattle.steps.specs.State.{State}
 use Rattle.steps.specs.Step.{fetch}
+use Rattle.explain.specs.TrapNames.{cause_name, cheri_cause_name, cheri_asked_name, register_at_fault}
+use Rattle.explain.specs.EffectText.{violation_names, taken, trap_entry}
 use Rattle.explain.specs.Asked.{stages_unless, stages_of, all_conditions, done_by_word, effect_unless}
 use Rattle.explain.specs.AskedLaws.{traps-by_its_stages}
 use Rattle.text_laws.specs.StageLaws.{text-ends}
 use Rattle.text_laws.specs.Says.{held, lies_in, word_here, FetchSays, InsnSays, Each, InsnStageSays, StagesSay}
 use Rattle.text_laws.specs.SaysLaws.{held-shown, each-append, conditions-say}
 use Rattle.text_laws.specs.Shown.{RegistersAreShown, LineSays, LinesSayWhatIsHeld, trap_by, TrapsByTheShown}
-use Rattle.explain.specs.Text.{name_text, bounds_text, multiple_text, mark, question_text, condition_line, register_text, fields_text}
+use Rattle.explain.specs.WhyText.{name_text, bounds_text, multiple_text, mark, question_text, condition_line, register_text, fields_text}
 
 -- mtval of a CHERI exception, taken apart
 entry-parts : (r k : ℕ) → k < 32 → ((32 * r + k) % 32 ≡ k) × ((32 * r + k) / 32 ≡ r)

@@ -34,7 +34,7 @@ use Rattle.explain.specs.Asked.{decoding, insn_stages, word_stages, fetched_stag
 use Rattle.text_laws.specs.Says.{word_here, Each}
 use Rattle.text_laws.specs.Shown.{Begins, Has, place_line, sized, StageShows, EachStage, until_false, StagesShowWhatTheyAsk}
 use Rattle.symbols.specs.Symbols.{Symbol}
-use Rattle.explain.specs.Text.{capability_line, condition_line, condition_lines, stage_between, stage_text, stages_text}
+use Rattle.explain.specs.WhyText.{capability_line, condition_line, condition_lines, stage_between, stage_text, stages_text}
 
 module _ (symbols : List Symbol) where
   -- ---- where a stage asks, and which capabilities

@@ -1,7 +1,7 @@
 use Rattle.std.proofs.Common.{◌≡◌, ◌+◌, ◌*◌, ◌≤◌, ◌++◌, drop}
 use Rattle.std.specs.Prelude.{string_bytes, string_len, string_capacity}
 use Rattle.std.specs.List.{flat_map}
-use Rattle.disassembler.specs.Hex.{hex_of}
+use Rattle.texts.specs.Hex.{hex_of}
 use Rattle.debugger.proofs.run.put_pairs.Given as goal
 
 abbrev pub invariant-loop-byte : goal.invariant-loop-byte

@@ -6,7 +6,7 @@ use Rattle.disassembler.proofs.disassembling.disassemble.Goals as goal
 pub returns-in-Some : goal.returns-in-Some
 returns-in-Some c =
     let e = insn_of-answered c.args.word c.decode.result (omega arith) c.decode.ensures.found c.decode.ensures.only in
-    c.text_of.ensures ∙ ap (shown_found c.args.mode c.args.word) (sym c.in-Some.is ∙ e)
+    c.insn_text.ensures ∙ ap (shown_found c.args.mode c.args.word) (sym c.in-Some.is ∙ e)
 
 pub returns-in-None : goal.returns-in-None
 returns-in-None c =

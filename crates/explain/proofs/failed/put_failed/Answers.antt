@@ -1,7 +1,7 @@
 use Rattle.std.proofs.Common.{◌++◌, ap, sym, ◌∙◌}
 use Rattle.std.proofs.lemmas.Result.{on_ok_weaker}
 use Rattle.std.specs.Prelude.{string_bytes}
-use Rattle.explain.specs.Text.{false_line}
+use Rattle.explain.specs.WhyText.{false_line}
 use Rattle.explain.proofs.FailedLine.{failed-fetch, failed-word}
 use Rattle.explain.proofs.failed.put_failed.Goals as goal
 

@@ -5,7 +5,7 @@ use Rattle.cap_checks.specs.declared.question.Question.TheVariants.{Instruction}
 use Rattle.cap_checks.specs.Question.{asks}
 use Rattle.isa_rows.specs.Decoded.{insn_of}
 use Rattle.isa_rows.specs.DecodedLaws.{insn_of-answered}
-use Rattle.explain.specs.Text.{condition_line, false_line}
+use Rattle.explain.specs.WhyText.{condition_line, false_line}
 use Rattle.explain.proofs.FailedLine.{failed-insn, failed-none}
 use Rattle.explain.proofs.failed.put_word_failed.Goals as goal
 

@@ -1,7 +1,7 @@
 use Rattle.std.proofs.Common.{◌++◌, ap, ◌∙◌}
 use Rattle.std.proofs.lemmas.Result.{on_ok_weaker}
 use Rattle.std.specs.Prelude.{string_bytes, codes}
-use Rattle.explain.specs.Text.{register_text, capability_in, fields_text}
+use Rattle.explain.specs.WhyText.{register_text, capability_in, fields_text}
 use Rattle.explain.proofs.StageTexts.{text_on}
 use Rattle.explain.proofs.fault_registers.put_capability.Goals as goal
 

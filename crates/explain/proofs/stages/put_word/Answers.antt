@@ -4,7 +4,7 @@ use Rattle.std.proofs.lemmas.Result.{on_ok_weaker}
 use Rattle.isa_rows.specs.Decoded.{insn_of}
 use Rattle.isa_rows.specs.DecodedLaws.{insn_of-answered}
 use Rattle.explain.specs.Asked.{decoding}
-use Rattle.explain.specs.Text.{stage_text}
+use Rattle.explain.specs.WhyText.{stage_text}
 use Rattle.explain.proofs.StageTexts.{shown-insn, shown-word}
 use Rattle.explain.proofs.stages.put_word.Goals as goal
 

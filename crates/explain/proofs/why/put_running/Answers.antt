@@ -1,7 +1,7 @@
 use Rattle.std.proofs.Common.{◌++◌, ap, ◌∙◌}
 use Rattle.std.proofs.lemmas.Result.{on_ok_weaker}
 use Rattle.std.specs.Prelude.{string_bytes}
-use Rattle.effect_texts.specs.EffectText.{effect_text}
+use Rattle.explain.specs.EffectText.{effect_text}
 use Rattle.explain.proofs.StageTexts.{text_on}
 use Rattle.explain.proofs.why.put_running.Goals as goal
 

@@ -7,13 +7,13 @@ use Rattle.image.specs.BeginningLaws.{beginning_after}
 use Rattle.image_listing.proofs.Listed.{first_line, to_the_end}
 use Rattle.image_listing.proofs.listing.+list_bytes.Goals as goal
 
-pub returns-in_ok-put_byte-in-len1-up-clause-err : goal.returns-in_ok-put_byte-in-len1-up-clause-err
-returns-in_ok-put_byte-in-len1-up-clause-err g t c =
+pub returns-in_ok-write_byte-in-len1-up-clause-err : goal.returns-in_ok-write_byte-in-len1-up-clause-err
+returns-in_ok-write_byte-in-len1-up-clause-err g t c =
     let table = option_copied c.args.table in
     let a = c.args.address in
     let bs = c.args.bytes.now in
     let some : 0 < length bs = omega (arith, c.in-len1-up.len_at_least) in
-    let first = c.in_ok-put_byte-in-len1-up.ensures.ok in
+    let first = c.in_ok-write_byte-in-len1-up.ensures.ok in
     on_err_weaker c.list_bytes.result
     (λ others. subst (AppendsBeginning _ _) (first_line table a bs some)
     (beginning_after _ _ _ (byte_lines table a (get_or bs 0 0)) (lines_of_bytes table (a + 1) (drop 1 bs)) first

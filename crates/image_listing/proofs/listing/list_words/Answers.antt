@@ -10,8 +10,8 @@ use Rattle.image.specs.BeginningLaws.{beginning_more, beginning_after}
 use Rattle.image_listing.proofs.Listed.{lines_cut, next_word, to_the_end}
 use Rattle.image_listing.proofs.listing.list_words.Goals as goal
 
-pub returns-in_err-put_word-clause-err : goal.returns-in_err-put_word-clause-err
-returns-in_err-put_word-clause-err g c =
+pub returns-in_err-write_word-clause-err : goal.returns-in_err-write_word-clause-err
+returns-in_err-write_word-clause-err g c =
     let p = err_from_is_err_and c.from_residual.result c.from_residual.ensures.1 in
     let i = c.loop-index.index in
     let table = option_copied c.args.table in
@@ -19,7 +19,7 @@ returns-in_err-put_word-clause-err g c =
     let a = c.args.address in
     let bs = c.args.bytes.now in
     let fits : 4 * i + 4 ≤ length bs = omega (arith, c.loop-index-test.true) in
-    let line = rw (c.read_u32-word.ensures, to_the_end (4 * i) bs) at c.in_err-put_word.ensures.err in
+    let line = rw (c.read_u32-word.ensures, to_the_end (4 * i) bs) at c.in_err-write_word.ensures.err in
     let here = beginning_after _ _ _ (lines_from table m a (take (4 * i) bs))
     (word_lines table m (a + 4 * i) (little_number 4 (drop (4 * i) bs)))
     c.loop-index.invariant.written line in
@@ -35,7 +35,7 @@ loop-index-preserved g c = record {
       let a = c.args.address in
       let bs = c.args.bytes.now in
       let fits : 4 * i + 4 ≤ length bs = omega (arith, c.loop-index-test.true) in
-      let line = rw (c.read_u32-word.ensures, to_the_end (4 * i) bs) at c.in_ok-put_word.ensures.ok in
+      let line = rw (c.read_u32-word.ensures, to_the_end (4 * i) bs) at c.in_ok-write_word.ensures.ok in
       rw (add-one i) (subst (Appends _ _) (next_word table m a i bs fits) (Appends-trans _ _ _ _ _ c.loop-index.invariant.written line));
   count = search rules;
 }

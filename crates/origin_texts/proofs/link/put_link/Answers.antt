@@ -2,7 +2,7 @@ use Rattle.std.proofs.Common.{◌+◌, ◌++◌, ◌∙◌, ap}
 use Rattle.std.specs.Prelude.{codes, string_bytes}
 use Rattle.origins.specs.Making.{source}
 use Rattle.origin_texts.specs.Link.{link_text, place_text, source_text}
-use Rattle.effect_texts.specs.TraceLine.{trace_line}
+use Rattle.explain.specs.TraceLine.{trace_line}
 use Rattle.origin_texts.proofs.Pieces.{follow, same_piece}
 use Rattle.origin_texts.proofs.There.{holder}
 use Rattle.origin_texts.proofs.link.put_link.Goals as goal

@@ -2,7 +2,7 @@ use Rattle.std.proofs.Common.{◌≡◌, ℕ, List, ◌++◌, ap, ◌∙◌}
 use Rattle.std.proofs.lemmas.Result.{on_ok_weaker}
 use Rattle.std.specs.Prelude.{codes, decimal, string_bytes}
 use Rattle.steps.specs.State.{pc_of}
-use Rattle.explain.specs.Text.{failed_line}
+use Rattle.explain.specs.WhyText.{failed_line}
 use Rattle.sim_run.specs.Ending.{trap_part}
 use Rattle.sim_run.proofs.LeftTraps.{told-trap}
 use Rattle.sim_run.proofs.Texts.{text_on}

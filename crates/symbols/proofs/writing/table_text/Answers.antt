@@ -13,5 +13,5 @@ loop-name-preserved c =
     let line = symbol_line (symbol c.in-Some.value.now c.in-Some.name.now.items) in
     let next : table_text (seen_entries (drop i entries)) ≡ line ++ rest =
     next_entry entries i (c.in-Some.name.now, c.in-Some.value.now) (search rules) in
-    let pushed : c.push_line.new.text.items ≡ text ++ line = search rules in
+    let pushed : c.append_line.new.text.items ≡ text ++ line = search rules in
     ap (λ t. t ++ rest) pushed ∙ append_assoc text line rest ∙ ap (λ t. text ++ t) (sym next) ∙ c.loop-name.invariant

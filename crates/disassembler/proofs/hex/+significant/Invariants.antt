@@ -1,4 +1,0 @@
-use Rattle.disassembler.proofs.hex.+significant.Given as goal
-
-abbrev pub decreases-significant : goal.decreases-significant
-decreases-significant l = l.n

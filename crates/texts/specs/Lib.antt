@@ -1,0 +1,5 @@
+-- What to read
+pub mod Hex
+pub mod Piece
+-- Laws
+pub mod HexLaws
