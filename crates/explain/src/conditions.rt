@@ -1,20 +1,22 @@
 //! The lines of conditions.
-ghost use Rattle.std.specs.Prelude.{◌≡◌, ◌++◌, OnOk, string_bytes};
+ghost use Rattle.std.specs.Prelude.{◌≡◌, ◌++◌, IsTrue, OnOk, string_bytes};
 ghost use Rattle.symbols.specs.Labels.{labelled};
-ghost use Rattle.explain.specs.WhyText.{name_text, question_text, bounds_text, multiple_text, mark, condition_line, condition_lines};
+ghost use Rattle.texts.specs.Piece.{text_of, are_narrow};
+ghost use Rattle.explain.specs.WhyText.{name_text, question_text, bounds_text, mark, condition_line, condition_lines};
 
-use crate::fault_registers::{capability_in, put_register};
-use crate::strings::{put, put_decimal, put_hex, put_labelled};
+use crate::fault_registers::{capability_in, register_name};
 use crate::trap_names::cheri_asked_name;
 use base::CheriCause;
 use cap_bounds::CapRep;
 use cap_checks::{Condition, Question};
 use hart::Hart;
 use std::alloc::AllocError;
-use symbols::Symbols;
+use symbols::{Symbols, labelled};
+use texts::Piece::{self, Decimal, Hexadecimal, Text};
+use texts::append;
 
 /// Appends a text, an address and its label to a text.
-pub(crate) fn put_at(
+pub(crate) fn append_at(
     text: &mut String,
     symbols: &Symbols,
     before: &str,
@@ -22,17 +24,17 @@ pub(crate) fn put_at(
 ) -> Result<(), AllocError>
     ensures { OnOk result (string_bytes text.new ≡ string_bytes text.old ++ (before.now ++ labelled symbols.now address)) }
 {
-    put(text, before)?;
-    put_labelled(text, symbols, address)
+    let place = labelled(Some(symbols), address);
+    append(text, &[Text(before), Text(place.as_str())])
 }
 
-/// Appends what is asked of a capability, and its register, to a text.
-fn put_name(text: &mut String, register: u64, cause: CheriCause) -> Result<(), AllocError>
-    ensures { OnOk result (string_bytes text.new ≡ string_bytes text.old ++ name_text register cause) }
+/// What is asked of a capability, and its register.
+fn name(register: u64, cause: CheriCause) -> [Piece<'static>; 3]
+    ensures text { text_of result ≡ name_text register cause }
+    ensures narrow { IsTrue (are_narrow result) }
 {
-    put(text, cheri_asked_name(cause.number()).unwrap_or(""))?;
-    put(text, " of ")?;
-    put_register(text, register)
+    let asked = cheri_asked_name(cause.number()).unwrap_or("");
+    [Text(asked), Text(" of "), Text(register_name(register))]
 }
 
 /// Appends the bytes that are asked for, and a capability's bounds, addresses with their labels, to a text.
@@ -49,31 +51,26 @@ pub fn put_bounds<C: CapRep>(
 ) -> Result<(), AllocError>
     ensures { OnOk result (string_bytes text.new ≡ string_bytes text.old ++ bounds_text symbols.now address size (C.value capability)) }
 {
-    put_at(text, symbols, ": ", address)?;
-    put(text, " + ")?;
-    put_decimal(text, size)?;
-    put_at(text, symbols, " in ", capability.base())?;
-    put(text, " to ")?;
-    put_hex(text, 17, capability.top())
-}
-
-fn put_multiple(
-    text: &mut String,
-    symbols: &Symbols,
-    size: u64,
-    address: u64,
-) -> Result<(), AllocError>
-    ensures { OnOk result (string_bytes text.new ≡ string_bytes text.old ++ multiple_text symbols.now size address) }
-{
-    put(text, "a multiple of ")?;
-    put_decimal(text, size)?;
-    put(text, ": ")?;
-    put_labelled(text, symbols, address)
+    let place = labelled(Some(symbols), address);
+    let base = labelled(Some(symbols), capability.base());
+    append(
+        text,
+        &[
+            Text(": "),
+            Text(place.as_str()),
+            Text(" + "),
+            Decimal(size),
+            Text(" in "),
+            Text(base.as_str()),
+            Text(" to "),
+            Hexadecimal(17, capability.top()),
+        ],
+    )
 }
 
 /// Appends what a condition asks to a text.
 #[tactic(auto, unfolding(crate::specs::WhyText::question_text))]
-fn put_question<C: CapRep>(
+fn append_question<C: CapRep>(
     text: &mut String,
     symbols: &Symbols,
     hart: &Hart<C>,
@@ -82,28 +79,36 @@ fn put_question<C: CapRep>(
     ensures { OnOk result (string_bytes text.new ≡ string_bytes text.old ++ question_text symbols.now hart.now question) }
 {
     match question {
-        Question::Right { register, cause } => put_name(text, register, cause),
+        Question::Right { register, cause } => append(text, &name(register, cause)),
         Question::Bounds {
             register,
             address,
             size,
         } => {
-            put_name(text, register, CheriCause::Length)?;
+            append(text, &name(register, CheriCause::Length))?;
             put_bounds(text, symbols, address, size, capability_in(hart, register))
         }
-        Question::Multiple { address, size, .. } => put_multiple(text, symbols, size, address),
-        Question::Ram { address, .. } => put_at(text, symbols, "RAM at ", address),
-        Question::RamOrDevice { address, .. } => put_at(
-            text,
-            symbols,
-            "RAM or a device at ",
-            address,
-        ),
-        Question::Instruction { .. } => put(text, "the word is an instruction"),
-        Question::SystemRegister { .. } => put(
-            text,
-            "there is such a register, and it may be written where it is",
-        ),
+        Question::Multiple { address, size, .. } => {
+            let place = labelled(Some(symbols), address);
+            append(
+                text,
+                &[
+                    Text("a multiple of "),
+                    Decimal(size),
+                    Text(": "),
+                    Text(place.as_str()),
+                ],
+            )
+        }
+        Question::Ram { address, .. } => append_at(text, symbols, "RAM at ", address),
+        Question::RamOrDevice { address, .. } => {
+            append_at(text, symbols, "RAM or a device at ", address)
+        }
+        Question::Instruction { .. } => append(text, &[Text("the word is an instruction")]),
+        Question::SystemRegister { .. } => {
+            let question = "there is such a register, and it may be written where it is";
+            append(text, &[Text(question)])
+        }
     }
 }
 
@@ -115,7 +120,7 @@ fn mark(holds: bool) -> &'static str
 
 /// Appends the line of a condition to a text.
 #[tactic(auto, unfolding(crate::specs::WhyText::condition_line))]
-pub(crate) fn put_line<C: CapRep>(
+pub(crate) fn append_line<C: CapRep>(
     text: &mut String,
     symbols: &Symbols,
     hart: &Hart<C>,
@@ -123,13 +128,13 @@ pub(crate) fn put_line<C: CapRep>(
 ) -> Result<(), AllocError>
     ensures { OnOk result (string_bytes text.new ≡ string_bytes text.old ++ condition_line symbols.now hart.now condition) }
 {
-    put(text, mark(condition.holds))?;
-    put_question(text, symbols, hart, condition.question)?;
-    put(text, "\n")
+    append(text, &[Text(mark(condition.holds))])?;
+    append_question(text, symbols, hart, condition.question)?;
+    append(text, &[Text("\n")])
 }
 
 /// Appends the lines of conditions to a text, up to the first that is false.
-pub(crate) fn put_conditions<C: CapRep>(
+pub(crate) fn append_conditions<C: CapRep>(
     text: &mut String,
     symbols: &Symbols,
     hart: &Hart<C>,
@@ -138,13 +143,13 @@ pub(crate) fn put_conditions<C: CapRep>(
     ensures { OnOk result (string_bytes text.new ≡ string_bytes text.old ++ condition_lines symbols.now hart.now conditions.now) }
 {
     match conditions {
-        [] => put(text, ""),
+        [] => Ok(()),
         [first, rest @ ..] => {
-            put_line(text, symbols, hart, *first)?;
+            append_line(text, symbols, hart, *first)?;
             if first.holds {
-                put_conditions(text, symbols, hart, rest)
+                append_conditions(text, symbols, hart, rest)
             } else {
-                put(text, "")
+                Ok(())
             }
         }
     }

@@ -1,5 +1,5 @@
 //! The text of an effect.
-ghost use Rattle.std.specs.Prelude.{◌≡◌, ◌+◌, ◌*◌, ◌<◌, ◌≤◌, ◌++◌, length, codes};
+ghost use Rattle.std.specs.Prelude.{◌≡◌, ◌*◌, ◌≤◌, ◌++◌, length, codes};
 ghost use Rattle.std.specs.Option.{option_copied};
 ghost use Rattle.arrayvec.specs.ArrayString.{array_string_len};
 ghost use Rattle.cap_bounds.specs.SetAddress.{at_address};
@@ -9,13 +9,19 @@ ghost use Rattle.symbols.specs.Labels.{labelled, table_of};
 ghost use Rattle.explain.specs.ValueText.{shown_value};
 ghost use Rattle.explain.specs.EffectText as spec;
 
-use crate::text::{Text, put_address, put_hex, put_value, put_written_first, put_written_or};
-use crate::trap::put_trap;
-use asm_names::{csr_name, scr_name};
+use crate::trap::trap_entry;
+use crate::value::value_text;
+use crate::written::{control_name, special_name, written_first, written_or};
+use arrayvec::ArrayString;
 use base::Size;
 use cap_bounds::CapRep;
 use steps::{CsrWrite, DeviceLoad, Effect, Enter, Link, SpecialWrite, Store, StoreCapability};
-use symbols::Symbols;
+use symbols::{Symbols, labelled};
+use texts::Piece::{Hexadecimal, Text};
+use texts::{fill, text};
+
+/// The text of an effect.
+pub(crate) type Line = ArrayString<544>;
 
 /// A number of bytes in words: `1 byte`, `8 bytes`.
 pub fn size_text(size: Size) -> &'static str
@@ -30,170 +36,154 @@ pub fn size_text(size: Size) -> &'static str
     }
 }
 
-/// Appends a store of a number to a text.
-fn put_store(text: &mut Text, symbols: Option<&Symbols>, store: Store)
-    requires { array_string_len text.old + 338 ≤ 544 }
-    ensures text { text.new.bytes ≡ text.old.bytes ++ spec.store_part (table_of (option_copied symbols.entry)) store }
-    ensures within { array_string_len text.new ≤ array_string_len text.old + 338 }
+/// A store of a number.
+fn store_part(symbols: Option<&Symbols>, store: Store) -> ArrayString<336>
+    ensures { result.bytes ≡ spec.store_part (table_of (option_copied symbols.entry)) store }
 {
-    text.push_str("store ");
-    text.push_str(size_text(store.size));
-    text.push_str(" at ");
-    put_address(text, symbols, store.address);
-    text.push_str(": ");
-    put_hex(text, 2 * store.size.bytes() as usize, store.number);
+    let mut part = text(&[Text("store "), Text(size_text(store.size)), Text(" at ")]);
+    let place = labelled(symbols, store.address);
+    let width = 2 * store.size.bytes() as usize;
+    fill(
+        &mut part,
+        &[
+            Text(place.as_str()),
+            Text(": "),
+            Hexadecimal(width, u128::from(store.number)),
+        ],
+    );
+    part
 }
 
-/// Appends a store of a capability to a text.
-fn put_capability<C: CapRep>(text: &mut Text, symbols: Option<&Symbols>, store: StoreCapability<C>)
-    requires { array_string_len text.old + 398 ≤ 544 }
-    ensures text { text.new.bytes ≡ text.old.bytes
-        ++ codes "store capability at " ++ labelled (table_of (option_copied symbols.entry)) store.address
+/// A store of a capability.
+fn capability_part<C: CapRep>(symbols: Option<&Symbols>, store: StoreCapability<C>) -> Line
+    ensures text { result.bytes ≡ codes "store capability at " ++ labelled (table_of (option_copied symbols.entry)) store.address
         ++ codes ": " ++ shown_value (C.value store.value) }
-    ensures within { array_string_len text.new ≤ array_string_len text.old + 398 }
+    ensures within { array_string_len result ≤ 486 }
 {
-    text.push_str("store capability at ");
-    put_address(text, symbols, store.address);
-    text.push_str(": ");
-    put_value(text, store.value);
+    let place = labelled(symbols, store.address);
+    let shown = value_text(store.value);
+    text(&[
+        Text("store capability at "),
+        Text(place.as_str()),
+        Text(": "),
+        Text(shown.as_str()),
+    ])
 }
 
-/// Appends a load from a device register to a text.
-fn put_load<C: CapRep>(text: &mut Text, symbols: Option<&Symbols>, load: DeviceLoad<C>)
-    requires { array_string_len text.old + 398 ≤ 544 }
-    ensures text { text.new.bytes ≡ text.old.bytes
-        ++ spec.written_or (codes "load") load.rd (C.value load.value)
+/// A load from a device register.
+fn load_part<C: CapRep>(symbols: Option<&Symbols>, load: DeviceLoad<C>) -> Line
+    ensures text { result.bytes ≡ spec.written_or (codes "load") load.rd (C.value load.value)
         ++ codes " from device " ++ labelled (table_of (option_copied symbols.entry)) load.address }
-    ensures within { array_string_len text.new ≤ array_string_len text.old + 398 }
+    ensures within { array_string_len result ≤ 486 }
 {
-    put_written_or(text, "load", load.rd, load.value);
-    text.push_str(" from device ");
-    put_address(text, symbols, load.address);
+    let written = written_or("load", load.rd, load.value);
+    let place = labelled(symbols, load.address);
+    text(&[
+        Text(written.as_str()),
+        Text(" from device "),
+        Text(place.as_str()),
+    ])
 }
 
-/// Appends a jump to a text.
-fn put_jump(text: &mut Text, symbols: Option<&Symbols>, target: u64)
-    requires { array_string_len text.old + 302 ≤ 544 }
-    ensures text { text.new.bytes ≡ text.old.bytes ++ spec.jump_part (table_of (option_copied symbols.entry)) target }
-    ensures within { array_string_len text.new ≤ array_string_len text.old + 302 }
+/// A jump with a link.
+fn link_part<C: CapRep>(symbols: Option<&Symbols>, link: Link<C>) -> Line
+    ensures text { result.bytes ≡ spec.written_first link.rd (C.value link.link)
+        ++ spec.jump_part (table_of (option_copied symbols.entry)) link.target }
+    ensures within { array_string_len result ≤ 486 }
 {
-    text.push_str("jump to ");
-    put_address(text, symbols, target);
+    let written = written_first(link.rd, link.link);
+    let target = labelled(symbols, link.target);
+    text(&[
+        Text(written.as_str()),
+        Text("jump to "),
+        Text(target.as_str()),
+    ])
 }
 
-/// Appends a jump with a link to a text.
-fn put_link<C: CapRep>(text: &mut Text, symbols: Option<&Symbols>, link: Link<C>)
-    requires { array_string_len text.old + 398 ≤ 544 }
-    ensures text { text.new.bytes ≡ text.old.bytes
-        ++ spec.written_first link.rd (C.value link.link) ++ spec.jump_part (table_of (option_copied symbols.entry)) link.target }
-    ensures within { array_string_len text.new ≤ array_string_len text.old + 398 }
-{
-    put_written_first(text, link.rd, link.link);
-    put_jump(text, symbols, link.target);
-}
-
-/// Appends a jump to a capability to a text.
-fn put_enter<C: CapRep>(text: &mut Text, symbols: Option<&Symbols>, enter: Enter<C>)
-    requires { array_string_len text.old + 486 ≤ 544 }
-    ensures text { text.new.bytes ≡ text.old.bytes
-        ++ spec.written_first enter.rd (C.value enter.link)
+/// A jump to a capability.
+fn enter_part<C: CapRep>(symbols: Option<&Symbols>, enter: Enter<C>) -> Line
+    ensures text { result.bytes ≡ spec.written_first enter.rd (C.value enter.link)
         ++ spec.jump_part (table_of (option_copied symbols.entry)) enter.target ++ codes ", "
         ++ spec.value_part (codes "pcc") (at_address (C.value enter.code) enter.target) }
-    ensures within { array_string_len text.new ≤ array_string_len text.old + 486 }
+    ensures within { array_string_len result ≤ 486 }
 {
-    put_written_first(text, enter.rd, enter.link);
-    put_jump(text, symbols, enter.target);
-    text.push_str(", pcc = ");
-    put_value(text, enter.code.set_address(enter.target));
+    let written = written_first(enter.rd, enter.link);
+    let target = labelled(symbols, enter.target);
+    let shown = value_text(enter.code.set_address(enter.target));
+    text(&[
+        Text(written.as_str()),
+        Text("jump to "),
+        Text(target.as_str()),
+        Text(", pcc = "),
+        Text(shown.as_str()),
+    ])
 }
 
-/// Appends the name of a special capability register to a text.
-#[tactic(auto, using(disassembler::specs::LengthLaws::scr_name_short))]
-fn put_special_name(text: &mut Text, number: u8)
-    requires { array_string_len text.old + 20 ≤ 544 }
-    ensures text { text.new.bytes ≡ text.old.bytes ++ spec.shown_special number }
-    ensures within { array_string_len text.new ≤ array_string_len text.old + 20 }
+/// An exchange of a special capability register.
+fn special_part<C: CapRep>(write: SpecialWrite<C>) -> Line
+    ensures text { result.bytes ≡ spec.written_first write.rd (C.value write.old)
+        ++ spec.value_part (spec.shown_special write.number) (C.value write.value) }
+    ensures within { array_string_len result ≤ 486 }
 {
-    match scr_name(number) {
-        Some(name) => text.push_str(name),
-        None => {
-            text.push_str("scr ");
-            put_hex(text, 2, u64::from(number));
-        }
-    }
+    let written = written_first(write.rd, write.old);
+    let name = special_name(write.number);
+    let shown = value_text(write.value);
+    text(&[
+        Text(written.as_str()),
+        Text(name.as_str()),
+        Text(" = "),
+        Text(shown.as_str()),
+    ])
 }
 
-/// Appends the name of a control and status register to a text.
-#[tactic(auto, using(disassembler::specs::LengthLaws::csr_name_short))]
-fn put_csr_name(text: &mut Text, number: u16)
-    requires { array_string_len text.old + 20 ≤ 544 }
-    ensures text { text.new.bytes ≡ text.old.bytes ++ spec.shown_csr number }
-    ensures within { array_string_len text.new ≤ array_string_len text.old + 20 }
+/// A write of a control and status register.
+fn control_part<C: CapRep>(write: CsrWrite<C>) -> Line
+    ensures text { result.bytes ≡ spec.written_first write.rd (C.value write.old)
+        ++ spec.shown_csr write.number ++ codes " = " ++ hex_of 16 write.value }
+    ensures within { array_string_len result ≤ 486 }
 {
-    match csr_name(number) {
-        Some(name) => text.push_str(name),
-        None => {
-            text.push_str("csr ");
-            put_hex(text, 3, u64::from(number));
-        }
-    }
-}
-
-/// Appends an exchange of a special capability register to a text.
-fn put_special<C: CapRep>(text: &mut Text, write: SpecialWrite<C>)
-    requires { array_string_len text.old + 208 ≤ 544 }
-    ensures text { text.new.bytes ≡ text.old.bytes
-        ++ spec.written_first write.rd (C.value write.old) ++ spec.value_part (spec.shown_special write.number) (C.value write.value) }
-    ensures within { array_string_len text.new ≤ array_string_len text.old + 208 }
-{
-    put_written_first(text, write.rd, write.old);
-    put_special_name(text, write.number);
-    text.push_str(" = ");
-    put_value(text, write.value);
-}
-
-/// Appends a write of a control and status register to a text.
-fn put_csr<C: CapRep>(text: &mut Text, write: CsrWrite<C>)
-    requires { array_string_len text.old + 208 ≤ 544 }
-    ensures text { text.new.bytes ≡ text.old.bytes
-        ++ spec.written_first write.rd (C.value write.old) ++ spec.shown_csr write.number ++ codes " = " ++ hex_of 16 write.value }
-    ensures within { array_string_len text.new ≤ array_string_len text.old + 208 }
-{
-    put_written_first(text, write.rd, write.old);
-    put_csr_name(text, write.number);
-    text.push_str(" = ");
-    put_hex(text, 16, write.value);
+    let written = written_first(write.rd, write.old);
+    let name = control_name(write.number);
+    text(&[
+        Text(written.as_str()),
+        Text(name.as_str()),
+        Text(" = "),
+        Hexadecimal(16, u128::from(write.value)),
+    ])
 }
 
 /// The text of what a step changes, one line without a line feed, at most 486 bytes: a register and its new value, what is stored and
 /// where, where a jump goes, or which trap is entered. A write to register 0 is not shown. After an address stands its label, of at
 /// most 278 bytes. It takes no memory.
 #[tactic(auto, unfolding(crate::specs::EffectText::effect_text))]
-pub fn effect_text<C: CapRep>(symbols: Option<&Symbols>, effect: &Effect<C>) -> Text
+pub fn effect_text<C: CapRep>(symbols: Option<&Symbols>, effect: &Effect<C>) -> Line
     ensures text { result.bytes ≡ spec.effect_text (table_of (option_copied symbols.entry)) (meant C.value effect.now) }
     ensures length { array_string_len result ≤ 486 }
 {
-    let mut text = Text::new();
     match effect {
-        Effect::Trap(fault) => put_trap(&mut text, *fault),
-        Effect::Nothing => text.push_str("nothing"),
-        Effect::Write(write) | Effect::Unseal(write) => {
-            put_written_or(&mut text, "nothing", write.rd, write.value);
-        }
-        Effect::Store(store) => put_store(&mut text, symbols, *store),
-        Effect::StoreCapability(store) => put_capability(&mut text, symbols, *store),
-        Effect::DeviceLoad(load) => put_load(&mut text, symbols, *load),
-        Effect::DeviceStore(store) => {
-            text.push_str("device ");
-            put_store(&mut text, symbols, *store);
-        }
-        Effect::Jump(target) => put_jump(&mut text, symbols, *target),
-        Effect::Link(link) => put_link(&mut text, symbols, *link),
-        Effect::Enter(enter) => put_enter(&mut text, symbols, *enter),
-        Effect::Special(write) => put_special(&mut text, *write),
-        Effect::Csr(write) => put_csr(&mut text, *write),
-        Effect::Return { sealed: true } => text.push_str("return from trap through a sentry"),
-        Effect::Return { sealed: false } => text.push_str("return from trap"),
+        Effect::Trap(fault) => trap_entry(*fault),
+        Effect::Nothing => text(&[Text("nothing")]),
+        Effect::Write(write) | Effect::Unseal(write) => text(&[Text(written_or(
+            "nothing",
+            write.rd,
+            write.value,
+        ).as_str())]),
+        Effect::Store(store) => text(&[Text(store_part(symbols, *store).as_str())]),
+        Effect::StoreCapability(store) => capability_part(symbols, *store),
+        Effect::DeviceLoad(load) => load_part(symbols, *load),
+        Effect::DeviceStore(store) => text(&[
+            Text("device "),
+            Text(store_part(symbols, *store).as_str()),
+        ]),
+        Effect::Jump(target) => text(&[
+            Text("jump to "),
+            Text(labelled(symbols, *target).as_str()),
+        ]),
+        Effect::Link(link) => link_part(symbols, *link),
+        Effect::Enter(enter) => enter_part(symbols, *enter),
+        Effect::Special(write) => special_part(*write),
+        Effect::Csr(write) => control_part(*write),
+        Effect::Return { sealed: true } => text(&[Text("return from trap through a sentry")]),
+        Effect::Return { sealed: false } => text(&[Text("return from trap")]),
     }
-    text
 }

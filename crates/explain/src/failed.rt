@@ -4,9 +4,8 @@ ghost use Rattle.isa_rows.specs.Decoded.{insn_of};
 ghost use Rattle.explain.specs.Asked.{all_conditions, word_stages};
 ghost use Rattle.explain.specs.WhyText.{failed_line, false_line};
 
-use crate::conditions::put_line;
+use crate::conditions::append_line;
 use crate::stages::is_interrupted;
-use crate::strings::put;
 use cap_bounds::CapRep;
 use cap_checks::{Condition, Question};
 use hart::Hart;
@@ -15,7 +14,7 @@ use std::alloc::AllocError;
 use symbols::Symbols;
 
 /// Appends the line of the first condition that is false to a text, where one is.
-fn put_false<C: CapRep>(
+fn append_false<C: CapRep>(
     text: &mut String,
     symbols: &Symbols,
     hart: &Hart<C>,
@@ -24,19 +23,19 @@ fn put_false<C: CapRep>(
     ensures { OnOk result (string_bytes text.new ≡ string_bytes text.old ++ false_line symbols.now hart.now conditions.now) }
 {
     match conditions {
-        [] => put(text, ""),
+        [] => Ok(()),
         [first, rest @ ..] => {
             if first.holds {
-                put_false(text, symbols, hart, rest)
+                append_false(text, symbols, hart, rest)
             } else {
-                put_line(text, symbols, hart, *first)
+                append_line(text, symbols, hart, *first)
             }
         }
     }
 }
 
 /// Appends the line of the condition that fails of a word that was fetched to a text, where one does.
-fn put_word_failed<C: CapRep>(
+fn append_word_failed<C: CapRep>(
     text: &mut String,
     symbols: &Symbols,
     hart: &Hart<C>,
@@ -48,14 +47,14 @@ fn put_word_failed<C: CapRep>(
     match decode(word) {
         Some(insn) => {
             let asked = hart.asked(*text.allocator(), word, insn)?;
-            put_false(text, symbols, hart, &asked)
+            append_false(text, symbols, hart, &asked)
         }
         None => {
             let question = Question::Instruction {
                 word: u64::from(word),
             };
             let holds = false;
-            put_line(text, symbols, hart, Condition { question, holds })
+            append_line(text, symbols, hart, Condition { question, holds })
         }
     }
 }
@@ -75,13 +74,13 @@ pub fn put_failed<C: CapRep>(
     ensures { OnOk result (string_bytes text.new ≡ string_bytes text.old ++ failed_line symbols.now hart.now) }
 {
     if is_interrupted(hart) {
-        return put(text, "");
+        return Ok(());
     }
     match hart.fetch() {
-        Ok(word) => put_word_failed(text, symbols, hart, word),
+        Ok(word) => append_word_failed(text, symbols, hart, word),
         Err(_) => {
             let asked = hart.fetch_asked(*text.allocator())?;
-            put_false(text, symbols, hart, &asked)
+            append_false(text, symbols, hart, &asked)
         }
     }
 }

@@ -1,8 +1,7 @@
 //! Registers as mtval counts them, and their capabilities.
-ghost use Rattle.std.specs.Prelude.{◌≡◌, ◌++◌, OnOk, string_bytes};
+ghost use Rattle.std.specs.Prelude.{◌≡◌, ◌++◌, OnOk, string_bytes, codes};
 ghost use Rattle.explain.specs.WhyText.{register_text, capability_in, capability_line, fields_text};
 
-use crate::strings::put;
 use crate::trap_names::register_at_fault;
 use crate::value::value_text;
 use base::FIRST_SPECIAL;
@@ -11,6 +10,8 @@ use cap_bounds::CapRep;
 use cap_insns::integer;
 use hart::Hart;
 use std::alloc::AllocError;
+use texts::Piece::Text;
+use texts::append;
 
 /// The capability in a register: 0 to 31 general, 32 and its number special. Null where there is no such register.
 pub(crate) fn capability_in<C: CapRep>(hart: &Hart<C>, register: u64) -> C
@@ -25,33 +26,41 @@ pub(crate) fn capability_in<C: CapRep>(hart: &Hart<C>, register: u64) -> C
     }
 }
 
-/// Appends the name of a register to a text.
-pub(crate) fn put_register(text: &mut String, register: u64) -> Result<(), AllocError>
-    ensures { OnOk result (string_bytes text.new ≡ string_bytes text.old ++ register_text register) }
+/// The name of a register; nothing where there is none.
+pub(crate) fn register_name(register: u64) -> &'static str
+    ensures { result.now ≡ register_text register }
 {
-    put(text, register_at_fault(register).unwrap_or(""))
+    register_at_fault(register).unwrap_or("")
 }
 
-/// Appends a capability's fields, and its permissions in letters, to a text.
-fn put_fields<C: CapRep>(text: &mut String, capability: C) -> Result<(), AllocError>
-    ensures { OnOk result (string_bytes text.new ≡ string_bytes text.old ++ fields_text (C.value capability)) }
+/// Appends the rest of a capability's line to a text: its fields, and its permissions in letters.
+fn append_fields<C: CapRep>(text: &mut String, capability: C) -> Result<(), AllocError>
+    ensures { OnOk result (string_bytes text.new ≡ string_bytes text.old ++ (fields_text (C.value capability) ++ codes "\n")) }
 {
-    put(text, value_text(capability).as_str())?;
-    put(text, " ")?;
-    put(text, permission_letters(capability.perms()).as_str())
+    let fields = value_text(capability);
+    let letters = permission_letters(capability.perms());
+    append(
+        text,
+        &[
+            Text(fields.as_str()),
+            Text(" "),
+            Text(letters.as_str()),
+            Text("\n"),
+        ],
+    )
 }
 
-/// Appends the line of the capability in a register to a text.
-pub(crate) fn put_capability<C: CapRep>(
+/// Appends the line of the capability in a register to a text: its fields, and its permissions in letters.
+pub(crate) fn append_capability<C: CapRep>(
     text: &mut String,
     hart: &Hart<C>,
     register: u64,
 ) -> Result<(), AllocError>
     ensures { OnOk result (string_bytes text.new ≡ string_bytes text.old ++ capability_line hart.now register) }
 {
-    put(text, "  ")?;
-    put_register(text, register)?;
-    put(text, " ")?;
-    put_fields(text, capability_in(hart, register))?;
-    put(text, "\n")
+    append(
+        text,
+        &[Text("  "), Text(register_name(register)), Text(" ")],
+    )?;
+    append_fields(text, capability_in(hart, register))
 }

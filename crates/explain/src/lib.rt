@@ -10,20 +10,19 @@ pub mod laws;
 mod line;
 mod stages;
 mod strings;
-mod text;
 mod trap;
 mod trap_names;
 mod trap_words;
 mod value;
 mod why;
 mod word;
+mod written;
 
 pub use conditions::put_bounds;
 pub use effect::{effect_text, size_text};
 pub use failed::put_failed;
 pub use line::{Line, trace_line};
 pub use strings::{put, put_decimal, put_hex, put_labelled};
-pub use text::Text;
 pub use trap_names::{
     CHERI_CAUSES, EXCEPTIONS, INTERRUPTS, cause_name, cheri_asked_name, cheri_cause_name,
     register_at_fault,

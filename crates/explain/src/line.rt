@@ -1,10 +1,9 @@
 //! A line of a trace, with labels where there is a table of symbols.
-ghost use Rattle.std.specs.Prelude.{◌≡◌, ◌+◌, ◌≤◌, ◌++◌};
+ghost use Rattle.std.specs.Prelude.{◌≡◌};
 ghost use Rattle.std.specs.Option.{option_copied};
-ghost use Rattle.arrayvec.specs.ArrayString.{array_string_len};
 ghost use Rattle.steps.specs.Applying.{meant, IsPlanned};
 ghost use Rattle.steps.specs.Step.{step_effect};
-ghost use Rattle.symbols.specs.Labels.{labelled, table_of};
+ghost use Rattle.symbols.specs.Labels.{table_of};
 ghost use Rattle.explain.specs.TraceLine as spec;
 
 use crate::effect::effect_text;
@@ -13,10 +12,10 @@ use base::interrupt;
 use cap_bounds::CapRep;
 use disassembler::disassemble;
 use hart::{Hart, Planned};
-use itoa::Buffer;
 use steps::Effect;
-use symbols::Symbols;
-use texts::hex_digits;
+use symbols::{Symbols, labelled};
+use texts::Piece::{Decimal, Hexadecimal, Text};
+use texts::text;
 
 /// The text of a line.
 pub type Line = ArrayString<960>;
@@ -32,19 +31,6 @@ fn given(symbols: &Symbols) -> Option<&Symbols>
     }
 }
 
-/// Appends an address and its label to a line.
-#[tactic(auto, unfolding(symbols::specs::Labels::labelled, symbols::specs::Labels::label_of))]
-fn put_address(line: &mut Line, symbols: Option<&Symbols>, address: u64)
-    requires { array_string_len line.old + 294 ≤ 960 }
-    ensures text { line.new.bytes ≡ line.old.bytes ++ labelled (table_of (option_copied symbols.entry)) address }
-    ensures within { array_string_len line.new ≤ array_string_len line.old + 294 }
-{
-    line.push_str(hex_digits(u128::from(address), 16).as_str());
-    if let Some(symbols) = symbols {
-        line.push_str(symbols.label_of(address).as_str());
-    }
-}
-
 /// Whether an effect is an interrupt that is taken.
 fn is_interrupt<C: CapRep>(effect: &Effect<C>) -> bool
     ensures { result ≡ spec.is_interrupt (meant C.value effect.now) }
@@ -55,25 +41,25 @@ fn is_interrupt<C: CapRep>(effect: &Effect<C>) -> bool
     }
 }
 
-/// Appends the word that the next step does and its text to a line.
+/// The word that the next step does, and its text.
 #[tactic(auto, unfolding(crate::specs::TraceLine::step_word))]
-fn put_word<C: CapRep>(line: &mut Line, hart: &Hart<C>, effect: &Effect<C>)
-    requires effect { meant C.value effect.now ≡ step_effect hart.now }
-    requires room { array_string_len line.old + 80 ≤ 960 }
-    ensures text { line.new.bytes ≡ line.old.bytes ++ spec.step_word hart.now }
-    ensures within { array_string_len line.new ≤ array_string_len line.old + 80 }
+fn step_word<C: CapRep>(hart: &Hart<C>, effect: &Effect<C>) -> ArrayString<80>
+    requires { meant C.value effect.now ≡ step_effect hart.now }
+    ensures { result.bytes ≡ spec.step_word hart.now }
 {
     if is_interrupt(effect) {
-        line.push_str("-");
-        return;
+        return text(&[Text("-")]);
     }
     match hart.fetch() {
         Ok(word) => {
-            line.push_str(hex_digits(u128::from(word), 8).as_str());
-            line.push_str(" ");
-            line.push_str(disassemble(word, hart.scrs().pcc().flag()).as_str());
+            let shown = disassemble(word, hart.scrs().pcc().flag());
+            text(&[
+                Hexadecimal(8, u128::from(word)),
+                Text(" "),
+                Text(shown.as_str()),
+            ])
         }
-        Err(_) => line.push_str("-"),
+        Err(_) => text(&[Text("-")]),
     }
 }
 
@@ -90,14 +76,17 @@ pub fn trace_line<C: CapRep>(
     ensures { result.bytes ≡ spec.trace_line symbols.now number hart.now }
 {
     let table = given(symbols);
-    let mut line = Line::new();
-    line.push_str(Buffer::new().format(number));
-    line.push_str(" ");
-    put_address(&mut line, table, hart.scrs().pcc().address());
-    line.push_str(" ");
-    put_word(&mut line, hart, &planned.effect);
-    line.push_str(": ");
-    line.push_str(effect_text(table, &planned.effect).as_str());
-    line.push_str("\n");
-    line
+    let place = labelled(table, hart.scrs().pcc().address());
+    let word = step_word(hart, &planned.effect);
+    let effect = effect_text(table, &planned.effect);
+    text(&[
+        Decimal(number),
+        Text(" "),
+        Text(place.as_str()),
+        Text(" "),
+        Text(word.as_str()),
+        Text(": "),
+        Text(effect.as_str()),
+        Text("\n"),
+    ])
 }

@@ -8,10 +8,9 @@ ghost use Rattle.explain.specs.Asked.{word_stages};
 ghost use Rattle.explain.specs.WhyText as spec;
 ghost use Rattle.explain.specs.WhyText.{ram_name, moved_name, sized_place, place_text, tag_lines, capability_lines, stage_text, stages_text};
 
-use crate::conditions::{put_at, put_conditions};
+use crate::conditions::{append_at, append_conditions};
 use crate::effect::size_text;
-use crate::fault_registers::put_capability;
-use crate::strings::put;
+use crate::fault_registers::append_capability;
 use base::CheriCause::{CInvoke, Tag};
 use base::{Cause, PCC_REGISTER, Size};
 use cap_bounds::CapRep;
@@ -21,6 +20,8 @@ use isa_table::decode;
 use special_regs::pending;
 use std::alloc::AllocError;
 use symbols::Symbols;
+use texts::Piece::Text;
+use texts::append;
 
 /// What RAM alone is asked for.
 fn ram_name(cause: Cause) -> &'static str
@@ -44,7 +45,7 @@ fn moved_name(cause: Cause) -> &'static str
 }
 
 /// Appends a size, and where, to a text.
-fn put_sized(
+fn append_sized(
     text: &mut String,
     symbols: &Symbols,
     name: &str,
@@ -53,9 +54,8 @@ fn put_sized(
 ) -> Result<(), AllocError>
     ensures { OnOk result (string_bytes text.new ≡ string_bytes text.old ++ sized_place symbols.now name.now size address) }
 {
-    put(text, name)?;
-    put(text, size_text(size))?;
-    put_at(text, symbols, " at ", address)
+    append(text, &[Text(name), Text(size_text(size))])?;
+    append_at(text, symbols, " at ", address)
 }
 
 /// PCC's address.
@@ -66,7 +66,7 @@ fn here<C: CapRep>(hart: &Hart<C>) -> u64
 }
 
 /// Appends what a stage asks and where, as its last question says it, to a text.
-fn put_place<C: CapRep>(
+fn append_place<C: CapRep>(
     text: &mut String,
     symbols: &Symbols,
     hart: &Hart<C>,
@@ -76,21 +76,21 @@ fn put_place<C: CapRep>(
     ensures { OnOk result (string_bytes text.new ≡ string_bytes text.old ++ place_text symbols.now invokes last hart.now) }
 {
     match last {
-        Question::Multiple { address, .. } if invokes => put_at(
+        Question::Multiple { address, .. } if invokes => append_at(
             text,
             symbols,
             "invocation of ",
             address,
         ),
-        Question::Multiple { address, .. } => put_at(text, symbols, "jump to ", address),
-        Question::Ram { cause, address } => put_at(text, symbols, ram_name(cause), address),
+        Question::Multiple { address, .. } => append_at(text, symbols, "jump to ", address),
+        Question::Ram { cause, address } => append_at(text, symbols, ram_name(cause), address),
         Question::RamOrDevice {
             cause,
             address,
             size,
-        } => put_sized(text, symbols, moved_name(cause), size, address),
-        Question::Instruction { .. } => put_at(text, symbols, "decoding at ", here(hart)),
-        _ => put_at(text, symbols, "system register at ", here(hart)),
+        } => append_sized(text, symbols, moved_name(cause), size, address),
+        Question::Instruction { .. } => append_at(text, symbols, "decoding at ", here(hart)),
+        _ => append_at(text, symbols, "system register at ", here(hart)),
     }
 }
 
@@ -102,7 +102,7 @@ fn is_invocation(conditions: &[Condition]) -> bool
 }
 
 /// Appends the lines of the capabilities whose tag is asked to a text.
-fn put_tag_lines<C: CapRep>(
+fn append_tag_lines<C: CapRep>(
     text: &mut String,
     hart: &Hart<C>,
     conditions: &[Condition],
@@ -110,22 +110,22 @@ fn put_tag_lines<C: CapRep>(
     ensures { OnOk result (string_bytes text.new ≡ string_bytes text.old ++ tag_lines hart.now conditions.now) }
 {
     match conditions {
-        [] => put(text, ""),
+        [] => Ok(()),
         [first, rest @ ..] => match first.question {
             Question::Right {
                 register,
                 cause: Tag,
             } => {
-                put_capability(text, hart, register)?;
-                put_tag_lines(text, hart, rest)
+                append_capability(text, hart, register)?;
+                append_tag_lines(text, hart, rest)
             }
-            _ => put_tag_lines(text, hart, rest),
+            _ => append_tag_lines(text, hart, rest),
         },
     }
 }
 
 /// Appends the lines of the capabilities that a stage asks to a text.
-fn put_capabilities<C: CapRep>(
+fn append_capabilities<C: CapRep>(
     text: &mut String,
     hart: &Hart<C>,
     first: Question,
@@ -135,17 +135,17 @@ fn put_capabilities<C: CapRep>(
 {
     match first {
         Question::Right { cause, .. } => match cause {
-            Tag => put_tag_lines(text, hart, conditions),
-            _ => put_capability(text, hart, PCC_REGISTER),
+            Tag => append_tag_lines(text, hart, conditions),
+            _ => append_capability(text, hart, PCC_REGISTER),
         },
-        Question::Instruction { .. } => put(text, ""),
-        _ => put_capability(text, hart, PCC_REGISTER),
+        Question::Instruction { .. } => Ok(()),
+        _ => append_capability(text, hart, PCC_REGISTER),
     }
 }
 
 /// Appends a stage to a text, if it asks for something.
 #[tactic(auto, unfolding(crate::specs::WhyText::stage_text))]
-fn put_stage<C: CapRep>(
+fn append_stage<C: CapRep>(
     text: &mut String,
     symbols: &Symbols,
     hart: &Hart<C>,
@@ -155,23 +155,23 @@ fn put_stage<C: CapRep>(
 {
     match (conditions.first(), conditions.last()) {
         (Some(first), Some(last)) => {
-            put_place(
+            append_place(
                 text,
                 symbols,
                 hart,
                 is_invocation(conditions),
                 last.question,
             )?;
-            put(text, "\n")?;
-            put_capabilities(text, hart, first.question, conditions)?;
-            put_conditions(text, symbols, hart, conditions)
+            append(text, &[Text("\n")])?;
+            append_capabilities(text, hart, first.question, conditions)?;
+            append_conditions(text, symbols, hart, conditions)
         }
-        _ => put(text, ""),
+        _ => Ok(()),
     }
 }
 
 /// Appends the decoding of a word, and what it asks as an instruction, to a text.
-fn put_word<C: CapRep>(
+fn append_word<C: CapRep>(
     text: &mut String,
     symbols: &Symbols,
     hart: &Hart<C>,
@@ -184,13 +184,13 @@ fn put_word<C: CapRep>(
     let number = u64::from(word);
     let question = Question::Instruction { word: number };
     let holds = found.is_some();
-    put_stage(text, symbols, hart, &[Condition { question, holds }])?;
+    append_stage(text, symbols, hart, &[Condition { question, holds }])?;
     match found {
         Some(insn) => {
             let asked = hart.asked(*text.allocator(), word, insn)?;
-            put_stage(text, symbols, hart, &asked)
+            append_stage(text, symbols, hart, &asked)
         }
-        None => put(text, ""),
+        None => Ok(()),
     }
 }
 
@@ -203,7 +203,7 @@ pub(crate) fn is_interrupted<C: CapRep>(hart: &Hart<C>) -> bool
 
 /// Appends the stages of the next step to a text; there are none where an interrupt is taken.
 #[tactic(auto, unfolding(crate::specs::Asked::stages_of, crate::specs::WhyText::stages_text))]
-pub(crate) fn put_stages<C: CapRep>(
+pub(crate) fn append_stages<C: CapRep>(
     text: &mut String,
     symbols: &Symbols,
     hart: &Hart<C>,
@@ -211,12 +211,12 @@ pub(crate) fn put_stages<C: CapRep>(
     ensures { OnOk result (string_bytes text.new ≡ string_bytes text.old ++ stages_text symbols.now hart.now) }
 {
     if is_interrupted(hart) {
-        return put(text, "");
+        return Ok(());
     }
     let asked = hart.fetch_asked(*text.allocator())?;
-    put_stage(text, symbols, hart, &asked)?;
+    append_stage(text, symbols, hart, &asked)?;
     match hart.fetch() {
-        Ok(word) => put_word(text, symbols, hart, word),
-        Err(_) => put(text, ""),
+        Ok(word) => append_word(text, symbols, hart, word),
+        Err(_) => Ok(()),
     }
 }

@@ -5,7 +5,7 @@ ghost use Rattle.symbols.specs.Labels.{labelled};
 
 use itoa::Buffer;
 use std::alloc::AllocError;
-use symbols::Symbols;
+use symbols::{Symbols, labelled};
 use texts::hex_digits;
 
 /// Appends the lowest `width` hexadecimal digits of a number, at most 17, to a string.
@@ -44,15 +44,13 @@ pub fn put_decimal(text: &mut String, n: u64) -> Result<(), AllocError>
 /// # Errors
 ///
 /// Out of memory.
-#[tactic(auto, unfolding(symbols::specs::Labels::labelled))]
 pub fn put_labelled(text: &mut String, symbols: &Symbols, address: u64) -> Result<(), AllocError>
     ensures bytes { OnOk result (string_bytes text.new ≡ string_bytes text.old ++ labelled symbols.now address) }
     ensures len { OnOk result (string_len text.new ≤ string_len text.old + 294) }
     ensures capacity { string_capacity text.old ≤ string_capacity text.new }
     ensures full { OnErr result (string_capacity text.old < string_len text.old + 294) }
 {
-    put_hex(text, 16, u128::from(address))?;
-    put(text, symbols.label_of(address).as_str())
+    text.push_str(labelled(Some(symbols), address).as_str())
 }
 
 /// Appends a text to a string.

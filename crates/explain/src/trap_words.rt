@@ -1,54 +1,46 @@
 //! What a trap left in mcause and mtval, in words.
 
-ghost use Rattle.std.specs.Prelude.{◌≡◌, ◌≤◌, ◌+◌, ◌++◌};
+ghost use Rattle.std.specs.Prelude.{◌≡◌, ◌≤◌, ◌==◌, if◌then◌else◌, IsTrue};
 ghost use Rattle.arrayvec.specs.ArrayString.{array_string_len};
+ghost use Rattle.base.specs.Fault.{number_of};
+ghost use Rattle.base.specs.declared.cause.Cause.TheVariants as cause;
+ghost use Rattle.texts.specs.Piece.{text_of, width_of, are_narrow};
 ghost use Rattle.explain.specs.TrapText as spec;
 
 use crate::trap_names::{cause_name, cheri_cause_name, register_at_fault};
 use arrayvec::ArrayString;
 use base::Cause;
-use texts::hex_digits;
+use texts::Piece::{self, Hexadecimal, Text};
+use texts::{fill, text};
 
-/// Appends the name of a cause to a text, or its number.
+/// A cause by its name, or its number.
 #[tactic(auto, using(crate::specs::LengthLaws::cause_name_short))]
-fn push_cause(text: &mut ArrayString<128>, mcause: u64)
-    requires { array_string_len text.old + 30 ≤ 128 }
-    ensures text { text.new.bytes ≡ text.old.bytes ++ spec.cause_text mcause }
-    ensures within { array_string_len text.new ≤ array_string_len text.old + 30 }
+fn cause_words(mcause: u64) -> [Piece<'static>; 2]
+    ensures text { text_of result ≡ spec.cause_text mcause }
+    ensures narrow { IsTrue (are_narrow result) }
+    ensures within { width_of result ≤ 30 }
 {
     match cause_name(mcause) {
-        Some(name) => text.push_str(name),
-        None => {
-            text.push_str("mcause ");
-            text.push_str(hex_digits(u128::from(mcause), 16).as_str());
-        }
+        Some(name) => [Text(name), Text("")],
+        None => [Text("mcause "), Hexadecimal(16, u128::from(mcause))],
     }
 }
 
-/// Appends mtval as a number to a text.
-fn push_number(text: &mut ArrayString<128>, mtval: u64)
-    requires { array_string_len text.old + 22 ≤ 128 }
-    ensures text { text.new.bytes ≡ text.old.bytes ++ spec.number_text mtval }
-    ensures within { array_string_len text.new ≤ array_string_len text.old + 22 }
-{
-    text.push_str("mtval ");
-    text.push_str(hex_digits(u128::from(mtval), 16).as_str());
-}
-
-/// Appends what mtval says of a CHERI exception to a text: what is forbidden, and at which register.
+/// What mtval says of a cause: of a CHERI exception what is forbidden, and at which register; else its number.
 #[tactic(auto, using(crate::specs::LengthLaws::cheri_cause_name_short, crate::specs::LengthLaws::register_at_fault_short))]
-fn push_violation(text: &mut ArrayString<128>, mtval: u64)
-    requires { array_string_len text.old + 64 ≤ 128 }
-    ensures text { text.new.bytes ≡ text.old.bytes ++ spec.violation_text mtval }
-    ensures within { array_string_len text.new ≤ array_string_len text.old + 64 }
+fn value_words(mcause: u64, mtval: u64) -> [Piece<'static>; 3]
+    ensures text { text_of result
+        ≡ (if mcause == number_of cause.Cheri then spec.violation_text mtval else spec.number_text mtval) }
+    ensures narrow { IsTrue (are_narrow result) }
+    ensures within { width_of result ≤ 64 }
 {
+    let number = [Text("mtval "), Hexadecimal(16, u128::from(mtval)), Text("")];
+    if mcause != Cause::Cheri.number() {
+        return number;
+    }
     match (cheri_cause_name(mtval % 32), register_at_fault(mtval / 32)) {
-        (Some(cause), Some(register)) => {
-            text.push_str(cause);
-            text.push_str(" at ");
-            text.push_str(register);
-        }
-        _ => push_number(text, mtval),
+        (Some(cause), Some(register)) => [Text(cause), Text(" at "), Text(register)],
+        _ => number,
     }
 }
 
@@ -60,13 +52,8 @@ pub fn trap_text(mcause: u64, mtval: u64) -> ArrayString<128>
     ensures text { result.bytes ≡ spec.trap_text mcause mtval }
     ensures length { array_string_len result ≤ 96 }
 {
-    let mut text = ArrayString::new();
-    push_cause(&mut text, mcause);
-    text.push_str(", ");
-    if mcause == Cause::Cheri.number() {
-        push_violation(&mut text, mtval);
-    } else {
-        push_number(&mut text, mtval);
-    }
-    text
+    let mut words = text(&cause_words(mcause));
+    words.push_str(", ");
+    fill(&mut words, &value_words(mcause, mtval));
+    words
 }

@@ -4,8 +4,7 @@ ghost use Rattle.tagged_memory.specs.Memory.{is_in_ram, number_at};
 ghost use Rattle.explain.specs.WhyText.{instruction_text, running_text, why_text};
 
 use crate::effect::effect_text;
-use crate::stages::put_stages;
-use crate::strings::{put, put_decimal};
+use crate::stages::append_stages;
 use crate::word::put_word_line;
 use base::{INSTRUCTION_BYTES, Size};
 use cap_bounds::CapRep;
@@ -13,6 +12,8 @@ use hart::Hart;
 use std::alloc::AllocError;
 use symbols::Symbols;
 use tagged_memory::Memory;
+use texts::Piece::{Decimal, Text};
+use texts::append;
 
 /// The word at an address in RAM.
 #[tactic(auto, unfolding(tagged_memory::specs::Memory::place_fault))]
@@ -26,7 +27,7 @@ fn word_at(memory: &Memory, address: u64) -> u32
 
 /// Appends the line of the instruction at PCC to a text, where there is RAM.
 #[tactic(auto, unfolding(crate::specs::WhyText::instruction_text))]
-fn put_instruction<C: CapRep>(
+fn append_instruction<C: CapRep>(
     text: &mut String,
     symbols: &Symbols,
     hart: &Hart<C>,
@@ -39,26 +40,22 @@ fn put_instruction<C: CapRep>(
         let word = word_at(hart.memory(), address);
         put_word_line(text, symbols, address, word, pcc.flag())
     } else {
-        put(text, "")
+        Ok(())
     }
 }
 
 /// Appends what the next step will do, and why, to a text.
-fn put_running<C: CapRep>(
+fn append_running<C: CapRep>(
     text: &mut String,
     symbols: &Symbols,
     hart: &Hart<C>,
 ) -> Result<(), AllocError>
     ensures { OnOk result (string_bytes text.new ≡ string_bytes text.old ++ running_text symbols.now hart.now) }
 {
-    put_instruction(text, symbols, hart)?;
-    put_stages(text, symbols, hart)?;
-    put(text, "effect: ")?;
-    put(
-        text,
-        effect_text(Some(symbols), &hart.next().effect).as_str(),
-    )?;
-    put(text, "\n")
+    append_instruction(text, symbols, hart)?;
+    append_stages(text, symbols, hart)?;
+    let effect = effect_text(Some(symbols), &hart.next().effect);
+    append(text, &[Text("effect: "), Text(effect.as_str()), Text("\n")])
 }
 
 /// Appends what the next step will do, and why, to a text: PCC's instruction, the stages that it asks, and the effect; or *halted*.
@@ -76,11 +73,7 @@ pub fn put_why<C: CapRep>(
     ensures { OnOk result (string_bytes text.new ≡ string_bytes text.old ++ why_text symbols.now hart.now) }
 {
     match hart.halted() {
-        Some(number) => {
-            put(text, "halted ")?;
-            put_decimal(text, number)?;
-            put(text, "\n")
-        }
-        None => put_running(text, symbols, hart),
+        Some(number) => append(text, &[Text("halted "), Decimal(number), Text("\n")]),
+        None => append_running(text, symbols, hart),
     }
 }

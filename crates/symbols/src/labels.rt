@@ -1,16 +1,20 @@
 //! What stands after an address: the label at it or below it.
 ghost use Rattle.std.specs.Prelude.{◌≡◌, ◌+◌, ◌<◌, ◌≤◌, length, true};
+ghost use Rattle.std.specs.Option.{option_copied};
 ghost use Rattle.arrayvec.specs.ArrayString.{array_string_len};
-ghost use Rattle.symbols.specs.Labels.{distance_text, label_of};
+ghost use Rattle.symbols.specs.Labels.{distance_text, label_of, labelled, table_of};
 ghost use Rattle.symbols.specs.Symbols.{is_label};
 
 use crate::table::Symbols;
 use arrayvec::ArrayString;
-use texts::Piece::{Decimal, Text};
+use texts::Piece::{Address, Decimal, Text};
 use texts::text;
 
 /// A label and the distance from it, at most 278 bytes.
 pub type Label = ArrayString<280>;
+
+/// An address and its label, at most 294 bytes.
+pub type Labelled = ArrayString<294>;
 
 /// A label as a text.
 fn name_text(name: &[u8]) -> &str
@@ -60,5 +64,17 @@ impl Symbols {
             ),
             None => Label::new(),
         }
+    }
+}
+
+/// An address in 16 digits, and its label where there is a table; at most 294 bytes. It takes no memory.
+#[tactic(auto, unfolding(crate::specs::Labels::labelled, crate::specs::Labels::label_of))]
+pub fn labelled(table: Option<&Symbols>, address: u64) -> Labelled
+    ensures text { result.bytes ≡ labelled (table_of (option_copied table.entry)) address }
+    ensures within { array_string_len result ≤ 294 }
+{
+    match table {
+        Some(symbols) => text(&[Address(address), Text(symbols.label_of(address).as_str())]),
+        None => text(&[Address(address)]),
     }
 }

@@ -14,7 +14,7 @@ mod writing;
 
 pub use beginning::{Beginning, look_at_beginning};
 pub use fault::SymbolsFault;
-pub use labels::Label;
+pub use labels::{Label, Labelled, labelled};
 pub use lines::split_line;
 pub use names::Names;
 pub use symbol::{Symbol, is_label};

@@ -7,7 +7,7 @@ use Rattle.isa_rows.specs.Decoded.{insn_of}
 use Rattle.isa_rows.specs.DecodedLaws.{insn_of-answered}
 use Rattle.explain.specs.WhyText.{condition_line, false_line}
 use Rattle.explain.proofs.FailedLine.{failed-insn, failed-none}
-use Rattle.explain.proofs.failed.put_word_failed.Goals as goal
+use Rattle.explain.proofs.failed.append_word_failed.Goals as goal
 
 pub returns-in_ok-asked-in-Some : goal.returns-in_ok-asked-in-Some
 returns-in_ok-asked-in-Some g c =
@@ -17,7 +17,7 @@ returns-in_ok-asked-in-Some g c =
     let line =
     ap (false_line c.args.symbols.now c.args.hart.now) (c.deref.ensures.value ∙ c.in_ok-asked-in-Some.ensures)
     ∙ failed-insn c.args.symbols.now c.args.word c.args.hart.now c.in-Some.insn (sym same ∙ c.in-Some.is) in
-    on_ok_weaker c.put_false.result (λ e. e ∙ ap (λ more. string_bytes c.args.text.now ++ more) line) c.put_false.ensures
+    on_ok_weaker c.append_false.result (λ e. e ∙ ap (λ more. string_bytes c.args.text.now ++ more) line) c.append_false.ensures
 
 pub returns-in-None : goal.returns-in-None
 returns-in-None g c =
@@ -27,4 +27,4 @@ returns-in-None g c =
     let line =
     ap (λ n. condition_line c.args.symbols.now c.args.hart.now (asks (Instruction n) false)) c.from.ensures
     ∙ failed-none c.args.symbols.now c.args.word c.args.hart.now (sym same ∙ c.in-None.is) in
-    on_ok_weaker c.put_line.result (λ e. e ∙ ap (λ more. string_bytes c.args.text.now ++ more) line) c.put_line.ensures
+    on_ok_weaker c.append_line.result (λ e. e ∙ ap (λ more. string_bytes c.args.text.now ++ more) line) c.append_line.ensures

@@ -4,7 +4,7 @@ use Rattle.asm_names.specs.Registers.{capability_names}
 use Rattle.disassembler.specs.LengthLaws.{register_name_short}
 use Rattle.disassembler.specs.Shown.{name_or}
 use Rattle.std.specs.Prelude.{true, ◌≤◌}
-use Rattle.explain.proofs.text.register.Goals as goal
+use Rattle.explain.proofs.written.register.Goals as goal
 
 pub returns-then-n-lt32-clause-short : goal.returns-then-n-lt32-clause-short
 returns-then-n-lt32-clause-short c = register_name_short true c.args.n _ c.register_name.ensures
