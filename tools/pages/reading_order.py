@@ -46,7 +46,7 @@ REST = [
     ("bounds, lengths and words, as texts", "bounds_text/specs/WindowEnds, Picture, BoundsText, Letters, LengthText, WordText"),
     ("what a step comes to, as text", "explain/specs/TrapNames, TrapText, ValueText, EffectText, TraceLine, WordLine"),
     ("what the next step asks, and why", "explain/specs/Asked, WhyText"),
-    ("what is shown, against the state", "text_laws/specs/Says, Shown, After"),
+    ("what is shown, against the state; the numbers of texts on bounds", "text_laws/specs/Says, Shown, After, Bounds"),
     ("names and listings: tables of symbols, what they add to a listing, its lines",
      "symbols/specs/Symbols, Labels; image_listing/specs/Named, Listing, Header"),
     ("what code can reach, as text", "reach_texts/specs/Text, Asked, Summary"),

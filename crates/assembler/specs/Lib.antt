@@ -5,6 +5,7 @@ pub mod Bytes
 pub mod Faults
 pub mod Text
 pub mod Standing
+pub mod AtFault
 -- Laws
 pub mod FaultLaws
 -- Inner words

@@ -2,8 +2,9 @@ ghost use Rattle.std.specs.Prelude.{◌≡◌, None, IfOk, IfErr};
 ghost use Rattle.assembler.specs.Buildable.{IsBuildable};
 ghost use Rattle.assembler.specs.Faults.{opening};
 ghost use Rattle.assembler.specs.Labels.{seen_entries};
-ghost use Rattle.assembler.specs.Left.{IsFaultOf};
+ghost use Rattle.assembler.specs.Left.{IsFaultOf, IsStoppedAt};
 ghost use Rattle.assembler.specs.Places.{lines_of, symbols_of};
+ghost use Rattle.assembler.specs.Standing.{standing_in, standing_of};
 ghost use Rattle.assembler.specs.Text.{first_faulty_line, all_assembled, text_fault, text_image};
 
 use crate::builder::Builder;
@@ -11,6 +12,7 @@ use crate::fault::AsmFault;
 use crate::labels::Labels;
 use crate::lines::next_line;
 use crate::places::Places;
+use crate::standing::{Standing, Stopped};
 use image::Image;
 use indexmap::IndexMap;
 use std::alloc::{AllocError, Global};
@@ -48,7 +50,7 @@ impl Assembly {
 }
 
 /// The labels of a text, whatever its faults.
-pub(crate) fn labels_of(alloc: Global, text: &[u8]) -> Result<Labels, AllocError>
+fn labels_of(alloc: Global, text: &[u8]) -> Result<Labels, AllocError>
     ensures { IfOk result (λ labels. labels ≡ symbols_of text.now) }
 {
     let mut places = Places::new(alloc);
@@ -64,48 +66,68 @@ pub(crate) fn labels_of(alloc: Global, text: &[u8]) -> Result<Labels, AllocError
     Ok(places.into_labels())
 }
 
-/// What the lines of a text set and place, or the first fault of its first faulty line. `labels` are those of the whole text.
+/// What the lines of a text set and place, or the first fault of its first faulty line and where the text stands there. `labels` are those
+/// of the whole text.
 #[tactic(auto, using(crate::proofs::BuildLemmas::new_buildable, crate::proofs::BuildLemmas::kept_buildable))]
-fn built(alloc: Global, labels: &Labels, text: &[u8]) -> Result<Builder, AsmFault>
-    ensures correct { IfOk result (λ _. first_faulty_line labels.now opening 1 (lines_of text.now) ≡ None) }
-    ensures built { IfOk result (λ builder. builder ≡ all_assembled labels.now opening (lines_of text.now)) }
-    ensures buildable { IfOk result (λ builder. IsBuildable builder) }
-    ensures fault { IfErr result (IsFaultOf (first_faulty_line labels.now opening 1 (lines_of text.now))) }
+fn built(alloc: Global, labels: Labels, text: &[u8]) -> Result<Standing, Stopped>
+    ensures correct { IfOk result (λ _. first_faulty_line labels opening 1 (lines_of text.now) ≡ None) }
+    ensures built { IfOk result (λ standing. standing.assembled ≡ all_assembled labels opening (lines_of text.now)) }
+    ensures symbols { IfOk result (λ standing. standing.symbols ≡ labels) }
+    ensures buildable { IfOk result (λ standing. IsBuildable standing.assembled) }
+    ensures fault { IfErr result (λ stopped. IsFaultOf (first_faulty_line labels opening 1 (lines_of text.now)) stopped.fault) }
+    ensures standing { IfErr result (IsStoppedAt (standing_in labels (lines_of text.now))) }
 {
     let mut builder = Builder::new(alloc);
     let mut number: u64 = 1;
     let mut rest = Some(text);
     while let Some(left) = rest {
         let (line, after) = next_line(left);
-        if let Some(code) = builder.line_fault(labels, &line) {
-            drop(builder);
-            return Err(AsmFault { line: number, code });
+        if let Some(code) = builder.line_fault(&labels, &line) {
+            return Err(Stopped {
+                fault: AsmFault { line: number, code },
+                standing: Some(Standing { labels, builder }),
+            });
         }
-        match builder.pass(alloc, labels, &line) {
+        match builder.pass(alloc, &labels, &line) {
             Ok(()) => {}
             Err(error) => {
                 drop(builder);
-                return Err(AsmFault::from(error));
+                drop(labels);
+                return Err(Stopped::from(error));
             }
         }
         number += 1;
         rest = after;
     }
-    Ok(builder)
+    Ok(Standing { labels, builder })
 }
 
 /// Assembles a text.
 ///
 /// The fault is that of the first faulty line, counted from 1, and within a line the first of A8, A9, A4, A1, A2, A3, A5, A6, A7, A11;
-/// or, where there is no memory, A10 with line 0.
+/// or, where there is no memory, A10 with line 0. With it comes where the text stands there.
+pub fn assemble_or_stop(alloc: Global, text: &[u8]) -> Result<Assembly, Stopped>
+    ensures correct { IfOk result (λ _. text_fault text.now ≡ None) }
+    ensures image { IfOk result (λ assembly. assembly.image ≡ text_image text.now) }
+    ensures symbols { IfOk result (λ assembly. assembly.symbols ≡ symbols_of text.now) }
+    ensures fault { IfErr result (λ stopped. IsFaultOf (text_fault text.now) stopped.fault) }
+    ensures standing { IfErr result (IsStoppedAt (standing_of text.now)) }
+{
+    let labels = labels_of(alloc, text)?;
+    let Standing { labels, builder } = built(alloc, labels, text)?;
+    let image = builder.finish(alloc)?;
+    Ok(Assembly { image, labels })
+}
+
+/// Assembles a text; a fault alone, as `assemble_or_stop` has it.
 pub fn assemble(alloc: Global, text: &[u8]) -> Result<Assembly, AsmFault>
     ensures correct { IfOk result (λ _. text_fault text.now ≡ None) }
     ensures image { IfOk result (λ assembly. assembly.image ≡ text_image text.now) }
     ensures symbols { IfOk result (λ assembly. assembly.symbols ≡ symbols_of text.now) }
     ensures fault { IfErr result (IsFaultOf (text_fault text.now)) }
 {
-    let labels = labels_of(alloc, text)?;
-    let builder = built(alloc, &labels, text)?;
-    let image = builder.finish(alloc)?;
-    Ok(Assembly { image, labels })
+    match assemble_or_stop(alloc, text) {
+        Ok(assembly) => Ok(assembly),
+        Err(stopped) => Err(stopped.fault),
+    }
 }

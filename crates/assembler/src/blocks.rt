@@ -10,7 +10,7 @@ ghost use Rattle.assembler.specs.Blocks.{meets};
 ghost use Rattle.assembler.specs.Text.{version_for};
 ghost use Rattle.assembler.specs.Faults.{is_taken, inserted, closed, empty_at, filled};
 
-use crate::bytes::push_bytes;
+use crate::bytes::append_bytes;
 use crate::labels::Labels;
 use asm_lines::Statement;
 use base::ram;
@@ -86,7 +86,7 @@ impl Block {
         requires words { HasWords labels.now here (seen_statement statement.now) }
         ensures { OnOk result (self.new ≡ filled self.old (bytes_at labels.now here (seen_statement statement.now))) }
     {
-        push_bytes(&mut self.bytes, labels, here, statement)
+        append_bytes(&mut self.bytes, labels, here, statement)
     }
 }
 

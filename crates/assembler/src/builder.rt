@@ -15,7 +15,7 @@ ghost use Rattle.assembler.specs.Text.{image_of};
 ghost use Rattle.assembler.specs.Faults.{page_count, is_misplaced, is_instruction, line_fault, assembled_after};
 ghost use Rattle.assembler.specs.Faults.{misplaced, misplaced_bytes, misplaced_capability};
 ghost use Rattle.assembler.specs.Faults.{with_setting, with_statement, opening, is_repeated, is_statement_misplaced, with_bytes};
-ghost use Rattle.assembler.specs.Standing.{misplaced_if_any};
+ghost use Rattle.assembler.specs.AtFault.{misplaced_if_any};
 ghost use Rattle.assembler.specs.FaultLaws.{statement_fault, fault_by, fault_in_text};
 
 use crate::blocks::{Block, built, close, is_taken};

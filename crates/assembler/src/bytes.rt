@@ -31,7 +31,7 @@ use isa_table::encode;
 use std::alloc::AllocError;
 
 /// Places the bytes of a word.
-fn push_word(bytes: &mut Vec<u8>, word: u32) -> Result<(), AllocError>
+fn append_word(bytes: &mut Vec<u8>, word: u32) -> Result<(), AllocError>
     ensures { OnOk result (bytes.new.items ≡ bytes.old.items ++ little_bytes 4 word) }
 {
     let mut buffer = [0; 4];
@@ -40,7 +40,7 @@ fn push_word(bytes: &mut Vec<u8>, word: u32) -> Result<(), AllocError>
 }
 
 /// Places the low bytes of a number.
-fn push_number(bytes: &mut Vec<u8>, size: u8, number: u64) -> Result<(), AllocError>
+fn append_number(bytes: &mut Vec<u8>, size: u8, number: u64) -> Result<(), AllocError>
     requires { IsTrue (is_size size) }
     ensures { OnOk result (bytes.new.items ≡ bytes.old.items ++ little_bytes size number) }
 {
@@ -50,7 +50,7 @@ fn push_number(bytes: &mut Vec<u8>, size: u8, number: u64) -> Result<(), AllocEr
 }
 
 /// Places at most 2^28 zeros.
-fn push_zeros(bytes: &mut Vec<u8>, count: usize) -> Result<(), AllocError>
+fn append_zeros(bytes: &mut Vec<u8>, count: usize) -> Result<(), AllocError>
     requires { count ≤ 2 ^ 28 }
     ensures { OnOk result (bytes.new.items ≡ bytes.old.items ++ replicate count 0) }
 {
@@ -67,11 +67,11 @@ fn word_of(insn: Insn) -> u32
 
 /// Places the bytes of an instruction that has a word.
 #[tactic(auto, unfolding(crate::specs::Bytes::insn_bytes))]
-fn push_insn(bytes: &mut Vec<u8>, insn: Insn) -> Result<(), AllocError>
+fn append_insn(bytes: &mut Vec<u8>, insn: Insn) -> Result<(), AllocError>
     requires { Fits insn }
     ensures { OnOk result (bytes.new.items ≡ bytes.old.items ++ insn_bytes insn) }
 {
-    push_word(bytes, word_of(insn))
+    append_word(bytes, word_of(insn))
 }
 
 /// The value of an expression that is known.
@@ -87,7 +87,7 @@ pub(crate) fn known(labels: &Labels, here: u128, expression: &Expression<'_>) ->
 }
 
 /// Places an instruction that has a word, with the distance to its target if it has one.
-fn push_row(
+fn append_row(
     bytes: &mut Vec<u8>,
     labels: &Labels,
     here: u128,
@@ -101,11 +101,11 @@ fn push_row(
         (aimed labels.now here insn.now (option_map seen_expression target.now))) }
 {
     match target {
-        None => push_insn(bytes, *insn),
+        None => append_insn(bytes, *insn),
         Some(target) => {
             let value = known(labels, here, target);
             let imm = wrapped(distance(value, here));
-            push_insn(bytes, Insn { imm, ..*insn })
+            append_insn(bytes, Insn { imm, ..*insn })
         }
     }
 }
@@ -193,17 +193,17 @@ fn added(capability: bool, rd: u8, imm: u64) -> Insn
 }
 
 /// Places the bytes of two instructions.
-fn push_two(bytes: &mut Vec<u8>, first: Insn, second: Insn) -> Result<(), AllocError>
+fn append_two(bytes: &mut Vec<u8>, first: Insn, second: Insn) -> Result<(), AllocError>
     requires first { Fits first }
     requires second { Fits second }
     ensures { OnOk result (bytes.new.items ≡ bytes.old.items ++ (insn_bytes first ++ insn_bytes second)) }
 {
-    push_insn(bytes, first)?;
-    push_insn(bytes, second)
+    append_insn(bytes, first)?;
+    append_insn(bytes, second)
 }
 
 /// Places the two instructions that put the place and a distance into a register.
-fn push_load(
+fn append_load(
     bytes: &mut Vec<u8>,
     capability: bool,
     rd: u8,
@@ -216,12 +216,12 @@ fn push_load(
 {
     let first = based(rd, upper_immediate(distance));
     let second = added(capability, rd, lower_immediate(distance));
-    push_two(bytes, first, second)
+    append_two(bytes, first, second)
 }
 
 /// Places a value of so many bytes.
 #[tactic(auto, unfolding(crate::specs::Bytes::value_bytes))]
-fn push_value(
+fn append_value(
     bytes: &mut Vec<u8>,
     size: u8,
     labels: &Labels,
@@ -233,11 +233,11 @@ fn push_value(
     ensures { OnOk result (bytes.new.items ≡ bytes.old.items ++ value_bytes labels.now here size piece.now) }
 {
     let value = known(labels, here, &operand(piece));
-    push_number(bytes, size, wrapped(value))
+    append_number(bytes, size, wrapped(value))
 }
 
 /// Places values of so many bytes.
-fn push_values(
+fn append_values(
     bytes: &mut Vec<u8>,
     size: u8,
     labels: &Labels,
@@ -251,7 +251,7 @@ fn push_values(
     let mut rest = first_rest(operands);
     while let Some(text) = rest {
         let (piece, after) = split_piece(text);
-        push_value(bytes, size, labels, here, piece)?;
+        append_value(bytes, size, labels, here, piece)?;
         rest = after;
     }
     Ok(())
@@ -269,7 +269,7 @@ fn escaped(byte: u8) -> u8
 }
 
 /// Places the bytes that a text between quotes stands for.
-fn push_text(bytes: &mut Vec<u8>, between: &[u8]) -> Result<(), AllocError>
+fn append_text(bytes: &mut Vec<u8>, between: &[u8]) -> Result<(), AllocError>
     ensures { OnOk result (bytes.new.items ≡ bytes.old.items ++ text_bytes between.now) }
 {
     let mut is_escaped = false;
@@ -287,7 +287,7 @@ fn push_text(bytes: &mut Vec<u8>, between: &[u8]) -> Result<(), AllocError>
 }
 
 /// Places the bytes of instructions that have words.
-fn push_instruction(
+fn append_instruction(
     bytes: &mut Vec<u8>,
     labels: &Labels,
     here: u128,
@@ -299,20 +299,20 @@ fn push_instruction(
     ensures { OnOk result (bytes.new.items ≡ bytes.old.items ++ instruction_bytes labels.now here (seen_instruction instruction.now)) }
 {
     match instruction {
-        Instruction::Row(insn, target) => push_row(bytes, labels, here, insn, target),
+        Instruction::Row(insn, target) => append_row(bytes, labels, here, insn, target),
         Instruction::Load {
             capability,
             rd,
             value,
         } => {
             let distance = distance(known(labels, here, value), here);
-            push_load(bytes, *capability, *rd, distance)
+            append_load(bytes, *capability, *rd, distance)
         }
     }
 }
 
 /// Places the bytes of data whose values are known.
-fn push_data(
+fn append_data(
     bytes: &mut Vec<u8>,
     labels: &Labels,
     here: u128,
@@ -324,15 +324,15 @@ fn push_data(
     ensures { OnOk result (bytes.new.items ≡ bytes.old.items ++ data_bytes labels.now here (seen_data item.now)) }
 {
     match item.directive {
-        Directive::Values(size) => push_values(bytes, size, labels, here, item.text),
-        Directive::Ascii => push_text(bytes, item.text),
-        directive => push_zeros(bytes, zero_count(directive, here, item.number) as usize),
+        Directive::Values(size) => append_values(bytes, size, labels, here, item.text),
+        Directive::Ascii => append_text(bytes, item.text),
+        directive => append_zeros(bytes, zero_count(directive, here, item.number) as usize),
     }
 }
 
 /// Places the bytes of a statement that has no fault.
 #[tactic(auto, unfolding(crate::specs::Bytes::bytes_at))]
-pub(crate) fn push_bytes(
+pub(crate) fn append_bytes(
     bytes: &mut Vec<u8>,
     labels: &Labels,
     here: u128,
@@ -345,8 +345,8 @@ pub(crate) fn push_bytes(
     ensures { OnOk result (bytes.new.items ≡ bytes.old.items ++ bytes_at labels.now here (seen_statement statement.now)) }
 {
     match statement {
-        Statement::Instruction(instruction) => push_instruction(bytes, labels, here, instruction),
-        Statement::Data(item) => push_data(bytes, labels, here, item),
+        Statement::Instruction(instruction) => append_instruction(bytes, labels, here, instruction),
+        Statement::Data(item) => append_data(bytes, labels, here, item),
         _ => Ok(()),
     }
 }

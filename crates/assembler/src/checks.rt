@@ -86,7 +86,7 @@ pub(crate) fn distance(value: i128, here: u128) -> i128
 }
 
 /// How far a branch or jal reaches.
-pub fn reach_of(format: Format) -> u32
+pub(crate) fn reach_of(format: Format) -> u32
     ensures value { result ≡ reach_of format }
     ensures some { 2 ≤ result }
 {

@@ -2,6 +2,7 @@
 #![tactic(auto)]
 
 mod assembly;
+mod at_fault;
 mod blocks;
 mod builder;
 mod bytes;
@@ -13,12 +14,12 @@ pub mod laws;
 mod lines;
 mod misplaced;
 mod places;
+mod reason;
 mod standing;
 mod values;
 
-pub use assembly::{Assembly, assemble};
-pub use checks::reach_of;
+pub use assembly::{Assembly, assemble, assemble_or_stop};
 pub use fault::{AsmCode, AsmFault};
 pub use misplaced::Misplaced;
-pub use standing::{Standing, standing_before_fault};
-pub use values::Worth;
+pub use reason::Reason;
+pub use standing::{Standing, Stopped};

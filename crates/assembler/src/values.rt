@@ -9,7 +9,7 @@ use asm_lines::{Expression, is_dot};
 
 /// What an expression is worth.
 #[derive(Clone, Copy)]
-pub enum Worth {
+pub(crate) enum Worth {
     /// No line defines its name.
     Unknown,
     /// It is below -2^63, or 2^64 or more.

@@ -11,7 +11,7 @@ use Rattle.cap_insns.specs.CapabilityRows.{representable_length, alignment_mask}
 use Rattle.texts.specs.Hex.{hex_of}
 use Rattle.bounds_text.specs.WindowEnds.{window_first, window_last}
 use Rattle.bounds_text.specs.Picture.{column_size, first_column, last_column, picture}
-use Rattle.bounds_text.specs.declared.picture.Span.{Span}
+use Rattle.bounds_text.specs.declared.window.Span.{Span}
 
 -- what CSetBounds gives: a capability, or where the request ends past the address space data
 abbrev pub set : ℕ → ℕ → CapValue

@@ -1,6 +1,6 @@
 -- What an allocator asks of a length, as a text: which length it has to reserve, and where.
-use Rattle.std.specs.Prelude.{◌≡◌, ℕ, ◌+◌, ◌-◌, ◌*◌, ◌%◌, ◌^◌, ◌<◌, List, ◌++◌, codes, decimal}
-use Rattle.cap_bounds.specs.Rounding.{granules_up_to, length_granule, rounded_base, rounded_top}
+use Rattle.std.specs.Prelude.{ℕ, ◌-◌, ◌*◌, List, ◌++◌, codes, decimal}
+use Rattle.cap_bounds.specs.Rounding.{granules_up_to, length_granule}
 use Rattle.cap_insns.specs.CapabilityRows.{alignment_mask}
 use Rattle.texts.specs.Hex.{hex_of}
 
@@ -18,9 +18,3 @@ length_lines length granule mask rounded padding =
 unfoldable pub length_text : ℕ → List ℕ
 length_text length =
     length_lines length (length_granule length) (alignment_mask length) (whole_length length) (whole_length length - length)
-
--- From each multiple of the granule the bounds of so many bytes are the rounded length, and no byte lies below them.
-abbrev pub AlignedBlocksAreExact : Type 0
-AlignedBlocksAreExact =
-    (base length : ℕ) → base < 2 ^ 64 → length < 2 ^ 64 → base % length_granule length ≡ 0
-    → (rounded_base base (base + length) ≡ base) × (rounded_top base (base + length) ≡ base + whole_length length)

@@ -1,10 +1,6 @@
 -- The window of bounds by its first and its last address (UCAM-CL-TR-987, CHERI Concentrate, representable space).
-use Rattle.std.specs.Prelude.{◌≡◌, ℕ, ◌+◌, ◌-◌, ◌*◌, ◌/◌, ◌%◌, ◌^◌, ◌<◌, ◌≤◌, nat_le, false, if◌then◌else◌}
+use Rattle.std.specs.Prelude.{ℕ, ◌+◌, ◌-◌, ◌*◌, ◌/◌, ◌%◌, ◌^◌, nat_le, if◌then◌else◌}
 use Rattle.cap_bounds.specs.Window.{step_of}
-use Rattle.cap_bounds.specs.Record.{window_holds}
-use Rattle.cap_bounds.specs.Rounding.{rounding_exponent, rounded_base}
-use Rattle.cap_bounds.specs.Root.{root}
-use Rattle.cap_bounds.specs.SetBounds.{bounded}
 
 -- how many addresses the window of an exponent has: eight steps, or from e = 50 on all that there are
 unfoldable pub window_size : ℕ → ℕ
@@ -20,13 +16,3 @@ window_last e base = (window_first e base + window_size e - 1) % 2 ^ 64
 -- how far an address lies past the window's first one, going round
 unfoldable pub window_place : ℕ → ℕ → ℕ → ℕ
 window_place e base address = (address + 2 ^ 64 - window_first e base) % 2 ^ 64
-
--- The bounds that are set on root stay with an address exactly if it comes no later than their window's last one, both counted from
--- its first.
-abbrev pub BoundsStayFromFirstToLast : Type 0
-BoundsStayFromFirstToLast =
-    (base length address : ℕ) → base < 2 ^ 64 → length < 2 ^ 64 → base + length ≤ 2 ^ 64 → address < 2 ^ 64
-    → let e = rounding_exponent base (base + length) in
-    let low = rounded_base base (base + length) in
-    window_holds (bounded (root base false) length) address
-    ≡ nat_le (window_place e low address) (window_place e low (window_last e low))

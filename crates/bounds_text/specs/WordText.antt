@@ -1,16 +1,15 @@
 -- What the word of a capability means, as a text: its two forms, whether it may be tagged, and what its fields say.
-use Rattle.std.specs.Prelude.{◌≡◌, ℕ, ◌+◌, ◌-◌, ◌*◌, ◌/◌, ◌%◌, ◌^◌, ◌<◌, ◌==◌, ◌↔◌, Bool, IsTrue, nat_le, if◌then◌else◌, List, ◌++◌, codes}
+use Rattle.std.specs.Prelude.{◌≡◌, ℕ, ◌+◌, ◌-◌, ◌*◌, ◌/◌, ◌%◌, ◌^◌, ◌==◌, ◌↔◌, Bool, IsTrue, if◌then◌else◌, List, ◌++◌, codes}
 use Rattle.std.specs.Prelude.{decimal, bit_xor}
 use Rattle.base.specs.ObjectType.{is_reserved, sentry_type, unsealed_type}
 use Rattle.cap_format.specs.Word.{address_of, b_field_of, flag_of, ie_of, null_word, otype_of, perms_of, t_field_of}
 use Rattle.cap_bounds.specs.Mantissa.{exponent_of}
 use Rattle.cap_bounds.specs.Window.{base_of_word, top_of_word}
 use Rattle.cap_bounds.specs.Record.{IsWordWellFormed}
-use Rattle.cap_bounds.specs.SetAddress.{KeepsBounds}
 use Rattle.cap_rights.specs.Perms.{hardware_view}
 use Rattle.texts.specs.Hex.{hex_of}
 use Rattle.bounds_text.specs.Letters.{permission_letters}
-use Rattle.bounds_text.specs.WindowEnds.{window_first, window_last, window_place}
+use Rattle.bounds_text.specs.WindowEnds.{window_first, window_last}
 
 -- the word that two halves are, the upper one first: in logical form, or as it stands in memory
 abbrev pub word_of_halves : ℕ → ℕ → Bool → ℕ
@@ -57,12 +56,3 @@ word_text well_formed word = form_lines well_formed word ++ field_lines word
 -- the text of a word, which says whether it is well-formed
 abbrev pub ShowsWord : ℕ → List ℕ → Type 0
 ShowsWord word text = (well_formed : Bool) × (IsTrue well_formed ↔ IsWordWellFormed word) × (text ≡ word_text well_formed word)
-
--- The bounds of a well-formed word stay with an address exactly if it comes no later than their window's last one, both counted from
--- its first.
-abbrev pub WordsStayFromFirstToLast : Type 0
-WordsStayFromFirstToLast =
-    (word address : ℕ) → IsWordWellFormed word → address < 2 ^ 64
-    → let e = exponent_of word in
-    let base = base_of_word word in
-    KeepsBounds word address ↔ IsTrue (nat_le (window_place e base address) (window_place e base (window_last e base)))

@@ -1,151 +1,179 @@
-//! The text of a request.
+//! The text of a request: what CSetBounds makes of root.
 
-ghost use Rattle.std.specs.Prelude.{◌≡◌, ◌+◌, ◌^◌, ◌≤◌, ◌++◌, true, false, length as bytes_of};
+ghost use Rattle.std.specs.Prelude.{◌≡◌, ◌+◌, ◌-◌, ◌^◌, ◌≤◌, ◌++◌, true, false, IsTrue, length as bytes_of};
 ghost use Rattle.arrayvec.specs.ArrayString.{array_string_len};
-ghost use Rattle.cap_bounds.specs.CapValue.{is_tagged, value_top};
+ghost use Rattle.cap_bounds.specs.CapValue.{is_tagged, value_top, word_of};
 ghost use Rattle.cap_bounds.specs.Root.{root};
-ghost use Rattle.cap_bounds.specs.Rounding.{is_exact, rounded_base, rounded_top, rounding_exponent};
+ghost use Rattle.cap_bounds.specs.Rounding.{rounded_base, rounded_top, rounding_exponent, rounding_granule};
 ghost use Rattle.cap_bounds.specs.SetBounds.{HasRoundedBounds};
-ghost use Rattle.bounds_text.specs.WindowEnds.{window_first};
-ghost use Rattle.bounds_text.specs.Picture.{column_size};
-ghost use Rattle.bounds_text.specs.BoundsText.{bounds_text as whole_text, request_lines, set, span_of, standing, window_lines};
+ghost use Rattle.bounds_text.specs.BoundsText.{address_line, bounds_text as whole_text, request_lines, set, span_of, standing, window_lines};
 
-use crate::either::either;
-use crate::picture::{Span, picture};
-use crate::set::{added_above, cram, crrl, exponent, granule, set};
-use crate::window::Window;
-use cap_bounds::CapRep;
+use crate::either;
+use crate::length::{alignment_mask, representable_length};
+use crate::window::{Span, Window, picture};
+use arrayvec::ArrayString;
+use cap_bounds::{CapRep, is_exact};
 use cap_format::CapWord;
-use texts::Piece::{Address, Decimal, Hexadecimal, Text};
-use texts::{fill, text};
+use texts::{fill, pieces, text};
 
-/// The lines of every request.
-#[tactic(auto, unfolding(crate::specs::BoundsText::request_lines), using(crate::specs::SetLaws::base_low))]
-fn request_text<C: CapRep>(base: u64, length: u64, capability: C, exact: bool) -> crate::Text
-    requires capability { C.value capability ≡ set base length }
-    requires bounds { HasRoundedBounds (root base false) length (C.value capability) }
-    requires exact { exact ≡ is_exact base (base + length) }
-    ensures text { result.bytes ≡ request_lines base length }
-    ensures within { array_string_len result ≤ 720 }
+/// Root with an address, in integer mode.
+fn root_at<C: CapRep>(address: u64) -> C
+    ensures { C.value result ≡ root address false }
 {
-    let tag = either(
-        capability.tag(),
-        "\ntag      1\n",
-        "\ntag      0, as the request ends past 2^64\n",
-    );
-    let low = capability.base();
-    let top = capability.top();
-    let stored = capability.word().logical() ^ CapWord::NULL.logical();
-    text(&[
-        Text("request  "),
-        Address(base),
-        Text(" "),
-        Hexadecimal(17, u128::from(base) + u128::from(length)),
-        Text(" length "),
-        Decimal(length),
-        Text(tag),
-        Text(either(exact, "exact    yes\n", "exact    no\n")),
-        Text("bounds   "),
-        Address(low),
-        Text(" "),
-        Hexadecimal(17, top),
-        Text("\nadded    "),
-        Decimal(base - low),
-        Text(" below, "),
-        Decimal(added_above(base, length, top)),
-        Text(" above\ngranule  "),
-        Decimal(granule(base, length, exponent(base, length, capability))),
-        Text("\ncrrl     "),
-        Address(crrl::<C>(length)),
-        Text("\ncram     "),
-        Address(cram::<C>(length)),
-        Text("\nword     "),
-        Hexadecimal(16, stored),
-        Text(" "),
-        Hexadecimal(16, stored >> 64),
-        Text("\n"),
-    ])
+    C::from_word(CapWord::ROOT.with_flag(false).with_address(address), true)
 }
 
-/// Where an address lies.
-#[tactic(auto, unfolding(crate::specs::BoundsText::standing), using(crate::specs::SetLaws::tried_by_place))]
-fn standing<C: CapRep>(base: u64, length: u64, capability: C, address: u64) -> &'static str
-    requires capability { C.value capability ≡ set base length }
-    requires tagged { is_tagged (set base length) ≡ true }
-    requires bounds { HasRoundedBounds (root base false) length (C.value capability) }
-    ensures text { result.now ≡ standing base length address }
-    ensures short { bytes_of result.now ≤ 20 }
-{
-    let low = capability.base();
-    let window = Window::of(exponent(base, length, capability), low);
-    if low <= address && u128::from(address) < capability.top() {
-        " in bounds\n"
-    } else if window.place(address) <= window.place(window.last) {
-        " in the window\n"
-    } else {
-        " outside\n"
-    }
-}
-
-/// The columns that the bounds from `low` and below `top` of a request take.
-#[tactic(auto, unfolding(crate::specs::Picture::column_of, crate::specs::WindowEnds::window_place))]
-fn span(base: u64, length: u64, low: u64, top: u128, window: Window) -> Span
-    requires low { low ≡ rounded_base base (base + length) }
-    requires top { top ≡ rounded_top base (base + length) }
-    requires space { top ≤ 2 ^ 64 }
-    requires first { window.first ≡ window_first (rounding_exponent base (base + length)) (rounded_base base (base + length)) }
-    requires column { window.column ≡ column_size (rounding_exponent base (base + length)) }
-    requires some { 256 ≤ window.column }
-    ensures { result ≡ span_of base length }
-{
-    let last = low.max(top.saturating_sub(1) as u64);
-    Span {
-        first: window.place(low) / window.column,
-        last: window.place(last) / window.column,
-        lowered: low < base,
-        raised: u128::from(base) + u128::from(length) < top,
-    }
-}
-
-/// Appends the lines of a capability's window.
-#[tactic(auto, unfolding(crate::specs::BoundsText::window_lines), using(crate::specs::SetLaws::top_whole))]
-fn append_window<C: CapRep>(
-    text: &mut crate::Text,
+/// The request for `length` bytes from `base`, and what CSetBounds makes of root for it.
+#[derive(Clone, Copy)]
+struct Request {
     base: u64,
     length: u64,
-    address: Option<u64>,
-    capability: C,
-)
-    requires room { array_string_len text.old ≤ 720 }
-    requires capability { C.value capability ≡ set base length }
-    requires tagged { is_tagged (set base length) ≡ true }
-    requires bounds { HasRoundedBounds (root base false) length (C.value capability) }
-    requires space { value_top (C.value capability) ≤ 2 ^ 64 }
-    ensures { text.new.bytes ≡ text.old.bytes ++ window_lines base length address }
-{
-    let low = capability.base();
-    let window = Window::of(exponent(base, length, capability), low);
-    let ends = [
-        Text("window   "),
-        Address(window.first),
-        Text(" "),
-        Address(window.last),
-        Text("\n"),
-    ];
-    fill(text, &ends);
-    if let Some(address) = address {
-        let place = standing(base, length, capability, address);
-        fill(text, &[Text("address  "), Address(address), Text(place)]);
+    tag: bool,
+    logical: u128,
+    /// The rounded top, modulo `2^65`; the rounded base is that of the window.
+    top: u128,
+    window: Window,
+    ghost tagged: { tag ≡ is_tagged (set base length) },
+    ghost word: { logical ≡ word_of (set base length) },
+    ghost low: { window.base ≡ rounded_base base (base + length) },
+    ghost high: { top ≡ value_top (set base length) },
+    ghost within: { IsTrue (is_tagged (set base length)) → top ≤ 2 ^ 64 },
+    ghost rounded: { HasRoundedBounds (root base false) length (set base length) },
+    ghost exponent: { window.e ≡ rounding_exponent base (base + length) },
+}
+
+impl Request {
+    #[tactic(auto, using(crate::proofs::SetBounds::exponent_of_set))]
+    fn of<C: CapRep>(base: u64, length: u64) -> Request
+        ensures base { result.base ≡ base }
+        ensures length { result.length ≡ length }
+    {
+        let (capability, _) = root_at::<C>(base).set_bounds(length);
+        Request {
+            base,
+            length,
+            tag: capability.tag(),
+            logical: capability.word().logical(),
+            top: capability.top(),
+            window: Window::of(capability.word(), capability.base()),
+        }
     }
-    let columns = picture(span(base, length, low, capability.top(), window));
-    let pieces = [
-        Text("column   "),
-        Decimal(window.column),
-        Text(" bytes\npicture  "),
-        Text(columns.as_str()),
-        Text("\n"),
-    ];
-    fill(text, &pieces);
+
+    /// Where it ends.
+    fn end(self) -> u128
+        ensures { result ≡ self.base + self.length }
+    {
+        u128::from(self.base) + u128::from(self.length)
+    }
+
+    /// What it is rounded out to multiples of.
+    #[tactic(auto, unfolding(cap_bounds::specs::Rounding::rounding_granule))]
+    fn granule(self) -> u64
+        ensures { result ≡ rounding_granule self.base (self.base + self.length) }
+    {
+        if self.length < 4096 {
+            1
+        } else {
+            1 << (self.window.e + 3)
+        }
+    }
+
+    /// How many bytes rounding adds above its end.
+    #[tactic(auto, using(crate::proofs::SetBounds::added_found, crate::proofs::SetBounds::added_few))]
+    fn added_above(self) -> u64
+        ensures { result ≡ rounded_top self.base (self.base + self.length) - (self.base + self.length) }
+    {
+        ((self.top + (1 << 65) - self.end()) % (1 << 65)) as u64
+    }
+
+    /// The lines of every request.
+    #[tactic(auto, unfolding(crate::specs::BoundsText::request_lines), using(crate::proofs::SetBounds::base_low))]
+    fn lines(self) -> crate::Text
+        ensures text { result.bytes ≡ request_lines self.base self.length }
+        ensures within { array_string_len result ≤ 720 }
+    {
+        let refused = "\ntag      0, as the request ends past 2^64\n";
+        let exact = is_exact(self.base, self.length);
+        let stored = self.logical ^ CapWord::NULL.logical();
+        text(&pieces![
+            "request  " Address(self.base) " " Hexadecimal(17, self.end()) " length " Decimal(self.length)
+            Text(either(self.tag, "\ntag      1\n", refused))
+            Text(either(exact, "exact    yes\n", "exact    no\n"))
+            "bounds   " Address(self.window.base) " " Hexadecimal(17, self.top)
+            "\nadded    " Decimal(self.base - self.window.base) " below, " Decimal(self.added_above())
+            " above\ngranule  " Decimal(self.granule())
+            "\ncrrl     " Address(representable_length(self.length))
+            "\ncram     " Address(alignment_mask(self.length))
+            "\nword     " Hexadecimal(16, stored) " " Hexadecimal(16, stored >> 64) "\n"
+        ])
+    }
+
+    /// Where an address lies.
+    #[tactic(auto, unfolding(crate::specs::BoundsText::standing), using(crate::proofs::SetBounds::tried_by_place))]
+    fn standing(self, address: u64) -> &'static str
+        requires { self.tag ≡ true }
+        ensures text { result.now ≡ standing self.base self.length address }
+        ensures short { bytes_of result.now ≤ 20 }
+    {
+        let window = self.window;
+        if window.base <= address && u128::from(address) < self.top {
+            " in bounds\n"
+        } else if window.place(address) <= window.place(window.last()) {
+            " in the window\n"
+        } else {
+            " outside\n"
+        }
+    }
+
+    /// The columns that the bounds take.
+    #[tactic(auto, using(crate::proofs::SetBounds::top_whole))]
+    fn span(self) -> Span
+        requires { self.tag ≡ true }
+        ensures { result ≡ span_of self.base self.length }
+    {
+        let low = self.window.base;
+        let last = low.max(self.top.saturating_sub(1) as u64);
+        Span {
+            first: self.window.column_of(low),
+            last: self.window.column_of(last),
+            lowered: low < self.base,
+            raised: self.end() < self.top,
+        }
+    }
+
+    /// The line of an address, if one is asked for.
+    fn address_line(self, address: Option<u64>) -> ArrayString<45>
+        requires { self.tag ≡ true }
+        ensures text { result.bytes ≡ address_line self.base self.length address }
+        ensures within { array_string_len result ≤ 45 }
+    {
+        match address {
+            Some(address) => text(
+                &pieces!["address  " Address(address) Text(self.standing(address))],
+            ),
+            None => ArrayString::new(),
+        }
+    }
+
+    /// Appends the lines of its window.
+    #[tactic(auto, unfolding(crate::specs::BoundsText::window_lines))]
+    fn append_window(self, text: &mut crate::Text, address: Option<u64>)
+        requires tagged { self.tag ≡ true }
+        requires room { array_string_len text.old ≤ 720 }
+        ensures { text.new.bytes ≡ text.old.bytes ++ window_lines self.base self.length address }
+    {
+        let window = self.window;
+        let line = self.address_line(address);
+        let ends = pieces![
+            "window   " Address(window.first()) " " Address(window.last()) "\n" Text(line.as_str())
+        ];
+        fill(text, &ends);
+        let columns = picture(self.span());
+        let picture = pieces![
+            "column   " Decimal(window.column_size()) " bytes\npicture  " Text(columns.as_str()) "\n"
+        ];
+        fill(text, &picture);
+    }
 }
 
 /// What setting these bounds gives, as a text: what CSetBounds makes of root at `base` and `length` bytes.
@@ -159,10 +187,10 @@ fn append_window<C: CapRep>(
 pub fn bounds_text<C: CapRep>(base: u64, length: u64, address: Option<u64>) -> crate::Text
     ensures { result.bytes ≡ whole_text base length address }
 {
-    let (capability, exact) = set::<C>(base, length);
-    let mut text = request_text(base, length, capability, exact);
-    if capability.tag() {
-        append_window(&mut text, base, length, address, capability);
+    let request = Request::of::<C>(base, length);
+    let mut text = request.lines();
+    if request.tag {
+        request.append_window(&mut text, address);
     }
     text
 }

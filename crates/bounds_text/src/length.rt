@@ -1,46 +1,55 @@
 //! The text of a length: what an allocator asks.
 
-ghost use Rattle.std.specs.Prelude.{◌≡◌};
-ghost use Rattle.bounds_text.specs.LengthText.{length_lines, length_text as text_of};
+ghost use Rattle.std.specs.Prelude.{◌≡◌, ◌+◌, ◌^◌, ◌<◌, ◌≤◌};
+ghost use Rattle.cap_insns.specs.CapabilityRows.{alignment_mask, representable_length};
+ghost use Rattle.bounds_text.specs.LengthText.{length_text as text_of, whole_length};
 
-use crate::set::{cram, crrl};
-use cap_bounds::CapRep;
-use texts::Piece::{Address, Decimal, Hexadecimal, Text, WideDecimal};
-use texts::text;
+use cap_bounds::{CapRep, granule};
+use texts::{pieces, text};
 
-#[tactic(auto, unfolding(crate::specs::LengthText::length_lines))]
-fn lines(length: u64, granule: u64, mask: u64, rounded: u128, padding: u64) -> crate::Text
-    ensures { result.bytes ≡ length_lines length granule mask rounded padding }
+/// A length rounded up to what a capability with an aligned base has.
+#[tactic(auto, unfolding(crate::specs::LengthText::whole_length))]
+fn whole_length(length: u64) -> u128
+    ensures value { result ≡ whole_length length }
+    ensures high { length ≤ result }
+    ensures near { result < length + 2 ^ 55 }
 {
-    text(&[
-        Text("asked    length "),
-        Decimal(length),
-        Text("\nrounded  length "),
-        WideDecimal(rounded),
-        Text("\nalign    "),
-        Decimal(granule),
-        Text(", mask "),
-        Address(mask),
-        Text("\npadding  "),
-        Decimal(padding),
-        Text("\nbounds   0000000000000000 "),
-        Hexadecimal(17, rounded),
-        Text(", and so from each multiple of "),
-        Decimal(granule),
-        Text("\n"),
-    ])
+    let granule = granule(length);
+    (u128::from(length) + granule - 1) / granule * granule
+}
+
+/// What CRRL gives of a length.
+#[tactic(auto, unfolding(cap_insns::specs::CapabilityRows::representable_length, crate::specs::LengthText::whole_length))]
+pub(crate) fn representable_length(length: u64) -> u64
+    ensures { result ≡ representable_length length }
+{
+    (whole_length(length) % (1 << 64)) as u64
+}
+
+/// What CRAM gives of a length.
+#[tactic(auto, unfolding(cap_insns::specs::CapabilityRows::alignment_mask))]
+pub(crate) fn alignment_mask(length: u64) -> u64
+    ensures { result ≡ alignment_mask length }
+{
+    ((1 << 64) - granule(length)) as u64
 }
 
 /// What an allocator asks of a length, as a text: how long a block is whose bounds are exact, what its base is a multiple of, how many
 /// bytes it has more than were asked for, and the bounds from address 0.
 ///
 /// It takes no memory, and nothing is refused.
-#[tactic(auto, unfolding(crate::specs::LengthText::length_text), using(crate::specs::LengthTextLaws::lengths))]
+#[tactic(auto, unfolding(crate::specs::LengthText::length_text, crate::specs::LengthText::length_lines))]
 pub fn length_text<C: CapRep>(length: u64) -> crate::Text
     ensures { result.bytes ≡ text_of length }
 {
-    let mask = cram::<C>(length);
-    let padding = crrl::<C>(length).wrapping_sub(length);
-    let rounded = u128::from(length) + u128::from(padding);
-    lines(length, 0_u64.wrapping_sub(mask), mask, rounded, padding)
+    let asked = u128::from(length);
+    let rounded = whole_length(length);
+    text(&pieces![
+        "asked    length " WideDecimal(asked)
+        "\nrounded  length " WideDecimal(rounded)
+        "\nalign    " WideDecimal(granule(length)) ", mask " Address(alignment_mask(length))
+        "\npadding  " WideDecimal(rounded - asked)
+        "\nbounds   0000000000000000 " Hexadecimal(17, rounded)
+        ", and so from each multiple of " WideDecimal(granule(length)) "\n"
+    ])
 }

@@ -4,8 +4,7 @@ ghost use Rattle.arrayvec.specs.ArrayString.{array_string_len};
 ghost use Rattle.bounds_text.specs.Letters.{letter, permission_letters};
 
 use arrayvec::ArrayString;
-use texts::Piece::Text;
-use texts::text;
+use texts::{pieces, text};
 
 /// A permission's letter, or `-` where its bit is 0.
 #[tactic(auto, unfolding(crate::specs::Letters::letter))]
@@ -24,18 +23,10 @@ pub fn permission_letters(perms: u16) -> ArrayString<12>
     ensures text { result.bytes ≡ permission_letters perms }
     ensures length { array_string_len result ≡ 12 }
 {
-    text(&[
-        Text(letter(perms, 0, "G")),
-        Text(letter(perms, 1, "X")),
-        Text(letter(perms, 2, "R")),
-        Text(letter(perms, 3, "W")),
-        Text(letter(perms, 4, "c")),
-        Text(letter(perms, 5, "C")),
-        Text(letter(perms, 6, "L")),
-        Text(letter(perms, 7, "s")),
-        Text(letter(perms, 8, "i")),
-        Text(letter(perms, 9, "u")),
-        Text(letter(perms, 10, "S")),
-        Text(letter(perms, 11, "d")),
+    text(&pieces![
+        Text(letter(perms, 0, "G")) Text(letter(perms, 1, "X")) Text(letter(perms, 2, "R"))
+        Text(letter(perms, 3, "W")) Text(letter(perms, 4, "c")) Text(letter(perms, 5, "C"))
+        Text(letter(perms, 6, "L")) Text(letter(perms, 7, "s")) Text(letter(perms, 8, "i"))
+        Text(letter(perms, 9, "u")) Text(letter(perms, 10, "S")) Text(letter(perms, 11, "d"))
     ])
 }

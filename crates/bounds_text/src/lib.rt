@@ -1,13 +1,11 @@
 //! Texts on bounds: what setting them gives, what a length alone needs, and what a capability's word means.
 #![tactic(auto)]
 
+ghost use Rattle.std.specs.Prelude.{◌≡◌, ◌+◌, ◌≤◌, if◌then◌else◌, length};
+
 mod bounds;
-mod either;
-pub mod laws;
 mod length;
 mod letters;
-mod picture;
-mod set;
 mod window;
 mod word;
 
@@ -19,3 +17,11 @@ pub use word::word_text;
 
 /// A text: at most 13 lines of at most 80 bytes.
 pub type Text = ArrayString<1040>;
+
+/// One of two texts.
+fn either<'a>(first: bool, yes: &'a str, no: &'a str) -> &'a str
+    ensures text { result.now ≡ if first then yes.now else no.now }
+    ensures within { length result.now ≤ length yes.now + length no.now }
+{
+    if first { yes } else { no }
+}

@@ -2,29 +2,18 @@
 
 ghost use Rattle.std.specs.Prelude.{◌≡◌, ◌+◌, ◌-◌, ◌%◌, ◌^◌, ◌<◌, ◌≤◌, ◌++◌, length};
 ghost use Rattle.arrayvec.specs.ArrayString.{array_string_len};
-ghost use Rattle.cap_bounds.specs.Mantissa.{exponent_of};
 ghost use Rattle.cap_bounds.specs.Window.{base_of_word, top_of_word};
 ghost use Rattle.bounds_text.specs.WordText.{ShowsWord, bytes_between, field_lines, form_lines, type_words, word_of_halves};
 
-use crate::either::either;
+use crate::either;
 use crate::letters::permission_letters;
 use crate::window::Window;
 use base::otype;
 use cap_bounds::CapRep;
 use cap_format::CapWord;
 use cap_rights::Perms;
-use texts::Piece::{Address, Decimal, Hexadecimal, Text, WideDecimal};
-use texts::{fill, text};
-use word_cap::{is_well_formed, parts};
-
-/// The exponent that a word says.
-#[tactic(auto, using(crate::specs::WordTextLaws::exponent_high))]
-fn exponent_of(word: CapWord) -> u32
-    ensures value { result ≡ exponent_of word }
-    ensures high { result ≤ 52 }
-{
-    u32::from(parts(word).e)
-}
+use texts::{fill, pieces, text};
+use word_cap::is_well_formed;
 
 /// What is said of an object type.
 #[tactic(auto, unfolding(crate::specs::WordText::type_words))]
@@ -58,23 +47,10 @@ fn form_text(word: CapWord, well_formed: bool, low: u64, top: u128) -> crate::Te
         "\ntag      0 or 1\n",
         "\ntag      0, as the word is malformed\n",
     );
-    text(&[
-        Text("logical  "),
-        Hexadecimal(16, logical >> 64),
-        Text(" "),
-        Hexadecimal(16, logical),
-        Text("\nmemory   "),
-        Hexadecimal(16, stored >> 64),
-        Text(" "),
-        Hexadecimal(16, stored),
-        Text(tag),
-        Text("address  "),
-        Address(word.address()),
-        Text("\nbounds   "),
-        Address(low),
-        Text(" "),
-        Hexadecimal(17, top),
-        Text("\n"),
+    text(&pieces![
+        "logical  " Hexadecimal(16, logical >> 64) " " Hexadecimal(16, logical)
+        "\nmemory   " Hexadecimal(16, stored >> 64) " " Hexadecimal(16, stored) Text(tag)
+        "address  " Address(word.address()) "\nbounds   " Address(low) " " Hexadecimal(17, top) "\n"
     ])
 }
 
@@ -86,35 +62,20 @@ fn append_fields(text: &mut crate::Text, word: CapWord, low: u64, length: u128)
     requires length { length ≡ bytes_between low (top_of_word word) }
     ensures { text.new.bytes ≡ text.old.bytes ++ field_lines word }
 {
-    let e = exponent_of(word);
-    let window = Window::of(e, low);
+    let window = Window::of(word, low);
     let perms = word.perms();
     let letters = permission_letters(perms);
     let otype = word.otype();
-    let pieces = [
-        Text("length   "),
-        WideDecimal(length),
-        Text("\nperms    "),
-        Hexadecimal(5, u128::from(Perms { bits: perms }.hardware())),
-        Text(" "),
-        Text(letters.as_str()),
-        Text("\notype    "),
-        Hexadecimal(5, u128::from(otype)),
-        Text(type_words(otype)),
-        Text(either(word.flag(), "flag     1\n", "flag     0\n")),
-        Text(either(word.ie(), "encoding IE 1 T ", "encoding IE 0 T ")),
-        Hexadecimal(3, u128::from(word.t_field())),
-        Text(" B "),
-        Hexadecimal(4, u128::from(word.b_field())),
-        Text(", exponent "),
-        Decimal(u64::from(e)),
-        Text("\nwindow   "),
-        Address(window.first),
-        Text(" "),
-        Address(window.last),
-        Text("\n"),
+    let fields = pieces![
+        "length   " WideDecimal(length)
+        "\nperms    " Hexadecimal(5, u128::from(Perms { bits: perms }.hardware())) " " Text(letters.as_str())
+        "\notype    " Hexadecimal(5, u128::from(otype)) Text(type_words(otype))
+        Text(either(word.flag(), "flag     1\n", "flag     0\n"))
+        Text(either(word.ie(), "encoding IE 1 T ", "encoding IE 0 T ")) Hexadecimal(3, u128::from(word.t_field()))
+        " B " Hexadecimal(4, u128::from(word.b_field())) ", exponent " Decimal(u64::from(window.e))
+        "\nwindow   " Address(window.first()) " " Address(window.last()) "\n"
     ];
-    fill(text, &pieces);
+    fill(text, &fields);
 }
 
 /// What the word of these halves means, as a text, tagged or not: the halves are those of its logical form, or with `memory` those

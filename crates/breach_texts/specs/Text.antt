@@ -22,18 +22,15 @@ ban_word System = codes "system"
 ban_word Seal = codes "seal"
 ban_word Types = codes "types"
 
--- the number of a rule's line and the part that is broken
-abbrev pub ban_line : ℕ → Ban → List ℕ
-ban_line number ban = codes "policy: line " ++ decimal number ++ codes ": " ++ ban_word ban ++ codes "\n"
+-- the number of a rule's line and the part that is broken, and the rule
+unfoldable pub rule_lines : ℕ → List ℕ → Ban → List ℕ
+rule_lines number rule ban =
+    codes "policy: line " ++ decimal number ++ codes ": " ++ ban_word ban ++ codes "\n  rule  " ++ rule ++ codes "\n  held  "
 
-unfoldable pub rule_part : List ℕ → List ℕ
-rule_part rule = codes "  rule  " ++ rule ++ codes "\n"
-
--- and the capability that breaks the rule, with the places that lead to it
+-- and the capability that breaks it, with the places that lead to it
 unfoldable pub breach_text : List Symbol → List Found → ℕ → List ℕ → Ban → ℕ → List ℕ
 breach_text symbols members number rule ban member =
-    ban_line number ban ++ rule_part rule ++ codes "  held  " ++ held_text symbols [] members (chain_of members member) member
-    ++ codes "\n"
+    rule_lines number rule ban ++ held_text symbols [] members (chain_of members member) member ++ codes "\n"
 
 -- how many steps were done, and where PCC is; then what breaks the rule
 abbrev pub place_text : List Symbol → ℕ → State → List ℕ

@@ -1,16 +1,17 @@
 //! The lines that tell of a broken rule.
-ghost use Rattle.std.specs.Prelude.{◌≡◌, ◌<◌, ◌++◌, codes, length, OnOk, string_bytes};
+ghost use Rattle.std.specs.Prelude.{◌≡◌, ◌<◌, ◌++◌, length, OnOk, string_bytes};
 ghost use Rattle.reached.specs.Chain.{AreInOrder};
 ghost use Rattle.reached.specs.Order.{seen_members};
-ghost use Rattle.breach_texts.specs.Text.{ban_line, ban_word, breach_text, rule_part};
+ghost use Rattle.breach_texts.specs.Text.{ban_word, breach_text, rule_lines};
 
 use cap_bounds::CapRep;
-use explain::{put, put_decimal};
 use policy::Ban;
 use reach_texts::put_held;
 use reached::Member;
 use std::alloc::{AllocError, Global};
 use symbols::Symbols;
+use texts::Piece::{Decimal, Text};
+use texts::append;
 
 /// A rule as it was written: the number of its line, counted from 1, and its text.
 #[derive(Clone, Copy, Debug)]
@@ -38,25 +39,22 @@ fn ban_word(ban: Ban) -> &'static str
     }
 }
 
-/// Appends the number of a rule's line and the part that is broken.
-fn put_ban(text: &mut String, number: u64, ban: Ban) -> Result<(), AllocError>
-    ensures { OnOk result (string_bytes text.new ≡ string_bytes text.old ++ ban_line number ban) }
+/// Appends a rule, with the number of its line and the part that is broken.
+fn append_rule(text: &mut String, number: u64, rule: &str, ban: Ban) -> Result<(), AllocError>
+    ensures { OnOk result (string_bytes text.new ≡ string_bytes text.old ++ rule_lines number rule.now ban) }
 {
-    put(text, "policy: line ")?;
-    put_decimal(text, number)?;
-    put(text, ": ")?;
-    put(text, ban_word(ban))?;
-    put(text, "\n")
-}
-
-/// Appends a rule.
-#[tactic(auto, unfolding(crate::specs::Text::rule_part))]
-fn put_rule(text: &mut String, rule: &str) -> Result<(), AllocError>
-    ensures { OnOk result (string_bytes text.new ≡ string_bytes text.old ++ rule_part rule.now) }
-{
-    put(text, "  rule  ")?;
-    put(text, rule)?;
-    put(text, "\n")
+    append(
+        text,
+        &[
+            Text("policy: line "),
+            Decimal(number),
+            Text(": "),
+            Text(ban_word(ban)),
+            Text("\n  rule  "),
+            Text(rule),
+            Text("\n  held  "),
+        ],
+    )
 }
 
 /// Appends what breaks a rule: the number of its line and the part that is broken, the rule, and the member of a number, which breaks it,
@@ -80,9 +78,7 @@ pub fn put_breach<C: CapRep>(
     ensures { OnOk result (string_bytes text.new ≡ string_bytes text.old
         ++ breach_text symbols.now (seen_members C.value members.now) rule.entry.number rule.entry.text.now ban member) }
 {
-    put_ban(text, rule.number, ban)?;
-    put_rule(text, rule.text)?;
-    put(text, "  held  ")?;
+    append_rule(text, rule.number, rule.text, ban)?;
     put_held(text, alloc, symbols, &[], members, member)?;
-    put(text, "\n")
+    append(text, &[Text("\n")])
 }

@@ -5,13 +5,14 @@ ghost use Rattle.breach_texts.specs.Text.{stopped_lines};
 
 use crate::breach::{RuleLine, put_breach};
 use cap_bounds::CapRep;
-use explain::put;
 use machine::Machine;
 use policy::Refused;
 use reach::Reach;
 use sim_run::put_place;
 use std::alloc::{AllocError, Global};
 use symbols::Symbols;
+use texts::Piece::Text;
+use texts::append;
 
 /// The lines for standard error that say where a run ended that a rule stopped: how many steps were done, where PCC is, and what breaks
 /// the rule.
@@ -35,7 +36,7 @@ pub fn stopped_lines<C: CapRep>(
     let reach = Reach::of(alloc, machine.hart())?;
     let mut text = String::new(alloc);
     put_place(&mut text, symbols, machine, steps)?;
-    put(&mut text, "\ncherisim: ")?;
+    append(&mut text, &[Text("\ncherisim: ")])?;
     put_breach(
         &mut text,
         alloc,

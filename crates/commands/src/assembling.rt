@@ -2,7 +2,9 @@
 
 ghost use Rattle.std.specs.Prelude.{◌≡◌, ◌<◌, ◌≤◌, ◌==◌, ℕ, List, Option, Some, ◌∷◌, ◌++◌, length, IfErr, IfOk, IfNone, IfSome, OnOk};
 ghost use Rattle.std.specs.Io.KnownBytes.{Consumes, IsAtEnd};
+ghost use Rattle.assembler.specs.Left.{IsStoppedAt};
 ghost use Rattle.assembler.specs.Places.{lines_of};
+ghost use Rattle.assembler.specs.Standing.{standing_of};
 ghost use Rattle.image.specs.Grammar.{spelling};
 ghost use Rattle.symbols.specs.Symbols.{table_text};
 ghost use Rattle.commands.specs.Assembling.{Assembles, IsAsmFault, IsTextFault, columns, indent_of, seen_labels, table_file};
@@ -15,7 +17,7 @@ use crate::files::{
 };
 use asm_lines::{Class, run_length};
 use assembler::laws::beginnings_decide;
-use assembler::{AsmCode, AsmFault, Assembly, assemble};
+use assembler::{AsmCode, Assembly, Stopped, assemble_or_stop};
 use fault_details::detail;
 use itoa::Buffer;
 use std::alloc::Global;
@@ -44,11 +46,13 @@ fn indent_of(name: &str, number: u64) -> usize
 }
 
 /// The fault of a text, with what was read of its line; where there is no memory for that, without it.
-fn faulty_text<'a>(alloc: Global, name: &'a str, text: &[u8], fault: AsmFault) -> ProgramFault<'a>
-    ensures { IsAsmFault name.entry.now text.now fault result }
+fn faulty_text<'a>(alloc: Global, name: &'a str, text: &[u8], stopped: &Stopped) -> ProgramFault<'a>
+    requires { IsStoppedAt (standing_of text.now) stopped.now }
+    ensures { IsAsmFault name.entry.now text.now stopped.now.fault result }
 {
+    let fault = stopped.fault;
     let indent = indent_of(name, fault.line);
-    let read = match detail(alloc, text, fault, indent) {
+    let read = match detail(alloc, text, stopped, indent) {
         Ok(read) => read,
         Err(_) => Vec::new(alloc),
     };
@@ -69,14 +73,19 @@ fn line_count(text: &[u8]) -> u64
 }
 
 /// The fault of a text, if that is of its last line, and of those that no later label mends.
-fn last_fault(alloc: Global, text: &[u8]) -> Option<AsmFault>
-    ensures { IfSome result (λ fault. IsLastFault text.now fault) }
+fn last_fault(alloc: Global, text: &[u8]) -> Option<Stopped>
+    ensures last { IfSome result (λ stopped. IsLastFault text.now stopped.fault) }
+    ensures standing { IfSome result (λ stopped. IsStoppedAt (standing_of text.now) stopped) }
 {
-    match assemble(alloc, text) {
+    match assemble_or_stop(alloc, text) {
         Ok(_) => None,
-        Err(fault) => {
-            let is_of_bytes = matches!(fault.code, AsmCode::A8 | AsmCode::A9);
-            (is_of_bytes && fault.line == line_count(text)).then_some(fault)
+        Err(stopped) => {
+            let is_of_bytes = matches!(stopped.fault.code, AsmCode::A8 | AsmCode::A9);
+            if is_of_bytes && stopped.fault.line == line_count(text) {
+                Some(stopped)
+            } else {
+                None
+            }
         }
     }
 }
@@ -86,9 +95,9 @@ fn long_line<'a>(alloc: Global, name: &'a str, lines: &[u8]) -> Option<ProgramFa
     ensures { IfSome result (λ fault. (more : List ℕ) → IsToldFault name.entry.now (Some (lines.now ++ 10 ∷ more)) fault) }
 {
     beginnings_decide();
-    let fault = last_fault(alloc, lines)?;
-    match fault.code {
-        AsmCode::A9 => Some(faulty_text(alloc, name, lines, fault)),
+    let stopped = last_fault(alloc, lines)?;
+    match stopped.fault.code {
+        AsmCode::A9 => Some(faulty_text(alloc, name, lines, &stopped)),
         _ => None,
     }
 }
@@ -108,9 +117,9 @@ fn foreign_byte<'a>(
         return None;
     }
     let beginning = &text[..at + 1];
-    let fault = last_fault(alloc, beginning)?;
-    match fault.code {
-        AsmCode::A8 => Some(faulty_text(alloc, name, beginning, fault)),
+    let stopped = last_fault(alloc, beginning)?;
+    match stopped.fault.code {
+        AsmCode::A8 => Some(faulty_text(alloc, name, beginning, &stopped)),
         _ => None,
     }
 }
@@ -259,8 +268,8 @@ pub fn assemble_file<'a, F: Folder>(
 {
     let file = open_file(folder, input)?;
     let text = read_text(alloc, file, input)?;
-    match assemble(alloc, text.as_slice()) {
+    match assemble_or_stop(alloc, text.as_slice()) {
         Ok(assembly) => write_assembly(alloc, folder, output, symbols, &assembly),
-        Err(fault) => Err(faulty_text(alloc, input, &text, fault)),
+        Err(stopped) => Err(faulty_text(alloc, input, &text, &stopped)),
     }
 }

@@ -161,6 +161,16 @@ are_own (Until stop n) = true
 are_own Go = true
 are_own other = false
 
+pub other_own : (events : Events) → ((n : ℕ) → events ≡ Ticks n → ⊥) → ((b : ℕ) → events ≡ Byte b → ⊥)
+    → ((place : Place) (n : ℕ) → events ≡ Changed place n → ⊥)
+    → are_own events ≡ true
+other_own (Ticks n) a b c = absurd (a n refl)
+other_own (Byte n) a b c = absurd (b n refl)
+other_own (Changed place n) a b c = absurd (c place n refl)
+other_own (Steps n) a b c = refl
+other_own (Until stop n) a b c = refl
+other_own Go a b c = refl
+
 pub own_given : (events : Events) (replay : Option ReplayState) (owed : Bool) (stops : List Stop) (s : State) → are_own events ≡ true
     → with_tick events replay owed stops s ≡ given events replay owed stops s
 unfolding given

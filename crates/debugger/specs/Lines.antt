@@ -1,17 +1,11 @@
 -- One line of each kind of register, by its number.
 use Rattle.std.specs.Prelude.{ℕ, Bool, true, not, ◌&&◌, nat_lt, List, [], ◌++◌, Option, Some, None, codes, decimal}
-use Rattle.cap_bounds.specs.CapValue.{CapValue}
-use Rattle.special_regs.specs.declared.csrs.Csrs.{Csrs}
-use Rattle.special_regs.specs.Scrs.{Scrs, scr_value}
-use Rattle.special_regs.specs.CsrValues.{csr_value}
 use Rattle.steps.specs.State.{State, pc_of}
 use Rattle.debug_commands.specs.declared.command.Events.{Events}
 use Rattle.debug_commands.specs.declared.command.Events.TheVariants.{Steps, Ticks, Byte, Until, Go, Changed}
 use Rattle.debug_commands.specs.declared.command.Stop.{Stop}
 use Rattle.registers.specs.Registers.{register}
 use Rattle.asm_names.specs.Registers.{register_name}
-use Rattle.asm_names.specs.SpecialNames.{csr_name, scr_name}
-use Rattle.texts.specs.Hex.{hex_of}
 use Rattle.disassembler.specs.Shown.{name_or}
 use Rattle.explain.specs.ValueText.{value_line}
 use Rattle.symbols.specs.Symbols.{Symbol}
@@ -22,24 +16,10 @@ use Rattle.debugger.specs.Reply.{shown_sent, shown_end}
 abbrev pub register_line : State → ℕ → List ℕ
 register_line s n = value_line (name_or [] (register_name true n)) (register s.registers n)
 
--- a register's value under its name; no register has no line
-abbrev pub named_line : List ℕ → Option CapValue → List ℕ
-named_line name (Some v) = value_line name v
-named_line name None = []
-
-abbrev pub scr_line : Scrs → ℕ → List ℕ
-scr_line s n = named_line (name_or [] (scr_name n)) (scr_value s n)
-
-abbrev pub number_line : List ℕ → Option ℕ → List ℕ
-number_line name (Some n) = name ++ codes " " ++ hex_of 16 n ++ codes "\n"
-number_line name None = []
-
-abbrev pub csr_line : Csrs → Scrs → ℕ → ℕ → List ℕ
-csr_line c s mip n = number_line (name_or [] (csr_name n)) (csr_value c s mip n)
-
--- a byte after a space
-abbrev pub spaced : ℕ → List ℕ
-spaced b = codes " " ++ hex_of 2 b
+-- what a register holds under its name; no register has no line
+abbrev pub named_line : {A : Type 0} → (A → List ℕ) → List ℕ → Option A → List ℕ
+named_line shown name (Some x) = name ++ codes " " ++ shown x ++ codes "\n"
+named_line shown name None = []
 
 -- so many events and what was sent; where the machine stands
 abbrev pub given_part : ℕ → List ℕ → List ℕ

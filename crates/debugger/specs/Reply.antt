@@ -161,12 +161,9 @@ back_line symbols n s =
     codes "events -" ++ decimal n ++ codes " out - pc " ++ labelled symbols (pc_of s) ++ codes " " ++ shown_end s.devices.halted
     ++ codes "\n"
 
-abbrev pub count_line : ℕ → List ℕ
-count_line n = codes "events " ++ decimal n ++ codes "\n"
-
 -- what is shown of a past
 unfoldable pub recalled : List Symbol → Recall → PastState → Option ReplayState → List ℕ
-recalled symbols Ago past replay = count_line (count_of past.given)
+recalled symbols Ago past replay = codes "events " ++ decimal (count_of past.given) ++ codes "\n"
 recalled symbols (Origin place) past replay = origin_text symbols past replay place
 recalled symbols (Lost place) past replay = lost_text symbols past replay place
 

@@ -8,21 +8,23 @@ ghost use Rattle.debugger.specs.Reply.{told, view_text};
 ghost use Rattle.debugger.specs.Answers.{seen_reply};
 ghost use Rattle.debugger.specs.SessionState.{session_with};
 
-use crate::caps::put_caps;
-use crate::ram::{put_memory, put_words};
-use crate::reaching::{put_may, put_reach, put_reach_graph, put_reach_members};
+use crate::caps::append_caps;
+use crate::ram::{append_memory, append_words};
+use crate::reaching::{append_graph, append_may, append_members, append_reach};
 use crate::recalling::{recalled, told_back};
 use crate::reply::Reply;
 use crate::run::told_events;
-use crate::state::{put_csrs, put_register, put_registers, put_scrs};
-use crate::stops::{put_stops, set_stops};
+use crate::state::{append_csrs, append_register, append_registers, append_scrs};
+use crate::stops::{append_stops, set_stops};
 use crate::timeline::Timeline;
 use cap_bounds::CapRep;
 use debug_commands::{Command, DebugFault, Events, Place, Recall, Stop, View, help_text};
-use explain::{put, put_why};
+use explain::put_why;
 use machine::Machine;
 use std::alloc::{AllocError, Global};
 use symbols::Symbols;
+use texts::Piece::Text;
+use texts::append;
 use word_cap::WordCap;
 
 /// The number of PCC.
@@ -66,24 +68,23 @@ pub(crate) fn is_outside<C: CapRep>(machine: &Machine<C>, command: Command) -> b
     }
 }
 
-/// Appends what a refusal's code means to a text.
-fn put_code(text: &mut String, fault: DebugFault) -> Result<(), AllocError>
-    ensures { OnOk result (string_bytes text.new ≡ string_bytes text.old ++ code_text fault) }
+/// What a refusal's code means.
+fn code_text(fault: DebugFault) -> &'static str
+    ensures { result.now ≡ code_text fault }
 {
-    let meaning = match fault {
+    match fault {
         DebugFault::B1 => "B1 no such command, or no word on the line\n",
         DebugFault::B2 => {
             "B2 operands of another count, form or range, no such label or past, too much to search, or a line too long or not ASCII\n"
         }
         DebugFault::B3 => "B3 some byte to be shown lies outside RAM\n",
         DebugFault::B4 => "B4 no memory for the reply\n",
-    };
-    put(text, meaning)
+    }
 }
 
 /// Appends what is to be shown to a text.
 #[tactic(auto, unfolding(crate::specs::Reply::view_text))]
-fn put_view<C: CapRep>(
+fn append_view<C: CapRep>(
     text: &mut String,
     alloc: Global,
     machine: &Machine<C>,
@@ -96,16 +97,16 @@ fn put_view<C: CapRep>(
     ensures { OnOk result (string_bytes text.new ≡ string_bytes text.old ++ view_text symbols.now stops.now view machine.now) }
 {
     match view {
-        View::Register(n) => put_register(text, machine, n),
-        View::Registers => put_registers(text, machine),
-        View::SpecialRegisters => put_scrs(text, machine),
-        View::ControlRegisters => put_csrs(text, machine),
-        View::Capabilities => put_caps::<C>(text, machine.memory()),
+        View::Register(n) => append_register(text, machine, n),
+        View::Registers => append_registers(text, machine, 0),
+        View::SpecialRegisters => append_scrs(text, machine),
+        View::ControlRegisters => append_csrs(text, machine),
+        View::Capabilities => append_caps::<C>(text, machine.memory()),
         View::Memory { address, count } => {
-            put_memory(text, alloc, machine.memory(), address, count)
+            append_memory(text, alloc, machine.memory(), address, count)
         }
         View::Words { address, count } => {
-            put_words(
+            append_words(
                 text,
                 symbols,
                 machine.memory(),
@@ -115,13 +116,13 @@ fn put_view<C: CapRep>(
             )
         }
         View::Why => put_why(text, symbols, machine.hart()),
-        View::Reach(horizon) => put_reach(text, alloc, symbols, machine.hart(), horizon),
-        View::ReachMembers => put_reach_members(text, alloc, symbols, machine.hart()),
-        View::ReachGraph => put_reach_graph(text, alloc, symbols, machine.hart()),
-        View::May(may, horizon) => put_may(text, alloc, symbols, machine.hart(), may, horizon),
-        View::Stops => put_stops(text, stops),
-        View::Help => put(text, help_text()),
-        View::Code(fault) => put_code(text, fault),
+        View::Reach(horizon) => append_reach(text, alloc, symbols, machine.hart(), horizon),
+        View::ReachMembers => append_members(text, alloc, symbols, machine.hart()),
+        View::ReachGraph => append_graph(text, alloc, symbols, machine.hart()),
+        View::May(may, horizon) => append_may(text, alloc, symbols, machine.hart(), may, horizon),
+        View::Stops => append_stops(text, stops),
+        View::Help => append(text, &[Text(help_text())]),
+        View::Code(fault) => append(text, &[Text(code_text(fault))]),
     }
 }
 
@@ -139,7 +140,7 @@ fn shown<C: CapRep>(
     ensures err { IfErr result (λ fault. fault ≡ DebugFault.B4) }
 {
     let mut text = String::new(alloc);
-    put_view(&mut text, alloc, machine, symbols, stops, view)?;
+    append_view(&mut text, alloc, machine, symbols, stops, view)?;
     Ok(text)
 }
 

@@ -12,7 +12,6 @@ mod reply;
 mod run;
 pub mod scheduled;
 mod session;
-mod shown;
 mod state;
 mod stepping;
 mod stops;

@@ -1,17 +1,17 @@
 //! Bytes and words of RAM as lines of text.
 ghost use Rattle.std.specs.Prelude.{◌≡◌, ◌+◌, ◌-◌, ◌*◌, ◌%◌, ◌^◌, ◌<◌, ◌≤◌, ◌++◌, [], ◌∷◌, IsTrue, IfOk, OnOk, string_bytes, length};
 ghost use Rattle.std.specs.Prelude.{take, drop};
-ghost use Rattle.std.specs.List.{flat_map};
 ghost use Rattle.base.specs.Ram.{ram_base};
 ghost use Rattle.tagged_memory.specs.Memory.{is_in_ram, bytes_at, number_at};
 ghost use Rattle.debugger.specs.Reply.{byte_line, byte_lines, word_lines};
-ghost use Rattle.debugger.specs.Lines.{spaced};
 
 use base::Size;
-use explain::{put, put_hex, put_word_line};
+use explain::put_word_line;
 use std::alloc::{AllocError, Global};
 use symbols::Symbols;
 use tagged_memory::Memory;
+use texts::Piece::{Address, Hexadecimal, Text};
+use texts::append;
 
 /// The most bytes of a line.
 const LINE_BYTES: usize = 16;
@@ -40,54 +40,31 @@ fn bytes_at(alloc: Global, memory: &Memory, address: u64, count: u64) -> Result<
     Ok(bytes)
 }
 
-/// Appends bytes, two digits each and a space before each, to a text.
-fn put_bytes(text: &mut String, bytes: &[u8]) -> Result<(), AllocError>
-    ensures { OnOk result (string_bytes text.new ≡ string_bytes text.old ++ flat_map spaced bytes.now) }
-{
-    match bytes {
-        [] => Ok(()),
-        [first, rest @ ..] => {
-            put(text, " ")?;
-            put_hex(text, 2, u128::from(*first))?;
-            put_bytes(text, rest)
-        }
-    }
-}
-
-/// Appends a line to a text: an address and bytes.
-fn put_byte_line(text: &mut String, address: u64, bytes: &[u8]) -> Result<(), AllocError>
+/// Appends a line to a text: an address and bytes, two digits each and a space before each.
+fn append_byte_line(text: &mut String, address: u64, bytes: &[u8]) -> Result<(), AllocError>
     ensures { OnOk result (string_bytes text.new ≡ string_bytes text.old ++ byte_line address bytes.now) }
 {
-    put_hex(text, 16, u128::from(address))?;
-    put(text, ":")?;
-    put_bytes(text, bytes)?;
-    put(text, "\n")
-}
-
-/// The first 16 bytes, or all where there are fewer.
-fn first_line(bytes: &[u8]) -> &[u8]
-    ensures { result.now ≡ take 16 bytes.now }
-{
-    if bytes.len() < LINE_BYTES {
-        bytes
-    } else {
-        &bytes[..LINE_BYTES]
+    append(text, &[Address(address), Text(":")])?;
+    for byte in bytes {
+        append(text, &[Text(" "), Hexadecimal(2, u128::from(*byte))])?;
     }
+    append(text, &[Text("\n")])
 }
 
-/// The bytes after the first 16.
-fn other_lines(bytes: &[u8]) -> &[u8]
-    ensures { result.now ≡ drop 16 bytes.now }
+/// The bytes of the first line, up to 16, and the others.
+fn first_line(bytes: &[u8]) -> (&[u8], &[u8])
+    ensures first { result.0.now ≡ take 16 bytes.now }
+    ensures others { result.1.now ≡ drop 16 bytes.now }
 {
     if bytes.len() < LINE_BYTES {
-        &[]
+        (bytes, &[])
     } else {
-        &bytes[LINE_BYTES..]
+        (&bytes[..LINE_BYTES], &bytes[LINE_BYTES..])
     }
 }
 
 /// Appends lines of up to 16 bytes to a text, so many at most.
-fn put_byte_lines(
+fn append_byte_lines(
     text: &mut String,
     lines: u64,
     address: u64,
@@ -100,14 +77,15 @@ fn put_byte_lines(
     if bytes.is_empty() {
         return Ok(());
     }
-    put_byte_line(text, address, first_line(bytes))?;
-    put_byte_lines(text, lines - 1, address + 16, other_lines(bytes))?;
+    let (first, others) = first_line(bytes);
+    append_byte_line(text, address, first)?;
+    append_byte_lines(text, lines - 1, address + 16, others)?;
     Ok(())
 }
 
 /// Appends the lines of so many bytes from an address to a text.
 #[tactic(auto, unfolding(tagged_memory::specs::Memory::is_in_ram))]
-pub(crate) fn put_memory(
+pub(crate) fn append_memory(
     text: &mut String,
     alloc: Global,
     memory: &Memory,
@@ -119,7 +97,7 @@ pub(crate) fn put_memory(
 {
     let _pages = memory.pages();
     let bytes = bytes_at(alloc, memory, address, count)?;
-    put_byte_lines(text, count, address, &bytes)
+    append_byte_lines(text, count, address, &bytes)
 }
 
 /// The word at an address.
@@ -134,31 +112,8 @@ fn word_at(memory: &Memory, address: u64) -> u32
 }
 
 /// Appends the lines of so many words from an address, with their labels, to a text.
-fn put_words_from(
-    text: &mut String,
-    symbols: &Symbols,
-    memory: &Memory,
-    mode: bool,
-    address: u64,
-    count: u64,
-) -> Result<(), AllocError>
-    requires aligned { address % 4 ≡ 0 }
-    requires low { ram_base ≤ address }
-    requires high { address + 4 * count ≤ ram_base + length memory.now.bytes }
-    requires fits { address + 4 * count < 2 ^ 64 }
-    ensures { OnOk result (string_bytes text.new ≡ string_bytes text.old ++ word_lines symbols.now mode memory.now count address) }
-{
-    if count == 0 {
-        return Ok(());
-    }
-    put_word_line(text, symbols, address, word_at(memory, address), mode)?;
-    put_words_from(text, symbols, memory, mode, address + 4, count - 1)?;
-    Ok(())
-}
-
-/// Appends the lines of so many words from an address, with their labels, to a text.
 #[tactic(auto, unfolding(tagged_memory::specs::Memory::is_in_ram))]
-pub(crate) fn put_words(
+pub(crate) fn append_words(
     text: &mut String,
     symbols: &Symbols,
     memory: &Memory,
@@ -170,6 +125,11 @@ pub(crate) fn put_words(
     requires in_ram { IsTrue (is_in_ram memory.now address (4 * count)) }
     ensures { OnOk result (string_bytes text.new ≡ string_bytes text.old ++ word_lines symbols.now mode memory.now count address) }
 {
+    if count == 0 {
+        return Ok(());
+    }
     let _pages = memory.pages();
-    put_words_from(text, symbols, memory, mode, address, count)
+    put_word_line(text, symbols, address, word_at(memory, address), mode)?;
+    append_words(text, symbols, memory, mode, address + 4, count - 1)?;
+    Ok(())
 }

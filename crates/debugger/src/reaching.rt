@@ -1,6 +1,5 @@
 //! What the code that runs from here on can reach, as replies.
 ghost use Rattle.std.specs.Prelude.{◌≡◌, ◌++◌, OnOk, string_bytes};
-ghost use Rattle.debug_commands.specs.declared.command.Horizon.TheVariants.{Stretch, Turn};
 ghost use Rattle.debugger.specs.Reaching.{graph_reply, may_reply, members_reply, reach_reply};
 
 use cap_bounds::CapRep;
@@ -12,35 +11,8 @@ use reach_texts::{first_that, put_answer, put_graph, put_members, put_summary};
 use std::alloc::{AllocError, Global};
 use symbols::Symbols;
 
-/// Appends what can be reached up to the next trap, unsealing or sealed jump, in sum.
-fn put_reach_in_stretch<C: CapRep>(
-    text: &mut String,
-    alloc: Global,
-    symbols: &Symbols,
-    hart: &Hart<C>,
-) -> Result<(), AllocError>
-    ensures { OnOk result (string_bytes text.new ≡ string_bytes text.old ++ reach_reply Stretch symbols.now hart.now) }
-{
-    let reach = Reach::of(alloc, hart)?;
-    put_summary(text, alloc, symbols, reach.members(), Horizon::Stretch)
-}
-
-/// Appends what can be reached through doors, in sum.
-fn put_reach_in_turn<C: CapRep>(
-    text: &mut String,
-    alloc: Global,
-    symbols: &Symbols,
-    hart: &Hart<C>,
-) -> Result<(), AllocError>
-    ensures { OnOk result (string_bytes text.new ≡ string_bytes text.old ++ reach_reply Turn symbols.now hart.now) }
-{
-    let through = closure_through_doors(alloc, hart)?;
-    let members = through.members.as_slice();
-    put_summary(text, alloc, symbols, members, Horizon::Turn)
-}
-
-/// Appends what can be reached, in sum.
-pub(crate) fn put_reach<C: CapRep>(
+/// Appends what can be reached, in sum: up to the next trap, unsealing or sealed jump, or through doors.
+pub(crate) fn append_reach<C: CapRep>(
     text: &mut String,
     alloc: Global,
     symbols: &Symbols,
@@ -50,13 +22,20 @@ pub(crate) fn put_reach<C: CapRep>(
     ensures { OnOk result (string_bytes text.new ≡ string_bytes text.old ++ reach_reply horizon symbols.now hart.now) }
 {
     match horizon {
-        Horizon::Stretch => put_reach_in_stretch(text, alloc, symbols, hart),
-        Horizon::Turn => put_reach_in_turn(text, alloc, symbols, hart),
+        Horizon::Stretch => {
+            let reach = Reach::of(alloc, hart)?;
+            put_summary(text, alloc, symbols, reach.members(), Horizon::Stretch)
+        }
+        Horizon::Turn => {
+            let through = closure_through_doors(alloc, hart)?;
+            let members = through.members.as_slice();
+            put_summary(text, alloc, symbols, members, Horizon::Turn)
+        }
     }
 }
 
 /// Appends each capability that can be reached, a line each.
-pub(crate) fn put_reach_members<C: CapRep>(
+pub(crate) fn append_members<C: CapRep>(
     text: &mut String,
     alloc: Global,
     symbols: &Symbols,
@@ -69,7 +48,7 @@ pub(crate) fn put_reach_members<C: CapRep>(
 }
 
 /// Appends the same as a graph.
-pub(crate) fn put_reach_graph<C: CapRep>(
+pub(crate) fn append_graph<C: CapRep>(
     text: &mut String,
     alloc: Global,
     symbols: &Symbols,
@@ -81,40 +60,8 @@ pub(crate) fn put_reach_graph<C: CapRep>(
     put_graph(text, symbols, reach.members())
 }
 
-/// Appends whether the code may do something up to the next trap, unsealing or sealed jump, and by which chain.
-fn put_may_in_stretch<C: CapRep>(
-    text: &mut String,
-    alloc: Global,
-    symbols: &Symbols,
-    hart: &Hart<C>,
-    may: May,
-) -> Result<(), AllocError>
-    ensures { OnOk result (string_bytes text.new ≡ string_bytes text.old ++ may_reply Stretch symbols.now may hart.now) }
-{
-    let reach = Reach::of(alloc, hart)?;
-    let members = reach.members();
-    let answer = first_that(members, may);
-    put_answer(text, alloc, Horizon::Stretch, symbols, &[], members, answer)
-}
-
-/// Appends whether the code may do something through doors, and by which chain.
-fn put_may_in_turn<C: CapRep>(
-    text: &mut String,
-    alloc: Global,
-    symbols: &Symbols,
-    hart: &Hart<C>,
-    may: May,
-) -> Result<(), AllocError>
-    ensures { OnOk result (string_bytes text.new ≡ string_bytes text.old ++ may_reply Turn symbols.now may hart.now) }
-{
-    let through = closure_through_doors(alloc, hart)?;
-    let (doors, members) = (through.doors.as_slice(), through.members.as_slice());
-    let answer = first_that(members, may);
-    put_answer(text, alloc, Horizon::Turn, symbols, doors, members, answer)
-}
-
-/// Appends whether the code may do something, and by which chain.
-pub(crate) fn put_may<C: CapRep>(
+/// Appends whether the code may do something up to the next trap, unsealing or sealed jump, or through doors, and by which chain.
+pub(crate) fn append_may<C: CapRep>(
     text: &mut String,
     alloc: Global,
     symbols: &Symbols,
@@ -125,7 +72,17 @@ pub(crate) fn put_may<C: CapRep>(
     ensures { OnOk result (string_bytes text.new ≡ string_bytes text.old ++ may_reply horizon symbols.now may hart.now) }
 {
     match horizon {
-        Horizon::Stretch => put_may_in_stretch(text, alloc, symbols, hart, may),
-        Horizon::Turn => put_may_in_turn(text, alloc, symbols, hart, may),
+        Horizon::Stretch => {
+            let reach = Reach::of(alloc, hart)?;
+            let members = reach.members();
+            let answer = first_that(members, may);
+            put_answer(text, alloc, Horizon::Stretch, symbols, &[], members, answer)
+        }
+        Horizon::Turn => {
+            let through = closure_through_doors(alloc, hart)?;
+            let (doors, members) = (through.doors.as_slice(), through.members.as_slice());
+            let answer = first_that(members, may);
+            put_answer(text, alloc, Horizon::Turn, symbols, doors, members, answer)
+        }
     }
 }

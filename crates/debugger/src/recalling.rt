@@ -3,22 +3,23 @@ ghost use Rattle.std.specs.Prelude.{◌≡◌, ◌≤◌, ◌++◌, false, Some,
 ghost use Rattle.debug_commands.specs.declared.command.Command.TheVariants.{Back, Recalls};
 ghost use Rattle.debug_commands.specs.Limits.{IsRecalledWithinLimits};
 ghost use Rattle.debugger.specs.Keeping.{IsRecalledThere, timeline};
-ghost use Rattle.debugger.specs.Reply.{back_line, count_line, is_beyond, is_beyond_past, is_outside, recalled as recalled_text};
+ghost use Rattle.debugger.specs.Reply.{back_line, is_beyond, is_beyond_past, is_outside, recalled as recalled_text};
 ghost use Rattle.debugger.specs.Reply.{recalled_in};
 ghost use Rattle.debugger.specs.Reply.{taken_back};
 ghost use Rattle.debugger.specs.SessionState.{HasItsPast};
 ghost use Rattle.past.specs.Given.{count_of};
 
-use crate::run::put_place;
+use crate::run::place_text;
 use crate::timeline::Timeline;
 use cap_bounds::CapRep;
 use debug_commands::{Command, DebugFault, Recall};
-use explain::{put, put_decimal};
 use machine::Machine;
 use origin_texts::{put_lost, put_origin};
 use past::{Past, Replay};
 use std::alloc::{AllocError, Global};
 use symbols::Symbols;
+use texts::Piece::{Decimal, Text};
+use texts::append;
 use word_cap::WordCap;
 
 /// The most events that a search goes through.
@@ -45,18 +46,9 @@ pub(crate) fn is_beyond<C: CapRep>(timeline: &Timeline<C>, command: Command) -> 
     }
 }
 
-/// Appends how many events there were.
-fn put_count(text: &mut String, events: u64) -> Result<(), AllocError>
-    ensures { OnOk result (string_bytes text.new ≡ string_bytes text.old ++ count_line events) }
-{
-    put(text, "events ")?;
-    put_decimal(text, events)?;
-    put(text, "\n")
-}
-
 /// Appends what is shown of a past.
 #[tactic(auto, unfolding(crate::specs::Reply::recalled))]
-fn put_recalled(
+fn append_recalled(
     text: &mut String,
     alloc: Global,
     symbols: &Symbols,
@@ -69,7 +61,7 @@ fn put_recalled(
         ≡ string_bytes text.old ++ recalled_text symbols.now recall past.now (option_copied replay.entry)) }
 {
     match recall {
-        Recall::Ago => put_count(text, past.count()),
+        Recall::Ago => append(text, &[Text("events "), Decimal(past.count()), Text("\n")]),
         Recall::Origin(place) => put_origin(text, alloc, symbols, past, replay, place),
         Recall::Lost(place) => put_lost(text, alloc, symbols, past, replay, place),
     }
@@ -89,7 +81,7 @@ pub(crate) fn recalled(
 {
     let mut text = String::new(alloc);
     if let Some(past) = &timeline.past {
-        put_recalled(
+        append_recalled(
             &mut text,
             alloc,
             symbols,
@@ -99,21 +91,6 @@ pub(crate) fn recalled(
         )?;
     }
     Ok(text)
-}
-
-/// Appends the line of so many events less, and where a machine stands.
-fn put_back<C: CapRep>(
-    text: &mut String,
-    symbols: &Symbols,
-    machine: &Machine<C>,
-    events: u64,
-) -> Result<(), AllocError>
-    ensures { OnOk result (string_bytes text.new ≡ string_bytes text.old ++ back_line symbols.now events machine.now) }
-{
-    put(text, "events -")?;
-    put_decimal(text, events)?;
-    put(text, " out -")?;
-    put_place(text, symbols, machine)
 }
 
 /// Takes the parts of a timeline back to where they stood before the last events, and appends the line that tells of it. Where there is no
@@ -140,7 +117,16 @@ fn take_back(
     let Ok((then, player)) = past.machine_at(alloc, replay.as_ref(), left) else {
         return Err(AllocError);
     };
-    put_back(text, symbols, &then, events)?;
+    let place = place_text(symbols, &then);
+    append(
+        text,
+        &[
+            Text("events -"),
+            Decimal(events),
+            Text(" out -"),
+            Text(place.as_str()),
+        ],
+    )?;
     let (done, brought, is_owed) = (player.done(), player.brought(), player.owed());
     if let Some(replay) = replay {
         replay.stand_at(done, brought);

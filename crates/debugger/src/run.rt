@@ -5,6 +5,7 @@ ghost use Rattle.std.specs.Prelude.{string_bytes, string_len, string_capacity, o
 ghost use Rattle.std.specs.List.{flat_map};
 ghost use Rattle.steps.specs.declared.event.Event.TheVariants.{Step};
 ghost use Rattle.machine.specs.Run.{run_after, run_sent};
+ghost use Rattle.arrayvec.specs.ArrayString.{array_string_len};
 ghost use Rattle.texts.specs.Hex.{hex_of};
 ghost use Rattle.debugger.specs.Reply.{after_events, events_line, given, given_of, given_on, own_steps, owed_after, replay_after};
 ghost use Rattle.debugger.specs.Reply.{with_tick};
@@ -19,13 +20,15 @@ ghost use Rattle.debug_commands.specs.Limits.{AreWithinLimits};
 use crate::changed::steps_holding;
 use crate::stepping::{pass, pc, steps_while};
 use crate::timeline::Timeline;
+use arrayvec::ArrayString;
 use cap_bounds::CapRep;
 use debug_commands::{DebugFault, Events, Stop};
-use explain::{put, put_decimal, put_hex, put_labelled};
 use machine::{Event, Machine, emit};
 use past::{Given, Past, Replay};
 use std::alloc::{AllocError, Global};
-use symbols::Symbols;
+use symbols::{Symbols, labelled};
+use texts::Piece::{Decimal, Hexadecimal, Text};
+use texts::{append, text};
 
 /// The bytes that a line of events has at most, besides two for each byte that was sent.
 const LINE_ROOM: usize = 480;
@@ -150,29 +153,7 @@ fn give_own<C: CapRep>(
 }
 
 /// Gives the tick that is to come yet, if one is, and then steps of a command, appends what they send to the other bytes, and answers how
-/// many events there were.
-fn give_with_tick<C: CapRep>(
-    machine: &mut Machine<C>,
-    replay: &mut Option<Replay>,
-    owed: bool,
-    stops: &[Stop],
-    events: Events,
-    sent: &mut Vec<u8>,
-) -> u64
-    requires room { vec_len sent.old + most_of events ≤ vec_capacity sent.old }
-    requires limits { AreWithinLimits events }
-    ensures state { machine.new ≡ run_after (with_tick events replay.old owed stops.now machine.old) machine.old }
-    ensures bytes { sent.new.items ≡ sent.old.items ++ run_sent (with_tick events replay.old owed stops.now machine.old) machine.old }
-    ensures replay { replay.new ≡ option_map (replayed (with_tick events replay.old owed stops.now machine.old)) replay.old }
-    ensures count { result ≡ length (with_tick events replay.old owed stops.now machine.old) }
-    ensures few { result ≤ 4000000000001 }
-    ensures len { vec_len sent.new ≤ vec_len sent.old + most_of events }
-{
-    let ticks = pass(machine, owed);
-    ticks + give_own(machine, replay, stops, events, sent)
-}
-
-/// Gives the tick that is to come yet, if one is, and then steps of a command; after them none is to come.
+/// many events there were. After them no tick is to come.
 fn give_paid<C: CapRep>(
     machine: &mut Machine<C>,
     replay: &mut Option<Replay>,
@@ -191,9 +172,9 @@ fn give_paid<C: CapRep>(
     ensures few { result ≤ 4000000000001 }
     ensures len { vec_len sent.new ≤ vec_len sent.old + most_of events }
 {
-    let count = give_with_tick(machine, replay, *owed, stops, events, sent);
+    let ticks = pass(machine, *owed);
     *owed = false;
-    count
+    ticks + give_own(machine, replay, stops, events, sent)
 }
 
 /// What a past keeps of so many events of a command.
@@ -245,9 +226,7 @@ fn give<C: CapRep>(
             *owed = *owed && machine.halted().is_none();
             count
         }
-        Events::Steps(_) => give_paid(machine, replay, owed, stops, events, sent),
-        Events::Until { .. } => give_paid(machine, replay, owed, stops, events, sent),
-        Events::Go => give_paid(machine, replay, owed, stops, events, sent),
+        _ => give_paid(machine, replay, owed, stops, events, sent),
     }
 }
 
@@ -312,78 +291,60 @@ fn give_all<C: CapRep>(
 }
 
 /// Appends bytes, two digits each, to a text.
-fn put_pairs(text: &mut String, bytes: &[u8]) -> Result<(), AllocError>
+fn append_pairs(text: &mut String, bytes: &[u8]) -> Result<(), AllocError>
     ensures bytes { OnOk result (string_bytes text.new ≡ string_bytes text.old ++ flat_map (hex_of 2) bytes.now) }
-    ensures len { OnOk result (string_len text.new ≡ string_len text.old + 2 * length bytes.now) }
+    ensures len { OnOk result (string_len text.new ≤ string_len text.old + 2 * length bytes.now) }
     ensures capacity { string_capacity text.old ≤ string_capacity text.new }
     ensures full { OnErr result (string_capacity text.old < string_len text.old + 2 * length bytes.now) }
 {
     for byte in bytes {
-        put_hex(text, 2, u128::from(*byte))?;
+        append(text, &[Hexadecimal(2, u128::from(*byte))])?;
     }
     Ok(())
 }
 
 /// Appends the bytes that were sent to a text, or `-` where there are none.
-fn put_sent(text: &mut String, bytes: &[u8]) -> Result<(), AllocError>
+fn append_sent(text: &mut String, bytes: &[u8]) -> Result<(), AllocError>
     ensures bytes { OnOk result (string_bytes text.new ≡ string_bytes text.old ++ shown_sent bytes.now) }
     ensures len { OnOk result (string_len text.new ≤ string_len text.old + 2 * length bytes.now + 1) }
     ensures capacity { string_capacity text.old ≤ string_capacity text.new }
     ensures full { OnErr result (string_capacity text.old < string_len text.old + 2 * length bytes.now + 1) }
 {
     match bytes {
-        [] => put(text, "-"),
-        [_, ..] => put_pairs(text, bytes),
+        [] => append(text, &[Text("-")]),
+        [_, ..] => append_pairs(text, bytes),
     }
 }
 
-/// Appends how a machine stands to a text.
-fn put_end(text: &mut String, halted: Option<u64>) -> Result<(), AllocError>
-    ensures bytes { OnOk result (string_bytes text.new ≡ string_bytes text.old ++ shown_end halted) }
-    ensures len { OnOk result (string_len text.new ≤ string_len text.old + 47) }
-    ensures capacity { string_capacity text.old ≤ string_capacity text.new }
-    ensures full { OnErr result (string_capacity text.old < string_len text.old + 47) }
+/// How a machine stands.
+fn end_text(halted: Option<u64>) -> ArrayString<27>
+    ensures text { result.bytes ≡ shown_end halted }
+    ensures within { array_string_len result ≤ 27 }
 {
     match halted {
-        Some(number) => {
-            put(text, "halted ")?;
-            put_decimal(text, number)
-        }
-        None => put(text, "running"),
+        Some(number) => text(&[Text("halted "), Decimal(number)]),
+        None => text(&[Text("running")]),
     }
 }
 
-/// Appends how many events there were and what they sent to a text.
-fn put_given(text: &mut String, count: u64, sent: &[u8]) -> Result<(), AllocError>
-    ensures bytes { OnOk result (string_bytes text.new ≡ string_bytes text.old ++ given_part count sent.now) }
-    ensures len { OnOk result (string_len text.new ≤ string_len text.old + 2 * length sent.now + 60) }
-    ensures capacity { string_capacity text.old ≤ string_capacity text.new }
-    ensures full { OnErr result (string_capacity text.old < string_len text.old + 2 * length sent.now + 60) }
+/// Where a machine stands, as a line ends.
+pub(crate) fn place_text<C: CapRep>(symbols: &Symbols, machine: &Machine<C>) -> ArrayString<327>
+    ensures text { result.bytes ≡ place_part symbols.now machine.now }
+    ensures within { array_string_len result ≤ 327 }
 {
-    put(text, "events ")?;
-    put_decimal(text, count)?;
-    put(text, " out ")?;
-    put_sent(text, sent)
-}
-
-/// Appends where a machine stands to a text.
-pub(crate) fn put_place<C: CapRep>(
-    text: &mut String,
-    symbols: &Symbols,
-    machine: &Machine<C>,
-) -> Result<(), AllocError>
-    ensures bytes { OnOk result (string_bytes text.new ≡ string_bytes text.old ++ place_part symbols.now machine.now) }
-    ensures full { OnErr result (string_capacity text.old < string_len text.old + 360) }
-{
-    put(text, " pc ")?;
-    put_labelled(text, symbols, pc(machine))?;
-    put(text, " ")?;
-    put_end(text, machine.halted())?;
-    put(text, "\n")
+    let place = labelled(Some(symbols), pc(machine));
+    let end = end_text(machine.halted());
+    text(&[
+        Text(" pc "),
+        Text(place.as_str()),
+        Text(" "),
+        Text(end.as_str()),
+        Text("\n"),
+    ])
 }
 
 /// Appends the line that tells of so many events and of what they sent to a text.
-fn put_run_line<C: CapRep>(
+fn append_events<C: CapRep>(
     text: &mut String,
     symbols: &Symbols,
     machine: &Machine<C>,
@@ -394,8 +355,10 @@ fn put_run_line<C: CapRep>(
         ≡ string_bytes text.old ++ (given_part count sent.now ++ place_part symbols.now machine.now)) }
     ensures full { OnErr result (string_capacity text.old < string_len text.old + 2 * length sent.now + 480) }
 {
-    put_given(text, count, sent)?;
-    put_place(text, symbols, machine)
+    let place = place_text(symbols, machine);
+    append(text, &[Text("events "), Decimal(count), Text(" out ")])?;
+    append_sent(text, sent)?;
+    append(text, &[Text(place.as_str())])
 }
 
 /// Gives the events of a command, and answers the line that tells of them.
@@ -421,7 +384,7 @@ pub(crate) fn told_events<C: CapRep>(
     let mut sent = Vec::with_capacity(alloc, most)?;
     let mut text = String::with_capacity(alloc, 2 * most + LINE_ROOM)?;
     let count = give_all(timeline, stops, events, &mut sent)?;
-    match put_run_line(&mut text, symbols, &timeline.machine, count, &sent) {
+    match append_events(&mut text, symbols, &timeline.machine, count, &sent) {
         Ok(()) => Ok(text),
         Err(_) => unreachable!(),
     }

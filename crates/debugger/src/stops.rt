@@ -3,33 +3,31 @@ ghost use Rattle.std.specs.Prelude.{◌≡◌, ◌++◌, IfOk, IfErr, OnOk, OnEr
 ghost use Rattle.std.specs.List.{list_any};
 ghost use Rattle.debugger.specs.Reply.{is_same_stop, stop_line, stops_after, stops_text};
 
+use arrayvec::ArrayString;
 use debug_commands::{DebugFault, SetStops, Stop};
-use explain::{put, put_hex};
 use std::alloc::{AllocError, Global};
+use texts::Piece::{Address, Text};
+use texts::{append, text};
 
-/// Appends the line of a stop to a text.
-fn put_stop(text: &mut String, stop: Stop) -> Result<(), AllocError>
-    ensures { OnOk result (string_bytes text.new ≡ string_bytes text.old ++ stop_line stop) }
+/// The line of a stop.
+fn stop_line(stop: Stop) -> ArrayString<20>
+    ensures text { result.bytes ≡ stop_line stop }
 {
     match stop {
-        Stop::Address(address) => {
-            put(text, "at ")?;
-            put_hex(text, 16, u128::from(address))?;
-            put(text, "\n")
-        }
-        Stop::Trap => put(text, "trap\n"),
+        Stop::Address(address) => text(&[Text("at "), Address(address), Text("\n")]),
+        Stop::Trap => text(&[Text("trap\n")]),
     }
 }
 
 /// Appends the lines of stops to a text.
-pub(crate) fn put_stops(text: &mut String, stops: &[Stop]) -> Result<(), AllocError>
+pub(crate) fn append_stops(text: &mut String, stops: &[Stop]) -> Result<(), AllocError>
     ensures { OnOk result (string_bytes text.new ≡ string_bytes text.old ++ stops_text stops.now) }
 {
     match stops {
         [] => Ok(()),
         [first, rest @ ..] => {
-            put_stop(text, *first)?;
-            put_stops(text, rest)
+            append(text, &[Text(stop_line(*first).as_str())])?;
+            append_stops(text, rest)
         }
     }
 }
@@ -49,10 +47,7 @@ fn is_same_stop(stop: Stop, other: Stop) -> bool
 fn is_one_of(stop: Stop, stops: &[Stop]) -> bool
     ensures { result ≡ list_any (is_same_stop stop) stops.now }
 {
-    match stops {
-        [] => false,
-        [first, rest @ ..] => is_same_stop(stop, *first) || is_one_of(stop, rest),
-    }
+    stops.iter().any(|other| is_same_stop(stop, *other))
 }
 
 /// One stop more after the others, unless it is one of them; and the text of all.
@@ -63,9 +58,9 @@ fn add_stop(alloc: Global, stops: &mut Vec<Stop>, stop: Stop) -> Result<String, 
     ensures same { OnErr result (stops.new.items ≡ stops.old.items) }
 {
     let mut text = String::new(alloc);
-    put_stops(&mut text, stops)?;
+    append_stops(&mut text, stops)?;
     if !is_one_of(stop, stops) {
-        put_stop(&mut text, stop)?;
+        append(&mut text, &[Text(stop_line(stop).as_str())])?;
         if stops.push(stop).is_err() {
             return Err(DebugFault::B4);
         }

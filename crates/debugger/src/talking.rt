@@ -40,7 +40,7 @@ fn next_byte<R: Source>(source: &mut R) -> Result<Option<u8>, TalkFault>
 }
 
 /// Writes a text, or a beginning of it.
-fn put<W: Sink>(sink: &mut W, text: &str) -> Result<(), TalkFault>
+fn write<W: Sink>(sink: &mut W, text: &str) -> Result<(), TalkFault>
     requires { W.failed sink.old < 2 ^ 64 - 1 }
     ensures ok { OnOk result (Appends (W.held sink.old) (W.held sink.new) text.now) }
     ensures err { OnErr result (AppendsBeginning (W.held sink.old) (W.held sink.new) text.now) }
@@ -54,7 +54,7 @@ fn put<W: Sink>(sink: &mut W, text: &str) -> Result<(), TalkFault>
 }
 
 /// Writes what a refusal prints. A refusal for lack of memory prints nothing, and is a fault of the conversation.
-fn put_refusal<W: Sink>(sink: &mut W, fault: DebugFault) -> Result<(), TalkFault>
+fn write_refusal<W: Sink>(sink: &mut W, fault: DebugFault) -> Result<(), TalkFault>
     requires { W.failed sink.old < 2 ^ 64 - 1 }
     ensures ok { OnOk result (Appends (W.held sink.old) (W.held sink.new) (fault_text fault)) }
     ensures kind { OnOk result (fault ≢ B4) }
@@ -62,9 +62,9 @@ fn put_refusal<W: Sink>(sink: &mut W, fault: DebugFault) -> Result<(), TalkFault
     ensures count { CountsWrites (W.failed sink.old) (W.failed sink.new) result }
 {
     match fault {
-        DebugFault::B1 => put(sink, "fault B1\n"),
-        DebugFault::B2 => put(sink, "fault B2\n"),
-        DebugFault::B3 => put(sink, "fault B3\n"),
+        DebugFault::B1 => write(sink, "fault B1\n"),
+        DebugFault::B2 => write(sink, "fault B2\n"),
+        DebugFault::B3 => write(sink, "fault B3\n"),
         DebugFault::B4 => Err(TalkFault::Memory),
     }
 }
@@ -86,11 +86,11 @@ fn answer_line<W: Sink>(
     match session.command_bytes(line) {
         Ok(Reply::Quit) => Ok(true),
         Ok(Reply::Text(text)) => {
-            put(sink, text.as_str())?;
+            write(sink, text.as_str())?;
             Ok(false)
         }
         Err(fault) => {
-            put_refusal(sink, fault)?;
+            write_refusal(sink, fault)?;
             Ok(false)
         }
     }

@@ -12,8 +12,8 @@ use cap_checks::{Condition, Question};
 use hart::Hart;
 use std::alloc::AllocError;
 use symbols::{Symbols, labelled};
-use texts::Piece::{self, Decimal, Hexadecimal, Text};
-use texts::append;
+use texts::Piece::{self, Text};
+use texts::{append, pieces};
 
 /// Appends a text, an address and its label to a text.
 pub(crate) fn append_at(
@@ -53,19 +53,11 @@ pub fn put_bounds<C: CapRep>(
 {
     let place = labelled(Some(symbols), address);
     let base = labelled(Some(symbols), capability.base());
-    append(
-        text,
-        &[
-            Text(": "),
-            Text(place.as_str()),
-            Text(" + "),
-            Decimal(size),
-            Text(" in "),
-            Text(base.as_str()),
-            Text(" to "),
-            Hexadecimal(17, capability.top()),
-        ],
-    )
+    let line = pieces![
+        ": " Text(place.as_str()) " + " Decimal(size) " in " Text(base.as_str()) " to "
+        Hexadecimal(17, capability.top())
+    ];
+    append(text, &line)
 }
 
 /// Appends what a condition asks to a text.
@@ -92,12 +84,7 @@ fn append_question<C: CapRep>(
             let place = labelled(Some(symbols), address);
             append(
                 text,
-                &[
-                    Text("a multiple of "),
-                    Decimal(size),
-                    Text(": "),
-                    Text(place.as_str()),
-                ],
+                &pieces!["a multiple of " Decimal(size) ": " Text(place.as_str())],
             )
         }
         Question::Ram { address, .. } => append_at(text, symbols, "RAM at ", address),

@@ -3,22 +3,20 @@ ghost use Rattle.std.specs.Prelude.{◌≡◌, ◌*◌, ◌≤◌, ◌++◌, len
 ghost use Rattle.std.specs.Option.{option_copied};
 ghost use Rattle.arrayvec.specs.ArrayString.{array_string_len};
 ghost use Rattle.cap_bounds.specs.SetAddress.{at_address};
-ghost use Rattle.texts.specs.Hex.{hex_of};
 ghost use Rattle.steps.specs.Applying.{meant};
 ghost use Rattle.symbols.specs.Labels.{labelled, table_of};
 ghost use Rattle.explain.specs.ValueText.{shown_value};
 ghost use Rattle.explain.specs.EffectText as spec;
 
 use crate::trap::trap_entry;
-use crate::value::value_text;
-use crate::written::{control_name, special_name, written_first, written_or};
+use crate::value::{control_name, special_name, value_text, written_first, written_or};
 use arrayvec::ArrayString;
 use base::Size;
 use cap_bounds::CapRep;
-use steps::{CsrWrite, DeviceLoad, Effect, Enter, Link, SpecialWrite, Store, StoreCapability};
+use steps::{DeviceLoad, Effect, Enter, Store, StoreCapability};
 use symbols::{Symbols, labelled};
-use texts::Piece::{Hexadecimal, Text};
-use texts::{fill, text};
+use texts::Piece::Text;
+use texts::{fill, hex_digits, pieces, text};
 
 /// The text of an effect.
 pub(crate) type Line = ArrayString<544>;
@@ -43,14 +41,10 @@ fn store_part(symbols: Option<&Symbols>, store: Store) -> ArrayString<336>
     let mut part = text(&[Text("store "), Text(size_text(store.size)), Text(" at ")]);
     let place = labelled(symbols, store.address);
     let width = 2 * store.size.bytes() as usize;
-    fill(
-        &mut part,
-        &[
-            Text(place.as_str()),
-            Text(": "),
-            Hexadecimal(width, u128::from(store.number)),
-        ],
-    );
+    let line = pieces![
+        Text(place.as_str()) ": " Hexadecimal(width, u128::from(store.number))
+    ];
+    fill(&mut part, &line);
     part
 }
 
@@ -62,12 +56,7 @@ fn capability_part<C: CapRep>(symbols: Option<&Symbols>, store: StoreCapability<
 {
     let place = labelled(symbols, store.address);
     let shown = value_text(store.value);
-    text(&[
-        Text("store capability at "),
-        Text(place.as_str()),
-        Text(": "),
-        Text(shown.as_str()),
-    ])
+    text(&pieces!["store capability at " Text(place.as_str()) ": " Text(shown.as_str())])
 }
 
 /// A load from a device register.
@@ -78,26 +67,18 @@ fn load_part<C: CapRep>(symbols: Option<&Symbols>, load: DeviceLoad<C>) -> Line
 {
     let written = written_or("load", load.rd, load.value);
     let place = labelled(symbols, load.address);
-    text(&[
-        Text(written.as_str()),
-        Text(" from device "),
-        Text(place.as_str()),
-    ])
+    text(&pieces![Text(written.as_str()) " from device " Text(place.as_str())])
 }
 
 /// A jump with a link.
-fn link_part<C: CapRep>(symbols: Option<&Symbols>, link: Link<C>) -> Line
-    ensures text { result.bytes ≡ spec.written_first link.rd (C.value link.link)
-        ++ spec.jump_part (table_of (option_copied symbols.entry)) link.target }
-    ensures within { array_string_len result ≤ 486 }
+fn jump_part<C: CapRep>(symbols: Option<&Symbols>, rd: u8, link: C, target: u64) -> Line
+    ensures text { result.bytes
+        ≡ spec.written_first rd (C.value link) ++ spec.jump_part (table_of (option_copied symbols.entry)) target }
+    ensures within { array_string_len result ≤ 393 }
 {
-    let written = written_first(link.rd, link.link);
-    let target = labelled(symbols, link.target);
-    text(&[
-        Text(written.as_str()),
-        Text("jump to "),
-        Text(target.as_str()),
-    ])
+    let written = written_first(rd, link);
+    let target = labelled(symbols, target);
+    text(&pieces![Text(written.as_str()) "jump to " Text(target.as_str())])
 }
 
 /// A jump to a capability.
@@ -107,49 +88,22 @@ fn enter_part<C: CapRep>(symbols: Option<&Symbols>, enter: Enter<C>) -> Line
         ++ spec.value_part (codes "pcc") (at_address (C.value enter.code) enter.target) }
     ensures within { array_string_len result ≤ 486 }
 {
-    let written = written_first(enter.rd, enter.link);
-    let target = labelled(symbols, enter.target);
+    let mut line = jump_part(symbols, enter.rd, enter.link, enter.target);
     let shown = value_text(enter.code.set_address(enter.target));
-    text(&[
-        Text(written.as_str()),
-        Text("jump to "),
-        Text(target.as_str()),
-        Text(", pcc = "),
-        Text(shown.as_str()),
-    ])
+    fill(&mut line, &[Text(", pcc = "), Text(shown.as_str())]);
+    line
 }
 
-/// An exchange of a special capability register.
-fn special_part<C: CapRep>(write: SpecialWrite<C>) -> Line
-    ensures text { result.bytes ≡ spec.written_first write.rd (C.value write.old)
-        ++ spec.value_part (spec.shown_special write.number) (C.value write.value) }
+/// An exchange of a system register, by its name and the text of its new value.
+fn exchange_part<C: CapRep>(rd: u8, old: C, name: ArrayString<20>, shown: &str) -> Line
+    requires { length shown.now ≤ 81 }
+    ensures text { result.bytes ≡ spec.written_first rd (C.value old) ++ name.bytes ++ codes " = " ++ shown.now }
     ensures within { array_string_len result ≤ 486 }
 {
-    let written = written_first(write.rd, write.old);
-    let name = special_name(write.number);
-    let shown = value_text(write.value);
-    text(&[
-        Text(written.as_str()),
-        Text(name.as_str()),
-        Text(" = "),
-        Text(shown.as_str()),
-    ])
-}
-
-/// A write of a control and status register.
-fn control_part<C: CapRep>(write: CsrWrite<C>) -> Line
-    ensures text { result.bytes ≡ spec.written_first write.rd (C.value write.old)
-        ++ spec.shown_csr write.number ++ codes " = " ++ hex_of 16 write.value }
-    ensures within { array_string_len result ≤ 486 }
-{
-    let written = written_first(write.rd, write.old);
-    let name = control_name(write.number);
-    text(&[
-        Text(written.as_str()),
-        Text(name.as_str()),
-        Text(" = "),
-        Hexadecimal(16, u128::from(write.value)),
-    ])
+    let written = written_first(rd, old);
+    let mut line = text(&[Text(written.as_str()), Text(name.as_str()), Text(" = ")]);
+    fill(&mut line, &[Text(shown)]);
+    line
 }
 
 /// The text of what a step changes, one line without a line feed, at most 486 bytes: a register and its new value, what is stored and
@@ -163,26 +117,40 @@ pub fn effect_text<C: CapRep>(symbols: Option<&Symbols>, effect: &Effect<C>) -> 
     match effect {
         Effect::Trap(fault) => trap_entry(*fault),
         Effect::Nothing => text(&[Text("nothing")]),
-        Effect::Write(write) | Effect::Unseal(write) => text(&[Text(written_or(
+        Effect::Write(write) | Effect::Unseal(write) => text(&pieces![Text(written_or(
             "nothing",
             write.rd,
-            write.value,
+            write.value
         ).as_str())]),
         Effect::Store(store) => text(&[Text(store_part(symbols, *store).as_str())]),
         Effect::StoreCapability(store) => capability_part(symbols, *store),
         Effect::DeviceLoad(load) => load_part(symbols, *load),
-        Effect::DeviceStore(store) => text(&[
-            Text("device "),
-            Text(store_part(symbols, *store).as_str()),
+        Effect::DeviceStore(store) => text(&pieces![
+            "device " Text(store_part(symbols, *store).as_str())
         ]),
-        Effect::Jump(target) => text(&[
-            Text("jump to "),
-            Text(labelled(symbols, *target).as_str()),
+        Effect::Jump(target) => text(&pieces![
+            "jump to " Text(labelled(symbols, *target).as_str())
         ]),
-        Effect::Link(link) => link_part(symbols, *link),
+        Effect::Link(link) => jump_part(symbols, link.rd, link.link, link.target),
         Effect::Enter(enter) => enter_part(symbols, *enter),
-        Effect::Special(write) => special_part(*write),
-        Effect::Csr(write) => control_part(*write),
+        Effect::Special(write) => {
+            let shown = value_text(write.value);
+            exchange_part(
+                write.rd,
+                write.old,
+                special_name(write.number),
+                shown.as_str(),
+            )
+        }
+        Effect::Csr(write) => {
+            let shown = hex_digits(u128::from(write.value), 16);
+            exchange_part(
+                write.rd,
+                write.old,
+                control_name(write.number),
+                shown.as_str(),
+            )
+        }
         Effect::Return { sealed: true } => text(&[Text("return from trap through a sentry")]),
         Effect::Return { sealed: false } => text(&[Text("return from trap")]),
     }

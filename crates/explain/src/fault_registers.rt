@@ -11,7 +11,7 @@ use cap_insns::integer;
 use hart::Hart;
 use std::alloc::AllocError;
 use texts::Piece::Text;
-use texts::append;
+use texts::{append, pieces};
 
 /// The capability in a register: 0 to 31 general, 32 and its number special. Null where there is no such register.
 pub(crate) fn capability_in<C: CapRep>(hart: &Hart<C>, register: u64) -> C
@@ -41,12 +41,7 @@ fn append_fields<C: CapRep>(text: &mut String, capability: C) -> Result<(), Allo
     let letters = permission_letters(capability.perms());
     append(
         text,
-        &[
-            Text(fields.as_str()),
-            Text(" "),
-            Text(letters.as_str()),
-            Text("\n"),
-        ],
+        &pieces![Text(fields.as_str()) " " Text(letters.as_str()) "\n"],
     )
 }
 

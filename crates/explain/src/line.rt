@@ -1,10 +1,11 @@
-//! A line of a trace, with labels where there is a table of symbols.
-ghost use Rattle.std.specs.Prelude.{◌≡◌};
+//! Lines of words at addresses, and of traces, with labels where there is a table of symbols.
+ghost use Rattle.std.specs.Prelude.{◌≡◌, ◌++◌, OnOk, string_bytes};
 ghost use Rattle.std.specs.Option.{option_copied};
 ghost use Rattle.steps.specs.Applying.{meant, IsPlanned};
 ghost use Rattle.steps.specs.Step.{step_effect};
 ghost use Rattle.symbols.specs.Labels.{table_of};
 ghost use Rattle.explain.specs.TraceLine as spec;
+ghost use Rattle.explain.specs.WordLine.{labelled_word};
 
 use crate::effect::effect_text;
 use arrayvec::ArrayString;
@@ -12,10 +13,33 @@ use base::interrupt;
 use cap_bounds::CapRep;
 use disassembler::disassemble;
 use hart::{Hart, Planned};
+use std::alloc::AllocError;
 use steps::Effect;
 use symbols::{Symbols, labelled};
-use texts::Piece::{Decimal, Hexadecimal, Text};
-use texts::text;
+use texts::Piece::Text;
+use texts::{append, pieces, text};
+
+/// Appends the line of a word at an address to a text: the address with its label, the word, and its text in integer or capability mode.
+///
+/// # Errors
+///
+/// Out of memory.
+pub fn put_word_line(
+    text: &mut String,
+    symbols: &Symbols,
+    address: u64,
+    word: u32,
+    mode: bool,
+) -> Result<(), AllocError>
+    ensures { OnOk result (string_bytes text.new ≡ string_bytes text.old ++ labelled_word symbols.now mode address word) }
+{
+    let place = labelled(Some(symbols), address);
+    let shown = disassemble(word, mode);
+    let line = pieces![
+        Text(place.as_str()) " " Hexadecimal(8, u128::from(word)) " " Text(shown.as_str()) "\n"
+    ];
+    append(text, &line)
+}
 
 /// The text of a line.
 pub type Line = ArrayString<960>;
@@ -53,11 +77,7 @@ fn step_word<C: CapRep>(hart: &Hart<C>, effect: &Effect<C>) -> ArrayString<80>
     match hart.fetch() {
         Ok(word) => {
             let shown = disassemble(word, hart.scrs().pcc().flag());
-            text(&[
-                Hexadecimal(8, u128::from(word)),
-                Text(" "),
-                Text(shown.as_str()),
-            ])
+            text(&pieces![Hexadecimal(8, u128::from(word)) " " Text(shown.as_str())])
         }
         Err(_) => text(&[Text("-")]),
     }
@@ -79,14 +99,8 @@ pub fn trace_line<C: CapRep>(
     let place = labelled(table, hart.scrs().pcc().address());
     let word = step_word(hart, &planned.effect);
     let effect = effect_text(table, &planned.effect);
-    text(&[
-        Decimal(number),
-        Text(" "),
-        Text(place.as_str()),
-        Text(" "),
-        Text(word.as_str()),
-        Text(": "),
-        Text(effect.as_str()),
-        Text("\n"),
+    text(&pieces![
+        Decimal(number) " " Text(place.as_str()) " " Text(word.as_str()) ": " Text(effect.as_str())
+        "\n"
     ])
 }

@@ -1,14 +1,14 @@
-//! The stages of a step as lines of text.
+//! The stages of the next step as lines of text, and the condition of them that fails.
 ghost use Rattle.std.specs.Prelude.{◌≡◌, ◌++◌, OnOk, flat_map, is_some, string_bytes};
 ghost use Rattle.devices.specs.Devices.{interrupts_of};
 ghost use Rattle.special_regs.specs.Interrupts as interrupts;
 ghost use Rattle.isa_rows.specs.Decoded.{insn_of};
 ghost use Rattle.steps.specs.State.{pc_of};
-ghost use Rattle.explain.specs.Asked.{word_stages};
+ghost use Rattle.explain.specs.Asked.{all_conditions, word_stages};
 ghost use Rattle.explain.specs.WhyText as spec;
 ghost use Rattle.explain.specs.WhyText.{ram_name, moved_name, sized_place, place_text, tag_lines, capability_lines, stage_text, stages_text};
 
-use crate::conditions::{append_at, append_conditions};
+use crate::conditions::{append_at, append_conditions, append_line};
 use crate::effect::size_text;
 use crate::fault_registers::append_capability;
 use base::CheriCause::{CInvoke, Tag};
@@ -195,7 +195,7 @@ fn append_word<C: CapRep>(
 }
 
 /// Whether an interrupt is taken in place of the next instruction.
-pub(crate) fn is_interrupted<C: CapRep>(hart: &Hart<C>) -> bool
+fn is_interrupted<C: CapRep>(hart: &Hart<C>) -> bool
     ensures { result ≡ is_some (interrupts.pending hart.now.csrs (interrupts_of hart.now.devices)) }
 {
     pending(hart.csrs(), hart.devices().interrupts()).is_some()
@@ -218,5 +218,77 @@ pub(crate) fn append_stages<C: CapRep>(
     match hart.fetch() {
         Ok(word) => append_word(text, symbols, hart, word),
         Err(_) => Ok(()),
+    }
+}
+
+/// Appends the line of the first condition that is false to a text, where one is.
+fn append_false<C: CapRep>(
+    text: &mut String,
+    symbols: &Symbols,
+    hart: &Hart<C>,
+    conditions: &[Condition],
+) -> Result<(), AllocError>
+    ensures { OnOk result (string_bytes text.new ≡ string_bytes text.old ++ spec.false_line symbols.now hart.now conditions.now) }
+{
+    match conditions {
+        [] => Ok(()),
+        [first, rest @ ..] => {
+            if first.holds {
+                append_false(text, symbols, hart, rest)
+            } else {
+                append_line(text, symbols, hart, *first)
+            }
+        }
+    }
+}
+
+/// Appends the line of the condition that fails of a word that was fetched to a text, where one does.
+fn append_word_failed<C: CapRep>(
+    text: &mut String,
+    symbols: &Symbols,
+    hart: &Hart<C>,
+    word: u32,
+) -> Result<(), AllocError>
+    ensures { OnOk result (string_bytes text.new
+        ≡ string_bytes text.old ++ spec.false_line symbols.now hart.now (all_conditions (word_stages (insn_of word) word hart.now))) }
+{
+    match decode(word) {
+        Some(insn) => {
+            let asked = hart.asked(*text.allocator(), word, insn)?;
+            append_false(text, symbols, hart, &asked)
+        }
+        None => {
+            let question = Question::Instruction {
+                word: u64::from(word),
+            };
+            let holds = false;
+            append_line(text, symbols, hart, Condition { question, holds })
+        }
+    }
+}
+
+/// Appends the line of the condition that fails at the next step of a machine that is not halted to a text: what it asks, of which
+/// register, and the numbers, addresses with their labels. Where none fails, as at an interrupt or an ECALL, it appends nothing.
+///
+/// # Errors
+///
+/// Out of memory.
+#[tactic(auto, unfolding(crate::specs::Asked::stages_of, crate::specs::WhyText::failed_line))]
+pub fn put_failed<C: CapRep>(
+    text: &mut String,
+    symbols: &Symbols,
+    hart: &Hart<C>,
+) -> Result<(), AllocError>
+    ensures { OnOk result (string_bytes text.new ≡ string_bytes text.old ++ spec.failed_line symbols.now hart.now) }
+{
+    if is_interrupted(hart) {
+        return Ok(());
+    }
+    match hart.fetch() {
+        Ok(word) => append_word_failed(text, symbols, hart, word),
+        Err(_) => {
+            let asked = hart.fetch_asked(*text.allocator())?;
+            append_false(text, symbols, hart, &asked)
+        }
     }
 }

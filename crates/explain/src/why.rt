@@ -4,8 +4,8 @@ ghost use Rattle.tagged_memory.specs.Memory.{is_in_ram, number_at};
 ghost use Rattle.explain.specs.WhyText.{instruction_text, running_text, why_text};
 
 use crate::effect::effect_text;
+use crate::line::put_word_line;
 use crate::stages::append_stages;
-use crate::word::put_word_line;
 use base::{INSTRUCTION_BYTES, Size};
 use cap_bounds::CapRep;
 use hart::Hart;

@@ -1,16 +1,18 @@
 -- What stands after the text of an assembler's fault: the line with carets under what the fault is about, and what was read there.
 use Rattle.std.specs.Prelude.{ℕ, zero, suc, ◌+◌, ◌-◌, not, ◌==◌, if◌then◌else◌, List, [], ◌++◌, map, length, take, max, replicate}
-use Rattle.std.specs.Prelude.{slice_index, codes, decimal}
+use Rattle.std.specs.Prelude.{slice_index, Option, Some, None, codes, decimal}
 use Rattle.std.specs.List.{prefix_len}
+use Rattle.std.specs.Option.{option_map_or}
 use Rattle.asm_lines.specs.Text.{is_foreign, trimmed_end}
-use Rattle.asm_lines.specs.Parts.{Part}
+use Rattle.asm_lines.specs.Parts.{Part, parts_of}
 use Rattle.assembler.specs.declared.fault.AsmCode.{AsmCode}
 use Rattle.assembler.specs.declared.fault.AsmCode.TheVariants.{A8, A9, A10}
+use Rattle.assembler.specs.declared.standing.Stopped.{Stopped}
+use Rattle.assembler.specs.AtFault.{part_at_fault, reason_at_fault}
 use Rattle.assembler.specs.Standing.{Standing}
 use Rattle.texts.specs.Hex.{hex_of}
-use Rattle.fault_details.specs.Found.{faulty_part}
 use Rattle.fault_details.specs.Pieces.{past, up_to}
-use Rattle.fault_details.specs.Reasons.{reason}
+use Rattle.fault_details.specs.Reasons.{reason_text}
 
 -- a line of a text, counted from 1
 abbrev pub after_lines : ℕ → List ℕ → List ℕ
@@ -41,4 +43,11 @@ unfoldable pub detail_of : AsmCode → ℕ → Standing → List ℕ → List �
 detail_of A8 indent s line = foreign_read line
 detail_of A9 indent s line = decimal (length line) ++ codes " bytes"
 detail_of A10 indent s line = []
-detail_of code indent s line = underlined indent line (faulty_part code s line) ++ reason code s line
+detail_of code indent s line =
+    underlined indent line (part_at_fault code s line)
+    ++ option_map_or (reason_text (parts_of line).mnemonic.text) (reason_at_fault code s line) []
+
+-- of a text that isn't assembled; nothing where there was no memory
+abbrev pub detail_at : ℕ → List ℕ → Stopped → List ℕ
+detail_at indent text s =
+    option_map_or (λ standing. detail_of s.fault.code indent standing (line_at s.fault.line text)) s.standing []

@@ -1,7 +1,6 @@
 //! What was read of the line that has an assembler's fault.
 #![tactic(auto)]
 
-mod found;
 mod reading;
 mod reasons;
 

@@ -1,8 +1,11 @@
 -- A listing, piece by piece, and where an image's sections lie.
 use Rattle.std.proofs.Common.{◌≡◌, ℕ, ◌+◌, ◌-◌, ◌*◌, ◌/◌, ◌^◌, ◌<◌, ◌≤◌, zero, suc, Bool, List, Option, [], ◌∷◌, ◌++◌}
-use Rattle.std.proofs.Common.{length, get_or, take, drop, refl, sym, ap, ◌∙◌, append_assoc, append-nil, length-drop, arith}
+use Rattle.std.proofs.Common.{length, get_or, take, drop, refl, sym, subst, ap, ◌∙◌, append_assoc, append-nil, length-drop, arith}
 use Rattle.std.specs.List.{flat_map}
 use Rattle.std.proofs.lemmas.List.{take_all}
+use Rattle.std.specs.Io.KnownBytes.{Appends}
+use Rattle.image.specs.Devices.{AppendsBeginning}
+use Rattle.image.specs.BeginningLaws.{beginning_more, beginning_after}
 use Rattle.byteorder.specs.Endian.{little_number}
 use Rattle.base.specs.Ram.{ram_end}
 use Rattle.image.specs.Image.{Image, Section, IsImage, mode_number}
@@ -21,29 +24,19 @@ next_item f (x ∷ xs) (suc i) d lt =
 
 -- ---- lines
 
--- bytes that are cut after whole words are listed in two pieces
-pub lines_cut : (table : Option (List Symbol)) (mode : Bool) (address k : ℕ) (bytes : List ℕ) → 4 * k ≤ length bytes
-    → lines_from table mode address bytes
-    ≡ lines_from table mode address (take (4 * k) bytes) ++ lines_from table mode (address + 4 * k) (drop (4 * k) bytes)
-lines_cut table mode address zero bytes fits =
-    let here : address + 0 ≡ address = omega arith in
-    rw here refl
-lines_cut table mode address (suc k) (a ∷ b ∷ c ∷ d ∷ rest) fits =
-    let n : 4 * suc k ≡ suc (suc (suc (suc (4 * k)))) = omega arith in
-    let there : address + suc (suc (suc (suc (4 * k)))) ≡ (address + 4) + 4 * k = omega arith in
-    let later = lines_cut table mode (address + 4) k rest (omega (arith, fits)) in
-    rw (n, there) (
-    ap (λ ls. word_lines table mode address (little_number 4 (a ∷ b ∷ c ∷ d ∷ [])) ++ ls) later
-    ∙ sym (append_assoc (word_lines table mode address (little_number 4 (a ∷ b ∷ c ∷ d ∷ [])))
-    (lines_from table mode (address + 4) (take (4 * k) rest))
-    (lines_from table mode ((address + 4) + 4 * k) (drop (4 * k) rest))))
-lines_cut table mode address (suc k) [] fits = absurd (omega (arith, fits))
-lines_cut table mode address (suc k) (a ∷ []) fits = absurd (omega (arith, fits))
-lines_cut table mode address (suc k) (a ∷ b ∷ []) fits = absurd (omega (arith, fits))
-lines_cut table mode address (suc k) (a ∷ b ∷ c ∷ []) fits = absurd (omega (arith, fits))
+-- what is left after one more line
+pub line_less : (done line left rest whole : List ℕ) → left ≡ line ++ rest → done ++ left ≡ whole → (done ++ line) ++ rest ≡ whole
+line_less done line left rest whole cut is = append_assoc done line rest ∙ ap (λ ls. done ++ ls) (sym cut) ∙ is
+
+-- a beginning of that line, after those that are written, is one of the whole
+pub line_began : (a b c : Option (List ℕ)) (done line left rest whole : List ℕ) → left ≡ line ++ rest → done ++ left ≡ whole
+    → Appends a b done → AppendsBeginning b c line → AppendsBeginning a c whole
+line_began a b c done line left rest whole cut is all began =
+    subst (AppendsBeginning a c) (line_less done line left rest whole cut is)
+    (beginning_more a c (done ++ line) rest (beginning_after a b c done line all began))
 
 -- the first four bytes are a word
-one_word : (table : Option (List Symbol)) (mode : Bool) (address : ℕ) (bytes : List ℕ) → 4 ≤ length bytes
+pub one_word : (table : Option (List Symbol)) (mode : Bool) (address : ℕ) (bytes : List ℕ) → 4 ≤ length bytes
     → lines_from table mode address bytes
     ≡ word_lines table mode address (little_number 4 bytes) ++ lines_from table mode (address + 4) (drop 4 bytes)
 one_word table mode address (a ∷ b ∷ c ∷ d ∷ rest) fits = refl
@@ -52,14 +45,8 @@ one_word table mode address (a ∷ []) fits = absurd (omega (arith, fits))
 one_word table mode address (a ∷ b ∷ []) fits = absurd (omega (arith, fits))
 one_word table mode address (a ∷ b ∷ c ∷ []) fits = absurd (omega (arith, fits))
 
--- the line of the first byte, and those of the others
-pub first_line : (table : Option (List Symbol)) (address : ℕ) (bytes : List ℕ) → 0 < length bytes
-    → byte_lines table address (get_or bytes 0 0) ++ lines_of_bytes table (address + 1) (drop 1 bytes) ≡ lines_of_bytes table address bytes
-first_line table address [] some = absurd (omega (arith, some))
-first_line table address (b ∷ bs) some = refl
-
 -- fewer than four bytes are listed byte by byte
-left_over : (table : Option (List Symbol)) (mode : Bool) (address : ℕ) (bytes : List ℕ) → length bytes < 4
+pub left_over : (table : Option (List Symbol)) (mode : Bool) (address : ℕ) (bytes : List ℕ) → length bytes < 4
     → lines_from table mode address bytes ≡ lines_of_bytes table address bytes
 left_over table mode address [] few = refl
 left_over table mode address (a ∷ []) few = refl
@@ -67,38 +54,15 @@ left_over table mode address (a ∷ b ∷ []) few = refl
 left_over table mode address (a ∷ b ∷ c ∷ []) few = refl
 left_over table mode address (a ∷ b ∷ c ∷ d ∷ rest) few = absurd (omega (arith, few))
 
--- the words of a section, and then what is left over
-pub section_cut : (table : Option (List Symbol)) (mode : Bool) (address : ℕ) (bytes : List ℕ)
-    → lines_from table mode address bytes
-    ≡ lines_from table mode address (take (4 * (length bytes / 4)) bytes)
-    ++ lines_of_bytes table (address + 4 * (length bytes / 4)) (drop (4 * (length bytes / 4)) bytes)
-section_cut table mode address bytes =
-    let at = 4 * (length bytes / 4) in
-    let few : length (drop at bytes) < 4 = rw (length-drop) (omega arith) in
-    lines_cut table mode address (length bytes / 4) bytes (omega arith)
-    ∙ ap (λ ls. lines_from table mode address (take at bytes) ++ ls) (left_over table mode (address + at) (drop at bytes) few)
+-- the line of the first byte, and those of the others
+pub one_byte : (table : Option (List Symbol)) (address byte : ℕ) (bytes after : List ℕ) → bytes ≡ byte ∷ after
+    → lines_of_bytes table address bytes ≡ byte_lines table address byte ++ lines_of_bytes table (address + 1) after
+one_byte table address byte bytes after is = rw is refl
 
--- the line of a word after the lines of those before it
-pub next_word : (table : Option (List Symbol)) (mode : Bool) (address i : ℕ) (bytes : List ℕ) → 4 * i + 4 ≤ length bytes
-    → lines_from table mode address (take (4 * i) bytes) ++ word_lines table mode (address + 4 * i) (little_number 4 (drop (4 * i) bytes))
-    ≡ lines_from table mode address (take (4 * suc i) bytes)
-next_word table mode address zero (a ∷ b ∷ c ∷ d ∷ rest) fits =
-    let here : address + 0 ≡ address = omega arith in
-    rw here (sym (append-nil (word_lines table mode address (little_number 4 (a ∷ b ∷ c ∷ d ∷ [])))))
-next_word table mode address (suc i) (a ∷ b ∷ c ∷ d ∷ rest) fits =
-    let n : 4 * suc i ≡ suc (suc (suc (suc (4 * i)))) = omega arith in
-    let m : 4 * suc (suc i) ≡ suc (suc (suc (suc (4 * suc i)))) = omega arith in
-    let there : address + suc (suc (suc (suc (4 * i)))) ≡ (address + 4) + 4 * i = omega arith in
-    let later = next_word table mode (address + 4) i rest (omega (arith, fits)) in
-    rw (m) (rw (n, there) (
-    append_assoc (word_lines table mode address (little_number 4 (a ∷ b ∷ c ∷ d ∷ [])))
-    (lines_from table mode (address + 4) (take (4 * i) rest))
-    (word_lines table mode ((address + 4) + 4 * i) (little_number 4 (drop (4 * i) rest)))
-    ∙ ap (λ ls. word_lines table mode address (little_number 4 (a ∷ b ∷ c ∷ d ∷ [])) ++ ls) (rw n at later)))
-next_word table mode address i [] fits = absurd (omega (arith, fits))
-next_word table mode address i (a ∷ []) fits = absurd (omega (arith, fits))
-next_word table mode address i (a ∷ b ∷ []) fits = absurd (omega (arith, fits))
-next_word table mode address i (a ∷ b ∷ c ∷ []) fits = absurd (omega (arith, fits))
+-- no bytes have no lines
+pub all_listed : (table : Option (List Symbol)) (address : ℕ) (bytes : List ℕ) → length bytes ≡ 0 → lines_of_bytes table address bytes ≡ []
+all_listed table address [] none = refl
+all_listed table address (b ∷ bs) none = absurd (omega (arith, none))
 
 -- a slice up to the end is the rest
 pub to_the_end : (at : ℕ) (bytes : List ℕ) → take (length bytes - at) (drop at bytes) ≡ drop at bytes

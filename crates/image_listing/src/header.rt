@@ -8,8 +8,7 @@ ghost use Rattle.image_listing.specs.Header.{capability_line, header_line, heade
 
 use arrayvec::ArrayString;
 use image::{CapEntry, DeviceFailed, Image, Sink, write_all};
-use texts::Piece::{Address, Decimal, Hexadecimal, Text};
-use texts::text;
+use texts::{pieces, text};
 
 /// A line of at most 110 bytes: numbers in decimal have 20 digits at most.
 type Line = ArrayString<110>;
@@ -18,16 +17,9 @@ type Line = ArrayString<110>;
 fn header_line(image: &Image) -> Line
     ensures { result.bytes ≡ header_line image.now }
 {
-    text(&[
-        Text("# version "),
-        Decimal(u64::from(image.version())),
-        Text(", pages "),
-        Decimal(u64::from(image.pages())),
-        Text(", entry "),
-        Address(image.entry()),
-        Text(", mode "),
-        Decimal(u64::from(image.mode())),
-        Text("\n"),
+    text(&pieces![
+        "# version " Decimal(u64::from(image.version())) ", pages " Decimal(u64::from(image.pages()))
+        ", entry " Address(image.entry()) ", mode " Decimal(u64::from(image.mode())) "\n"
     ])
 }
 
@@ -35,18 +27,9 @@ fn header_line(image: &Image) -> Line
 fn capability_line(capability: &CapEntry) -> Line
     ensures { result.bytes ≡ capability_line capability.now }
 {
-    text(&[
-        Text("# "),
-        Address(capability.place),
-        Text(" .cap 0x"),
-        Address(capability.base),
-        Text(", "),
-        Decimal(capability.length),
-        Text(", 0x"),
-        Hexadecimal(5, u128::from(capability.perms)),
-        Text(", "),
-        Decimal(u64::from(capability.flag)),
-        Text("\n"),
+    text(&pieces![
+        "# " Address(capability.place) " .cap 0x" Address(capability.base) ", " Decimal(capability.length)
+        ", 0x" Hexadecimal(5, u128::from(capability.perms)) ", " Decimal(u64::from(capability.flag)) "\n"
     ])
 }
 

@@ -2,10 +2,8 @@
 #![tactic(auto)]
 
 mod header;
-pub mod laws;
 mod line;
 mod listing;
-mod target;
 
 pub use header::write_header;
 pub use listing::{list, list_named};

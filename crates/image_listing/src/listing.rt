@@ -1,11 +1,10 @@
 //! The listing of an image, with names or without.
 
-ghost use Rattle.std.specs.Prelude.{◌+◌, ◌-◌, ◌*◌, ◌/◌, ◌^◌, ◌<◌, length, take, OnOk, OnErr};
+ghost use Rattle.std.specs.Prelude.{◌+◌, ◌-◌, ◌^◌, ◌<◌, ◌++◌, length, OnOk, OnErr};
 ghost use Rattle.std.specs.Option.{option_copied};
 ghost use Rattle.std.specs.Io.KnownBytes.{Appends};
 ghost use Rattle.image.specs.Devices.{Counts, AppendsBeginning};
-ghost use Rattle.image_listing.specs.Listing.{byte_lines, lines_from, lines_of_bytes, listing, listing_by, listing_named};
-ghost use Rattle.image_listing.specs.Listing.{section_lines, word_lines};
+ghost use Rattle.image_listing.specs.Listing.{listing, listing_by, listing_named, section_lines};
 ghost use Rattle.image_listing.specs.Named.{before, label_line, label_lines};
 
 use crate::line::named_line;
@@ -14,8 +13,13 @@ use disassembler::byte_line;
 use image::{DeviceFailed, Image, Section, Sink, write_all};
 use symbols::Symbols;
 
+/// A table of symbols, if there is one.
+type Table<'a> = Option<&'a Symbols>;
+
+type Written = Result<(), DeviceFailed>;
+
 /// Writes the line of a label.
-fn write_label<W: Sink>(name: &[u8], sink: &mut W) -> Result<(), DeviceFailed>
+fn write_label<W: Sink>(name: &[u8], sink: &mut W) -> Written
     requires { W.failed sink.old < 2 ^ 64 - 1 }
     ensures ok { OnOk result (Appends (W.held sink.old) (W.held sink.new) (label_line name.now)) }
     ensures err { OnErr result (AppendsBeginning (W.held sink.old) (W.held sink.new) (label_line name.now)) }
@@ -26,7 +30,7 @@ fn write_label<W: Sink>(name: &[u8], sink: &mut W) -> Result<(), DeviceFailed>
 }
 
 /// Writes a line for each label of an address.
-fn write_labels<W: Sink>(symbols: &Symbols, address: u64, sink: &mut W) -> Result<(), DeviceFailed>
+fn write_labels<W: Sink>(symbols: &Symbols, address: u64, sink: &mut W) -> Written
     requires { W.failed sink.old < 2 ^ 64 - 1 }
     ensures ok { OnOk result (Appends (W.held sink.old) (W.held sink.new) (label_lines symbols.now address)) }
     ensures err { OnErr result (AppendsBeginning (W.held sink.old) (W.held sink.new) (label_lines symbols.now address)) }
@@ -40,11 +44,7 @@ fn write_labels<W: Sink>(symbols: &Symbols, address: u64, sink: &mut W) -> Resul
 }
 
 /// Writes what stands before a line at an address: its labels, if there is a table.
-fn write_before<W: Sink>(
-    table: Option<&Symbols>,
-    address: u64,
-    sink: &mut W,
-) -> Result<(), DeviceFailed>
+fn write_before<W: Sink>(table: Table, address: u64, sink: &mut W) -> Written
     requires { W.failed sink.old < 2 ^ 64 - 1 }
     ensures ok { OnOk result (Appends (W.held sink.old) (W.held sink.new) (before (option_copied table.entry) address)) }
     ensures err { OnErr result (AppendsBeginning (W.held sink.old) (W.held sink.new) (before (option_copied table.entry) address)) }
@@ -56,96 +56,20 @@ fn write_before<W: Sink>(
     }
 }
 
-/// Writes the lines of a word.
-fn write_word<W: Sink>(
-    table: Option<&Symbols>,
-    mode: bool,
-    address: u64,
-    word: u32,
-    sink: &mut W,
-) -> Result<(), DeviceFailed>
+/// Writes the labels of an address, if there is a table, and a line.
+fn write_line<W: Sink>(table: Table, address: u64, line: &str, sink: &mut W) -> Written
     requires { W.failed sink.old < 2 ^ 64 - 1 }
-    ensures ok { OnOk result (Appends (W.held sink.old) (W.held sink.new) (word_lines (option_copied table.entry) mode address word)) }
+    ensures ok { OnOk result (Appends (W.held sink.old) (W.held sink.new) (before (option_copied table.entry) address ++ line.now)) }
     ensures err { OnErr result (AppendsBeginning (W.held sink.old) (W.held sink.new)
-        (word_lines (option_copied table.entry) mode address word)) }
+        (before (option_copied table.entry) address ++ line.now)) }
     ensures count { Counts (W.failed sink.old) (W.failed sink.new) result }
 {
     write_before(table, address, sink)?;
-    write_all(sink, named_line(table, address, word, mode).as_bytes())
-}
-
-/// Writes the lines of a byte that is no part of a word.
-fn write_byte<W: Sink>(
-    table: Option<&Symbols>,
-    address: u64,
-    byte: u8,
-    sink: &mut W,
-) -> Result<(), DeviceFailed>
-    requires { W.failed sink.old < 2 ^ 64 - 1 }
-    ensures ok { OnOk result (Appends (W.held sink.old) (W.held sink.new) (byte_lines (option_copied table.entry) address byte)) }
-    ensures err { OnErr result (AppendsBeginning (W.held sink.old) (W.held sink.new)
-        (byte_lines (option_copied table.entry) address byte)) }
-    ensures count { Counts (W.failed sink.old) (W.failed sink.new) result }
-{
-    write_before(table, address, sink)?;
-    write_all(sink, byte_line(address, byte).as_bytes())
-}
-
-/// Writes the lines of each of the bytes that are left over.
-fn list_bytes<W: Sink>(
-    table: Option<&Symbols>,
-    address: u64,
-    bytes: &[u8],
-    sink: &mut W,
-) -> Result<(), DeviceFailed>
-    requires few { length bytes.now < 4 }
-    requires fits { address + length bytes.now < 2 ^ 64 }
-    requires failed { W.failed sink.old < 2 ^ 64 - 1 }
-    ensures ok { OnOk result (Appends (W.held sink.old) (W.held sink.new) (lines_of_bytes (option_copied table.entry) address bytes.now)) }
-    ensures err { OnErr result (AppendsBeginning (W.held sink.old) (W.held sink.new)
-        (lines_of_bytes (option_copied table.entry) address bytes.now)) }
-    ensures count { Counts (W.failed sink.old) (W.failed sink.new) result }
-{
-    match bytes {
-        [] => Ok(()),
-        [first, rest @ ..] => {
-            write_byte(table, address, *first, sink)?;
-            list_bytes(table, address + 1, rest, sink)
-        }
-    }
-}
-
-/// Writes the lines of each whole word of the bytes from an address on.
-fn list_words<W: Sink>(
-    table: Option<&Symbols>,
-    mode: bool,
-    address: u64,
-    bytes: &[u8],
-    sink: &mut W,
-) -> Result<(), DeviceFailed>
-    requires fits { address + length bytes.now < 2 ^ 64 }
-    requires failed { W.failed sink.old < 2 ^ 64 - 1 }
-    ensures ok { OnOk result (Appends (W.held sink.old) (W.held sink.new) (
-        lines_from (option_copied table.entry) mode address (take (4 * (length bytes.now / 4)) bytes.now))) }
-    ensures err { OnErr result (AppendsBeginning (W.held sink.old) (W.held sink.new)
-        (lines_from (option_copied table.entry) mode address bytes.now)) }
-    ensures count { Counts (W.failed sink.old) (W.failed sink.new) result }
-{
-    for index in 0..bytes.len() / 4 {
-        let at = 4 * index;
-        let word = LittleEndian::read_u32(&bytes[at..]);
-        write_word(table, mode, address + at as u64, word, sink)?;
-    }
-    Ok(())
+    write_all(sink, line.as_bytes())
 }
 
 /// Writes the lines of a section: its words, and then the bytes left over.
-fn list_section<W: Sink>(
-    table: Option<&Symbols>,
-    mode: bool,
-    section: &Section,
-    sink: &mut W,
-) -> Result<(), DeviceFailed>
+fn list_section<W: Sink>(table: Table, mode: bool, section: &Section, sink: &mut W) -> Written
     requires fits { section.now.address + length section.now.bytes < 2 ^ 64 }
     requires failed { W.failed sink.old < 2 ^ 64 - 1 }
     ensures ok { OnOk result (Appends (W.held sink.old) (W.held sink.new) (section_lines (option_copied table.entry) mode section.now)) }
@@ -153,18 +77,24 @@ fn list_section<W: Sink>(
         (section_lines (option_copied table.entry) mode section.now)) }
     ensures count { Counts (W.failed sink.old) (W.failed sink.new) result }
 {
-    let bytes = section.bytes();
-    let at = 4 * (bytes.len() / 4);
-    list_words(table, mode, section.address(), bytes, sink)?;
-    list_bytes(table, section.address() + at as u64, &bytes[at..], sink)
+    let mut address = section.address();
+    let mut rest = section.bytes();
+    while rest.len() >= 4 {
+        let line = named_line(table, address, LittleEndian::read_u32(rest), mode);
+        write_line(table, address, line.as_str(), sink)?;
+        address += 4;
+        rest = &rest[4..];
+    }
+    while let Some((byte, after)) = rest.split_first() {
+        write_line(table, address, byte_line(address, *byte).as_str(), sink)?;
+        address += 1;
+        rest = after;
+    }
+    Ok(())
 }
 
 /// Writes the listing of an image, with the names of a table if there is one.
-fn list_by<W: Sink>(
-    image: &Image,
-    table: Option<&Symbols>,
-    sink: &mut W,
-) -> Result<(), DeviceFailed>
+fn list_by<W: Sink>(image: &Image, table: Table, sink: &mut W) -> Written
     requires { W.failed sink.old < 2 ^ 64 - 1 }
     ensures ok { OnOk result (Appends (W.held sink.old) (W.held sink.new) (listing_by (option_copied table.entry) image.now)) }
     ensures err { OnErr result (AppendsBeginning (W.held sink.old) (W.held sink.new) (listing_by (option_copied table.entry) image.now)) }

@@ -1,4 +1,3 @@
 mod Facts
 mod Fuel
 mod There
-mod Pieces

@@ -27,9 +27,6 @@ permission_text permission.Unseal = codes "unseal"
 permission_text permission.AccessSystemRegisters = codes "access system registers"
 permission_text permission.SetCid = codes "set CID"
 
-abbrev pub exact_text : List Symbol → ℕ → ℕ → List ℕ
-exact_text symbols address length = codes "exact bounds: " ++ (labelled symbols address ++ (codes " + " ++ decimal length))
-
 unfoldable pub question_text : List Symbol → State → TagQuestion → List ℕ
 question_text symbols s (asks.Tag place) = codes "tag of " ++ place_text symbols place
 question_text symbols s (asks.Seal place) = codes "seal of " ++ place_text symbols place
@@ -37,7 +34,8 @@ question_text symbols s (asks.Window place address) =
     codes "window of " ++ place_text symbols place ++ codes ": " ++ labelled symbols address
 question_text symbols s (asks.Bounds place address size) =
     codes "length of " ++ place_text symbols place ++ bounds_text symbols address size (held place s)
-question_text symbols s (asks.Exact address length) = exact_text symbols address length
+question_text symbols s (asks.Exact address length) =
+    codes "exact bounds: " ++ labelled symbols address ++ codes " + " ++ decimal length
 question_text symbols s (asks.Permit place permission) =
     codes "permit " ++ permission_text permission ++ codes " of " ++ place_text symbols place
 question_text symbols s (asks.Type place) = codes "type of " ++ place_text symbols place

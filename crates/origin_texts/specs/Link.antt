@@ -39,8 +39,8 @@ seal_note before after = []
 -- of a capability that was made of another
 abbrev pub kept_notes : CapValue → CapValue → List ℕ
 kept_notes v w =
-    unless (has_same_bounds v w) (codes ", bounds cut")
-    ++ (unless (value_perms w == value_perms v) (codes ", permissions cut") ++ seal_note (is_sealed v) (is_sealed w))
+    unless (has_same_bounds v w) (codes ", bounds cut") ++ unless (value_perms w == value_perms v) (codes ", permissions cut")
+    ++ seal_note (is_sealed v) (is_sealed w)
 
 -- Of what isn't tagged nothing can be cut.
 unfoldable pub notes : CapValue → CapValue → List ℕ
@@ -56,8 +56,8 @@ source_text symbols place (Some from) s = place_text symbols from ++ notes (held
 -- the line of an event that wrote a place, which is the next step of this state
 unfoldable pub link_text : List Symbol → Place → Found → State → List ℕ
 link_text symbols place found s =
-    place_text symbols place
-    ++ (codes " from " ++ (source_text symbols place (source found.making) s ++ (codes ": " ++ trace_line symbols (found.before + 1) s)))
+    place_text symbols place ++ codes " from " ++ source_text symbols place (source found.making) s ++ codes ": "
+    ++ trace_line symbols (found.before + 1) s
 
 -- what nothing wrote is as the image has it
 abbrev pub opening_name : Place → List ℕ

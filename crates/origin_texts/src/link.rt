@@ -1,23 +1,24 @@
 //! One link of a derivation, as a line.
-ghost use Rattle.std.specs.Prelude.{◌≡◌, ◌<◌, ◌-◌, ◌^◌, ◌++◌, OnOk, string_bytes, IfSome};
+ghost use Rattle.std.specs.Prelude.{◌≡◌, ◌<◌, ◌≤◌, ◌-◌, ◌^◌, ◌++◌, length, IsTrue, OnOk, string_bytes, IfSome};
 ghost use Rattle.cap_bounds.specs.CapValue.{is_sealed};
-ghost use Rattle.debug_commands.specs.Limits.{IsHolder};
-ghost use Rattle.explain.specs.ValueText.{value_line};
+ghost use Rattle.texts.specs.Piece.{text_of, width_of, are_narrow};
 ghost use Rattle.steps.specs.Applying.{IsPlanned};
 ghost use Rattle.origins.specs.Making.{source};
 ghost use Rattle.origins.specs.Places.{IsThere};
-ghost use Rattle.origin_texts.specs.Link.{kept_notes, link_text, notes, opening_name, opening_text, place_text, seal_note};
-ghost use Rattle.origin_texts.specs.Link.{source_text, unless};
+ghost use Rattle.origin_texts.specs.Link.{kept_notes, link_text, notes, opening_name, opening_text, seal_note, source_text, unless};
 
-use crate::place::put_place;
+use crate::place::place_text;
+use arrayvec::ArrayString;
 use cap_bounds::CapRep;
 use cap_rights::OType;
 use debug_commands::Place;
-use explain::{put, trace_line, value_text};
+use explain::{trace_line, value_text};
 use machine::{Machine, Planned};
 use origins::{Found, Making, held};
 use std::alloc::AllocError;
 use symbols::Symbols;
+use texts::Piece::{self, Text};
+use texts::{append, fill, text};
 
 /// Whether a value has another type than what is unsealed.
 fn is_sealed<C: CapRep>(value: C) -> bool
@@ -26,73 +27,80 @@ fn is_sealed<C: CapRep>(value: C) -> bool
     value.otype() != OType::UNSEALED.number()
 }
 
-/// Appends a note, unless what it speaks of is the same.
-fn put_unless(text: &mut String, same: bool, note: &str) -> Result<(), AllocError>
-    ensures { OnOk result (string_bytes text.new ≡ string_bytes text.old ++ unless same note.now) }
+/// A note, unless what it speaks of is the same.
+fn unless(same: bool, note: &'static str) -> &'static str
+    ensures text { result.now ≡ unless same note.now }
+    ensures short { length result.now ≤ length note.now }
 {
-    put(text, if same { "" } else { note })
+    if same { "" } else { note }
 }
 
-/// Appends what became of a seal.
-fn put_seal(text: &mut String, before: bool, after: bool) -> Result<(), AllocError>
-    ensures { OnOk result (string_bytes text.new ≡ string_bytes text.old ++ seal_note before after) }
+/// What became of a seal.
+fn seal_note(before: bool, after: bool) -> &'static str
+    ensures text { result.now ≡ seal_note before after }
+    ensures short { length result.now ≤ 10 }
 {
-    let note = match (before, after) {
+    match (before, after) {
         (false, true) => ", sealed",
         (true, false) => ", unsealed",
         _ => "",
-    };
-    put(text, note)
-}
-
-/// Appends what was cut of a capability that another was made of.
-fn put_kept<C: CapRep>(text: &mut String, from: C, made: C) -> Result<(), AllocError>
-    ensures { OnOk result (string_bytes text.new ≡ string_bytes text.old ++ kept_notes (C.value from) (C.value made)) }
-{
-    let same_bounds = made.base() == from.base() && made.top() == from.top();
-    put_unless(text, same_bounds, ", bounds cut")?;
-    put_unless(text, made.perms() == from.perms(), ", permissions cut")?;
-    put_seal(text, is_sealed(from), is_sealed(made))
-}
-
-/// Appends what was cut of a value that another was made of.
-#[tactic(auto, unfolding(crate::specs::Link::notes))]
-fn put_notes<C: CapRep>(text: &mut String, from: C, made: C) -> Result<(), AllocError>
-    ensures { OnOk result (string_bytes text.new ≡ string_bytes text.old ++ notes (C.value from) (C.value made)) }
-{
-    match (from.tag(), made.tag()) {
-        (true, true) => put_kept(text, from, made),
-        (true, false) => put(text, ", tag cut"),
-        _ => put(text, ""),
     }
 }
 
-/// Appends where the value came from that the machine's next step, which was planned, writes at a place. It is done on the way.
-fn put_source<C: CapRep>(
-    text: &mut String,
+/// What was cut of a capability that another was made of.
+fn kept_notes<C: CapRep>(from: C, made: C) -> [Piece<'static>; 3]
+    ensures text { text_of result ≡ kept_notes (C.value from) (C.value made) }
+    ensures narrow { IsTrue (are_narrow result) }
+    ensures within { width_of result ≤ 39 }
+{
+    let same_bounds = made.base() == from.base() && made.top() == from.top();
+    [
+        Text(unless(same_bounds, ", bounds cut")),
+        Text(unless(made.perms() == from.perms(), ", permissions cut")),
+        Text(seal_note(is_sealed(from), is_sealed(made))),
+    ]
+}
+
+/// What was cut of a value that another was made of.
+#[tactic(auto, unfolding(crate::specs::Link::notes))]
+fn notes<C: CapRep>(from: C, made: C) -> [Piece<'static>; 3]
+    ensures text { text_of result ≡ notes (C.value from) (C.value made) }
+    ensures narrow { IsTrue (are_narrow result) }
+    ensures within { width_of result ≤ 39 }
+{
+    match (from.tag(), made.tag()) {
+        (true, true) => kept_notes(from, made),
+        (true, false) => [Text(", tag cut"), Text(""), Text("")],
+        _ => [Text(""), Text(""), Text("")],
+    }
+}
+
+/// Where the value came from that the machine's next step, which was planned, writes at a place. It is done on the way.
+fn source_text<C: CapRep>(
     symbols: &Symbols,
     machine: &mut Machine<C>,
     planned: Planned<C>,
     place: Place,
     making: Making,
-) -> Result<(), AllocError>
+) -> ArrayString<333>
     requires planned { IsPlanned C.value planned.effect machine.old }
     requires there { IsThere place machine.old }
     requires source { IfSome (source making) (λ from. IsThere from machine.old) }
-    ensures { OnOk result (string_bytes text.new ≡ string_bytes text.old ++ source_text symbols.now place (source making) machine.old) }
+    ensures { result.bytes ≡ source_text symbols.now place (source making) machine.old }
 {
     let Some(from) = making.source() else {
-        return put(text, "no capability");
+        return text(&[Text("no capability")]);
     };
-    put_place(text, symbols, from)?;
+    let mut source = text(&[Text(place_text(symbols, from).as_str())]);
     let before = held(machine, from);
     machine.apply(planned);
-    put_notes(text, before, held(machine, place))
+    fill(&mut source, &notes(before, held(machine, place)));
+    source
 }
 
 /// Appends the line of an event that wrote a place, which is the machine's next step. It is done on the way.
 #[tactic(auto, unfolding(crate::specs::Link::link_text))]
-pub(crate) fn put_link<C: CapRep>(
+pub(crate) fn append_link<C: CapRep>(
     text: &mut String,
     symbols: &Symbols,
     machine: &mut Machine<C>,
@@ -106,27 +114,18 @@ pub(crate) fn put_link<C: CapRep>(
 {
     let planned = machine.next();
     let line = trace_line(symbols, found.before + 1, machine.hart(), &planned);
-    put_place(text, symbols, place)?;
-    put(text, " from ")?;
-    put_source(text, symbols, machine, planned, place, found.making)?;
-    put(text, ": ")?;
-    put(text, line.as_str())
-}
-
-/// Appends a place and what it holds.
-fn put_value<C: CapRep>(
-    text: &mut String,
-    symbols: &Symbols,
-    place: Place,
-    value: C,
-) -> Result<(), AllocError>
-    requires { IsHolder place }
-    ensures { OnOk result (string_bytes text.new ≡ string_bytes text.old ++ value_line (place_text symbols.now place) (C.value value)) }
-{
-    put_place(text, symbols, place)?;
-    put(text, " ")?;
-    put(text, value_text(value).as_str())?;
-    put(text, "\n")
+    let name = place_text(symbols, place);
+    let source = source_text(symbols, machine, planned, place, found.making);
+    append(
+        text,
+        &[
+            Text(name.as_str()),
+            Text(" from "),
+            Text(source.as_str()),
+            Text(": "),
+            Text(line.as_str()),
+        ],
+    )
 }
 
 /// What stands before what a place holds in an opening state.
@@ -141,7 +140,7 @@ fn opening_name(place: Place) -> &'static str
 
 /// Appends what a place holds in the opening state of an image.
 #[tactic(auto, unfolding(crate::specs::Link::opening_text))]
-pub(crate) fn put_opening<C: CapRep>(
+pub(crate) fn append_opening<C: CapRep>(
     text: &mut String,
     symbols: &Symbols,
     machine: &Machine<C>,
@@ -150,6 +149,16 @@ pub(crate) fn put_opening<C: CapRep>(
     requires { IsThere place machine.now }
     ensures { OnOk result (string_bytes text.new ≡ string_bytes text.old ++ opening_text symbols.now place machine.now) }
 {
-    put(text, opening_name(place))?;
-    put_value(text, symbols, place, held(machine, place))
+    let name = place_text(symbols, place);
+    let value = value_text(held(machine, place));
+    append(text, &[Text(opening_name(place))])?;
+    append(
+        text,
+        &[
+            Text(name.as_str()),
+            Text(" "),
+            Text(value.as_str()),
+            Text("\n"),
+        ],
+    )
 }

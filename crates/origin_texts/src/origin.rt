@@ -12,17 +12,18 @@ ghost use Rattle.origin_texts.specs.Origin.{loss_text, onward, tell_on, unless_t
 ghost use Rattle.past.specs.Given.{state_at};
 ghost use Rattle.past.specs.Giving.{HasSameSize};
 
-use crate::conditions::put_conditions;
-use crate::link::{put_link, put_opening};
-use crate::place::put_place;
+use crate::conditions::append_conditions;
+use crate::link::{append_link, append_opening};
+use crate::place::place_text;
 use cap_bounds::CapRep;
 use debug_commands::Place;
-use explain::put;
 use machine::Machine;
 use origins::{Found, Sought, held, tag_asked};
 use past::{Past, Replay};
 use std::alloc::{AllocError, Global};
 use symbols::Symbols;
+use texts::Piece::Text;
+use texts::append;
 use word_cap::WordCap;
 
 /// The machine of a session as it stood after so many of its events.
@@ -71,7 +72,7 @@ fn onward(source: Option<Place>, before: u64) -> Option<(Place, u64)>
 
 /// Appends the line of the last of the first events that wrote a place, or what the opening state of the image has there, and answers
 /// what is told of next.
-fn put_next(
+fn append_next(
     text: &mut String,
     alloc: Global,
     symbols: &Symbols,
@@ -86,7 +87,7 @@ fn put_next(
     ensures there { IfOk result (λ next. IfSome next (λ p. IsThere p.0 (opening past.now.image) × (p.1 < events))) }
 {
     let Some(found) = last_among(alloc, past, replay, Sought::Written, place, events)? else {
-        put_opening(
+        append_opening(
             text,
             symbols,
             &machine_after(alloc, past, replay, 0)?,
@@ -95,7 +96,7 @@ fn put_next(
         return Ok(None);
     };
     let mut machine = machine_after(alloc, past, replay, found.before)?;
-    put_link(text, symbols, &mut machine, place, found)?;
+    append_link(text, symbols, &mut machine, place, found)?;
     Ok(onward(found.making.source(), found.before))
 }
 
@@ -122,7 +123,7 @@ pub fn put_origin(
 {
     let mut next = Some((place, past.count()));
     while let Some((place, events)) = next {
-        next = put_next(text, alloc, symbols, past, replay, place, events)?;
+        next = append_next(text, alloc, symbols, past, replay, place, events)?;
     }
     Ok(())
 }
@@ -140,7 +141,7 @@ fn untagged_source<C: CapRep>(machine: &Machine<C>, source: Option<Place>) -> Op
 }
 
 /// Appends the line of an event at which a tag went, which is the machine's next step, and the conditions of the tag.
-fn put_loss<C: CapRep>(
+fn append_loss<C: CapRep>(
     text: &mut String,
     alloc: Global,
     symbols: &Symbols,
@@ -155,14 +156,14 @@ fn put_loss<C: CapRep>(
 {
     let asked = tag_asked(alloc, machine, found.making)?;
     let mut conditions = String::new(alloc);
-    put_conditions(&mut conditions, symbols, machine, &asked)?;
-    put_link(text, symbols, machine, place, found)?;
-    put(text, &conditions)
+    append_conditions(&mut conditions, symbols, machine, &asked)?;
+    append_link(text, symbols, machine, place, found)?;
+    append(text, &[Text(conditions.as_str())])
 }
 
 /// Appends what is told of the last of the first events at which the tag of a place went, if there was one, and answers what is told of
 /// next: the source, if it had no tag either.
-fn put_next_loss(
+fn append_next_loss(
     text: &mut String,
     alloc: Global,
     symbols: &Symbols,
@@ -181,12 +182,12 @@ fn put_next_loss(
     };
     let mut machine = machine_after(alloc, past, replay, found.before)?;
     let from = untagged_source(&machine, found.making.source());
-    put_loss(text, alloc, symbols, &mut machine, place, found)?;
+    append_loss(text, alloc, symbols, &mut machine, place, found)?;
     Ok(onward(from, found.before))
 }
 
 /// Appends where the tag of a place went, or nothing where it never did.
-fn put_losses(
+fn append_losses(
     text: &mut String,
     alloc: Global,
     symbols: &Symbols,
@@ -200,7 +201,7 @@ fn put_losses(
 {
     let mut next = Some((place, past.count()));
     while let Some((place, events)) = next {
-        next = put_next_loss(text, alloc, symbols, past, replay, place, events)?;
+        next = append_next_loss(text, alloc, symbols, past, replay, place, events)?;
     }
     Ok(())
 }
@@ -227,11 +228,13 @@ pub fn put_lost(
         ≡ string_bytes text.old ++ spec.lost_text symbols.now past.now (option_copied replay.entry) place) }
 {
     let mut lines = String::new(alloc);
-    put_losses(&mut lines, alloc, symbols, past, replay, place)?;
+    append_losses(&mut lines, alloc, symbols, past, replay, place)?;
     if !lines.is_empty() {
-        return put(text, &lines);
+        return append(text, &[Text(lines.as_str())]);
     }
-    put(text, "no tag was lost at ")?;
-    put_place(text, symbols, place)?;
-    put(text, "\n")
+    let name = place_text(symbols, place);
+    append(
+        text,
+        &[Text("no tag was lost at "), Text(name.as_str()), Text("\n")],
+    )
 }

@@ -1,27 +1,28 @@
 //! The names of places.
-ghost use Rattle.std.specs.Prelude.{◌≡◌, ◌++◌, OnOk, string_bytes};
+ghost use Rattle.std.specs.Prelude.{◌≡◌, ◌≤◌};
+ghost use Rattle.arrayvec.specs.ArrayString.{array_string_len};
 ghost use Rattle.debug_commands.specs.Limits.{IsHolder};
 ghost use Rattle.origin_texts.specs.Link.{place_text};
 
 use asm_names::{register_name, scr_name};
 use debug_commands::Place;
-use explain::{put, put_labelled};
-use std::alloc::AllocError;
-use symbols::Symbols;
+use symbols::{Labelled, Symbols, labelled};
+use texts::Piece::Text;
+use texts::text;
 
-/// Appends a place's name, or a granule's address with its label, to a text.
-#[tactic(auto, unfolding(crate::specs::Link::place_text))]
-pub(crate) fn put_place(
-    text: &mut String,
-    symbols: &Symbols,
-    place: Place,
-) -> Result<(), AllocError>
+/// A place's name, or a granule's address with its label.
+#[tactic(auto, unfolding(crate::specs::Link::place_text), using(disassembler::specs::LengthLaws::scr_name_short))]
+pub(crate) fn place_text(symbols: &Symbols, place: Place) -> Labelled
     requires { IsHolder place }
-    ensures { OnOk result (string_bytes text.new ≡ string_bytes text.old ++ place_text symbols.now place) }
+    ensures text { result.bytes ≡ place_text symbols.now place }
+    ensures within { array_string_len result ≤ 294 }
 {
     match place {
-        Place::Register(number) => put(text, register_name(number, true)),
-        Place::Special(number) => put(text, scr_name(number).unwrap_or("")),
-        Place::Granule(address) => put_labelled(text, symbols, address),
+        Place::Register(number) => text(&[Text(register_name(number, true))]),
+        Place::Special(number) => match scr_name(number) {
+            Some(name) => text(&[Text(name)]),
+            None => Labelled::new(),
+        },
+        Place::Granule(address) => labelled(Some(symbols), address),
     }
 }

@@ -18,15 +18,12 @@ use Rattle.policy_audit.specs.Told.{told}
 
 -- ---- ranges
 
-abbrev pub address_text : ℕ → List ℕ
-address_text a = codes "0x" ++ hex_of 16 a
-
 unfoldable pub from_to : ℕ → ℕ → List ℕ
-from_to from to = address_text from ++ codes ".." ++ address_text to
+from_to from to = codes "0x" ++ hex_of 16 from ++ codes "..0x" ++ hex_of 16 to
 
 -- from an address on, by how many there are
 unfoldable pub from_on : ℕ → List ℕ
-from_on from = address_text from ++ codes "..+" ++ address_text (2 ^ 64 - from)
+from_on from = codes "0x" ++ hex_of 16 from ++ codes "..+0x" ++ hex_of 16 (2 ^ 64 - from)
 
 -- all addresses are two ranges, since their number has no text
 unfoldable pub range_text : Range → List ℕ
@@ -50,15 +47,12 @@ bytes_part name right vs = name ++ within_text (ranges_of right vs)
 abbrev pub yes_or_no : Bool → List ℕ
 yes_or_no b = if b then codes "yes" else codes "no"
 
--- the registers of the devices, and of the system
-unfoldable pub devices_part : List CapValue → List ℕ
-devices_part vs =
+-- the registers of the devices and of the system, and object types that are not reserved
+unfoldable pub rights_part : List CapValue → List ℕ
+rights_part vs =
     codes ", transmit " ++ yes_or_no (list_any (opens_store transmit) vs) ++ codes ", halt " ++ yes_or_no (list_any (opens_store halt) vs)
     ++ codes ", timer " ++ yes_or_no (list_any (opens_store timer_compare) vs) ++ codes ", system "
-    ++ yes_or_no (list_any opens_system vs)
-
-unfoldable pub seal_part : List CapValue → List ℕ
-seal_part vs = codes ", seal " ++ yes_or_no (opens_types Seal vs || opens_types Unseal vs)
+    ++ yes_or_no (list_any opens_system vs) ++ codes ", seal " ++ yes_or_no (opens_types Seal vs || opens_types Unseal vs)
 
 unfoldable pub next_type : ℕ → List ℕ
 next_type t = codes " " ++ decimal t
@@ -80,7 +74,7 @@ ranges_part vs =
     bytes_part (codes "store") Store vs ++ bytes_part (codes ", load") Load vs ++ bytes_part (codes ", execute") Execute vs
 
 unfoldable pub entry_line : Range → List CapValue → List ℕ
-entry_line code vs = code_part code ++ ranges_part vs ++ devices_part vs ++ seal_part vs ++ types_part vs ++ codes "\n"
+entry_line code vs = code_part code ++ ranges_part vs ++ rights_part vs ++ types_part vs ++ codes "\n"
 
 -- ---- entries
 

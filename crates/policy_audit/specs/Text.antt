@@ -16,15 +16,15 @@ use Rattle.policy_audit.specs.declared.finding.Finding.{Finding}
 use Rattle.policy_audit.specs.Found.{found_at}
 use Rattle.policy_audit.specs.Told.{remembered, told}
 
--- the number of a step, and PCC's address before it
-unfoldable pub step_line : ℕ → ℕ → List ℕ
-step_line step pc = codes "step " ++ decimal step ++ codes ", pcc " ++ hex_of 16 pc ++ codes "\n"
-
 -- what breaks a rule, if its line is known
 abbrev pub breach_by : List Symbol → List Found → Finding → Option RuleLine → List ℕ
 breach_by symbols members finding None = []
 breach_by symbols members finding (Some line) =
     breach_text symbols members line.number line.text.now finding.ban finding.member
+
+-- before which step: its number, and PCC's address
+abbrev pub step_line : ℕ → ℕ → List ℕ
+step_line step pc = codes "step " ++ decimal step ++ codes ", pcc " ++ hex_of 16 pc ++ codes "\n"
 
 -- the lines of a finding
 unfoldable pub finding_text : List Symbol → List Found → List RuleLine → ℕ → ℕ → Finding → List ℕ

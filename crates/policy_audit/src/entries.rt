@@ -1,22 +1,24 @@
 //! The ranges of code that a run enters.
-ghost use Rattle.std.specs.Prelude.{◌≡◌, ◌<◌, ◌++◌, false, bytes_eq, IfOk, OnOk, string_bytes};
+ghost use Rattle.std.specs.Prelude.{◌≡◌, ◌<◌, ◌++◌, false, bytes_eq, option_map, option_to_list, IfOk, OnOk, string_bytes};
 ghost use Rattle.std.specs.List.{list_any};
 ghost use Rattle.machine.specs.Run.{run_after};
 ghost use Rattle.policy.specs.Watch.{values_in};
+ghost use Rattle.reach.specs.Ranges.{bounds_of};
 ghost use Rattle.sim_run.specs.Schedule.{is_halted, scheduled, IsRunnable};
-ghost use Rattle.policy_audit.specs.Entries.{adds_entry, entries_text, entry_line, is_entered, says_entry};
+ghost use Rattle.policy_audit.specs.Entries.{adds_entry, entries_text, entry_line, entry_lines, is_entered, says_entry};
 ghost use Rattle.policy_audit.specs.Recalled.{recalled};
 ghost use Rattle.policy_audit.specs.Told.{remembered, told};
 ghost use Rattle.policy_audit.specs.Turn.{turn_of};
 
-use crate::line::put_line;
+use crate::line::append_line;
 use crate::turn::{bring, step};
 use cap_bounds::CapRep;
-use explain::put;
 use machine::Machine;
 use reach::{Range, Reach};
 use sim_run::Schedule;
 use std::alloc::{AllocError, Global};
+use texts::Piece::Text;
+use texts::append;
 
 /// What was entered so far.
 #[derive(Drop)]
@@ -47,6 +49,17 @@ fn is_written(lines: &[String], line: &str) -> bool
     lines.iter().any(|other| other.as_str() == line)
 }
 
+/// PCC's bounds.
+fn code_of<C: CapRep>(machine: &Machine<C>) -> Range
+    ensures { result ≡ bounds_of machine.now.scrs.pcc }
+{
+    let pcc = machine.hart().scrs().pcc();
+    Range {
+        from: pcc.base(),
+        to: pcc.top(),
+    }
+}
+
 /// The line of the range of code that a machine is in.
 fn line_of<C: CapRep>(
     alloc: Global,
@@ -57,8 +70,28 @@ fn line_of<C: CapRep>(
 {
     let reach = Reach::of(alloc, machine.hart())?;
     let mut line = String::new(alloc);
-    put_line(&mut line, alloc, code, &reach)?;
+    append_line(&mut line, alloc, code, &reach)?;
     Ok(line)
+}
+
+/// The line of the range of code that a machine enters, if it enters one and the line was not written before.
+#[tactic(auto, unfolding(crate::specs::Entries::entry_lines))]
+fn entered<C: CapRep>(
+    alloc: Global,
+    entries: &Entries,
+    machine: &Machine<C>,
+) -> Result<Option<String>, AllocError>
+    ensures { IfOk result (λ line. option_to_list (option_map string_bytes line) ≡ entry_lines (recalled entries.now) machine.now) }
+{
+    let code = code_of(machine);
+    if !is_entered(entries.code, code) {
+        return Ok(None);
+    }
+    let line = line_of(alloc, machine, code)?;
+    if is_written(&entries.lines, line.as_str()) {
+        return Ok(None);
+    }
+    Ok(Some(line))
 }
 
 /// Appends the line of the range of code that a machine enters, if it enters one and the line was not written before.
@@ -72,22 +105,12 @@ fn tell<C: CapRep>(
     ensures text { OnOk result (string_bytes text.new ≡ string_bytes text.old ++ says_entry (recalled entries.old) number machine.now) }
     ensures recalled { OnOk result (recalled entries.new ≡ adds_entry (recalled entries.old) machine.now) }
 {
-    let pcc = machine.hart().scrs().pcc();
-    let code = Range {
-        from: pcc.base(),
-        to: pcc.top(),
-    };
-    let entered = is_entered(entries.code, code);
-    entries.code = Some(code);
-    if !entered {
-        return Ok(());
+    let line = entered(alloc, entries, machine)?;
+    entries.code = Some(code_of(machine));
+    if let Some(line) = line {
+        append(text, &[Text(line.as_str())])?;
+        entries.lines.push(line)?;
     }
-    let line = line_of(alloc, machine, code)?;
-    if is_written(&entries.lines, line.as_str()) {
-        return Ok(());
-    }
-    put(text, line.as_str())?;
-    entries.lines.push(line)?;
     Ok(())
 }
 

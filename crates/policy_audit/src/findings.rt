@@ -8,10 +8,10 @@ ghost use Rattle.policy_audit.specs.Text.{breach_by, finding_text, step_line};
 use crate::finding::Finding;
 use breach_texts::{RuleLine, put_breach};
 use cap_bounds::CapRep;
-use explain::{put, put_decimal, put_hex};
 use reached::Member;
 use std::alloc::{AllocError, Global};
 use symbols::Symbols;
+use texts::{append, pieces};
 
 /// Before which step something is found: its number, counted from 1, and PCC's address.
 #[derive(Clone, Copy)]
@@ -21,19 +21,17 @@ pub(crate) struct Moment {
 }
 
 /// Appends before which step something is found.
-#[tactic(auto, unfolding(crate::specs::Text::step_line))]
-fn put_step(text: &mut String, at: Moment) -> Result<(), AllocError>
+fn append_step(text: &mut String, at: Moment) -> Result<(), AllocError>
     ensures { OnOk result (string_bytes text.new ≡ string_bytes text.old ++ step_line at.step at.pc) }
 {
-    put(text, "step ")?;
-    put_decimal(text, at.step)?;
-    put(text, ", pcc ")?;
-    put_hex(text, 16, u128::from(at.pc))?;
-    put(text, "\n")
+    append(
+        text,
+        &pieces!["step " Decimal(at.step) ", pcc " Address(at.pc) "\n"],
+    )
 }
 
-/// Appends what breaks a rule, whose line is known.
-fn put_by_line<C: CapRep>(
+/// Appends what breaks a rule, if its line is known.
+fn append_by_line<C: CapRep>(
     text: &mut String,
     alloc: Global,
     symbols: &Symbols,
@@ -56,13 +54,13 @@ fn put_by_line<C: CapRep>(
             finding.ban,
             finding.member,
         ),
-        None => put(text, ""),
+        None => Ok(()),
     }
 }
 
-/// Appends a finding.
+/// Appends a finding: before which step it is found, and what breaks the rule, if its line is known.
 #[tactic(auto, unfolding(crate::specs::Text::finding_text))]
-fn put_finding<C: CapRep>(
+fn append_finding<C: CapRep>(
     text: &mut String,
     alloc: Global,
     symbols: &Symbols,
@@ -76,12 +74,12 @@ fn put_finding<C: CapRep>(
     ensures { OnOk result (string_bytes text.new ≡ string_bytes text.old
         ++ finding_text symbols.now (seen_members C.value members.now) lines.now at.step at.pc finding) }
 {
-    put_step(text, at)?;
-    put_by_line(text, alloc, symbols, members, lines, finding)
+    append_step(text, at)?;
+    append_by_line(text, alloc, symbols, members, lines, finding)
 }
 
 /// Appends findings.
-pub(crate) fn put_findings<C: CapRep>(
+pub(crate) fn append_findings<C: CapRep>(
     text: &mut String,
     alloc: Global,
     symbols: &Symbols,
@@ -96,7 +94,7 @@ pub(crate) fn put_findings<C: CapRep>(
         ++ flat_map (finding_text symbols.now (seen_members C.value members.now) lines.now at.step at.pc) found.now) }
 {
     for finding in found {
-        put_finding(text, alloc, symbols, members, lines, at, *finding)?;
+        append_finding(text, alloc, symbols, members, lines, at, *finding)?;
     }
     Ok(())
 }

@@ -1,11 +1,14 @@
 //! Ranges of addresses, as policies write them.
-ghost use Rattle.std.specs.Prelude.{◌≡◌, ◌++◌, ◌<◌, ◌^◌, OnOk, string_bytes};
+ghost use Rattle.std.specs.Prelude.{◌≡◌, ◌++◌, ◌<◌, ◌≤◌, ◌^◌, IsTrue, OnOk, string_bytes};
 ghost use Rattle.std.specs.List.{flat_map};
-ghost use Rattle.policy_audit.specs.Entries.{address_text, from_on, from_to, next_range, range_text, within_text};
+ghost use Rattle.texts.specs.Piece.{text_of, width_of, are_narrow};
+ghost use Rattle.policy_audit.specs.Entries.{from_on, from_to, next_range, range_text, within_text};
 
-use explain::{put, put_hex};
+use arrayvec::ArrayString;
 use reach::Range;
 use std::alloc::AllocError;
+use texts::Piece::{self, Hexadecimal, Text};
+use texts::{append, fill, text};
 
 /// How many addresses there are.
 const END: u128 = 0x1_0000_0000_0000_0000;
@@ -13,78 +16,73 @@ const END: u128 = 0x1_0000_0000_0000_0000;
 /// Where the second half of them begins.
 const HALF: u128 = 0x8000_0000_0000_0000;
 
-/// Appends an address, or a number of them.
-fn put_address(text: &mut String, address: u128) -> Result<(), AllocError>
-    ensures { OnOk result (string_bytes text.new ≡ string_bytes text.old ++ address_text address) }
-{
-    put(text, "0x")?;
-    put_hex(text, 16, address)
-}
-
-/// Appends a range by where it begins and ends.
+/// A range by where it begins and ends.
 #[tactic(auto, unfolding(crate::specs::Entries::from_to))]
-fn put_from_to(text: &mut String, from: u128, to: u128) -> Result<(), AllocError>
-    ensures { OnOk result (string_bytes text.new ≡ string_bytes text.old ++ from_to from to) }
+fn from_to(from: u128, to: u128) -> [Piece<'static>; 4]
+    ensures text { text_of result ≡ from_to from to }
+    ensures narrow { IsTrue (are_narrow result) }
+    ensures within { width_of result ≤ 39 }
 {
-    put_address(text, from)?;
-    put(text, "..")?;
-    put_address(text, to)
+    [
+        Text("0x"),
+        Hexadecimal(16, from),
+        Text("..0x"),
+        Hexadecimal(16, to),
+    ]
 }
 
-/// Appends all addresses from one on.
+/// All addresses from one on.
 #[tactic(auto, unfolding(crate::specs::Entries::from_on))]
-fn put_from_on(text: &mut String, from: u128) -> Result<(), AllocError>
+fn from_on(from: u128) -> [Piece<'static>; 4]
     requires { from < 2 ^ 64 }
-    ensures { OnOk result (string_bytes text.new ≡ string_bytes text.old ++ from_on from) }
+    ensures text { text_of result ≡ from_on from }
+    ensures narrow { IsTrue (are_narrow result) }
+    ensures within { width_of result ≤ 39 }
 {
-    put_address(text, from)?;
-    put(text, "..+")?;
-    put_address(text, END - from)
+    [
+        Text("0x"),
+        Hexadecimal(16, from),
+        Text("..+0x"),
+        Hexadecimal(16, END - from),
+    ]
 }
 
-/// Appends a range.
+/// A range.
 #[tactic(auto, unfolding(crate::specs::Entries::range_text))]
-pub(crate) fn put_range(text: &mut String, range: Range) -> Result<(), AllocError>
-    ensures { OnOk result (string_bytes text.new ≡ string_bytes text.old ++ range_text range) }
+pub(crate) fn range_text(range: Range) -> ArrayString<79>
+    ensures { result.bytes ≡ range_text range }
 {
     if range.to < END {
-        return put_from_to(text, u128::from(range.from), range.to);
+        return text(&from_to(u128::from(range.from), range.to));
     }
     if range.from != 0 {
-        return put_from_on(text, u128::from(range.from));
+        return text(&from_on(u128::from(range.from)));
     }
-    put_from_to(text, 0, HALF)?;
-    put(text, " ")?;
-    put_from_on(text, HALF)
-}
-
-/// Appends a range after others.
-#[tactic(auto, unfolding(crate::specs::Entries::next_range))]
-fn put_next(text: &mut String, range: Range) -> Result<(), AllocError>
-    ensures { OnOk result (string_bytes text.new ≡ string_bytes text.old ++ next_range range) }
-{
-    put(text, " ")?;
-    put_range(text, range)
+    let mut whole = text(&from_to(0, HALF));
+    whole.push_str(" ");
+    fill(&mut whole, &from_on(HALF));
+    whole
 }
 
 /// Appends ranges, one after the other.
-fn put_each(text: &mut String, ranges: &[Range]) -> Result<(), AllocError>
+#[tactic(auto, unfolding(crate::specs::Entries::next_range))]
+fn append_each(text: &mut String, ranges: &[Range]) -> Result<(), AllocError>
     ensures { OnOk result (string_bytes text.new ≡ string_bytes text.old ++ flat_map next_range ranges.now) }
 {
     for range in ranges {
-        put_next(text, *range)?;
+        append(text, &[Text(" "), Text(range_text(*range).as_str())])?;
     }
     Ok(())
 }
 
 /// Appends that something may be done within ranges, or nowhere.
-pub(crate) fn put_within(text: &mut String, ranges: &[Range]) -> Result<(), AllocError>
+pub(crate) fn append_within(text: &mut String, ranges: &[Range]) -> Result<(), AllocError>
     ensures { OnOk result (string_bytes text.new ≡ string_bytes text.old ++ within_text ranges.now) }
 {
     if ranges.is_empty() {
-        put(text, " no")
+        append(text, &[Text(" no")])
     } else {
-        put(text, " within")?;
-        put_each(text, ranges)
+        append(text, &[Text(" within")])?;
+        append_each(text, ranges)
     }
 }

@@ -10,11 +10,10 @@ ghost use Rattle.policy_audit.specs.Told.{remembered, told};
 ghost use Rattle.policy_audit.specs.Turn.{turn_of};
 
 use crate::audit::Audit;
-use crate::findings::{Moment, put_findings};
+use crate::findings::{Moment, append_findings};
 use crate::turn::{bring, step};
 use breach_texts::RuleLine;
 use cap_bounds::CapRep;
-use explain::put;
 use machine::Machine;
 use policy::Rule;
 use sim_run::Schedule;
@@ -44,7 +43,7 @@ fn tell<C: CapRep>(
         pc: machine.hart().scrs().pcc().address(),
     };
     match audit.look(alloc, machine)? {
-        Some((reach, found)) => put_findings(
+        Some((reach, found)) => append_findings(
             text,
             alloc,
             symbols,
@@ -53,7 +52,7 @@ fn tell<C: CapRep>(
             at,
             &found,
         ),
-        None => put(text, ""),
+        None => Ok(()),
     }
 }
 

@@ -2,47 +2,29 @@
 ghost use Rattle.std.specs.Prelude.{◌≡◌, ◌++◌, OnOk, string_bytes};
 ghost use Rattle.std.specs.List.{flat_map};
 ghost use Rattle.reached.specs.Links.{values};
-ghost use Rattle.policy_audit.specs.Entries.{next_type, types_part, types_text};
+ghost use Rattle.policy_audit.specs.Entries.{next_type, types_part};
 
 use cap_bounds::CapRep;
-use explain::{put, put_decimal};
 use policy::types_of;
 use reached::Member;
 use std::alloc::{AllocError, Global};
-
-/// Appends a type after others.
-#[tactic(auto, unfolding(crate::specs::Entries::next_type))]
-fn put_next(text: &mut String, otype: u64) -> Result<(), AllocError>
-    ensures { OnOk result (string_bytes text.new ≡ string_bytes text.old ++ next_type otype) }
-{
-    put(text, " ")?;
-    put_decimal(text, otype)
-}
+use texts::Piece::{Decimal, Text};
+use texts::append;
 
 /// Appends types, one after the other.
-fn put_each(text: &mut String, types: &[u64]) -> Result<(), AllocError>
+#[tactic(auto, unfolding(crate::specs::Entries::next_type))]
+fn append_each(text: &mut String, types: &[u64]) -> Result<(), AllocError>
     ensures { OnOk result (string_bytes text.new ≡ string_bytes text.old ++ flat_map next_type types.now) }
 {
     for otype in types {
-        put_next(text, *otype)?;
+        append(text, &[Text(" "), Decimal(*otype)])?;
     }
     Ok(())
 }
 
-/// Appends types, or that there is none.
-fn put_or_none(text: &mut String, types: &[u64]) -> Result<(), AllocError>
-    ensures { OnOk result (string_bytes text.new ≡ string_bytes text.old ++ types_text types.now) }
-{
-    if types.is_empty() {
-        put(text, " none")
-    } else {
-        put_each(text, types)
-    }
-}
-
-/// Appends the types of the members that are sealed.
+/// Appends the types of the members that are sealed, or that there is none.
 #[tactic(auto, unfolding(crate::specs::Entries::types_part))]
-pub(crate) fn put_types<C: CapRep>(
+pub(crate) fn append_types<C: CapRep>(
     text: &mut String,
     alloc: Global,
     members: &[Member<C>],
@@ -50,6 +32,10 @@ pub(crate) fn put_types<C: CapRep>(
     ensures { OnOk result (string_bytes text.new ≡ string_bytes text.old ++ types_part (values C.value members.now)) }
 {
     let types = types_of(alloc, members)?;
-    put(text, ", types")?;
-    put_or_none(text, &types)
+    append(text, &[Text(", types")])?;
+    if types.is_empty() {
+        append(text, &[Text(" none")])
+    } else {
+        append_each(text, &types)
+    }
 }

@@ -1,5 +1,3 @@
-pub mod Asking
-pub mod Counting
 pub mod Numbered
 pub mod RangeLines
 pub mod Refused

@@ -19,13 +19,6 @@ module _ {X : Type 0} (value : X → CapValue) (said : ℕ → Found → List �
   next (x ∷ xs) n zero d h = refl
   next (x ∷ xs) n (suc k) d h = rw (one_more k) (next xs n k d (omega arith))
 
-  -- none is left
-  pub none : (xs : List (Member X)) (n k : ℕ) → length xs ≡ k → numbered said n (drop k (seen_members value xs)) ≡ []
-  none [] n zero h = refl
-  none [] n (suc k) h = absurd (omega arith)
-  none (x ∷ xs) n zero h = absurd (omega arith)
-  none (x ∷ xs) n (suc k) h = none xs n k (omega arith)
-
   -- what is written after one more of them
   pub after : (xs : List (Member X)) (n : ℕ) (x : Member X) (text new whole : List ℕ) → n < length xs
       → x ≡ slice_index_or xs n x → new ≡ text ++ said n (seen_member value x)

@@ -1,5 +1,6 @@
 -- Lines of ranges, one after the other.
-use Rattle.std.proofs.Common.{◌≡◌, ℕ, ◌+◌, ◌<◌, List, [], Result, ◌++◌, drop, length, ap, sym, ◌∙◌, subst}
+use Rattle.std.proofs.Common.{◌≡◌, ℕ, ◌+◌, ◌<◌, ◌≤◌, List, Result, ◌++◌, drop, length, ap, sym, ◌∙◌, subst, append-nil}
+use Rattle.std.proofs.Math.ListN.{drop_of_length-le}
 use Rattle.std.proofs.lemmas.List.{append_assoc, drop_more}
 use Rattle.std.specs.List.{flat_map}
 use Rattle.std.specs.Prelude.{OnOk, slice_index_or}
@@ -23,12 +24,12 @@ after_line line xs n d text new whole inside written rest =
     ap (flat_map line) (drop_more xs n d inside) in
     rw written (append_assoc text (line (slice_index_or xs n d)) (flat_map line (drop (n + 1) xs)) ∙ ap (λ t. text ++ t) (sym here) ∙ rest)
 
--- the lines of the ranges of members as they are seen
+-- the lines of the ranges of members as they are seen, when none is left
 pub lines_of : {X : Type 0} (line : Range → List ℕ) (right : Right) (value : X → CapValue) (ms : List (Member X)) (found read : List Range)
-    (empty lines : List ℕ) → found ≡ ranges_of right (values value ms) → read ≡ found → empty ≡ [] → lines ≡ empty ++ flat_map line read
-    → lines ≡ flat_map line (ranges_of right (values_of (seen_members value ms)))
-lines_of line right value ms found read empty lines are is none written =
-    written ∙ ap (λ t. t ++ flat_map line read) none
+    (n : ℕ) (lines : List ℕ) → found ≡ ranges_of right (values value ms) → read ≡ found → length read ≤ n
+    → lines ++ flat_map line (drop n read) ≡ flat_map line read → lines ≡ flat_map line (ranges_of right (values_of (seen_members value ms)))
+lines_of line right value ms found read n lines are is all written =
+    sym (append-nil lines) ∙ ap (λ rest. lines ++ flat_map line rest) (sym (drop_of_length-le read all)) ∙ written
     ∙ ap (flat_map line) (is ∙ are ∙ ap (ranges_of right) (sym (seen_values value ms)))
 
 -- lines under a name, or that there is none, in other words

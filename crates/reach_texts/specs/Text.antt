@@ -1,5 +1,6 @@
 -- What code can reach, as texts: the members of a reach, the same as a graph, and the chain of links that leads to one of them.
 use Rattle.std.specs.Prelude.{ℕ, ◌+◌, ◌-◌, nat_lt, Bool, if◌then◌else◌, List, [], ◌∷◌, ◌++◌, Option, Some, None, slice_get, codes, decimal}
+use Rattle.std.specs.List.{flat_map}
 use Rattle.base.specs.declared.registers.scr.TheConstants.{MTCC}
 use Rattle.cap_bounds.specs.CapValue.{CapValue, is_sealed, value_base, value_top, value_perms}
 use Rattle.bounds_text.specs.Letters.{permission_letters}
@@ -37,14 +38,9 @@ behind_text symbols (Some door) = codes "behind " ++ place_name symbols door.sea
 unfoldable pub place_through : List Symbol → List Door → Place → List ℕ
 place_through symbols doors (Root n) =
     if nat_lt n state_roots then place_name symbols (Root n) else behind_text symbols (slice_get doors (n - state_roots))
-place_through symbols doors (Special n) = place_name symbols (Special n)
-place_through symbols doors (Granule address) = place_name symbols (Granule address)
+place_through symbols doors other = place_name symbols other
 
 -- ---- members
-
--- permissions in letters, and every field
-abbrev pub capability_text : CapValue → List ℕ
-capability_text v = permission_letters (value_perms v) ++ codes " " ++ shown_value v
 
 -- the member that led to a place; a root needs none
 abbrev pub from_text : Place → ℕ → List ℕ
@@ -53,8 +49,8 @@ from_text other from = codes " from " ++ decimal from
 
 unfoldable pub member_line : List Symbol → ℕ → Found → List ℕ
 member_line symbols number x =
-    decimal number ++ codes " " ++ place_name symbols x.place ++ from_text x.place x.from ++ codes " " ++ capability_text x.value
-    ++ codes "\n"
+    decimal number ++ codes " " ++ place_name symbols x.place ++ from_text x.place x.from ++ codes " "
+    ++ permission_letters (value_perms x.value) ++ codes " " ++ shown_value x.value ++ codes "\n"
 
 -- what each of some members says, numbered from a number on
 abbrev pub numbered : (ℕ → Found → List ℕ) → ℕ → List Found → List ℕ
@@ -66,16 +62,13 @@ members_text symbols xs = numbered (member_line symbols) 0 xs
 
 -- ---- the graph: a node a member, an edge a link with its place; what is sealed is dashed
 
-abbrev pub dashed : Bool → List ℕ
-dashed sealed = if sealed then codes ", style=dashed" else []
-
-abbrev pub node_text : CapValue → List ℕ
-node_text v =
-    permission_letters (value_perms v) ++ codes "\\n" ++ hex_of 16 (value_base v) ++ codes " to " ++ hex_of 17 (value_top v)
+abbrev pub node_end : Bool → List ℕ
+node_end sealed = if sealed then codes "\", style=dashed];\n" else codes "\"];\n"
 
 abbrev pub node_line : ℕ → CapValue → List ℕ
 node_line number v =
-    codes "  n" ++ decimal number ++ codes " [label=\"" ++ node_text v ++ codes "\"" ++ dashed (is_sealed v) ++ codes "];\n"
+    codes "  n" ++ decimal number ++ codes " [label=\"" ++ permission_letters (value_perms v) ++ codes "\\n"
+    ++ hex_of 16 (value_base v) ++ codes " to " ++ hex_of 17 (value_top v) ++ node_end (is_sealed v)
 
 -- where a link begins
 abbrev pub begin_text : Place → ℕ → List ℕ
@@ -107,12 +100,11 @@ place_at symbols doors xs n = place_in symbols doors (slice_get xs n)
 
 abbrev pub capability_in : Option Found → List ℕ
 capability_in None = []
-capability_in (Some x) = capability_text x.value
+capability_in (Some x) = permission_letters (value_perms x.value) ++ codes " " ++ shown_value x.value
 
 -- places in order, each after the one that leads there
 abbrev pub later_places : List Symbol → List Door → List Found → List ℕ → List ℕ
-later_places symbols doors xs [] = []
-later_places symbols doors xs (n ∷ ns) = (codes " -> " ++ place_at symbols doors xs n) ++ later_places symbols doors xs ns
+later_places symbols doors xs ns = flat_map (λ n. codes " -> " ++ place_at symbols doors xs n) ns
 
 abbrev pub chain_text : List Symbol → List Door → List Found → List ℕ → List ℕ
 chain_text symbols doors xs [] = []
@@ -122,10 +114,6 @@ chain_text symbols doors xs (n ∷ ns) = place_at symbols doors xs n ++ later_pl
 abbrev pub held_text : List Symbol → List Door → List Found → List ℕ → ℕ → List ℕ
 held_text symbols doors xs way k = chain_text symbols doors xs way ++ codes " " ++ capability_in (slice_get xs k)
 
--- one that does
-abbrev pub yes_text : List Symbol → List Door → List Found → List ℕ → ℕ → List ℕ
-yes_text symbols doors xs way k = codes "yes: " ++ held_text symbols doors xs way k ++ codes "\n"
-
 -- what *no* means: it holds up to there, whatever the code is
 abbrev pub no_text : Horizon → List ℕ
 no_text Stretch = codes "no, until the next trap, unsealing or sealed jump\n"
@@ -133,4 +121,4 @@ no_text Turn = codes "no, until the next trap or unsealing\n"
 
 unfoldable pub answer_text : Horizon → List Symbol → List Door → List Found → Option ℕ → List ℕ
 answer_text horizon symbols doors xs None = no_text horizon
-answer_text horizon symbols doors xs (Some k) = yes_text symbols doors xs (chain_of xs k) k
+answer_text horizon symbols doors xs (Some k) = codes "yes: " ++ held_text symbols doors xs (chain_of xs k) k ++ codes "\n"

@@ -95,12 +95,5 @@ pub fn first_that<C: CapRep>(members: &[Member<C>], may: May) -> Option<usize>
     ensures first { result ≡ first_that may (seen_members C.value members.now) }
     ensures inside { IfSome result (λ k. k < length members.now) }
 {
-    let mut number = 0;
-    while number < members.len() {
-        if lets(members[number].cap, may) {
-            return Some(number);
-        }
-        number += 1;
-    }
-    None
+    members.iter().position(|member| lets(member.cap, may))
 }

@@ -1,16 +1,17 @@
 //! How many members there are, and how many of each kind.
 ghost use Rattle.std.specs.Prelude.{◌≡◌, ◌++◌, OnOk, string_bytes};
-ghost use Rattle.std.specs.List.{count_by};
 ghost use Rattle.reached.specs.Order.{seen_member, seen_members};
-ghost use Rattle.reach_texts.specs.Summary.{count_line, door_count, is_of, kind_count};
+ghost use Rattle.reach_texts.specs.Summary.{count_line, count_of, door_count, is_of};
 
 use crate::asked::is_sealed;
 use crate::places::STATE_ROOTS;
+use arrayvec::ArrayString;
 use cap_bounds::CapRep;
 use debug_commands::Horizon;
-use explain::{put, put_decimal};
 use reached::{Member, Place};
 use std::alloc::AllocError;
+use texts::Piece::{Decimal, Text};
+use texts::{append, text};
 
 /// What members are counted by.
 #[derive(Clone, Copy)]
@@ -41,52 +42,30 @@ fn is_of<C: CapRep>(member: &Member<C>, kind: Kind) -> bool
 }
 
 /// How many members are of a kind.
-fn count_of<C: CapRep>(members: &[Member<C>], kind: Kind) -> usize
-    ensures { result ≡ count_by (is_of kind) (seen_members C.value members.now) }
+fn count_of<C: CapRep>(members: &[Member<C>], kind: Kind) -> u64
+    ensures { result ≡ count_of kind (seen_members C.value members.now) }
 {
-    let mut count = 0;
-    for member in members {
-        if is_of(member, kind) {
-            count += 1;
-        }
-    }
-    count
+    members.iter().filter(|member| is_of(*member, kind)).count() as u64
 }
 
-/// Appends a text and how many members are of a kind.
-#[tactic(auto, unfolding(crate::specs::Summary::kind_count))]
-fn put_kind<C: CapRep>(
-    text: &mut String,
-    members: &[Member<C>],
-    before: &str,
-    kind: Kind,
-) -> Result<(), AllocError>
-    ensures { OnOk result (string_bytes text.new
-        ≡ string_bytes text.old ++ kind_count before.now kind (seen_members C.value members.now)) }
-{
-    put(text, before)?;
-    put_decimal(text, count_of(members, kind) as u64)
-}
-
-/// Appends how many members are behind doors, where these are gone through.
+/// How many members are behind doors, where these are gone through.
 #[tactic(auto, unfolding(crate::specs::Summary::door_count))]
-fn put_doors<C: CapRep>(
-    text: &mut String,
-    members: &[Member<C>],
-    horizon: Horizon,
-) -> Result<(), AllocError>
-    ensures { OnOk result (string_bytes text.new
-        ≡ string_bytes text.old ++ door_count horizon (seen_members C.value members.now)) }
+fn door_count<C: CapRep>(members: &[Member<C>], horizon: Horizon) -> ArrayString<35>
+    ensures { result.bytes ≡ door_count horizon (seen_members C.value members.now) }
 {
     match horizon {
-        Horizon::Stretch => put(text, ""),
-        Horizon::Turn => put_kind(text, members, ", behind doors ", Kind::Door),
+        Horizon::Stretch => ArrayString::new(),
+        Horizon::Turn => text(&[
+            Text(", behind doors "),
+            Decimal(count_of(members, Kind::Door)),
+        ]),
     }
 }
 
 /// Appends how many members there are, how many were found in registers, in special registers, in memory and behind doors, and how many are
 /// sealed.
-pub(crate) fn put_count<C: CapRep>(
+#[tactic(auto, unfolding(crate::specs::Summary::count_line), using(crate::proofs::Seen::seen_length))]
+pub(crate) fn append_count<C: CapRep>(
     text: &mut String,
     members: &[Member<C>],
     horizon: Horizon,
@@ -94,12 +73,22 @@ pub(crate) fn put_count<C: CapRep>(
     ensures { OnOk result (string_bytes text.new
         ≡ string_bytes text.old ++ count_line horizon (seen_members C.value members.now)) }
 {
-    put(text, "members ")?;
-    put_decimal(text, members.len() as u64)?;
-    put_kind(text, members, ": registers ", Kind::Register)?;
-    put_kind(text, members, ", special registers ", Kind::SpecialRegister)?;
-    put_kind(text, members, ", memory ", Kind::Memory)?;
-    put_doors(text, members, horizon)?;
-    put_kind(text, members, ", sealed ", Kind::Sealed)?;
-    put(text, "\n")
+    let doors = door_count(members, horizon);
+    append(
+        text,
+        &[
+            Text("members "),
+            Decimal(members.len() as u64),
+            Text(": registers "),
+            Decimal(count_of(members, Kind::Register)),
+            Text(", special registers "),
+            Decimal(count_of(members, Kind::SpecialRegister)),
+            Text(", memory "),
+            Decimal(count_of(members, Kind::Memory)),
+            Text(doors.as_str()),
+            Text(", sealed "),
+            Decimal(count_of(members, Kind::Sealed)),
+            Text("\n"),
+        ],
+    )
 }

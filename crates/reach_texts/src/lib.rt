@@ -15,6 +15,5 @@ mod summary;
 pub use answer::{put_answer, put_held};
 pub use asked::first_that;
 pub use graph::put_graph;
-pub use members::{put_capability, put_members};
-pub use places::put_place;
+pub use members::put_members;
 pub use summary::put_summary;

@@ -20,31 +20,23 @@ use crate::unhandled::trap_left;
 use arrayvec::ArrayString;
 use base::{Fault, csr, scr};
 use cap_bounds::CapRep;
-use explain::{put, put_decimal, put_failed, put_labelled, trap_text};
+use explain::{put_failed, trap_text};
 use image::Image;
-use itoa::Buffer;
 use machine::{End, Machine};
 use std::alloc::{AllocError, Global};
-use symbols::Symbols;
-use texts::hex_digits;
+use symbols::{Symbols, labelled};
+use texts::Piece::{Decimal, Text};
+use texts::{append, text};
 
 /// The status of a run that ended so, and the line for standard error, empty at status 0.
 pub fn verdict(end: End) -> (u8, ArrayString<64>)
     ensures status { result.0 ≡ status_of end }
     ensures line { result.1.bytes ≡ verdict_line end }
 {
-    let mut line = ArrayString::new();
     match end {
-        End::Halted(0) => (0, line),
-        End::Halted(number) => {
-            line.push_str("cherisim: halted with ");
-            line.push_str(Buffer::new().format(number));
-            (1, line)
-        }
-        End::Running => {
-            line.push_str("cherisim: not halted");
-            (1, line)
-        }
+        End::Halted(0) => (0, ArrayString::new()),
+        End::Halted(number) => (1, text(&[Text("cherisim: halted with "), Decimal(number)])),
+        End::Running => (1, text(&[Text("cherisim: not halted")])),
     }
 }
 
@@ -96,21 +88,18 @@ fn is_trapped(mcause: u64, mtval: u64) -> bool
 }
 
 /// A trap in words, and where it was taken.
-#[tactic(auto, unfolding(crate::specs::Ending::trap_part, symbols::specs::Labels::labelled))]
+#[tactic(auto, unfolding(crate::specs::Ending::trap_part))]
 fn trap_part(symbols: &Symbols, mcause: u64, mtval: u64, mepc: u64) -> ArrayString<480>
     ensures { result.bytes ≡ trap_part symbols.now mcause mtval mepc }
 {
-    let mut part = ArrayString::new();
-    part.push_str(trap_text(mcause, mtval).as_str());
-    part.push_str(", mepc ");
-    part.push_str(hex_digits(u128::from(mepc), 16).as_str());
-    part.push_str(symbols.label_of(mepc).as_str());
-    part
+    let words = trap_text(mcause, mtval);
+    let place = labelled(Some(symbols), mepc);
+    text(&[Text(words.as_str()), Text(", mepc "), Text(place.as_str())])
 }
 
 /// Appends the last trap to a text, where one was taken.
 #[tactic(auto, unfolding(crate::specs::Ending::last_trap))]
-fn put_last_trap<C: CapRep>(
+fn append_last_trap<C: CapRep>(
     text: &mut String,
     symbols: &Symbols,
     machine: &Machine<C>,
@@ -120,18 +109,15 @@ fn put_last_trap<C: CapRep>(
     let mcause = mcause(machine);
     let mtval = mtval(machine);
     if is_trapped(mcause, mtval) {
-        put(text, "; last trap: ")?;
-        put(
-            text,
-            trap_part(symbols, mcause, mtval, mepc(machine)).as_str(),
-        )
+        let part = trap_part(symbols, mcause, mtval, mepc(machine));
+        append(text, &[Text("; last trap: "), Text(part.as_str())])
     } else {
-        put(text, "")
+        Ok(())
     }
 }
 
 /// Appends a trap, where it was taken and the number of its step to a text.
-fn put_trap(
+fn append_trap(
     text: &mut String,
     symbols: &Symbols,
     fault: Fault,
@@ -142,30 +128,22 @@ fn put_trap(
         ++ (codes "; first trap: " ++ trap_part symbols.now fault.mcause fault.mtval mepc ++ codes ", step " ++ decimal number
         ++ codes "\n")) }
 {
-    put(text, "; first trap: ")?;
-    put(
+    let part = trap_part(symbols, fault.mcause, fault.mtval, mepc);
+    append(
         text,
-        trap_part(symbols, fault.mcause, fault.mtval, mepc).as_str(),
-    )?;
-    put(text, ", step ")?;
-    put_decimal(text, number)?;
-    put(text, "\n")
-}
-
-/// Appends the line of the condition that fails at the next step to a text, where one does.
-fn put_condition<C: CapRep>(
-    text: &mut String,
-    symbols: &Symbols,
-    machine: &Machine<C>,
-) -> Result<(), AllocError>
-    ensures { OnOk result (string_bytes text.new ≡ string_bytes text.old ++ failed_line symbols.now machine.now) }
-{
-    put_failed(text, symbols, machine.hart())
+        &[
+            Text("; first trap: "),
+            Text(part.as_str()),
+            Text(", step "),
+            Decimal(number),
+            Text("\n"),
+        ],
+    )
 }
 
 /// Appends the trap of the next step, which was planned, to a text: with the step's number and, on a line of its own, the condition that
 /// fails.
-pub(crate) fn put_first_trap<C: CapRep>(
+pub(crate) fn append_first_trap<C: CapRep>(
     text: &mut String,
     symbols: &Symbols,
     machine: &Machine<C>,
@@ -176,21 +154,26 @@ pub(crate) fn put_first_trap<C: CapRep>(
     requires traps { step_effect machine.now ≡ Trap fault }
     ensures { OnOk result (string_bytes text.new ≡ string_bytes text.old ++ first_trap symbols.now number machine.now) }
 {
-    put_trap(text, symbols, fault, pc(machine), number)?;
-    put_condition(text, symbols, machine)
+    append_trap(text, symbols, fault, pc(machine), number)?;
+    put_failed(text, symbols, machine.hart())
 }
 
 /// Appends how many steps since the first trap were traps of the fetch to a text.
 #[tactic(auto, unfolding(crate::specs::Ending::since_line))]
-fn put_since(text: &mut String, count: u64) -> Result<(), AllocError>
+fn append_since(text: &mut String, count: u64) -> Result<(), AllocError>
     ensures { OnOk result (string_bytes text.new ≡ string_bytes text.old ++ since_line count) }
 {
     if count == 0 {
-        return put(text, "");
+        return Ok(());
     }
-    put(text, "  later traps at an entry that can't be fetched: ")?;
-    put_decimal(text, count)?;
-    put(text, "\n")
+    append(
+        text,
+        &[
+            Text("  later traps at an entry that can't be fetched: "),
+            Decimal(count),
+            Text("\n"),
+        ],
+    )
 }
 
 /// Appends how many steps were done and where PCC is to a text; after its address stands its label.
@@ -203,14 +186,20 @@ pub fn put_place<C: CapRep>(
     ensures { OnOk result (string_bytes text.new ≡ string_bytes text.old
         ++ (codes "cherisim: steps " ++ decimal steps ++ codes ", pcc " ++ labelled symbols.now (pc_of machine.now))) }
 {
-    put(text, "cherisim: steps ")?;
-    put_decimal(text, steps)?;
-    put(text, ", pcc ")?;
-    put_labelled(text, symbols, pc(machine))
+    let place = labelled(Some(symbols), pc(machine));
+    append(
+        text,
+        &[
+            Text("cherisim: steps "),
+            Decimal(steps),
+            Text(", pcc "),
+            Text(place.as_str()),
+        ],
+    )
 }
 
 /// Appends the trap that matters to a text: the first that nothing handled, with what was found of it, or else the last.
-fn put_trap_lines<C: CapRep>(
+fn append_trap_lines<C: CapRep>(
     text: &mut String,
     symbols: &Symbols,
     machine: &Machine<C>,
@@ -222,12 +211,12 @@ fn put_trap_lines<C: CapRep>(
 {
     match unfetched {
         Some(count) => {
-            put(text, first)?;
-            put_since(text, count)
+            append(text, &[Text(first)])?;
+            append_since(text, count)
         }
         None => {
-            put_last_trap(text, symbols, machine)?;
-            put(text, "\n")
+            append_last_trap(text, symbols, machine)?;
+            append(text, &[Text("\n")])
         }
     }
 }
@@ -258,6 +247,6 @@ pub fn ending_lines<C: CapRep>(
     let unfetched = trap_left(alloc, symbols, image, schedule, input, machine, &mut first)?;
     let mut text = String::new(alloc);
     put_place(&mut text, symbols, machine, steps)?;
-    put_trap_lines(&mut text, symbols, machine, unfetched, &first)?;
+    append_trap_lines(&mut text, symbols, machine, unfetched, &first)?;
     Ok(text)
 }

@@ -14,10 +14,12 @@ use crate::schedule::Schedule;
 use crate::unhandled::trap_in;
 use base::Cause;
 use cap_bounds::CapRep;
-use explain::{put, put_why};
+use explain::put_why;
 use machine::Machine;
 use std::alloc::{AllocError, Global};
 use symbols::Symbols;
+use texts::Piece::Text;
+use texts::append;
 
 /// Which trap a run ends before.
 #[derive(Clone, Copy, Debug, PartialEq, Eq)]
@@ -125,7 +127,7 @@ pub fn stopped_lines<C: CapRep>(
 {
     let mut text = String::new(alloc);
     put_place(&mut text, symbols, machine, steps)?;
-    put(&mut text, "\n")?;
+    append(&mut text, &[Text("\n")])?;
     put_why(&mut text, symbols, machine.hart())?;
     Ok(text)
 }

@@ -15,7 +15,7 @@ ghost use Rattle.sim_run.specs.Schedule.{block, is_halted, scheduled, up_to_halt
 ghost use Rattle.sim_run.specs.Unhandled.{after_step, first_of, trap_left, unfetched_in, unhandled, Trapped};
 ghost use Rattle.sim_run.specs.Watched.{trap_in, IsTold};
 
-use crate::ending::{mcause, mtvec, pc, put_first_trap};
+use crate::ending::{append_first_trap, mcause, mtvec, pc};
 use crate::run::{bring, pass};
 use crate::schedule::Schedule;
 use base::Fault;
@@ -70,7 +70,7 @@ fn count_trap<C: CapRep>(
         Some(count) => Ok(count + unfetched_in(machine)),
         None => {
             text.clear();
-            put_first_trap(text, symbols, machine, number, fault)?;
+            append_first_trap(text, symbols, machine, number, fault)?;
             Ok(0)
         }
     }

@@ -2,6 +2,5 @@ mod BeginningLemmas
 mod LabelTexts
 mod LaterLemmas
 mod LineLemmas
-mod PlaceLemmas
+pub mod PlaceLemmas
 mod TableLemmas
-mod WrittenLemmas

@@ -1,13 +1,13 @@
 -- Lines that are cut off a text, and the digits of an address.
 use Rattle.std.proofs.Common.{◌≡◌, ℕ, zero, suc, ◌+◌, ◌<◌, ◌≤◌, Bool, true, false, ◌&&◌, List, [], ◌∷◌, ◌++◌, refl, ap}
-use Rattle.std.proofs.Common.{arith, length, take, drop}
+use Rattle.std.proofs.Common.{arith, length, length-drop, take, drop}
 use Rattle.std.specs.Prelude.{◌==◌, IsTrue}
 use Rattle.std.specs.List.{prefix_len}
 use Rattle.std.specs.Char.{digit_value}
 use Rattle.std.specs.Str.Parse.{AllDigits, digits_value}
 use Rattle.std.proofs.lemmas.Bool.Decides.{nat_tests}
 use Rattle.std.proofs.lemmas.Int.Digits.{digits_value-lt}
-use Rattle.symbols.specs.Reads.{line_length}
+use Rattle.symbols.specs.Reads.{IsCut, line_length}
 use Rattle.symbols.specs.Symbols.{lines_of, onto_first, has_address, is_symbol, is_label, is_hexadecimal_digit, name_of, symbols_in}
 
 pub line_cut : (text : List ℕ) → line_length text < length text
@@ -24,6 +24,13 @@ line_cut (b ∷ bs) h = elim (b == 10) as (λ t. (b == 10) ≡ t → lines_of (b
           rw e (rw n (rw m (rw r refl)))
     ] refl
 
+-- so a text that is cut there has the first line before it
+pub line_ended : (text line rest : List ℕ) → IsCut text line rest → lines_of text ≡ line ∷ lines_of rest
+line_ended text line rest cut = rw (cut.1, cut.2) (line_cut text cut.0)
+
+pub rest_shorter : (text line rest : List ℕ) → IsCut text line rest → length rest < length text
+rest_shorter text line rest cut = rw (cut.2, length-drop) (omega (arith, cut.0))
+
 line_whole : (b : ℕ) (bs : List ℕ) → length (b ∷ bs) ≤ line_length (b ∷ bs) → lines_of (b ∷ bs) ≡ (b ∷ bs) ∷ []
 line_whole b [] h = elim (b == 10) as (λ t. (b == 10) ≡ t → lines_of (b ∷ []) ≡ (b ∷ []) ∷ []) [
   | true ↦ λ e. let k : 1 ≤ 0 = rw e at h in absurd (omega (arith, k))
@@ -37,9 +44,11 @@ line_whole b (c ∷ cs) h = elim (b == 10) as (λ t. (b == 10) ≡ t → lines_o
       rw e (ap (onto_first b) r)
 ] refl
 
-pub line_whole_of : (text : List ℕ) → 0 < length text → length text ≤ line_length text → lines_of text ≡ text ∷ []
+pub line_whole_of : (text : List ℕ) → 0 < length text → line_length text ≡ length text → lines_of text ≡ text ∷ []
 line_whole_of [] some h = absurd (omega (arith, some))
-line_whole_of (b ∷ bs) some h = line_whole b bs h
+line_whole_of (b ∷ bs) some h = line_whole b bs (omega (arith, h))
+
+pub ruleset cuts = (line_ended, rest_shorter, line_whole_of)
 
 -- hexadecimal digits at the beginning of a text
 digits_in_front : (k : ℕ) (text : List ℕ) → k ≤ prefix_len is_hexadecimal_digit text → AllDigits 16 (take k text)
@@ -64,6 +73,13 @@ front_length (suc k) (b ∷ bs) h =
           ap suc (front_length k bs (omega (arith, j)))
       | false ↦ λ e. let j : suc k ≤ 0 = rw e at h in absurd (omega (arith, j))
     ] refl
+
+-- a symbol's line has 16 bytes
+pub symbol_front : (line : List ℕ) → IsTrue (is_symbol line) → length (take 16 line) ≡ 16
+unfolding is_symbol has_address
+symbol_front line h =
+    let count : prefix_len is_hexadecimal_digit line ≡ 16 = grind (arith, nat_tests) in
+    front_length 16 line (omega (arith, count))
 
 -- 16 digits are a number of 64 bits
 pub address_fits : (line : List ℕ) → IsTrue (is_symbol line) → digits_value 16 (take 16 line) < 18446744073709551616

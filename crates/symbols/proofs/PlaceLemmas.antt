@@ -1,10 +1,10 @@
 -- The first symbol of an address and the nearest one below an address, by how many symbols stand from them on.
 use Rattle.std.proofs.Common.{◌≡◌, ℕ, suc, ◌-◌, ◌≤◌, true, false, ◌&&◌, List, [], ◌∷◌, Some, None, refl}
 use Rattle.std.proofs.Common.{length, sym, ◌∙◌, subst, arith}
-use Rattle.std.specs.Prelude.{◌==◌, nat_le, slice_get, option_map, IsSome}
+use Rattle.std.specs.Prelude.{◌==◌, nat_le, slice_get, IsSome}
 use Rattle.std.proofs.lemmas.Bool.Decides.{nat_tests}
 use Rattle.symbols.specs.Places.{left_at}
-use Rattle.symbols.specs.Symbols.{Symbol, is_not_below, name_at, nearest}
+use Rattle.symbols.specs.Symbols.{Symbol, is_not_below, name_at, names_at, nearest}
 
 itself : (n : ℕ) → (n == n) ≡ true
 itself n = grind (arith, nat_tests)
@@ -44,30 +44,13 @@ stands (s ∷ ss) address n h = elim (s.address == address) as (λ t. (s.address
       }
 ] refl
 
--- the name of the first symbol of an address
-pub name_stands : (symbols : List Symbol) (address n : ℕ) → left_at symbols address ≡ Some n
-    → name_at symbols address ≡ option_map (λ s. s.name) (slice_get symbols (length symbols - n))
-name_stands [] address n h = cc
-name_stands (s ∷ ss) address n h =
-    elim (s.address == address) as (λ t. (s.address == address) ≡ t
-    → name_at (s ∷ ss) address ≡ option_map (λ s. s.name) (slice_get (s ∷ ss) (length (s ∷ ss) - n))) [
-      | true ↦ λ e.
-          let k : Some (suc (length ss)) ≡ Some n = rw e at h in
-          let m : suc (length ss) ≡ n = cc in
-          let z : suc (length ss) - n ≡ 0 = omega (arith, m) in
-          rw (e, z) refl
-      | false ↦ λ e.
-          let k : left_at ss address ≡ Some n = rw e at h in
-          let z : suc (length ss) - n ≡ suc (length ss - n) = omega (arith, (stands ss address n k).within) in
-          rw (e, z) (name_stands ss address n k)
-    ] refl
-
-pub no_name : (symbols : List Symbol) (address : ℕ) → left_at symbols address ≡ None → name_at symbols address ≡ None
-no_name [] address h = refl
-no_name (s ∷ ss) address h =
-    elim (s.address == address) as (λ t. (s.address == address) ≡ t → name_at (s ∷ ss) address ≡ None) [
-      | true ↦ λ e. let k : Some (suc (length ss)) ≡ None = rw e at h in cc
-      | false ↦ λ e. let k : left_at ss address ≡ None = rw e at h in rw e (no_name ss address k)
+-- the name of an address is the first of its names
+pub first_name : (symbols : List Symbol) (address : ℕ) → name_at symbols address ≡ slice_get (names_at symbols address) 0
+first_name [] address = refl
+first_name (s ∷ ss) address = elim (s.address == address) as (λ t. (s.address == address) ≡ t
+    → name_at (s ∷ ss) address ≡ slice_get (names_at (s ∷ ss) address) 0) [
+      | true ↦ λ e. rw e refl
+      | false ↦ λ e. rw e (first_name ss address)
     ] refl
 
 -- an address has a symbol still where one more stands before the others, and that symbol's has one

@@ -1,9 +1,8 @@
 //! What the beginning of a table of symbols says of its lines.
-ghost use Rattle.std.specs.Prelude.{◌≡◌, ◌≤◌, ◌^◌, IfNone, IfSome, length};
-ghost use Rattle.symbols.specs.Reads.{IsCut, Tells, is_refused, line_length};
+ghost use Rattle.std.specs.Prelude.{◌≤◌, ◌^◌};
+ghost use Rattle.symbols.specs.Reads.{Tells};
 
-use crate::lines::is_line;
-use asm_lines::{Class, run_length};
+use crate::lines::{ended_line, is_line};
 
 /// What a beginning of a table says of its lines, whatever follows.
 #[derive(Clone, Copy, Debug, PartialEq, Eq)]
@@ -12,26 +11,6 @@ pub enum Beginning {
     Faulty(u64),
     /// Each line that has ended is one of a table: the number of the line that has not, and the byte at which it begins.
     Sound(u64, usize),
-}
-
-/// The first line and what stands after its line feed, if it has ended.
-fn ended_line(text: &[u8]) -> Option<(&[u8], &[u8])>
-    ensures ended { IfSome result (λ cut. IsCut text.now cut.0.now cut.1.now) }
-    ensures left { IfNone result (line_length text.now ≡ length text.now) }
-{
-    let end = run_length(text, Class::Not(b'\n'));
-    if end < text.len() {
-        Some((&text[..end], &text[end + 1..]))
-    } else {
-        None
-    }
-}
-
-/// Whether what has come of a line is at least 19 bytes and not a line of a table, whatever follows.
-fn is_refused(line: &[u8]) -> bool
-    ensures { result ≡ is_refused line.now }
-{
-    line.len() >= 19 && !is_line(line)
 }
 
 /// Looks at the lines of a beginning of a table, of which the first has this number. What follows a sound one can be looked at from
@@ -49,7 +28,7 @@ pub fn look_at_beginning(text: &[u8], number: u64) -> Beginning
         next += 1;
         rest = after;
     }
-    if is_refused(rest) {
+    if rest.len() >= 19 && !is_line(rest) {
         return Beginning::Faulty(next);
     }
     Beginning::Sound(next, text.len() - rest.len())

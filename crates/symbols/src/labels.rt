@@ -2,7 +2,7 @@
 ghost use Rattle.std.specs.Prelude.{◌≡◌, ◌+◌, ◌<◌, ◌≤◌, length, true};
 ghost use Rattle.std.specs.Option.{option_copied};
 ghost use Rattle.arrayvec.specs.ArrayString.{array_string_len};
-ghost use Rattle.symbols.specs.Labels.{distance_text, label_of, labelled, table_of};
+ghost use Rattle.symbols.specs.Labels.{label_of, labelled, table_of};
 ghost use Rattle.symbols.specs.Symbols.{is_label};
 
 use crate::table::Symbols;
@@ -27,42 +27,25 @@ fn name_text(name: &[u8]) -> &str
     }
 }
 
-/// A name and the distance from it, unless that is 0; nothing where it is 4096 or more.
-#[tactic(auto, unfolding(crate::specs::Labels::distance_text))]
-fn distance_text(name: &str, distance: u64) -> Label
-    requires { length name.now ≤ 254 }
-    ensures text { result.bytes ≡ distance_text name.now distance }
-    ensures within { array_string_len result ≤ 278 }
-{
-    if distance >= 4096 {
-        return Label::new();
-    }
-    if distance == 0 {
-        return text(&[Text(" <"), Text(name), Text(">")]);
-    }
-    text(&[
-        Text(" <"),
-        Text(name),
-        Text("+"),
-        Decimal(distance),
-        Text(">"),
-    ])
-}
-
 impl Symbols {
     /// What stands after an address: ` <name>` or ` <name+4>`, by the symbol at it or nearest below it, of several at one address the
     /// first; nothing where none is fewer than 4096 bytes below it. At most 278 bytes; it takes no memory.
-    #[tactic(auto, unfolding(crate::specs::Labels::label_of))]
+    #[tactic(auto, unfolding(crate::specs::Labels::label_of, crate::specs::Labels::distance_text))]
     pub fn label_of(&self, address: u64) -> Label
         ensures text { result.bytes ≡ label_of self.now address }
         ensures within { array_string_len result ≤ 278 }
     {
-        match self.nearest(address) {
-            Some(symbol) => distance_text(
-                name_text(symbol.name()),
-                address.saturating_sub(symbol.address()),
-            ),
-            None => Label::new(),
+        let Some(symbol) = self.nearest(address) else {
+            return Label::new();
+        };
+        let name = Text(name_text(symbol.name()));
+        let distance = address.saturating_sub(symbol.address());
+        if distance >= 4096 {
+            Label::new()
+        } else if distance == 0 {
+            text(&[Text(" <"), name, Text(">")])
+        } else {
+            text(&[Text(" <"), name, Text("+"), Decimal(distance), Text(">")])
         }
     }
 }

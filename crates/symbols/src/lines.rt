@@ -1,30 +1,40 @@
-//! How a table is cut into lines, and what a line says.
-ghost use Rattle.std.specs.Prelude.{◌≡◌, ◌<◌, ◌^◌, ◌==◌, ◌∷◌, length, take, slice_index, IsTrue, SomeIff};
+//! Lines of a table: how it is cut into them, what one says, and how symbols are written as lines.
+ghost use Rattle.std.specs.Prelude.{◌≡◌, ◌<◌, ◌^◌, ◌∷◌, ◌++◌, length, take, IfNone, IfOk, IfSome, IsTrue, OnOk, SomeIff};
 ghost use Rattle.std.specs.Str.Parse.{digits_value};
+ghost use Rattle.symbols.specs.Reads.{IsCut, line_length, seen_entries};
 ghost use Rattle.symbols.specs.Symbols.{has_address, has_letter, is_line, is_symbol, lacks_address, lines_of, name_of};
+ghost use Rattle.symbols.specs.Symbols.{symbol, symbol_line, table_text};
 
 use crate::symbol::is_label;
 use asm_lines::{Class, digit_value, run_length};
+use indexmap::IndexMap;
+use std::alloc::{AllocError, Global};
+use texts::{append, pieces};
+
+/// The first line and what stands after its line feed, if it has ended.
+pub(crate) fn ended_line(text: &[u8]) -> Option<(&[u8], &[u8])>
+    ensures ended { IfSome result (λ cut. IsCut text.now cut.0.now cut.1.now) }
+    ensures left { IfNone result (line_length text.now ≡ length text.now) }
+{
+    let end = run_length(text, Class::Not(b'\n'));
+    if end < text.len() {
+        Some((&text[..end], &text[end + 1..]))
+    } else {
+        None
+    }
+}
 
 /// What stands before the first line feed, or before the end, and what stands after it.
+#[tactic(auto, using(crate::proofs::LineLemmas::cuts))]
 pub fn split_line(text: &[u8]) -> (&[u8], &[u8])
     requires { 0 < length text.now }
     ensures split { lines_of text.now ≡ result.0.now ∷ lines_of result.1.now }
     ensures shorter { length result.1.now < length text.now }
 {
-    let end = run_length(text, Class::Not(b'\n'));
-    if end < text.len() {
-        (&text[..end], &text[end + 1..])
-    } else {
-        (text, &[])
+    match ended_line(text) {
+        Some(cut) => cut,
+        None => (text, &[]),
     }
-}
-
-/// The first 16 bytes of a line, or the line where it has fewer.
-fn front(line: &[u8]) -> &[u8]
-    ensures { result.now ≡ take 16 line.now }
-{
-    if line.len() > 16 { &line[..16] } else { line }
 }
 
 /// Whether a letter stands between a line's address and its name, as in what nm prints.
@@ -41,17 +51,7 @@ pub(crate) fn name(line: &[u8]) -> &[u8]
     ensures { result.now ≡ name_of line.now }
 {
     let start = if has_letter(line) { 19 } else { 17 };
-    if line.len() > start {
-        &line[start..]
-    } else {
-        &[]
-    }
-}
-
-fn has_blank(line: &[u8]) -> bool
-    ensures { result ≡ (slice_index line.now 16 == 32) }
-{
-    line.len() > 16 && line[16] == b' '
+    line.get(start..).unwrap_or_default()
 }
 
 /// Whether a line begins with 16 hexadecimal digits and a blank.
@@ -59,7 +59,7 @@ fn has_blank(line: &[u8]) -> bool
 fn has_address(line: &[u8]) -> bool
     ensures { result ≡ has_address line.now }
 {
-    run_length(line, Class::Digit(16)) == 16 && has_blank(line)
+    run_length(line, Class::Digit(16)) == 16 && line.len() > 16 && line[16] == b' '
 }
 
 /// Whether a line says a symbol.
@@ -104,8 +104,32 @@ pub(crate) fn address(line: &[u8]) -> u64
     requires { IsTrue (is_symbol line.now) }
     ensures { result ≡ digits_value 16 (take 16 line.now) }
 {
-    match value(front(line)) {
+    match value(&line[..16]) {
         Some(address) => address,
         None => unreachable!(),
     }
+}
+
+/// Appends the line of a symbol to a text.
+fn append_line(text: &mut Vec<u8>, address: u128, name: &[u8]) -> Result<(), AllocError>
+    ensures { OnOk result (text.new.items ≡ text.old.items ++ symbol_line (symbol address name.now)) }
+{
+    append(text, &pieces![Hexadecimal(16, address) " "])?;
+    text.extend_from_slice(name)?;
+    append(text, &pieces!["\n"])
+}
+
+/// The lines of symbols, in their order: of each the lowest 16 hexadecimal digits of its value, a blank and its name.
+#[tactic(auto, using(crate::proofs::TableLemmas::next_entry, crate::proofs::TableLemmas::last_entry))]
+pub fn table_text(alloc: Global, symbols: &IndexMap<Vec<u8>, u128>) -> Result<Vec<u8>, AllocError>
+    ensures { IfOk result (λ text. text.items ≡ table_text (seen_entries symbols.now.entries)) }
+{
+    let mut text = Vec::new(alloc);
+    let entries = symbols.as_slice();
+    let mut index = 0;
+    while let Some((name, value)) = entries.get_index(index) {
+        append_line(&mut text, *value, name)?;
+        index += 1;
+    }
+    Ok(text)
 }

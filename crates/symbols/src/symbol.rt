@@ -1,6 +1,6 @@
 //! A name and its address.
 ghost use Rattle.std.specs.Prelude.{◌≡◌, ◌<◌, ◌≤◌, length, IsTrue};
-ghost use Rattle.symbols.specs.Symbols.{is_label, symbol};
+ghost use Rattle.symbols.specs.Symbols.{is_label};
 
 use asm_lines::{is_dot, is_name};
 use std::marker::Model;
@@ -8,8 +8,8 @@ use std::marker::Model;
 /// A name and the address that it stands for.
 #[derive(Drop, Debug)]
 pub struct Symbol {
-    address: u64,
-    name: Vec<u8>,
+    pub(crate) address: u64,
+    pub(crate) name: Vec<u8>,
     ghost label: { IsTrue (is_label name.items) },
 }
 
@@ -22,14 +22,6 @@ impl Model for Symbol {
 }
 
 impl Symbol {
-    /// A symbol of this name and address.
-    pub(crate) fn new(address: u64, name: Vec<u8>) -> Self
-        requires { IsTrue (is_label name.items) }
-        ensures { result ≡ symbol address name.items }
-    {
-        Symbol { address, name }
-    }
-
     /// The address.
     pub fn address(&self) -> u64
         ensures { result ≡ self.now.address }

@@ -1,25 +1,43 @@
 //! A table of symbols: reading one, and looking up in it.
-ghost use Rattle.std.specs.Prelude.{◌≡◌, ◌≤◌, [], ◌∷◌, ◌++◌, None, IfOk, IfErr, IfNone, IfSome, OnOk, option_map, length};
+ghost use Rattle.std.specs.Prelude.{◌≡◌, ◌-◌, ◌<◌, ◌≤◌, [], ◌∷◌, ◌++◌, None, Some, IfOk, IfErr, IfNone, IfSome, OnOk, length, option_map, slice_get};
 ghost use Rattle.std.specs.Option.{option_copied};
 ghost use Rattle.std.proofs.Props.{props};
+ghost use Rattle.symbols.specs.declared.table.SymbolsFault.TheVariants.{Memory};
 ghost use Rattle.symbols.specs.Places.{IsPlacing, later_of, names_from, names_left};
 ghost use Rattle.symbols.specs.Reads.{IsFaultOf};
 ghost use Rattle.symbols.specs.Symbols.{address_of, faulty_line, name_at, names_at, nearest, symbols_in, symbols_of};
 
-use crate::fault::SymbolsFault;
 use crate::lines::{address, is_line, is_symbol, name, split_line};
-use crate::places::{Later, Places, from_end, place_symbols, step};
 use crate::symbol::Symbol;
 use std::alloc::{AllocError, Global};
 use std::collections::BTreeMap;
 use std::marker::Model;
 
-/// Symbols, in the order of their lines, and where the first one of each address and the next one of each symbol's stand.
+/// Why a table of symbols is not read.
+#[derive(Clone, Copy, Debug, PartialEq, Eq)]
+pub enum SymbolsFault {
+    /// The first line that is not one of a table, counted from 1.
+    Line(u64),
+    /// There is no memory.
+    Memory,
+}
+
+impl From<AllocError> for SymbolsFault {
+    ghost from_gives = { λ _ f. f ≡ Memory };
+
+    fn from(_error: AllocError) -> SymbolsFault {
+        SymbolsFault::Memory
+    }
+}
+
+/// Symbols, in the order of their lines.
 #[derive(Drop, Debug)]
 pub struct Symbols {
     entries: Vec<Symbol>,
-    places: Places,
-    later: Later,
+    /// Of each address that has a symbol how many symbols stand from its first one on, that one among them.
+    places: BTreeMap<u64, usize>,
+    /// Of each symbol, from the last one to the first, how many stand from the next one of its address on, if there is one.
+    later: Vec<Option<usize>>,
     ghost placed: { IsPlacing places entries.items } by { Prim.hlevel props },
     ghost linked: { later.items ≡ later_of entries.items } by { Prim.hlevel props },
 }
@@ -41,8 +59,9 @@ fn push_symbol(alloc: Global, entries: &mut Vec<Symbol>, line: &[u8]) -> Result<
     if !is_symbol(line) {
         return Ok(());
     }
+    let address = address(line);
     let name = Vec::from_slice(alloc, name(line))?;
-    entries.push(Symbol::new(address(line), name))?;
+    entries.push(Symbol { address, name })?;
     Ok(())
 }
 
@@ -68,23 +87,22 @@ pub fn read_symbols(alloc: Global, text: &[u8]) -> Result<Symbols, SymbolsFault>
         number += 1;
         rest = after;
     }
-    let (places, later) = place_symbols(alloc, &entries)?;
-    Ok(Symbols {
-        entries,
-        places,
-        later,
-    })
+    Ok(Symbols::placed(alloc, entries)?)
 }
 
-/// The name of a symbol, if there is one.
-fn name_of(symbol: Option<&Symbol>) -> Option<&[u8]>
-    ensures value { option_map (λ name. name.now) result ≡ option_map (λ s. s.name) (option_copied symbol.entry) }
-    ensures bound { IfSome result (λ name. length name.now ≤ 254) }
+/// The symbol from which on so many stand.
+fn from_end(entries: &[Symbol], left: usize) -> Option<&Symbol>
+    ensures { option_copied result ≡ slice_get entries.now (length entries.now - left) }
 {
-    match symbol {
-        Some(symbol) => Some(symbol.name()),
-        None => None,
-    }
+    entries.get(entries.len().saturating_sub(left))
+}
+
+/// What `later` says of the symbol from which on so many stand.
+fn later_than(later: &[Option<usize>], left: usize) -> Option<Option<usize>>
+    ensures some { IfSome result (λ next. (1 ≤ left) × (slice_get later.now (left - 1) ≡ Some next)) }
+    ensures none { IfNone result (1 ≤ left → length later.now < left) }
+{
+    later.get(left.checked_sub(1)?).copied()
 }
 
 impl Symbols {
@@ -99,6 +117,25 @@ impl Symbols {
         }
     }
 
+    /// These symbols, each in its place.
+    fn placed(alloc: Global, entries: Vec<Symbol>) -> Result<Self, AllocError>
+        ensures { IfOk result (λ symbols. symbols ≡ entries.items) }
+    {
+        let mut places = BTreeMap::new(alloc);
+        let mut later = Vec::new(alloc);
+        let mut index = entries.len();
+        while index > 0 {
+            index -= 1;
+            let next = places.insert(entries[index].address(), entries.len() - index)?;
+            later.push(next)?;
+        }
+        Ok(Symbols {
+            entries,
+            places,
+            later,
+        })
+    }
+
     /// The symbols.
     pub fn entries(&self) -> &[Symbol]
         ensures { result.now ≡ self.now }
@@ -107,32 +144,39 @@ impl Symbols {
     }
 
     /// The first name of an address.
+    #[tactic(auto, using(crate::proofs::PlaceLemmas::first_name))]
     pub fn name_at(&self, address: u64) -> Option<&[u8]>
         ensures value { option_map (λ name. name.now) result ≡ name_at self.now address }
         ensures bound { IfSome result (λ name. length name.now ≤ 254) }
     {
-        match self.places.get(&address) {
-            Some(left) => name_of(from_end(self.entries(), *left)),
-            None => None,
+        self.names_at(address).next()
+    }
+
+    /// The names of an address, in the order of the symbols. It takes no memory.
+    pub fn names_at(&self, address: u64) -> Names<'_>
+        ensures { result ≡ names_at self.now address }
+    {
+        Names {
+            symbols: self,
+            left: self.first_left(address),
         }
     }
 
     /// How many symbols stand from the first one of an address on, if it has one.
-    pub(crate) fn first_left(&self, address: u64) -> Option<usize>
+    fn first_left(&self, address: u64) -> Option<usize>
         ensures { names_left self.now result ≡ names_at self.now address }
     {
-        match self.places.get(&address) {
-            Some(left) => Some(*left),
-            None => None,
-        }
+        self.places.get(&address).copied()
     }
 
     /// The symbol from which on so many stand, and where the next one of its address does.
-    pub(crate) fn step(&self, left: usize) -> Option<(&Symbol, Option<usize>)>
+    fn step(&self, left: usize) -> Option<(&Symbol, Option<usize>)>
         ensures some { IfSome result (λ found. names_from self.now left ≡ found.0.now.name ∷ names_left self.now found.1) }
         ensures none { IfNone result (names_from self.now left ≡ []) }
     {
-        step(&self.entries, &self.later, left)
+        let next = later_than(&self.later, left)?;
+        let symbol = from_end(&self.entries, left)?;
+        Some((symbol, next))
     }
 
     /// The first address of a name.
@@ -155,5 +199,35 @@ impl Symbols {
             Some((_, left)) => from_end(self.entries(), *left),
             None => None,
         }
+    }
+}
+
+/// The names of an address that are still to come, in the table's order.
+#[derive(Drop)]
+pub struct Names<'a> {
+    symbols: &'a Symbols,
+    /// How many symbols stand from the next one's on, if one is to come.
+    left: Option<usize>,
+}
+
+impl<'a> Model for Names<'a> {
+    ghost use Rattle.std.specs.Prelude.{List, ℕ};
+    ghost use Rattle.symbols.specs.Places as spec;
+
+    ghost Value = { List (List ℕ) };
+
+    ghost view = { λ n. spec.names_left n.symbols.now n.left };
+}
+
+impl<'a> Names<'a> {
+    /// The next name, which has come from here on. It takes as long in a table of many symbols as in one of few.
+    pub fn next(&mut self) -> Option<&'a [u8]>
+        ensures some { IfSome result (λ name. self.old ≡ name.now ∷ self.new) }
+        ensures bound { IfSome result (λ name. length name.now ≤ 254) }
+        ensures none { IfNone result (self.old ≡ []) }
+    {
+        let (symbol, next) = self.symbols.step(self.left?)?;
+        self.left = next;
+        Some(symbol.name())
     }
 }

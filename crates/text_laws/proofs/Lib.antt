@@ -10,3 +10,6 @@ mod LineBack
 mod TextBackLine
 mod TextBackTarget
 mod TextBack
+mod AlignedBlocks
+mod WordWindows
+mod WrittenTables

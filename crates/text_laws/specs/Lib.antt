@@ -4,6 +4,7 @@ pub mod TextBack
 pub mod Says
 pub mod Shown
 pub mod After
+pub mod Bounds
 -- Laws
 pub mod SaysLaws
 pub mod StageLaws

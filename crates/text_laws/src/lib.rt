@@ -1,7 +1,11 @@
 //! The laws of shown texts: what is shown for a word, an assembler reads as that word again; and what is shown of a step is what the
-//! state has. Each function's contract is a law, and its body is empty.
+//! state has. Each function's contract is a law, and its body is empty. Beside them stand those of texts on bounds, of tables of
+//! symbols and of listings.
 #![tactic(auto)]
 
+pub mod bounds;
+pub mod listings;
+pub mod tables;
 pub mod why;
 
 ghost use Rattle.std.specs.Prelude.{ℕ, ◌<◌, ◌^◌, Bool};

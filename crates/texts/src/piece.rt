@@ -20,3 +20,13 @@ pub enum Piece<'a> {
     /// A number in decimal, with its sign where it is negative, of 40 bytes at most.
     WideSignedDecimal(i128),
 }
+
+/// Pieces, one after the other, with a literal for a text that stands as it is: `pieces!["at " Address(address) "\n"]`. So a line of a
+/// text can be a line of the code.
+#[macro_export]
+macro_rules! pieces {
+    (@ [$($done:tt)*]) => { [$($done)*] };
+    (@ [$($done:tt)*] $text:literal $($rest:tt)*) => { $crate::pieces!(@ [$($done)* $crate::Piece::Text($text),] $($rest)*) };
+    (@ [$($done:tt)*] $kind:ident $value:tt $($rest:tt)*) => { $crate::pieces!(@ [$($done)* $crate::Piece::$kind $value,] $($rest)*) };
+    ($($piece:tt)*) => { $crate::pieces!(@ [] $($piece)*) };
+}

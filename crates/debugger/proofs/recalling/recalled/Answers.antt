@@ -4,7 +4,7 @@ use Rattle.debugger.specs.Reply.{is_outside}
 use Rattle.debugger.proofs.Recalls.{recalled_in_time}
 use Rattle.debugger.proofs.recalling.recalled.Goals as goal
 
-pub put_recalled-requires : goal.put_recalled-requires
-put_recalled-requires c =
+pub append_recalled-requires : goal.append_recalled-requires
+append_recalled-requires c =
     recalled_in_time c.args.recall _ c.in-Some.past c.timeline.invariant c.in-Some.is c.requires.limits
     (ap (λ t. is_outside (Recalls c.args.recall) t.machine) c.timeline.view_is ∙ c.requires.inside)

@@ -1,95 +1,41 @@
-use Rattle.std.proofs.Common.{◌≡◌, ◌++◌, true, length, ap, sym, ◌∙◌}
+use Rattle.std.proofs.Common.{◌++◌, length, ap, sym, ◌∙◌}
 use Rattle.machine.specs.Run.{run_after, run_sent}
 use Rattle.std.specs.Prelude.{is_some, not}
-use Rattle.debugger.proofs.Gives.{are_own, not_both, own_given, paid_owed, paid_replay, changed_replay, changed_owed}
+use Rattle.debugger.proofs.Gives.{not_both, other_own, own_given, paid_owed, paid_replay, changed_replay, changed_owed}
 use Rattle.debugger.proofs.run.give.Goals as goal
 
-pub returns-in-Steps-clause-state : goal.returns-in-Steps-clause-state
-returns-in-Steps-clause-state g c =
-    let own : are_own c.args.events ≡ true = ap are_own c.in-Steps.is in
+pub returns-in_default-clause-state : goal.returns-in_default-clause-state
+returns-in_default-clause-state g c =
+    let own =
+    other_own c.args.events (λ n. c.in_default.not-Ticks n) (λ b. c.in_default.not-Byte b) (λ p n. c.in_default.not-Changed p n) in
     c.give_paid.ensures.state
     ∙ ap (λ es. run_after es c.args.machine.now)
     (own_given c.args.events c.args.replay.now c.args.owed.now c.args.stops.now c.args.machine.now own)
 
-pub returns-in-Steps-clause-bytes : goal.returns-in-Steps-clause-bytes
-returns-in-Steps-clause-bytes g c =
-    let own : are_own c.args.events ≡ true = ap are_own c.in-Steps.is in
+pub returns-in_default-clause-bytes : goal.returns-in_default-clause-bytes
+returns-in_default-clause-bytes g c =
+    let own =
+    other_own c.args.events (λ n. c.in_default.not-Ticks n) (λ b. c.in_default.not-Byte b) (λ p n. c.in_default.not-Changed p n) in
     c.give_paid.ensures.bytes ∙ ap (λ es. c.args.sent.now.items ++ run_sent es c.args.machine.now)
     (own_given c.args.events c.args.replay.now c.args.owed.now c.args.stops.now c.args.machine.now own)
 
-pub returns-in-Steps-clause-replay : goal.returns-in-Steps-clause-replay
-returns-in-Steps-clause-replay g c =
-    let own : are_own c.args.events ≡ true = ap are_own c.in-Steps.is in
+pub returns-in_default-clause-replay : goal.returns-in_default-clause-replay
+returns-in_default-clause-replay g c =
+    let own =
+    other_own c.args.events (λ n. c.in_default.not-Ticks n) (λ b. c.in_default.not-Byte b) (λ p n. c.in_default.not-Changed p n) in
     c.give_paid.ensures.replay ∙ paid_replay c.args.events c.args.replay.now c.args.owed.now c.args.stops.now c.args.machine.now own
 
-pub returns-in-Steps-clause-owed : goal.returns-in-Steps-clause-owed
-returns-in-Steps-clause-owed g c =
-    let own : are_own c.args.events ≡ true = ap are_own c.in-Steps.is in
+pub returns-in_default-clause-owed : goal.returns-in_default-clause-owed
+returns-in_default-clause-owed g c =
+    let own =
+    other_own c.args.events (λ n. c.in_default.not-Ticks n) (λ b. c.in_default.not-Byte b) (λ p n. c.in_default.not-Changed p n) in
     c.give_paid.ensures.owed ∙ paid_owed c.args.events c.args.replay.now c.args.owed.now c.args.stops.now c.args.machine.now own
 
-pub returns-in-Steps-clause-count : goal.returns-in-Steps-clause-count
-returns-in-Steps-clause-count g c =
-    let own : are_own c.args.events ≡ true = ap are_own c.in-Steps.is in
+pub returns-in_default-clause-count : goal.returns-in_default-clause-count
+returns-in_default-clause-count g c =
+    let own =
+    other_own c.args.events (λ n. c.in_default.not-Ticks n) (λ b. c.in_default.not-Byte b) (λ p n. c.in_default.not-Changed p n) in
     c.give_paid.ensures.count
-    ∙ ap length (own_given c.args.events c.args.replay.now c.args.owed.now c.args.stops.now c.args.machine.now own)
-
-pub returns-in-Until-clause-state : goal.returns-in-Until-clause-state
-returns-in-Until-clause-state g c =
-    let own : are_own c.args.events ≡ true = ap are_own c.in-Until.is in
-    c.give_paid-in-Until.ensures.state
-    ∙ ap (λ es. run_after es c.args.machine.now)
-    (own_given c.args.events c.args.replay.now c.args.owed.now c.args.stops.now c.args.machine.now own)
-
-pub returns-in-Until-clause-bytes : goal.returns-in-Until-clause-bytes
-returns-in-Until-clause-bytes g c =
-    let own : are_own c.args.events ≡ true = ap are_own c.in-Until.is in
-    c.give_paid-in-Until.ensures.bytes ∙ ap (λ es. c.args.sent.now.items ++ run_sent es c.args.machine.now)
-    (own_given c.args.events c.args.replay.now c.args.owed.now c.args.stops.now c.args.machine.now own)
-
-pub returns-in-Until-clause-replay : goal.returns-in-Until-clause-replay
-returns-in-Until-clause-replay g c =
-    let own : are_own c.args.events ≡ true = ap are_own c.in-Until.is in
-    c.give_paid-in-Until.ensures.replay
-    ∙ paid_replay c.args.events c.args.replay.now c.args.owed.now c.args.stops.now c.args.machine.now own
-
-pub returns-in-Until-clause-owed : goal.returns-in-Until-clause-owed
-returns-in-Until-clause-owed g c =
-    let own : are_own c.args.events ≡ true = ap are_own c.in-Until.is in
-    c.give_paid-in-Until.ensures.owed ∙ paid_owed c.args.events c.args.replay.now c.args.owed.now c.args.stops.now c.args.machine.now own
-
-pub returns-in-Until-clause-count : goal.returns-in-Until-clause-count
-returns-in-Until-clause-count g c =
-    let own : are_own c.args.events ≡ true = ap are_own c.in-Until.is in
-    c.give_paid-in-Until.ensures.count
-    ∙ ap length (own_given c.args.events c.args.replay.now c.args.owed.now c.args.stops.now c.args.machine.now own)
-
-pub returns-in-Go-clause-state : goal.returns-in-Go-clause-state
-returns-in-Go-clause-state g c =
-    let own : are_own c.args.events ≡ true = ap are_own c.in-Go.is in
-    c.give_paid-in-Go.ensures.state
-    ∙ ap (λ es. run_after es c.args.machine.now)
-    (own_given c.args.events c.args.replay.now c.args.owed.now c.args.stops.now c.args.machine.now own)
-
-pub returns-in-Go-clause-bytes : goal.returns-in-Go-clause-bytes
-returns-in-Go-clause-bytes g c =
-    let own : are_own c.args.events ≡ true = ap are_own c.in-Go.is in
-    c.give_paid-in-Go.ensures.bytes ∙ ap (λ es. c.args.sent.now.items ++ run_sent es c.args.machine.now)
-    (own_given c.args.events c.args.replay.now c.args.owed.now c.args.stops.now c.args.machine.now own)
-
-pub returns-in-Go-clause-replay : goal.returns-in-Go-clause-replay
-returns-in-Go-clause-replay g c =
-    let own : are_own c.args.events ≡ true = ap are_own c.in-Go.is in
-    c.give_paid-in-Go.ensures.replay ∙ paid_replay c.args.events c.args.replay.now c.args.owed.now c.args.stops.now c.args.machine.now own
-
-pub returns-in-Go-clause-owed : goal.returns-in-Go-clause-owed
-returns-in-Go-clause-owed g c =
-    let own : are_own c.args.events ≡ true = ap are_own c.in-Go.is in
-    c.give_paid-in-Go.ensures.owed ∙ paid_owed c.args.events c.args.replay.now c.args.owed.now c.args.stops.now c.args.machine.now own
-
-pub returns-in-Go-clause-count : goal.returns-in-Go-clause-count
-returns-in-Go-clause-count g c =
-    let own : are_own c.args.events ≡ true = ap are_own c.in-Go.is in
-    c.give_paid-in-Go.ensures.count
     ∙ ap length (own_given c.args.events c.args.replay.now c.args.owed.now c.args.stops.now c.args.machine.now own)
 
 pub returns-then-owed-clause-replay : goal.returns-then-owed-clause-replay

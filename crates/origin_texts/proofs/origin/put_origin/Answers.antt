@@ -12,7 +12,7 @@ loop-next-preserved c =
     let replay = option_copied c.args.replay in
     let told = c.in_ok-next.ensures in
     record {
-      text = one_more symbols past replay (string_bytes l.text) (string_bytes c.put_next.new.text)
+      text = one_more symbols past replay (string_bytes l.text) (string_bytes c.append_next.new.text)
           (string_bytes c.args.text.now ++ origin_text symbols past replay c.args.place) c.in-Some.place c.in-Some.events c.in_ok-next.next
           (before_them c.in-Some.events past c.in_ok-next.next told.there) told.text (rw c.in-Some.is at l.invariant.text);
       there = there_too c.in-Some.events past c.in_ok-next.next told.there;

@@ -7,7 +7,7 @@ use Rattle.policy_audit.proofs.entries.line_of.Goals as goal
 pub returns : goal.returns
 returns g c =
     let value = g.C.CapRep.value in
-    c.in_ok-put_line.ensures
+    c.in_ok-append_line.ensures
     ∙ ap (λ t. t ++ entry_line c.args.code (values value c.in_ok-reach.reach)) c.new-line.ensures.bytes
     ∙ ap (entry_line c.args.code)
     (values_are value c.in_ok-reach.reach c.args.machine.now c.hart.result.now c.hart.ensures.value c.in_ok-reach.ensures.members)

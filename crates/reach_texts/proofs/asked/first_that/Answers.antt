@@ -1,22 +1,13 @@
-use Rattle.std.proofs.Common.{arith, sym, ◌∙◌}
-use Rattle.reach_texts.proofs.Asking.{later, found, none}
+use Rattle.std.proofs.Common.{rules, sym, ◌∙◌}
+use Rattle.std.proofs.lemmas.Iterator.{YieldsList-from_slice}
+use Rattle.std.proofs.lemmas.Iterator.Search.{position_from_yields_List}
+use borrow.Author.Tests.{tests}
+use Rattle.reach_texts.specs.Asked.{lets}
+use Rattle.reach_texts.proofs.Seen.{seen_position}
 use Rattle.reach_texts.proofs.asked.first_that.Goals as goal
-
-pub loop-number-preserved : goal.loop-number-preserved
-loop-number-preserved g c =
-    let inside = c.loop-number-test.true in
-    record {
-      within = omega (arith, inside);
-      before = later g.C.CapRep.value c.args.may c.args.members.now c.loop-number.number c.index-members-number.result inside
-          (sym c.lets.ensures ∙ c.if-lets.false) c.loop-number.invariant.before;
-    }
-
-pub returns-then-lets-clause-first : goal.returns-then-lets-clause-first
-returns-then-lets-clause-first g c =
-    found g.C.CapRep.value c.args.may c.args.members.now c.loop-number.number c.index-members-number.result c.loop-number-test.true
-    (sym c.lets.ensures ∙ c.if-lets.true) c.loop-number.invariant.before
 
 pub returns-clause-first : goal.returns-clause-first
 returns-clause-first g c =
-    none g.C.CapRep.value c.args.may c.args.members.now c.loop-number.number
-    (omega (arith, c.loop-number-test.false, c.loop-number.invariant.within)) c.loop-number.invariant.before
+    position_from_yields_List (λ m. lets c.args.may (g.C.CapRep.value m.cap)) _ _ c.position.result c.position.ensures.ran
+    (YieldsList-from_slice c.args.members.now cc) (λ x b q k. search (rules, tests))
+    ∙ sym (seen_position g.C.CapRep.value (λ x. lets c.args.may x.value) c.args.members.now)

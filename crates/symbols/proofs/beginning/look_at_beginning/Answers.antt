@@ -1,5 +1,6 @@
-use Rattle.std.proofs.Common.{◌+◌, ◌<◌, length, ap, ◌∙◌, sym, arith, length-drop}
-use Rattle.symbols.specs.Reads.{line_length}
+use Rattle.std.proofs.Common.{◌≡◌, ◌+◌, ◌<◌, true, length, ap, ◌∙◌, refl, sym, arith, length-drop}
+use Rattle.std.proofs.lemmas.Bool.{le-leb}
+use Rattle.symbols.specs.Reads.{is_refused, line_length}
 use Rattle.symbols.proofs.BeginningLemmas.{pass_sound, stop_faulty, stop_refused, left_past}
 use Rattle.symbols.proofs.beginning.look_at_beginning.Goals as goal
 
@@ -28,7 +29,9 @@ loop-line-preserved c =
       number = omega (arith, kept.number);
     }
 
-pub returns-then-is_refused : goal.returns-then-is_refused
-returns-then-is_refused c = λ more.
-    c.loop-line.invariant.same more
-    ∙ stop_refused c.loop-line.rest.now more c.loop-line.next c.in_default.ensures.left (sym c.is_refused.ensures ∙ c.if-is_refused.true)
+pub returns-then-not-is_line-2 : goal.returns-then-not-is_line-2
+returns-then-not-is_line-2 c =
+    let rest = c.loop-line.rest.now in
+    let faulty = sym c.is_line-then-rest-ge19.ensures ∙ c.if-not-is_line-2.true in
+    let refused : is_refused rest ≡ true = rw (le-leb 19 (length rest) c.if-rest-ge19.true, faulty) refl in
+    λ more. c.loop-line.invariant.same more ∙ stop_refused rest more c.loop-line.next c.in_default.ensures.left refused

@@ -1,5 +1,0 @@
-use Rattle.std.proofs.Common.{rules}
-use Rattle.assembler.proofs.assembly.assemble.Goals as goal
-
-pub returns-clause-symbols : goal.returns-clause-symbols
-returns-clause-symbols c = search rules

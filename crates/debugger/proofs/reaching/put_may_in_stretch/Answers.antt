@@ -1,6 +1,0 @@
-use Rattle.std.proofs.Common.{sym, subst}
-use Rattle.reached.specs.Chain.{AreInOrder}
-use Rattle.debugger.proofs.reaching.put_may_in_stretch.Goals as goal
-
-pub put_answer-requires-clause-order : goal.put_answer-requires-clause-order
-put_answer-requires-clause-order g c = subst AreInOrder (sym c.members-members.ensures) c.in_ok-reach.ensures.order

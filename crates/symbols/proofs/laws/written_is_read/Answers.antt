@@ -1,8 +1,0 @@
-use Rattle.symbols.proofs.WrittenLemmas.{written_correct, written_symbols}
-use Rattle.symbols.proofs.laws.written_is_read.Goals as goal
-
-pub returns-clause-correct : goal.returns-clause-correct
-returns-clause-correct c = written_correct
-
-pub returns-clause-symbols : goal.returns-clause-symbols
-returns-clause-symbols c = written_symbols

@@ -1,0 +1,5 @@
+use Rattle.symbols.proofs.PlaceLemmas.{first_name}
+use Rattle.text_laws.proofs.tables.the_name_is_the_first.Goals as goal
+
+pub returns : goal.returns
+returns c = first_name
