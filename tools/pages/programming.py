@@ -250,13 +250,35 @@ def fetch_table():
 # ---- the map and the devices
 
 
+def kept_rows(name):
+    """The lines of a table of the registers that only keep a number: of each what stands there and what the comment says."""
+    text = text_of("devices/src/map.rt")
+    begin = text.index(f"pub const {name}:")
+    rows = re.findall(r"^    (\S+), // (.*)$", text[begin:text.index("];", begin)], re.M)
+    if len(rows) != int(re.search(r"KEPT_COUNT: usize = (\d+);", text).group(1)):
+        raise NotUnderstood(f"devices/src/map.rt: {name}")
+    return rows
+
+
+def first_numbers():
+    """What the registers that only keep a number hold first, by name."""
+    names = [said.split(":")[0] for _, said in kept_rows("KEPT")]
+    first = kept_rows("FIRST")
+    if names != [name for _, name in first]:
+        raise NotUnderstood("devices/src/map.rt: KEPT, FIRST")
+    return [(name, "2^64 - 1" if value == "u64::MAX" else str(worth(value))) for value, name in first]
+
+
 def map_table():
-    rows = []
+    matched(r"is_named address \|\| is_some \(kept_at address\)", DEVICES.body("is_register"))
+    rows = [(worth(place), [*comment.split(": ", 1), "sets it to the number"]) for place, comment in kept_rows("KEPT")]
     places = {name: worth(DEVICES.body(name)) for name in items(
-        matched(r"list_any \(λ register\. address == register\) (.*)", DEVICES.body("is_register")).group(1))}
+        matched(r"list_any \(λ register\. address == register\) (.*)", DEVICES.body("is_named")).group(1))}
     loads = {at: value for at, value in choices(DEVICES.body("value_at"))}
     stores = {}
-    for name, text in fields(DEVICES.body("written")) + [("effect", DEVICES.body("effect_of"))]:
+    written = dict(fields(DEVICES.body("written")))
+    matched(r"kept_in \(kept_at address\) value d\.kept", written.pop("kept"))
+    for text in [*written.values(), DEVICES.body("effect_of")]:
         for at, value in choices(text):
             if at is not None:
                 stores.setdefault(at, []).append(said("STORES", value))
@@ -273,7 +295,7 @@ def map_table():
 
 def register_name(name):
     """The name that software knows a device register by."""
-    return {"timer": "mtime", "timer_compare": "mtimecmp", "control_register": "control"}.get(name, name)
+    return {"timer": "mtime", "control_register": "control"}.get(name, name)
 
 
 def widths():
@@ -281,7 +303,8 @@ def widths():
     unknown = r"if not \(is_register address\) then Some V1 else "
     load = matched(unknown + r"\(if size == (\d+) then None else Some V2\)", DEVICES.body("read_fault"))
     single = r"\(\(address == (\w+)\) && \(size == (\d+)\)\)"
-    store = matched(unknown + rf"\(if \(size == (\d+)\) \|\| {single} then None else Some V2\)", DEVICES.body("write_fault"))
+    matched(unknown + r"\(if takes_size address size then None else Some V2\)", DEVICES.body("write_fault"))
+    store = matched(rf"\(size == (\d+)\) \|\| {single}", DEVICES.body("takes_size"))
     if load.group(1) != store.group(1):
         raise NotUnderstood(f"{DEVICES.file}: read_fault, write_fault")
     return (f"A register takes loads and stores of {load.group(1)} bytes at its own address; {register_name(store.group(2))} also stores "
@@ -298,14 +321,21 @@ def numbered(path):
             if re.fullmatch(r"0x[0-9a-f]+|[0-9]+", text)}
 
 
-REGISTERS = numbered("base/src/registers.rt")
+def unnamed(path):
+    """The registers that a list has by their numbers alone: (number, comment)."""
+    rows = re.findall(r"// ([^\n]*)\n\s*\((0x[0-9a-f]+), \"\w+\"\),", text_of(path))
+    return {number: (worth(number), comment) for comment, number in rows}
+
+
+REGISTERS = numbered("base/src/registers.rt") | unnamed("base/src/registers.rt")
 
 
 def listed(name):
-    """The constants that a list of registers names, in order, each with the name that it is shown by."""
+    """The registers of a list, in order, by constant or else by number, each with the name that it is shown by."""
     text = text_of("base/src/registers.rt")
     begin = text.index(f"pub const {name}:")
-    found = re.findall(r"\((?:scr|csr)::(\w+)(?: as u16)?, \"(\w+)\"\)", text[begin:text.index("];", begin)])
+    rows = r"\((?:(?:scr|csr)::)?(\w+)(?: as u16)?, \"(\w+)\"\)"
+    found = re.findall(rows, text[begin:text.index("];", begin)])
     count = int(re.search(r"; (\d+)\]", text[begin:]).group(1))
     if len(found) != count:
         raise NotUnderstood(f"base/src/registers.rt: {name} has {len(found)} of {count} lines")
@@ -341,10 +371,22 @@ def csr_read(text):
     return "what is kept" if re.fullmatch(r"c\.\w+", text) else said("READS", text)
 
 
+def kept():
+    """The registers that keep what is written."""
+    text = text_of("special_regs/src/csrs.rt")
+    begin = text.index("pub const KEPT:")
+    return re.findall(r"csr::(\w+)|(0x[0-9a-f]+)", text[begin:text.index("];", begin)])
+
+
+KEPT = [constant or number for constant, number in kept()]
+
+
 def csr_written():
     """What is kept of a write, by register."""
-    written = {}
+    written = {constant: [said("WRITES", "value")] for constant in KEPT}
     for field, text in fields(WRITES.body("csrs_written")) + fields(WRITES.body("views_written")):
+        if text == "kept_written n value c.kept":
+            continue
         (at, value), (_, other) = choices(text)
         if other not in (f"c.{field}", f"s.{field}"):
             raise NotUnderstood(f"{WRITES.file}: {field} = {text}")
@@ -362,6 +404,7 @@ def csr_written():
 
 def csr_table():
     reads = dict(map(pair, items(Definitions("special_regs/specs/CsrValues").body("csr_values"))))
+    reads |= {constant: "c.kept" for constant in KEPT}
     bits, _, ones = REFUSALS.body("is_read_only").partition(" == ")
     read_only = [constant for constant, _ in listed("CSRS") if worth(bits, {"n": REGISTERS[constant][0]}) == worth(ones, {})]
     written = csr_written()
@@ -369,7 +412,7 @@ def csr_table():
     for constant, name in listed("CSRS"):
         number, comment = REGISTERS[constant]
         write = "illegal instruction" if constant in read_only else written.get(constant, "nothing; it is no fault")
-        rows.append([f"`{number:#05x}`", name, comment.rstrip("."), csr_read(reads.pop(constant)), write])
+        rows.append([f"`{number:#05x}`", name, comment.rstrip("."), csr_read(reads.pop(constant, "0")), write])
     if reads:
         raise NotUnderstood(f"special_regs/specs/CsrValues.antt: {reads}")
     return table(["Number", "Name", "It is", "A read gives", "A write keeps"], rows)
@@ -561,9 +604,15 @@ def opening_list():
     lines = [f"The general registers: {defined('registers/specs/Registers', 'null_registers')}."]
     lines += [f"{name.upper() if name != 'mscratchc' else 'MScratchC'}: {said('OPENING', text)}."
               for name, text in fields(OPENING.body("opening_scrs"))]
-    csrs = [(name.replace("mstatus_", "").upper() if "mstatus" in name else name, said("OPENING", text))
-            for name, text in fields(Definitions("special_regs/specs/Csrs").body("zero_csrs"))]
-    devices = [(name, said("OPENING", text)) for name, text in fields(DEVICES.body("idle"))]
+    csrs = []
+    for name, text in fields(Definitions("special_regs/specs/Csrs").body("zero_csrs")):
+        if (name, text) == ("kept", "replicate KEPT_COUNT 0"):
+            csrs += [(name, "0") for constant, name in listed("CSRS") if constant in KEPT]
+        else:
+            csrs.append((name.replace("mstatus_", "").upper() if "mstatus" in name else name, said("OPENING", text)))
+    devices = []
+    for name, text in fields(DEVICES.body("idle")):
+        devices += first_numbers() if (name, text) == ("kept", "FIRST") else [(name, said("OPENING", text))]
     for pairs in (csrs, devices):
         lines.append("; ".join(f"{name}: {text}" for name, text in pairs) + ".")
     lines.append(f"RAM: {defined('hart/specs/Opening', 'loaded_memory')}; {defined('hart/specs/Opening', 'opening_memory')}.")

@@ -85,12 +85,11 @@ WRITES = {
 
 # What a load of a device register gives, and what it takes.
 LOADS = {
-    "d.mtimecmp": "the time from which the timer asks for its interrupt",
     "d.mtime": "the time",
     "oldest d.queue": "the oldest byte that waits, which it takes; 0 if none waits",
     "status_of d": "bit 0: a byte waits; bit 1: a byte was lost; the other bits 0",
     "bit d.control": "bit 0: a byte that waits asks for the external interrupt; the other bits 0",
-    "0": "0",
+    "kept_value (kept_at address) d.kept": "0",
 }
 
 # What a store into one does.
@@ -110,7 +109,6 @@ OPENING = {
     "null": "null",
     "0": "0",
     "false": "0",
-    "2 ^ 64 - 1": "2^64 - 1",
     "[]": "empty",
     "None": "no",
 }
@@ -256,7 +254,7 @@ DEFINITIONS = {
     "d.queue else d.queue ++ (b ∷ []); overrun = if full then true else d.overrun;}":
         "A byte that comes on the line waits after the others; where the queue is full, it is lost, and bit 1 of status becomes 1",
     "devices/specs/Devices ticked: record d {mtime = (d.mtime + 1) % 2 ^ 64}": "A tick adds 1 to mtime, modulo 2^64",
-    "devices/specs/Devices interrupts_of: bit (nat_le d.mtimecmp d.mtime) * 2 ^ TIMER + bit (d.control && waits d.queue) * 2 ^ EXTERNAL":
+    "devices/specs/Devices interrupts_of: bit (nat_le (mtimecmp d) d.mtime) * 2 ^ TIMER + bit (d.control && waits d.queue) * 2 ^ EXTERNAL":
         "The timer asks while mtime is mtimecmp or more, and the console while bit 0 of control is 1 and a byte waits",
     "devices/specs/Devices taken_at: record d {queue = if address == receive then without_oldest d.queue else d.queue}":
         "that of receive alone changes something",

@@ -19,9 +19,11 @@ use Rattle.asm_lines.specs.Text.{pieces_of, mnemonic_of, operands_of, is_foreign
 use Rattle.asm_lines.specs.Number.{Expression, number_of, expression_of}
 use Rattle.asm_lines.specs.Operand.{Draft, up_to, wrapped, filled_draft, filled_fault}
 use Rattle.asm_lines.specs.declared.parsed.Directive.{Directive}
-use Rattle.asm_lines.specs.declared.parsed.Directive.TheVariants.{Align, Zero, Values, Ascii, Capability}
+use Rattle.asm_lines.specs.declared.parsed.Directive.TheVariants.{Zeros, Values, Ascii, Capability}
+use Rattle.asm_lines.specs.declared.parsed.Fill.{Fill}
+use Rattle.asm_lines.specs.Fills.{row_of}
 use Rattle.asm_lines.specs.Statement.{Statement, instruction, setting, origin, contents, row, pages, mode, item, values, Said}
-use Rattle.asm_lines.specs.Statement.{most_of, count_said, data_said, directives, directive_in, placing_said, capability_fault}
+use Rattle.asm_lines.specs.Statement.{zeros_said, data_said, directive_named, placing_said, capability_fault}
 use Rattle.asm_lines.specs.Statement.{said, said_unless, said_by, is_word, Pattern, pattern, plain, row_pattern, pattern_of, pattern_said}
 use Rattle.asm_lines.specs.Statement.{draft_of, row_said, load_said, register_load, number_said, page_range, pages_said, mode_said}
 use Rattle.asm_lines.specs.Statement.{origin_said, entry_said, values_said, values_fault, is_quoted}
@@ -218,12 +220,11 @@ quoted-fits : (test : Bool) (between : List ℕ)
 quoted-fits true between i target e h = cc
 quoted-fits false between i target e h = cc
 
-count-fits : (d : Directive) (r : Result ℤ LineFault) → SaidFits (count_said d r)
-count-fits d r = number-fits (λ n. contents (item d n [])) None (up_to (most_of d) r) (λ n i t q. cc)
+zeros-fit : (f : Fill) (r : Result ℤ LineFault) → SaidFits (zeros_said f r)
+zeros-fit f r = number-fits (λ n. contents (item (Zeros f) n [])) None (up_to (row_of f).most r) (λ n i t q. cc)
 
 data-fits : (d : Directive) (operands : List ℕ) → SaidFits (data_said d operands)
-data-fits Align operands = count-fits Align (number_of operands)
-data-fits Zero operands = count-fits Zero (number_of operands)
+data-fits (Zeros f) operands = zeros-fit f (number_of operands)
 data-fits (Values size) operands = values-fits size operands
 data-fits Ascii operands = quoted-fits (is_quoted operands) (take (length operands - 2) (drop 1 operands))
 data-fits Capability operands = unless-fits (contents (item Capability 0 operands)) (capability_fault operands) (λ i t p q. cc)
@@ -252,7 +253,7 @@ said-fits word operands =
     one-fits (is_word word (codes ".entry")) (entry_said (expression_of operands)) _ (entry-fits (expression_of operands)) (
     one-fits (is_word word (codes ".org")) (origin_said number) _
     (number-fits origin None (up_to (2 ^ 64 - 1) number) (λ n i t q. cc)) (
-    placing-fits (directive_in directives word) word operands))))))
+    placing-fits (directive_named word) word operands))))))
 
 line_said-fits : (label : Option (List ℕ)) (statement : List ℕ) → RowFits (line_said label statement)
 line_said-fits label [] i target e h = cc

@@ -1,7 +1,7 @@
 -- What is known of an instruction whose operands could be read: slot by slot, bounds of its registers and the kind of its immediate.
 use Rattle.std.proofs.Common.{◌≡◌, ℕ, ◌+◌, ◌-◌, ◌*◌, ◌^◌, ◌<◌, ◌≤◌, ◌⊎◌, inl, inr, Bool, true, false, ◌&&◌, List, [], ◌∷◌, Option, Some}
 use Rattle.std.proofs.Common.{None, refl, arith}
-use Rattle.std.specs.Prelude.{ℤ, pos, negsuc, neg_ℤ, int_lt, Result, Ok, Err, length, ◌==◌, if◌then◌else◌}
+use Rattle.std.specs.Prelude.{ℤ, pos, negsuc, neg_ℤ, int_lt, Result, Ok, Err, length, min, ◌==◌, if◌then◌else◌}
 use Rattle.std.proofs.lemmas.Bool.Decides.{nat_tests}
 use Rattle.std.proofs.lemmas.Nat.{pow_pos}
 use Rattle.isa_rows.specs.declared.rows.Row.{Row}
@@ -16,6 +16,7 @@ use Rattle.asm_names.specs.NameLaws.{register_named-below, csr_named-below, scr_
 use Rattle.asm_lines.specs.declared.fault.LineFault.{LineFault}
 use Rattle.asm_lines.specs.declared.fault.LineFault.TheVariants.{A1, A2, A3, A8, A9}
 use Rattle.asm_lines.specs.Number.{Expression, number_of, expression_of}
+use Rattle.asm_lines.specs.Ranges.{most_of}
 use Rattle.asm_lines.specs.Operand.{Draft, wrapped, ranged, up_to, signed_12, with_rd, with_rs1, with_rs2, with_imm, with_upper, with_small}
 use Rattle.asm_lines.specs.Operand.{with_special, with_target, named_or, before_bracket, in_brackets, has_brackets, displacement}
 use Rattle.asm_lines.specs.Operand.{with_address, filled_slot, told_fault, draft_after, fault_of, filled_draft, filled_fault}
@@ -60,7 +61,7 @@ bounds_with (Rd naming) b = record b { rd = 32 }
 bounds_with (Rs1 naming) b = record b { rs1 = 32 }
 bounds_with (Rs2 naming) b = record b { rs2 = 32 }
 bounds_with Signed b = record b { imm = signed }
-bounds_with (Unsigned bits) b = record b { imm = below (2 ^ bits) }
+bounds_with (Unsigned bits) b = record b { imm = below (2 ^ min bits 64) }
 bounds_with Upper b = record b { imm = upper }
 bounds_with Small b = record b { rs1 = 32 }
 bounds_with Csr b = record b { imm = below 4096 }
@@ -257,8 +258,8 @@ slot-leads row b d (Rs1 naming) text w = rs1-leads row b d (register_named text)
 slot-leads row b d (Rs2 naming) text w = rs2-leads row b d (register_named text) (register_named-below text) w
 slot-leads row b d Signed text w = imm-leads row b d signed (signed_12 (number_of text)) (signed_12-numbers (number_of text)) w
 slot-leads row b d (Unsigned bits) text w =
-    imm-leads row b d (below (2 ^ bits)) (up_to (2 ^ bits - 1) (number_of text))
-    (up_to-numbers (2 ^ bits) (number_of text) (pow_pos bits)) w
+    imm-leads row b d (below (2 ^ min bits 64)) (up_to (most_of bits) (number_of text))
+    (up_to-numbers (2 ^ min bits 64) (number_of text) (pow_pos (min bits 64))) w
 slot-leads row b d Upper text w =
     upper-leads row b d (up_to 0xFFFFF (number_of text)) (up_to-numbers (2 ^ 20) (number_of text) (omega arith)) w
 slot-leads row b d Small text w =

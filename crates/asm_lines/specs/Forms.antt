@@ -1,6 +1,6 @@
 -- What each mnemonic is written with: its operands, with a word for each, and the numbers that it can be.
 use Rattle.base.specs.Ram.{most_pages}
-use Rattle.std.specs.Prelude.{ℕ, ◌-◌, ◌*◌, ◌^◌, Bool, true, false, not, ◌&&◌, nat_lt, if◌then◌else◌, ℤ, pos, neg_ℤ, int_lt}
+use Rattle.std.specs.Prelude.{ℕ, ◌-◌, ◌^◌, Bool, true, false, if◌then◌else◌, pos}
 use Rattle.std.specs.Prelude.{List, [], ◌∷◌, map, Option, Some, None, codes}
 use Rattle.isa_rows.specs.declared.rows.Row.TheVariants.{Addi}
 use Rattle.isa_rows.specs.declared.slots.Slot.{Slot}
@@ -9,43 +9,17 @@ use Rattle.isa_rows.specs.declared.slots.Slot.TheVariants.{Target}
 use Rattle.isa_rows.specs.declared.slots.Naming.{Naming}
 use Rattle.isa_rows.specs.declared.slots.Naming.TheVariants.{Integer, Capability}
 use Rattle.asm_lines.specs.declared.fault.LineFault.{LineFault}
-use Rattle.asm_lines.specs.declared.forms.Range.{Range}
+use Rattle.asm_lines.specs.declared.ranges.Range.{Range}
 use Rattle.asm_lines.specs.declared.forms.Written.{Written}
 use Rattle.asm_lines.specs.declared.forms.Written.TheVariants as written
-use Rattle.asm_lines.specs.declared.parsed.Directive.TheVariants.{Align, Zero}
+use Rattle.asm_lines.specs.declared.parsed.Fill.{Fill}
+use Rattle.asm_lines.specs.Fills.{row_of, fill_named}
 use Rattle.asm_lines.specs.Number.{number_of, expression_of}
-use Rattle.asm_lines.specs.Operand.{ranged, fault_of, filled_slot}
-use Rattle.asm_lines.specs.Statement.{Pattern, is_word, most_of, value_fault, plain, pattern_of, draft_of}
+use Rattle.asm_lines.specs.Operand.{within, fault_of, filled_slot}
+use Rattle.asm_lines.specs.Ranges.{every_number, is_within, natural, range, slot_range, value_range}
+use Rattle.asm_lines.specs.Statement.{Pattern, is_word, value_fault, plain, pattern_of, draft_of}
 
 -- ---- the numbers that an operand can be
-
-abbrev pub range : ℤ → ℤ → Range
-range least most = record { least = least; most = most }
-
-abbrev pub natural : ℕ → Range
-natural most = range (pos 0) (pos most)
-
--- what all numbers lie between
-abbrev pub every_number : Range
-every_number = range (neg_ℤ (pos (2 ^ 63))) (pos (2 ^ 64 - 1))
-
--- a value of so many bytes: from the least signed to the greatest unsigned number of its size
-abbrev pub value_range : ℕ → Range
-value_range size = range (neg_ℤ (pos (2 ^ (8 * size - 1)))) (pos (2 ^ (8 * size) - 1))
-
-abbrev pub is_within : Range → ℤ → Bool
-is_within r n = not (int_lt n r.least) && not (int_lt r.most n)
-
--- of a row's operand; of one that is no number, all numbers
-abbrev pub slot_range : Slot → Range
-slot_range Signed = range (neg_ℤ (pos 2048)) (pos 2047)
-slot_range (Address naming) = range (neg_ℤ (pos 2048)) (pos 2047)
-slot_range (Unsigned bits) = if nat_lt bits 64 then natural (2 ^ bits - 1) else every_number
-slot_range Upper = natural 0xFFFFF
-slot_range Small = natural 31
-slot_range Csr = natural 4095
-slot_range Special = natural 31
-slot_range other = every_number
 
 abbrev pub range_of : Written → Range
 range_of (written.Slot s) = slot_range s
@@ -87,7 +61,7 @@ slot_operand s = operand (slot_word s) (written.Slot s)
 -- the first fault of an operand's text that the text alone decides; that of a text in quotes its whole line decides
 unfoldable pub operand_fault : Written → List ℕ → Option LineFault
 operand_fault (written.Slot s) text = fault_of (filled_slot s text (draft_of (plain Addi [])))
-operand_fault (written.Number r) text = fault_of (ranged r.least r.most (number_of text))
+operand_fault (written.Number r) text = fault_of (within r (number_of text))
 operand_fault (written.Value r) text = value_fault (is_within r) (expression_of text)
 operand_fault written.Quoted text = None
 
@@ -101,8 +75,11 @@ pub record Form : Type 0 where
 abbrev pub form : List Operand → Form
 form operands = record { operands = operands; repeats = false }
 
+abbrev pub number_operand : Range → Operand
+number_operand r = operand (codes "a number") (written.Number r)
+
 abbrev pub a_number : Range → Form
-a_number r = form (operand (codes "a number") (written.Number r) ∷ [])
+a_number r = form (number_operand r ∷ [])
 
 abbrev pub values : ℕ → Form
 values size = record { operands = operand (codes "one expression or more") (written.Value (value_range size)) ∷ []; repeats = true }
@@ -110,7 +87,7 @@ values size = record { operands = operand (codes "one expression or more") (writ
 abbrev pub a_value : List ℕ → Range → Operand
 a_value word r = operand word (written.Value r)
 
--- what is no row and no other name of one
+-- what is no row, no other name of one, and places no zeros by a number
 abbrev pub forms : List (List ℕ × Form)
 forms =
     (codes "la", form (slot_operand (Rd Integer) ∷ a_value (codes "expression") every_number ∷ []))
@@ -119,8 +96,6 @@ forms =
     ∷ (codes ".mode", a_number (natural 1))
     ∷ (codes ".entry", form (a_value (codes "an expression") every_number ∷ []))
     ∷ (codes ".org", a_number (natural (2 ^ 64 - 1)))
-    ∷ (codes ".align", a_number (natural (most_of Align)))
-    ∷ (codes ".zero", a_number (natural (most_of Zero)))
     ∷ (codes ".byte", values 1)
     ∷ (codes ".half", values 2)
     ∷ (codes ".word", values 4)
@@ -150,9 +125,16 @@ abbrev pub form_or : Option Form → List Slot → Form
 form_or (Some f) slots = f
 form_or None slots = form (map slot_operand slots)
 
+abbrev pub fill_form_or : Option Fill → Option Form → Option Form
+fill_form_or (Some f) other = Some (a_number (natural (row_of f).most))
+fill_form_or None other = other
+
+abbrev pub form_named : List ℕ → Option Form
+form_named word = fill_form_or (fill_named word) (form_in forms word)
+
 -- what a mnemonic is written with
 unfoldable pub form_of : List ℕ → Form
-form_of word = form_or (form_in forms word) (pattern_slots (pattern_of word false))
+form_of word = form_or (form_named word) (pattern_slots (pattern_of word false))
 
 -- the first operand of a form, and what is written after it
 abbrev pub later : Bool → Operand → List Operand → List Operand

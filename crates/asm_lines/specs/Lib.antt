@@ -1,7 +1,9 @@
 -- What to read
 pub mod Text
 pub mod Number
+pub mod Ranges
 pub mod Operand
+pub mod Fills
 pub mod Statement
 pub mod Line
 pub mod Parts

@@ -1,5 +1,5 @@
 -- Operands as they are written, slot by slot, and what they make of an instruction.
-use Rattle.std.specs.Prelude.{ℕ, ◌*◌, ◌-◌, ◌%◌, ◌^◌, Bool, true, false, not, ◌&&◌, ◌||◌, ◌==◌, nat_lt, if◌then◌else◌, ℤ, pos, negsuc, neg_ℤ}
+use Rattle.std.specs.Prelude.{ℕ, ◌*◌, ◌-◌, ◌%◌, ◌^◌, Bool, true, false, not, ◌&&◌, ◌||◌, ◌==◌, nat_lt, if◌then◌else◌, ℤ, pos, negsuc}
 use Rattle.std.specs.Prelude.{int_lt, List, [], ◌∷◌, length, take, slice_index, Option, Some, None, Result, Ok, Err}
 use Rattle.std.specs.List.{prefix_len, before_first, after_first}
 use Rattle.isa_rows.specs.declared.operands.Insn.{Insn}
@@ -11,6 +11,8 @@ use Rattle.asm_names.specs.Registers.{register_named}
 use Rattle.asm_names.specs.SpecialNames.{csr_named, scr_named}
 use Rattle.asm_lines.specs.declared.fault.LineFault.{LineFault}
 use Rattle.asm_lines.specs.declared.fault.LineFault.TheVariants.{A1, A2, A3, A8, A9}
+use Rattle.asm_lines.specs.declared.ranges.Range.{Range}
+use Rattle.asm_lines.specs.Ranges.{natural, signed, slot_range}
 use Rattle.asm_lines.specs.Text.{trimmed}
 use Rattle.asm_lines.specs.Number.{Expression, number_of, expression_of}
 
@@ -29,13 +31,16 @@ abbrev pub ranged : ℤ → ℤ → Result ℤ LineFault → Result ℤ LineFaul
 ranged low high (Ok n) = if int_lt n low || int_lt high n then Err A3 else Ok n
 ranged low high (Err fault) = Err fault
 
--- a natural number of at most so much
-abbrev pub up_to : ℕ → Result ℤ LineFault → Result ℤ LineFault
-up_to most r = ranged (pos 0) (pos most) r
+-- a number in a range, or A3
+abbrev pub within : Range → Result ℤ LineFault → Result ℤ LineFault
+within numbers r = ranged numbers.least numbers.most r
 
--- a signed number of 12 bits
+-- a natural number of at most so much, and a signed number of 12 bits
+abbrev pub up_to : ℕ → Result ℤ LineFault → Result ℤ LineFault
+up_to most r = within (natural most) r
+
 abbrev pub signed_12 : Result ℤ LineFault → Result ℤ LineFault
-signed_12 r = ranged (neg_ℤ (pos 2048)) (pos 2047) r
+signed_12 r = within signed r
 
 -- the draft with a part of its instruction set, where the part could be read
 abbrev pub with_rd : Draft → Option ℕ → Result Draft LineFault
@@ -108,17 +113,21 @@ abbrev pub filled_authority : List ℕ → Draft → Result Draft LineFault
 filled_authority text d =
     if has_brackets text && (length (before_bracket text) == 0) then with_rs1 d (register_named (in_brackets text)) else Err A2
 
+-- a number of a row's operand
+abbrev pub slot_number : Slot → List ℕ → Result ℤ LineFault
+slot_number s text = within (slot_range s) (number_of text)
+
 -- the draft with one operand more, or what is wrong with the operand
 unfoldable pub filled_slot : Slot → List ℕ → Draft → Result Draft LineFault
 filled_slot (Rd naming) text d = with_rd d (register_named text)
 filled_slot (Rs1 naming) text d = with_rs1 d (register_named text)
 filled_slot (Rs2 naming) text d = with_rs2 d (register_named text)
-filled_slot Signed text d = with_imm d (signed_12 (number_of text))
-filled_slot (Unsigned bits) text d = with_imm d (up_to (2 ^ bits - 1) (number_of text))
-filled_slot Upper text d = with_upper d (up_to 0xFFFFF (number_of text))
-filled_slot Small text d = with_small d (up_to 31 (number_of text))
-filled_slot Csr text d = with_imm d (named_or (csr_named text) (up_to 4095 (number_of text)))
-filled_slot Special text d = with_special d (named_or (scr_named text) (up_to 31 (number_of text)))
+filled_slot Signed text d = with_imm d (slot_number Signed text)
+filled_slot (Unsigned bits) text d = with_imm d (slot_number (Unsigned bits) text)
+filled_slot Upper text d = with_upper d (slot_number Upper text)
+filled_slot Small text d = with_small d (slot_number Small text)
+filled_slot Csr text d = with_imm d (named_or (csr_named text) (slot_number Csr text))
+filled_slot Special text d = with_special d (named_or (scr_named text) (slot_number Special text))
 filled_slot (Address naming) text d = filled_address text d
 filled_slot (Authority naming) text d = filled_authority text d
 filled_slot (Target bits) text d = with_target d (expression_of text)

@@ -2,10 +2,10 @@
 use Rattle.std.specs.Prelude.{◌+◌, ◌<◌, ◌^◌, map, option_map, length}
 use Rattle.asm_lines.specs.declared.forms.Operand.{Operand as Named}
 use Rattle.asm_lines.specs.declared.forms.Form.{Form as Held}
-use Rattle.asm_lines.specs.declared.forms.Form.TheVariants.{Slots, Listed}
+use Rattle.asm_lines.specs.declared.forms.Form.TheVariants.{Slots, Number, Listed}
 use Rattle.asm_lines.specs.declared.parts.Part.{Part as Lent}
 use Rattle.asm_lines.specs.declared.parts.Parts.{Parts as AllLent}
-use Rattle.asm_lines.specs.Forms.{Form, Operand, form, operand, slot_operand}
+use Rattle.asm_lines.specs.Forms.{Form, Operand, form, operand, slot_operand, a_number}
 use Rattle.asm_lines.specs.Parts.{Part, Parts, part}
 
 abbrev pub seen_part : Lent → Part
@@ -27,6 +27,7 @@ seen_operand o = operand o.word.now o.written
 
 abbrev pub seen_form : Held → Form
 seen_form (Slots slots) = form (map slot_operand slots.now)
+seen_form (Number r) = a_number r
 seen_form (Listed operands repeats) = record { operands = map seen_operand operands.now; repeats = repeats }
 
 abbrev pub seen_split : Named × Held → Operand × Form

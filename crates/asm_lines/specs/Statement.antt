@@ -16,7 +16,9 @@ use Rattle.asm_names.specs.Slots.{slots_of}
 use Rattle.asm_lines.specs.declared.fault.LineFault.{LineFault}
 use Rattle.asm_lines.specs.declared.fault.LineFault.TheVariants.{A1, A2, A3, A8, A9}
 use Rattle.asm_lines.specs.declared.parsed.Directive.{Directive}
-use Rattle.asm_lines.specs.declared.parsed.Directive.TheVariants.{Align, Zero, Values, Ascii, Capability}
+use Rattle.asm_lines.specs.declared.parsed.Directive.TheVariants.{Zeros, Values, Ascii, Capability}
+use Rattle.asm_lines.specs.declared.parsed.Fill.{Fill}
+use Rattle.asm_lines.specs.Fills.{row_of, fill_named}
 use Rattle.asm_lines.specs.Text.{pieces_of}
 use Rattle.asm_lines.specs.Number.{Expression, expression, number_of, expression_of}
 use Rattle.asm_lines.specs.Operand.{Draft, up_to, wrapped, told_fault, fault_of, filled_draft, filled_fault}
@@ -227,12 +229,10 @@ text_said operands =
     if is_quoted operands then said (Some (contents (item Ascii 0 (take (length operands - 2) (drop 1 operands))))) None
     else said None (Some A2)
 
--- The directives that place bytes, by name.
+-- The directives that place bytes and take no number alone, by name.
 abbrev pub directives : List (List ℕ × Directive)
 directives =
-    (codes ".align", Align)
-    ∷ (codes ".zero", Zero)
-    ∷ (codes ".byte", Values 1)
+    (codes ".byte", Values 1)
     ∷ (codes ".half", Values 2)
     ∷ (codes ".word", Values 4)
     ∷ (codes ".dword", Values 8)
@@ -244,21 +244,28 @@ abbrev pub directive_in : List (List ℕ × Directive) → List ℕ → Option D
 directive_in [] word = None
 directive_in (d ∷ ds) word = if is_word word d.0 then Some d.1 else directive_in ds word
 
+abbrev pub directive_or : Option Fill → Option Directive → Option Directive
+directive_or (Some f) other = Some (Zeros f)
+directive_or None other = other
+
+-- the directive of a name, if it places bytes
+abbrev pub directive_named : List ℕ → Option Directive
+directive_named word = directive_or (fill_named word) (directive_in directives word)
+
 -- the greatest number that a directive takes
 abbrev pub most_of : Directive → ℕ
-most_of Align = 12
-most_of Zero = 268435456
+most_of (Zeros f) = (row_of f).most
 most_of other = 0
 
 -- a directive with a number
-abbrev pub count_said : Directive → Result ℤ LineFault → Said
-count_said d number = number_said (λ n. contents (item d n [])) None (up_to (most_of d) number)
+abbrev pub zeros_said : Fill → Result ℤ LineFault → Said
+zeros_said f number = number_said (λ n. contents (item (Zeros f) n [])) None (up_to (row_of f).most number)
 
 abbrev pub data_said : Directive → List ℕ → Said
+data_said (Zeros f) operands = zeros_said f (number_of operands)
 data_said (Values size) operands = values_said size operands
 data_said Ascii operands = text_said operands
 data_said Capability operands = said_unless (contents (item Capability 0 operands)) (capability_fault operands)
-data_said d operands = count_said d (number_of operands)
 
 -- what the lines of a text say of their data: values have a size, and no number is one that the directive refuses
 abbrev pub is_sized : Directive → Bool
@@ -282,4 +289,4 @@ said_by word operands =
     else (if is_word word (codes ".mode") then mode_said (number_of operands)
     else (if is_word word (codes ".entry") then entry_said (expression_of operands)
     else (if is_word word (codes ".org") then origin_said (number_of operands)
-    else placing_said (directive_in directives word) word operands)))))
+    else placing_said (directive_named word) word operands)))))

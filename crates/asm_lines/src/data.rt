@@ -2,29 +2,26 @@
 ghost use Rattle.std.specs.Prelude.{◌≡◌, IsTrue, IfSome};
 ghost use Rattle.asm_lines.specs.Number.{number_of};
 ghost use Rattle.asm_lines.specs.declared.parsed.Directive.TheVariants.{Capability};
-ghost use Rattle.asm_lines.specs.Statement.{is_size, is_sized, most_of, directives, directive_in, count_said, values_said, text_said};
-ghost use Rattle.asm_lines.specs.Statement.{data_said, contents, item, said_unless, capability_fault};
+ghost use Rattle.asm_lines.specs.Statement.{is_size, is_sized, directives, directive_in, directive_named, zeros_said, values_said};
+ghost use Rattle.asm_lines.specs.Statement.{text_said, data_said, contents, item, said_unless, capability_fault};
 ghost use Rattle.asm_lines.specs.Bounded.{IsBoundedIfAny};
 ghost use Rattle.asm_lines.specs.Seen.{seen_said};
 
 use crate::fault::LineFault;
+use crate::fills::fill_named;
 use crate::operand::natural;
-use crate::parsed::{Data, Directive, Statement};
+use crate::parsed::{Data, Directive, Fill, Statement};
 use crate::pattern::is_word;
 use crate::quoted::closes;
 use crate::statement::Said;
 use crate::values::{capability_fault, values_fault};
 
-/// The directive of a name, if it places bytes.
-pub(crate) fn directive_named(word: &[u8]) -> Option<Directive>
+/// The directive of a name, if it places bytes and takes no number alone.
+fn other_named(word: &[u8]) -> Option<Directive>
     ensures value { result ≡ directive_in directives word.now }
     ensures sized { IfSome result (λ d. IsTrue (is_sized d)) }
 {
-    if is_word(word, ".align") {
-        Some(Directive::Align)
-    } else if is_word(word, ".zero") {
-        Some(Directive::Zero)
-    } else if is_word(word, ".byte") {
+    if is_word(word, ".byte") {
         Some(Directive::Values(1))
     } else if is_word(word, ".half") {
         Some(Directive::Values(2))
@@ -41,28 +38,25 @@ pub(crate) fn directive_named(word: &[u8]) -> Option<Directive>
     }
 }
 
-impl Directive {
-    /// The greatest number that it takes.
-    fn most(self) -> u64
-        ensures { result ≡ most_of self }
-    {
-        match self {
-            Directive::Align => 12,
-            Directive::Zero => 268_435_456,
-            _ => 0,
-        }
+/// The directive of a name, if it places bytes.
+pub(crate) fn directive_named(word: &[u8]) -> Option<Directive>
+    ensures value { result ≡ directive_named word.now }
+    ensures sized { IfSome result (λ d. IsTrue (is_sized d)) }
+{
+    match fill_named(word) {
+        Some(fill) => Some(Directive::Zeros(fill)),
+        None => other_named(word),
     }
 }
 
 /// A directive with a number.
-fn count_said<'a>(directive: Directive, operands: &[u8]) -> Said<'a>
-    requires { IsTrue (is_sized directive) }
-    ensures value { seen_said result ≡ count_said directive (number_of operands.now) }
+fn zeros_said<'a>(fill: Fill, operands: &[u8]) -> Said<'a>
+    ensures value { seen_said result ≡ zeros_said fill (number_of operands.now) }
     ensures bounds { IsBoundedIfAny result.statement }
 {
-    match natural(operands, directive.most()) {
+    match natural(operands, fill.most()) {
         Ok(number) => Said::plain(Statement::Data(Data {
-            directive,
+            directive: Directive::Zeros(fill),
             number,
             text: &[],
         })),
@@ -123,9 +117,9 @@ pub(crate) fn data_said<'a>(directive: Directive, operands: &'a [u8]) -> Said<'a
     ensures bounds { IsBoundedIfAny result.statement }
 {
     match directive {
+        Directive::Zeros(fill) => zeros_said(fill, operands),
         Directive::Values(size) => values_said(size, operands),
         Directive::Ascii => text_said(operands),
         Directive::Capability => capability_said(operands),
-        _ => count_said(directive, operands),
     }
 }

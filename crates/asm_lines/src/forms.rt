@@ -2,26 +2,22 @@
 ghost use Rattle.std.specs.Prelude.{◌≡◌, [], ◌∷◌, drop, if◌then◌else◌, map, option_map};
 ghost use Rattle.isa_rows.specs.declared.rows.Row.TheVariants.{Addi};
 ghost use Rattle.asm_lines.specs.Number.{expression_of, number_of};
-ghost use Rattle.asm_lines.specs.Operand.{fault_of, filled_slot, ranged};
+ghost use Rattle.asm_lines.specs.Operand.{fault_of, filled_slot, within};
+ghost use Rattle.asm_lines.specs.Ranges.{is_within};
 ghost use Rattle.asm_lines.specs.Statement.{draft_of, plain as plain_pattern, value_fault};
 ghost use Rattle.asm_lines.specs.Seen.{seen_pattern};
 ghost use Rattle.asm_lines.specs.Forms as spec;
 ghost use Rattle.asm_lines.specs.SeenParts.{seen_form, seen_operand, seen_split};
 
 use crate::fault::LineFault;
+use crate::fills::fill_named;
 use crate::number::{expression, number};
 use crate::operand::{Draft, filled_slot};
 use crate::pattern::{Pattern, is_word, pattern_of, plain};
+use crate::ranges::{EVERY_NUMBER, Range, natural, slot_range};
 use asm_names::{Naming, Slot};
 use base::ram;
 use isa_rows::Row;
-
-/// The least and the greatest number that an operand can be.
-#[derive(Clone, Copy)]
-pub struct Range {
-    pub least: i128,
-    pub most: i128,
-}
 
 /// How an operand is written.
 #[derive(Clone, Copy)]
@@ -48,47 +44,15 @@ pub struct Operand {
 pub enum Form {
     /// Those of a row.
     Slots(&'static [Slot]),
+    /// One number in a range.
+    Number(Range),
     /// Operands, the last of which may be repeated.
     Listed(&'static [Operand], bool),
 }
 
-/// What all numbers lie between.
-const EVERY_NUMBER: Range = Range {
-    least: -0x8000_0000_0000_0000,
-    most: 0xffff_ffff_ffff_ffff,
-};
-
-const SIGNED: Range = Range {
-    least: -2048,
-    most: 2047,
-};
-
-const fn natural(most: u64) -> Range
-    ensures { result ≡ spec.natural most }
-{
-    Range {
-        least: 0,
-        most: most as i128,
-    }
-}
-
-/// The range of a row's operand; of one that is no number, that of all numbers.
-fn slot_range(slot: Slot) -> Range
-    ensures { result ≡ spec.slot_range slot }
-{
-    match slot {
-        Slot::Signed | Slot::Address(_) => SIGNED,
-        Slot::Unsigned(bits) if bits < 64 => natural((1u64 << bits) - 1),
-        Slot::Upper => natural(0xf_ffff),
-        Slot::Small | Slot::Special => natural(31),
-        Slot::Csr => natural(4095),
-        _ => EVERY_NUMBER,
-    }
-}
-
 /// What of a value its text decides: its form, and the range of a number.
 fn value_fault(range: Range, text: &[u8]) -> Option<LineFault>
-    ensures { result ≡ value_fault (spec.is_within range) (expression_of text.now) }
+    ensures { result ≡ value_fault (is_within range) (expression_of text.now) }
 {
     match expression(text) {
         Ok(value)
@@ -101,7 +65,7 @@ fn value_fault(range: Range, text: &[u8]) -> Option<LineFault>
 
 /// What of a number its text decides: its form, and its range.
 fn number_fault(range: Range, text: &[u8]) -> Option<LineFault>
-    ensures { result ≡ fault_of (ranged range.least range.most (number_of text.now)) }
+    ensures { result ≡ fault_of (within range (number_of text.now)) }
 {
     match number(text) {
         Ok(number) if number < range.least || number > range.most => Some(LineFault::A3),
@@ -184,6 +148,15 @@ fn slot_operand(slot: Slot) -> Operand
     }
 }
 
+fn number_operand(range: Range) -> Operand
+    ensures { seen_operand result ≡ spec.number_operand range }
+{
+    Operand {
+        word: "a number",
+        written: Written::Number(range),
+    }
+}
+
 // An operand: its word, and how it is written.
 macro_rules! operand {
     ($word:literal $written:ident $value:expr) => {
@@ -194,11 +167,7 @@ macro_rules! operand {
     };
 }
 
-// A number between two, and an expression whose value is.
-macro_rules! number {
-    ($least:expr, $most:expr) => { operand!("a number" Number Range { least: $least, most: $most }) };
-}
-
+// An expression whose value is between two numbers.
 macro_rules! value {
     ($word:literal, $least:expr, $most:expr) => { operand!($word Value Range { least: $least, most: $most }) };
 }
@@ -213,17 +182,12 @@ const LOADED_CAPABILITY: &'static [Operand] = &[
     operand!("expression" Value EVERY_NUMBER),
 ];
 
-const PAGES: &'static [Operand] = &[number!(1, ram::MOST_PAGES as i128)];
-
-const MODE: &'static [Operand] = &[number!(0, 1)];
+const PAGES: Range = Range {
+    least: 1,
+    most: ram::MOST_PAGES as i128,
+};
 
 const ENTRY: &'static [Operand] = &[operand!("an expression" Value EVERY_NUMBER)];
-
-const ORIGIN: &'static [Operand] = &[number!(0, 0xffff_ffff_ffff_ffff)];
-
-const ALIGNMENT: &'static [Operand] = &[number!(0, 12)];
-
-const ZEROS: &'static [Operand] = &[number!(0, 268_435_456)];
 
 const BYTES: &'static [Operand] = &[value!("one expression or more", -0x80, 0xff)];
 
@@ -245,11 +209,11 @@ const CAPABILITY: &'static [Operand] = &[
     value!("flag", 0, 1),
 ];
 
-// The operands of the first of these names that a word is, and else another answer.
+// What the first of these names that a word is is written with, and else another answer.
 macro_rules! named {
-    ($word:ident: $($name:literal $operands:ident $repeats:literal;)* else $other:expr) => {{
+    ($word:ident: $($name:literal $form:ident($($part:expr),*);)* else $other:expr) => {{
         $(if is_word($word, $name) {
-            return Some(Form::Listed($operands, $repeats));
+            return Some(Form::$form($($part),*));
         })*
         $other
     }};
@@ -257,33 +221,41 @@ macro_rules! named {
 
 /// What a directive with values or a text is written with.
 fn values_named(word: &[u8]) -> Option<Form>
-    ensures { option_map seen_form result ≡ spec.form_in (drop 8 spec.forms) word.now }
+    ensures { option_map seen_form result ≡ spec.form_in (drop 6 spec.forms) word.now }
 {
     named! { word:
-        ".byte" BYTES true;
-        ".half" HALVES true;
-        ".word" WORDS true;
-        ".dword" DOUBLE_WORDS true;
-        ".ascii" TEXT false;
-        ".cap" CAPABILITY false;
+        ".byte" Listed(BYTES, true);
+        ".half" Listed(HALVES, true);
+        ".word" Listed(WORDS, true);
+        ".dword" Listed(DOUBLE_WORDS, true);
+        ".ascii" Listed(TEXT, false);
+        ".cap" Listed(CAPABILITY, false);
         else None
+    }
+}
+
+/// What a mnemonic that is no row, and places no zeros by a number, is written with.
+fn listed_named(word: &[u8]) -> Option<Form>
+    ensures { option_map seen_form result ≡ spec.form_in spec.forms word.now }
+{
+    named! { word:
+        "la" Listed(LOADED, false);
+        "cla" Listed(LOADED_CAPABILITY, false);
+        ".pages" Number(PAGES);
+        ".mode" Number(natural(1));
+        ".entry" Listed(ENTRY, false);
+        ".org" Number(natural(u64::MAX));
+        else values_named(word)
     }
 }
 
 /// What a mnemonic that is no row is written with.
 fn form_named(word: &[u8]) -> Option<Form>
-    ensures { option_map seen_form result ≡ spec.form_in spec.forms word.now }
+    ensures { option_map seen_form result ≡ spec.form_named word.now }
 {
-    named! { word:
-        "la" LOADED false;
-        "cla" LOADED_CAPABILITY false;
-        ".pages" PAGES false;
-        ".mode" MODE false;
-        ".entry" ENTRY false;
-        ".org" ORIGIN false;
-        ".align" ALIGNMENT false;
-        ".zero" ZEROS false;
-        else values_named(word)
+    match fill_named(word) {
+        Some(fill) => Some(Form::Number(natural(fill.most()))),
+        None => listed_named(word),
     }
 }
 
@@ -330,6 +302,7 @@ impl Form {
                 let (slot, rest) = slots.split_first()?;
                 Some((slot_operand(*slot), Form::Slots(rest)))
             }
+            Form::Number(range) => Some((number_operand(range), Form::Listed(&[], false))),
             Form::Listed(operands, repeats) => {
                 let (operand, rest) = operands.split_first()?;
                 Some((*operand, later(operands, rest, repeats)))

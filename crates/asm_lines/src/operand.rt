@@ -13,6 +13,7 @@ use crate::class::Class;
 use crate::fault::LineFault;
 use crate::number::{expression, number};
 use crate::parsed::Expression;
+use crate::ranges::{MOST_CSR, MOST_REGISTER, MOST_UPPER, SIGNED, most_of};
 use crate::text::{after, before, trimmed};
 use asm_names::{Slot, csr_named, register_named, scr_named};
 use isa_rows::Insn;
@@ -69,25 +70,12 @@ pub fn natural(text: &[u8], most: u64) -> Result<u64, LineFault>
 fn signed(number: i128) -> Result<u64, LineFault>
     ensures { result ≡ wrapped_or (signed_12 (Ok number)) }
 {
-    if number < -2048 || number > 2047 {
+    if number < SIGNED.least || number > SIGNED.most {
         Err(LineFault::A3)
     } else if number < 0 {
         Ok(u64::MAX - (-1 - number) as u64)
     } else {
         Ok(number as u64)
-    }
-}
-
-/// A number of so many bits.
-#[tactic(auto, using(crate::proofs::Powers::wide))]
-fn unsigned(text: &[u8], bits: u32) -> Result<u64, LineFault>
-    ensures { result ≡ wrapped_or (up_to (2 ^ bits - 1) (number_of text.now)) }
-{
-    let number = number(text)?;
-    if bits < 64 {
-        at_most(number, (1 << bits) - 1)
-    } else {
-        at_most(number, u64::MAX)
     }
 }
 
@@ -110,7 +98,7 @@ fn csr(text: &[u8]) -> Result<u64, LineFault>
 {
     match csr_named(text) {
         Some(number) => Ok(u64::from(number)),
-        None => natural(text, 4095),
+        None => natural(text, MOST_CSR),
     }
 }
 
@@ -118,7 +106,7 @@ fn csr(text: &[u8]) -> Result<u64, LineFault>
 fn small(text: &[u8]) -> Result<u8, LineFault>
     ensures { result ≡ wrapped_or (up_to 31 (number_of text.now)) }
 {
-    Ok(natural(text, 31)? as u8)
+    Ok(natural(text, MOST_REGISTER)? as u8)
 }
 
 /// The number of a special capability register, by name or as a number.
@@ -181,8 +169,8 @@ pub(crate) fn filled_slot<'a>(
         Slot::Rs1(_) => insn.rs1 = register(text)?,
         Slot::Rs2(_) => insn.rs2 = register(text)?,
         Slot::Signed => insn.imm = signed(number(text)?)?,
-        Slot::Unsigned(bits) => insn.imm = unsigned(text, bits)?,
-        Slot::Upper => insn.imm = upper(natural(text, 0xFFFFF)?),
+        Slot::Unsigned(bits) => insn.imm = natural(text, most_of(bits))?,
+        Slot::Upper => insn.imm = upper(natural(text, MOST_UPPER)?),
         Slot::Small => insn.rs1 = small(text)?,
         Slot::Csr => insn.imm = csr(text)?,
         Slot::Special => insn.rs2 = special(text)?,

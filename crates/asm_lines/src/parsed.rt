@@ -47,13 +47,20 @@ pub enum Setting<'a> {
     Entry(Expression<'a>),
 }
 
+/// A directive that places zeros, by a number.
+#[derive(Clone, Copy, Debug, PartialEq, Eq)]
+pub enum Fill {
+    /// `.align`: up to a multiple of two to the power of its number.
+    Align,
+    /// `.zero`: so many as its number says.
+    Zero,
+}
+
 /// A directive that places bytes.
 #[derive(Clone, Copy, Debug, PartialEq, Eq)]
 pub enum Directive {
-    /// `.align`: zeros up to a multiple of two to the power of its number.
-    Align,
-    /// `.zero`: so many zeros as its number says.
-    Zero,
+    /// Zeros, by a number.
+    Zeros(Fill),
     /// `.byte`, `.half`, `.word`, `.dword`: values of so many bytes (1, 2, 4 or 8), expressions with commas between.
     Values(u8),
     /// `.ascii`: the bytes of a text between quotes.
@@ -66,7 +73,7 @@ pub enum Directive {
 #[derive(Clone, Copy, Debug, PartialEq, Eq)]
 pub struct Data<'a> {
     pub directive: Directive,
-    /// The number after `.align` (0 to 12) and `.zero` (0 to 268435456); 0 after another directive.
+    /// The number of a directive that places zeros, at most that of its row; 0 after another directive.
     pub number: u64,
     /// The operands of a directive that has no number; of a text, what stands between the quotes, with its escapes.
     pub text: &'a [u8],
@@ -77,7 +84,7 @@ pub struct Data<'a> {
 pub struct Parsed<'a> {
     /// The name that the line defines.
     pub label: Option<&'a [u8]>,
-    /// The statement, unless the line has none, or a fault leaves none: A1, A2, A8, A9, and A3 of `.org`, `.align` and `.zero`.
+    /// The statement, unless the line has none, or a fault leaves none: A1, A2, A8, A9, and A3 of `.org` and of a [`Fill`].
     pub statement: Option<Statement<'a>>,
     /// The first fault that the line alone decides.
     pub fault: Option<LineFault>,

@@ -3,7 +3,7 @@ ghost use Rattle.std.specs.Prelude.{◌≡◌, ◌<◌, Some, None, option_map, 
 ghost use Rattle.asm_lines.specs.Text.{pieces_of};
 ghost use Rattle.asm_lines.specs.Number.{number_of, expression_of};
 ghost use Rattle.asm_lines.specs.Statement.{said, said_unless, pattern_said, load_said, register_load, entry_said, pages_said};
-ghost use Rattle.asm_lines.specs.Statement.{mode_said, origin_said, directives, directive_in, placing_said, said_by};
+ghost use Rattle.asm_lines.specs.Statement.{mode_said, origin_said, directive_named, placing_said, said_by};
 ghost use Rattle.asm_lines.specs.Seen.{seen_statement, seen_result};
 ghost use Rattle.asm_lines.specs.Bounded.{HasOffset, IsBounded, IsBoundedIfAny};
 ghost use Rattle.asm_lines.specs.Seen.{seen_pattern, seen_said};
@@ -186,7 +186,7 @@ fn origin_said<'a>(operands: &[u8]) -> Said<'a>
 
 /// What a directive that places bytes, or else an instruction, and its operands say.
 fn placing_said<'a>(word: &[u8], operands: &'a [u8]) -> Said<'a>
-    ensures value { seen_said result ≡ placing_said (directive_in directives word.now) word.now operands.now }
+    ensures value { seen_said result ≡ placing_said (directive_named word.now) word.now operands.now }
     ensures bounds { IsBoundedIfAny result.statement }
 {
     match directive_named(word) {

@@ -36,7 +36,7 @@ pub(crate) fn trimmed(text: &[u8]) -> &[u8]
 }
 
 /// What stands before the first byte that is not of a kind.
-pub(crate) fn before(text: &[u8], class: Class) -> &[u8]
+pub fn before(text: &[u8], class: Class) -> &[u8]
     ensures value { result.now ≡ take (prefix_len (is_in class) text.now) text.now }
     ensures bound { length result.now ≤ length text.now }
 {
@@ -44,7 +44,7 @@ pub(crate) fn before(text: &[u8], class: Class) -> &[u8]
 }
 
 /// What stands after the first byte that is not of a kind; nothing where there is none.
-pub(crate) fn after(text: &[u8], class: Class) -> &[u8]
+pub fn after(text: &[u8], class: Class) -> &[u8]
     ensures value { result.now ≡ drop (prefix_len (is_in class) text.now + 1) text.now }
     ensures bound { length result.now ≤ length text.now }
 {

@@ -1,5 +1,6 @@
 ghost use Rattle.std.specs.Prelude.{◌≡◌, ◌<◌, IfSome, map, option_map};
-ghost use Rattle.asm_names.specs.SpecialNames.{csr_name as csr_name_of, csr_named as csr_of, scr_name as scr_name_of, scr_named as scr_of, number_in, name_in};
+ghost use Rattle.asm_names.specs.SpecialNames.{csr_name as csr_name_of, csr_named as csr_of, number_in, name_in};
+ghost use Rattle.asm_names.specs.SpecialNames.{scr_name as scr_name_of, scr_named as scr_of};
 
 use base::{CSRS, SPECIAL_REGISTERS};
 

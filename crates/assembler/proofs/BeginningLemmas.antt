@@ -14,7 +14,7 @@ use Rattle.asm_lines.specs.declared.fault.LineFault.TheVariants as line
 use Rattle.asm_lines.specs.Text.{is_dot, is_foreign, pieces_of}
 use Rattle.asm_lines.specs.Number.{Expression}
 use Rattle.asm_lines.specs.Operand.{wrapped}
-use Rattle.asm_lines.specs.declared.parsed.Directive.TheVariants.{Align, Zero, Values, Ascii, Capability}
+use Rattle.asm_lines.specs.declared.parsed.Directive.TheVariants.{Zeros, Values, Ascii, Capability}
 use Rattle.asm_lines.specs.Statement.{Statement, instruction, setting, origin, contents, row, load, pages, mode, entry, item}
 use Rattle.asm_lines.specs.Statement.{capability_parts, said}
 use Rattle.asm_lines.specs.Line.{Line, labelled, line_meaning}
@@ -120,8 +120,7 @@ unfolding is_inexact
 inexact-same t u here (instruction i) same = refl
 inexact-same t u here (setting s) same = refl
 inexact-same t u here (origin n) same = refl
-inexact-same t u here (contents (item Align n operands)) same = refl
-inexact-same t u here (contents (item Zero n operands)) same = refl
+inexact-same t u here (contents (item (Zeros f) n operands)) same = refl
 inexact-same t u here (contents (item (Values size) n operands)) same = refl
 inexact-same t u here (contents (item Ascii n operands)) same = refl
 inexact-same t u here (contents (item Capability n operands)) same =
@@ -165,8 +164,7 @@ statement-same t u s (setting (pages n)) same = refl
 statement-same t u s (setting (mode m)) same = refl
 statement-same t u s (setting (entry e)) same = let value = same.0 in rw value refl
 statement-same t u s (origin n) same = refl
-statement-same t u s (contents (item Align n operands)) same = refl
-statement-same t u s (contents (item Zero n operands)) same = refl
+statement-same t u s (contents (item (Zeros f) n operands)) same = refl
 statement-same t u s (contents (item (Values size) n operands)) same =
     let bytes = values-same t u s.places.place size (pieces_of operands) same in
     rw bytes refl

@@ -26,7 +26,7 @@ use Rattle.asm_lines.specs.Text.{pieces_of}
 use Rattle.asm_lines.specs.Operand.{wrapped}
 use Rattle.asm_lines.specs.Number.{expression_of}
 use Rattle.asm_lines.specs.Statement.{Statement, instruction, setting, origin, contents, Instruction, row, load, pages, mode, entry, Data}
-use Rattle.asm_lines.specs.declared.parsed.Directive.TheVariants.{Align, Zero, Values, Ascii, Capability}
+use Rattle.asm_lines.specs.declared.parsed.Directive.TheVariants.{Zeros, Values, Ascii, Capability}
 use Rattle.asm_lines.specs.Statement.{item, expression_or_nought}
 use Rattle.asm_lines.specs.Line.{Line}
 use Rattle.assembler.specs.Places.{Symbols, zero_count, instruction_size, data_size, size_at, end_of, end_after}
@@ -78,8 +78,7 @@ instruction-length symbols here (row i target) = refl
 instruction-length symbols here (load capability rd value) = refl
 
 data-length : (symbols : Symbols) (here : ℕ) (d : Data) → length (data_bytes symbols here d) ≡ data_size d here
-data-length symbols here (item Align n operands) = length-replicate (zero_count Align here n) 0
-data-length symbols here (item Zero n operands) = length-replicate n 0
+data-length symbols here (item (Zeros f) n operands) = length-replicate (zero_count (Zeros f) here n) 0
 data-length symbols here (item (Values size) n operands) = length-values symbols here size (pieces_of operands)
 data-length symbols here (item Ascii n between) = refl
 data-length symbols here (item Capability n operands) = length-replicate {A = ℕ} 16 0
@@ -218,8 +217,7 @@ place-fits count place h g = omega (arith, h, g)
 
 put-data : (symbols : Symbols) (s : Assembled) (d : Directive) (n : ℕ) (operands : List ℕ) → IsBuildable s
     → IsFaultless symbols s (contents (item d n operands)) → IsPutThere symbols s.places.place (contents (item d n operands))
-put-data symbols s Align n operands b f = (tt, tt)
-put-data symbols s Zero n operands b f = (tt, tt)
+put-data symbols s (Zeros fill) n operands b f = (tt, tt)
 put-data symbols s (Values size) n operands b f = (tt, tt)
 put-data symbols s Ascii n operands b f = (tt, tt)
 put-data symbols s Capability n operands b f =
@@ -276,8 +274,7 @@ data-kept : (symbols : Symbols) (s : Assembled) (d : Directive) (n : ℕ) (opera
     → AreKept s (bytes_at symbols s.places.place (contents (item d n operands)))
     (with_capability symbols s.places.place (capability_in (contents (item d n operands))) s.capabilities)
 unfolding bytes_at
-data-kept symbols s Align n operands b f = same-kept s _ b
-data-kept symbols s Zero n operands b f = same-kept s _ b
+data-kept symbols s (Zeros fill) n operands b f = same-kept s _ b
 data-kept symbols s (Values size) n operands b f = same-kept s _ b
 data-kept symbols s Ascii n operands b f = same-kept s _ b
 data-kept symbols s Capability n operands b f = one-kept symbols s _ n operands b f (length-replicate {A = ℕ} 16 0)

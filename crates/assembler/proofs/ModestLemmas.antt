@@ -12,12 +12,15 @@ use Rattle.asm_lines.specs.Text.{trimmed, uncommented, label_of, statement_text,
 use Rattle.asm_lines.specs.Number.{Expression, number_of, expression_of}
 use Rattle.asm_lines.specs.Operand.{up_to, wrapped, filled_draft, filled_fault}
 use Rattle.asm_lines.specs.declared.parsed.Directive.{Directive}
-use Rattle.asm_lines.specs.declared.parsed.Directive.TheVariants.{Align, Zero, Values, Ascii, Capability}
+use Rattle.asm_lines.specs.declared.parsed.Directive.TheVariants.{Zeros, Values, Ascii, Capability}
+use Rattle.asm_lines.specs.declared.parsed.Fill.{Fill}
+use Rattle.asm_lines.specs.declared.parsed.Fill.TheVariants as fill
+use Rattle.asm_lines.specs.Fills.{row_of, fill_named}
 use Rattle.asm_lines.specs.Statement.{Statement, instruction, setting, origin, contents, row, load, pages, mode, entry, item}
-use Rattle.asm_lines.specs.Statement.{values, is_sized, most_of, Said, said, said_by, is_word, Pattern, pattern_of, pattern_said, draft_of}
+use Rattle.asm_lines.specs.Statement.{values, is_sized, Said, said, said_by, is_word, Pattern, pattern_of, pattern_said, draft_of}
 use Rattle.asm_lines.specs.Statement.{said_unless, leaves_statement, register_load, load_said, number_said, page_range, pages_said}
-use Rattle.asm_lines.specs.Statement.{mode_said, origin_said, entry_said, values_said, values_fault, count_said, data_said, directives}
-use Rattle.asm_lines.specs.Statement.{directive_in, placing_said, capability_fault, is_quoted, is_size, expression_or_nought}
+use Rattle.asm_lines.specs.Statement.{mode_said, origin_said, entry_said, values_said, values_fault, zeros_said, data_said, directives}
+use Rattle.asm_lines.specs.Statement.{directive_in, placing_said, capability_fault, is_quoted, is_size, expression_or_nought, directive_or}
 use Rattle.asm_lines.specs.Line.{Line, line_meaning, line_said, line_of_text, labelled}
 use Rattle.assembler.proofs.TestLemmas.{both-true, not-below}
 use Rattle.assembler.specs.Modest.{is_modest, is_modest_or_none, is_modest_line}
@@ -68,16 +71,25 @@ number-modest make other (Err fault) f h = other-modest other fault h
 count-within : (n most : ℕ) → most < 2 ^ 64 → (nat_lt n 0 || nat_lt most n) ≡ false → nat_le (n % 2 ^ 64) most ≡ true
 count-within n most h e = grind (arith, nat_tests)
 
-count-modest : (d : Directive) (r : Result ℤ LineFault) → is_sized d ≡ true → most_of d < 2 ^ 64 → IsModest (count_said d r)
-count-modest d (Ok (pos n)) h small =
-    elim (nat_lt n 0 || nat_lt (most_of d) n) as
-    (λ b. (nat_lt n 0 || nat_lt (most_of d) n) ≡ b
-    → IsModest (number_said (λ m. contents (item d m [])) None (if b then Err A3 else Ok (pos n)))) [
+-- the first row stands there so that the others are tried one by one
+most-small : (f : Fill) → nat_lt (row_of f).most (2 ^ 64) ≡ true
+most-small fill.Align = refl
+most-small _ = refl
+
+most-below : (f : Fill) → (row_of f).most < 2 ^ 64
+most-below f = let small = most-small f in grind (arith, nat_tests)
+
+zeros-modest : (f : Fill) (r : Result ℤ LineFault) → IsModest (zeros_said f r)
+zeros-modest f (Ok (pos n)) =
+    let most = (row_of f).most in
+    elim (nat_lt n 0 || nat_lt most n) as
+    (λ b. (nat_lt n 0 || nat_lt most n) ≡ b
+    → IsModest (number_said (λ m. contents (item (Zeros f) m [])) None (if b then Err A3 else Ok (pos n)))) [
       | true ↦ λ e. refl
-      | false ↦ λ e. both-true _ true (both-true _ _ h (count-within n (most_of d) small e)) refl
+      | false ↦ λ e. both-true _ true (both-true _ _ refl (count-within n most (most-below f) e)) refl
     ] refl
-count-modest d (Ok (negsuc n)) h small = refl
-count-modest d (Err fault) h small = other-modest None fault refl
+zeros-modest f (Ok (negsuc n)) = refl
+zeros-modest f (Err fault) = other-modest None fault refl
 
 entry-modest : (x : Result Expression LineFault) → IsModest (entry_said x)
 entry-modest (Ok x) = refl
@@ -108,8 +120,7 @@ one-modest true s t f g = f
 one-modest false s t f g = g
 
 data-modest : (d : Directive) (operands : List ℕ) → is_sized d ≡ true → length operands ≤ 255 → IsModest (data_said d operands)
-data-modest Align operands h g = count-modest Align (number_of operands) refl (omega arith)
-data-modest Zero operands h g = count-modest Zero (number_of operands) refl (omega arith)
+data-modest (Zeros f) operands h g = zeros-modest f (number_of operands)
 data-modest (Values size) operands h g = values-modest size operands h g
 data-modest Ascii operands h g =
     quoted-modest (is_quoted operands) (take (length operands - 2) (drop 1 operands))
@@ -128,6 +139,11 @@ placing-modest (d ∷ ds) word operands h g =
     (λ b. IsModest (placing_said (if b then Some d.1 else directive_in ds word) word operands))
     [ true ↦ data-modest d.1 operands h.0 g | false ↦ placing-modest ds word operands h.1 g ]
 
+named-modest : (f : Option Fill) (word operands : List ℕ) → length operands ≤ 255
+    → IsModest (placing_said (directive_or f (directive_in directives word)) word operands)
+named-modest (Some f) word operands g = data-modest (Zeros f) operands refl g
+named-modest None word operands g = placing-modest directives word operands (refl, (refl, (refl, (refl, (refl, (refl, tt)))))) g
+
 said-modest : (word operands : List ℕ) → length operands ≤ 255 → IsModest (said_by word operands)
 unfolding said_by
 said-modest word operands short-enough =
@@ -140,7 +156,7 @@ said-modest word operands short-enough =
     (number-modest (λ m. setting (mode (m == 1))) (Some (setting (mode false))) (up_to 1 n) (λ _. refl) refl) (
     one-modest (is_word word (codes ".entry")) (entry_said (expression_of operands)) _ (entry-modest (expression_of operands)) (
     one-modest (is_word word (codes ".org")) (origin_said n) _ (number-modest origin None (up_to (2 ^ 64 - 1) n) (λ _. refl) refl) (
-    placing-modest directives word operands (refl, (refl, (refl, (refl, (refl, (refl, (refl, (refl, tt)))))))) short-enough))))))
+    named-modest (fill_named word) word operands short-enough))))))
 
 operands-shorter : (statement : List ℕ) → length (operands_of statement) ≤ length statement
 operands-shorter statement =

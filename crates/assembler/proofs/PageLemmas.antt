@@ -10,11 +10,12 @@ use Rattle.asm_lines.specs.Text.{pieces_of, is_foreign, trimmed, uncommented, la
 use Rattle.asm_lines.specs.Number.{Expression, number_of, expression_of}
 use Rattle.asm_lines.specs.Operand.{up_to, wrapped, filled_draft, filled_fault}
 use Rattle.asm_lines.specs.declared.parsed.Directive.{Directive}
-use Rattle.asm_lines.specs.declared.parsed.Directive.TheVariants.{Align, Zero, Values, Ascii, Capability}
+use Rattle.asm_lines.specs.declared.parsed.Directive.TheVariants.{Zeros, Values, Ascii, Capability}
+use Rattle.asm_lines.specs.Fills.{row_of}
 use Rattle.asm_lines.specs.Statement.{Statement, instruction, setting, origin, contents, row, pages, mode, item, values, Said}
 use Rattle.asm_lines.specs.Statement.{said, said_by, is_word, Pattern, pattern_of, pattern_said, draft_of, said_unless, register_load}
-use Rattle.asm_lines.specs.Statement.{load_said, number_said, pages_said, mode_said, origin_said, entry_said, most_of, data_said}
-use Rattle.asm_lines.specs.Statement.{values_said, values_fault, directives, directive_in, placing_said, capability_fault, is_quoted}
+use Rattle.asm_lines.specs.Statement.{load_said, number_said, pages_said, mode_said, origin_said, entry_said, data_said}
+use Rattle.asm_lines.specs.Statement.{values_said, values_fault, directive_named, placing_said, capability_fault, is_quoted}
 use Rattle.asm_lines.specs.Line.{Line, line_meaning, line_said, line_of_text, labelled}
 use Rattle.assembler.specs.Buildable.{is_paged, is_paged_unless, is_paged_line}
 
@@ -76,8 +77,8 @@ quoted-paged true between = refl
 quoted-paged false between = refl
 
 data-paged : (d : Directive) (operands : List ℕ) → IsPaged (data_said d operands)
-data-paged Align operands = number-paged (λ n. contents (item Align n [])) None (up_to (most_of Align) (number_of operands)) (λ _. refl)
-data-paged Zero operands = number-paged (λ n. contents (item Zero n [])) None (up_to (most_of Zero) (number_of operands)) (λ _. refl)
+data-paged (Zeros f) operands =
+    number-paged (λ n. contents (item (Zeros f) n [])) None (up_to (row_of f).most (number_of operands)) (λ _. refl)
 data-paged (Values size) operands = values-paged size operands
 data-paged Ascii operands = quoted-paged (is_quoted operands) (take (length operands - 2) (drop 1 operands))
 data-paged Capability operands = unless-paged (contents (item Capability 0 operands)) (capability_fault operands) refl
@@ -101,7 +102,7 @@ said-paged word operands =
     (number-paged (λ m. setting (mode (m == 1))) (Some (setting (mode false))) (up_to 1 n) (λ _. refl)) (
     one-paged (is_word word (codes ".entry")) (entry_said (expression_of operands)) _ (entry-paged (expression_of operands)) (
     one-paged (is_word word (codes ".org")) (origin_said n) _ (number-paged origin None (up_to (2 ^ 64 - 1) n) (λ _. refl)) (
-    placing-paged (directive_in directives word) word operands))))))
+    placing-paged (directive_named word) word operands))))))
 
 line_said-paged : (label : Option (List ℕ)) (statement : List ℕ) → is_paged_line (line_said label statement) ≡ true
 line_said-paged label [] = refl

@@ -17,7 +17,7 @@ use Rattle.asm_lines.specs.declared.parsed.Statement.TheVariants as read
 use Rattle.asm_lines.specs.declared.parsed.Instruction.TheVariants.{Row, Load}
 use Rattle.asm_lines.specs.declared.parsed.Setting.TheVariants.{Entry}
 use Rattle.asm_lines.specs.declared.parsed.Directive.{Directive}
-use Rattle.asm_lines.specs.declared.parsed.Directive.TheVariants.{Align, Zero, Values, Ascii, Capability}
+use Rattle.asm_lines.specs.declared.parsed.Directive.TheVariants.{Zeros, Values, Ascii, Capability}
 use Rattle.asm_lines.specs.Text.{pieces_of}
 use Rattle.asm_lines.specs.Number.{is_in_limits}
 use Rattle.asm_lines.specs.Operand.{wrapped}
@@ -149,8 +149,7 @@ limited-parts operands = (
 )
 
 limited-data : (d : Directive) (number : ℕ) (operands : List ℕ) → is_sized d ≡ true → AreLimited (asked_by_data (item d number operands))
-limited-data Align number operands h = tt
-limited-data Zero number operands h = tt
+limited-data (Zeros f) number operands h = tt
 limited-data (Values size) number operands h = limited-values size (pieces_of operands) h
 limited-data Ascii number operands h = tt
 limited-data Capability number operands h = limited-parts operands
@@ -249,8 +248,7 @@ known-parts : (page_count : ℕ) (symbols : Symbols) (here : ℕ) (d : Directive
     → named_fault page_count symbols here (contents (item d n operands)) ≡ None
     → ArePartsKnown symbols here (capability_in (contents (item d n operands)))
 unfolding named_fault has_value_beyond has_unknown_name
-known-parts page_count symbols here Align n operands h = tt
-known-parts page_count symbols here Zero n operands h = tt
+known-parts page_count symbols here (Zeros f) n operands h = tt
 known-parts page_count symbols here (Values size) n operands h = tt
 known-parts page_count symbols here Ascii n operands h = tt
 known-parts page_count symbols here Capability n operands h =

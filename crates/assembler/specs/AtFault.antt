@@ -1,21 +1,23 @@
 -- What a fault is about: the operand that has it and its range, the part of the line, and what is known of it.
 use Rattle.std.specs.Prelude.{ℕ, ◌-◌, ◌^◌, Bool, true, false, not, ◌==◌, if◌then◌else◌, ℤ, pos, neg_ℤ, ◌-ℤ◌, List, [], ◌∷◌, length}
-use Rattle.std.specs.Prelude.{Option, Some, None, option_map, unwrap_or, Result, Ok, Err, codes}
+use Rattle.std.specs.Prelude.{Option, Some, None, option_map, unwrap_or, codes}
 use Rattle.std.specs.Option.{option_map_or}
 use Rattle.isa_rows.specs.declared.slots.Slot.TheVariants.{Target}
 use Rattle.isa_rows.specs.Line.{line_of}
 use Rattle.asm_lines.specs.declared.fault.LineFault.{LineFault}
 use Rattle.asm_lines.specs.declared.fault.LineFault.TheVariants as own
-use Rattle.asm_lines.specs.declared.forms.Range.{Range}
+use Rattle.asm_lines.specs.declared.ranges.Range.{Range}
 use Rattle.asm_lines.specs.declared.forms.Written.{Written}
 use Rattle.asm_lines.specs.declared.forms.Written.TheVariants as written
 use Rattle.asm_lines.specs.declared.parsed.Directive.TheVariants.{Capability}
-use Rattle.asm_lines.specs.Forms.{Form, form_of, is_within, operand_fault, range, range_of, split_form}
+use Rattle.asm_lines.specs.Forms.{Form, form_of, operand_fault, range_of, split_form}
+use Rattle.asm_lines.specs.Ranges.{every_number, is_within, range}
 use Rattle.asm_lines.specs.Line.{line_meaning}
 use Rattle.asm_lines.specs.Number.{Expression, expression_of}
 use Rattle.asm_lines.specs.Operand.{is_A2, wrapped}
 use Rattle.asm_lines.specs.Parts.{Part, Parts, operand_parts, parts_of}
 use Rattle.asm_lines.specs.Statement.{Statement, instruction, setting, contents, row, load, entry, item, is_word}
+use Rattle.asm_lines.specs.Statement.{expression_or_nought}
 use Rattle.assembler.specs.declared.fault.AsmCode.{AsmCode}
 use Rattle.assembler.specs.declared.fault.AsmCode.TheVariants.{A1, A2, A3, A4, A5, A6, A7, A11}
 use Rattle.assembler.specs.declared.misplaced.Misplaced.{Misplaced}
@@ -28,13 +30,12 @@ use Rattle.assembler.specs.Standing.{Standing}
 use Rattle.assembler.specs.Values.{value_of, reach_of, part_of}
 use Rattle.assembler.specs.Worth.{worth}
 
--- what an expression of the faulty line is worth; what cannot be read is worth nothing
+-- what an expression of the faulty line is worth, and what a text is as one (0 where it cannot be read)
 abbrev pub worth_at : Standing → Expression → Worth
 worth_at s e = worth (value_of s.symbols s.assembled.places.place e)
 
-abbrev pub worth_read : Standing → Result Expression LineFault → Worth
-worth_read s (Ok e) = worth_at s e
-worth_read s (Err fault) = Unknown
+abbrev pub worth_read : Standing → List ℕ → Worth
+worth_read s text = worth_at s (expression_or_nought (expression_of text))
 
 -- its value as a number; 0 where it is unknown or beyond all numbers
 abbrev pub number : Worth → ℤ
@@ -59,9 +60,8 @@ is_A3 other = false
 abbrev pub has_fault : AsmCode → Option LineFault → Standing → Written → List ℕ → Bool
 has_fault code (Some own.A2) s w text = is_A2 (operand_fault w text)
 has_fault code (Some other) s w text = is_A3 (operand_fault w text)
-has_fault code None s (written.Slot (Target bits)) text =
-    is_faulty code (range_of (written.Slot (Target bits))) (worth_read s (expression_of text))
-has_fault code None s (written.Value r) text = is_faulty code r (worth_read s (expression_of text))
+has_fault code None s (written.Slot (Target bits)) text = is_faulty code every_number (worth_read s text)
+has_fault code None s (written.Value r) text = is_faulty code r (worth_read s text)
 has_fault code None s other text = false
 
 -- the range of the first such operand, and the part of the line where it is written
@@ -128,7 +128,7 @@ misplaced_if_any s (Some statement) = misplaced s statement
 abbrev pub reason_at_fault : AsmCode → Standing → List ℕ → Option Reason
 reason_at_fault A2 s line = Some (form_reason (is_A2 (line_meaning line).fault) (parts_of line).mnemonic.text)
 reason_at_fault A3 s line = option_map
-    (λ found. range_reason (line_meaning line).fault (worth_read s (expression_of found.1.text)) found.0)
+    (λ found. range_reason (line_meaning line).fault (worth_read s found.1.text) found.0)
     (operand_at_fault A3 s line)
 reason_at_fault A6 s line = value_reason s (line_meaning line).statement
 reason_at_fault A7 s line = option_map

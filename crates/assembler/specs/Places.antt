@@ -1,12 +1,13 @@
 -- Where the statements of a text stand, and what its labels are worth. Places are whole numbers and exist in faulty texts too.
 use Rattle.base.specs.Ram.{ram_base}
-use Rattle.std.specs.Prelude.{ℕ, ◌+◌, ◌-◌, ◌*◌, ◌/◌, ◌^◌, nat_eq, if◌then◌else◌, List, [], ◌∷◌, ◌++◌, map, length, Option, Some, None}
+use Rattle.std.specs.Prelude.{ℕ, ◌+◌, ◌*◌, nat_eq, if◌then◌else◌, List, [], ◌∷◌, ◌++◌, map, length, Option, Some, None}
 use Rattle.std.specs.Prelude.{is_some, ◌==◌}
 use Rattle.std.specs.List.{slice_split}
 use Rattle.std.specs.Cmp.Lexicographic.{pointwise}
 use Rattle.asm_lines.specs.Text.{pieces_of}
 use Rattle.asm_lines.specs.declared.parsed.Directive.{Directive}
-use Rattle.asm_lines.specs.declared.parsed.Directive.TheVariants.{Align, Zero, Values, Ascii, Capability}
+use Rattle.asm_lines.specs.declared.parsed.Directive.TheVariants.{Zeros, Values, Ascii, Capability}
+use Rattle.asm_lines.specs.Fills.{row_of}
 use Rattle.asm_lines.specs.Statement.{Statement, instruction, setting, origin, contents, Instruction, row, load, Data, item, text_bytes}
 use Rattle.asm_lines.specs.Line.{Line, line_meaning}
 
@@ -22,10 +23,6 @@ abbrev pub value_in : Symbols → List ℕ → Option ℕ
 value_in [] name = None
 value_in (s ∷ ss) name = if pointwise nat_eq name s.0 then Some s.1 else value_in ss name
 
--- the next multiple of a power of two
-abbrev pub aligned : ℕ → ℕ → ℕ
-aligned place bits = (place + 2 ^ bits - 1) / 2 ^ bits * 2 ^ bits
-
 -- the number of bytes that a statement at a place takes
 abbrev pub instruction_size : Instruction → ℕ
 instruction_size (row i target) = 4
@@ -33,8 +30,7 @@ instruction_size (load capability rd value) = 8
 
 -- the zeros that a directive places, by its place and its number
 abbrev pub zero_count : Directive → ℕ → ℕ → ℕ
-zero_count Align place n = aligned place n - place
-zero_count Zero place n = n
+zero_count (Zeros f) place n = (row_of f).count place n
 zero_count Capability place n = 16
 zero_count other place n = 0
 

@@ -1,13 +1,13 @@
 //! What a fault is about: the operand that has it, the part of the line, and what is known of it.
 ghost use Rattle.std.specs.Prelude.{◌≡◌, ◌≤◌, IfSome, IsTrue, option_map};
 ghost use Rattle.asm_lines.specs.Line.{line_meaning};
-ghost use Rattle.asm_lines.specs.Number.{expression_of, is_in_limits};
+ghost use Rattle.asm_lines.specs.Number.{is_in_limits};
 ghost use Rattle.asm_lines.specs.Parts.{parts_left};
 ghost use Rattle.asm_lines.specs.Seen.{seen_expression, seen_statement};
 ghost use Rattle.asm_lines.specs.SeenParts.{HasRoom, seen_form, seen_part};
 ghost use Rattle.assembler.specs.AtFault as spec;
 
-use crate::checks::{distance, part_of, reach_of};
+use crate::checks::{distance, operand, part_of, reach_of};
 use crate::fault::AsmCode;
 use crate::lines::read;
 use crate::reason::Reason;
@@ -15,7 +15,7 @@ use crate::standing::Standing;
 use crate::values::{Worth, value};
 use asm_lines::{
     Directive, Expression, Form, Instruction, LineFault, Part, Range, Setting, Statement, Written,
-    expression, form_of, is_word, parts_of, wrapped,
+    form_of, is_word, parts_of, wrapped,
 };
 use isa_rows::Slot;
 
@@ -69,16 +69,6 @@ impl Standing {
         value(&self.labels, self.builder.place(), expression)
     }
 
-    /// What an operand is worth; a text that is no expression is worth nothing.
-    fn worth_read(&self, text: &[u8]) -> Worth
-        ensures { result ≡ spec.worth_read self.now (expression_of text.now) }
-    {
-        match expression(text) {
-            Ok(expression) => self.worth(&expression),
-            Err(_) => Worth::Unknown,
-        }
-    }
-
     /// The value of an expression of the faulty line; 0 where it is unknown or beyond all numbers.
     fn number(&self, expression: &Expression<'_>) -> i128
         ensures value { result ≡ spec.number (spec.worth_at self.now (seen_expression expression.now)) }
@@ -104,7 +94,7 @@ impl Standing {
             (Some(LineFault::A2), _) => matches!(written.fault(text), Some(LineFault::A2)),
             (Some(_), _) => matches!(written.fault(text), Some(LineFault::A3)),
             (None, Written::Slot(Slot::Target(_)) | Written::Value(_)) => {
-                is_faulty(code, written.range(), self.worth_read(text))
+                is_faulty(code, written.range(), self.worth(&operand(text)))
             }
             _ => false,
         }
@@ -161,7 +151,7 @@ impl Standing {
         ensures { result ≡ spec.reason_at_fault AsmCode.A3 self.now line.now }
     {
         let (range, part) = self.operand_at_fault(AsmCode::A3, line)?;
-        match (read(line).fault, self.worth_read(part.text)) {
+        match (read(line).fault, self.worth(&operand(part.text))) {
             (None, Worth::Known(value)) => Some(Reason::Value(value, range)),
             _ => Some(Reason::Number(range)),
         }

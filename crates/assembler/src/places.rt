@@ -2,11 +2,12 @@
 ghost use Rattle.std.specs.Prelude.{◌≡◌, ◌+◌, ◌*◌, ◌<◌, ◌≤◌, ◌^◌, length, IsTrue, OnOk};
 ghost use Rattle.asm_lines.specs.Seen.{seen_instruction, seen_data, seen_statement, seen_line};
 ghost use Rattle.asm_lines.specs.Statement.{text_bytes, most_of};
+ghost use Rattle.asm_lines.specs.Fills.{aligned, row_of};
 ghost use Rattle.assembler.specs.Modest.{is_modest_data, is_modest, is_modest_line, IsNear};
-ghost use Rattle.assembler.specs.Places.{aligned, instruction_size, zero_count, data_size, size_at, end_of, places_after, opening_places};
+ghost use Rattle.assembler.specs.Places.{instruction_size, zero_count, data_size, size_at, end_of, places_after, opening_places};
 
 use crate::labels::Labels;
-use asm_lines::{Data, Directive, Instruction, Parsed, Statement, operand_count};
+use asm_lines::{Data, Directive, Fill, Instruction, Parsed, Statement, operand_count};
 use base::ram;
 use std::alloc::{AllocError, Global};
 use std::marker::Model;
@@ -61,6 +62,19 @@ fn instruction_size(instruction: &Instruction<'_>) -> u128
     }
 }
 
+/// The number of zeros that a directive with a number places, by its place and its number.
+fn fill_count(fill: Fill, place: u128, number: u64) -> u128
+    requires number { number ≤ (row_of fill).most }
+    requires place { place < 2 ^ 100 }
+    ensures value { result ≡ (row_of fill).count place number }
+    ensures bound { result ≤ 2 ^ 28 }
+{
+    match fill {
+        Fill::Align => aligned(place, number as u32) - place,
+        Fill::Zero => u128::from(number),
+    }
+}
+
 /// The number of zeros that a directive places, by its place and its number.
 pub(crate) fn zero_count(directive: Directive, place: u128, number: u64) -> u128
     requires number { number ≤ most_of directive }
@@ -69,8 +83,7 @@ pub(crate) fn zero_count(directive: Directive, place: u128, number: u64) -> u128
     ensures bound { result ≤ 2 ^ 28 }
 {
     match directive {
-        Directive::Align => aligned(place, number as u32) - place,
-        Directive::Zero => u128::from(number),
+        Directive::Zeros(fill) => fill_count(fill, place, number),
         Directive::Capability => 16,
         _ => 0,
     }

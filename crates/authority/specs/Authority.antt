@@ -6,7 +6,7 @@ use Rattle.base.specs.Ram.{ram_base}
 use Rattle.cap_bounds.specs.CapValue.{CapValue, is_sealed, value_otype}
 use Rattle.cap_rights.specs.Rights.{IsInRightsOf, OpensSystem, OpensStore, OpensType}
 use Rattle.tagged_memory.specs.Memory.{Memory, has_tag}
-use Rattle.devices.specs.Devices.{Devices, halt, timer_compare, control_register, transmit}
+use Rattle.devices.specs.Devices.{Devices, halt, kept_place, control_register, transmit}
 use Rattle.special_regs.specs.declared.csrs.Csrs.{Csrs}
 use Rattle.special_regs.specs.Scrs.{Scrs}
 use Rattle.steps.specs.State.{State}
@@ -64,10 +64,10 @@ pub record LeavesMemory (s : State) (later : Memory) : Type 0 where
       (granule : ℕ) → ((a : ℕ) → granule ≤ a → a < granule + 16 → Not (IsWritable s a))
       → has_tag later granule ≡ has_tag s.memory granule
 
--- The halt, mtimecmp and control registers stay where their first byte is not writable.
+-- The halt and control registers and those that only keep a number, as mtimecmp, stay where their first byte is not writable.
 pub record LeavesDevices (s : State) (later : Devices) : Type 0 where
   pub halt : Not (IsWritable s halt) → later.halted ≡ s.devices.halted
-  pub compare : Not (IsWritable s timer_compare) → later.mtimecmp ≡ s.devices.mtimecmp
+  pub kept : (k : ℕ) → Not (IsWritable s (kept_place k)) → slice_index later.kept k ≡ slice_index s.devices.kept k
   pub control : Not (IsWritable s control_register) → later.control ≡ s.devices.control
 
 -- the special registers that Access_System_Registers guards are the same
@@ -82,7 +82,7 @@ pub record SameCsrs (c later : Csrs) : Type 0 where
   pub mstatus_mie : later.mstatus_mie ≡ c.mstatus_mie
   pub mstatus_mpie : later.mstatus_mpie ≡ c.mstatus_mpie
   pub mie : later.mie ≡ c.mie
-  pub mscratch : later.mscratch ≡ c.mscratch
+  pub kept : later.kept ≡ c.kept
   pub mcause : later.mcause ≡ c.mcause
   pub mtval : later.mtval ≡ c.mtval
 

@@ -45,8 +45,8 @@ IsSealedAsTheTwo s v = (value_otype v ≡ sentry_type) ⊎ ((v ≡ s.scrs.pcc) �
 
 -- ---- what stays
 
--- RAM but for the bytes in DDC's bounds and the tags of granules with a byte there; the halt, mtimecmp and control registers; the four
--- special registers and the control and status registers, but for the counters
+-- RAM but for the bytes in DDC's bounds and the tags of granules with a byte there; the halt and control registers and those that only
+-- keep a number, as mtimecmp; the four special registers and the control and status registers, but for the counters
 pub record StaysOutside (s later : State) : Type 0 where
   pub size : length later.memory.bytes ≡ length s.memory.bytes
   pub bytes :
@@ -56,7 +56,7 @@ pub record StaysOutside (s later : State) : Type 0 where
       (granule : ℕ) → (granule + 16 ≤ value_base s.scrs.ddc) ⊎ (value_top s.scrs.ddc ≤ granule)
       → has_tag later.memory granule ≡ has_tag s.memory granule
   pub halted : later.devices.halted ≡ s.devices.halted
-  pub mtimecmp : later.devices.mtimecmp ≡ s.devices.mtimecmp
+  pub kept : (k : ℕ) → slice_index later.devices.kept k ≡ slice_index s.devices.kept k
   pub control : later.devices.control ≡ s.devices.control
   pub scrs : SameScrs s.scrs later.scrs
   pub csrs : SameCsrs s.csrs later.csrs

@@ -7,7 +7,8 @@ use Rattle.cap_rights.specs.Permission.{permits}
 use Rattle.cap_rights.specs.Rights.{IsInRightsOf, OpensSystem, OpensGranule, OpensStore, OpensByte, OpensType}
 use Rattle.cap_rights.specs.declared.permission.Permission.TheVariants as permission
 use Rattle.tagged_memory.specs.Memory.{has_tag}
-use Rattle.devices.specs.Devices.{halt, timer_compare, control_register, transmit}
+use Rattle.devices.specs.Devices.{halt, kept_place, control_register, transmit}
+use Rattle.devices.specs.KeptLaws.{kept_place-below}
 use Rattle.steps.specs.State.{State}
 use Rattle.authority.specs.Reachable.{IsRoot, in_register, in_pcc, in_ddc, IsReachable, from_root, from_special, from_granule}
 use Rattle.authority.specs.Authority.{Not, NoNewRights, NewSealsAllowed, IsSealAllowed, held, sentry, sealed_by, IsWritable, HasSystem}
@@ -121,7 +122,7 @@ module _ (s : State) (confined : IsConfined s) where
       bytes = λ a low far. leaves.memory.bytes a low (outside a far);
       tags = λ granule far. leaves.memory.tags granule (granule-outside granule far);
       halted = leaves.devices.halt (below_ram halt (lit< tt));
-      mtimecmp = leaves.devices.compare (below_ram timer_compare (lit< tt));
+      kept = λ k. leaves.devices.kept k (below_ram (kept_place k) (kept_place-below k));
       control = leaves.devices.control (below_ram control_register (lit< tt));
       scrs = leaves.scrs system;
       csrs = leaves.csrs system;

@@ -136,9 +136,9 @@ HasSystem-before s t grows has =
 pub LeavesAlone-refl : (s : State) → LeavesAlone s s
 LeavesAlone-refl s = record {
   memory = record { size = refl; bytes = λ a low not. refl; tags = λ granule not. refl };
-  devices = record { halt = λ _. refl; compare = λ _. refl; control = λ _. refl };
+  devices = record { halt = λ _. refl; kept = λ _ _. refl; control = λ _. refl };
   scrs = λ _. record { mtcc = refl; mtdc = refl; mscratchc = refl; mepcc = refl };
-  csrs = λ _. record { mstatus_mie = refl; mstatus_mpie = refl; mie = refl; mscratch = refl; mcause = refl; mtval = refl };
+  csrs = λ _. record { mstatus_mie = refl; mstatus_mpie = refl; mie = refl; kept = refl; mcause = refl; mtval = refl };
 }
 
 module _ (s t u : State) (grows : GrowsNot s t) (first : LeavesAlone s t) (then : LeavesAlone t u) where
@@ -159,7 +159,7 @@ module _ (s t u : State) (grows : GrowsNot s t) (first : LeavesAlone s t) (then 
   devices-trans : LeavesDevices s u.devices
   devices-trans = record {
     halt = λ none. then.devices.halt (unwritable _ none) ∙ first.devices.halt none;
-    compare = λ none. then.devices.compare (unwritable _ none) ∙ first.devices.compare none;
+    kept = λ k none. then.devices.kept k (unwritable _ none) ∙ first.devices.kept k none;
     control = λ none. then.devices.control (unwritable _ none) ∙ first.devices.control none;
   }
 
@@ -182,7 +182,7 @@ module _ (s t u : State) (grows : GrowsNot s t) (first : LeavesAlone s t) (then 
         mstatus_mie = two.mstatus_mie ∙ one.mstatus_mie;
         mstatus_mpie = two.mstatus_mpie ∙ one.mstatus_mpie;
         mie = two.mie ∙ one.mie;
-        mscratch = two.mscratch ∙ one.mscratch;
+        kept = two.kept ∙ one.kept;
         mcause = two.mcause ∙ one.mcause;
         mtval = two.mtval ∙ one.mtval;
       }

@@ -12,7 +12,8 @@ use Rattle.tagged_memory.specs.Memory.{is_in_ram, has_tag, touches, data_written
 use Rattle.tagged_memory.specs.MemoryLaws.{length-data_written, byte-data_written, tags-data_written, length-capability_written}
 use Rattle.tagged_memory.specs.MemoryLaws.{byte-capability_written, has_tag-capability_written_other}
 use Rattle.tagged_memory.specs.AccessLaws.{in_ram-place_fault}
-use Rattle.devices.specs.Devices.{halt, transmit, timer_compare, control_register, taken_at, written, effect_of, byte_sent}
+use Rattle.devices.specs.KeptLaws.{kept-elsewhere}
+use Rattle.devices.specs.Devices.{halt, transmit, control_register, taken_at, written, effect_of, byte_sent}
 use Rattle.devices.specs.declared.devices.Effect.TheVariants as sends
 use Rattle.special_regs.specs.declared.csrs.Csrs.{Csrs}
 use Rattle.special_regs.specs.Scrs.{Scrs}
@@ -33,7 +34,7 @@ memory-left : (s : State) → LeavesMemory s s.memory
 memory-left s = record { size = refl; bytes = λ a low none. refl; tags = λ granule none. refl }
 
 devices-left : (s : State) → LeavesDevices s s.devices
-devices-left s = record { halt = λ _. refl; compare = λ _. refl; control = λ _. refl }
+devices-left s = record { halt = λ _. refl; kept = λ _ _. refl; control = λ _. refl }
 
 scrs-left : (x : Scrs) (pcc ddc : CapValue) → SameScrs x (record x { pcc = pcc; ddc = ddc })
 scrs-left x pcc ddc = record { mtcc = refl; mtdc = refl; mscratchc = refl; mepcc = refl }
@@ -43,7 +44,7 @@ csrs-left c steps instructions = record {
   mstatus_mie = refl;
   mstatus_mpie = refl;
   mie = refl;
-  mscratch = refl;
+  kept = refl;
   mcause = refl;
   mtval = refl;
 }
@@ -118,8 +119,7 @@ module _ (s : State) (address number : ℕ) (writable : IsWritable s address) wh
   devices-written = record {
     halt = λ none. cond_both (eqb address halt) (Some number) s.devices.halted (λ x. x ≡ s.devices.halted)
         (λ same. absurd (elsewhere halt none same)) (λ _. refl);
-    compare = λ none. cond_both (eqb address timer_compare) number s.devices.mtimecmp (λ x. x ≡ s.devices.mtimecmp)
-        (λ same. absurd (elsewhere timer_compare none same)) (λ _. refl);
+    kept = λ k none. kept-elsewhere address number k s.devices.kept (λ same. none (subst (IsWritable s) same writable));
     control = λ none. cond_both (eqb address control_register) _ s.devices.control (λ x. x ≡ s.devices.control)
         (λ same. absurd (elsewhere control_register none same)) (λ _. refl);
   }
@@ -133,7 +133,7 @@ module _ (s : State) (address number : ℕ) (writable : IsWritable s address) wh
 
 devices-taken : (s : State) (address : ℕ) → LeavesDevices s (taken_at address s.devices)
 unfolding taken_at
-devices-taken s address = record { halt = λ _. refl; compare = λ _. refl; control = λ _. refl }
+devices-taken s address = record { halt = λ _. refl; kept = λ _ _. refl; control = λ _. refl }
 
 -- ---- special registers
 

@@ -102,9 +102,9 @@ module _ (s : State) (is : IsState s) where
   unfolding stepped step_outcome received
   event-leaves Step plain = stepped-leaves s.devices.halted plain
   event-leaves Tick plain =
-      left-devices (after Tick s).devices (record { halt = λ _. refl; compare = λ _. refl; control = λ _. refl })
+      left-devices (after Tick s).devices (record { halt = λ _. refl; kept = λ _ _. refl; control = λ _. refl })
   event-leaves (Byte b) plain =
-      left-devices (after (Byte b) s).devices (record { halt = λ _. refl; compare = λ _. refl; control = λ _. refl })
+      left-devices (after (Byte b) s).devices (record { halt = λ _. refl; kept = λ _ _. refl; control = λ _. refl })
 
   pub event-silent : (e : Event) → Not (IsWritable s transmit) → sent e s ≡ None
   unfolding step_sent

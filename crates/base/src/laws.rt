@@ -8,7 +8,7 @@ ghost use Rattle.base.specs.declared.interrupt.TheConstants.{CAUSE, TIMER, EXTER
 ghost use Rattle.base.specs.declared.otype.TheConstants.{UNSEALED, SENTRY, FIRST_RESERVED};
 ghost use Rattle.base.specs.declared.ram.TheConstants.{BASE, PAGE_BYTES, MOST_PAGES, MOST_PAGES_VERSION_1};
 ghost use Rattle.base.specs.declared.registers.csr.TheConstants.{MSTATUS, MISA, MIE, MTVEC, MSCRATCH, MEPC, MCAUSE, MTVAL, MIP};
-ghost use Rattle.base.specs.declared.registers.csr.TheConstants.{MCYCLE, MINSTRET, MVENDORID, MARCHID, MIMPID, MHARTID};
+ghost use Rattle.base.specs.declared.registers.csr.TheConstants.{MCYCLE, MINSTRET};
 ghost use Rattle.base.specs.declared.registers.scr.TheConstants.{PCC, DDC, MTCC, MTDC, MSCRATCHC, MEPCC};
 ghost use Rattle.base.specs.Fault.{number_of, cheri_number_of};
 ghost use Rattle.base.specs.Registers.{csrs, special_registers, special_register, pcc_register, ddc_register};
@@ -35,10 +35,6 @@ pub fn numbers_of_control_and_status_registers()
     ensures mip { MIP ≡ 0x344 }
     ensures mcycle { MCYCLE ≡ 0xb00 }
     ensures minstret { MINSTRET ≡ 0xb02 }
-    ensures mvendorid { MVENDORID ≡ 0xf11 }
-    ensures marchid { MARCHID ≡ 0xf12 }
-    ensures mimpid { MIMPID ≡ 0xf13 }
-    ensures mhartid { MHARTID ≡ 0xf14 }
 {}
 
 /// Which control and status registers there are, by number and name (RISC-V privileged manual, CSR listing).

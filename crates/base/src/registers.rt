@@ -68,18 +68,6 @@ pub mod csr {
 
     /// Instructions done, modulo `2^64`.
     pub const MINSTRET: u16 = 0xb02;
-
-    /// Who made the machine.
-    pub const MVENDORID: u16 = 0xf11;
-
-    /// The machine's architecture.
-    pub const MARCHID: u16 = 0xf12;
-
-    /// The machine's version.
-    pub const MIMPID: u16 = 0xf13;
-
-    /// Which hart it is.
-    pub const MHARTID: u16 = 0xf14;
 }
 
 /// The special capability registers that there are, in order of number, with their names.
@@ -92,7 +80,7 @@ pub const SPECIAL_REGISTERS: [(u16, &str); 6] = [
     (scr::MEPCC as u16, "mepcc"),
 ];
 
-/// The control and status registers that there are, in order of number, with their names.
+/// The control and status registers that there are, in order of number, with their names. Those that no definition names read 0.
 pub const CSRS: [(u16, &str); 15] = [
     (csr::MSTATUS, "mstatus"),
     (csr::MISA, "misa"),
@@ -105,10 +93,14 @@ pub const CSRS: [(u16, &str); 15] = [
     (csr::MIP, "mip"),
     (csr::MCYCLE, "mcycle"),
     (csr::MINSTRET, "minstret"),
-    (csr::MVENDORID, "mvendorid"),
-    (csr::MARCHID, "marchid"),
-    (csr::MIMPID, "mimpid"),
-    (csr::MHARTID, "mhartid"),
+    // Who made the machine.
+    (0xf11, "mvendorid"),
+    // The machine's architecture.
+    (0xf12, "marchid"),
+    // The machine's version.
+    (0xf13, "mimpid"),
+    // Which hart it is.
+    (0xf14, "mhartid"),
 ];
 
 /// Whether there is a control and status register of this number.

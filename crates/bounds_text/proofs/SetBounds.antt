@@ -10,15 +10,14 @@ use Rattle.cap_bounds.specs.CapValue.{is_tagged, is_sealed, word_of}
 use Rattle.cap_bounds.specs.Root.{root}
 use Rattle.cap_bounds.specs.Rounding.{rounding_exponent, rounding_granule, rounded_base, rounded_top}
 use Rattle.cap_bounds.specs.SetBounds.{bounded, may_bound, with_bounds}
-use Rattle.cap_bounds.specs.MantissaLaws.{exponent_of-high}
 use Rattle.cap_bounds.specs.EncodingLaws.{encoded_t-below, encoded_b-below}
 use Rattle.cap_bounds.specs.WordLaws.{joined, b_field_of-joined, t_field_of-joined, ie_of-joined}
 use Rattle.cap_bounds.specs.RoundingLaws.{rounding_exponent-high, rounding_exponent-short, rounding_granule-short, rounding_granule-long}
 use Rattle.cap_bounds.specs.RoundingLaws.{rounding_granule-positive, rounded_base-low, rounded_top-high, has_exponent-rounded}
 use Rattle.cap_bounds.specs.RoundingLaws.{exponent_for-rounded}
 use Rattle.cap_bounds.specs.SetBoundsLaws.{with_bounds-set, with_bounds-refused}
-use Rattle.bounds_text.specs.WindowEnds.{window_last, window_place}
-use Rattle.bounds_text.proofs.Windows.{is_in_window-place}
+use Rattle.cap_bounds.specs.WindowEnds.{window_last, window_place}
+use Rattle.cap_bounds.specs.WindowEndsLaws.{is_in_window-place}
 
 -- a granule has 2 ^ 55 bytes at most
 pub rounding_granule-high : (base top : ℕ) → rounding_granule base top ≤ 2 ^ 55
@@ -114,9 +113,6 @@ exponent_of_set base length base_fits fits =
     (rounding_exponent-high base (base + length)) (exponent-clear base length) (omega arith) base_fits)
 
 -- and is at most 52, as that of any word
-pub exponent_most : (word : ℕ) → exponent_of word ≤ 52
-exponent_most word = exponent_of-high word
-
 -- the bytes that are added above are found from a top modulo 2 ^ 65
 pub added_found : (base length top : ℕ) → base < 2 ^ 64 → length < 2 ^ 64 → top ≡ rounded_top base (base + length) % 2 ^ 65
     → (top + 2 ^ 65 - (base + length)) % 2 ^ 65 ≡ rounded_top base (base + length) - (base + length)

@@ -9,7 +9,7 @@ use Rattle.cap_bounds.specs.Rounding.{rounding_exponent, rounding_granule, round
 use Rattle.cap_bounds.specs.SetBounds.{bounded, with_bounds}
 use Rattle.cap_insns.specs.CapabilityRows.{representable_length, alignment_mask}
 use Rattle.texts.specs.Hex.{hex_of}
-use Rattle.bounds_text.specs.WindowEnds.{window_first, window_last}
+use Rattle.cap_bounds.specs.WindowEnds.{window_first, window_last}
 use Rattle.bounds_text.specs.Picture.{column_size, first_column, last_column, picture}
 use Rattle.bounds_text.specs.declared.window.Span.{Span}
 

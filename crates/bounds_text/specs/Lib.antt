@@ -1,5 +1,4 @@
 -- What to read
-pub mod WindowEnds
 pub mod Picture
 pub mod BoundsText
 pub mod LengthText

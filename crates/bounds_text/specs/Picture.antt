@@ -1,6 +1,6 @@
 -- The picture of bounds: one line of 64 columns, which are the window to scale.
 use Rattle.std.specs.Prelude.{ℕ, zero, suc, ◌-◌, ◌/◌, ◌||◌, ◌==◌, nat_lt, max, if◌then◌else◌, List, [], ◌++◌, codes}
-use Rattle.bounds_text.specs.WindowEnds.{window_size, window_place}
+use Rattle.cap_bounds.specs.WindowEnds.{window_size, window_place}
 use Rattle.bounds_text.specs.declared.window.Span.{Span}
 
 -- how many addresses a column stands for: a 64th of the window

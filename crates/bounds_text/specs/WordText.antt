@@ -9,7 +9,7 @@ use Rattle.cap_bounds.specs.Record.{IsWordWellFormed}
 use Rattle.cap_rights.specs.Perms.{hardware_view}
 use Rattle.texts.specs.Hex.{hex_of}
 use Rattle.bounds_text.specs.Letters.{permission_letters}
-use Rattle.bounds_text.specs.WindowEnds.{window_first, window_last}
+use Rattle.cap_bounds.specs.WindowEnds.{window_first, window_last}
 
 -- the word that two halves are, the upper one first: in logical form, or as it stands in memory
 abbrev pub word_of_halves : ℕ → ℕ → Bool → ℕ

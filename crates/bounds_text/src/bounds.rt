@@ -10,9 +10,9 @@ ghost use Rattle.bounds_text.specs.BoundsText.{address_line, bounds_text as whol
 
 use crate::either;
 use crate::length::{alignment_mask, representable_length};
-use crate::window::{Span, Window, picture};
+use crate::window::{Span, column_of, column_size, picture};
 use arrayvec::ArrayString;
-use cap_bounds::{CapRep, is_exact};
+use cap_bounds::{CapRep, Window, is_exact};
 use cap_format::CapWord;
 use texts::{fill, pieces, text};
 
@@ -134,8 +134,8 @@ impl Request {
         let low = self.window.base;
         let last = low.max(self.top.saturating_sub(1) as u64);
         Span {
-            first: self.window.column_of(low),
-            last: self.window.column_of(last),
+            first: column_of(self.window, low),
+            last: column_of(self.window, last),
             lowered: low < self.base,
             raised: self.end() < self.top,
         }
@@ -170,7 +170,7 @@ impl Request {
         fill(text, &ends);
         let columns = picture(self.span());
         let picture = pieces![
-            "column   " Decimal(window.column_size()) " bytes\npicture  " Text(columns.as_str()) "\n"
+            "column   " Decimal(column_size(window)) " bytes\npicture  " Text(columns.as_str()) "\n"
         ];
         fill(text, &picture);
     }

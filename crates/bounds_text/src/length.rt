@@ -4,7 +4,7 @@ ghost use Rattle.std.specs.Prelude.{◌≡◌, ◌+◌, ◌^◌, ◌<◌, ◌≤
 ghost use Rattle.cap_insns.specs.CapabilityRows.{alignment_mask, representable_length};
 ghost use Rattle.bounds_text.specs.LengthText.{length_text as text_of, whole_length};
 
-use cap_bounds::{CapRep, granule};
+use cap_bounds::granule;
 use texts::{pieces, text};
 
 /// A length rounded up to what a capability with an aligned base has.
@@ -39,7 +39,7 @@ pub(crate) fn alignment_mask(length: u64) -> u64
 ///
 /// It takes no memory, and nothing is refused.
 #[tactic(auto, unfolding(crate::specs::LengthText::length_text, crate::specs::LengthText::length_lines))]
-pub fn length_text<C: CapRep>(length: u64) -> crate::Text
+pub fn length_text(length: u64) -> crate::Text
     ensures { result.bytes ≡ text_of length }
 {
     let asked = u128::from(length);

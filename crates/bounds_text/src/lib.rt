@@ -5,15 +5,13 @@ ghost use Rattle.std.specs.Prelude.{◌≡◌, ◌+◌, ◌≤◌, if◌then◌e
 
 mod bounds;
 mod length;
-mod letters;
 mod window;
 mod word;
 
 use arrayvec::ArrayString;
 pub use bounds::bounds_text;
 pub use length::length_text;
-pub use letters::permission_letters;
-pub use word::word_text;
+pub use word::{permission_letters, word_text};
 
 /// A text: at most 13 lines of at most 80 bytes.
 pub type Text = ArrayString<1040>;

@@ -1,19 +1,43 @@
-//! The text of a capability's word.
-
+//! The text of a capability's word, and permissions as letters.
 ghost use Rattle.std.specs.Prelude.{◌≡◌, ◌+◌, ◌-◌, ◌%◌, ◌^◌, ◌<◌, ◌≤◌, ◌++◌, length};
 ghost use Rattle.arrayvec.specs.ArrayString.{array_string_len};
 ghost use Rattle.cap_bounds.specs.Window.{base_of_word, top_of_word};
+ghost use Rattle.bounds_text.specs.Letters.{letter, permission_letters};
 ghost use Rattle.bounds_text.specs.WordText.{ShowsWord, bytes_between, field_lines, form_lines, type_words, word_of_halves};
 
 use crate::either;
-use crate::letters::permission_letters;
-use crate::window::Window;
+use arrayvec::ArrayString;
 use base::otype;
-use cap_bounds::CapRep;
+use cap_bounds::{CapRep, Window};
 use cap_format::CapWord;
 use cap_rights::Perms;
 use texts::{fill, pieces, text};
 use word_cap::is_well_formed;
+
+/// A permission's letter, or `-` where its bit is 0.
+#[tactic(auto, unfolding(crate::specs::Letters::letter))]
+fn letter(perms: u16, bit: u32, name: &'static str) -> &'static str
+    requires bit { bit < 16 }
+    requires name { length name.now ≡ 1 }
+    ensures text { result.now ≡ letter name.now bit perms }
+    ensures length { length result.now ≡ 1 }
+{
+    if (perms >> bit) & 1 == 1 { name } else { "-" }
+}
+
+/// The 12 hardware permissions of a capability, a letter each in the order of their bits from bit 0 on, and `-` for each that it lacks.
+#[tactic(auto, unfolding(crate::specs::Letters::permission_letters))]
+pub fn permission_letters(perms: u16) -> ArrayString<12>
+    ensures text { result.bytes ≡ permission_letters perms }
+    ensures length { array_string_len result ≡ 12 }
+{
+    text(&pieces![
+        Text(letter(perms, 0, "G")) Text(letter(perms, 1, "X")) Text(letter(perms, 2, "R"))
+        Text(letter(perms, 3, "W")) Text(letter(perms, 4, "c")) Text(letter(perms, 5, "C"))
+        Text(letter(perms, 6, "L")) Text(letter(perms, 7, "s")) Text(letter(perms, 8, "i"))
+        Text(letter(perms, 9, "u")) Text(letter(perms, 10, "S")) Text(letter(perms, 11, "d"))
+    ])
+}
 
 /// What is said of an object type.
 #[tactic(auto, unfolding(crate::specs::WordText::type_words))]

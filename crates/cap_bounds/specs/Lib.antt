@@ -2,6 +2,7 @@
 pub mod Least
 pub mod Mantissa
 pub mod Window
+pub mod WindowEnds
 pub mod Record
 pub mod CapValue
 pub mod SetAddress
@@ -16,6 +17,7 @@ pub mod AddressLaws
 pub mod RemainderLaws
 pub mod WindowLaws
 pub mod PowerLaws
+pub mod WindowEndsLaws
 pub mod BaseLaws
 pub mod MantissaLaws
 pub mod WordLaws

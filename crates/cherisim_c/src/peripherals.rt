@@ -1,6 +1,7 @@
 //! Devices, as they stand.
 
 ghost use Rattle.std.specs.Prelude.{◌≡◌, ◌≤◌, None, Some, IfSome, length, take, Option};
+ghost use Rattle.devices.specs.Devices.{mtimecmp};
 ghost use Rattle.cherisim_c.specs.Status.{no_machine};
 ghost use Rattle.cherisim_c.specs.Running.{halted_of};
 
@@ -43,7 +44,7 @@ pub extern "C" fn cherisim_timer(alloc: Global, machine: &mut Handle, timer: &mu
     ensures closed { machine.old.machine ≡ None → result ≡ no_machine }
     ensures ok { IfSome machine.old.machine (λ s. result ≡ 0) }
     ensures mtime { IfSome machine.old.machine (λ s. timer.new.mtime ≡ s.devices.mtime) }
-    ensures mtimecmp { IfSome machine.old.machine (λ s. timer.new.mtimecmp ≡ s.devices.mtimecmp) }
+    ensures mtimecmp { IfSome machine.old.machine (λ s. timer.new.mtimecmp ≡ mtimecmp s.devices) }
     ensures same { 1 ≤ result → timer.new ≡ timer.old }
 {
     match machine.take(alloc) {

@@ -3,6 +3,7 @@
 ghost use Rattle.std.specs.Prelude.{◌≡◌, ◌⊎◌, ◌≤◌, ◌<◌, None, IfSome, IfOk, List, [], false, length, map, take};
 ghost use Rattle.authority.specs.Authority.{SameScrs, SameCsrs};
 ghost use Rattle.debug_commands.specs.declared.command.May.TheVariants.{Store, Load, Execute, Learn, Send, Halt, System, Timer, Hold};
+ghost use Rattle.devices.specs.Devices.{mtimecmp};
 ghost use Rattle.steps.specs.declared.event.Event.{Event};
 ghost use Rattle.steps.specs.State.{State};
 ghost use Rattle.machine.specs.Run.{run_after, run_sent};
@@ -342,7 +343,7 @@ pub extern "C" fn cherisim_may_timer(
     ensures closed { machine.old.machine ≡ None → result ≡ no_machine }
     ensures ok { IfSome machine.old.machine (λ s. result ≡ 0 → answer.new ≡ answer_of (first_that Timer (members_in s))) }
     ensures law { IfSome machine.old.machine (λ s. result ≡ 0 → answer.new.may ≡ false → (events : List Event) → IsPlainRun events s
-        → (run_after events s).devices.mtimecmp ≡ s.devices.mtimecmp) }
+        → mtimecmp (run_after events s).devices ≡ mtimecmp s.devices) }
     ensures same { 1 ≤ result → answer.new ≡ answer.old }
     ensures only { IfSome machine.old.machine (λ s. (result ≡ 0) ⊎ (result ≡ no_memory)) }
 {

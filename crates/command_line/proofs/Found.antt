@@ -1,294 +1,290 @@
--- What is read of clap's matches.
-use Rattle.std.proofs.Common.{◌≡◌, ◌∙◌, ℕ, ◌<◌, ◌^◌, List, refl, sym, ap, subst, codes, slice_index, arith}
-use Rattle.std.specs.Prelude.{Option, Some, None, IfSome, IfNone, IfErr, Result, Ok, Err, unwrap_or, is_some, true, false, Bool, not, ◌&&◌}
-use Rattle.std.specs.Prelude.{[], bytes_eq, option_map, IsTrue}
-use Rattle.std.specs.Str.Parse.{IsNumeral, digits_value, without_leading_plus}
-use Rattle.std.specs.Borrow.{Bor}
-use Rattle.clap.specs.Words.{ReadsOne, Row, Text, first_of, one_text, rows_of}
+-- What is found of arguments, and the plans that it is.
+use Rattle.std.proofs.Common.{◌≡◌, ◌∙◌, ℕ, ◌<◌, ◌≤◌, ◌^◌, List, [], ◌∷◌, refl, sym, ap, subst, codes, arith}
+use Rattle.std.specs.Prelude.{Option, Some, None, IfSome, IsSomeAnd, IsTrue, IfOk, IfErr, Result, Ok, Err, true, false, Bool, ◌&&◌, nat_lt, nat_le, length}
+use Rattle.std.specs.Prelude.{if◌then◌else◌, option_and_then, option_map, bytes_eq}
+use Rattle.std.specs.List.{AllByRecursion, AllZip, list_all}
+use Rattle.std.specs.Char.{digit_value}
+use Rattle.std.specs.Result.{OkIff, result_ok}
+use Rattle.std.specs.Str.Parse.{AllDigits, IsNumeral, digits_value, without_leading_plus}
+use Rattle.clap.specs.Words.{App, app_of, ReadsOne, Row, Text, first_of, one_text, rows_of}
+use Rattle.clap.specs.declared.builder.command.Command.{Command}
 use Rattle.clap.specs.declared.parser.matches.Found.{Found}
 use Rattle.clap.proofs.WalkLemmas.{one_text-rows}
-use Rattle.command_line.specs.declared.plans.Plan.TheVariants.{Asm, Image, Run, Audit, Dis, Debug, Bounds, Word, First}
-use Rattle.command_line.specs.declared.layout.Layout.{Layout}
-use Rattle.command_line.specs.CommandLine.{IsNumber, IsNatural, IsOptional, IsLayoutOf, AreNumbersOf, AreInRange, IsTraceOf, IsTraceInRange}
-use Rattle.command_line.specs.CommandLine.{IsInputInRange, IsPolicyOf, IsWithin, AreBoundsOf, NoCommandFits}
-use Rattle.command_line.specs.CommandLine.{IsFile, is_apart, are_apart}
+use Rattle.command_line.specs.declared.plans.Plan.{Plan}
+use Rattle.command_line.specs.declared.plans.Plan.TheVariants.{Run, Audit, First}
+use Rattle.command_line.specs.declared.table.Takes.{Takes}
+use Rattle.command_line.specs.declared.table.Takes.TheVariants.{Nothing, Ends, Read, Written, Count, Start, Number}
+use Rattle.command_line.specs.CommandLine.{Line, Entry, Said, File, Amount, Used, Explained, is_numeral, number_in, count_of, is_within, counted, said_by, unsaid, why_of}
+use Rattle.command_line.specs.CommandLine.{said_of, said_of_text, is_needed, is_file, is_written, written_number, files_found, files_said, are_apart, FileName}
+use Rattle.command_line.specs.CommandLine.{AreSaid, KeepsLimits, IsWithin, name_said, name_of, said, lines_named, commands, Says, IsScheduled, IsSound, NoPlanFits, may_stand, AreFit, HasAll}
+use Rattle.std.proofs.Common.{get_or}
+use Rattle.std.proofs.lemmas.Str.Parse.{without_leading_plus_none}
+use Rattle.std.specs.Str.Parse.{ParsesUnsigned}
+use borrow.Author.Tests.{ltb-true, lt-ltb, leb-true}
 
 pub if_err : {T E : Type 0} (r : Result T E) (P : Type 0) → P → IfErr r (λ _. P)
 if_err (Ok x) P p = tt
 if_err (Err e) P p = p
 
-pub if_none : {T : Type 0} (r : Option T) (P : Type 0) → P → IfNone r P
-if_none (Some x) P p = tt
-if_none None P p = p
+-- what a command is, in other words
+pub told : {E : Type 0} (r : Result Command E) (a b : App) → IfOk r (λ c. app_of c ≡ a) → a ≡ b → IfOk r (λ c. app_of c ≡ b)
+told r a b is e = subst (λ x. IfOk r (λ c. app_of c ≡ x)) e is
+
+both : (a b : Bool) → (a && b) ≡ true → (a ≡ true) × (b ≡ true)
+both true b e = (refl, e)
+both false b e = cc
+
+not_true : (b : Bool) → (b ≡ true → ⊥) → b ≡ false
+not_true true never = absurd (never refl)
+not_true false never = refl
 
 -- ---- numbers
 
-abbrev digits_of : List ℕ → List ℕ
-digits_of = without_leading_plus
+abbrev are_digits : ℕ → Text → Bool
+are_digits radix = list_all (λ digit. nat_lt (digit_value digit) radix)
 
-pub number_some : {E : Type 0} (f : Found) (id : List ℕ) (G : List ℕ → Result ℕ E → Type 0)
-    → ((t : List ℕ) (v : ℕ) → G t (Ok v) → IsNumeral 10 (digits_of t) × (v ≡ digits_value 10 (digits_of t)))
-    → (r : Option ℕ) → (one_text f id ≡ None → r ≡ None) → ((t : List ℕ) → one_text f id ≡ Some t → ReadsOne G t r)
-    → IfSome r (IsNumber id (rows_of f))
-number_some f id G says None none reads = tt
-number_some f id G says (Some n) none reads = go (one_text f id) refl
+digits-true : (radix : ℕ) (digits : Text) → AllDigits radix digits → are_digits radix digits ≡ true
+digits-true radix [] all = refl
+digits-true radix (d ∷ ds) all =
+    ap (λ b. b && are_digits radix ds) (lt-ltb (digit_value d) radix all.0) ∙ digits-true radix ds all.1
+
+true-digits : (radix : ℕ) (digits : Text) → are_digits radix digits ≡ true → AllDigits radix digits
+true-digits radix [] e = tt
+true-digits radix (d ∷ ds) e =
+    let each = both (nat_lt (digit_value d) radix) (are_digits radix ds) e in
+    (ltb-true (digit_value d) radix each.0, true-digits radix ds each.1)
+
+-- std's numerals are those of the definition
+pub number_in-ok : {E : Type 0} (radix : ℕ) (digits : Text) (r : Result ℕ E)
+    → OkIff r (IsNumeral radix digits × (digits_value radix digits < 2 ^ 64)) (digits_value radix digits) → result_ok r ≡ number_in radix digits
+unfolding number_in
+number_in-ok radix digits (Ok n) is =
+    let test : (is_numeral radix digits && nat_lt (digits_value radix digits) (2 ^ 64)) ≡ true =
+    ap (λ b. (b && are_digits radix digits) && nat_lt (digits_value radix digits) (2 ^ 64)) (lt-ltb 0 (length digits) is.0.0.0)
+    ∙ ap (λ b. b && nat_lt (digits_value radix digits) (2 ^ 64)) (digits-true radix digits is.0.0.1)
+    ∙ lt-ltb (digits_value radix digits) (2 ^ 64) is.0.1 in
+    ap Some is.1 ∙ sym (ap (λ b. if b then Some (digits_value radix digits) else None) test)
+number_in-ok radix digits (Err e) is =
+    let test : (is_numeral radix digits && nat_lt (digits_value radix digits) (2 ^ 64)) ≡ false =
+    not_true _ (λ t.
+    let parts = both (is_numeral radix digits) (nat_lt (digits_value radix digits) (2 ^ 64)) t in
+    let numeral = both (nat_lt 0 (length digits)) (are_digits radix digits) parts.0 in
+    is ((ltb-true 0 (length digits) numeral.0, true-digits radix digits numeral.1), ltb-true (digits_value radix digits) (2 ^ 64) parts.1)) in
+    sym (ap (λ b. if b then Some (digits_value radix digits) else None) test)
+
+-- a plus is no digit
+pub plus_first : (radix : ℕ) (digits : Text) → radix ≤ 36 → get_or digits 0 0 ≡ 43 → number_in radix digits ≡ None
+unfolding number_in
+plus_first radix [] most plus = refl
+plus_first radix (d ∷ ds) most plus =
+    let test : (is_numeral radix (d ∷ ds) && nat_lt (digits_value radix (d ∷ ds)) (2 ^ 64)) ≡ false =
+    not_true _ (λ t.
+    let parts = both (is_numeral radix (d ∷ ds)) (nat_lt (digits_value radix (d ∷ ds)) (2 ^ 64)) t in
+    let numeral = both (nat_lt 0 (length (d ∷ ds))) (are_digits radix (d ∷ ds)) parts.0 in
+    let each = both (nat_lt (digit_value d) radix) (are_digits radix ds) numeral.1 in
+    let less : digit_value d < radix = ltb-true (digit_value d) radix each.0 in
+    let more : 36 < radix = subst (λ x. digit_value x < radix) plus less in
+    absurd (omega arith)) in
+    ap (λ b. if b then Some (digits_value radix (d ∷ ds)) else None) test
+
+pub unsigned_ok : {E : Type 0} (radix : ℕ) (digits : Text) (r : Result ℕ E) → (get_or digits 0 0 ≡ 43 → ⊥) → ParsesUnsigned 64 radix digits r
+    → result_ok r ≡ number_in radix digits
+unsigned_ok radix digits r plain is =
+    number_in-ok radix digits r
+    (subst (λ ds. OkIff r (IsNumeral radix ds × (digits_value radix ds < 2 ^ 64)) (digits_value radix ds)) (without_leading_plus_none digits plain) is)
+
+-- clap reads the decimal number
+module _ {E : Type 0} (f : Found) (id : Text) (G : Text → Result ℕ E → Type 0)
+    (says : (t : Text) (r : Result ℕ E) → G t r
+    → OkIff r (IsNumeral 10 (without_leading_plus t) × (digits_value 10 (without_leading_plus t) < 2 ^ 64))
+    (digits_value 10 (without_leading_plus t))) where
+  read : (t : Text) (r : Option ℕ) → ReadsOne G t r → r ≡ number_in 10 (without_leading_plus t)
+  read t (Some n) g = number_in-ok {E = E} 10 (without_leading_plus t) (Ok n) (says t (Ok n) g)
+  read t None g = number_in-ok {E = E} 10 (without_leading_plus t) (Err g.0) (says t (Err g.0) g.1)
+
+  pub count_is : (r : Option ℕ) → (one_text f id ≡ None → r ≡ None) → ((t : Text) → one_text f id ≡ Some t → ReadsOne G t r)
+      → r ≡ count_of id (rows_of f)
+  unfolding count_of
+  count_is r none reads =
+      go (one_text f id) refl ∙ ap (λ o. option_and_then (λ t. number_in 10 (without_leading_plus t)) o) (one_text-rows f id)
+    where
+      go : (o : Option Text) → one_text f id ≡ o → r ≡ option_and_then (λ t. number_in 10 (without_leading_plus t)) o
+      go None e = none e
+      go (Some t) e = read t r (reads t e)
+
+-- ---- arguments
+
+-- a number that is found keeps its limits
+counted-kept : (least most : ℕ) (count : Option ℕ) (s : Said) → counted least most count ≡ Some s → IsWithin least most s
+counted-kept least most None s e = cc
+counted-kept least most (Some n) s e = go (is_within least most n) refl e
   where
-    go : (o : Option (List ℕ)) → one_text f id ≡ o → IsNumber id (rows_of f) n
-    go None e = let empty = none e in cc
-    go (Some t) e =
-        let read = says t n (reads t e) in
-        record { text = t; found = sym (one_text-rows f id) ∙ e; numeral = read.0; value = read.1 }
+    go : (b : Bool) → is_within least most n ≡ b → (if b then Some (Amount (Some n)) else None) ≡ Some s → IsWithin least most s
+    go false is e = cc
+    go true is e =
+        let parts = both (nat_le least n) (nat_le n most) is in
+        let one : Amount (Some n) ≡ s = cc in
+        subst (λ x. IsWithin least most x) one (leb-true least n parts.0, leb-true n most parts.1)
 
-pub number_none : {E : Type 0} (f : Found) (id : List ℕ) (G : List ℕ → Result ℕ E → Type 0)
-    → ((t : List ℕ) (e : E) → G t (Err e) → IsNumeral 10 (digits_of t) → digits_value 10 (digits_of t) < 2 ^ 64 → ⊥)
-    → (r : Option ℕ) → ((t : List ℕ) → one_text f id ≡ Some t → ReadsOne G t r)
-    → IfNone r ((n : ℕ) → n < 2 ^ 64 → IsNumber id (rows_of f) n → ⊥)
-number_none f id G says (Some n) reads = tt
-number_none f id G says None reads = λ n small number.
-    let read = reads number.text (one_text-rows f id ∙ number.found) in
-    says number.text read.0 read.1 number.numeral (subst (λ m. m < 2 ^ 64) number.value small)
+by-kept : (takes : Takes) (text : Text) (count : Option ℕ) (s : Said) → said_by takes text count ≡ Some s → KeepsLimits takes s
+by-kept Nothing text count s e = tt
+by-kept Ends text count s e = tt
+by-kept Read text count s e = tt
+by-kept Written text count s e = tt
+by-kept (Count least most) text count s e = counted-kept least most count s e
+by-kept (Start least most) text count s e = counted-kept least most count s e
+by-kept Number text count s e = tt
 
--- a first step that lies in its range is typed in its range, or not typed
-pub first_within : (first : Option ℕ) (from : ℕ) → from ≡ unwrap_or first 1 → IsWithin 1 100000000000000 (Some from)
-    → IsWithin 1 100000000000000 first
-first_within None from is range = tt
-first_within (Some n) from is range = (omega (arith, is, range.0), omega (arith, is, range.1))
+un-kept : (takes : Takes) (s : Said) → unsaid takes ≡ Some s → KeepsLimits takes s
+un-kept Nothing s e = tt
+un-kept Ends s e = tt
+un-kept Read s e = tt
+un-kept Written s e = tt
+un-kept (Count least most) s e = let none : Amount None ≡ s = cc in subst (λ x. IsWithin least most x) none tt
+un-kept (Start least most) s e = counted-kept least most (Some least) s e
+un-kept Number s e = tt
 
--- `bounds` with one number, and with two
-pub one_number : (rows : List Row) → first_of (codes "LENGTH") rows ≡ None
-    → ((length : ℕ) → IsNatural (codes "BASE") rows (Some length) → ⊥)
-    → (base : Option ℕ) (length : ℕ) (address : Option ℕ) → AreBoundsOf rows base length address → ⊥
-one_number rows one none None length address fits = none length fits.0
-one_number rows one none (Some base) length address fits = let bad = fits.1.1 in cc
+-- where an argument need not be there, nothing is found of one that must be
+unneeded : (needed : Bool) (o : Option Said) (s : Said) → (if needed then None else o) ≡ Some s → o ≡ Some s
+unneeded true o s e = cc
+unneeded false o s e = e
 
-pub both_numbers : (rows : List Row) → is_some (first_of (codes "LENGTH") rows) ≡ true
-    → ((base length : ℕ) (address : Option ℕ) → IsNatural (codes "BASE") rows (Some base) → IsNatural (codes "LENGTH") rows (Some length)
-    → IsNatural (codes "address") rows address → ⊥)
-    → (base : Option ℕ) (length : ℕ) (address : Option ℕ) → AreBoundsOf rows base length address → ⊥
-both_numbers rows both none None length address fits = let bad : is_some (first_of (codes "LENGTH") rows) ≡ false = ap is_some fits.1 in cc
-both_numbers rows both none (Some base) length address fits = none base length address fits.0 fits.1 fits.2
+text-kept : (rows : List Row) (line : Line) (text : Option Text) (s : Said) → said_of_text rows line text ≡ Some s → KeepsLimits line.takes s
+text-kept rows line (Some text) s e = by-kept line.takes text (count_of line.id rows) s e
+text-kept rows line None s e = un-kept line.takes s (unneeded (is_needed line) (unsaid line.takes) s e)
+
+kept : (rows : List Row) (line : Line) (s : Said) → said_of rows line ≡ Some s → KeepsLimits line.takes s
+unfolding said_of
+kept rows line s e = text-kept rows line (first_of line.id rows) s e
+
+all_kept : (rows : List Row) (lines : List Line) (saids : List Said) → AreSaid rows lines saids
+    → AllZip (λ line said. KeepsLimits line.takes said) lines saids
+all_kept rows [] [] are = tt
+all_kept rows [] (s ∷ saids) are = are
+all_kept rows (line ∷ lines) [] are = are
+all_kept rows (line ∷ lines) (s ∷ saids) are = (kept rows line s are.0, all_kept rows lines saids are.1)
+
+-- the names of files among what is said are those that were found
+counted-unnamed : (least most : ℕ) (count : Option ℕ) (s : Said) → counted least most count ≡ Some s → None ≡ name_said s
+counted-unnamed least most None s e = cc
+counted-unnamed least most (Some n) s e = go (is_within least most n) e
+  where
+    go : (b : Bool) → (if b then Some (Amount (Some n)) else None) ≡ Some s → None ≡ name_said s
+    go false e = cc
+    go true e = let one : Amount (Some n) ≡ s = cc in ap name_said one
+
+number-unnamed : (number : Option ℕ) (s : Said) → option_map (λ n. Amount (Some n)) number ≡ Some s → None ≡ name_said s
+number-unnamed None s e = cc
+number-unnamed (Some n) s e = let one : Amount (Some n) ≡ s = cc in ap name_said one
+
+by-named : (takes : Takes) (text : Text) (count : Option ℕ) (s : Said) → said_by takes text count ≡ Some s
+    → (if is_file takes then Some text else None) ≡ name_said s
+by-named Nothing text count s e = let one : Used (bytes_eq text (codes "true")) ≡ s = cc in ap name_said one
+by-named Ends text count s e = let one : Explained (why_of text) ≡ s = cc in ap name_said one
+by-named Read text count s e = let one : File (Some text) ≡ s = cc in ap name_said one
+by-named Written text count s e = let one : File (Some text) ≡ s = cc in ap name_said one
+by-named (Count least most) text count s e = counted-unnamed least most count s e
+by-named (Start least most) text count s e = counted-unnamed least most count s e
+by-named Number text count s e = number-unnamed (written_number text) s e
+
+un-named : (takes : Takes) (s : Said) → unsaid takes ≡ Some s → (if is_file takes then None else None) ≡ name_said s
+un-named Nothing s e = let one : Used false ≡ s = cc in ap name_said one
+un-named Ends s e = let one : Explained None ≡ s = cc in ap name_said one
+un-named Read s e = let one : File None ≡ s = cc in ap name_said one
+un-named Written s e = let one : File None ≡ s = cc in ap name_said one
+un-named (Count least most) s e = let one : Amount None ≡ s = cc in ap name_said one
+un-named (Start least most) s e = counted-unnamed least most (Some least) s e
+un-named Number s e = let one : Amount None ≡ s = cc in ap name_said one
+
+text-named : (rows : List Row) (line : Line) (text : Option Text) (s : Said) → said_of_text rows line text ≡ Some s
+    → (if is_file line.takes then text else None) ≡ name_said s
+text-named rows line (Some text) s e = by-named line.takes text (count_of line.id rows) s e
+text-named rows line None s e = un-named line.takes s (unneeded (is_needed line) (unsaid line.takes) s e)
+
+named : (rows : List Row) (line : Line) (s : Said) → said_of rows line ≡ Some s
+    → (if is_file line.takes then first_of line.id rows else None) ≡ name_said s
+unfolding said_of
+named rows line s e = text-named rows line (first_of line.id rows) s e
+
+pub files-found : (rows : List Row) (lines : List Line) (saids : List Said) → AreSaid rows lines saids
+    → files_found rows lines ≡ files_said lines saids
+files-found rows [] [] are = refl
+files-found rows [] (s ∷ saids) are = absurd are
+files-found rows (line ∷ lines) [] are = absurd are
+files-found rows (line ∷ lines) (s ∷ saids) are =
+    let here = named rows line s are.0 in
+    let rest = files-found rows lines saids are.1 in
+    ap (λ (name : Option Text). let one : FileName = (is_written line.takes, name) in one ∷ files_found rows lines) here
+    ∙ ap (λ (files : List FileName). let one : FileName = (is_written line.takes, name_said s) in one ∷ files) rest
+
+-- files that are not apart as they were found are not as they are said
+pub not_apart : (rows : List Row) (lines : List Line) (apart : Bool) → apart ≡ are_apart (files_found rows lines) → apart ≡ false
+    → (saids : List Said) → AreSaid rows lines saids → IsTrue (are_apart (files_said lines saids)) → ⊥
+not_apart rows lines apart is fails saids are claimed = let same = ap are_apart (files-found rows lines saids are) in cc
 
 -- ---- plans
 
--- a plan of `image` has a layout
-pub no_image : (rows : List Row)
-    → ((layout : Layout) → IsLayoutOf rows layout → ⊥)
-    → NoCommandFits (codes "image") rows
-no_image rows none (Asm input output symbols quiet) fits sound =
-    let bad : 105 ≡ 97 = ap (λ t. slice_index t 0) fits.0 in absurd (omega (arith, bad))
-no_image rows none (Image flat output layout quiet) fits sound = none layout fits.3
-no_image rows none (Run image steps times gap tick input quiet why trace from last policy symbols) fits sound =
-    let bad : 105 ≡ 114 = ap (λ t. slice_index t 0) fits.0 in absurd (omega (arith, bad))
-no_image rows none (Audit image steps times gap tick input quiet trace from last policy symbols) fits sound =
-    let bad : 105 ≡ 97 = ap (λ t. slice_index t 0) fits.0 in absurd (omega (arith, bad))
-no_image rows none (Dis image symbols header quiet) fits sound =
-    let bad : 105 ≡ 100 = ap (λ t. slice_index t 0) fits.0 in absurd (omega (arith, bad))
-no_image rows none (Debug image symbols input gap tick quiet) fits sound =
-    let bad : 105 ≡ 100 = ap (λ t. slice_index t 0) fits.0 in absurd (omega (arith, bad))
-no_image rows none (Bounds base length address) fits sound =
-    let bad : 105 ≡ 98 = ap (λ t. slice_index t 0) fits.0 in absurd (omega (arith, bad))
-no_image rows none (Word high low memory) fits sound =
-    let bad : 105 ≡ 119 = ap (λ t. slice_index t 0) fits.0 in absurd (omega (arith, bad))
-no_image rows none First fits sound = fits
+scheduled : (plan : Plan) → IfSome (lines_named (name_of plan) commands) (λ lines. AllZip (λ line said. KeepsLimits line.takes said) lines (said plan))
+    → IsScheduled plan
+unfolding commands
+scheduled (Run image steps times gap tick input quiet why trace from last policy symbols) k = record {
+  some_step = k.1.0.0;
+  most_steps = k.1.0.1;
+  some_times = k.1.1.0.0;
+  most_times = k.1.1.0.1;
+  some_gap = k.1.1.1.1.0.0;
+  most_gap = k.1.1.1.1.0.1;
+  most_tick = k.1.1.1.1.1.0.1;
+}
+scheduled (Audit image steps times gap tick input quiet trace from last policy symbols) k = record {
+  some_step = k.1.0.0;
+  most_steps = k.1.0.1;
+  some_times = k.1.1.0.0;
+  most_times = k.1.1.0.1;
+  some_gap = k.1.1.1.1.0.0;
+  most_gap = k.1.1.1.1.0.1;
+  most_tick = k.1.1.1.1.1.0.1;
+}
+scheduled _ k = tt
 
--- a plan of `run` has its numbers, in their ranges, and what is traced
-pub no_run : (rows : List Row)
-    → ((steps times gap tick : ℕ) (file : Option (Bor Text)) (from : ℕ) (last : Option ℕ)
-    (policy symbols : Option (Bor Text))
-    → AreNumbersOf rows steps times gap tick → AreInRange steps times gap tick → IsTraceOf rows file from last
-    → IsTraceInRange from last → IsPolicyOf rows policy symbols → ⊥)
-    → NoCommandFits (codes "run") rows
-no_run rows none (Asm input output symbols quiet) fits sound =
-    let bad : 114 ≡ 97 = ap (λ t. slice_index t 0) fits.0 in absurd (omega (arith, bad))
-no_run rows none (Image flat output layout quiet) fits sound =
-    let bad : 114 ≡ 105 = ap (λ t. slice_index t 0) fits.0 in absurd (omega (arith, bad))
-no_run rows none (Run image steps times gap tick input quiet why trace from last policy symbols) fits sound =
-    none steps times gap tick trace from last policy symbols fits.2 sound.0 fits.6 sound.1 fits.7
-no_run rows none (Audit image steps times gap tick input quiet trace from last policy symbols) fits sound =
-    let bad : 114 ≡ 97 = ap (λ t. slice_index t 0) fits.0 in absurd (omega (arith, bad))
-no_run rows none (Dis image symbols header quiet) fits sound =
-    let bad : 114 ≡ 100 = ap (λ t. slice_index t 0) fits.0 in absurd (omega (arith, bad))
-no_run rows none (Debug image symbols input gap tick quiet) fits sound =
-    let bad : 114 ≡ 100 = ap (λ t. slice_index t 0) fits.0 in absurd (omega (arith, bad))
-no_run rows none (Bounds base length address) fits sound =
-    let bad : 114 ≡ 98 = ap (λ t. slice_index t 0) fits.0 in absurd (omega (arith, bad))
-no_run rows none (Word high low memory) fits sound =
-    let bad : 114 ≡ 119 = ap (λ t. slice_index t 0) fits.0 in absurd (omega (arith, bad))
-no_run rows none First fits sound = fits
+-- a plan that says what was found of arguments, with no file written over another, is sound
+pub sound : (name : Text) (rows : List Row) (plan : Plan) (lines : List Line) → lines_named name commands ≡ Some lines
+    → Says name rows plan → IsTrue (are_apart (files_found rows lines)) → IsSound plan
+sound name rows plan lines is says apart =
+    let here : lines_named (name_of plan) commands ≡ Some lines = ap (λ n. lines_named n commands) (sym says.0) ∙ is in
+    let are : AreSaid rows lines (said plan) = subst (λ o. IsSomeAnd o (λ l. AreSaid rows l (said plan))) is says.1 in
+    let all : IfSome (lines_named (name_of plan) commands) (λ l. AllZip (λ line said. KeepsLimits line.takes said) l (said plan)) =
+    subst (λ o. IfSome o (λ l. AllZip (λ line said. KeepsLimits line.takes said) l (said plan))) (sym here)
+    (all_kept rows lines (said plan) are) in
+    let files : IfSome (lines_named (name_of plan) commands) (λ l. IsTrue (are_apart (files_said l (said plan)))) =
+    subst (λ o. IfSome o (λ l. IsTrue (are_apart (files_said l (said plan))))) (sym here)
+    (subst (λ f. IsTrue (are_apart f)) (files-found rows lines (said plan) are) apart) in
+    (scheduled plan all, all, files)
 
--- the names of files say whether one is apart from another
-abbrev seen : Option (Bor Text) → Option Text
-seen file = option_map (λ name. name.now) file
+-- the first image is a sound plan
+pub first_sound : IsSound First
+unfolding commands
+first_sound = (tt, tt, tt)
 
-is_apart-alike : (name other : Text) (t u : Option (Bor Text)) → name ≡ other → seen t ≡ seen u → is_apart name t ≡ is_apart other u
-is_apart-alike name other None None same alike = refl
-is_apart-alike name other None (Some u) same alike = let bad : false ≡ true = ap is_some alike in cc
-is_apart-alike name other (Some t) None same alike = let bad : true ≡ false = ap is_some alike in cc
-is_apart-alike name other (Some t) (Some u) same alike =
-    let now : t.now ≡ u.now = ap (λ o. unwrap_or o []) alike in ap (λ n. not (bytes_eq n t.now)) same ∙ ap (λ n. not (bytes_eq other n)) now
+-- no command has another name than those of the table
+none_named : (name : Text) (rows : List Entry) → AllByRecursion (λ row. bytes_eq name row.name ≡ false) rows → lines_named name rows ≡ None
+none_named name [] all = refl
+none_named name (row ∷ rows) all = ap (λ b. if b then Some row.lines else lines_named name rows) all.0 ∙ none_named name rows all.1
 
-are_apart-alike : (a b t u : Option (Bor Text)) → seen a ≡ seen b → seen t ≡ seen u → are_apart a t ≡ are_apart b u
-are_apart-alike None None t u same alike = refl
-are_apart-alike None (Some b) t u same alike = let bad : false ≡ true = ap is_some same in cc
-are_apart-alike (Some a) None t u same alike = let bad : true ≡ false = ap is_some same in cc
-are_apart-alike (Some a) (Some b) t u same alike = is_apart-alike a.now b.now t u (ap (λ o. unwrap_or o []) same) alike
+pub no_other : (name : Text) (rows : List Row) → AllByRecursion (λ row. bytes_eq name row.name ≡ false) commands → HasAll name rows → ⊥
+no_other name rows others has = subst (λ o. IsSomeAnd o (AreFit rows)) (none_named name commands others) has
 
-abbrev reads_only : Text → Option (Bor Text) → Option (Bor Text) → Option (Bor Text) → Option (Bor Text) → Bool
-reads_only image input policy symbols trace =
-    (is_apart image trace && are_apart input trace) && (are_apart policy trace && are_apart symbols trace)
+-- no plan is of a name that no command has
+pub no_command : (name : Text) (rows : List Row) → None ≡ lines_named name commands → NoPlanFits (Some (name, rows))
+no_command name rows is plan fits sound = subst (λ o. IsSomeAnd o (λ lines. AreSaid rows lines (said plan))) (sym is) fits.0.1
 
--- files of a plan, one of which would be written over another
-module _ (rows : List Row) (image : Text) (input policy symbols trace : Option (Bor Text)) (i : first_of (codes "IMAGE") rows ≡ Some image)
-    (n : IsFile (codes "input") rows input) (p : IsFile (codes "policy") rows policy) (s : IsFile (codes "symbols") rows symbols)
-    (t : IsFile (codes "trace") rows trace) (shared : reads_only image input policy symbols trace ≡ false) where
-  no_files : (im : Text) (inp pol names tr : Option (Bor Text)) → first_of (codes "IMAGE") rows ≡ Some im
-      → IsFile (codes "input") rows inp → IsFile (codes "policy") rows pol → IsFile (codes "symbols") rows names
-      → IsFile (codes "trace") rows tr → IsTrue (reads_only im inp pol names tr) → ⊥
-  no_files im inp pol names tr found_image found_input found_policy found_names found_trace true_of =
-      let alike = sym t ∙ found_trace in
-      let one : is_apart image trace ≡ is_apart im tr =
-      is_apart-alike image im trace tr (ap (λ o. unwrap_or o []) (sym i ∙ found_image)) alike in
-      let two : are_apart input trace ≡ are_apart inp tr = are_apart-alike input inp trace tr (sym n ∙ found_input) alike in
-      let three : are_apart policy trace ≡ are_apart pol tr = are_apart-alike policy pol trace tr (sym p ∙ found_policy) alike in
-      let four : are_apart symbols trace ≡ are_apart names tr = are_apart-alike symbols names trace tr (sym s ∙ found_names) alike in
-      cc
-
--- a plan of `run` writes no file that it reads
-pub no_trace : (rows : List Row) (image : Text) (input policy symbols trace : Option (Bor Text))
-    → first_of (codes "IMAGE") rows ≡ Some image
-    → IsFile (codes "input") rows input → IsFile (codes "policy") rows policy → IsFile (codes "symbols") rows symbols
-    → IsFile (codes "trace") rows trace
-    → reads_only image input policy symbols trace ≡ false
-    → NoCommandFits (codes "run") rows
-no_trace rows image input policy symbols trace i n p s t shared (Asm from to labels q) fits sound =
-    let bad : 114 ≡ 97 = ap (λ t. slice_index t 0) fits.0 in absurd (omega (arith, bad))
-no_trace rows image input policy symbols trace i n p s t shared (Image flat output layout quiet) fits sound =
-    let bad : 114 ≡ 105 = ap (λ t. slice_index t 0) fits.0 in absurd (omega (arith, bad))
-no_trace rows image input policy symbols trace i n p s t shared (Run im steps times gap tick inp q why tr first last pol names) fits sound =
-    no_files rows image input policy symbols trace i n p s t shared im.now inp pol names tr fits.1 fits.3 fits.7.file fits.7.labels
-    fits.6.file sound.2
-no_trace rows image input policy symbols trace i n p s t shared (Audit im steps times gap tick inp q tr first last pol names) fits sound =
-    let bad : 114 ≡ 97 = ap (λ t. slice_index t 0) fits.0 in absurd (omega (arith, bad))
-no_trace rows image input policy symbols trace i n p s t shared (Dis im labels header q) fits sound =
-    let bad : 114 ≡ 100 = ap (λ t. slice_index t 0) fits.0 in absurd (omega (arith, bad))
-no_trace rows image input policy symbols trace i n p s t shared (Debug im labels inp gap tick q) fits sound =
-    let bad : 114 ≡ 100 = ap (λ t. slice_index t 0) fits.0 in absurd (omega (arith, bad))
-no_trace rows image input policy symbols trace i n p s t shared (Bounds base length address) fits sound =
-    let bad : 114 ≡ 98 = ap (λ t. slice_index t 0) fits.0 in absurd (omega (arith, bad))
-no_trace rows image input policy symbols trace i n p s t shared (Word high low memory) fits sound =
-    let bad : 114 ≡ 119 = ap (λ t. slice_index t 0) fits.0 in absurd (omega (arith, bad))
-no_trace rows image input policy symbols trace i n p s t shared First fits sound = fits
-
--- nor does a plan of `audit`
-pub no_audit_trace : (rows : List Row) (image : Text) (input policy symbols trace : Option (Bor Text))
-    → first_of (codes "IMAGE") rows ≡ Some image
-    → IsFile (codes "input") rows input → IsFile (codes "policy") rows policy → IsFile (codes "symbols") rows symbols
-    → IsFile (codes "trace") rows trace
-    → reads_only image input policy symbols trace ≡ false
-    → NoCommandFits (codes "audit") rows
-no_audit_trace rows image input policy symbols trace i n p s t shared (Asm from to labels q) fits sound =
-    let bad : 117 ≡ 115 = ap (λ t. slice_index t 1) fits.0 in absurd (omega (arith, bad))
-no_audit_trace rows image input policy symbols trace i n p s t shared (Image flat output layout quiet) fits sound =
-    let bad : 97 ≡ 105 = ap (λ t. slice_index t 0) fits.0 in absurd (omega (arith, bad))
-no_audit_trace rows image input policy symbols trace i n p s t shared (Run im steps times gap tick inp q w to f l pol names) fits sound =
-    let bad : 97 ≡ 114 = ap (λ t. slice_index t 0) fits.0 in absurd (omega (arith, bad))
-no_audit_trace rows image input policy symbols trace i n p s t shared (Audit im steps times gap tick inp q to f l pol names) fits sound =
-    no_files rows image input policy symbols trace i n p s t shared im.now inp pol names to fits.1 fits.3 fits.6.file fits.6.labels
-    fits.5.file sound.2
-no_audit_trace rows image input policy symbols trace i n p s t shared (Dis im labels header q) fits sound =
-    let bad : 97 ≡ 100 = ap (λ t. slice_index t 0) fits.0 in absurd (omega (arith, bad))
-no_audit_trace rows image input policy symbols trace i n p s t shared (Debug im labels inp gap tick q) fits sound =
-    let bad : 97 ≡ 100 = ap (λ t. slice_index t 0) fits.0 in absurd (omega (arith, bad))
-no_audit_trace rows image input policy symbols trace i n p s t shared (Bounds base length address) fits sound =
-    let bad : 97 ≡ 98 = ap (λ t. slice_index t 0) fits.0 in absurd (omega (arith, bad))
-no_audit_trace rows image input policy symbols trace i n p s t shared (Word high low memory) fits sound =
-    let bad : 97 ≡ 119 = ap (λ t. slice_index t 0) fits.0 in absurd (omega (arith, bad))
-no_audit_trace rows image input policy symbols trace i n p s t shared First fits sound = fits
-
--- a plan of `audit` has its numbers, in their ranges, with those of a trace, and a policy
-pub no_audit : (rows : List Row)
-    → ((steps times gap tick : ℕ) (file : Option (Bor Text)) (from : ℕ) (last : Option ℕ)
-    (policy symbols : Option (Bor Text))
-    → AreNumbersOf rows steps times gap tick → AreInRange steps times gap tick → IsTraceOf rows file from last
-    → IsTraceInRange from last → IsPolicyOf rows policy symbols → ⊥)
-    → NoCommandFits (codes "audit") rows
-no_audit rows none (Asm input output symbols quiet) fits sound =
-    let bad : 117 ≡ 115 = ap (λ t. slice_index t 1) fits.0 in absurd (omega (arith, bad))
-no_audit rows none (Image flat output layout quiet) fits sound =
-    let bad : 97 ≡ 105 = ap (λ t. slice_index t 0) fits.0 in absurd (omega (arith, bad))
-no_audit rows none (Run image steps times gap tick input quiet why trace from last policy symbols) fits sound =
-    let bad : 97 ≡ 114 = ap (λ t. slice_index t 0) fits.0 in absurd (omega (arith, bad))
-no_audit rows none (Audit image steps times gap tick input quiet trace from last policy symbols) fits sound =
-    none steps times gap tick trace from last policy symbols fits.2 sound.0 fits.5 sound.1 fits.6
-no_audit rows none (Dis image symbols header quiet) fits sound =
-    let bad : 97 ≡ 100 = ap (λ t. slice_index t 0) fits.0 in absurd (omega (arith, bad))
-no_audit rows none (Debug image symbols input gap tick quiet) fits sound =
-    let bad : 97 ≡ 100 = ap (λ t. slice_index t 0) fits.0 in absurd (omega (arith, bad))
-no_audit rows none (Bounds base length address) fits sound =
-    let bad : 97 ≡ 98 = ap (λ t. slice_index t 0) fits.0 in absurd (omega (arith, bad))
-no_audit rows none (Word high low memory) fits sound =
-    let bad : 97 ≡ 119 = ap (λ t. slice_index t 0) fits.0 in absurd (omega (arith, bad))
-no_audit rows none First fits sound = fits
-
--- a plan of `debug` has its gap and its tick, in their ranges
-pub no_debug : (rows : List Row)
-    → ((gap tick : Option ℕ) → IsOptional (codes "gap") rows gap → IsOptional (codes "tick") rows tick → IsInputInRange gap tick → ⊥)
-    → NoCommandFits (codes "debug") rows
-no_debug rows none (Asm input output symbols quiet) fits sound =
-    let bad : 100 ≡ 97 = ap (λ t. slice_index t 0) fits.0 in absurd (omega (arith, bad))
-no_debug rows none (Image flat output layout quiet) fits sound =
-    let bad : 100 ≡ 105 = ap (λ t. slice_index t 0) fits.0 in absurd (omega (arith, bad))
-no_debug rows none (Run image steps times gap tick input quiet why trace from last policy symbols) fits sound =
-    let bad : 100 ≡ 114 = ap (λ t. slice_index t 0) fits.0 in absurd (omega (arith, bad))
-no_debug rows none (Audit image steps times gap tick input quiet trace from last policy symbols) fits sound =
-    let bad : 100 ≡ 97 = ap (λ t. slice_index t 0) fits.0 in absurd (omega (arith, bad))
-no_debug rows none (Dis image symbols header quiet) fits sound =
-    let bad : 101 ≡ 105 = ap (λ t. slice_index t 1) fits.0 in absurd (omega (arith, bad))
-no_debug rows none (Debug image symbols input gap tick quiet) fits sound = none gap tick fits.4 fits.5 sound
-no_debug rows none (Bounds base length address) fits sound =
-    let bad : 100 ≡ 98 = ap (λ t. slice_index t 0) fits.0 in absurd (omega (arith, bad))
-no_debug rows none (Word high low memory) fits sound =
-    let bad : 100 ≡ 119 = ap (λ t. slice_index t 0) fits.0 in absurd (omega (arith, bad))
-no_debug rows none First fits sound = fits
-
--- a plan of `bounds` has its numbers
-pub no_bounds : (rows : List Row)
-    → ((base : Option ℕ) (length : ℕ) (address : Option ℕ) → AreBoundsOf rows base length address → ⊥)
-    → NoCommandFits (codes "bounds") rows
-no_bounds rows none (Asm input output symbols quiet) fits sound =
-    let bad : 98 ≡ 97 = ap (λ t. slice_index t 0) fits.0 in absurd (omega (arith, bad))
-no_bounds rows none (Image flat output layout quiet) fits sound =
-    let bad : 98 ≡ 105 = ap (λ t. slice_index t 0) fits.0 in absurd (omega (arith, bad))
-no_bounds rows none (Run image steps times gap tick input quiet why trace from last policy symbols) fits sound =
-    let bad : 98 ≡ 114 = ap (λ t. slice_index t 0) fits.0 in absurd (omega (arith, bad))
-no_bounds rows none (Audit image steps times gap tick input quiet trace from last policy symbols) fits sound =
-    let bad : 98 ≡ 97 = ap (λ t. slice_index t 0) fits.0 in absurd (omega (arith, bad))
-no_bounds rows none (Dis image symbols header quiet) fits sound =
-    let bad : 98 ≡ 100 = ap (λ t. slice_index t 0) fits.0 in absurd (omega (arith, bad))
-no_bounds rows none (Debug image symbols input gap tick quiet) fits sound =
-    let bad : 98 ≡ 100 = ap (λ t. slice_index t 0) fits.0 in absurd (omega (arith, bad))
-no_bounds rows none (Bounds base length address) fits sound = none base length address fits.1
-no_bounds rows none (Word high low memory) fits sound =
-    let bad : 98 ≡ 119 = ap (λ t. slice_index t 0) fits.0 in absurd (omega (arith, bad))
-no_bounds rows none First fits sound = fits
-
--- a plan of `word` has two halves
-pub no_word : (rows : List Row)
-    → ((high low : ℕ) → IsNatural (codes "HIGH") rows (Some high) → IsNatural (codes "LOW") rows (Some low) → ⊥)
-    → NoCommandFits (codes "word") rows
-no_word rows none (Asm input output symbols quiet) fits sound =
-    let bad : 119 ≡ 97 = ap (λ t. slice_index t 0) fits.0 in absurd (omega (arith, bad))
-no_word rows none (Image flat output layout quiet) fits sound =
-    let bad : 119 ≡ 105 = ap (λ t. slice_index t 0) fits.0 in absurd (omega (arith, bad))
-no_word rows none (Run image steps times gap tick input quiet why trace from last policy symbols) fits sound =
-    let bad : 119 ≡ 114 = ap (λ t. slice_index t 0) fits.0 in absurd (omega (arith, bad))
-no_word rows none (Audit image steps times gap tick input quiet trace from last policy symbols) fits sound =
-    let bad : 119 ≡ 97 = ap (λ t. slice_index t 0) fits.0 in absurd (omega (arith, bad))
-no_word rows none (Dis image symbols header quiet) fits sound =
-    let bad : 119 ≡ 100 = ap (λ t. slice_index t 0) fits.0 in absurd (omega (arith, bad))
-no_word rows none (Debug image symbols input gap tick quiet) fits sound =
-    let bad : 119 ≡ 100 = ap (λ t. slice_index t 0) fits.0 in absurd (omega (arith, bad))
-no_word rows none (Bounds base length address) fits sound =
-    let bad : 119 ≡ 98 = ap (λ t. slice_index t 0) fits.0 in absurd (omega (arith, bad))
-no_word rows none (Word high low memory) fits sound = none high low fits.1 fits.2
-no_word rows none First fits sound = fits
+-- nor where nothing that is said of the arguments is sound
+pub no_plan : (name : Text) (rows : List Row) (lines : List Line) → lines_named name commands ≡ Some lines
+    → ((saids : List Said) → AreSaid rows lines saids → IsTrue (may_stand rows) → IsTrue (are_apart (files_said lines saids)) → ⊥)
+    → NoPlanFits (Some (name, rows))
+no_plan name rows lines is never plan fits sound =
+    let here : lines_named (name_of plan) commands ≡ Some lines = ap (λ n. lines_named n commands) (sym fits.0.0) ∙ is in
+    let are : AreSaid rows lines (said plan) = subst (λ o. IsSomeAnd o (λ l. AreSaid rows l (said plan))) is fits.0.1 in
+    let files : IsTrue (are_apart (files_said lines (said plan))) =
+    subst (λ o. IfSome o (λ l. IsTrue (are_apart (files_said l (said plan))))) here sound.2 in
+    never (said plan) are fits.1 files

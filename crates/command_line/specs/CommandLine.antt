@@ -1,151 +1,99 @@
--- The command line: the command that clap reads the words by, and what a plan says of clap's matches.
-use Rattle.std.specs.Prelude.{◌≡◌, ◌<◌, ◌≤◌, ◌^◌, ◌==◌, ℕ, Bool, not, ◌&&◌, ◌||◌, if◌then◌else◌, IsTrue, List, [], ◌∷◌, drop, Option, Some}
-use Rattle.std.specs.Prelude.{None, true, false, bytes_eq, codes, option_map, is_some, unwrap_or, ⊤}
-use Rattle.std.specs.List.{starts_with}
-use Rattle.std.specs.Option.{option_map_or}
+-- The command line: the command that clap reads the words by, and what a plan says of clap's matches. Both go by the lines of the table.
+use Rattle.std.specs.Prelude.{◌≡◌, ◌≤◌, ◌^◌, ◌==◌, ℕ, Bool, not, ◌&&◌, ◌||◌, if◌then◌else◌, IsTrue, List, [], ◌∷◌, map, length, drop}
+use Rattle.std.specs.Prelude.{Option, Some, None, true, false, bytes_eq, codes, option_map, option_and_then, is_some, ⊤}
+use Rattle.std.specs.Prelude.{IsSome, IsSomeAnd, IfSome, nat_lt, nat_le}
+use Rattle.std.specs.List.{AllByRecursion, AllZip, list_all, starts_with}
 use Rattle.std.specs.Borrow.{Bor}
-use Rattle.std.specs.Str.Parse.{IsNumeral, digits_value, without_leading_plus}
+use Rattle.std.specs.Char.{digit_value}
+use Rattle.std.specs.Str.Parse.{digits_value, without_leading_plus}
 use Rattle.clap.specs.Words.{App, Row, Rule, Text, fault_of, first_of, one_of, new_app, new_rule, subcommand_of, with_rule, with_subcommand}
 use Rattle.clap.specs.declared.builder.action.ArgAction.TheVariants.{SetTrue}
 use Rattle.clap.specs.declared.builder.value_parser.ValueParser.TheVariants as parser
-use Rattle.command_line.specs.declared.layout.Layout.{Layout}
 use Rattle.command_line.specs.declared.plans.Plan.{Plan}
 use Rattle.command_line.specs.declared.plans.Plan.TheVariants.{Asm, Image, Run, Audit, Dis, Debug, Bounds, Word, First}
 use Rattle.command_line.specs.declared.plans.Why.{Why}
 use Rattle.command_line.specs.declared.plans.Why.TheVariants.{Unfetched, All}
+use Rattle.command_line.specs.declared.table.Stands.{Stands}
+use Rattle.command_line.specs.declared.table.Stands.TheVariants.{Operand, Optional, Named, Flag, FlagOrAll}
+use Rattle.command_line.specs.declared.table.Takes.{Takes}
+use Rattle.command_line.specs.declared.table.Takes.TheVariants.{Nothing, Ends, Read, Written, Count, Start, Number}
+use Rattle.command_line.specs.declared.table.TheConstants.{COMMANDS, STEPS, TIMES, RUN_GAP, RUN_TICK}
 
--- an argument that must be there, one that need not, an option --ID VALUE, and a flag --ID
-abbrev pub operand : Text → Rule
-operand id = record (new_rule id) { required = true }
+-- an argument: its id, how it stands among the words, what it takes, and its value where it isn't used
+pub record Line : Type 0 where
+  pub id : Text
+  pub stands : Stands
+  pub takes : Takes
+  pub default : Option Text
 
-abbrev pub optional : Text → Rule
-optional id = new_rule id
+-- a command: its name and its arguments
+pub record Entry : Type 0 where
+  pub name : Text
+  pub lines : List Line
 
-abbrev pub named : Text → Rule
-named id = record (new_rule id) { long = Some id; value_names = 1 }
+abbrev pub argument : Text → Stands → Takes → Option Text → Line
+argument id stands takes default = record { id = id; stands = stands; takes = takes; default = default }
 
-abbrev pub flag : Text → Rule
-flag id = record (new_rule id) { long = Some id; action = Some SetTrue }
+abbrev pub entry : Text → List Line → Entry
+entry name lines = record { name = name; lines = lines }
 
--- its value is a decimal number from `least` to `most`
-abbrev pub in_range : ℕ → ℕ → Rule → Rule
-in_range least most rule = record rule { parser = Some (parser.Unsigned least most) }
+-- the commands of the table
+unfoldable pub commands : List Entry
+commands = map (λ row. entry row.0.now (map (λ a. argument a.0.now a.1 a.2 (option_map (λ t. t.now) a.3)) row.2.now)) COMMANDS
+
+-- a line of the table as code looks at it
+abbrev pub ArgumentRead : Type 0
+ArgumentRead = Bor Text × Stands × Takes × Option (Bor Text) × (Bor Text × Bor Text × Bor Text)
+
+abbrev pub line_of : ArgumentRead → Line
+line_of a = argument a.0.now a.1 a.2 (option_map (λ t. t.now) a.3)
+
+abbrev pub entry_of : (Bor Text × Bor Text × Bor (List ArgumentRead)) → Entry
+entry_of row = entry row.0.now (map line_of row.2.now)
+
+-- ---- the command that clap reads the words by
+
+-- a word that must be there, a word that need not, --ID VALUE, or --ID; and where the words have --why=all, --why takes a value too
+abbrev pub as_stands : Bool → Stands → Text → Rule → Rule
+as_stands all Operand id rule = record rule { required = true }
+as_stands all Optional id rule = rule
+as_stands all Named id rule = record rule { long = Some id; value_names = 1 }
+as_stands all Flag id rule = record rule { long = Some id; action = Some SetTrue }
+as_stands true FlagOrAll id rule = record rule { long = Some id; value_names = 1 }
+as_stands false FlagOrAll id rule = record rule { long = Some id; action = Some SetTrue }
+
+-- a count is a decimal number within its limits
+abbrev pub as_takes : Takes → Rule → Rule
+as_takes (Count least most) rule = record rule { parser = Some (parser.Unsigned least most) }
+as_takes (Start least most) rule = record rule { parser = Some (parser.Unsigned least most) }
+as_takes _ rule = rule
 
 -- its value where it isn't used
-abbrev pub by_default : Text → Rule → Rule
-by_default value rule = record rule { defaults = value ∷ [] }
+abbrev pub by_default : Option Text → Rule → Rule
+by_default None rule = rule
+by_default (Some value) rule = record rule { defaults = value ∷ [] }
 
--- [--symbols FILE]
-abbrev pub with_symbols : App → App
-with_symbols app = with_rule app (named (codes "symbols"))
+-- the rule of an argument's line
+unfoldable pub rule : Bool → Line → Rule
+rule all line =
+    by_default line.default (as_takes line.takes (as_stands all line.stands line.id (new_rule line.id)))
 
--- [--quiet]
-abbrev pub with_quiet : App → App
-with_quiet app = with_rule app (flag (codes "quiet"))
+-- a command with the arguments of these lines
+unfoldable pub with_arguments : Bool → App → List Line → App
+with_arguments all app [] = app
+with_arguments all app (line ∷ lines) = with_arguments all (with_rule app (rule all line)) lines
 
--- asm IN OUT [--symbols FILE] [--quiet]
-abbrev pub asm_command : App
-asm_command =
-    with_quiet (with_symbols (with_rule (with_rule (new_app (codes "asm")) (operand (codes "IN"))) (operand (codes "OUT"))))
+-- the command of a line
+unfoldable pub command : Bool → Entry → App
+command all row = with_arguments all (new_app row.name) row.lines
 
--- image FLAT OUT [--at ADDRESS] [--entry ADDRESS] [--pages N] [--mode M] [--quiet]
-abbrev pub with_layout : App → App
-with_layout app =
-    with_rule (with_rule (with_rule (with_rule app (named (codes "at"))) (named (codes "entry"))) (named (codes "pages")))
-    (named (codes "mode"))
+-- the program with the commands of these lines
+unfoldable pub with_commands : Bool → App → List Entry → App
+with_commands all app [] = app
+with_commands all app (row ∷ rows) = with_commands all (with_subcommand app (command all row).top) rows
 
-abbrev pub image_command : App
-image_command =
-    with_quiet (with_layout (with_rule (with_rule (new_app (codes "image")) (operand (codes "FLAT"))) (operand (codes "OUT"))))
-
--- STEPS of 1 to 100000000, and how many times as many, 1 to 1000000, by default once; a gap of 1 to 1000000, by default 1000; a tick of
--- 0 to 1000000, by default 100
-abbrev pub steps_rule : Rule
-steps_rule = in_range 1 100000000 (operand (codes "STEPS"))
-
-abbrev pub times_rule : Rule
-times_rule = by_default (codes "1") (in_range 1 1000000 (named (codes "times")))
-
-abbrev pub gap_rule : Rule
-gap_rule = in_range 1 1000000 (named (codes "gap"))
-
-abbrev pub tick_rule : Rule
-tick_rule = in_range 0 1000000 (named (codes "tick"))
-
--- a trace from a step of 1 to 100000000000000 on, and of its lines the last 1 to 1000000
-abbrev pub from_rule : Rule
-from_rule = in_range 1 100000000000000 (named (codes "trace-from"))
-
-abbrev pub last_rule : Rule
-last_rule = in_range 1 1000000 (named (codes "trace-last"))
-
--- --why, or --why=all: a flag, and where the words have the second an option, so that --why takes no other word as its value
-abbrev pub why_rule : Bool → Rule
-why_rule all = if all then named (codes "why") else flag (codes "why")
-
--- [--times N] [--input FILE] [--gap N] [--tick N]
-abbrev pub with_pace : App → App
-with_pace run = with_rule (with_rule run (by_default (codes "1000") gap_rule)) (by_default (codes "100") tick_rule)
-
-abbrev pub with_schedule : App → App
-with_schedule run = with_pace (with_rule (with_rule run times_rule) (named (codes "input")))
-
--- [--quiet] [--why] [--trace FILE [--trace-from N] [--trace-last N]]
-abbrev pub with_ends : Bool → App → App
-with_ends all run = with_rule (with_quiet run) (why_rule all)
-
-abbrev pub with_trace : App → App
-with_trace run = with_rule (with_rule (with_rule run (named (codes "trace"))) from_rule) last_rule
-
--- [--policy FILE] [--symbols FILE]
-abbrev pub with_policy : App → App
-with_policy run = with_symbols (with_rule run (named (codes "policy")))
-
--- run IMAGE STEPS with these options, and audit IMAGE STEPS with these but --why
-abbrev pub scheduled_command : Text → App
-scheduled_command name = with_schedule (with_rule (with_rule (new_app name) (operand (codes "IMAGE"))) steps_rule)
-
-abbrev pub run_command : Bool → App
-run_command all = with_policy (with_trace (with_ends all (scheduled_command (codes "run"))))
-
-abbrev pub audit_command : App
-audit_command = with_policy (with_trace (with_quiet (scheduled_command (codes "audit"))))
-
--- dis IMAGE [--symbols FILE] [--header] [--quiet]
-abbrev pub dis_command : App
-dis_command =
-    with_quiet (with_rule (with_symbols (with_rule (new_app (codes "dis")) (operand (codes "IMAGE")))) (flag (codes "header")))
-
--- debug IMAGE [--symbols FILE] [--input FILE] [--gap N] [--tick N] [--quiet]
-abbrev pub with_input : App → App
-with_input debug = with_rule (with_rule (with_rule debug (named (codes "input"))) gap_rule) tick_rule
-
-abbrev pub debug_command : App
-debug_command = with_quiet (with_input (with_symbols (with_rule (new_app (codes "debug")) (operand (codes "IMAGE")))))
-
--- bounds BASE LENGTH [--address ADDRESS], or bounds LENGTH: the first number is required
-abbrev pub bounds_command : App
-bounds_command =
-    with_rule (with_rule (with_rule (new_app (codes "bounds")) (operand (codes "BASE"))) (optional (codes "LENGTH")))
-    (named (codes "address"))
-
--- word HIGH LOW [--memory]
-abbrev pub word_command : App
-word_command =
-    with_rule (with_rule (with_rule (new_app (codes "word")) (operand (codes "HIGH"))) (operand (codes "LOW")))
-    (flag (codes "memory"))
-
--- the commands that make an image, those that take one, and those that say what capabilities are
-abbrev pub making : App
-making = with_subcommand (with_subcommand (new_app (codes "cherisim")) asm_command.top) image_command.top
-
-abbrev pub taking : Bool → App → App
-taking all app =
-    with_subcommand (with_subcommand (with_subcommand (with_subcommand app (run_command all).top) audit_command.top) dis_command.top)
-    debug_command.top
-
-abbrev pub program : Bool → App
-program all = with_subcommand (with_subcommand (taking all making) bounds_command.top) word_command.top
+unfoldable pub program : Bool → App
+program all = with_commands all (new_app (codes "cherisim")) commands
 
 -- one of the words is --why=all, before any --
 abbrev pub asks_all : List Text → Bool
@@ -163,192 +111,254 @@ IsTaken words = fault_of (program_of words) words ≡ []
 abbrev pub found_in : List Text → Option (Text × List Row)
 found_in words = subcommand_of (program_of words) words
 
--- clap found the number for an argument, in decimal digits
-pub record IsNumber (id : Text) (rows : List Row) (number : ℕ) : Type 0 where
-  pub text : Text
-  pub found : one_of id rows ≡ Some text
-  pub numeral : IsNumeral 10 (without_leading_plus text)
-  pub value : number ≡ digits_value 10 (without_leading_plus text)
+-- ---- what is found of an argument
 
--- the same, or none where the argument isn't used
-abbrev pub IsOptional : Text → List Row → Option ℕ → Type 0
-IsOptional id rows None = first_of id rows ≡ None
-IsOptional id rows (Some number) = IsNumber id rows number
+-- the name of a file, if one is named; a number, if there is one; whether a flag is used; or which ends of a run are explained
+pub data Said : Type 0 where
+  File : Option Text → Said
+  Amount : Option ℕ → Said
+  Used : Bool → Said
+  Explained : Option Why → Said
 
--- a number, if there is one, lies from `least` to `most`
-abbrev pub IsWithin : ℕ → ℕ → Option ℕ → Type 0
-IsWithin least most None = ⊤
-IsWithin least most (Some number) = (least ≤ number) × (number ≤ most)
+-- one digit of the radix or more, and nothing else
+abbrev pub is_numeral : ℕ → Text → Bool
+is_numeral radix digits = nat_lt 0 (length digits) && list_all (λ digit. nat_lt (digit_value digit) radix) digits
 
--- the numbers of a run are those that clap found
-pub record AreNumbersOf (rows : List Row) (steps times gap tick : ℕ) : Type 0 where
-  pub steps_found : IsNumber (codes "STEPS") rows steps
-  pub times_found : IsNumber (codes "times") rows times
-  pub gap_found : IsNumber (codes "gap") rows gap
-  pub tick_found : IsNumber (codes "tick") rows tick
-
--- and lie in their ranges
-pub record AreInRange (steps times gap tick : ℕ) : Type 0 where
-  pub some_step : 1 ≤ steps
-  pub most_steps : steps ≤ 100000000
-  pub some_times : 1 ≤ times
-  pub most_times : times ≤ 1000000
-  pub some_gap : 1 ≤ gap
-  pub most_gap : gap ≤ 1000000
-  pub most_tick : tick ≤ 1000000
-
--- the digits write the number, which is below 2 ^ 64
-pub record AreDigitsOf (radix : ℕ) (digits : Text) (number : ℕ) : Type 0 where
-  pub numeral : IsNumeral radix digits
-  pub value : number ≡ digits_value radix digits
-  pub small : number < 2 ^ 64
+-- the number below 2 ^ 64 that digits write
+unfoldable pub number_in : ℕ → Text → Option ℕ
+number_in radix digits =
+    if is_numeral radix digits && nat_lt (digits_value radix digits) (2 ^ 64) then Some (digits_value radix digits) else None
 
 -- hexadecimal digits after `0x`, or else decimal digits; a sign is neither
 abbrev pub is_hexadecimal : Text → Bool
 is_hexadecimal text = starts_with (λ a b. a == b) text (codes "0x")
 
-abbrev pub radix_of : Text → ℕ
-radix_of text = if is_hexadecimal text then 16 else 10
+unfoldable pub written_number : Text → Option ℕ
+written_number text = if is_hexadecimal text then number_in 16 (drop 2 text) else number_in 10 text
 
-abbrev pub digits_of : Text → Text
-digits_of text = if is_hexadecimal text then drop 2 text else text
+-- the decimal number that clap reads for an argument; a plus may stand first
+unfoldable pub count_of : Text → List Row → Option ℕ
+count_of id rows = option_and_then (λ text. number_in 10 (without_leading_plus text)) (one_of id rows)
 
-abbrev pub IsWrittenNumber : Text → ℕ → Type 0
-IsWrittenNumber text number = AreDigitsOf (radix_of text) (digits_of text) number
+-- a number from `least` to `most`
+abbrev pub is_within : ℕ → ℕ → ℕ → Bool
+is_within least most number = nat_le least number && nat_le number most
 
--- the number that an argument's text is; none where the argument isn't used
-abbrev pub IsNatural : Text → List Row → Option ℕ → Type 0
-IsNatural id rows None = first_of id rows ≡ None
-IsNatural id rows (Some number) = (text : Text) × (first_of id rows ≡ Some text) × IsWrittenNumber text number
+-- with --why those ends where an instruction was not fetched, and with --why=all all
+abbrev pub why_of : Text → Option Why
+why_of text = if bytes_eq text (codes "true") then Some Unfetched else if bytes_eq text (codes "all") then Some All else None
 
--- where the bytes of a flat file go
-pub record IsLayoutOf (rows : List Row) (layout : Layout) : Type 0 where
-  pub at : IsNatural (codes "at") rows layout.at
-  pub entry : IsNatural (codes "entry") rows layout.entry
-  pub pages : IsNatural (codes "pages") rows layout.pages
-  pub mode : IsNatural (codes "mode") rows layout.mode
+-- a number from `least` to `most` is said
+abbrev pub counted : ℕ → ℕ → Option ℕ → Option Said
+counted least most None = None
+counted least most (Some number) = if is_within least most number then Some (Amount (Some number)) else None
 
--- the name of a file, where its argument is used, and whether a flag is
-abbrev pub IsFile : Text → List Row → Option (Bor Text) → Type 0
-IsFile id rows file = first_of id rows ≡ option_map (λ name. name.now) file
+-- what an argument says by its text, of which `count` is the decimal number
+abbrev pub said_by : Takes → Text → Option ℕ → Option Said
+said_by Nothing text count = Some (Used (bytes_eq text (codes "true")))
+said_by Ends text count = Some (Explained (why_of text))
+said_by Read text count = Some (File (Some text))
+said_by Written text count = Some (File (Some text))
+said_by (Count least most) text count = counted least most count
+said_by (Start least most) text count = counted least most count
+said_by Number text count = option_map (λ number. Amount (Some number)) (written_number text)
 
+-- and where it isn't used
+abbrev pub unsaid : Takes → Option Said
+unsaid Nothing = Some (Used false)
+unsaid Ends = Some (Explained None)
+unsaid Read = Some (File None)
+unsaid Written = Some (File None)
+unsaid (Count least most) = Some (Amount None)
+unsaid (Start least most) = counted least most (Some least)
+unsaid Number = Some (Amount None)
+
+abbrev pub is_operand : Stands → Bool
+is_operand Operand = true
+is_operand _ = false
+
+abbrev pub is_number : Takes → Bool
+is_number (Count least most) = true
+is_number (Start least most) = true
+is_number Number = true
+is_number _ = false
+
+abbrev pub is_start : Takes → Bool
+is_start (Start least most) = true
+is_start _ = false
+
+-- it has a text wherever clap takes the words: an operand, or an argument with a default value
+abbrev pub is_needed : Line → Bool
+is_needed line = is_operand line.stands || is_some line.default
+
+-- what clap found of an argument, where that is what the argument takes
+abbrev pub said_of_text : List Row → Line → Option Text → Option Said
+said_of_text rows line (Some text) = said_by line.takes text (count_of line.id rows)
+said_of_text rows line None = if is_needed line then None else unsaid line.takes
+
+unfoldable pub said_of : List Row → Line → Option Said
+said_of rows line = said_of_text rows line (first_of line.id rows)
+
+-- ---- rules between arguments
+
+-- an argument is used
 abbrev pub is_used : Text → List Row → Bool
-is_used id rows = option_map_or (bytes_eq (codes "true")) (first_of id rows) false
+is_used id rows = is_some (first_of id rows)
 
--- which ends of a run are explained: with --why those where an instruction was not fetched, and with --why=all all
-abbrev pub why_of : List Row → Option Why
-why_of rows = if is_used (codes "why") rows then Some Unfetched
-    else if option_map_or (bytes_eq (codes "all")) (first_of (codes "why") rows) false then Some All
-    else None
+-- --trace-from and --trace-last go with --trace, --policy does not go with --why, and --address of `bounds` goes with LENGTH
+abbrev pub may_stand : List Row → Bool
+may_stand rows =
+    (is_used (codes "trace") rows || not (is_used (codes "trace-from") rows || is_used (codes "trace-last") rows))
+    && (not (is_used (codes "policy") rows && is_some (option_and_then why_of (first_of (codes "why") rows)))
+    && (is_used (codes "LENGTH") rows || not (is_used (codes "address") rows)))
 
--- --trace-from and --trace-last are used only where --trace is
-abbrev pub is_traced : List Row → Bool
-is_traced rows = is_some (first_of (codes "trace") rows)
-    || not (is_some (first_of (codes "trace-from") rows) || is_some (first_of (codes "trace-last") rows))
+-- whether a file is written, and its name, if one is named
+abbrev pub FileName : Type 0
+FileName = Bool × Option Text
 
--- the file of a trace, its first step, by default 1, and how many of its lines are left in the end
-pub record IsTraceOf (rows : List Row) (trace : Option (Bor Text)) (from : ℕ) (last : Option ℕ) : Type 0 where
-  pub file : IsFile (codes "trace") rows trace
-  pub first : Option ℕ
-  pub first_found : IsOptional (codes "trace-from") rows first
-  pub from_first : from ≡ unwrap_or first 1
-  pub last_found : IsOptional (codes "trace-last") rows last
-  pub traced : IsTrue (is_traced rows)
+abbrev pub is_file : Takes → Bool
+is_file Read = true
+is_file Written = true
+is_file _ = false
 
--- --policy is used only where --why is not
-abbrev pub is_watched : List Row → Bool
-is_watched rows = not (is_some (first_of (codes "policy") rows) && is_some (why_of rows))
+abbrev pub is_written : Takes → Bool
+is_written Written = true
+is_written _ = false
 
--- the file of a policy, and the one with labels, which stand after addresses and may be named by the policy
-pub record IsPolicyOf (rows : List Row) (policy symbols : Option (Bor Text)) : Type 0 where
-  pub file : IsFile (codes "policy") rows policy
-  pub labels : IsFile (codes "symbols") rows symbols
-  pub watched : IsTrue (is_watched rows)
+abbrev pub have_one_name : Option Text → Option Text → Bool
+have_one_name (Some a) (Some b) = bytes_eq a b
+have_one_name _ _ = false
 
--- with one number alone it is the length, and no address is placed
-abbrev pub AreBoundsOf : List Row → Option ℕ → ℕ → Option ℕ → Type 0
-AreBoundsOf rows None length address =
-    IsNatural (codes "BASE") rows (Some length) × IsNatural (codes "LENGTH") rows None × IsNatural (codes "address") rows None
-    × (address ≡ None)
-AreBoundsOf rows (Some base) length address =
-    IsNatural (codes "BASE") rows (Some base) × IsNatural (codes "LENGTH") rows (Some length)
-    × IsNatural (codes "address") rows address
+-- the names of a command's files, as clap found them
+abbrev pub files_found : List Row → List Line → List FileName
+files_found rows = map (λ line. (is_written line.takes, if is_file line.takes then first_of line.id rows else None))
 
--- the plan is a command with the texts and the numbers that clap found
-abbrev pub IsPlanOfCommand : Text → List Row → Plan → Type 0
-IsPlanOfCommand name rows (Asm input output symbols quiet) =
-    (name ≡ codes "asm")
-    × (first_of (codes "IN") rows ≡ Some input.now) × (first_of (codes "OUT") rows ≡ Some output.now)
-    × IsFile (codes "symbols") rows symbols × (quiet ≡ is_used (codes "quiet") rows)
-IsPlanOfCommand name rows (Image flat output layout quiet) =
-    (name ≡ codes "image")
-    × (first_of (codes "FLAT") rows ≡ Some flat.now) × (first_of (codes "OUT") rows ≡ Some output.now)
-    × IsLayoutOf rows layout × (quiet ≡ is_used (codes "quiet") rows)
-IsPlanOfCommand name rows (Run image steps times gap tick input quiet why trace trace_from trace_last policy symbols) =
-    (name ≡ codes "run")
-    × (first_of (codes "IMAGE") rows ≡ Some image.now) × AreNumbersOf rows steps times gap tick
-    × IsFile (codes "input") rows input × (quiet ≡ is_used (codes "quiet") rows) × (why ≡ why_of rows)
-    × IsTraceOf rows trace trace_from trace_last × IsPolicyOf rows policy symbols
-IsPlanOfCommand name rows (Audit image steps times gap tick input quiet trace trace_from trace_last policy symbols) =
-    (name ≡ codes "audit")
-    × (first_of (codes "IMAGE") rows ≡ Some image.now) × AreNumbersOf rows steps times gap tick
-    × IsFile (codes "input") rows input × (quiet ≡ is_used (codes "quiet") rows)
-    × IsTraceOf rows trace trace_from trace_last × IsPolicyOf rows policy symbols
-IsPlanOfCommand name rows (Dis image symbols header quiet) =
-    (name ≡ codes "dis") × (first_of (codes "IMAGE") rows ≡ Some image.now) × IsFile (codes "symbols") rows symbols
-    × (header ≡ is_used (codes "header") rows) × (quiet ≡ is_used (codes "quiet") rows)
-IsPlanOfCommand name rows (Debug image symbols input gap tick quiet) =
-    (name ≡ codes "debug")
-    × (first_of (codes "IMAGE") rows ≡ Some image.now) × IsFile (codes "symbols") rows symbols
-    × IsFile (codes "input") rows input × IsOptional (codes "gap") rows gap × IsOptional (codes "tick") rows tick
-    × (quiet ≡ is_used (codes "quiet") rows)
-IsPlanOfCommand name rows (Bounds base length address) = (name ≡ codes "bounds") × AreBoundsOf rows base length address
-IsPlanOfCommand name rows (Word high low memory) =
-    (name ≡ codes "word")
-    × IsNatural (codes "HIGH") rows (Some high) × IsNatural (codes "LOW") rows (Some low)
-    × (memory ≡ is_used (codes "memory") rows)
-IsPlanOfCommand name rows First = ⊥
+-- of two files of a command of which one is written the names differ
+abbrev pub are_two : FileName → FileName → Bool
+are_two a b = not ((a.0 || b.0) && have_one_name a.1 b.1)
+
+abbrev pub are_apart : List FileName → Bool
+are_apart [] = true
+are_apart (file ∷ files) = list_all (are_two file) files && are_apart files
+
+-- ---- the plan
+
+-- the name of a plan's command
+abbrev pub name_of : Plan → Text
+name_of (Asm input output symbols quiet) = codes "asm"
+name_of (Image flat output layout quiet) = codes "image"
+name_of (Run image steps times gap tick input quiet why trace trace_from trace_last policy symbols) = codes "run"
+name_of (Audit image steps times gap tick input quiet trace trace_from trace_last policy symbols) = codes "audit"
+name_of (Dis image symbols header quiet) = codes "dis"
+name_of (Debug image symbols input gap tick quiet) = codes "debug"
+name_of (Bounds base length address) = codes "bounds"
+name_of (Word high low memory) = codes "word"
+name_of First = []
+
+abbrev file : Option (Bor Text) → Said
+file name = File (option_map (λ n. n.now) name)
+
+abbrev its_file : Bor Text → Said
+its_file name = File (Some name.now)
+
+abbrev amount : ℕ → Said
+amount number = Amount (Some number)
+
+-- what a plan says of each argument of its command, in the order of the table; with one number alone `bounds` has a length
+abbrev pub said : Plan → List Said
+said (Asm input output symbols quiet) = its_file input ∷ its_file output ∷ file symbols ∷ Used quiet ∷ []
+said (Image flat output layout quiet) =
+    its_file flat ∷ its_file output ∷ Amount layout.at ∷ Amount layout.entry ∷ Amount layout.pages ∷ Amount layout.mode ∷ Used quiet ∷ []
+said (Run image steps times gap tick input quiet why trace trace_from trace_last policy symbols) =
+    its_file image ∷ amount steps ∷ amount times ∷ file input ∷ amount gap ∷ amount tick ∷ Used quiet ∷ Explained why
+    ∷ file trace ∷ amount trace_from ∷ Amount trace_last ∷ file policy ∷ file symbols ∷ []
+said (Audit image steps times gap tick input quiet trace trace_from trace_last policy symbols) =
+    its_file image ∷ amount steps ∷ amount times ∷ file input ∷ amount gap ∷ amount tick ∷ Used quiet
+    ∷ file trace ∷ amount trace_from ∷ Amount trace_last ∷ file policy ∷ file symbols ∷ []
+said (Dis image symbols header quiet) = its_file image ∷ file symbols ∷ Used header ∷ Used quiet ∷ []
+said (Debug image symbols input gap tick quiet) =
+    its_file image ∷ file symbols ∷ file input ∷ Amount gap ∷ Amount tick ∷ Used quiet ∷ []
+said (Bounds None length address) = amount length ∷ Amount None ∷ Amount address ∷ []
+said (Bounds (Some base) length address) = amount base ∷ amount length ∷ Amount address ∷ []
+said (Word high low memory) = amount high ∷ amount low ∷ Used memory ∷ []
+said First = []
+
+-- the arguments of the command of a name
+abbrev pub lines_named : Text → List Entry → Option (List Line)
+lines_named name [] = None
+lines_named name (row ∷ rows) = if bytes_eq name row.name then Some row.lines else lines_named name rows
+
+-- for each argument something that it takes was found, and of each argument this
+abbrev pub AreFit : List Row → List Line → Type 0
+AreFit rows = AllByRecursion (λ line. IsSome (said_of rows line))
+
+abbrev pub AreSaid : List Row → List Line → List Said → Type 0
+AreSaid rows = AllZip (λ line said. said_of rows line ≡ Some said)
+
+-- the plan is of the command of this name, and says of each of its arguments what clap found
+abbrev pub Says : Text → List Row → Plan → Type 0
+Says name rows plan = (name ≡ name_of plan) × IsSomeAnd (lines_named name commands) (λ lines. AreSaid rows lines (said plan))
+
+-- each argument of that command is what it takes
+abbrev pub HasAll : Text → List Row → Type 0
+HasAll name rows = IsSomeAnd (lines_named name commands) (AreFit rows)
 
 -- the plan is what clap found in the words
 abbrev pub IsPlanOf : Option (Text × List Row) → Plan → Type 0
 IsPlanOf None plan = plan ≡ First
-IsPlanOf (Some found) plan = IsPlanOfCommand found.0 found.1 plan
+IsPlanOf (Some found) plan = Says found.0 found.1 plan × IsTrue (may_stand found.1)
 
--- a file that is written is no other file of the command, by their names
-abbrev pub is_apart : Text → Option (Bor Text) → Bool
-is_apart name other = not (option_map_or (λ o. bytes_eq name o.now) other false)
+-- the limits of a count
+abbrev pub limits : Takes → ℕ × ℕ
+limits (Count least most) = (least, most)
+limits (Start least most) = (least, most)
+limits _ = (0, 0)
 
-abbrev pub are_apart : Option (Bor Text) → Option (Bor Text) → Bool
-are_apart None other = true
-are_apart (Some name) other = is_apart name.now other
+-- those of a run's numbers, with the names of their arguments
+abbrev pub run_limits : List (Text × (ℕ × ℕ))
+run_limits = map (λ a. (a.0.now, limits a.2)) (STEPS ∷ TIMES ∷ RUN_GAP ∷ RUN_TICK ∷ [])
 
--- the numbers of a trace and of a debugger's input lie in their ranges
-abbrev pub IsTraceInRange : ℕ → Option ℕ → Type 0
-IsTraceInRange from last = IsWithin 1 100000000000000 (Some from) × IsWithin 1 1000000 last
+-- the numbers of a run lie within their limits
+pub record AreInRange (steps times gap tick : ℕ) : Type 0 where
+  pub some_step : (limits STEPS.2).0 ≤ steps
+  pub most_steps : steps ≤ (limits STEPS.2).1
+  pub some_times : (limits TIMES.2).0 ≤ times
+  pub most_times : times ≤ (limits TIMES.2).1
+  pub some_gap : (limits RUN_GAP.2).0 ≤ gap
+  pub most_gap : gap ≤ (limits RUN_GAP.2).1
+  pub most_tick : tick ≤ (limits RUN_TICK.2).1
 
-abbrev pub IsInputInRange : Option ℕ → Option ℕ → Type 0
-IsInputInRange gap tick = IsWithin 1 1000000 gap × IsWithin 0 1000000 tick
+abbrev pub IsScheduled : Plan → Type 0
+IsScheduled (Run image steps times gap tick input quiet why trace trace_from trace_last policy symbols) = AreInRange steps times gap tick
+IsScheduled (Audit image steps times gap tick input quiet trace trace_from trace_last policy symbols) = AreInRange steps times gap tick
+IsScheduled _ = ⊤
 
--- the numbers of a plan lie in their ranges, and no file is written over one that is read, nor written twice
+-- and so does each number that is said of a count
+abbrev pub IsWithin : ℕ → ℕ → Said → Type 0
+IsWithin least most (Amount (Some number)) = (least ≤ number) × (number ≤ most)
+IsWithin least most _ = ⊤
+
+abbrev pub KeepsLimits : Takes → Said → Type 0
+KeepsLimits (Count least most) said = IsWithin least most said
+KeepsLimits (Start least most) said = IsWithin least most said
+KeepsLimits _ said = ⊤
+
+-- the names of the files among what is said
+abbrev pub name_said : Said → Option Text
+name_said (File name) = name
+name_said _ = None
+
+abbrev pub files_said : List Line → List Said → List FileName
+files_said (line ∷ lines) (said ∷ others) = (is_written line.takes, name_said said) ∷ files_said lines others
+files_said _ _ = []
+
+-- the numbers of a plan keep their limits, and no file is written over one that is read, nor written twice
 abbrev pub IsSound : Plan → Type 0
-IsSound (Asm input output symbols quiet) =
-    IsTrue (not (bytes_eq input.now output.now) && (is_apart input.now symbols && is_apart output.now symbols))
-IsSound (Image flat output layout quiet) = IsTrue (not (bytes_eq flat.now output.now))
-IsSound (Run image steps times gap tick input quiet why trace trace_from trace_last policy symbols) =
-    AreInRange steps times gap tick × IsTraceInRange trace_from trace_last
-    × IsTrue ((is_apart image.now trace && are_apart input trace) && (are_apart policy trace && are_apart symbols trace))
-IsSound (Audit image steps times gap tick input quiet trace trace_from trace_last policy symbols) =
-    AreInRange steps times gap tick × IsTraceInRange trace_from trace_last
-    × IsTrue ((is_apart image.now trace && are_apart input trace) && (are_apart policy trace && are_apart symbols trace))
-IsSound (Dis image symbols header quiet) = ⊤
-IsSound (Debug image symbols input gap tick quiet) = IsInputInRange gap tick
-IsSound (Bounds base length address) = ⊤
-IsSound (Word high low memory) = ⊤
-IsSound First = ⊤
+IsSound plan =
+    IsScheduled plan
+    × IfSome (lines_named (name_of plan) commands) (λ lines. AllZip (λ line said. KeepsLimits line.takes said) lines (said plan))
+    × IfSome (lines_named (name_of plan) commands) (λ lines. IsTrue (are_apart (files_said lines (said plan))))
 
 -- nothing that clap found is a sound plan
-abbrev pub NoCommandFits : Text → List Row → Type 0
-NoCommandFits name rows = (plan : Plan) → IsPlanOfCommand name rows plan → IsSound plan → ⊥
-
 abbrev pub NoPlanFits : Option (Text × List Row) → Type 0
 NoPlanFits found = (plan : Plan) → IsPlanOf found plan → IsSound plan → ⊥

@@ -1,14 +1,15 @@
 //! The program's command line: which plan its words ask for, or the text of the help or the refusal.
 #![tactic(auto)]
 
-mod arguments;
-mod commands;
 mod fault;
+/// What holds of the table of commands.
+pub mod laws;
 mod layout;
-mod limits;
 mod numbers;
 mod plans;
+mod program;
 mod reading;
+mod table;
 mod values;
 
 pub use fault::PlanFault;

@@ -1,14 +1,13 @@
 //! The 64-bit numbers that are typed as words.
 
-ghost use Rattle.std.specs.Prelude.{ℕ, ◌≤◌, IfSome, IfNone};
-ghost use Rattle.command_line.specs.CommandLine.{AreDigitsOf, IsWrittenNumber};
+ghost use Rattle.std.specs.Prelude.{◌≡◌, ◌≤◌};
+ghost use Rattle.command_line.specs.CommandLine.{number_in, written_number};
 
 /// The number below 2^64 that digits write. A plus before them, which std would take, is no digit.
-fn digits_number(digits: &str, radix: u32) -> Option<u64>
+fn number_in(digits: &str, radix: u32) -> Option<u64>
     requires least { 2 ≤ radix }
     requires most { radix ≤ 36 }
-    ensures some { IfSome result (AreDigitsOf radix digits.now) }
-    ensures none { IfNone result ((number : ℕ) → AreDigitsOf radix digits.now number → ⊥) }
+    ensures { result ≡ number_in radix digits.now }
 {
     if digits.starts_with('+') {
         return None;
@@ -17,12 +16,12 @@ fn digits_number(digits: &str, radix: u32) -> Option<u64>
 }
 
 /// The number below 2^64 that a word is: hexadecimal digits after `0x`, or else decimal digits.
+#[tactic(auto, unfolding(crate::specs::CommandLine::written_number))]
 pub(crate) fn written_number(word: &str) -> Option<u64>
-    ensures some { IfSome result (IsWrittenNumber word.now) }
-    ensures none { IfNone result ((number : ℕ) → IsWrittenNumber word.now number → ⊥) }
+    ensures { result ≡ written_number word.now }
 {
     match word.strip_prefix("0x") {
-        Some(digits) => digits_number(digits, 16),
-        None => digits_number(word, 10),
+        Some(digits) => number_in(digits, 16),
+        None => number_in(word, 10),
     }
 }

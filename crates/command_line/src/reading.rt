@@ -1,25 +1,21 @@
 //! The plan that a command line asks for.
 
-ghost use Rattle.std.specs.Prelude.{◌≡◌, ◌<◌, ◌^◌, ◌↔◌, ℕ, IsTrue, Option, IfOk, IfNone, IfErr, OnOk, IfSome, map};
-ghost use Rattle.std.specs.Prelude.{codes, is_some, None, true, ◌&&◌};
-ghost use Rattle.std.specs.Borrow.{Bor};
-ghost use Rattle.clap.specs.Words.{Text, first_of, found_of, rows_of, kind_of, subcommand_rows_of};
+ghost use Rattle.std.specs.Prelude.{◌≡◌, List, IsTrue, Option, IfOk, IfErr, OnOk, Some, map, option_map, codes, if◌then◌else◌, None};
+ghost use Rattle.std.specs.List.{list_all};
+ghost use Rattle.clap.specs.Words.{first_of, found_of, rows_of, kind_of, subcommand_rows_of};
 ghost use Rattle.clap.specs.declared.error.kind.ErrorKind.{ErrorKind};
-ghost use Rattle.command_line.specs.CommandLine.{found_in, IsSound, IsTaken, IsLayoutOf, IsPlanOf, IsPlanOfCommand, IsTraceOf, AreBoundsOf};
-ghost use Rattle.command_line.specs.CommandLine.{AreNumbersOf, AreInRange, IsTraceInRange, NoCommandFits, NoPlanFits, are_apart, is_apart};
-ghost use Rattle.command_line.specs.CommandLine.{IsPolicyOf, asks_all};
+ghost use Rattle.command_line.specs.CommandLine.{found_in, IsSound, IsTaken, IsPlanOf, NoPlanFits, asks_all, may_stand, line_of, entry_of};
+ghost use Rattle.command_line.specs.CommandLine.{Said, AreFit, AreSaid, HasAll, Says, lines_named, commands, files_found, files_said};
+ghost use Rattle.command_line.specs.CommandLine.{are_apart, are_two, have_one_name, is_file, is_written};
 ghost use Rattle.command_line.specs.declared.fault.PlanFault.TheVariants.{Memory};
-ghost use Rattle.command_line.specs.declared.layout.Layout.{Layout};
 
-use crate::commands::program;
 use crate::fault::PlanFault;
 use crate::layout::Layout;
-use crate::limits::{
-    MOST_GAP, MOST_STEPS, MOST_TICK, MOST_TIMES, MOST_TRACE_FROM, MOST_TRACE_LAST,
-};
 use crate::plans::Plan;
+use crate::program::program;
+use crate::table::*;
 use crate::values::{
-    MISSING, Misfit, is_used, natural_of, needed, number, operand, optional, text, why_of,
+    MISSING, Misfit, amount, ends, file, flag, is_fit, is_used, number, operand, text, why_of,
 };
 use clap::error::ErrorKind;
 use clap::{ArgMatches, Error};
@@ -37,363 +33,266 @@ const TWO_STOPS: Misfit = "--policy does not go with --why";
 /// An address is to be placed against no bounds.
 const UNPLACED: Misfit = "--address goes with BASE and LENGTH";
 
-/// What BASE, LENGTH and the address of `bounds` are, where they are no such number.
-const NO_BASE: Misfit = "BASE is a number of 0 to 18446744073709551615";
-
-const NO_LENGTH: Misfit = "LENGTH is a number of 0 to 18446744073709551615";
-
-const NO_ADDRESS: Misfit = "--address takes a number of 0 to 18446744073709551615";
-
-/// The numbers of a run: its most steps and how many times as many, and the steps from one byte and from one tick to the next.
-#[derive(Clone, Copy)]
-struct RunNumbers {
-    steps: u64,
-    times: u64,
-    gap: u64,
-    tick: u64,
+/// What is said where an argument is not what it takes. Of `bounds` a number alone is LENGTH, with which no address goes.
+fn misfit_of(found: &ArgMatches<'_>, line: &Argument) -> Misfit {
+    if is_used(found, "LENGTH") {
+        return line.4.2;
+    }
+    match line.0 {
+        "BASE" => LENGTH.4.2,
+        "address" => UNPLACED,
+        _ => line.4.2,
+    }
 }
 
-/// Whether the numbers of a run lie in their ranges, as clap's own parsers say of them.
-fn are_in_range(run: RunNumbers) -> bool
-    ensures { IsTrue result ↔ AreInRange run.steps run.times run.gap run.tick }
+/// Whether something that it takes was found for each argument.
+fn all_fit(found: &ArgMatches<'_>, lines: &[Argument]) -> Result<(), Misfit>
+    ensures ok { IfOk result (λ _. AreFit (rows_of (found_of found.now)) (map line_of lines.now)) }
+    ensures err { IfErr result (λ _. (saids : List Said) → AreSaid (rows_of (found_of found.now)) (map line_of lines.now) saids → ⊥) }
 {
-    1 <= run.steps
-        && run.steps <= MOST_STEPS
-        && 1 <= run.times
-        && run.times <= MOST_TIMES
-        && 1 <= run.gap
-        && run.gap <= MOST_GAP
-        && run.tick <= MOST_TICK
+    match lines {
+        [] => Ok(()),
+        [line, rest @ ..] => {
+            if is_fit(found, line) {
+                all_fit(found, rest)
+            } else {
+                Err(misfit_of(found, line))
+            }
+        }
+    }
 }
 
-/// The numbers that were found for a run, where they lie in their ranges.
-fn numbers_of(matches: &ArgMatches<'_>) -> Option<RunNumbers>
-    ensures value { IfSome result (λ run. AreNumbersOf (rows_of (found_of matches.now)) run.steps run.times run.gap run.tick) }
-    ensures range { IfSome result (λ run. AreInRange run.steps run.times run.gap run.tick) }
-    ensures none { IfNone result ((steps times gap tick : ℕ) → AreNumbersOf (rows_of (found_of matches.now)) steps times gap tick
-        → AreInRange steps times gap tick → ⊥) }
+/// Whether the arguments that are used go together.
+fn may_stand(found: &ArgMatches<'_>) -> Result<(), Misfit>
+    ensures ok { IfOk result (λ _. IsTrue (may_stand (rows_of (found_of found.now)))) }
+    ensures err { IfErr result (λ _. IsTrue (may_stand (rows_of (found_of found.now))) → ⊥) }
 {
-    let run = RunNumbers {
-        steps: number(matches, "STEPS")?,
-        times: number(matches, "times")?,
-        gap: number(matches, "gap")?,
-        tick: number(matches, "tick")?,
-    };
-    if are_in_range(run) { Some(run) } else { None }
-}
-
-/// What is traced: the file, the first step and how many lines are left.
-#[derive(Clone, Copy)]
-struct TraceAsked<'a> {
-    file: Option<&'a str>,
-    from: u64,
-    last: Option<u64>,
-}
-
-/// What was found of a trace, where its numbers lie in their ranges.
-fn traced<'a>(found: &ArgMatches<'a>) -> Result<TraceAsked<'a>, Misfit>
-    ensures value { IfOk result (λ t. IsTraceOf (rows_of (found_of found.now)) t.file t.from t.last) }
-    ensures range { IfOk result (λ t. IsTraceInRange t.from t.last) }
-    ensures err { IfErr result (λ _. (file : Option (Bor Text)) (from : ℕ) (last : Option ℕ)
-        → IsTraceOf (rows_of (found_of found.now)) file from last → IsTraceInRange from last → ⊥) }
-{
-    let file = text(found, "trace");
-    let first = optional(found, "trace-from", 1, MOST_TRACE_FROM)?;
-    let last = optional(found, "trace-last", 1, MOST_TRACE_LAST)?;
-    if file.is_none() && (first.is_some() || last.is_some()) {
+    let from_or_last = is_used(found, "trace-from") || is_used(found, "trace-last");
+    if from_or_last && !is_used(found, "trace") {
         return Err(UNTRACED);
     }
-    Ok(TraceAsked {
-        file,
-        from: first.unwrap_or(1),
-        last,
-    })
-}
-
-/// The policy that a run is watched by: its file, and the one with labels, which stand after addresses and may be named by the policy.
-#[derive(Clone, Copy)]
-struct PolicyAsked<'a> {
-    file: Option<&'a str>,
-    symbols: Option<&'a str>,
-}
-
-/// What was found of a policy.
-fn watched<'a>(found: &ArgMatches<'a>) -> Result<PolicyAsked<'a>, Misfit>
-    ensures value { IfOk result (λ p. IsPolicyOf (rows_of (found_of found.now)) p.file p.symbols) }
-    ensures err { IfErr result (λ _. (file symbols : Option (Bor Text)) → IsPolicyOf (rows_of (found_of found.now)) file symbols → ⊥) }
-{
-    let file = text(found, "policy");
-    let symbols = text(found, "symbols");
-    if file.is_some() && why_of(found).is_some() {
+    if is_used(found, "policy") && text(found, "why").and_then(why_of).is_some() {
         return Err(TWO_STOPS);
     }
-    Ok(PolicyAsked { file, symbols })
+    if is_used(found, "address") && !is_used(found, "LENGTH") {
+        return Err(UNPLACED);
+    }
+    Ok(())
 }
 
-/// Where the bytes of a flat file go.
-fn layout_of(found: &ArgMatches<'_>) -> Result<Layout, Misfit>
-    ensures ok { IfOk result (IsLayoutOf (rows_of (found_of found.now))) }
-    ensures err { IfErr result (λ _. (layout : Layout) → IsLayoutOf (rows_of (found_of found.now)) layout → ⊥) }
+/// Whether an argument names a file that is written.
+fn is_written(line: &Argument) -> bool
+    ensures { result ≡ is_written line.now.2 }
 {
-    Ok(Layout {
-        at: natural_of(
-            found,
-            "at",
-            "--at takes a number of 0 to 18446744073709551615",
-        )?,
-        entry: natural_of(
-            found,
-            "entry",
-            "--entry takes a number of 0 to 18446744073709551615",
-        )?,
-        pages: natural_of(found, "pages", "--pages takes a number of 1 to 65536")?,
-        mode: natural_of(found, "mode", "--mode takes 0 or 1")?,
-    })
-}
-
-/// Whether a file's name is not that of another file of the command.
-fn is_apart(name: &str, other: Option<&str>) -> bool
-    ensures { result ≡ is_apart name.now other.entry }
-{
-    match other {
-        Some(other) => name != other,
-        None => true,
+    match line.2 {
+        Takes::Written => true,
+        _ => false,
     }
 }
 
-/// The same of a file that need not be named.
-fn are_apart(name: Option<&str>, other: Option<&str>) -> bool
-    ensures { result ≡ are_apart name.entry other.entry }
+/// The file that was found for an argument.
+fn file_found<'a>(found: &ArgMatches<'a>, line: &Argument) -> Option<&'a str>
+    ensures { option_map (λ s. s.now) result ≡ (if is_file line.now.2 then first_of line.now.0.now (rows_of (found_of found.now)) else None) }
 {
-    match name {
-        Some(name) => is_apart(name, other),
-        None => true,
+    match line.2 {
+        Takes::Read | Takes::Written => text(found, line.0),
+        _ => None,
     }
 }
 
-fn asm_plan<'a>(found: &ArgMatches<'a>) -> Result<Plan<'a>, Misfit>
-    ensures value { IfOk result (IsPlanOfCommand (codes "asm") (rows_of (found_of found.now))) }
-    ensures sound { IfOk result IsSound }
-    ensures none { IfErr result (λ _. NoCommandFits (codes "asm") (rows_of (found_of found.now))) }
+/// Whether two files have one name.
+fn have_one_name(one: Option<&str>, other: Option<&str>) -> bool
+    ensures { result ≡ have_one_name (option_map (λ s. s.now) one.entry) (option_map (λ s. s.now) other.entry) }
 {
-    let input = operand(found, "IN")?;
-    let output = operand(found, "OUT")?;
-    let symbols = text(found, "symbols");
-    if input != output && is_apart(input, symbols) && is_apart(output, symbols) {
-        Ok(Plan::Asm {
-            input,
-            output,
-            symbols,
-            quiet: is_used(found, "quiet"),
-        })
+    match (one, other) {
+        (Some(one), Some(other)) => one == other,
+        _ => false,
+    }
+}
+
+/// Whether a file is none of those of other arguments, if it or they are written.
+fn is_apart(found: &ArgMatches<'_>, written: bool, name: Option<&str>, others: &[Argument]) -> bool
+    ensures { result ≡ list_all (are_two (written, option_map (λ s. s.now) name.entry)) (files_found (rows_of (found_of found.now)) (map line_of others.now)) }
+{
+    match others {
+        [] => true,
+        [other, rest @ ..] => {
+            let either = written || is_written(other);
+            if either && have_one_name(name, file_found(found, other)) {
+                false
+            } else {
+                is_apart(found, written, name, rest)
+            }
+        }
+    }
+}
+
+/// Whether no file is written over another of the command.
+fn are_apart(found: &ArgMatches<'_>, lines: &[Argument]) -> bool
+    ensures { result ≡ are_apart (files_found (rows_of (found_of found.now)) (map line_of lines.now)) }
+{
+    match lines {
+        [] => true,
+        [line, rest @ ..] => {
+            let name = file_found(found, line);
+            is_apart(found, is_written(line), name, rest) && are_apart(found, rest)
+        }
+    }
+}
+
+/// Whether what was found of these arguments is a plan.
+fn check(found: &ArgMatches<'_>, lines: &[Argument]) -> Result<(), Misfit>
+    ensures fit { IfOk result (λ _. AreFit (rows_of (found_of found.now)) (map line_of lines.now)) }
+    ensures stand { IfOk result (λ _. IsTrue (may_stand (rows_of (found_of found.now)))) }
+    ensures apart { IfOk result (λ _. IsTrue (are_apart (files_found (rows_of (found_of found.now)) (map line_of lines.now)))) }
+    ensures err { IfErr result (λ _. (saids : List Said) → AreSaid (rows_of (found_of found.now)) (map line_of lines.now) saids → IsTrue (may_stand (rows_of (found_of found.now)))
+        → IsTrue (are_apart (files_said (map line_of lines.now) saids)) → ⊥) }
+{
+    all_fit(found, lines)?;
+    may_stand(found)?;
+    if are_apart(found, lines) {
+        Ok(())
     } else {
         Err(SAME_FILE)
     }
 }
 
-fn image_plan<'a>(found: &ArgMatches<'a>) -> Result<Plan<'a>, Misfit>
-    ensures value { IfOk result (IsPlanOfCommand (codes "image") (rows_of (found_of found.now))) }
-    ensures sound { IfOk result IsSound }
-    ensures none { IfErr result (λ _. NoCommandFits (codes "image") (rows_of (found_of found.now))) }
+#[tactic(auto, unfolding(crate::specs::CommandLine::commands))]
+fn asm_plan<'a>(found: &ArgMatches<'a>) -> Plan<'a>
+    requires { HasAll (codes "asm") (rows_of (found_of found.now)) }
+    ensures { Says (codes "asm") (rows_of (found_of found.now)) result }
 {
-    let flat = operand(found, "FLAT")?;
-    let output = operand(found, "OUT")?;
-    let layout = layout_of(found)?;
-    if flat == output {
-        return Err(SAME_FILE);
-    }
-    Ok(Plan::Image {
-        flat,
-        output,
-        layout,
-        quiet: is_used(found, "quiet"),
-    })
-}
-
-/// Whether none of the files that a run reads bears the name of the one that its trace is written to.
-fn is_read_only(
-    image: &str,
-    input: Option<&str>,
-    policy: PolicyAsked<'_>,
-    trace: Option<&str>,
-) -> bool
-    ensures { result ≡ ((is_apart image.now trace.entry && are_apart input.entry trace.entry)
-        && (are_apart policy.entry.file trace.entry && are_apart policy.entry.symbols trace.entry)) }
-{
-    is_apart(image, trace)
-        && are_apart(input, trace)
-        && are_apart(policy.file, trace)
-        && are_apart(policy.symbols, trace)
-}
-
-fn run_plan<'a>(found: &ArgMatches<'a>) -> Result<Plan<'a>, Misfit>
-    ensures value { IfOk result (IsPlanOfCommand (codes "run") (rows_of (found_of found.now))) }
-    ensures sound { IfOk result IsSound }
-    ensures none { IfErr result (λ _. NoCommandFits (codes "run") (rows_of (found_of found.now))) }
-{
-    let image = operand(found, "IMAGE")?;
-    let input = text(found, "input");
-    let trace = traced(found)?;
-    let policy = watched(found)?;
-    match numbers_of(found) {
-        Some(_) if !is_read_only(image, input, policy, trace.file) => Err(SAME_FILE),
-        Some(run) => Ok(Plan::Run {
-            image,
-            steps: run.steps,
-            times: run.times,
-            gap: run.gap,
-            tick: run.tick,
-            input,
-            quiet: is_used(found, "quiet"),
-            why: why_of(found),
-            trace: trace.file,
-            trace_from: trace.from,
-            trace_last: trace.last,
-            policy: policy.file,
-            symbols: policy.symbols,
-        }),
-        None => Err(MISSING),
+    Plan::Asm {
+        input: operand(found, &IN),
+        output: operand(found, &OUT),
+        symbols: file(found, &ASM_LABELS),
+        quiet: flag(found, &ALONE),
     }
 }
 
-fn audit_plan<'a>(found: &ArgMatches<'a>) -> Result<Plan<'a>, Misfit>
-    ensures value { IfOk result (IsPlanOfCommand (codes "audit") (rows_of (found_of found.now))) }
-    ensures sound { IfOk result IsSound }
-    ensures none { IfErr result (λ _. NoCommandFits (codes "audit") (rows_of (found_of found.now))) }
+#[tactic(auto, unfolding(crate::specs::CommandLine::commands))]
+fn image_plan<'a>(found: &ArgMatches<'a>) -> Plan<'a>
+    requires { HasAll (codes "image") (rows_of (found_of found.now)) }
+    ensures { Says (codes "image") (rows_of (found_of found.now)) result }
 {
-    let image = operand(found, "IMAGE")?;
-    let input = text(found, "input");
-    let trace = traced(found)?;
-    let policy = watched(found)?;
-    match numbers_of(found) {
-        Some(_) if !is_read_only(image, input, policy, trace.file) => Err(SAME_FILE),
-        Some(run) => Ok(Plan::Audit {
-            image,
-            steps: run.steps,
-            times: run.times,
-            gap: run.gap,
-            tick: run.tick,
-            input,
-            quiet: is_used(found, "quiet"),
-            trace: trace.file,
-            trace_from: trace.from,
-            trace_last: trace.last,
-            policy: policy.file,
-            symbols: policy.symbols,
-        }),
-        None => Err(MISSING),
+    Plan::Image {
+        flat: operand(found, &FLAT),
+        output: operand(found, &OUT),
+        layout: Layout {
+            at: number(found, &AT),
+            entry: number(found, &ENTRY),
+            pages: number(found, &PAGES),
+            mode: number(found, &MODE),
+        },
+        quiet: flag(found, &ALONE),
     }
 }
 
-fn dis_plan<'a>(found: &ArgMatches<'a>) -> Result<Plan<'a>, Misfit>
-    ensures value { IfOk result (IsPlanOfCommand (codes "dis") (rows_of (found_of found.now))) }
-    ensures sound { IfOk result IsSound }
-    ensures none { IfErr result (λ _. NoCommandFits (codes "dis") (rows_of (found_of found.now))) }
+#[tactic(auto, unfolding(crate::specs::CommandLine::commands))]
+fn run_plan<'a>(found: &ArgMatches<'a>) -> Plan<'a>
+    requires { HasAll (codes "run") (rows_of (found_of found.now)) }
+    ensures { Says (codes "run") (rows_of (found_of found.now)) result }
 {
-    Ok(Plan::Dis {
-        image: operand(found, "IMAGE")?,
-        symbols: text(found, "symbols"),
-        header: is_used(found, "header"),
-        quiet: is_used(found, "quiet"),
-    })
-}
-
-fn debug_plan<'a>(found: &ArgMatches<'a>) -> Result<Plan<'a>, Misfit>
-    ensures value { IfOk result (IsPlanOfCommand (codes "debug") (rows_of (found_of found.now))) }
-    ensures sound { IfOk result IsSound }
-    ensures none { IfErr result (λ _. NoCommandFits (codes "debug") (rows_of (found_of found.now))) }
-{
-    Ok(Plan::Debug {
-        image: operand(found, "IMAGE")?,
-        symbols: text(found, "symbols"),
-        input: text(found, "input"),
-        gap: optional(found, "gap", 1, MOST_GAP)?,
-        tick: optional(found, "tick", 0, MOST_TICK)?,
-        quiet: is_used(found, "quiet"),
-    })
-}
-
-/// The numbers of `bounds`: its base, if there is one, its length, and the address that is placed.
-#[derive(Clone, Copy)]
-struct BoundsAsked {
-    base: Option<u64>,
-    length: u64,
-    address: Option<u64>,
-}
-
-/// What the only number of `bounds` asks for.
-fn length_alone(found: &ArgMatches<'_>) -> Result<BoundsAsked, Misfit>
-    requires { first_of (codes "LENGTH") (rows_of (found_of found.now)) ≡ None }
-    ensures ok { IfOk result (λ a. AreBoundsOf (rows_of (found_of found.now)) a.base a.length a.address) }
-    ensures err { IfErr result (λ _. (base : Option ℕ) (length : ℕ) (address : Option ℕ)
-        → AreBoundsOf (rows_of (found_of found.now)) base length address → ⊥) }
-{
-    let length = needed(found, "BASE", NO_LENGTH)?;
-    if text(found, "address").is_some() {
-        return Err(UNPLACED);
+    Plan::Run {
+        image: operand(found, &IMAGE),
+        steps: amount(found, &STEPS),
+        times: amount(found, &TIMES),
+        gap: amount(found, &RUN_GAP),
+        tick: amount(found, &RUN_TICK),
+        input: file(found, &INPUT),
+        quiet: flag(found, &STATUS),
+        why: ends(found, &WHY),
+        trace: file(found, &TRACE),
+        trace_from: amount(found, &TRACE_FROM),
+        trace_last: number(found, &TRACE_LAST),
+        policy: file(found, &POLICY),
+        symbols: file(found, &RUN_LABELS),
     }
-    Ok(BoundsAsked {
-        base: None,
-        length,
-        address: None,
-    })
 }
 
-/// What both numbers of `bounds` ask for.
-fn base_and_length(found: &ArgMatches<'_>) -> Result<BoundsAsked, Misfit>
-    requires { is_some (first_of (codes "LENGTH") (rows_of (found_of found.now))) ≡ true }
-    ensures ok { IfOk result (λ a. AreBoundsOf (rows_of (found_of found.now)) a.base a.length a.address) }
-    ensures err { IfErr result (λ _. (base : Option ℕ) (length : ℕ) (address : Option ℕ)
-        → AreBoundsOf (rows_of (found_of found.now)) base length address → ⊥) }
+#[tactic(auto, unfolding(crate::specs::CommandLine::commands))]
+fn audit_plan<'a>(found: &ArgMatches<'a>) -> Plan<'a>
+    requires { HasAll (codes "audit") (rows_of (found_of found.now)) }
+    ensures { Says (codes "audit") (rows_of (found_of found.now)) result }
 {
-    let base = needed(found, "BASE", NO_BASE)?;
-    let length = needed(found, "LENGTH", NO_LENGTH)?;
-    let address = natural_of(found, "address", NO_ADDRESS)?;
-    Ok(BoundsAsked {
-        base: Some(base),
-        length,
-        address,
-    })
+    Plan::Audit {
+        image: operand(found, &IMAGE),
+        steps: amount(found, &STEPS),
+        times: amount(found, &TIMES),
+        gap: amount(found, &RUN_GAP),
+        tick: amount(found, &RUN_TICK),
+        input: file(found, &INPUT),
+        quiet: flag(found, &STATUS),
+        trace: file(found, &TRACE),
+        trace_from: amount(found, &TRACE_FROM),
+        trace_last: number(found, &TRACE_LAST),
+        policy: file(found, &POLICY),
+        symbols: file(found, &RUN_LABELS),
+    }
 }
 
-fn bounds_plan<'a>(found: &ArgMatches<'a>) -> Result<Plan<'a>, Misfit>
-    ensures value { IfOk result (IsPlanOfCommand (codes "bounds") (rows_of (found_of found.now))) }
-    ensures sound { IfOk result IsSound }
-    ensures none { IfErr result (λ _. NoCommandFits (codes "bounds") (rows_of (found_of found.now))) }
+#[tactic(auto, unfolding(crate::specs::CommandLine::commands))]
+fn dis_plan<'a>(found: &ArgMatches<'a>) -> Plan<'a>
+    requires { HasAll (codes "dis") (rows_of (found_of found.now)) }
+    ensures { Says (codes "dis") (rows_of (found_of found.now)) result }
 {
-    let asked = match text(found, "LENGTH") {
-        None => length_alone(found)?,
-        Some(_) => base_and_length(found)?,
+    Plan::Dis {
+        image: operand(found, &IMAGE),
+        symbols: file(found, &DIS_LABELS),
+        header: flag(found, &HEADER),
+        quiet: flag(found, &ALONE),
+    }
+}
+
+#[tactic(auto, unfolding(crate::specs::CommandLine::commands))]
+fn debug_plan<'a>(found: &ArgMatches<'a>) -> Plan<'a>
+    requires { HasAll (codes "debug") (rows_of (found_of found.now)) }
+    ensures { Says (codes "debug") (rows_of (found_of found.now)) result }
+{
+    Plan::Debug {
+        image: operand(found, &IMAGE),
+        symbols: file(found, &DEBUG_LABELS),
+        input: file(found, &INPUT),
+        gap: number(found, &GAP),
+        tick: number(found, &TICK),
+        quiet: flag(found, &ALONE),
+    }
+}
+
+#[tactic(auto, unfolding(crate::specs::CommandLine::commands))]
+fn bounds_plan<'a>(found: &ArgMatches<'a>) -> Plan<'a>
+    requires { HasAll (codes "bounds") (rows_of (found_of found.now)) }
+    ensures { Says (codes "bounds") (rows_of (found_of found.now)) result }
+{
+    let first = amount(found, &BOUNDS_BASE);
+    let (base, length) = match number(found, &LENGTH) {
+        Some(length) => (Some(first), length),
+        None => (None, first),
     };
-    Ok(Plan::Bounds {
-        base: asked.base,
-        length: asked.length,
-        address: asked.address,
-    })
+    Plan::Bounds {
+        base,
+        length,
+        address: number(found, &ADDRESS),
+    }
 }
 
-fn word_plan<'a>(found: &ArgMatches<'a>) -> Result<Plan<'a>, Misfit>
-    ensures value { IfOk result (IsPlanOfCommand (codes "word") (rows_of (found_of found.now))) }
-    ensures sound { IfOk result IsSound }
-    ensures none { IfErr result (λ _. NoCommandFits (codes "word") (rows_of (found_of found.now))) }
+#[tactic(auto, unfolding(crate::specs::CommandLine::commands))]
+fn word_plan<'a>(found: &ArgMatches<'a>) -> Plan<'a>
+    requires { HasAll (codes "word") (rows_of (found_of found.now)) }
+    ensures { Says (codes "word") (rows_of (found_of found.now)) result }
 {
-    let high = needed(
-        found,
-        "HIGH",
-        "HIGH is a number of 0 to 18446744073709551615",
-    )?;
-    let low = needed(found, "LOW", "LOW is a number of 0 to 18446744073709551615")?;
-    Ok(Plan::Word {
-        high,
-        low,
-        memory: is_used(found, "memory"),
-    })
+    Plan::Word {
+        high: amount(found, &HIGH),
+        low: amount(found, &LOW),
+        memory: flag(found, &MEMORY),
+    }
 }
 
-fn plan_of_command<'a>(name: &str, found: &ArgMatches<'a>) -> Result<Plan<'a>, Misfit>
-    ensures value { IfOk result (IsPlanOfCommand name.now (rows_of (found_of found.now))) }
-    ensures sound { IfOk result IsSound }
-    ensures none { IfErr result (λ _. NoCommandFits name.now (rows_of (found_of found.now))) }
+/// What was found of the command of this name, of which each argument is what it takes.
+#[tactic(auto, unfolding(crate::specs::CommandLine::commands))]
+fn read<'a>(name: &str, found: &ArgMatches<'a>) -> Plan<'a>
+    requires { HasAll name.now (rows_of (found_of found.now)) }
+    ensures { Says name.now (rows_of (found_of found.now)) result }
 {
     if name == "asm" {
         asm_plan(found)
@@ -412,7 +311,56 @@ fn plan_of_command<'a>(name: &str, found: &ArgMatches<'a>) -> Result<Plan<'a>, M
     } else if name == "word" {
         word_plan(found)
     } else {
-        Err(MISSING)
+        unreachable!()
+    }
+}
+
+/// The arguments of the command of a name.
+fn lines_named(name: &str, rows: &[CommandRow]) -> Option<&'static [Argument]>
+    ensures { option_map (λ lines. map line_of lines.now) result ≡ lines_named name.now (map entry_of rows.now) }
+{
+    match rows {
+        [] => None,
+        [row, rest @ ..] => {
+            if name == row.0 {
+                Some(row.2)
+            } else {
+                lines_named(name, rest)
+            }
+        }
+    }
+}
+
+#[tactic(auto, unfolding(crate::specs::CommandLine::commands))]
+fn lines_of(name: &str) -> Option<&'static [Argument]>
+    ensures { option_map (λ lines. map line_of lines.now) result ≡ lines_named name.now commands }
+{
+    lines_named(name, &COMMANDS)
+}
+
+/// What was found of the command of this name, whose arguments these are.
+fn plan_of_lines<'a>(
+    name: &str,
+    found: &ArgMatches<'a>,
+    lines: &[Argument],
+) -> Result<Plan<'a>, Misfit>
+    requires { lines_named name.now commands ≡ Some (map line_of lines.now) }
+    ensures value { IfOk result (IsPlanOf (Some (name.now, (rows_of (found_of found.now))))) }
+    ensures sound { IfOk result IsSound }
+    ensures none { IfErr result (λ _. NoPlanFits (Some (name.now, (rows_of (found_of found.now))))) }
+{
+    check(found, lines)?;
+    Ok(read(name, found))
+}
+
+fn plan_of_command<'a>(name: &str, found: &ArgMatches<'a>) -> Result<Plan<'a>, Misfit>
+    ensures value { IfOk result (IsPlanOf (Some (name.now, (rows_of (found_of found.now))))) }
+    ensures sound { IfOk result IsSound }
+    ensures none { IfErr result (λ _. NoPlanFits (Some (name.now, (rows_of (found_of found.now))))) }
+{
+    match lines_of(name) {
+        None => Err(MISSING),
+        Some(lines) => plan_of_lines(name, found, lines),
     }
 }
 

@@ -1,11 +1,14 @@
 //! What is read of the values that clap found.
 
-ghost use Rattle.std.specs.Prelude.{◌≡◌, ◌<◌, ◌^◌, ℕ, Option, IfOk, IfErr, IfSome, IfNone, Some, None, option_map};
+ghost use Rattle.std.specs.Prelude.{◌≡◌, ◌&&◌, ◌||◌, IsSome, IsTrue, Some, None, not, is_some, option_map};
 ghost use Rattle.clap.specs.Words.{found_of, rows_of, first_of};
-ghost use Rattle.command_line.specs.CommandLine.{IsNumber, IsNatural, IsOptional, IsWithin, is_used, why_of};
+ghost use Rattle.command_line.specs.CommandLine.{File, Amount, Used, Explained, count_of, said_of, is_needed, is_file, line_of, why_of, is_used};
+ghost use Rattle.command_line.specs.CommandLine.{is_number, is_start};
+ghost use Rattle.command_line.specs.declared.table.Takes.TheVariants.{Nothing, Ends};
 
 use crate::numbers::written_number;
 use crate::plans::Why;
+use crate::table::{Line, Stands, Takes};
 use clap::ArgMatches;
 
 /// Why what clap found is no plan: a text for whoever typed it.
@@ -14,33 +17,11 @@ pub(crate) type Misfit = &'static str;
 /// An argument that must be there isn't, or a number of a run lies outside its range.
 pub(crate) const MISSING: Misfit = "an argument is missing, or its value is out of range";
 
-/// The number that was found for `id`.
-pub(crate) fn number(matches: &ArgMatches<'_>, id: &str) -> Option<u64>
-    ensures some { IfSome result (IsNumber id.now (rows_of (found_of matches.now))) }
-    ensures none { IfNone result ((n : ℕ) → n < 2 ^ 64 → IsNumber id.now (rows_of (found_of matches.now)) n → ⊥) }
+/// The decimal number that was found for `id`.
+fn count_of(found: &ArgMatches<'_>, id: &str) -> Option<u64>
+    ensures { result ≡ count_of id.now (rows_of (found_of found.now)) }
 {
-    matches.get_one::<u64>(id)
-}
-
-/// The number from `least` to `most` that was found for `id`; none where the argument isn't used.
-pub(crate) fn optional(
-    found: &ArgMatches<'_>,
-    id: &str,
-    least: u64,
-    most: u64,
-) -> Result<Option<u64>, Misfit>
-    ensures ok { IfOk result (IsOptional id.now (rows_of (found_of found.now))) }
-    ensures range { IfOk result (IsWithin least most) }
-    ensures err { IfErr result (λ _. (number : Option ℕ) → IsOptional id.now (rows_of (found_of found.now)) number
-        → IsWithin least most number → ⊥) }
-{
-    match text(found, id) {
-        None => Ok(None),
-        Some(_) => match number(found, id) {
-            Some(number) if least <= number && number <= most => Ok(Some(number)),
-            _ => Err(MISSING),
-        },
-    }
+    found.get_one::<u64>(id)
 }
 
 /// The text that was found for `id`.
@@ -50,57 +31,137 @@ pub(crate) fn text<'a>(matches: &ArgMatches<'a>, id: &str) -> Option<&'a str>
     matches.get_str(id)
 }
 
-/// The text of an argument that must be there.
-pub(crate) fn operand<'a>(found: &ArgMatches<'a>, id: &str) -> Result<&'a str, Misfit>
-    ensures ok { IfOk result (λ s. first_of id.now (rows_of (found_of found.now)) ≡ Some s.now) }
-    ensures err { IfErr result (λ _. first_of id.now (rows_of (found_of found.now)) ≡ None) }
-{
-    text(found, id).ok_or(MISSING)
-}
-
-/// Whether a flag was used.
+/// Whether an argument is used.
 pub(crate) fn is_used(found: &ArgMatches<'_>, id: &str) -> bool
     ensures { result ≡ is_used id.now (rows_of (found_of found.now)) }
 {
-    match text(found, id) {
-        Some(value) => value == "true",
+    text(found, id).is_some()
+}
+
+/// Which ends of a run a text asks for.
+pub(crate) fn why_of(text: &str) -> Option<Why>
+    ensures { result ≡ why_of text.now }
+{
+    match text {
+        "true" => Some(Why::Unfetched),
+        "all" => Some(Why::All),
+        _ => None,
+    }
+}
+
+/// Whether an argument has a text wherever clap takes the words.
+fn is_needed(line: &Line<'_>) -> bool
+    ensures { result ≡ is_needed (line_of line.now) }
+{
+    match line.1 {
+        Stands::Operand => true,
+        Stands::Optional | Stands::Named | Stands::Flag | Stands::FlagOrAll => line.3.is_some(),
+    }
+}
+
+/// Whether what was found of an argument is what it takes.
+#[tactic(auto, unfolding(crate::specs::CommandLine::said_of))]
+pub(crate) fn is_fit(found: &ArgMatches<'_>, line: &Line<'_>) -> bool
+    ensures { result ≡ is_some (said_of (rows_of (found_of found.now)) (line_of line.now)) }
+{
+    match text(found, line.0) {
+        None if is_needed(line) => false,
+        None => match line.2 {
+            Takes::Start(least, most) => least <= most,
+            Takes::Nothing
+            | Takes::Ends
+            | Takes::Read
+            | Takes::Written
+            | Takes::Count(..)
+            | Takes::Number => true,
+        },
+        Some(text) => match line.2 {
+            Takes::Nothing | Takes::Ends | Takes::Read | Takes::Written => true,
+            Takes::Count(least, most) | Takes::Start(least, most) => match count_of(found, line.0) {
+                Some(count) => least <= count && count <= most,
+                None => false,
+            },
+            Takes::Number => written_number(text).is_some(),
+        },
+    }
+}
+
+/// The file that an argument names which is there.
+#[tactic(auto, unfolding(crate::specs::CommandLine::said_of))]
+pub(crate) fn operand<'a>(found: &ArgMatches<'a>, line: &Line<'_>) -> &'a str
+    requires fit { IsSome (said_of (rows_of (found_of found.now)) (line_of line.now)) }
+    requires kind { IsTrue (is_file line.now.2 && is_needed (line_of line.now)) }
+    ensures { said_of (rows_of (found_of found.now)) (line_of line.now) ≡ Some (File (Some result.now)) }
+{
+    match text(found, line.0) {
+        Some(text) => text,
+        None => unreachable!(),
+    }
+}
+
+/// The file that an argument names, if it is used.
+#[tactic(auto, unfolding(crate::specs::CommandLine::said_of))]
+pub(crate) fn file<'a>(found: &ArgMatches<'a>, line: &Line<'_>) -> Option<&'a str>
+    requires kind { IsTrue (is_file line.now.2 && not (is_needed (line_of line.now))) }
+    ensures { said_of (rows_of (found_of found.now)) (line_of line.now) ≡ Some (File (option_map (λ s. s.now) result)) }
+{
+    text(found, line.0)
+}
+
+/// The number that an argument says, if it says one.
+#[tactic(auto, unfolding(crate::specs::CommandLine::said_of))]
+pub(crate) fn number(found: &ArgMatches<'_>, line: &Line<'_>) -> Option<u64>
+    requires fit { IsSome (said_of (rows_of (found_of found.now)) (line_of line.now)) }
+    requires kind { IsTrue (is_number line.now.2) }
+    ensures { said_of (rows_of (found_of found.now)) (line_of line.now) ≡ Some (Amount result) }
+{
+    match text(found, line.0) {
+        Some(text) => match line.2 {
+            Takes::Number => written_number(text),
+            _ => count_of(found, line.0),
+        },
+        None => match line.2 {
+            Takes::Start(least, _) => Some(least),
+            _ => None,
+        },
+    }
+}
+
+/// The number that an argument says which is there, or which has a number where it isn't used.
+#[tactic(auto, unfolding(crate::specs::CommandLine::said_of))]
+pub(crate) fn amount(found: &ArgMatches<'_>, line: &Line<'_>) -> u64
+    requires fit { IsSome (said_of (rows_of (found_of found.now)) (line_of line.now)) }
+    requires kind { IsTrue (is_number line.now.2 && (is_needed (line_of line.now) || is_start line.now.2)) }
+    ensures { said_of (rows_of (found_of found.now)) (line_of line.now) ≡ Some (Amount (Some result)) }
+{
+    match number(found, line) {
+        Some(number) => number,
+        None => unreachable!(),
+    }
+}
+
+/// Whether a flag is used.
+#[tactic(auto, unfolding(crate::specs::CommandLine::said_of))]
+pub(crate) fn flag(found: &ArgMatches<'_>, line: &Line<'_>) -> bool
+    requires fit { IsSome (said_of (rows_of (found_of found.now)) (line_of line.now)) }
+    requires kind { line.now.2 ≡ Nothing }
+    ensures { said_of (rows_of (found_of found.now)) (line_of line.now) ≡ Some (Used result) }
+{
+    match text(found, line.0) {
+        Some(text) => text == "true",
         None => false,
     }
 }
 
 /// Which ends of a run are explained.
-pub(crate) fn why_of(found: &ArgMatches<'_>) -> Option<Why>
-    ensures { result ≡ why_of (rows_of (found_of found.now)) }
+#[tactic(auto, unfolding(crate::specs::CommandLine::said_of))]
+pub(crate) fn ends(found: &ArgMatches<'_>, line: &Line<'_>) -> Option<Why>
+    requires fit { IsSome (said_of (rows_of (found_of found.now)) (line_of line.now)) }
+    requires kind { line.now.2 ≡ Ends }
+    ensures { said_of (rows_of (found_of found.now)) (line_of line.now) ≡ Some (Explained result) }
 {
-    match text(found, "why") {
-        Some(value) if value == "true" => Some(Why::Unfetched),
-        Some(value) if value == "all" => Some(Why::All),
-        _ => None,
+    match text(found, line.0) {
+        Some(text) => why_of(text),
+        None => None,
     }
-}
-
-/// The number that was found for `id`, which its text writes; none where the argument isn't used.
-pub(crate) fn natural_of(
-    found: &ArgMatches<'_>,
-    id: &str,
-    misfit: Misfit,
-) -> Result<Option<u64>, Misfit>
-    ensures ok { IfOk result (IsNatural id.now (rows_of (found_of found.now))) }
-    ensures err { IfErr result (λ _. (number : Option ℕ) → IsNatural id.now (rows_of (found_of found.now)) number → ⊥) }
-{
-    match text(found, id) {
-        None => Ok(None),
-        Some(word) => match written_number(word) {
-            Some(number) => Ok(Some(number)),
-            None => Err(misfit),
-        },
-    }
-}
-
-/// The number of an argument that must be there.
-pub(crate) fn needed(found: &ArgMatches<'_>, id: &str, misfit: Misfit) -> Result<u64, Misfit>
-    ensures ok { IfOk result (λ n. IsNatural id.now (rows_of (found_of found.now)) (Some n)) }
-    ensures err { IfErr result (λ _. (n : ℕ) → IsNatural id.now (rows_of (found_of found.now)) (Some n) → ⊥) }
-{
-    natural_of(found, id, misfit)?.ok_or(MISSING)
 }

@@ -18,9 +18,8 @@ use Rattle.assembler.specs.declared.fault.AsmFault.{AsmFault}
 use Rattle.assembler.specs.Places.{lines_of}
 use Rattle.assembler.specs.Standing.{Standing, standing_of}
 use Rattle.assembler.specs.Text.{text_fault}
-use Rattle.fault_details.specs.Detail.{detail_of, line_at, after_lines, foreign_at, foreign_read}
-use Rattle.fault_details.specs.Pieces.{up_to}
-use Rattle.symbols.specs.declared.beginning.Beginning.TheVariants.{Faulty, Sound}
+use Rattle.fault_details.specs.Detail.{detail_of, up_to, line_at, after_lines, foreign_at, foreign_read}
+use Rattle.symbols.specs.declared.table.Beginning.TheVariants.{Faulty, Sound}
 use Rattle.symbols.specs.Reads.{Tells}
 use Rattle.symbols.specs.Symbols as table
 use Rattle.symbols.specs.Symbols.{faulty_from, faulty_line}

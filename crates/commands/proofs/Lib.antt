@@ -4,3 +4,4 @@ pub mod Flat
 pub mod Typed
 pub mod Debugged
 pub mod Policies
+pub mod Gap

@@ -27,7 +27,7 @@ fn bounds_answer(base: Option<u64>, length: u64, address: Option<u64>) -> Text
 {
     match base {
         Some(base) => bounds_text::<WordCap>(base, length, address),
-        None => length_text::<WordCap>(length),
+        None => length_text(length),
     }
 }
 

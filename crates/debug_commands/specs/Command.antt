@@ -24,9 +24,7 @@ use Rattle.debug_commands.specs.declared.command.Recall.TheVariants.{Ago, Origin
 use Rattle.debug_commands.specs.declared.command.SetStops.TheVariants.{Add, Clear}
 use Rattle.debug_commands.specs.declared.command.Stop.{Stop}
 use Rattle.debug_commands.specs.declared.command.Stop.TheVariants.{Address, Trap}
-use Rattle.debug_commands.specs.declared.command.View.TheVariants.{Register, Registers, SpecialRegisters, ControlRegisters, Capabilities}
-use Rattle.debug_commands.specs.declared.command.View.TheVariants.{Memory, Words, Why, Reach, ReachMembers, ReachGraph, May}
-use Rattle.debug_commands.specs.declared.command.View.TheVariants.{Stops, Help, Code}
+use Rattle.debug_commands.specs.declared.command.View.TheVariants as view
 use Rattle.debug_commands.specs.declared.command.May.{May as Question}
 use Rattle.debug_commands.specs.declared.command.May.TheVariants.{Store, Load, Execute, Learn, Send, Halt, System, Timer, Hold}
 
@@ -186,11 +184,11 @@ said_by symbols (a_register make) words = made make (one_register words)
 said_by symbols (a_holder make) words = made make (one_holder symbols words)
 said_by symbols (a_holder_and_number high make) words = made (λ p. make p.0 p.1) (holder_and_number symbols high words)
 said_by symbols (a_verb read) words = read symbols words
-said_by symbols (question may) words = made (λ horizon. Shows (May may horizon)) (horizon_of words)
+said_by symbols (question may) words = made (λ horizon. Shows (view.May may horizon)) (horizon_of words)
 said_by symbols (question_of_number low high make) words =
-    made (λ said. Shows (May (make said.0) said.1)) (number_and_horizon low high words)
+    made (λ said. Shows (view.May (make said.0) said.1)) (number_and_horizon low high words)
 said_by symbols (question_of_bytes high make) words =
-    made (λ said. Shows (May (make said.0.0 said.0.1) said.1)) (bytes_and_horizon symbols high words)
+    made (λ said. Shows (view.May (make said.0.0 said.0.1) said.1)) (bytes_and_horizon symbols high words)
 
 -- the command of the line that has the name, or a fault
 abbrev pub command_among : DebugFault → List Symbol → List Line → List ℕ → List (List ℕ) → Result Command DebugFault
@@ -201,13 +199,13 @@ command_among fault symbols (l ∷ ls) name operands =
 -- what may follow `reach`: nothing, or a word
 abbrev pub reaches : List Line
 reaches =
-    line (codes "members") [] (nothing (Shows ReachMembers))
-    ∷ line (codes "dot") [] (nothing (Shows ReachGraph))
-    ∷ line (codes "doors") [] (nothing (Shows (Reach Turn)))
+    line (codes "members") [] (nothing (Shows view.ReachMembers))
+    ∷ line (codes "dot") [] (nothing (Shows view.ReachGraph))
+    ∷ line (codes "doors") [] (nothing (Shows (view.Reach Turn)))
     ∷ []
 
 abbrev pub reach_of : List Symbol → List (List ℕ) → Result Command DebugFault
-reach_of symbols [] = Ok (Shows (Reach Stretch))
+reach_of symbols [] = Ok (Shows (view.Reach Stretch))
 reach_of symbols (word ∷ operands) = command_among B2 symbols reaches word operands
 
 -- what follows `may`: a question, of bytes from an address on or of the machine
@@ -243,14 +241,14 @@ stop_of symbols (word ∷ operands) = command_among B2 symbols settings word ope
 -- what may follow `help`: nothing, or a code
 abbrev pub explained : List Line
 explained =
-    line (codes "B1") [] (nothing (Shows (Code B1)))
-    ∷ line (codes "B2") [] (nothing (Shows (Code B2)))
-    ∷ line (codes "B3") [] (nothing (Shows (Code B3)))
-    ∷ line (codes "B4") [] (nothing (Shows (Code B4)))
+    line (codes "B1") [] (nothing (Shows (view.Code B1)))
+    ∷ line (codes "B2") [] (nothing (Shows (view.Code B2)))
+    ∷ line (codes "B3") [] (nothing (Shows (view.Code B3)))
+    ∷ line (codes "B4") [] (nothing (Shows (view.Code B4)))
     ∷ []
 
 abbrev pub help_on : List Symbol → List (List ℕ) → Result Command DebugFault
-help_on symbols [] = Ok (Shows Help)
+help_on symbols [] = Ok (Shows view.Help)
 help_on symbols (word ∷ operands) = command_among B2 symbols explained word operands
 
 abbrev pub commands : List Line
@@ -267,15 +265,15 @@ commands =
     ∷ line (codes "origin") (codes " R|ADDR") (a_holder (λ place. Recalls (Origin place)))
     ∷ line (codes "lost") (codes " R|ADDR") (a_holder (λ place. Recalls (Lost place)))
     ∷ line (codes "stop") (codes " at ADDR|trap|off") (a_verb stop_of)
-    ∷ line (codes "stops") [] (nothing (Shows Stops))
-    ∷ line (codes "reg") (codes " R") (a_register (λ n. Shows (Register n)))
-    ∷ line (codes "regs") [] (nothing (Shows Registers))
-    ∷ line (codes "scr") [] (nothing (Shows SpecialRegisters))
-    ∷ line (codes "csr") [] (nothing (Shows ControlRegisters))
-    ∷ line (codes "caps") [] (nothing (Shows Capabilities))
-    ∷ line (codes "mem") (codes " ADDR LEN") (place 1 4096 (λ address n. Shows (Memory address n)))
-    ∷ line (codes "dis") (codes " ADDR N") (place 4 1024 (λ address n. Shows (Words address n)))
-    ∷ line (codes "why") [] (nothing (Shows Why))
+    ∷ line (codes "stops") [] (nothing (Shows view.Stops))
+    ∷ line (codes "reg") (codes " R") (a_register (λ n. Shows (view.Register n)))
+    ∷ line (codes "regs") [] (nothing (Shows view.Registers))
+    ∷ line (codes "scr") [] (nothing (Shows view.SpecialRegisters))
+    ∷ line (codes "csr") [] (nothing (Shows view.ControlRegisters))
+    ∷ line (codes "caps") [] (nothing (Shows view.Capabilities))
+    ∷ line (codes "mem") (codes " ADDR LEN") (place 1 4096 (λ address n. Shows (view.Memory address n)))
+    ∷ line (codes "dis") (codes " ADDR N") (place 4 1024 (λ address n. Shows (view.Words address n)))
+    ∷ line (codes "why") [] (nothing (Shows view.Why))
     ∷ line (codes "reach") (codes " [members|dot|doors]") (a_verb reach_of)
     ∷ line (codes "may")
     (codes " store|load|execute|learn ADDR LEN [through doors]\nmay send|halt|system|timer [through doors]\nmay hold TYPE [through doors]")

@@ -16,11 +16,6 @@ use Rattle.debugger.specs.Reply.{shown_sent, shown_end}
 abbrev pub register_line : State → ℕ → List ℕ
 register_line s n = value_line (name_or [] (register_name true n)) (register s.registers n)
 
--- what a register holds under its name; no register has no line
-abbrev pub named_line : {A : Type 0} → (A → List ℕ) → List ℕ → Option A → List ℕ
-named_line shown name (Some x) = name ++ codes " " ++ shown x ++ codes "\n"
-named_line shown name None = []
-
 -- so many events and what was sent; where the machine stands
 abbrev pub given_part : ℕ → List ℕ → List ℕ
 given_part count bytes = codes "events " ++ decimal count ++ codes " out " ++ shown_sent bytes

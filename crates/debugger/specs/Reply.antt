@@ -7,7 +7,8 @@ use Rattle.base.specs.Ram.{ram_base}
 use Rattle.cap_bounds.specs.CapValue.{CapValue, value_of, value_flag}
 use Rattle.tagged_memory.specs.Memory.{Memory, is_in_ram, bytes_at, number_at, word_at, has_tag, tagged_between}
 use Rattle.special_regs.specs.Scrs.{scr_values}
-use Rattle.special_regs.specs.CsrValues.{csr_values}
+use Rattle.base.specs.declared.registers.TheConstants.{CSRS}
+use Rattle.special_regs.specs.CsrValues.{csr_value}
 use Rattle.devices.specs.Devices.{interrupts_of}
 use Rattle.steps.specs.declared.event.Event.{Event}
 use Rattle.steps.specs.declared.event.Event.TheVariants as event
@@ -16,7 +17,7 @@ use Rattle.registers.specs.Registers.{register}
 use Rattle.machine.specs.Run.{run_after, run_sent}
 use Rattle.explain.specs.WhyText.{why_text}
 use Rattle.asm_names.specs.Registers.{capability_names, register_name}
-use Rattle.asm_names.specs.SpecialNames.{csr_name, scr_name}
+use Rattle.asm_names.specs.SpecialNames.{scr_name}
 use Rattle.debug_commands.specs.declared.fault.DebugFault.{DebugFault}
 use Rattle.debug_commands.specs.declared.fault.DebugFault.TheVariants.{B1, B2, B3, B4}
 use Rattle.texts.specs.Hex.{hex_of}
@@ -202,8 +203,13 @@ register_lines s n (name ∷ names) = value_line name (register s.registers n) +
 abbrev pub scr_lines : List (ℕ × CapValue) → List ℕ
 scr_lines values = flat_map (λ p. value_line (name_or [] (scr_name p.0)) p.1) values
 
-abbrev pub csr_lines : List (ℕ × ℕ) → List ℕ
-csr_lines values = flat_map (λ p. name_or [] (csr_name p.0) ++ codes " " ++ hex_of 16 p.1 ++ codes "\n") values
+-- what a register holds under its name; no register has no line
+abbrev pub named_line : {A : Type 0} → (A → List ℕ) → List ℕ → Option A → List ℕ
+named_line shown name (Some x) = name ++ codes " " ++ shown x ++ codes "\n"
+named_line shown name None = []
+
+abbrev pub csr_lines : State → List ℕ
+csr_lines s = flat_map (λ r. named_line (hex_of 16) r.1.now (csr_value s.csrs s.scrs (interrupts_of s.devices) r.0)) CSRS
 
 -- what a granule of memory holds, under its address
 abbrev pub cap_line : Memory → ℕ → List ℕ
@@ -269,7 +275,7 @@ unfoldable pub view_text : List Symbol → List Stop → View → State → List
 view_text symbols stops (view.Register n) s = value_line (name_or [] (register_name true n)) (register s.registers n)
 view_text symbols stops view.Registers s = register_lines s 0 capability_names
 view_text symbols stops view.SpecialRegisters s = scr_lines (scr_values s.scrs)
-view_text symbols stops view.ControlRegisters s = csr_lines (csr_values s.csrs s.scrs (interrupts_of s.devices))
+view_text symbols stops view.ControlRegisters s = csr_lines s
 view_text symbols stops view.Capabilities s = cap_lines s.memory
 view_text symbols stops (view.Memory address n) s = byte_lines n address (bytes_at s.memory address n)
 view_text symbols stops (view.Words address n) s = word_lines symbols (value_flag s.scrs.pcc) s.memory n address

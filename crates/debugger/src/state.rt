@@ -4,12 +4,12 @@ ghost use Rattle.std.specs.List.{flat_map, list_all};
 ghost use Rattle.asm_names.specs.Registers.{capability_names};
 ghost use Rattle.base.specs.Registers.{is_csr, is_scr};
 ghost use Rattle.special_regs.specs.Scrs.{scr_value, scr_values};
-ghost use Rattle.special_regs.specs.CsrValues.{csr_value, csr_values};
+ghost use Rattle.special_regs.specs.CsrValues.{csr_value};
 ghost use Rattle.devices.specs.Devices.{interrupts_of};
 ghost use Rattle.texts.specs.Hex.{hex_of};
 ghost use Rattle.explain.specs.ValueText.{shown_value};
-ghost use Rattle.debugger.specs.Reply.{register_lines, scr_lines, csr_lines};
-ghost use Rattle.debugger.specs.Lines.{named_line, register_line};
+ghost use Rattle.debugger.specs.Reply.{register_lines, scr_lines, csr_lines, named_line};
+ghost use Rattle.debugger.specs.Lines.{register_line};
 
 use asm_names::register_name;
 use base::{CSRS, SPECIAL_REGISTERS};
@@ -112,13 +112,11 @@ fn append_csrs_of<C: CapRep>(
 }
 
 /// Appends the lines of the control and status registers to a text.
-#[tactic(auto, unfolding(special_regs::specs::CsrValues::csr_value, asm_names::specs::SpecialNames::csr_name))]
 pub(crate) fn append_csrs<C: CapRep>(
     text: &mut String,
     machine: &Machine<C>,
 ) -> Result<(), AllocError>
-    ensures { OnOk result (string_bytes text.new ≡ string_bytes text.old
-        ++ csr_lines (csr_values machine.now.csrs machine.now.scrs (interrupts_of machine.now.devices))) }
+    ensures { OnOk result (string_bytes text.new ≡ string_bytes text.old ++ csr_lines machine.now) }
 {
     append_csrs_of(text, machine, &CSRS)
 }

@@ -6,7 +6,7 @@ use Rattle.devices.specs.Devices.{Devices}
 abbrev pub devices_of : Inside → Devices
 devices_of d = record {
   mtime = d.mtime;
-  mtimecmp = d.mtimecmp;
+  kept = d.kept;
   queue = d.queue.items;
   overrun = d.overrun;
   control = d.control;
@@ -17,7 +17,7 @@ devices_of d = record {
 abbrev pub fields_of : Devices → Inside
 fields_of d = record {
   mtime = d.mtime;
-  mtimecmp = d.mtimecmp;
+  kept = d.kept;
   queue = record { items = d.queue };
   overrun = d.overrun;
   control = d.control;

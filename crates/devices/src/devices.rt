@@ -1,6 +1,7 @@
 ghost use Rattle.std.specs.Prelude.{◌≡◌};
-ghost use Rattle.devices.specs.Devices.{idle, AreDevices};
+ghost use Rattle.devices.specs.Devices.{idle, mtimecmp, AreDevices};
 
+use crate::map::{FIRST, KEPT_COUNT};
 use arrayvec::ArrayVec;
 use std::marker::Model;
 
@@ -18,11 +19,11 @@ pub enum Effect {
     Halt(u64),
 }
 
-/// The state of the timer, the console and halt.
+/// The state of the timer, the console and halt, and of the registers that only keep a number.
 #[derive(Clone, Debug, PartialEq, Eq, Drop)]
 pub struct Devices {
     pub(crate) mtime: u64,
-    pub(crate) mtimecmp: u64,
+    pub(crate) kept: [u64; KEPT_COUNT],
     pub(crate) queue: ArrayVec<u8, QUEUE_LIMIT>,
     pub(crate) overrun: bool,
     pub(crate) control: bool,
@@ -50,7 +51,7 @@ impl Devices {
     {
         Devices {
             mtime: 0,
-            mtimecmp: u64::MAX,
+            kept: FIRST,
             queue: ArrayVec::new(),
             overrun: false,
             control: false,
@@ -68,7 +69,7 @@ impl Devices {
         }
         Devices {
             mtime: self.mtime,
-            mtimecmp: self.mtimecmp,
+            kept: self.kept,
             queue,
             overrun: self.overrun,
             control: self.control,
@@ -87,9 +88,9 @@ impl Devices {
     /// Answers mtimecmp: the ticks from which on the timer interrupts.
     #[inline]
     pub fn mtimecmp(&self) -> u64
-        ensures { result ≡ self.now.mtimecmp }
+        ensures { result ≡ mtimecmp self.now }
     {
-        self.mtimecmp
+        self.kept[0]
     }
 
     /// Answers the bytes that wait, at most 64, the oldest first.

@@ -18,7 +18,7 @@ impl Devices {
     pub fn interrupts(&self) -> u64
         ensures { result ≡ interrupts_of self.now }
     {
-        TIMER_INTERRUPT * u64::from(self.mtime >= self.mtimecmp)
+        TIMER_INTERRUPT * u64::from(self.mtime >= self.mtimecmp())
             + CONSOLE_INTERRUPT * u64::from(self.control && self.waits())
     }
 }

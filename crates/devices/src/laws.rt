@@ -1,11 +1,11 @@
 //! What holds of the map: each function's contract is a law, and its body is empty.
 
-ghost use Rattle.std.specs.Prelude.{◌≡◌};
+ghost use Rattle.std.specs.Prelude.{◌≡◌, [], ◌∷◌};
 ghost use Rattle.devices.specs.Devices as spec;
 
-use crate::map::RECEIVE;
+use crate::map::{FIRST, KEPT, RECEIVE};
 
-/// Where the registers lie, as numbers.
+/// Where the registers lie, as numbers; and what those hold first that only keep a number.
 pub fn places_of_registers()
     ensures halt { spec.halt ≡ 0x100000 }
     ensures timer_compare { spec.timer_compare ≡ 0x2004000 }
@@ -15,4 +15,6 @@ pub fn places_of_registers()
     ensures status { spec.status ≡ 0x10000010 }
     ensures control { spec.control_register ≡ 0x10000018 }
     ensures constant { RECEIVE ≡ spec.receive }
+    ensures kept { KEPT ≡ 0x2004000 ∷ [] }
+    ensures first { FIRST ≡ 0xffffffffffffffff ∷ [] }
 {}

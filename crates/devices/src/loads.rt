@@ -1,12 +1,13 @@
 ghost use Rattle.std.specs.Prelude.{◌≡◌, ◌↔◌, IsTrue, OnErr, OnOk, None};
 ghost use Rattle.base.specs.Size.{bytes_of};
 ghost use Rattle.base.specs.FirstFault.{unless};
-ghost use Rattle.devices.specs.Devices.{read_fault, value_at, taken_at};
+ghost use Rattle.devices.specs.Devices.{read_fault, value_at, kept_value, taken_at};
+ghost use Rattle.devices.specs.Devices as spec;
 ghost use Rattle.devices.specs.Map.{address_of};
 
 use crate::devices::Devices;
 use crate::fault::DeviceFault;
-use crate::map::{OVERRUN, Register};
+use crate::map::{OVERRUN, Register, is_register, kept_at};
 use base::Size;
 
 impl Devices {
@@ -16,22 +17,32 @@ impl Devices {
     pub fn gives(address: u64, size: Size) -> bool
         ensures { IsTrue result ↔ (read_fault address (bytes_of size) ≡ None) }
     {
-        size == Size::Double && Register::at(address).is_some()
+        size == Size::Double && is_register(address)
     }
 
-    /// Answers what a load from a register gives; of halt and transmit 0.
+    /// Answers what a load gives from a register that does something of its own; from halt and transmit 0.
     #[inline]
     #[tactic(auto, unfolding(crate::specs::Devices::value_at))]
     fn value(&self, register: Register) -> u64
         ensures { result ≡ value_at (address_of register) self.now }
     {
         match register {
-            Register::TimerCompare => self.mtimecmp,
             Register::Timer => self.mtime,
             Register::Receive => self.oldest(),
             Register::Status => u64::from(self.waits()) + OVERRUN * u64::from(self.overrun),
             Register::Control => u64::from(self.control),
             Register::Halt | Register::Transmit => 0,
+        }
+    }
+
+    /// Answers what the register at the address keeps if it only keeps a number, 0 elsewhere.
+    #[inline]
+    fn kept_value(&self, address: u64) -> u64
+        ensures { result ≡ kept_value (spec.kept_at address) self.now.kept }
+    {
+        match kept_at(address) {
+            Some(index) => self.kept[index],
+            None => 0,
         }
     }
 
@@ -43,7 +54,7 @@ impl Devices {
     {
         match Register::at(address) {
             Some(register) => self.value(register),
-            None => 0,
+            None => self.kept_value(address),
         }
     }
 
@@ -52,9 +63,10 @@ impl Devices {
     pub fn peek(&self, address: u64) -> Result<u64, DeviceFault>
         ensures { result ≡ unless (read_fault address 8) (value_at address self.now) }
     {
-        match Register::at(address) {
-            Some(register) => Ok(self.value(register)),
-            None => Err(DeviceFault::V1),
+        if is_register(address) {
+            Ok(self.value_at(address))
+        } else {
+            Err(DeviceFault::V1)
         }
     }
 
@@ -66,13 +78,13 @@ impl Devices {
         ensures ok { OnOk result (self.new ≡ taken_at address self.old) }
         ensures err { OnErr result (self.new ≡ self.old) }
     {
-        let Some(register) = Register::at(address) else {
+        if !is_register(address) {
             return Err(DeviceFault::V1);
-        };
+        }
         if size != Size::Double {
             return Err(DeviceFault::V2);
         }
-        let value = self.value(register);
+        let value = self.value_at(address);
         self.take_at(address);
         Ok(value)
     }

@@ -1,12 +1,13 @@
 ghost use Rattle.std.specs.Prelude.{◌≡◌, ◌%◌, ◌↔◌, IsTrue, OnErr, OnOk, None};
 ghost use Rattle.base.specs.Size.{bytes_of};
 ghost use Rattle.base.specs.FirstFault.{unless};
-ghost use Rattle.devices.specs.Devices.{write_fault, effect_of, byte_sent, written};
+ghost use Rattle.devices.specs.Devices.{write_fault, effect_of, byte_sent, kept_in, written};
+ghost use Rattle.devices.specs.Devices as spec;
 ghost use Rattle.devices.specs.Map.{address_of};
 
 use crate::devices::{Devices, Effect};
 use crate::fault::DeviceFault;
-use crate::map::{OVERRUN, Register};
+use crate::map::{OVERRUN, Register, TRANSMIT, is_register, kept_at};
 use base::Size;
 
 /// Answers the low byte of a number, which transmit sends.
@@ -17,31 +18,28 @@ fn low_byte(value: u64) -> u8
     (value % 256) as u8
 }
 
-/// Answers what a store of a number into a register does outside the devices.
+/// Answers what a store of a number at the address does outside the devices.
 #[inline]
 #[tactic(auto, unfolding(crate::specs::Devices::effect_of))]
-fn effect(register: Register, value: u64) -> Effect
-    ensures { result ≡ effect_of (address_of register) value }
+fn effect(address: u64, value: u64) -> Effect
+    ensures { result ≡ effect_of address value }
 {
-    match register {
-        Register::Halt => Effect::Halt(value),
-        Register::Transmit => Effect::Byte(low_byte(value)),
+    match Register::at(address) {
+        Some(Register::Halt) => Effect::Halt(value),
+        Some(Register::Transmit) => Effect::Byte(low_byte(value)),
         _ => Effect::None,
     }
 }
 
-impl Register {
-    /// Tells whether a store of this size may be made: 8 bytes, or for transmit also one byte.
-    #[inline]
-    #[tactic(auto, unfolding(crate::specs::Devices::write_fault))]
-    fn takes(self, size: Size) -> bool
-        ensures { IsTrue result ↔ (write_fault (address_of self) (bytes_of size) ≡ None) }
-    {
-        match size {
-            Size::Double => true,
-            Size::Byte => self == Register::Transmit,
-            Size::Half | Size::Word => false,
-        }
+/// Tells whether a store of this size may be made at the address, if a register begins there: 8 bytes, or at transmit also one byte.
+#[inline]
+fn takes_size(address: u64, size: Size) -> bool
+    ensures { result ≡ spec.takes_size address (bytes_of size) }
+{
+    match size {
+        Size::Double => true,
+        Size::Byte => address == TRANSMIT,
+        Size::Half | Size::Word => false,
     }
 }
 
@@ -52,10 +50,7 @@ impl Devices {
     pub fn takes(address: u64, size: Size) -> bool
         ensures { IsTrue result ↔ (write_fault address (bytes_of size) ≡ None) }
     {
-        match Register::at(address) {
-            Some(register) => register.takes(size),
-            None => false,
-        }
+        is_register(address) && takes_size(address, size)
     }
 
     /// Answers the byte that a store of a number at the address sends, if the register there sends.
@@ -70,14 +65,23 @@ impl Devices {
         }
     }
 
-    /// Keeps what a store of a number into a register leaves.
+    /// Keeps a number in the register at the address, if it only keeps one.
+    #[inline]
+    fn keep(&mut self, address: u64, value: u64)
+        ensures { self.new ≡ record self.old { kept = kept_in (spec.kept_at address) value self.old.kept } }
+    {
+        if let Some(index) = kept_at(address) {
+            self.kept[index] = value;
+        }
+    }
+
+    /// Keeps what a store of a number into a register leaves that does something of its own.
     #[tactic(auto, unfolding(crate::specs::Devices::written))]
-    fn keep(&mut self, register: Register, value: u64)
+    fn act(&mut self, register: Register, value: u64)
         ensures { self.new ≡ written self.old (address_of register) value }
     {
         match register {
             Register::Halt => self.halted = Some(value),
-            Register::TimerCompare => self.mtimecmp = value,
             Register::Timer => self.mtime = value,
             Register::Status => self.overrun = self.overrun && value / OVERRUN % 2 != 1,
             Register::Control => self.control = value % 2 == 1,
@@ -94,14 +98,14 @@ impl Devices {
         ensures ok { OnOk result (self.new ≡ written self.old address value) }
         ensures err { OnErr result (self.new ≡ self.old) }
     {
-        let Some(register) = Register::at(address) else {
+        if !is_register(address) {
             return Err(DeviceFault::V1);
-        };
-        if !register.takes(size) {
+        }
+        if !takes_size(address, size) {
             return Err(DeviceFault::V2);
         }
-        self.keep(register, value);
-        Ok(effect(register, value))
+        self.store_at(address, value);
+        Ok(effect(address, value))
     }
 
     /// Keeps what a store of a number at the address leaves there, and nothing where no register begins.
@@ -110,8 +114,9 @@ impl Devices {
     pub fn store_at(&mut self, address: u64, value: u64)
         ensures { self.new ≡ written self.old address value }
     {
-        if let Some(register) = Register::at(address) {
-            self.keep(register, value);
+        match Register::at(address) {
+            Some(register) => self.act(register, value),
+            None => self.keep(address, value),
         }
     }
 }

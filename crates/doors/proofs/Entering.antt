@@ -169,13 +169,13 @@ pub jump-leaves : (e : Effect CapValue) (s : State) → Derives e s → outcome_
 unfolding applied outcome_of
 jump-leaves (effect.Enter e) s derives jump = record {
   memory = record { size = refl; bytes = λ a low none. refl; tags = λ granule none. refl };
-  devices = record { halt = λ _. refl; compare = λ _. refl; control = λ _. refl };
+  devices = record { halt = λ _. refl; kept = λ _ _. refl; control = λ _. refl };
   scrs = λ _. record { mtcc = refl; mtdc = refl; mscratchc = refl; mepcc = refl };
-  csrs = λ _. record { mstatus_mie = refl; mstatus_mpie = refl; mie = refl; mscratch = refl; mcause = refl; mtval = refl };
+  csrs = λ _. record { mstatus_mie = refl; mstatus_mpie = refl; mie = refl; kept = refl; mcause = refl; mtval = refl };
 }
 jump-leaves (effect.Return sealed) s derives jump = record {
   memory = record { size = refl; bytes = λ a low none. refl; tags = λ granule none. refl };
-  devices = record { halt = λ _. refl; compare = λ _. refl; control = λ _. refl };
+  devices = record { halt = λ _. refl; kept = λ _ _. refl; control = λ _. refl };
   scrs = λ none. absurd (none (system-used s derives.0));
   csrs = λ none. absurd (none (system-used s derives.0));
 }

@@ -73,7 +73,7 @@ module _ (s : State) where
     };
     devices = record {
       halt = λ none. left.devices.halt (λ writable. none (writable-there _ writable));
-      compare = λ none. left.devices.compare (λ writable. none (writable-there _ writable));
+      kept = λ k none. left.devices.kept k (λ writable. none (writable-there _ writable));
       control = λ none. left.devices.control (λ writable. none (writable-there _ writable));
     };
     scrs = λ none. left.scrs (λ has. none (system-there has));
@@ -89,7 +89,7 @@ module _ (s : State) where
     };
     devices = record {
       halt = λ none. left.devices.halt (λ writable. none (writable-back _ writable));
-      compare = λ none. left.devices.compare (λ writable. none (writable-back _ writable));
+      kept = λ k none. left.devices.kept k (λ writable. none (writable-back _ writable));
       control = λ none. left.devices.control (λ writable. none (writable-back _ writable));
     };
     scrs = λ none. left.scrs (λ has. none (system-back has));

@@ -188,7 +188,7 @@ module _ (P : CapValue → Type 0) where
       };
       devices = record {
         halt = λ none. left.devices.halt (λ writable. none (writable-bounded _ writable));
-        compare = λ none. left.devices.compare (λ writable. none (writable-bounded _ writable));
+        kept = λ k none. left.devices.kept k (λ writable. none (writable-bounded _ writable));
         control = λ none. left.devices.control (λ writable. none (writable-bounded _ writable));
       };
       scrs = λ none. left.scrs (λ has. none (system-bounded has));
@@ -200,9 +200,9 @@ module _ (P : CapValue → Type 0) where
   pub left-refl : (s : State) → LeavesAloneBeyond P s s
   left-refl s = record {
     memory = record { size = refl; bytes = λ a low none. refl; tags = λ granule none. refl };
-    devices = record { halt = λ _. refl; compare = λ _. refl; control = λ _. refl };
+    devices = record { halt = λ _. refl; kept = λ _ _. refl; control = λ _. refl };
     scrs = λ _. record { mtcc = refl; mtdc = refl; mscratchc = refl; mepcc = refl };
-    csrs = λ _. record { mstatus_mie = refl; mstatus_mpie = refl; mie = refl; mscratch = refl; mcause = refl; mtval = refl };
+    csrs = λ _. record { mstatus_mie = refl; mstatus_mpie = refl; mie = refl; kept = refl; mcause = refl; mtval = refl };
   }
 
   module _ (s t u : State) (first : LeavesAloneBeyond P s t) (then : LeavesAloneBeyond P t u) where
@@ -216,7 +216,7 @@ module _ (P : CapValue → Type 0) where
     devices-trans : LeavesDevicesBeyond P s.devices u.devices
     devices-trans = record {
       halt = λ none. then.devices.halt none ∙ first.devices.halt none;
-      compare = λ none. then.devices.compare none ∙ first.devices.compare none;
+      kept = λ k none. then.devices.kept k none ∙ first.devices.kept k none;
       control = λ none. then.devices.control none ∙ first.devices.control none;
     }
 
@@ -240,7 +240,7 @@ module _ (P : CapValue → Type 0) where
             mstatus_mie = two.mstatus_mie ∙ one.mstatus_mie;
             mstatus_mpie = two.mstatus_mpie ∙ one.mstatus_mpie;
             mie = two.mie ∙ one.mie;
-            mscratch = two.mscratch ∙ one.mscratch;
+            kept = two.kept ∙ one.kept;
             mcause = two.mcause ∙ one.mcause;
             mtval = two.mtval ∙ one.mtval;
           };

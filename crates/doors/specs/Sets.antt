@@ -5,7 +5,7 @@ use Rattle.base.specs.Ram.{ram_base}
 use Rattle.cap_bounds.specs.CapValue.{CapValue, is_sealed, value_otype}
 use Rattle.cap_rights.specs.Rights.{IsInRightsOf, OpensSystem, OpensStore, OpensType}
 use Rattle.tagged_memory.specs.Memory.{Memory, has_tag}
-use Rattle.devices.specs.Devices.{Devices, halt, timer_compare, control_register, transmit}
+use Rattle.devices.specs.Devices.{Devices, halt, kept_place, control_register, transmit}
 use Rattle.steps.specs.State.{State}
 use Rattle.authority.specs.Authority.{Not, SameScrs, SameCsrs}
 use Rattle.authority.specs.Reachable.{IsReachable}
@@ -56,10 +56,10 @@ pub record LeavesMemoryBeyond (P : CapValue → Type 0) (m later : Memory) : Typ
   pub tags :
       (granule : ℕ) → ((a : ℕ) → granule ≤ a → a < granule + 16 → Not (IsWritableBy P a)) → has_tag later granule ≡ has_tag m granule
 
--- The halt, mtimecmp and control registers stay where no member may write their first byte.
+-- The halt and control registers and those that only keep a number, as mtimecmp, stay where no member may write their first byte.
 pub record LeavesDevicesBeyond (P : CapValue → Type 0) (d later : Devices) : Type 0 where
   pub halt : Not (IsWritableBy P halt) → later.halted ≡ d.halted
-  pub compare : Not (IsWritableBy P timer_compare) → later.mtimecmp ≡ d.mtimecmp
+  pub kept : (k : ℕ) → Not (IsWritableBy P (kept_place k)) → slice_index later.kept k ≡ slice_index d.kept k
   pub control : Not (IsWritableBy P control_register) → later.control ≡ d.control
 
 -- Left alone beyond the set: memory and devices where no member may write, and the system registers where none opens them.

@@ -19,7 +19,7 @@ use Rattle.steps.specs.declared.effect.Effect.TheVariants.{Jump, Link, Enter, Sp
 use Rattle.steps.specs.declared.effect.Store.{Store as Stored}
 use Rattle.symbols.specs.Symbols.{Symbol}
 use Rattle.symbols.specs.Labels.{labelled}
-use Rattle.explain.specs.TrapNames.{cause_name, cheri_cause_name, register_at_fault}
+use Rattle.asm_names.specs.TrapNames.{cause_name, cheri_cause_name, register_at_fault}
 use Rattle.explain.specs.ValueText.{shown_value}
 
 -- ---- traps

@@ -5,7 +5,7 @@ use Rattle.std.proofs.lemmas.Bool.Decides.{nat_tests}
 use Rattle.asm_names.specs.SpecialNames.{name_in, scr_name}
 use Rattle.asm_names.specs.Registers.{register_name, or_else}
 use Rattle.disassembler.specs.LengthLaws.{register_name_short, scr_name_short}
-use Rattle.explain.specs.TrapNames.{exceptions, interrupts, cheri_causes, cause_name, cheri_cause_name, register_at_fault}
+use Rattle.asm_names.specs.TrapNames.{exceptions, interrupts, cheri_causes, cause_name, cheri_cause_name, register_at_fault}
 
 -- no name of a list is longer than so many bytes
 abbrev are_within : ℕ → List (ℕ × List ℕ) → Bool

@@ -1,5 +1,4 @@
 -- What to read
-pub mod TrapNames
 pub mod TrapText
 pub mod ValueText
 pub mod EffectText

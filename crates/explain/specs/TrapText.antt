@@ -4,7 +4,7 @@ use Rattle.std.specs.Prelude.{ℕ, ◌/◌, ◌%◌, ◌==◌, if◌then◌else�
 use Rattle.base.specs.Fault.{number_of}
 use Rattle.base.specs.declared.cause.Cause.TheVariants as cause
 use Rattle.texts.specs.Hex.{hex_of}
-use Rattle.explain.specs.TrapNames.{cause_name, cheri_cause_name, register_at_fault}
+use Rattle.asm_names.specs.TrapNames.{cause_name, cheri_cause_name, register_at_fault}
 
 -- a cause by its name, or else by its number
 abbrev pub name_or_number : Option (List ℕ) → ℕ → List ℕ

@@ -25,7 +25,7 @@ use Rattle.bounds_text.specs.Letters.{permission_letters}
 use Rattle.registers.specs.Registers.{register}
 use Rattle.steps.specs.State.{State, pc_of}
 use Rattle.steps.specs.Step.{step_effect}
-use Rattle.explain.specs.TrapNames.{cheri_asked_name, register_at_fault}
+use Rattle.asm_names.specs.TrapNames.{cheri_asked_name, register_at_fault}
 use Rattle.explain.specs.ValueText.{shown_value}
 use Rattle.explain.specs.WordLine.{labelled_word}
 use Rattle.explain.specs.EffectText.{effect_text, shown_size}

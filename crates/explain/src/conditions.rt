@@ -1,19 +1,69 @@
-//! The lines of conditions.
-ghost use Rattle.std.specs.Prelude.{◌≡◌, ◌++◌, IsTrue, OnOk, string_bytes};
+//! The lines of conditions, and of the capabilities that they ask, by registers as mtval counts them.
+ghost use Rattle.std.specs.Prelude.{◌≡◌, ◌++◌, IsTrue, OnOk, string_bytes, codes};
 ghost use Rattle.symbols.specs.Labels.{labelled};
 ghost use Rattle.texts.specs.Piece.{text_of, are_narrow};
+ghost use Rattle.explain.specs.WhyText.{register_text, capability_in, capability_line, fields_text};
 ghost use Rattle.explain.specs.WhyText.{name_text, question_text, bounds_text, mark, condition_line, condition_lines};
 
-use crate::fault_registers::{capability_in, register_name};
-use crate::trap_names::cheri_asked_name;
-use base::CheriCause;
+use crate::value::value_text;
+use asm_names::{cheri_asked_name, register_at_fault};
+use base::{CheriCause, FIRST_SPECIAL};
+use bounds_text::permission_letters;
 use cap_bounds::CapRep;
 use cap_checks::{Condition, Question};
+use cap_insns::integer;
 use hart::Hart;
 use std::alloc::AllocError;
 use symbols::{Symbols, labelled};
 use texts::Piece::{self, Text};
 use texts::{append, pieces};
+
+/// The capability in a register: 0 to 31 general, 32 and its number special. Null where there is no such register.
+fn capability_in<C: CapRep>(hart: &Hart<C>, register: u64) -> C
+    ensures { C.value result ≡ capability_in hart.now register }
+{
+    if register < FIRST_SPECIAL {
+        return hart.reg(register as u8);
+    }
+    match u8::try_from(register - FIRST_SPECIAL) {
+        Ok(number) => hart.scrs().get(number).unwrap_or(integer(0)),
+        Err(_) => integer(0),
+    }
+}
+
+/// The name of a register; nothing where there is none.
+fn register_name(register: u64) -> &'static str
+    ensures { result.now ≡ register_text register }
+{
+    register_at_fault(register).unwrap_or("")
+}
+
+/// Appends the rest of a capability's line to a text: its fields, and its permissions in letters.
+fn append_fields<C: CapRep>(text: &mut String, capability: C) -> Result<(), AllocError>
+    ensures { OnOk result (string_bytes text.new ≡ string_bytes text.old ++ (fields_text (C.value capability) ++ codes "\n")) }
+{
+    let fields = value_text(capability);
+    let letters = permission_letters(capability.perms());
+    append(
+        text,
+        &pieces![Text(fields.as_str()) " " Text(letters.as_str()) "\n"],
+    )
+}
+
+/// Appends the line of the capability in a register to a text: its fields, and its permissions in letters.
+pub(crate) fn append_capability<C: CapRep>(
+    text: &mut String,
+    hart: &Hart<C>,
+    register: u64,
+) -> Result<(), AllocError>
+    ensures { OnOk result (string_bytes text.new ≡ string_bytes text.old ++ capability_line hart.now register) }
+{
+    append(
+        text,
+        &[Text("  "), Text(register_name(register)), Text(" ")],
+    )?;
+    append_fields(text, capability_in(hart, register))
+}
 
 /// Appends a text, an address and its label to a text.
 pub(crate) fn append_at(

@@ -4,23 +4,20 @@
 
 mod conditions;
 mod effect;
-mod fault_registers;
-pub mod laws;
 mod line;
 mod stages;
 mod trap;
-mod trap_names;
 mod value;
 mod why;
 
+pub use asm_names::{
+    CHERI_CAUSES, EXCEPTIONS, INTERRUPTS, cause_name, cheri_asked_name, cheri_cause_name,
+    register_at_fault,
+};
 pub use conditions::put_bounds;
 pub use effect::{effect_text, size_text};
 pub use line::{Line, put_word_line, trace_line};
 pub use stages::put_failed;
 pub use trap::trap_text;
-pub use trap_names::{
-    CHERI_CAUSES, EXCEPTIONS, INTERRUPTS, cause_name, cheri_asked_name, cheri_cause_name,
-    register_at_fault,
-};
 pub use value::value_text;
 pub use why::put_why;

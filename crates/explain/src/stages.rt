@@ -8,9 +8,8 @@ ghost use Rattle.explain.specs.Asked.{all_conditions, word_stages};
 ghost use Rattle.explain.specs.WhyText as spec;
 ghost use Rattle.explain.specs.WhyText.{ram_name, moved_name, sized_place, place_text, tag_lines, capability_lines, stage_text, stages_text};
 
-use crate::conditions::{append_at, append_conditions, append_line};
+use crate::conditions::{append_at, append_capability, append_conditions, append_line};
 use crate::effect::size_text;
-use crate::fault_registers::append_capability;
 use base::CheriCause::{CInvoke, Tag};
 use base::{Cause, PCC_REGISTER, Size};
 use cap_bounds::CapRep;

@@ -4,16 +4,16 @@ ghost use Rattle.arrayvec.specs.ArrayString.{array_string_len};
 ghost use Rattle.base.specs.Fault.{number_of};
 ghost use Rattle.base.specs.declared.cause.Cause.TheVariants as cause;
 ghost use Rattle.texts.specs.Piece.{text_of, width_of, are_narrow};
-ghost use Rattle.explain.specs.TrapNames.{cause_name as cause_name_of};
+ghost use Rattle.asm_names.specs.TrapNames.{cause_name as cause_name_of};
 ghost use Rattle.explain.specs.EffectText.{cause_part, taken, trap_entry, violation_part};
 ghost use Rattle.explain.specs.TrapText as spec;
 
 use crate::effect::Line;
-use crate::trap_names::{cause_name, cheri_cause_name, register_at_fault};
 use arrayvec::ArrayString;
+use asm_names::{cause_name, cheri_cause_name, register_at_fault};
 use base::{Cause, Fault, interrupt};
 use texts::Piece::{self, Hexadecimal, Text};
-use texts::{fill, text};
+use texts::{fill, pieces, text};
 
 /// A cause's name and a comma, where it has one.
 #[tactic(auto, using(crate::specs::LengthLaws::cause_name_short))]
@@ -69,11 +69,9 @@ pub(crate) fn trap_entry(fault: Fault) -> Line
     let mut line = text(&[Text(taken(fault.mcause))]);
     fill(&mut line, &cause_part(fault.mcause));
     fill(&mut line, &violation_part(fault));
-    let numbers = [
-        Text("mcause "),
-        Hexadecimal(16, u128::from(fault.mcause)),
-        Text(", mtval "),
-        Hexadecimal(16, u128::from(fault.mtval)),
+    let numbers = pieces![
+        "mcause " Hexadecimal(16, u128::from(fault.mcause))
+        ", mtval " Hexadecimal(16, u128::from(fault.mtval))
     ];
     fill(&mut line, &numbers);
     line

@@ -1,6 +1,6 @@
 -- What stands after the text of an assembler's fault: the line with carets under what the fault is about, and what was read there.
-use Rattle.std.specs.Prelude.{ℕ, zero, suc, ◌+◌, ◌-◌, not, ◌==◌, if◌then◌else◌, List, [], ◌++◌, map, length, take, max, replicate}
-use Rattle.std.specs.Prelude.{slice_index, Option, Some, None, codes, decimal}
+use Rattle.std.specs.Prelude.{ℕ, zero, suc, ◌+◌, ◌-◌, not, ◌==◌, if◌then◌else◌, List, [], ◌++◌, map, length, take, drop, max, replicate}
+use Rattle.std.specs.Prelude.{slice_index, codes, decimal}
 use Rattle.std.specs.List.{prefix_len}
 use Rattle.std.specs.Option.{option_map_or}
 use Rattle.asm_lines.specs.Text.{is_foreign, trimmed_end}
@@ -11,8 +11,14 @@ use Rattle.assembler.specs.declared.standing.Stopped.{Stopped}
 use Rattle.assembler.specs.AtFault.{part_at_fault, reason_at_fault}
 use Rattle.assembler.specs.Standing.{Standing}
 use Rattle.texts.specs.Hex.{hex_of}
-use Rattle.fault_details.specs.Pieces.{past, up_to}
 use Rattle.fault_details.specs.Reasons.{reason_text}
+
+-- what stands before a byte, and after it
+abbrev pub up_to : ℕ → List ℕ → List ℕ
+up_to byte text = take (prefix_len (λ b. not (b == byte)) text) text
+
+abbrev pub past : ℕ → List ℕ → List ℕ
+past byte text = drop (prefix_len (λ b. not (b == byte)) text + 1) text
 
 -- a line of a text, counted from 1
 abbrev pub after_lines : ℕ → List ℕ → List ℕ

@@ -1,4 +1,3 @@
 -- What to read
-pub mod Pieces
 pub mod Reasons
 pub mod Detail

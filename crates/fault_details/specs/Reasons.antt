@@ -1,7 +1,6 @@
 -- What is said of a fault after its line.
 use Rattle.std.specs.Prelude.{ℕ, ◌+◌, ◌^◌, ◌==◌, nat_lt, if◌then◌else◌, List, [], ◌∷◌, ◌++◌, codes, decimal}
 use Rattle.std.specs.Fmt.{signed_decimal}
-use Rattle.asm_lines.specs.declared.forms.Range.{Range}
 use Rattle.asm_lines.specs.Forms.{Operand, form_of}
 use Rattle.assembler.specs.declared.misplaced.Misplaced.{Misplaced}
 use Rattle.assembler.specs.declared.misplaced.Misplaced.TheVariants.{BelowRam, PastRam, Taken, TooManySections, CodeAskew, CapabilityAskew}
@@ -15,11 +14,9 @@ abbrev pub words : List ℕ → List ℕ → List Operand → List ℕ
 words none before [] = none
 words none before (o ∷ os) = before ++ o.word ++ words [] (codes ", ") os
 
-unfoldable pub range_text : List ℕ → Range → List ℕ → List ℕ
-range_text before r after = before ++ signed_decimal r.least ++ codes " to " ++ signed_decimal r.most ++ after
-
-unfoldable pub pages_text : List ℕ → ℕ → List ℕ
-pages_text before pages = before ++ decimal pages ++ (if pages == 1 then codes " page; see .pages)" else codes " pages; see .pages)")
+-- what closes a number of pages
+abbrev pub pages_words : ℕ → List ℕ
+pages_words pages = if pages == 1 then codes " page; see .pages)" else codes " pages; see .pages)"
 
 -- why a place is invalid; the number of pages, where there are too few
 unfoldable pub misplaced_words : Misplaced → List ℕ
@@ -32,7 +29,7 @@ misplaced_words CapabilityAskew = codes "a capability at no multiple of 16"
 misplaced_words TooManyCapabilities = codes "the 1025th capability"
 
 abbrev pub pages_after : ℕ → Misplaced → List ℕ
-pages_after pages PastRam = pages_text (codes " (") pages
+pages_after pages PastRam = codes " (" ++ decimal pages ++ pages_words pages
 pages_after pages other = []
 
 abbrev pub place_text : ℕ → Misplaced → ℕ → List ℕ
@@ -52,11 +49,17 @@ expected_text word other = []
 
 -- by the line's mnemonic
 unfoldable pub reason_text : List ℕ → Reason → List ℕ
-reason_text word (why.Number r) = range_text (codes " ") r []
-reason_text word (why.Value value r) = codes " is " ++ signed_decimal value ++ range_text (codes " (") r (codes ")")
-reason_text word (why.Target distance r) = codes " " ++ signed_decimal distance ++ range_text (codes " bytes away (even, ") r (codes ")")
-reason_text word (why.Load distance r) = codes " " ++ signed_decimal distance ++ range_text (codes " bytes away (") r (codes ")")
-reason_text word (why.Entry entry pages) = codes " 0x" ++ hex_of 16 entry ++ pages_text (codes " is no multiple of 4 in RAM (") pages
+reason_text word (why.Number r) = codes " " ++ signed_decimal r.least ++ codes " to " ++ signed_decimal r.most
+reason_text word (why.Value value r) =
+    codes " is " ++ signed_decimal value ++ codes " (" ++ signed_decimal r.least ++ codes " to " ++ signed_decimal r.most ++ codes ")"
+reason_text word (why.Target distance r) =
+    codes " " ++ signed_decimal distance
+    ++ codes " bytes away (even, " ++ signed_decimal r.least ++ codes " to " ++ signed_decimal r.most ++ codes ")"
+reason_text word (why.Load distance r) =
+    codes " " ++ signed_decimal distance
+    ++ codes " bytes away (" ++ signed_decimal r.least ++ codes " to " ++ signed_decimal r.most ++ codes ")"
+reason_text word (why.Entry entry pages) =
+    codes " 0x" ++ hex_of 16 entry ++ codes " is no multiple of 4 in RAM (" ++ decimal pages ++ pages_words pages
 reason_text word (why.Place place misplaced pages) = place_text place misplaced pages
 reason_text word (why.Bounds base size) =
     codes " from 0x" ++ hex_of 16 base ++ codes " on, " ++ decimal size ++ codes " bytes " ++ bounds_words base size

@@ -3,7 +3,7 @@ ghost use Rattle.std.specs.Prelude.{◌≡◌, ◌++◌, OnOk};
 ghost use Rattle.asm_lines.specs.SeenParts.{seen_form};
 ghost use Rattle.fault_details.specs.Reasons as spec;
 
-use asm_lines::{Form, Range, form_of, slot_word};
+use asm_lines::{Form, form_of, slot_word};
 use assembler::{Misplaced, Reason};
 use std::alloc::AllocError;
 use texts::Piece::{Address, Decimal, Hexadecimal, Text, WideSignedDecimal};
@@ -18,6 +18,7 @@ fn append_words(text: &mut Vec<u8>, none: &str, before: &str, form: Form) -> Res
             append(text, &[Text(before), Text(slot_word(*slot))])?;
             append_words(text, "", ", ", Form::Slots(later))
         }
+        Form::Number(_) => append(text, &[Text(before), Text("a number")]),
         Form::Listed([operand, later @ ..], repeats) => {
             append(text, &[Text(before), Text(operand.word)])?;
             append_words(text, "", ", ", Form::Listed(later, repeats))
@@ -26,33 +27,14 @@ fn append_words(text: &mut Vec<u8>, none: &str, before: &str, form: Form) -> Res
     }
 }
 
-/// Appends a range between texts.
-#[tactic(auto, unfolding(crate::specs::Reasons::range_text))]
-fn append_range(
-    text: &mut Vec<u8>,
-    before: &'static str,
-    range: Range,
-    after: &'static str,
-) -> Result<(), AllocError>
-    ensures { OnOk result (text.new.items ≡ text.old.items ++ spec.range_text before.now range after.now) }
+/// What closes the number of pages.
+fn pages_words(pages: u32) -> &'static str
+    ensures { result.now ≡ spec.pages_words pages }
 {
-    append(text, &[Text(before), WideSignedDecimal(range.least)])?;
-    append(
-        text,
-        &[Text(" to "), WideSignedDecimal(range.most), Text(after)],
-    )
-}
-
-/// Appends the number of pages, after what opens its brackets.
-#[tactic(auto, unfolding(crate::specs::Reasons::pages_text))]
-fn append_pages(text: &mut Vec<u8>, before: &str, pages: u32) -> Result<(), AllocError>
-    ensures { OnOk result (text.new.items ≡ text.old.items ++ spec.pages_text before.now pages) }
-{
-    append(text, &[Text(before), Decimal(u64::from(pages))])?;
     if pages == 1 {
-        append(text, &[Text(" page; see .pages)")])
+        " page; see .pages)"
     } else {
-        append(text, &[Text(" pages; see .pages)")])
+        " pages; see .pages)"
     }
 }
 
@@ -81,10 +63,10 @@ fn append_place(
     ensures { OnOk result (text.new.items ≡ text.old.items ++ spec.place_text place misplaced pages) }
 {
     let width = if place < 1 << 64 { 16 } else { 17 };
-    append(text, &[Text(" from 0x"), Hexadecimal(width, place)])?;
-    append(text, &[Text(" on: "), Text(misplaced_words(misplaced))])?;
+    append_pieces!(text, " from 0x" Hexadecimal(width, place) " on: " Text(misplaced_words(misplaced)))?;
     match misplaced {
-        Misplaced::PastRam => append_pages(text, " (", pages),
+        Misplaced::PastRam =>
+            append_pieces!(text, " (" Decimal(u64::from(pages)) Text(pages_words(pages))),
         _ => Ok(()),
     }
 }
@@ -122,35 +104,19 @@ pub(crate) fn append_reason(
     ensures { OnOk result (text.new.items ≡ text.old.items ++ spec.reason_text word.now reason) }
 {
     match reason {
-        Reason::Number(range) => append_range(text, " ", range, ""),
-        Reason::Value(value, range) => {
-            append(text, &[Text(" is "), WideSignedDecimal(value)])?;
-            append_range(text, " (", range, ")")
-        }
-        Reason::Target(distance, range) => {
-            append(text, &[Text(" "), WideSignedDecimal(distance)])?;
-            append_range(text, " bytes away (even, ", range, ")")
-        }
-        Reason::Load(distance, range) => {
-            append(text, &[Text(" "), WideSignedDecimal(distance)])?;
-            append_range(text, " bytes away (", range, ")")
-        }
-        Reason::Entry(entry, pages) => {
-            append(text, &[Text(" 0x"), Address(entry)])?;
-            append_pages(text, " is no multiple of 4 in RAM (", pages)
-        }
+        Reason::Number(range) =>
+            append_pieces!(text, " " WideSignedDecimal(range.least) " to " WideSignedDecimal(range.most)),
+        Reason::Value(value, range) => append_pieces!(text,
+            " is " WideSignedDecimal(value) " (" WideSignedDecimal(range.least) " to " WideSignedDecimal(range.most) ")"),
+        Reason::Target(distance, range) => append_pieces!(text, " " WideSignedDecimal(distance)
+            " bytes away (even, " WideSignedDecimal(range.least) " to " WideSignedDecimal(range.most) ")"),
+        Reason::Load(distance, range) => append_pieces!(text, " " WideSignedDecimal(distance)
+            " bytes away (" WideSignedDecimal(range.least) " to " WideSignedDecimal(range.most) ")"),
+        Reason::Entry(entry, pages) => append_pieces!(text, " 0x" Address(entry)
+            " is no multiple of 4 in RAM (" Decimal(u64::from(pages)) Text(pages_words(pages))),
         Reason::Place(place, misplaced, pages) => append_place(text, place, misplaced, pages),
-        Reason::Bounds(base, length) => {
-            append(text, &[Text(" from 0x"), Address(base), Text(" on, ")])?;
-            append(
-                text,
-                &[
-                    Decimal(length),
-                    Text(" bytes "),
-                    Text(bounds_words(base, length)),
-                ],
-            )
-        }
+        Reason::Bounds(base, length) => append_pieces!(text,
+            " from 0x" Address(base) " on, " Decimal(length) " bytes " Text(bounds_words(base, length))),
         _ => {
             append(text, &[Text(" ")])?;
             text.extend_from_slice(word)?;

@@ -2,7 +2,6 @@
 #![tactic(auto)]
 
 mod header;
-mod line;
 mod listing;
 
 pub use header::write_header;

@@ -1,17 +1,68 @@
-//! The listing of an image, with names or without.
-
-ghost use Rattle.std.specs.Prelude.{◌+◌, ◌-◌, ◌^◌, ◌<◌, ◌++◌, length, OnOk, OnErr};
+//! The listing of an image, with names or without, and the line of a word with the place in names where it leads.
+ghost use Rattle.std.specs.Prelude.{◌≡◌, ◌+◌, ◌-◌, ◌^◌, ◌<◌, ◌≤◌, ◌++◌, length, OnOk, OnErr};
 ghost use Rattle.std.specs.Option.{option_copied};
 ghost use Rattle.std.specs.Io.KnownBytes.{Appends};
+ghost use Rattle.arrayvec.specs.ArrayString.{array_string_len};
 ghost use Rattle.image.specs.Devices.{Counts, AppendsBeginning};
-ghost use Rattle.image_listing.specs.Listing.{listing, listing_by, listing_named, section_lines};
-ghost use Rattle.image_listing.specs.Named.{before, label_line, label_lines};
+ghost use Rattle.image_listing.specs.Listing.{listing, listing_by, listing_named, named_line, section_lines};
+ghost use Rattle.image_listing.specs.Named.{after, before, label_line, label_lines, leads, target_in, target_of};
 
-use crate::line::named_line;
+use arrayvec::ArrayString;
 use byteorder::{ByteOrder, LittleEndian};
-use disassembler::byte_line;
+use disassembler::{byte_line, disassemble};
 use image::{DeviceFailed, Image, Section, Sink, write_all};
-use symbols::Symbols;
+use isa_rows::{Format, Insn};
+use isa_table::decode;
+use symbols::{Label, Symbols};
+use texts::{pieces, text};
+
+/// A line of at most 369 bytes: a word has 90 with its line feed, its target 278.
+type Line = ArrayString<370>;
+
+/// Whether rows of a format are branches or jal.
+fn leads(format: Format) -> bool
+    ensures { result ≡ leads format }
+{
+    matches!(format, Format::Branch | Format::Jump)
+}
+
+/// Where an instruction at an address leads, if it is a branch or jal.
+fn target_in(address: u64, insn: Option<Insn>) -> Option<u64>
+    ensures { result ≡ target_in address insn }
+{
+    match insn {
+        Some(insn) if leads(insn.row.format()) => Some(address.wrapping_add(insn.imm)),
+        _ => None,
+    }
+}
+
+fn target_of(address: u64, word: u32) -> Option<u64>
+    ensures { result ≡ target_of address word }
+{
+    target_in(address, decode(word))
+}
+
+/// The place in names where a word at an address leads, if there is a table.
+fn after(table: Option<&Symbols>, address: u64, word: u32) -> Label
+    ensures text { result.bytes ≡ after (option_copied table.entry) address word }
+    ensures within { array_string_len result ≤ 278 }
+{
+    match (table, target_of(address, word)) {
+        (Some(symbols), Some(target)) => symbols.label_of(target),
+        _ => Label::new(),
+    }
+}
+
+/// The line of a word at an address, in a mode, with the place where it leads.
+fn named_line(table: Option<&Symbols>, address: u64, word: u32, mode: bool) -> Line
+    ensures { result.bytes ≡ named_line (option_copied table.entry) mode address word }
+{
+    let shown = disassemble(word, mode);
+    let leads = after(table, address, word);
+    text(&pieces![
+        Address(address) " " Hexadecimal(8, u128::from(word)) " " Text(shown.as_str()) Text(leads.as_str()) "\n"
+    ])
+}
 
 /// A table of symbols, if there is one.
 type Table<'a> = Option<&'a Symbols>;
@@ -43,19 +94,6 @@ fn write_labels<W: Sink>(symbols: &Symbols, address: u64, sink: &mut W) -> Writt
     Ok(())
 }
 
-/// Writes what stands before a line at an address: its labels, if there is a table.
-fn write_before<W: Sink>(table: Table, address: u64, sink: &mut W) -> Written
-    requires { W.failed sink.old < 2 ^ 64 - 1 }
-    ensures ok { OnOk result (Appends (W.held sink.old) (W.held sink.new) (before (option_copied table.entry) address)) }
-    ensures err { OnErr result (AppendsBeginning (W.held sink.old) (W.held sink.new) (before (option_copied table.entry) address)) }
-    ensures count { Counts (W.failed sink.old) (W.failed sink.new) result }
-{
-    match table {
-        Some(symbols) => write_labels(symbols, address, sink),
-        None => Ok(()),
-    }
-}
-
 /// Writes the labels of an address, if there is a table, and a line.
 fn write_line<W: Sink>(table: Table, address: u64, line: &str, sink: &mut W) -> Written
     requires { W.failed sink.old < 2 ^ 64 - 1 }
@@ -64,7 +102,9 @@ fn write_line<W: Sink>(table: Table, address: u64, line: &str, sink: &mut W) -> 
         (before (option_copied table.entry) address ++ line.now)) }
     ensures count { Counts (W.failed sink.old) (W.failed sink.new) result }
 {
-    write_before(table, address, sink)?;
+    if let Some(symbols) = table {
+        write_labels(symbols, address, sink)?;
+    }
     write_all(sink, line.as_bytes())
 }
 

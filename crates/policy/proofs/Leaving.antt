@@ -43,19 +43,19 @@ module _ (s : State) where
   unfolding applied outcome_of
   places-applied (effect.Trap fault) sound derives = record {
     memory = record { size = refl; bytes = λ a low none. refl; tags = λ granule none. refl };
-    devices = record { halt = λ _. refl; compare = λ _. refl; control = λ _. refl };
+    devices = record { halt = λ _. refl; kept = λ _ _. refl; control = λ _. refl };
   }
   places-applied (effect.Unseal w) sound derives = record {
     memory = record { size = refl; bytes = λ a low none. refl; tags = λ granule none. refl };
-    devices = record { halt = λ _. refl; compare = λ _. refl; control = λ _. refl };
+    devices = record { halt = λ _. refl; kept = λ _ _. refl; control = λ _. refl };
   }
   places-applied (effect.Enter e) sound derives = record {
     memory = record { size = refl; bytes = λ a low none. refl; tags = λ granule none. refl };
-    devices = record { halt = λ _. refl; compare = λ _. refl; control = λ _. refl };
+    devices = record { halt = λ _. refl; kept = λ _ _. refl; control = λ _. refl };
   }
   places-applied (effect.Return closed) sound derives = record {
     memory = record { size = refl; bytes = λ a low none. refl; tags = λ granule none. refl };
-    devices = record { halt = λ _. refl; compare = λ _. refl; control = λ _. refl };
+    devices = record { halt = λ _. refl; kept = λ _ _. refl; control = λ _. refl };
   }
   places-applied e sound derives =
       let all = effect-leaves e s sound derives refl in record { memory = all.memory; devices = all.devices }
@@ -66,11 +66,11 @@ module _ (s : State) where
   system-applied (effect.Trap fault) sound derives other none = absurd (other refl)
   system-applied (effect.Unseal w) sound derives other none = (
     record { mtcc = refl; mtdc = refl; mscratchc = refl; mepcc = refl },
-    record { mstatus_mie = refl; mstatus_mpie = refl; mie = refl; mscratch = refl; mcause = refl; mtval = refl },
+    record { mstatus_mie = refl; mstatus_mpie = refl; mie = refl; kept = refl; mcause = refl; mtval = refl },
   )
   system-applied (effect.Enter e) sound derives other none = (
     record { mtcc = refl; mtdc = refl; mscratchc = refl; mepcc = refl },
-    record { mstatus_mie = refl; mstatus_mpie = refl; mie = refl; mscratch = refl; mcause = refl; mtval = refl },
+    record { mstatus_mie = refl; mstatus_mpie = refl; mie = refl; kept = refl; mcause = refl; mtval = refl },
   )
   system-applied (effect.Return closed) sound derives other none = absurd (none (system-used s derives.0))
   system-applied e sound derives other none =
@@ -137,6 +137,6 @@ module _ (s : State) where
               (λ a from below. not_stored a (omega arith) (outside a from below));
           silent = λ banned. event-silent s is e (not_sent banned);
           halt = λ banned. places.devices.halt (not_halted banned);
-          timer = λ banned. places.devices.compare (not_set banned);
+          timer = λ banned. places.devices.kept 0 (not_set banned);
           system = λ other banned. system-after is e other (no_system banned);
         }

@@ -5,6 +5,7 @@ use Rattle.std.proofs.lemmas.List.{take_more}
 use Rattle.std.specs.Prelude.{Contains, option_to_list}
 use Rattle.base.specs.Ram.{ram_base}
 use Rattle.tagged_memory.specs.Memory.{has_tag}
+use Rattle.devices.specs.Devices.{mtimecmp}
 use Rattle.steps.specs.declared.event.Event.{Event}
 use Rattle.steps.specs.declared.event.Event.TheVariants.{Step}
 use Rattle.steps.specs.Event.{after, sent}
@@ -32,7 +33,7 @@ same-trans s t u one two = (
     mstatus_mie = two.1.mstatus_mie ∙ one.1.mstatus_mie;
     mstatus_mpie = two.1.mstatus_mpie ∙ one.1.mstatus_mpie;
     mie = two.1.mie ∙ one.1.mie;
-    mscratch = two.1.mscratch ∙ one.1.mscratch;
+    kept = two.1.kept ∙ one.1.kept;
     mcause = two.1.mcause ∙ one.1.mcause;
     mtval = two.1.mtval ∙ one.1.mtval;
   },
@@ -114,7 +115,7 @@ module _ (rules : List Terms) (rule : Terms) (events : List Event) (there : Cont
     system : (done : ℕ) → Guards done → rule.system ≡ false → NoneTraps events done s → SameSystem s (state s done)
     system zero g banned none = (
       record { mtcc = refl; mtdc = refl; mscratchc = refl; mepcc = refl },
-      record { mstatus_mie = refl; mstatus_mpie = refl; mie = refl; mscratch = refl; mcause = refl; mtval = refl },
+      record { mstatus_mie = refl; mstatus_mpie = refl; mie = refl; kept = refl; mcause = refl; mtval = refl },
     )
     system (suc n) g banned none =
         subst (SameSystem s) (sym (state-more n (inside n g) s))
@@ -132,10 +133,10 @@ module _ (rules : List Terms) (rule : Terms) (events : List Event) (there : Cont
     halt (suc n) g banned =
         ap (λ x. x.devices.halted) (state-more n (inside n g) s) ∙ (last n g).leaves.halt banned ∙ halt n (fewer n g) banned
 
-    timer : (done : ℕ) → Guards done → rule.timer ≡ false → (state s done).devices.mtimecmp ≡ s.devices.mtimecmp
+    timer : (done : ℕ) → Guards done → rule.timer ≡ false → mtimecmp (state s done).devices ≡ mtimecmp s.devices
     timer zero g banned = refl
     timer (suc n) g banned =
-        ap (λ x. x.devices.mtimecmp) (state-more n (inside n g) s) ∙ (last n g).leaves.timer banned ∙ timer n (fewer n g) banned
+        ap (λ x. mtimecmp x.devices) (state-more n (inside n g) s) ∙ (last n g).leaves.timer banned ∙ timer n (fewer n g) banned
 
     module _ (t : State) (differs : DiffersOutside rule s t) where
       same_state : (done : ℕ) → Guards done → DiffersOutside rule (state s done) (state t done)
@@ -175,7 +176,7 @@ module _ (rules : List Terms) (rule : Terms) (events : List Event) (there : Cont
       pub halted-stays : rule.halt ≡ false → (state s done).devices.halted ≡ s.devices.halted
       halted-stays = halt done guards
 
-      pub compare-stays : rule.timer ≡ false → (state s done).devices.mtimecmp ≡ s.devices.mtimecmp
+      pub compare-stays : rule.timer ≡ false → mtimecmp (state s done).devices ≡ mtimecmp s.devices
       compare-stays = timer done guards
 
       pub sends-same : (t : State) → DiffersOutside rule s t → run_sent (take done events) t ≡ run_sent (take done events) s

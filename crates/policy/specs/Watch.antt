@@ -5,6 +5,7 @@ use Rattle.std.specs.List.{HoldsAt}
 use Rattle.base.specs.Ram.{ram_base}
 use Rattle.cap_bounds.specs.CapValue.{CapValue}
 use Rattle.tagged_memory.specs.Memory.{has_tag}
+use Rattle.devices.specs.Devices.{mtimecmp}
 use Rattle.steps.specs.declared.event.Event.{Event}
 use Rattle.steps.specs.Event.{after, outcome, sent}
 use Rattle.steps.specs.Outcome.{Plain, Trap}
@@ -46,7 +47,7 @@ pub record LeavesBy (rule : Terms) (e : Event) (s : State) : Type 0 where
       → has_tag (after e s).memory granule ≡ has_tag s.memory granule
   pub silent : rule.transmit ≡ false → sent e s ≡ None
   pub halt : rule.halt ≡ false → (after e s).devices.halted ≡ s.devices.halted
-  pub timer : rule.timer ≡ false → (after e s).devices.mtimecmp ≡ s.devices.mtimecmp
+  pub timer : rule.timer ≡ false → mtimecmp (after e s).devices ≡ mtimecmp s.devices
   pub system :
       outcome e s ≢ Trap → rule.system ≡ false → SameScrs s.scrs (after e s).scrs × SameCsrs s.csrs (after e s).csrs
 

@@ -3,6 +3,7 @@ ghost use Rattle.std.specs.Prelude.{◌≡◌, ◌↔◌, true, ℕ, ◌+◌, �
 ghost use Rattle.base.specs.Ram.{ram_base};
 ghost use Rattle.cap_bounds.specs.CapValue.{CapValue};
 ghost use Rattle.tagged_memory.specs.Memory.{has_tag};
+ghost use Rattle.devices.specs.Devices.{mtimecmp};
 ghost use Rattle.steps.specs.declared.event.Event.{Event};
 ghost use Rattle.steps.specs.State.{State};
 ghost use Rattle.authority.specs.Authority.{SameScrs, SameCsrs};
@@ -36,7 +37,7 @@ pub fn runs_keep_to_a_rule()
         → (run_after (take done events) s).devices.halted ≡ s.devices.halted }
     ensures timer { (rules : List Terms) (rule : Terms) (events : List Event) (done : ℕ) (s : State) → done ≤ length events
         → KeepToEach rules events done s → Contains rules rule → IsAboutEach rule events done s → rule.timer ≡ false
-        → (run_after (take done events) s).devices.mtimecmp ≡ s.devices.mtimecmp }
+        → mtimecmp (run_after (take done events) s).devices ≡ mtimecmp s.devices }
     ensures system { (rules : List Terms) (rule : Terms) (events : List Event) (done : ℕ) (s : State) → done ≤ length events
         → KeepToEach rules events done s → Contains rules rule → IsAboutEach rule events done s → rule.system ≡ false
         → NoneTraps events done s

@@ -7,7 +7,7 @@ ghost use Rattle.cap_bounds.specs.CapValue.{CapValue, is_tagged, value_otype};
 ghost use Rattle.cap_rights.specs.Derivations.{unseal};
 ghost use Rattle.cap_rights.specs.Rights.{OpensSystem, OpensGranule, OpensStore, OpensByte, OpensType};
 ghost use Rattle.tagged_memory.specs.Memory.{has_tag};
-ghost use Rattle.devices.specs.Devices.{halt, timer_compare, timer, transmit, status, control_register};
+ghost use Rattle.devices.specs.Devices.{halt, mtimecmp, timer_compare, timer, transmit, status, control_register};
 ghost use Rattle.steps.specs.declared.event.Event.{Event};
 ghost use Rattle.steps.specs.State.{State};
 ghost use Rattle.authority.specs.Authority.{IsWritable, HasSystem, SameScrs, SameCsrs};
@@ -67,7 +67,7 @@ pub fn what_no_member_opens_stays()
     ensures halt { (events : List Event) (s : State) (vs : List CapValue) → AreReachable s vs → IsPlainRun events s
         → HoldsOfNone (λ v. OpensStore v halt) vs → (run_after events s).devices.halted ≡ s.devices.halted }
     ensures timer { (events : List Event) (s : State) (vs : List CapValue) → AreReachable s vs → IsPlainRun events s
-        → HoldsOfNone (λ v. OpensStore v timer_compare) vs → (run_after events s).devices.mtimecmp ≡ s.devices.mtimecmp }
+        → HoldsOfNone (λ v. OpensStore v timer_compare) vs → mtimecmp (run_after events s).devices ≡ mtimecmp s.devices }
     ensures control { (events : List Event) (s : State) (vs : List CapValue) → AreReachable s vs → IsPlainRun events s
         → HoldsOfNone (λ v. OpensStore v control_register) vs → (run_after events s).devices.control ≡ s.devices.control }
     ensures special { (events : List Event) (s : State) (vs : List CapValue) → AreReachable s vs → IsPlainRun events s

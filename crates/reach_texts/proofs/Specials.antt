@@ -3,7 +3,7 @@ use Rattle.std.specs.Prelude.{◌≡◌, ℕ, ◌+◌, ◌≤◌, false, nat_lt,
 use Rattle.std.proofs.Common.{arith, refl}
 use Rattle.std.proofs.lemmas.Bool.Decides.{nat_tests}
 use Rattle.base.specs.declared.registers.scr.TheConstants.{MTCC}
-use Rattle.explain.specs.TrapNames.{register_at_fault}
+use Rattle.asm_names.specs.TrapNames.{register_at_fault}
 
 not_general : (n : ℕ) → 4 ≤ n → nat_lt (32 + MTCC + n) 32 ≡ false
 not_general n far = grind (arith, nat_tests)

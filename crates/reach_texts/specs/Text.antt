@@ -6,7 +6,7 @@ use Rattle.cap_bounds.specs.CapValue.{CapValue, is_sealed, value_base, value_top
 use Rattle.bounds_text.specs.Letters.{permission_letters}
 use Rattle.texts.specs.Hex.{hex_of}
 use Rattle.disassembler.specs.Shown.{name_or}
-use Rattle.explain.specs.TrapNames.{register_at_fault}
+use Rattle.asm_names.specs.TrapNames.{register_at_fault}
 use Rattle.explain.specs.ValueText.{shown_value}
 use Rattle.symbols.specs.Symbols.{Symbol}
 use Rattle.symbols.specs.Labels.{labelled}

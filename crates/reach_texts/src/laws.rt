@@ -3,6 +3,7 @@
 
 ghost use Rattle.std.specs.Prelude.{◌≡◌, ℕ, List, [], None};
 ghost use Rattle.debug_commands.specs.declared.command.May.TheVariants.{Store, Learn, Send, Halt, System, Timer};
+ghost use Rattle.devices.specs.Devices.{mtimecmp};
 ghost use Rattle.steps.specs.declared.event.Event.{Event};
 ghost use Rattle.steps.specs.State.{State};
 ghost use Rattle.authority.specs.Authority.{SameScrs, SameCsrs};
@@ -31,7 +32,7 @@ pub fn what_code_may_not_do_is_not_done()
     ensures halt { (events : List Event) (s : State) (xs : List Found) → AreReachable s (values_of xs) → IsPlainRun events s
         → first_that Halt xs ≡ None → (run_after events s).devices.halted ≡ s.devices.halted }
     ensures timer { (events : List Event) (s : State) (xs : List Found) → AreReachable s (values_of xs) → IsPlainRun events s
-        → first_that Timer xs ≡ None → (run_after events s).devices.mtimecmp ≡ s.devices.mtimecmp }
+        → first_that Timer xs ≡ None → mtimecmp (run_after events s).devices ≡ mtimecmp s.devices }
     ensures special { (events : List Event) (s : State) (xs : List Found) → AreReachable s (values_of xs) → IsPlainRun events s
         → first_that System xs ≡ None → SameScrs s.scrs (run_after events s).scrs }
     ensures control_and_status { (events : List Event) (s : State) (xs : List Found) → AreReachable s (values_of xs)
@@ -61,7 +62,7 @@ pub fn what_code_may_not_do_is_not_done_through_doors()
     ensures halt { (events : List Event) (s : State) (xs : List Found) → AreReachableThroughDoors s (values_of xs) → IsTurn events s
         → first_that Halt xs ≡ None → (run_after events s).devices.halted ≡ s.devices.halted }
     ensures timer { (events : List Event) (s : State) (xs : List Found) → AreReachableThroughDoors s (values_of xs) → IsTurn events s
-        → first_that Timer xs ≡ None → (run_after events s).devices.mtimecmp ≡ s.devices.mtimecmp }
+        → first_that Timer xs ≡ None → mtimecmp (run_after events s).devices ≡ mtimecmp s.devices }
     ensures special { (events : List Event) (s : State) (xs : List Found) → AreReachableThroughDoors s (values_of xs) → IsTurn events s
         → first_that System xs ≡ None → SameScrs s.scrs (run_after events s).scrs }
     ensures control_and_status { (events : List Event) (s : State) (xs : List Found) → AreReachableThroughDoors s (values_of xs)

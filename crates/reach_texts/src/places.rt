@@ -3,7 +3,7 @@ ghost use Rattle.std.specs.Prelude.{◌≡◌, ◌≤◌, [], length};
 ghost use Rattle.arrayvec.specs.ArrayString.{array_string_len};
 ghost use Rattle.reach_texts.specs.Text.{place_name, place_through};
 ghost use Rattle.disassembler.specs.Shown.{name_or};
-ghost use Rattle.explain.specs.TrapNames.{register_at_fault as register_name_of};
+ghost use Rattle.asm_names.specs.TrapNames.{register_at_fault as register_name_of};
 
 use arrayvec::ArrayString;
 use base::scr;

@@ -1,5 +1,6 @@
 -- The control and status registers that hold something of their own (RISC-V privileged manual, machine level).
-use Rattle.std.specs.Prelude.{ℕ, ◌+◌, ◌%◌, ◌^◌, false}
+use Rattle.std.specs.Prelude.{ℕ, ◌+◌, ◌%◌, ◌^◌, ◌==◌, false, Option, position, replicate}
+use Rattle.special_regs.specs.declared.csrs.TheConstants.{KEPT, KEPT_COUNT}
 use Rattle.special_regs.specs.declared.csrs.Csrs.{Csrs}
 
 -- as they begin
@@ -8,12 +9,16 @@ zero_csrs = record {
   mstatus_mie = false;
   mstatus_mpie = false;
   mie = 0;
-  mscratch = 0;
+  kept = replicate KEPT_COUNT 0;
   mcause = 0;
   mtval = 0;
   mcycle = 0;
   minstret = 0;
 }
+
+-- where a register stands among those that keep what is written
+abbrev pub kept_at : ℕ → Option ℕ
+kept_at n = position (λ k. k == n) KEPT
 
 -- one more of a counter, modulo 2 ^ 64
 abbrev pub one_more : ℕ → ℕ

@@ -1,11 +1,15 @@
 -- Special registers that are sound and in range give what is sound and in range, and stay so.
-use Rattle.std.proofs.Common.{◌≡◌, ℕ, ◌+◌, ◌*◌, ◌/◌, ◌%◌, ◌^◌, ◌<◌, Bool, true, false, eqb, cond, List, [], ◌∷◌, Some, arith, lit<}
-use Rattle.std.specs.Prelude.{IfSome, bit_and}
+use Rattle.std.proofs.Common.{◌≡◌, ℕ, ◌+◌, ◌*◌, ◌/◌, ◌%◌, ◌^◌, ◌<◌, Bool, true, false, eqb, cond, List, [], ◌∷◌, Some, arith, lit<, refl, ◌∙◌, length}
+use Rattle.std.proofs.lemmas.List.{length-set}
+use Rattle.std.specs.Prelude.{IfSome, bit_and, zero, suc, None, Option, slice_index, slice_set, replicate}
+use Rattle.std.specs.Option.{option_or}
+use Rattle.base.specs.Registers.{is_csr}
+use Rattle.special_regs.specs.declared.csrs.TheConstants.{KEPT_COUNT}
 use Rattle.std.proofs.lemmas.Nat.{and_le_l, mod_below, pow_pos}
 use Rattle.std.proofs.lemmas.Bool.{cond_both, eqb-true}
 use Rattle.base.specs.declared.fault.Fault.{Fault}
 use Rattle.base.specs.FaultLaws.{IsInRange}
-use Rattle.base.specs.declared.registers.csr.TheConstants.{MIE, MTVEC, MSCRATCH, MEPC, MCAUSE, MTVAL, MCYCLE, MINSTRET}
+use Rattle.base.specs.declared.registers.csr.TheConstants.{MIE, MTVEC, MEPC, MCAUSE, MTVAL, MCYCLE, MINSTRET}
 use Rattle.base.specs.declared.registers.scr.TheConstants.{DDC, MTCC, MTDC, MSCRATCHC, MEPCC}
 use Rattle.cap_bounds.specs.CapValue.{CapValue, IsSound, value_address}
 use Rattle.cap_bounds.specs.WordLaws.{bit-small}
@@ -17,15 +21,15 @@ use Rattle.cap_rights.specs.DerivationLaws.{IsSound-opened}
 use Rattle.special_regs.specs.declared.csrs.Csrs.{Csrs}
 use Rattle.special_regs.specs.declared.interrupts.Interrupt.{Interrupt}
 use Rattle.special_regs.specs.declared.interrupts.Interrupt.TheVariants.{External, Timer}
-use Rattle.special_regs.specs.Csrs.{zero_csrs, cycle_counted, instruction_counted}
-use Rattle.special_regs.specs.CsrValues.{mstatus, csr_values, csr_value}
+use Rattle.special_regs.specs.Csrs.{zero_csrs, kept_at, cycle_counted, instruction_counted}
+use Rattle.special_regs.specs.CsrValues.{mstatus, csr_values, csr_value, kept_or_nought, kept_value}
 use Rattle.special_regs.specs.Interrupts.{cause_of}
 use Rattle.special_regs.specs.Numbered.{value_at}
 use Rattle.special_regs.specs.Scrs.{Scrs, IsAligned, scr_values, scr_value}
 use Rattle.special_regs.specs.Mtvec.{is_vectored, mtvec_of}
 use Rattle.special_regs.specs.Traps.{is_sentry, sentry_opened, aligned, target, trapped_scrs, trapped_csrs, returned_scrs, returned_csrs}
 use Rattle.special_regs.specs.Traps.{vector_of, entry_address, placed_at}
-use Rattle.special_regs.specs.Writes.{interrupt_bits, csrs_written, views_written, scr_written}
+use Rattle.special_regs.specs.Writes.{interrupt_bits, kept_in, csrs_written, views_written, scr_written}
 use Rattle.special_regs.specs.Sound.{AreSound, AreInRange}
 
 -- ---- what they give
@@ -56,12 +60,20 @@ mtvec_of-below : (n : ℕ) → n < 2 ^ 64 → mtvec_of n < 2 ^ 64
 unfolding mtvec_of
 mtvec_of-below n fits = cond_both (is_vectored n) n (n / 4 * 4) (λ m. m < 2 ^ 64) (λ _. fits) (λ _. omega arith)
 
+kept-below : (at : Option ℕ) (c : Csrs) (n : ℕ) → AreInRange c → IfSome (kept_or_nought at c n) (λ v. v < 2 ^ 64)
+kept-below (Some i) c n range = range.kept i
+kept-below None c n range = elim (is_csr n) as (λ b. IfSome (cond b (Some 0) None) (λ v. v < 2 ^ 64)) [ true ↦ lit< tt | false ↦ tt ]
+
+either : {X : Type 0} (P : X → Type 0) (a b : Option X) → IfSome a P → IfSome b P → IfSome (option_or a b) P
+either P None b here there = there
+either P (Some x) b here there = here
+
 pub csr_value-below : (c : Csrs) (s : Scrs) (mip n : ℕ) → AreInRange c → AreSound s → mip < 2 ^ 64
     → IfSome (csr_value c s mip n) (λ v. v < 2 ^ 64)
 unfolding csr_value
 csr_value-below c s mip n range sound fits =
-    let zero : 0 < 2 ^ 64 = lit< tt in
-    value_at-each (λ v. v < 2 ^ 64) n (csr_values c s mip) (
+    either (λ v. v < 2 ^ 64) (value_at n (csr_values c s mip)) (kept_value c n)
+    (value_at-each (λ v. v < 2 ^ 64) n (csr_values c s mip) (
       mstatus-below c,
       (
         lit< tt,
@@ -69,26 +81,12 @@ csr_value-below c s mip n range sound fits =
           range.mie,
           (
             mtvec_of-below _ (value_address-below s.mtcc sound.mtcc),
-            (
-              range.mscratch,
-              (
-                view-below s.mepcc sound.mepcc,
-                (
-                  range.mcause,
-                  (
-                    range.mtval,
-                    (
-                      fits,
-                      (range.mcycle, (range.minstret, (zero, (zero, (zero, (zero, tt)))))),
-                    ),
-                  ),
-                ),
-              ),
-            ),
+            (view-below s.mepcc sound.mepcc, (range.mcause, (range.mtval, (fits, (range.mcycle, (range.minstret, tt)))))),
           ),
         ),
       ),
-    )
+    ))
+    (kept-below (kept_at n) c n range)
 
 pub IsInRange-cause_of : (interrupt : Interrupt) → IsInRange (cause_of interrupt)
 IsInRange-cause_of External = record { mcause = lit< tt; mtval = lit< tt }
@@ -203,8 +201,21 @@ AreSound-views_written n value s fits sound =
 
 -- ---- control and status registers
 
+nought-below : (n k : ℕ) → slice_index (replicate n 0) k < 2 ^ 64
+nought-below zero k = lit< tt
+nought-below (suc n) zero = lit< tt
+nought-below (suc n) (suc k) = nought-below n k
+
 pub AreInRange-zero : AreInRange zero_csrs
-AreInRange-zero = record { mie = lit< tt; mscratch = lit< tt; mcause = lit< tt; mtval = lit< tt; mcycle = lit< tt; minstret = lit< tt }
+AreInRange-zero = record {
+  mie = lit< tt;
+  kept = nought-below KEPT_COUNT;
+  count = refl;
+  mcause = lit< tt;
+  mtval = lit< tt;
+  mcycle = lit< tt;
+  minstret = lit< tt;
+}
 
 one_more-below : (n : ℕ) → (n + 1) % 2 ^ 64 < 2 ^ 64
 one_more-below n = mod_below (n + 1) (2 ^ 64) (pow_pos 64)
@@ -212,7 +223,8 @@ one_more-below n = mod_below (n + 1) (2 ^ 64) (pow_pos 64)
 pub AreInRange-cycle_counted : (c : Csrs) → AreInRange c → AreInRange (cycle_counted c)
 AreInRange-cycle_counted c range = record {
   mie = range.mie;
-  mscratch = range.mscratch;
+  kept = range.kept;
+  count = range.count;
   mcause = range.mcause;
   mtval = range.mtval;
   mcycle = one_more-below c.mcycle;
@@ -222,7 +234,8 @@ AreInRange-cycle_counted c range = record {
 pub AreInRange-instruction_counted : (c : Csrs) → AreInRange c → AreInRange (instruction_counted c)
 AreInRange-instruction_counted c range = record {
   mie = range.mie;
-  mscratch = range.mscratch;
+  kept = range.kept;
+  count = range.count;
   mcause = range.mcause;
   mtval = range.mtval;
   mcycle = range.mcycle;
@@ -232,7 +245,8 @@ AreInRange-instruction_counted c range = record {
 pub AreInRange-trapped : (f : Fault) (c : Csrs) → IsInRange f → AreInRange c → AreInRange (trapped_csrs f c)
 AreInRange-trapped f c fault range = record {
   mie = range.mie;
-  mscratch = range.mscratch;
+  kept = range.kept;
+  count = range.count;
   mcause = fault.mcause;
   mtval = fault.mtval;
   mcycle = range.mcycle;
@@ -242,7 +256,8 @@ AreInRange-trapped f c fault range = record {
 pub AreInRange-returned : (c : Csrs) → AreInRange c → AreInRange (returned_csrs c)
 AreInRange-returned c range = record {
   mie = range.mie;
-  mscratch = range.mscratch;
+  kept = range.kept;
+  count = range.count;
   mcause = range.mcause;
   mtval = range.mtval;
   mcycle = range.mcycle;
@@ -253,6 +268,22 @@ number_if : (b : Bool) (v old : ℕ) → v < 2 ^ 64 → old < 2 ^ 64 → cond b 
 number_if true v old new kept = new
 number_if false v old new kept = kept
 
+set-below : (kept : List ℕ) (i k value : ℕ) → value < 2 ^ 64 → slice_index kept k < 2 ^ 64 → slice_index (slice_set kept i value) k < 2 ^ 64
+set-below [] i k value new old = old
+set-below (v ∷ vs) zero zero value new old = new
+set-below (v ∷ vs) zero (suc k) value new old = old
+set-below (v ∷ vs) (suc i) zero value new old = old
+set-below (v ∷ vs) (suc i) (suc k) value new old = set-below vs i k value new old
+
+kept_in-below : (at : Option ℕ) (value : ℕ) (kept : List ℕ) → value < 2 ^ 64 → ((k : ℕ) → slice_index kept k < 2 ^ 64)
+    → (k : ℕ) → slice_index (kept_in at value kept) k < 2 ^ 64
+kept_in-below (Some i) value kept new old k = set-below kept i k value new (old k)
+kept_in-below None value kept new old k = old k
+
+kept_in-count : (at : Option ℕ) (value : ℕ) (kept : List ℕ) → length (kept_in at value kept) ≡ length kept
+kept_in-count (Some i) value kept = length-set kept i value
+kept_in-count None value kept = refl
+
 pub AreInRange-written : (n value : ℕ) (c : Csrs) → value < 2 ^ 64 → AreInRange c → AreInRange (csrs_written n value c)
 unfolding csrs_written
 AreInRange-written n value c fits range =
@@ -260,7 +291,8 @@ AreInRange-written n value c fits range =
     let bits : bit_and value interrupt_bits < 2 ^ 64 = omega arith in
     record {
       mie = number_if (eqb n MIE) (bit_and value interrupt_bits) c.mie bits range.mie;
-      mscratch = number_if (eqb n MSCRATCH) value c.mscratch fits range.mscratch;
+      kept = kept_in-below (kept_at n) value c.kept fits range.kept;
+      count = kept_in-count (kept_at n) value c.kept ∙ range.count;
       mcause = number_if (eqb n MCAUSE) value c.mcause fits range.mcause;
       mtval = number_if (eqb n MTVAL) value c.mtval fits range.mtval;
       mcycle = number_if (eqb n MCYCLE) value c.mcycle fits range.mcycle;

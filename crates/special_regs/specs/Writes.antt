@@ -1,12 +1,13 @@
 -- What a write of a control and status register or of a special capability register changes (RISC-V privileged manual, machine-level
 -- CSRs; UCAM-CL-TR-987 for mtvec and mepc, which are views of MTCC and MEPCC, and for CSpecialRW).
-use Rattle.std.specs.Prelude.{ℕ, ◌+◌, ◌*◌, ◌/◌, ◌%◌, ◌^◌, Bool, ◌==◌, if◌then◌else◌, bit_and, Option, Some, None}
+use Rattle.std.specs.Prelude.{ℕ, ◌+◌, ◌*◌, ◌/◌, ◌%◌, ◌^◌, Bool, ◌==◌, if◌then◌else◌, bit_and, List, slice_set, Option, Some, None}
 use Rattle.cap_bounds.specs.CapValue.{CapValue}
 use Rattle.cap_bounds.specs.SetAddress.{at_address}
-use Rattle.base.specs.declared.registers.csr.TheConstants.{MSTATUS, MIE, MTVEC, MSCRATCH, MEPC, MCAUSE, MTVAL, MCYCLE, MINSTRET}
+use Rattle.base.specs.declared.registers.csr.TheConstants.{MSTATUS, MIE, MTVEC, MEPC, MCAUSE, MTVAL, MCYCLE, MINSTRET}
 use Rattle.base.specs.declared.registers.scr.TheConstants.{DDC, MTCC, MTDC, MSCRATCHC, MEPCC}
 use Rattle.base.specs.declared.interrupt.TheConstants.{TIMER, EXTERNAL}
 use Rattle.special_regs.specs.declared.csrs.Csrs.{Csrs}
+use Rattle.special_regs.specs.Csrs.{kept_at}
 use Rattle.special_regs.specs.Scrs.{Scrs}
 use Rattle.special_regs.specs.Mtvec.{mtvec_of}
 
@@ -25,13 +26,21 @@ mpie_bit = 7
 abbrev pub interrupt_bits : ℕ
 interrupt_bits = 2 ^ TIMER + 2 ^ EXTERNAL
 
+-- of the registers that keep what is written, the one of this number holds the value
+abbrev pub kept_in : Option ℕ → ℕ → List ℕ → List ℕ
+kept_in (Some i) value kept = slice_set kept i value
+kept_in None value kept = kept
+
+abbrev pub kept_written : ℕ → ℕ → List ℕ → List ℕ
+kept_written n value kept = kept_in (kept_at n) value kept
+
 -- Of mstatus MIE and MPIE are kept, of mie two bits. A write of misa or mip changes nothing.
 unfoldable pub csrs_written : ℕ → ℕ → Csrs → Csrs
 csrs_written n value c = record c {
   mstatus_mie = if n == MSTATUS then has_bit value mie_bit else c.mstatus_mie;
   mstatus_mpie = if n == MSTATUS then has_bit value mpie_bit else c.mstatus_mpie;
   mie = if n == MIE then bit_and value interrupt_bits else c.mie;
-  mscratch = if n == MSCRATCH then value else c.mscratch;
+  kept = kept_written n value c.kept;
   mcause = if n == MCAUSE then value else c.mcause;
   mtval = if n == MTVAL then value else c.mtval;
   mcycle = if n == MCYCLE then value else c.mcycle;

@@ -1,4 +1,32 @@
-ghost use Rattle.std.specs.Prelude.{◌≡◌};
+ghost use Rattle.std.specs.Prelude.{◌≡◌, ℕ, ◌<◌, ◌^◌, slice_index};
+ghost use Rattle.special_regs.specs.Csrs.{kept_at};
+
+use base::csr;
+
+/// How many registers keep what is written.
+pub const KEPT_COUNT: usize = 1;
+
+/// The numbers of the registers that keep what is written, all 64 bits, and do nothing else.
+pub const KEPT: [u16; KEPT_COUNT] = [csr::MSCRATCH];
+
+/// Where a register stands among those that keep what is written.
+#[inline]
+pub(crate) fn kept_at(number: u16) -> Option<usize>
+    ensures { result ≡ kept_at number }
+{
+    KEPT.iter().position(|kept| *kept == number)
+}
+
+/// Tells proofs that numbers have 64 bits. It does nothing.
+#[inline]
+fn are_numbers(numbers: &[u64])
+    ensures { (k : ℕ) → slice_index numbers.now k < 2 ^ 64 }
+{
+    if let [first, rest @ ..] = numbers {
+        let _first = *first;
+        are_numbers(rest);
+    }
+}
 
 /// The control and status registers that hold something of their own.
 #[derive(Clone, Copy, Debug, PartialEq, Eq)]
@@ -9,8 +37,8 @@ pub struct Csrs {
     pub mstatus_mpie: bool,
     /// The interrupts that may be taken, by bit.
     pub mie: u64,
-    /// A number that software keeps.
-    pub mscratch: u64,
+    /// What the registers hold that keep what is written, in the order of `KEPT`.
+    pub kept: [u64; KEPT_COUNT],
     /// The cause of the last trap.
     pub mcause: u64,
     /// What the cause says more of.
@@ -33,7 +61,7 @@ impl Csrs {
             mstatus_mie: false,
             mstatus_mpie: false,
             mie: 0,
-            mscratch: 0,
+            kept: [0; KEPT_COUNT],
             mcause: 0,
             mtval: 0,
             mcycle: 0,
@@ -47,7 +75,7 @@ impl Csrs {
         ensures { AreInRange self.now }
     {
         let _mie = self.mie;
-        let _mscratch = self.mscratch;
+        are_numbers(&self.kept);
         let _mcause = self.mcause;
         let _mtval = self.mtval;
         let _mcycle = self.mcycle;

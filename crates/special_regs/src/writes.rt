@@ -1,11 +1,11 @@
 ghost use Rattle.std.specs.Prelude.{◌≡◌, IfErr, IfOk, OnErr, OnOk, Some, None, is_some, option_map, true};
 ghost use Rattle.special_regs.specs.Refusals.{csr_fault, scr_fault};
 ghost use Rattle.special_regs.specs.Scrs.{scr_value};
-ghost use Rattle.special_regs.specs.Writes.{csrs_written, views_written, scr_written_if};
+ghost use Rattle.special_regs.specs.Writes.{csrs_written, kept_written, views_written, scr_written_if};
 
 use crate::access::{check_csr, check_scr};
 use crate::bits::has_bit;
-use crate::csrs::Csrs;
+use crate::csrs::{Csrs, kept_at};
 use crate::mtvec::mtvec_of;
 use crate::refusal::SpecialFault;
 use crate::scrs::Scrs;
@@ -44,6 +44,15 @@ pub fn write_csr<C: CapRep>(
     Ok(())
 }
 
+/// Keeps a number, where the register keeps what is written.
+fn keep(csrs: &mut Csrs, number: u16, value: u64)
+    ensures { csrs.new ≡ record csrs.old { kept = kept_written number value csrs.old.kept } }
+{
+    if let Some(index) = kept_at(number) {
+        csrs.kept[index] = value;
+    }
+}
+
 /// Writes control and status register `number` where a check has allowed it, as `write_csr` says; a number that no CSR has does
 /// nothing.
 #[tactic(auto, unfolding(crate::specs::Writes::csrs_written, crate::specs::Writes::views_written, crate::specs::Writes::scr_written))]
@@ -58,13 +67,12 @@ pub fn set_csr<C: CapRep>(csrs: &mut Csrs, scrs: &mut Scrs<C>, number: u16, valu
         }
         csr::MIE => csrs.mie = value & INTERRUPT_BITS,
         csr::MTVEC => scrs.set(scr::MTCC, scrs.mtcc().set_address(mtvec_of(value))),
-        csr::MSCRATCH => csrs.mscratch = value,
         csr::MEPC => scrs.set(scr::MEPCC, scrs.mepcc().set_address(value / 4 * 4)),
         csr::MCAUSE => csrs.mcause = value,
         csr::MTVAL => csrs.mtval = value,
         csr::MCYCLE => csrs.mcycle = value,
         csr::MINSTRET => csrs.minstret = value,
-        _ => {}
+        _ => keep(csrs, number, value),
     }
 }
 

@@ -4,8 +4,8 @@ use Rattle.std.specs.Prelude.{◌≡◌, ℕ, ◌+◌, ◌<◌, ◌≤◌, Bool,
 use Rattle.std.specs.Prelude.{Some}
 use Rattle.std.specs.List.{prefix_len}
 use Rattle.std.specs.declared.vec.Vec.{Vec}
-use Rattle.symbols.specs.declared.beginning.Beginning.{Beginning}
-use Rattle.symbols.specs.declared.beginning.Beginning.TheVariants.{Faulty, Sound}
+use Rattle.symbols.specs.declared.table.Beginning.{Beginning}
+use Rattle.symbols.specs.declared.table.Beginning.TheVariants.{Faulty, Sound}
 use Rattle.symbols.specs.declared.table.SymbolsFault.{SymbolsFault}
 use Rattle.symbols.specs.declared.table.SymbolsFault.TheVariants.{Line, Memory}
 use Rattle.symbols.specs.Symbols.{Symbol, symbol, lines_of, is_line, faulty_from}

@@ -1,14 +1,12 @@
 //! Tables of symbols: the names of addresses, as lines of a text, and what is looked up in them.
 #![tactic(auto)]
 
-mod beginning;
 mod labels;
 mod lines;
 mod symbol;
 mod table;
 
-pub use beginning::{Beginning, look_at_beginning};
 pub use labels::{Label, Labelled, labelled};
 pub use lines::{split_line, table_text};
 pub use symbol::{Symbol, is_label};
-pub use table::{Names, Symbols, SymbolsFault, read_symbols};
+pub use table::{Beginning, Names, Symbols, SymbolsFault, look_at_beginning, read_symbols};

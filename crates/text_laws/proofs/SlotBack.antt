@@ -1,7 +1,8 @@
 -- An operand that is shown, read, fills its slot with what the instruction has there.
 use Rattle.std.proofs.Common.{◌≡◌, ℕ, suc, ◌-◌, ◌*◌, ◌/◌, ◌%◌, ◌^◌, ◌<◌, ◌≤◌, inl, inr, Bool, true, false, cond, List, [], ◌∷◌, ◌++◌, Some}
-use Rattle.std.proofs.Common.{refl, sym, ap, subst, ◌∙◌, append_assoc, arith, length, length-append}
-use Rattle.std.specs.Prelude.{pos, negsuc, neg_ℤ, Ok, nat_lt, decimal, codes}
+use Rattle.std.proofs.Common.{refl, sym, ap, subst, ◌∙◌, ◌⊎◌, append_assoc, arith, length, length-append}
+use Rattle.std.proofs.lemmas.Bool.{cases_lt}
+use Rattle.std.specs.Prelude.{pos, negsuc, neg_ℤ, Ok, nat_lt, decimal, codes, min}
 use Rattle.std.specs.Int.{w64, cast_signed}
 use Rattle.std.proofs.lemmas.Bool.Decides.{nat_tests}
 use Rattle.isa_rows.specs.declared.operands.Insn.{Insn}
@@ -13,6 +14,7 @@ use Rattle.isa_rows.specs.declared.slots.Slot.TheVariants.{Rd, Rs1, Rs2, Signed,
 use Rattle.isa_rows.specs.declared.slots.Slot.TheVariants.{Target}
 use Rattle.asm_lines.specs.Text.{here_name}
 use Rattle.asm_lines.specs.Number.{expression, number_of, expression_of, named_plus, named_minus}
+use Rattle.asm_lines.specs.Ranges.{most_of}
 use Rattle.asm_lines.specs.Operand.{Draft, wrapped, up_to, signed_12, with_rd, with_rs1, with_rs2, with_imm, with_upper, with_small}
 use Rattle.asm_lines.specs.Operand.{with_special, with_target, with_address, filled_slot}
 use Rattle.disassembler.specs.Shown.{shown_register, shown_signed, shown_target, shown_slot}
@@ -110,6 +112,16 @@ shown_address mode i naming =
     append_assoc (shown_signed i.imm ++ codes "(") (shown_register mode naming i.rs1) (codes ")")
     ∙ append_assoc (shown_signed i.imm) (codes "(") (shown_register mode naming i.rs1 ++ codes ")")
 
+-- a number of so many bits, and of 64
+in_bits : (bits n : ℕ) → (n < 2 ^ bits) × (n < 2 ^ 64) → n ≤ most_of bits
+in_bits bits n small = go (cases_lt bits 64)
+  where
+    go : (bits < 64) ⊎ (64 ≤ bits) → n ≤ most_of bits
+    go (inl few) =
+        let all : min bits 64 ≡ bits = omega (arith, few) in subst (λ m. n ≤ 2 ^ m - 1) (sym all) (omega (arith, small.0))
+    go (inr many) =
+        let most : min bits 64 ≡ 64 = omega (arith, many) in subst (λ m. n ≤ 2 ^ m - 1) (sym most) (omega (arith, small.1))
+
 pub slot_back : (mode : Bool) (i : Insn) (s : Slot) (d : Draft) → SlotFits s i
     → filled_slot s (shown_slot mode i s) d ≡ Ok (with_slot i s d)
 unfolding filled_slot shown_slot
@@ -120,8 +132,8 @@ slot_back mode i Signed d h =
     ap (λ r. with_imm d (signed_12 r)) (number_signed i.imm (signed_range i.imm h)) ∙ ap (with_imm d) (signed_12_back i.imm h)
     ∙ ap (λ n. Ok (record d { insn = record d.insn { imm = n } })) (wrapped_signed i.imm (signed_range i.imm h))
 slot_back mode i (Unsigned bits) d h =
-    ap (λ r. with_imm d (up_to (2 ^ bits - 1) r)) (number_decimal i.imm h.1)
-    ∙ ap (with_imm d) (up_to_back (2 ^ bits - 1) i.imm (omega (arith, h.0)))
+    ap (λ r. with_imm d (up_to (most_of bits) r)) (number_decimal i.imm h.1)
+    ∙ ap (with_imm d) (up_to_back (most_of bits) i.imm (in_bits bits i.imm h))
     ∙ ap (λ n. Ok (record d { insn = record d.insn { imm = n } })) (wrapped_pos i.imm h.1)
 slot_back mode i Upper d h =
     let n = i.imm / 2 ^ 12 % 2 ^ 20 in

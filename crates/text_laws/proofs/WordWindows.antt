@@ -7,8 +7,8 @@ use Rattle.cap_bounds.specs.Window.{base_of_word}
 use Rattle.cap_bounds.specs.Record.{IsWordWellFormed, Record, decoded, encoded, exponent_for, has_exponent, is_in_window, window_holds}
 use Rattle.cap_bounds.specs.ExponentLaws.{exponent_for-high, exponent_for-short}
 use Rattle.cap_bounds.specs.RecordLaws.{keeps_bounds-in_window}
-use Rattle.bounds_text.specs.WindowEnds.{window_last, window_place}
-use Rattle.bounds_text.proofs.Windows.{is_in_window-place}
+use Rattle.cap_bounds.specs.WindowEnds.{window_last, window_place}
+use Rattle.cap_bounds.specs.WindowEndsLaws.{is_in_window-place}
 use Rattle.bounds_text.proofs.SetBounds.{exponent_of-encoded_at}
 use Rattle.text_laws.specs.Bounds.{WordsStayFromFirstToLast}
 

@@ -1,6 +1,6 @@
 -- What is shown of a step is what the state after it has.
 use Rattle.std.proofs.Common.{◌≡◌, ℕ, zero, suc, ◌+◌, ◌-◌, ◌*◌, ◌/◌, ◌%◌, ◌^◌, ◌<◌, ◌≤◌, Bool, true, false, not, ◌&&◌, ◌||◌, cond, eqb}
-use Rattle.std.proofs.Common.{List, [], ◌∷◌, ◌++◌, length, take, drop, None, Some, refl, sym, ap, subst, ◌∙◌, arith, append-nil}
+use Rattle.std.proofs.Common.{List, [], ◌∷◌, ◌++◌, length, take, drop, None, Some, refl, sym, ap, subst, ◌∙◌, arith, append-nil, lit<}
 use Rattle.std.proofs.Common.{append_assoc}
 use Rattle.std.specs.Prelude.{codes, decimal}
 use Rattle.std.proofs.lemmas.Bool.{true≢false, and_parts, not-true, eq-eqb, ne_eqb, eqb-true, cond_both}
@@ -266,19 +266,20 @@ module _ (s : State) (is : IsState s) where
       → csr_value (applied (Csr w) s).csrs (applied (Csr w) s).scrs (interrupts_of (applied (Csr w) s).devices) w.number
       ≡ Some (kept w.number w.value s)
   unfolding applied csr_value csrs_written views_written
-  csr-kept w fits is =
+  csr-kept w fits listed =
       let view : value_address (at_address s.scrs.mtcc (mtvec_of w.value)) ≡ mtvec_of w.value =
       value_address-at_address s.scrs.mtcc (mtvec_of w.value) (mtvec-below w.value fits) in
       let low : value_address (at_address s.scrs.mepcc (w.value / 4 * 4)) ≡ w.value / 4 * 4 =
       value_address-at_address s.scrs.mepcc (w.value / 4 * 4) (omega arith) in
+      let one : 0 < length s.csrs.kept = subst (λ n. 0 < n) (sym is.csrs.count) (lit< tt) in
       each-csr (λ n. csr_value (applied (Csr (record w { number = n })) s).csrs (applied (Csr (record w { number = n })) s).scrs
       (interrupts_of (applied (Csr (record w { number = n })) s).devices) n
-      ≡ Some (kept n w.value s)) w.number is
+      ≡ Some (kept n w.value s)) w.number listed
       refl
       refl
       refl
       (ap Some (ap mtvec_of view ∙ mtvec-kept w.value))
-      refl
+      (ap Some (get_or-set_same s.csrs.kept 0 w.value 0 one))
       (ap Some (ap (λ n. n / 4 * 4) low ∙ omega arith))
       refl
       refl

@@ -8,7 +8,7 @@ use Rattle.cap_bounds.specs.Rounding.{length_granule, rounded_base, rounded_top,
 use Rattle.cap_bounds.specs.SetAddress.{KeepsBounds}
 use Rattle.cap_bounds.specs.SetBounds.{bounded}
 use Rattle.bounds_text.specs.LengthText.{whole_length}
-use Rattle.bounds_text.specs.WindowEnds.{window_last, window_place}
+use Rattle.cap_bounds.specs.WindowEnds.{window_last, window_place}
 
 -- The bounds that are set on root stay with an address exactly if it comes no later than their window's last one, both counted from
 -- its first.

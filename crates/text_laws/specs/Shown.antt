@@ -23,7 +23,7 @@ use Rattle.steps.specs.declared.effect.Effect.TheVariants.{Trap}
 use Rattle.cap_bounds.specs.CapValue.{CapValue}
 use Rattle.steps.specs.State.{State, pc_of}
 use Rattle.steps.specs.Step.{step_effect}
-use Rattle.explain.specs.TrapNames.{cheri_cause_name, cheri_asked_name, register_at_fault}
+use Rattle.asm_names.specs.TrapNames.{cheri_cause_name, cheri_asked_name, register_at_fault}
 use Rattle.explain.specs.EffectText as traced
 use Rattle.explain.specs.EffectText.{shown_size}
 use Rattle.explain.specs.ValueText.{shown_value}

@@ -25,7 +25,7 @@ use Rattle.steps.specs.declared.effect.Effect.TheVariants.{Trap}
 use Rattle.steps.specs.Looks.{unless_fault}
 use Rattle.steps.specs.State.{State}
 use Rattle.steps.specs.Step.{fetch}
-use Rattle.explain.specs.TrapNames.{cause_name, cheri_cause_name, cheri_asked_name, register_at_fault}
+use Rattle.asm_names.specs.TrapNames.{cause_name, cheri_cause_name, cheri_asked_name, register_at_fault}
 use Rattle.explain.specs.EffectText.{violation_names, taken, trap_entry}
 use Rattle.explain.specs.Asked.{stages_unless, stages_of, all_conditions, done_by_word, effect_unless}
 use Rattle.explain.specs.AskedLaws.{traps-by_its_stages}

@@ -4,15 +4,18 @@ use Rattle.clap.specs.Words.{App, HasKind, HasMatchesOf, Text, fault_of, is_simp
 use Rattle.clap.specs.declared.parser.matches.ArgMatches.{ArgMatches}
 use Rattle.clap.specs.declared.error.Error.{Error}
 use Rattle.clap.specs.declared.error.kind.ErrorKind.{ErrorKind}
-use Rattle.command_line.specs.CommandLine.{program, program_of, asks_all, found_in, IsPlanOf, IsTaken, NoPlanFits}
+use Rattle.command_line.specs.CommandLine.{program, commands, with_commands, command, with_arguments, rule}
+use Rattle.command_line.specs.CommandLine.{program_of, asks_all, found_in, IsPlanOf, IsTaken, NoPlanFits}
 use Rattle.command_line.proofs.reading.plan.Goals as goal
 
 -- what clap says of errors holds of a command without rules between its arguments, as the program's
 program_is_free : (all : Bool) → is_simple_and_free (program all) ≡ true
+unfolding program commands with_commands command with_arguments rule
 program_is_free true = refl
 program_is_free false = refl
 
 program_is_simple : (all : Bool) → is_simple (program all) ≡ true
+unfolding program commands with_commands command with_arguments rule
 program_is_simple true = refl
 program_is_simple false = refl
 

@@ -1,4 +1,6 @@
-use Rattle.std.proofs.Common.{refl}
+use Rattle.std.proofs.Common.{refl, subst}
+use Rattle.command_line.specs.CommandLine.{IsSound}
+use Rattle.commands.proofs.Gap.{gap_of}
 use Rattle.commands.proofs.carrying.carry_out.Goals as goal
 
 pub returns-in_ok-ended-in-Run : goal.returns-in_ok-ended-in-Run
@@ -24,3 +26,8 @@ returns-in_ok-count-in-Audit g c =
     let audit = c.in_ok-count-in-Audit in
     rw c.in-Audit.is
     (audit.count, g.O.Write.contents audit._output, refl, rw c.schedule_of.ensures.value at audit.ensures)
+
+pub debug_file-requires : goal.debug_file-requires
+debug_file-requires g c =
+    let debug = c.in-Debug in
+    gap_of debug.image debug.symbols debug.typed debug.gap debug.tick debug.quiet (subst IsSound debug.is c.requires)

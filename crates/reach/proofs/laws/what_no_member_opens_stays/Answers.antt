@@ -20,7 +20,7 @@ returns-clause-halt c = λ events s vs are run none.
 
 pub returns-clause-timer : goal.returns-clause-timer
 returns-clause-timer c = λ events s vs are run none.
-    (c.plain_runs_keep_authority.ensures.left_alone events s run).devices.compare (not_stored_at s vs are timer_compare none)
+    (c.plain_runs_keep_authority.ensures.left_alone events s run).devices.kept 0 (not_stored_at s vs are timer_compare none)
 
 pub returns-clause-control : goal.returns-clause-control
 returns-clause-control c = λ events s vs are run none.

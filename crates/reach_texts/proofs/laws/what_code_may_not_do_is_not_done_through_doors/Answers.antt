@@ -23,7 +23,7 @@ returns-clause-halt c = λ events s xs are turn refused.
 
 pub returns-clause-timer : goal.returns-clause-timer
 returns-clause-timer c = λ events s xs are turn refused.
-    (c.turns_keep_authority.ensures.left_alone events s turn).devices.compare
+    (c.turns_keep_authority.ensures.left_alone events s turn).devices.kept 0
     (not_stored_at s (values_of xs) are timer_compare (no_store_at xs Timer timer_compare (λ v. refl) refused))
 
 pub returns-clause-special : goal.returns-clause-special

@@ -15,6 +15,7 @@ returns-in-Some c =
     let bytes : AreBytes c.as_slice.result.now = c.are_bytes.ensures in
     subst AreSound c.self.view_is (record {
       devices = c.self.invariant;
+      kept = c.are_numbers.ensures;
       waiting = subst AreBytes c.as_slice.ensures.value bytes;
       halted = subst Fits (sym c.in-Some.is) small;
     })
@@ -24,6 +25,7 @@ returns c =
     let bytes : AreBytes c.as_slice.result.now = c.are_bytes.ensures in
     subst AreSound c.self.view_is (record {
       devices = c.self.invariant;
+      kept = c.are_numbers.ensures;
       waiting = subst AreBytes c.as_slice.ensures.value bytes;
       halted = subst Fits (sym c.in_default.is) tt;
     })

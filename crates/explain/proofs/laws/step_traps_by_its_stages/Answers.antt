@@ -1,5 +1,0 @@
-use Rattle.explain.specs.AskedLaws.{traps-by_its_stages}
-use Rattle.explain.proofs.laws.step_traps_by_its_stages.Goals as goal
-
-pub returns : goal.returns
-returns c = traps-by_its_stages

@@ -1,7 +1,0 @@
-use Rattle.std.proofs.Common.{rules}
-use Rattle.explain.specs.TrapNames.{cheri_cause_name}
-use Rattle.explain.proofs.trap_names.cheri_cause_name.Goals as goal
-
-pub returns : goal.returns
-unfolding cheri_cause_name
-returns c = search rules
