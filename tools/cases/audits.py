@@ -7,7 +7,7 @@ What is written is what the model of a machine meets (cases/running.py, cases/wa
 from cases.callers import BY_PAIR, BY_SENTRY, LENT, SENTRY, by_caller, calling, rule
 from cases.encoded import image_of
 from cases.policed import CALL, FIRST, HALTS, WHOLE, Watch, inside, program, sealed
-from cases.program_cases import BAD, FILE, TRACE, case
+from cases.program_lines import BAD, FILE, TRACE, case
 from cases.quoting import quoted
 from cases.running import Running
 from cases.watched import GAP, TICK, audited, entered

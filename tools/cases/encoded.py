@@ -1,6 +1,6 @@
 """The words of the statements that small machines run (cases/running.py), by the encodings of the standards, and the image of a text."""
 
-from cases.program_cases import branch, csrrs, immediate, special_rw, store
+from cases.program_lines import branch, csrrs, immediate, special_rw, store
 from cases.running import PLACE, Running
 from model.capabilities import base, flag, perms, top
 from model.devices import RAM

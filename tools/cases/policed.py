@@ -5,7 +5,7 @@ What is told of a run is what the model of a machine meets (cases/running.py, ca
 """
 
 from cases.encoded import image_of
-from cases.program_cases import BAD, FILE, TRACE, case, refused, table, with_labels
+from cases.program_lines import BAD, FILE, TRACE, case, refused, table, with_labels
 from cases.quoting import quoted
 from cases.running import Running
 from cases.watched import GAP, TICK, ran

@@ -14,47 +14,22 @@ import sys
 
 sys.path.insert(0, os.path.join(os.path.dirname(os.path.abspath(__file__)), ".."))
 import pages.programming_words as words
-from pages.definitions import (Definitions, NotUnderstood, bare, choices, constants, fields, items, matched, pair, plain, split, text_of,
-                               variants, worth)
+from pages.definitions import Definitions, NotUnderstood, bare, choices, fields, items, matched, split, worth
 from pages.markdown import table
+from pages.programming_books import (
+    DEVICES, MCAUSE, NUMBERS, PERMISSIONS, cases_shown, cause, checks, condition, condition_of, defined,
+    kept_rows, mcause, permission, said, steps, used,
+)
+from pages.programming_registers import made_of_registers, register_name, set_bits
 from pages.programming_rows import format_table, row_count, row_names, rows_table
+from pages.programming_traps import made_of_traps, pending_order
 
 TOP = os.path.join(os.path.dirname(os.path.abspath(__file__)), "..", "..")
 PROSE = os.path.join(TOP, "tools", "pages", "programming.md")
 PAGE = os.path.join(TOP, "docs", "PROGRAMMING.md")
-
 FIRST_FAULT = Definitions("cap_checks/specs/FirstFault")
-QUESTION = Definitions("cap_checks/specs/Question")
-ACCESS = Definitions("cap_checks/specs/Access")
-FAULT = Definitions("base/specs/Fault")
-DEVICES = Definitions("devices/specs/Devices")
-WRITES = Definitions("special_regs/specs/Writes")
-TRAPS = Definitions("special_regs/specs/Traps")
-INTERRUPTS = Definitions("special_regs/specs/Interrupts")
-REFUSALS = Definitions("special_regs/specs/Refusals")
-OPENING = Definitions("hart/specs/Opening")
 MEMORY = Definitions("steps/specs/MemoryRows")
-SYSTEM = Definitions("steps/specs/SystemRows")
 STEP = Definitions("steps/specs/Step")
-
-NUMBERS = {
-    name: worth(text)
-    for file in ("base/src/ram.rt", "base/src/otype.rt", "base/src/interrupt.rt")
-    for name, (text, _) in constants(file).items()
-}
-MCAUSE = FAULT.numbers("number_of", "cause.")
-CHERI = FAULT.numbers("cheri_number_of", "cheri_cause.")
-BITS = {name: worth(WRITES.body(name), NUMBERS) for name in ("mie_bit", "mpie_bit", "interrupt_bits")}
-
-used = set()
-
-
-def said(book, text):
-    """The words for a text of the sources."""
-    if text not in getattr(words, book):
-        raise NotUnderstood(f"tools/pages/programming_words.py, {book}: no words for: {text}")
-    used.add((book, text))
-    return getattr(words, book)[text]
 
 
 def unused():
@@ -63,135 +38,9 @@ def unused():
         yield from (f"{book}: {text}" for text in getattr(words, book) if (book, text) not in used)
 
 
-def cases_shown(name, definition, pattern=None):
-    """A definition as words name it: all its cases, or one."""
-    bodies = [body for patterns, body in Definitions(name).cases(definition) if pattern in (None, patterns)]
-    return f"{definition if pattern is None else f'{definition} {pattern}'}: {' | '.join(bodies)}"
-
-
-def defined(name, definition, pattern=None):
-    """The words for a definition: of all its cases, or of one."""
-    return said("DEFINITIONS", f"{name} {cases_shown(name, definition, pattern)}")
-
-
 def together(name, *definitions):
     """The words for several definitions that say one thing."""
     return said("DEFINITIONS", f"{name} {'; '.join(cases_shown(name, definition) for definition in definitions)}")
-
-
-def steps(sentences):
-    """A numbered list."""
-    return "\n".join(f"{number}. {begun(sentence)}." for number, sentence in enumerate(sentences, 1))
-
-
-def begun(sentence):
-    """A sentence with a capital at its beginning, unless it begins with a register's name."""
-    return sentence if sentence.split()[0] in {name for _, name in listed("CSRS")} else sentence[0].upper() + sentence[1:]
-
-
-def cased(name):
-    """The words of a name in capitals and small letters."""
-    return re.findall(r"[A-Z][a-z]*", name)
-
-
-def permission(name):
-    """A permission's name as the manual writes it."""
-    return {"CInvoke": "CInvoke", "SetCid": "Set_CID"}.get(name, "_".join(cased(name)))
-
-
-PERMISSIONS = variants("cap_rights/src/permission.rt", "Permission")
-PERMISSION_NAMES = {name for name, _ in PERMISSIONS}
-
-
-def cause(name):
-    """A cause's name: that of the permission which is missing, or its words."""
-    if name == "Cheri":
-        return "CHERI"
-    return permission(name) if name in PERMISSION_NAMES and name != "Seal" else " ".join(cased(name)).lower()
-
-
-# ---- faults
-
-
-def mcause(name):
-    return f"mcause {MCAUSE[name]}, {cause(name)}"
-
-
-def cheri(name):
-    return f"CHERI cause {CHERI[name]:#04x}, {cause(name)}"
-
-
-def by_access(definition, prefix):
-    """What a definition over accesses says of loads and of stores; both kinds of each agree."""
-    found = {}
-    for pattern, body in ACCESS.cases(definition):
-        kind = "load" if pattern.strip("(").startswith("Load") else "store"
-        if not body.startswith(prefix) or found.setdefault(kind, body[len(prefix):]) != body[len(prefix):]:
-            raise NotUnderstood(f"{ACCESS.file}: {definition} {pattern}")
-    return found["load"], found["store"]
-
-
-def fault(text):
-    """The words for a fault."""
-    if text == "cheri register (lacking access)":
-        load, store = by_access("lacking", "forbids.")
-        return f"{cheri(load)}, or {CHERI[store]:#04x}, {cause(store)}: {said('REGISTERS', 'register')}"
-    if text == "fault (misaligned access) address":
-        load, store = by_access("misaligned", "cause.")
-        return f"{mcause(load)}, or {MCAUSE[store]}, {cause(store)}: mtval is {said('MTVAL', 'address')}"
-    found = re.fullmatch(r"cheri (\w+|\(.*\)) forbids\.(\w+)", text)
-    if found:
-        return f"{cheri(found.group(2))}: {said('REGISTERS', bare(found.group(1)))}"
-    found = matched(r"fault cause\.(\w+) (.+)", text)
-    return f"{mcause(found.group(1))}: mtval is {said('MTVAL', bare(found.group(2)))}"
-
-
-# ---- conditions: a question, whose fault is the trap where the answer is no, and whether the answer is yes
-
-
-def put_in(body, places):
-    """A definition's body with what stands for its parameters."""
-    return re.sub(r"(?<![\w.])[a-z]\w*", lambda found: places.get(found.group(), found.group()), body)
-
-
-def called(book, name, *arguments):
-    """What a definition is for these arguments: a parameter is put in, and of constructors the first case is taken that has them."""
-    for pattern, body in book.cases(name):
-        places, parameters = {}, split(pattern, " ")
-        for parameter, argument in zip(parameters, arguments):
-            parts, given = split(bare(parameter), " "), split(bare(argument), " ")
-            if re.fullmatch(r"[a-z]\w*", parameter):
-                places[parameter] = argument
-            elif parts[0] == given[0] and len(parts) == len(given):
-                places |= zip(parts[1:], given[1:])
-            else:
-                break
-        else:
-            if len(parameters) == len(arguments):
-                return plain(put_in(body, places))
-    raise NotUnderstood(f"{book.file}: no {name} of {arguments}")
-
-
-def condition_of(book, text):
-    """The fault and the truth of a condition; what stands for it is put in until its question stands there."""
-    name, *arguments = split(bare(text), " ")
-    if name == "asks" and len(arguments) == 2:
-        return called(QUESTION, "fault_of", arguments[0]), bare(arguments[1])
-    return condition_of(book, called(book, name, *arguments))
-
-
-def condition(text):
-    """The words for the truth of a condition."""
-    if text == "permits authority (needed access)":
-        load, store = by_access("needed", "permission.")
-        return f"it has {permission(load)} for a load, {permission(store)} for a store"
-    return said("CONDITIONS", text)
-
-
-def checks(conditions, behind=()):
-    """The table of a list of conditions, with what is asked after it."""
-    rows = [(condition(holds), fault(otherwise)) for otherwise, holds in conditions]
-    return table(["", "Must hold", "Else"], [[str(number), *row] for number, row in enumerate([*rows, *behind], 1)])
 
 
 def entries(text):
@@ -218,15 +67,6 @@ def listed_checks(name):
     return [asked_in_some_cases(entry) for entry in entries(FIRST_FAULT.body(name))]
 
 
-def asked_of_register(name):
-    """The table of what a row asks of a system register: each refusal is a question, whose fault names the row's register."""
-    matched(r"map \(λ c\. asks \(question_of c\.1 register word\) c\.0\) checks", SYSTEM.body("asked_of_register"))
-    found = matched(r"asked_of_register (\w+|\([^()]*\)) word \((\w+) .*\)", SYSTEM.body(name))
-    questions = [(holds, called(SYSTEM, "question_of", refusal, found.group(1), "word"))
-                 for holds, refusal in map(pair, items(REFUSALS.body(found.group(2))))]
-    return checks([(called(QUESTION, "fault_of", f"({question})"), holds) for holds, question in questions])
-
-
 def mapped(*conditions):
     """The row of what a load and a store ask of the map: the same, with a fault of each."""
     asked = [condition_of(MEMORY, text) for text in conditions]
@@ -248,25 +88,6 @@ def fetch_table():
 
 
 # ---- the map and the devices
-
-
-def kept_rows(name):
-    """The lines of a table of the registers that only keep a number: of each what stands there and what the comment says."""
-    text = text_of("devices/src/map.rt")
-    begin = text.index(f"pub const {name}:")
-    rows = re.findall(r"^    (\S+), // (.*)$", text[begin:text.index("];", begin)], re.M)
-    if len(rows) != int(re.search(r"KEPT_COUNT: usize = (\d+);", text).group(1)):
-        raise NotUnderstood(f"devices/src/map.rt: {name}")
-    return rows
-
-
-def first_numbers():
-    """What the registers that only keep a number hold first, by name."""
-    names = [said.split(":")[0] for _, said in kept_rows("KEPT")]
-    first = kept_rows("FIRST")
-    if names != [name for _, name in first]:
-        raise NotUnderstood("devices/src/map.rt: KEPT, FIRST")
-    return [(name, "2^64 - 1" if value == "u64::MAX" else str(worth(value))) for value, name in first]
 
 
 def map_table():
@@ -293,11 +114,6 @@ def map_table():
     return table(["Address", "Register", "A load gives", "A store"], [[f"`{address:#010x}`", *cells] for address, cells in sorted(rows)])
 
 
-def register_name(name):
-    """The name that software knows a device register by."""
-    return {"timer": "mtime", "control_register": "control"}.get(name, name)
-
-
 def widths():
     """Which loads and stores device registers take."""
     unknown = r"if not \(is_register address\) then Some V1 else "
@@ -310,209 +126,6 @@ def widths():
     return (f"A register takes loads and stores of {load.group(1)} bytes at its own address; {register_name(store.group(2))} also stores "
             f"of {store.group(3)} byte. Any other load or store outside RAM is an access fault, and so is a fetch, or a load or store of "
             "a capability, from or to a register")
-
-
-# ---- control and status registers
-
-
-def numbered(path):
-    """The constants of base's registers by name: (number, comment)."""
-    return {name: (worth(text), comment) for name, (text, comment) in constants(path).items()
-            if re.fullmatch(r"0x[0-9a-f]+|[0-9]+", text)}
-
-
-def unnamed(path):
-    """The registers that a list has by their numbers alone: (number, comment)."""
-    rows = re.findall(r"// ([^\n]*)\n\s*\((0x[0-9a-f]+), \"\w+\"\),", text_of(path))
-    return {number: (worth(number), comment) for comment, number in rows}
-
-
-REGISTERS = numbered("base/src/registers.rt") | unnamed("base/src/registers.rt")
-
-
-def listed(name):
-    """The registers of a list, in order, by constant or else by number, each with the name that it is shown by."""
-    text = text_of("base/src/registers.rt")
-    begin = text.index(f"pub const {name}:")
-    rows = r"\((?:(?:scr|csr)::)?(\w+)(?: as u16)?, \"(\w+)\"\)"
-    found = re.findall(rows, text[begin:text.index("];", begin)])
-    count = int(re.search(r"; (\d+)\]", text[begin:]).group(1))
-    if len(found) != count:
-        raise NotUnderstood(f"base/src/registers.rt: {name} has {len(found)} of {count} lines")
-    return found
-
-
-def set_bits(number):
-    return [bit for bit in range(64) if number >> bit & 1]
-
-
-def mstatus_read():
-    """mstatus bit by bit."""
-    ones, named = [], {}
-    for part in split(Definitions("special_regs/specs/CsrValues").body("mstatus"), " + "):
-        found = re.fullmatch(r"bit c\.mstatus_(\w+) \* 2 \^ (\w+)", part)
-        if found:
-            named[BITS[found.group(2)]] = found.group(1).upper()
-        else:
-            ones += set_bits(worth(part))
-    bits = "; ".join(f"bit {bit}: {name}" for bit, name in sorted(named.items()))
-    return f"{bits}; bits {' and '.join(map(str, ones))} are 1; the other bits 0"
-
-
-def csr_read(text):
-    if text == "mstatus c":
-        return mstatus_read()
-    if text == "mip":
-        return f"{said('READS', text)}: bit {NUMBERS['TIMER']} the timer, bit {NUMBERS['EXTERNAL']} the console"
-    if re.fullmatch(r"0x[0-9A-Fa-f_]+", text):
-        number = worth(text)
-        letters = "".join(chr(ord("A") + bit) for bit in set_bits(number) if bit < 26)
-        return f"`{number:#018x}`: 64 bits, extensions {' and '.join(letters)}"
-    return "what is kept" if re.fullmatch(r"c\.\w+", text) else said("READS", text)
-
-
-def kept():
-    """The registers that keep what is written."""
-    text = text_of("special_regs/src/csrs.rt")
-    begin = text.index("pub const KEPT:")
-    return re.findall(r"csr::(\w+)|(0x[0-9a-f]+)", text[begin:text.index("];", begin)])
-
-
-KEPT = [constant or number for constant, number in kept()]
-
-
-def csr_written():
-    """What is kept of a write, by register."""
-    written = {constant: [said("WRITES", "value")] for constant in KEPT}
-    for field, text in fields(WRITES.body("csrs_written")) + fields(WRITES.body("views_written")):
-        if text == "kept_written n value c.kept":
-            continue
-        (at, value), (_, other) = choices(text)
-        if other not in (f"c.{field}", f"s.{field}"):
-            raise NotUnderstood(f"{WRITES.file}: {field} = {text}")
-        found = re.fullmatch(r"has_bit value (\w+)", value)
-        if found:
-            kept = str(BITS[found.group(1)])
-        elif value == "bit_and value interrupt_bits":
-            kept = " and ".join(map(str, set_bits(BITS["interrupt_bits"])))
-        else:
-            kept = said("WRITES", value)
-        written.setdefault(at.removeprefix("n == "), []).append(kept)
-    return {name: f"bits {' and '.join(map(str, sorted(kept)))}" if len(kept) > 1 or kept[0][0].isdigit() else kept[0]
-            for name, kept in written.items()}
-
-
-def csr_table():
-    reads = dict(map(pair, items(Definitions("special_regs/specs/CsrValues").body("csr_values"))))
-    reads |= {constant: "c.kept" for constant in KEPT}
-    bits, _, ones = REFUSALS.body("is_read_only").partition(" == ")
-    read_only = [constant for constant, _ in listed("CSRS") if worth(bits, {"n": REGISTERS[constant][0]}) == worth(ones, {})]
-    written = csr_written()
-    rows = []
-    for constant, name in listed("CSRS"):
-        number, comment = REGISTERS[constant]
-        write = "illegal instruction" if constant in read_only else written.get(constant, "nothing; it is no fault")
-        rows.append([f"`{number:#05x}`", name, comment.rstrip("."), csr_read(reads.pop(constant, "0")), write])
-    if reads:
-        raise NotUnderstood(f"special_regs/specs/CsrValues.antt: {reads}")
-    return table(["Number", "Name", "It is", "A read gives", "A write keeps"], rows)
-
-
-# ---- special capability registers
-
-
-def register_at_fault(number):
-    return worth(Definitions("base/specs/Registers").body("special_register"), {"n": number})
-
-
-def special_table():
-    opening = dict(fields(OPENING.body("opening_scrs")))
-    written = {}
-    for field, text in fields(WRITES.body("scr_written")):
-        (at, value), _ = choices(text)
-        if value != "v":
-            raise NotUnderstood(f"{WRITES.file}: {field} = {text}")
-        written[at.removeprefix("n == ")] = "cs1, whatever it is"
-    first = matched(r".*not \(nat_le (\w+) n\) \|\| has_system_access s.*", REFUSALS.body("scr_checks")).group(1)
-    rows = []
-    for constant, name in listed("SPECIAL_REGISTERS"):
-        number, comment = REGISTERS[constant]
-        who = "code with Access_System_Registers" if number >= REGISTERS[first][0] else "any code"
-        rows.append([str(number), name, comment.rstrip("."), who, written.get(constant, "illegal instruction"),
-                     str(register_at_fault(number)), said("OPENING", opening[name])])
-    return table(["Number", "Name", "It is", "Used by", "A write keeps", "Register in mtval", "It begins as"], rows)
-
-
-def general_table():
-    """Numbers and names of the registers, in four columns of pairs."""
-    names = Definitions("asm_names/specs/Registers")
-    columns = [[found for found in re.findall(r'codes "(\w+)"', names.body(body))] for body in ("integer_names", "capability_names")]
-    if [len(column) for column in columns] != [32, 32]:
-        raise NotUnderstood(f"{names.file}: names")
-    cells = [f"{number} `{name}` `{capability}`" for number, (name, capability) in enumerate(zip(*columns))]
-    return table(["", "", "", ""], [[cells[row + 8 * column] for column in range(4)] for row in range(8)])
-
-
-# ---- causes
-
-
-def faults_in(book, body):
-    """The faults that a definition's body makes: those that it names, and those of the conditions that it makes."""
-    argument = r"(?: [\w.]+| \((?:[^()]|\((?:[^()]|\([^()]*\))*\))*\))"
-    yield from re.findall(rf"\bfault{argument * 2}", body)
-    for maker in ("asks", *CONDITION_MAKERS):
-        if maker == "asks" or maker in book.equations:
-            count = 2 if maker == "asks" else len(split(book.cases(maker)[0][0], " "))
-            for text in re.findall(rf"\b{maker}{argument * count}", body):
-                yield condition_of(book, text)[0]
-
-
-# The definitions that make a condition of its parts.
-CONDITION_MAKERS = ("within", "aligned", "capability_at")
-
-
-def mtval_by_cause():
-    """What mtval holds, by the cause, wherever a definition makes such a fault."""
-    found = {}
-    sources = ("base/specs/Fault", "cap_checks/specs/Question", "cap_checks/specs/FirstFault", "steps/specs/Looks", "steps/specs/MemoryRows",
-               "steps/specs/Step")
-    for book in map(Definitions, sources):
-        for body in (body for cases in book.equations.values() for _, body in cases):
-            for text in faults_in(book, body):
-                made_fault = re.fullmatch(r"fault (cause\.(\w+)|\(misaligned access\)) (.*)", text)
-                if made_fault:
-                    names = [made_fault.group(2)] if made_fault.group(2) else by_access("misaligned", "cause.")
-                    for name in names:
-                        found.setdefault(name, []).append(said("MTVAL", bare(made_fault.group(3))))
-    return {name: " or ".join(dict.fromkeys(values)) for name, values in found.items()}
-
-
-def mcause_table():
-    mtval = mtval_by_cause()
-    if mtval.keys() != MCAUSE.keys():
-        raise NotUnderstood(f"no fault of {sorted(MCAUSE.keys() - mtval.keys())}")
-    rows = [[str(MCAUSE[name]), cause(name), comment.rstrip("."), mtval[name]] for name, comment in variants("base/src/cause.rt", "Cause")]
-    interrupt = dict(fields(INTERRUPTS.body("cause_of")))
-    for bit, name in sorted((NUMBERS[constant], name) for name, constant in INTERRUPTS.cases("bit_of")):
-        number = worth(interrupt["mcause"].replace("bit_of interrupt", str(bit)))
-        comment = constants("base/src/interrupt.rt")[name.upper()][1].rstrip(".")
-        rows.append([f"`{number:#018x}`", f"{name.lower()} interrupt", comment, said("MTVAL", interrupt["mtval"])])
-    return table(["mcause", "Cause", "It comes of", "mtval"], rows)
-
-
-def cheri_table():
-    rows = [[f"`{CHERI[name]:#04x}`", cause(name), comment.rstrip(".")] for name, comment in variants("base/src/cause.rt", "CheriCause")]
-    return table(["CHERI cause", "Name", "What is wrong"], rows)
-
-
-def mtval_form():
-    """How mtval is made of a register and a CHERI cause, with an example."""
-    text = matched(r"fault cause\.Cheri \((.*)\)", FAULT.body("cheri")).group(1)
-    number = worth(text.replace("cheri_number_of what", str(CHERI["Length"])), {"register": 10})
-    return (f"mtval is {said('MTVAL', text)}. So `{number:#x}` is register 10 and cause {CHERI['Length']:#04x}, {cause('Length')}. General "
-            f"registers count from 0, and special ones from {register_at_fault(0)}: PCC is "
-            f"{register_at_fault(REGISTERS['PCC'][0])}, DDC {register_at_fault(REGISTERS['DDC'][0])}, MTCC "
-            f"{register_at_fault(REGISTERS['MTCC'][0])}")
 
 
 # ---- capabilities
@@ -552,6 +165,7 @@ def type_table():
 
 
 # ---- what instructions over capabilities give
+
 
 # The definition that says when the tag stays, by the function that makes the value.
 KEEPS_TAG = {
@@ -596,66 +210,6 @@ def results_table():
 # ---- what happens
 
 
-def opening_list():
-    state = dict(fields(OPENING.body("opening")))
-    if state != {"registers": "null_registers", "scrs": "opening_scrs i", "csrs": "zero_csrs", "memory": "opening_memory i",
-                 "devices": "idle"}:
-        raise NotUnderstood(f"{OPENING.file}: opening")
-    lines = [f"The general registers: {defined('registers/specs/Registers', 'null_registers')}."]
-    lines += [f"{name.upper() if name != 'mscratchc' else 'MScratchC'}: {said('OPENING', text)}."
-              for name, text in fields(OPENING.body("opening_scrs"))]
-    csrs = []
-    for name, text in fields(Definitions("special_regs/specs/Csrs").body("zero_csrs")):
-        if (name, text) == ("kept", "replicate KEPT_COUNT 0"):
-            csrs += [(name, "0") for constant, name in listed("CSRS") if constant in KEPT]
-        else:
-            csrs.append((name.replace("mstatus_", "").upper() if "mstatus" in name else name, said("OPENING", text)))
-    devices = []
-    for name, text in fields(DEVICES.body("idle")):
-        devices += first_numbers() if (name, text) == ("kept", "FIRST") else [(name, said("OPENING", text))]
-    for pairs in (csrs, devices):
-        lines.append("; ".join(f"{name}: {text}" for name, text in pairs) + ".")
-    lines.append(f"RAM: {defined('hart/specs/Opening', 'loaded_memory')}; {defined('hart/specs/Opening', 'opening_memory')}.")
-    return "\n".join(f"- {line}" for line in lines)
-
-
-def assignments(name, definition):
-    """What a definition assigns, in words."""
-    return [said("HAPPENS", f"{field} = {text}") for field, text in fields(Definitions(name).body(definition))]
-
-
-def pending_order():
-    """The interrupts in the order in which they are asked."""
-    (enabled, asked), _ = choices(INTERRUPTS.body("pending"))
-    if enabled != "c.mstatus_mie":
-        raise NotUnderstood(f"{INTERRUPTS.file}: pending")
-    order = [answer.removeprefix("Some ") for _, answer in choices(asked) if answer != "None"]
-    numbers = dict(INTERRUPTS.cases("bit_of"))
-    return " before ".join(f"the {name.lower()} interrupt ({NUMBERS[numbers[name]]})" for name in order)
-
-
-def vectors():
-    """How far past the base the entries of interrupts stand in vectored mode."""
-    numbers = sorted((NUMBERS[constant], name) for name, constant in INTERRUPTS.cases("bit_of"))
-    return " and ".join(f"the {name.lower()} interrupt's entry is {4 * number} bytes past the base" for number, name in numbers)
-
-
-def traps(*names):
-    """The words for definitions of trap entry and return, joined."""
-    return "; ".join(defined("special_regs/specs/Mtvec" if name == "is_vectored" else "special_regs/specs/Traps", name) for name in names)
-
-
-def trap_entry():
-    saved, moved = assignments("special_regs/specs/Traps", "trapped_scrs")
-    return steps([saved, *assignments("special_regs/specs/Traps", "trapped_csrs"), moved,
-                  defined("steps/specs/Effect", "applied", "(Trap fault) s")])
-
-
-def trap_return():
-    return steps([*assignments("special_regs/specs/Traps", "returned_scrs"), *assignments("special_regs/specs/Traps", "returned_csrs"),
-                  defined("steps/specs/Effect", "applied", "(Return sealed) s")])
-
-
 def step_list():
     step = "steps/specs/Step"
     asked = defined("special_regs/specs/Interrupts", "is_asked")
@@ -685,41 +239,6 @@ def made_of_devices():
         "asked": defined(devices, "interrupts_of"),
         "timer_bit": str(NUMBERS["TIMER"]),
         "external_bit": str(NUMBERS["EXTERNAL"]),
-    }
-
-
-def made_of_registers():
-    system = "steps/specs/SystemRows"
-    return {
-        "number": f"{defined('cap_bounds/specs/CapValue', 'integer')}; {defined('registers/specs/Registers', 'with_register')}",
-        "general": general_table(),
-        "mode": defined("steps/specs/Looks", "in_capability_mode"),
-        "csrs": csr_table(),
-        "csr_checks": asked_of_register("csr_asked"),
-        "csr_register": defined(system, "csr_asked"),
-        "csr_writes": defined(system, "csr_writes"),
-        "csr_counted": defined("steps/specs/Effect", "applied", "(Csr w) s"),
-        "special": special_table(),
-        "special_checks": asked_of_register("special_asked"),
-        "special_register": defined(system, "special_asked"),
-        "special_writes": defined(system, "special_done"),
-        "opening": opening_list(),
-    }
-
-
-def made_of_traps():
-    return {
-        "mcause": mcause_table(),
-        "cheri": cheri_table(),
-        "mtval": mtval_form(),
-        "trap_entry": trap_entry(),
-        "entry": traps("entry_address", "vector_of", "is_vectored"),
-        "vectors": vectors(),
-        "trap_target": traps("trap_target", "sentry_opened", "placed_at"),
-        "return_checks": asked_of_register("return_asked"),
-        "return_register": defined("steps/specs/SystemRows", "return_asked"),
-        "return": trap_return(),
-        "return_target": traps("target", "aligned"),
     }
 
 

@@ -6,7 +6,8 @@ ghost use Rattle.cap_bounds.specs.CapValue.{is_tagged, value_top, word_of};
 ghost use Rattle.cap_bounds.specs.Root.{root};
 ghost use Rattle.cap_bounds.specs.Rounding.{rounded_base, rounded_top, rounding_exponent, rounding_granule};
 ghost use Rattle.cap_bounds.specs.SetBounds.{HasRoundedBounds};
-ghost use Rattle.bounds_text.specs.BoundsText.{address_line, bounds_text as whole_text, request_lines, set, span_of, standing, window_lines};
+ghost use Rattle.bounds_text.specs.BoundsText.{address_line, bounds_text as whole_text};
+ghost use Rattle.bounds_text.specs.BoundsText.{request_lines, set, span_of, standing, window_lines};
 
 use crate::either;
 use crate::length::{alignment_mask, representable_length};

@@ -1,6 +1,7 @@
 -- What is found of arguments, and the plans that it is.
 use Rattle.std.proofs.Common.{◌≡◌, ◌∙◌, ℕ, ◌<◌, ◌≤◌, ◌^◌, List, [], ◌∷◌, refl, sym, ap, subst, codes, arith}
-use Rattle.std.specs.Prelude.{Option, Some, None, IfSome, IsSomeAnd, IsTrue, IfOk, IfErr, Result, Ok, Err, true, false, Bool, ◌&&◌, nat_lt, nat_le, length}
+use Rattle.std.specs.Prelude.{Option, Some, None, IfSome, IsSomeAnd, IsTrue, IfOk, IfErr, Result}
+use Rattle.std.specs.Prelude.{Ok, Err, true, false, Bool, ◌&&◌, nat_lt, nat_le, length}
 use Rattle.std.specs.Prelude.{if◌then◌else◌, option_and_then, option_map, bytes_eq}
 use Rattle.std.specs.List.{AllByRecursion, AllZip, list_all}
 use Rattle.std.specs.Char.{digit_value}
@@ -14,9 +15,12 @@ use Rattle.command_line.specs.declared.plans.Plan.{Plan}
 use Rattle.command_line.specs.declared.plans.Plan.TheVariants.{Run, Audit, First}
 use Rattle.command_line.specs.declared.table.Takes.{Takes}
 use Rattle.command_line.specs.declared.table.Takes.TheVariants.{Nothing, Ends, Read, Written, Count, Start, Number}
-use Rattle.command_line.specs.CommandLine.{Line, Entry, Said, File, Amount, Used, Explained, is_numeral, number_in, count_of, is_within, counted, said_by, unsaid, why_of}
-use Rattle.command_line.specs.CommandLine.{said_of, said_of_text, is_needed, is_file, is_written, written_number, files_found, files_said, are_apart, FileName}
-use Rattle.command_line.specs.CommandLine.{AreSaid, KeepsLimits, IsWithin, name_said, name_of, said, lines_named, commands, Says, IsScheduled, IsSound, NoPlanFits, may_stand, AreFit, HasAll}
+use Rattle.command_line.specs.CommandLine.{Line, Entry, Said, File, Amount, Used, Explained, is_numeral}
+use Rattle.command_line.specs.CommandLine.{number_in, count_of, is_within, counted, said_by, unsaid, why_of}
+use Rattle.command_line.specs.CommandLine.{said_of, said_of_text, is_needed, is_file, is_written}
+use Rattle.command_line.specs.CommandLine.{written_number, files_found, files_said, are_apart, FileName}
+use Rattle.command_line.specs.CommandLine.{AreSaid, KeepsLimits, IsWithin, name_said, name_of, said, lines_named}
+use Rattle.command_line.specs.CommandLine.{commands, Says, IsScheduled, IsSound, NoPlanFits, may_stand, AreFit, HasAll}
 use Rattle.std.proofs.Common.{get_or}
 use Rattle.std.proofs.lemmas.Str.Parse.{without_leading_plus_none}
 use Rattle.std.specs.Str.Parse.{ParsesUnsigned}
@@ -56,7 +60,8 @@ true-digits radix (d ∷ ds) e =
 
 -- std's numerals are those of the definition
 pub number_in-ok : {E : Type 0} (radix : ℕ) (digits : Text) (r : Result ℕ E)
-    → OkIff r (IsNumeral radix digits × (digits_value radix digits < 2 ^ 64)) (digits_value radix digits) → result_ok r ≡ number_in radix digits
+    → OkIff r (IsNumeral radix digits × (digits_value radix digits < 2 ^ 64)) (digits_value radix digits)
+    → result_ok r ≡ number_in radix digits
 unfolding number_in
 number_in-ok radix digits (Ok n) is =
     let test : (is_numeral radix digits && nat_lt (digits_value radix digits) (2 ^ 64)) ≡ true =
@@ -69,7 +74,10 @@ number_in-ok radix digits (Err e) is =
     not_true _ (λ t.
     let parts = both (is_numeral radix digits) (nat_lt (digits_value radix digits) (2 ^ 64)) t in
     let numeral = both (nat_lt 0 (length digits)) (are_digits radix digits) parts.0 in
-    is ((ltb-true 0 (length digits) numeral.0, true-digits radix digits numeral.1), ltb-true (digits_value radix digits) (2 ^ 64) parts.1)) in
+    is (
+      (ltb-true 0 (length digits) numeral.0, true-digits radix digits numeral.1),
+      ltb-true (digits_value radix digits) (2 ^ 64) parts.1,
+    )) in
     sym (ap (λ b. if b then Some (digits_value radix digits) else None) test)
 
 -- a plus is no digit
@@ -87,11 +95,12 @@ plus_first radix (d ∷ ds) most plus =
     absurd (omega arith)) in
     ap (λ b. if b then Some (digits_value radix (d ∷ ds)) else None) test
 
-pub unsigned_ok : {E : Type 0} (radix : ℕ) (digits : Text) (r : Result ℕ E) → (get_or digits 0 0 ≡ 43 → ⊥) → ParsesUnsigned 64 radix digits r
-    → result_ok r ≡ number_in radix digits
+pub unsigned_ok : {E : Type 0} (radix : ℕ) (digits : Text) (r : Result ℕ E) → (get_or digits 0 0 ≡ 43 → ⊥)
+    → ParsesUnsigned 64 radix digits r → result_ok r ≡ number_in radix digits
 unsigned_ok radix digits r plain is =
     number_in-ok radix digits r
-    (subst (λ ds. OkIff r (IsNumeral radix ds × (digits_value radix ds < 2 ^ 64)) (digits_value radix ds)) (without_leading_plus_none digits plain) is)
+    (subst (λ ds. OkIff r (IsNumeral radix ds × (digits_value radix ds < 2 ^ 64)) (digits_value radix ds))
+    (without_leading_plus_none digits plain) is)
 
 -- clap reads the decimal number
 module _ {E : Type 0} (f : Found) (id : Text) (G : Text → Result ℕ E → Type 0)
@@ -149,7 +158,8 @@ unneeded : (needed : Bool) (o : Option Said) (s : Said) → (if needed then None
 unneeded true o s e = cc
 unneeded false o s e = e
 
-text-kept : (rows : List Row) (line : Line) (text : Option Text) (s : Said) → said_of_text rows line text ≡ Some s → KeepsLimits line.takes s
+text-kept : (rows : List Row) (line : Line) (text : Option Text) (s : Said) → said_of_text rows line text ≡ Some s
+    → KeepsLimits line.takes s
 text-kept rows line (Some text) s e = by-kept line.takes text (count_of line.id rows) s e
 text-kept rows line None s e = un-kept line.takes s (unneeded (is_needed line) (unsaid line.takes) s e)
 
@@ -224,7 +234,8 @@ not_apart rows lines apart is fails saids are claimed = let same = ap are_apart 
 
 -- ---- plans
 
-scheduled : (plan : Plan) → IfSome (lines_named (name_of plan) commands) (λ lines. AllZip (λ line said. KeepsLimits line.takes said) lines (said plan))
+scheduled : (plan : Plan)
+    → IfSome (lines_named (name_of plan) commands) (λ lines. AllZip (λ line said. KeepsLimits line.takes said) lines (said plan))
     → IsScheduled plan
 unfolding commands
 scheduled (Run image steps times gap tick input quiet why trace from last policy symbols) k = record {

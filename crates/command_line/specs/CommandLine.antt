@@ -359,6 +359,11 @@ IsSound plan =
     × IfSome (lines_named (name_of plan) commands) (λ lines. AllZip (λ line said. KeepsLimits line.takes said) lines (said plan))
     × IfSome (lines_named (name_of plan) commands) (λ lines. IsTrue (are_apart (files_said lines (said plan))))
 
+-- nothing that clap found of these arguments may stand, with no file written over another
+abbrev pub NothingStands : List Row → List Line → Type 0
+NothingStands rows lines =
+    (saids : List Said) → AreSaid rows lines saids → IsTrue (may_stand rows) → IsTrue (are_apart (files_said lines saids)) → ⊥
+
 -- nothing that clap found is a sound plan
 abbrev pub NoPlanFits : Option (Text × List Row) → Type 0
 NoPlanFits found = (plan : Plan) → IsPlanOf found plan → IsSound plan → ⊥

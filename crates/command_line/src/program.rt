@@ -3,7 +3,8 @@
 ghost use Rattle.std.specs.Prelude.{◌≡◌, IfOk, false, map, option_map};
 ghost use Rattle.clap.specs.Words.{app_of, rule_of, with_rule, with_subcommand};
 ghost use Rattle.clap.specs.declared.builder.command.Command.TheViews.{out-Command};
-ghost use Rattle.command_line.specs.CommandLine.{as_stands, as_takes, by_default, line_of, entry_of, rule, with_arguments, command, with_commands, program};
+ghost use Rattle.command_line.specs.CommandLine.{as_stands, as_takes, by_default, line_of, entry_of};
+ghost use Rattle.command_line.specs.CommandLine.{rule, with_arguments, command, with_commands, program};
 
 use crate::table::{Argument, COMMANDS, CommandRow, Stands, Takes};
 use clap::builder::ValueParser;

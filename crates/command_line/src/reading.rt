@@ -5,7 +5,7 @@ ghost use Rattle.std.specs.List.{list_all};
 ghost use Rattle.clap.specs.Words.{first_of, found_of, rows_of, kind_of, subcommand_rows_of};
 ghost use Rattle.clap.specs.declared.error.kind.ErrorKind.{ErrorKind};
 ghost use Rattle.command_line.specs.CommandLine.{found_in, IsSound, IsTaken, IsPlanOf, NoPlanFits, asks_all, may_stand, line_of, entry_of};
-ghost use Rattle.command_line.specs.CommandLine.{Said, AreFit, AreSaid, HasAll, Says, lines_named, commands, files_found, files_said};
+ghost use Rattle.command_line.specs.CommandLine.{Said, AreFit, AreSaid, HasAll, Says, lines_named, commands, files_found, NothingStands};
 ghost use Rattle.command_line.specs.CommandLine.{are_apart, are_two, have_one_name, is_file, is_written};
 ghost use Rattle.command_line.specs.declared.fault.PlanFault.TheVariants.{Memory};
 
@@ -92,7 +92,8 @@ fn is_written(line: &Argument) -> bool
 
 /// The file that was found for an argument.
 fn file_found<'a>(found: &ArgMatches<'a>, line: &Argument) -> Option<&'a str>
-    ensures { option_map (λ s. s.now) result ≡ (if is_file line.now.2 then first_of line.now.0.now (rows_of (found_of found.now)) else None) }
+    ensures { option_map (λ s. s.now) result
+        ≡ (if is_file line.now.2 then first_of line.now.0.now (rows_of (found_of found.now)) else None) }
 {
     match line.2 {
         Takes::Read | Takes::Written => text(found, line.0),
@@ -112,7 +113,8 @@ fn have_one_name(one: Option<&str>, other: Option<&str>) -> bool
 
 /// Whether a file is none of those of other arguments, if it or they are written.
 fn is_apart(found: &ArgMatches<'_>, written: bool, name: Option<&str>, others: &[Argument]) -> bool
-    ensures { result ≡ list_all (are_two (written, option_map (λ s. s.now) name.entry)) (files_found (rows_of (found_of found.now)) (map line_of others.now)) }
+    ensures { result ≡ list_all (are_two (written, option_map (λ s. s.now) name.entry))
+        (files_found (rows_of (found_of found.now)) (map line_of others.now)) }
 {
     match others {
         [] => true,
@@ -145,8 +147,7 @@ fn check(found: &ArgMatches<'_>, lines: &[Argument]) -> Result<(), Misfit>
     ensures fit { IfOk result (λ _. AreFit (rows_of (found_of found.now)) (map line_of lines.now)) }
     ensures stand { IfOk result (λ _. IsTrue (may_stand (rows_of (found_of found.now)))) }
     ensures apart { IfOk result (λ _. IsTrue (are_apart (files_found (rows_of (found_of found.now)) (map line_of lines.now)))) }
-    ensures err { IfErr result (λ _. (saids : List Said) → AreSaid (rows_of (found_of found.now)) (map line_of lines.now) saids → IsTrue (may_stand (rows_of (found_of found.now)))
-        → IsTrue (are_apart (files_said (map line_of lines.now) saids)) → ⊥) }
+    ensures err { IfErr result (λ _. NothingStands (rows_of (found_of found.now)) (map line_of lines.now)) }
 {
     all_fit(found, lines)?;
     may_stand(found)?;
@@ -408,9 +409,8 @@ fn asks_all(words: &[&str]) -> bool
 /// Reads the words of a command line, the program's name first.
 ///
 /// A file that is written may not bear the name of another file of the command; `--trace-from` and `--trace-last` go with `--trace`,
-/// `--symbols` of a run goes with `--policy`, and `--policy` does not go with `--why`;
-/// with one number `bounds` has a length and no address. A number of 64 bits is typed in decimal digits,
-/// or in hexadecimal digits after `0x`. `Help` and `Refused` hold the text for whoever typed the words; `Memory` says that there
+/// and `--policy` does not go with `--why`; with one number `bounds` has a length and no address. A number of 64 bits is typed in
+/// decimal digits, or in hexadecimal digits after `0x`. `Help` and `Refused` hold the text for whoever typed the words; `Memory` says that there
 /// was none.
 pub fn plan<'a>(alloc: Global, words: &'a [&'a str]) -> Result<Plan<'a>, PlanFault>
     ensures taken { OnOk result (IsTaken (map (λ word. word.now) words.entry.now)) }

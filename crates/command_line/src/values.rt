@@ -2,7 +2,8 @@
 
 ghost use Rattle.std.specs.Prelude.{◌≡◌, ◌&&◌, ◌||◌, IsSome, IsTrue, Some, None, not, is_some, option_map};
 ghost use Rattle.clap.specs.Words.{found_of, rows_of, first_of};
-ghost use Rattle.command_line.specs.CommandLine.{File, Amount, Used, Explained, count_of, said_of, is_needed, is_file, line_of, why_of, is_used};
+ghost use Rattle.command_line.specs.CommandLine.{File, Amount, Used, Explained, count_of, said_of};
+ghost use Rattle.command_line.specs.CommandLine.{is_needed, is_file, line_of, why_of, is_used};
 ghost use Rattle.command_line.specs.CommandLine.{is_number, is_start};
 ghost use Rattle.command_line.specs.declared.table.Takes.TheVariants.{Nothing, Ends};
 

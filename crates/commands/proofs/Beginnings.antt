@@ -4,7 +4,7 @@ use Rattle.std.proofs.Common.{length, take, drop, Option, Some, None, IfSome, re
 use Rattle.std.proofs.Common.{append_assoc, take-append-drop}
 use Rattle.std.proofs.Common.{get_or, take_all, drop-drop, length-take, length-drop, Result, Ok, Err, OnOk}
 use Rattle.std.specs.Prelude.{◌==◌, slice_index}
-use Rattle.std.specs.List.{prefix_len, slice_split, onto_first, count_by}
+use Rattle.std.specs.List.{prefix_len, before_first, slice_split, onto_first, count_by}
 use Rattle.std.specs.Io.{StartsWith}
 use Rattle.std.specs.Io.KnownBytes.{Consumes, IsAtEnd}
 use Rattle.std.proofs.lemmas.Bool.Decides.{nat_tests}
@@ -18,7 +18,7 @@ use Rattle.assembler.specs.declared.fault.AsmFault.{AsmFault}
 use Rattle.assembler.specs.Places.{lines_of}
 use Rattle.assembler.specs.Standing.{Standing, standing_of}
 use Rattle.assembler.specs.Text.{text_fault}
-use Rattle.fault_details.specs.Detail.{detail_of, up_to, line_at, after_lines, foreign_at, foreign_read}
+use Rattle.fault_details.specs.Detail.{detail_of, line_at, after_lines, foreign_at, foreign_read}
 use Rattle.symbols.specs.declared.table.Beginning.TheVariants.{Faulty, Sound}
 use Rattle.symbols.specs.Reads.{Tells}
 use Rattle.symbols.specs.Symbols as table
@@ -124,14 +124,17 @@ take-past (x ∷ xs) ys n =
     let e : length (x ∷ xs) + n ≡ suc (length xs + n) = omega arith in
     rw e (ap (λ zs. x ∷ zs) (take-past xs ys n))
 
+abbrev up_to_feed : List ℕ → List ℕ
+up_to_feed = before_first (λ b. b == 10)
+
 -- the last line goes on to the next line feed
 line-on : (text more : List ℕ) (number : ℕ) → number ≡ length (lines_of text)
-    → line_at number (text ++ more) ≡ (stands text).line ++ up_to 10 more
+    → line_at number (text ++ more) ≡ (stands text).line ++ up_to_feed more
 line-on text more number e =
     let at = stands text in
     let count : number - 1 ≡ length (slice_split is_feed text) - 1 =
     ap (λ n. n - 1) (e ∙ length-map (slice_split is_feed text) line_meaning) in
-    ap (λ n. up_to 10 (after_lines n (text ++ more))) count ∙ ap (up_to 10) (at.behind more)
+    ap (λ n. up_to_feed (after_lines n (text ++ more))) count ∙ ap (up_to_feed) (at.behind more)
     ∙ ap (λ n. take n (at.line ++ more)) (at.inside more) ∙ take-past at.line more (prefix_len (λ b. not (b == 10)) more)
 
 line-alone : (text : List ℕ) (number : ℕ) → number ≡ length (lines_of text) → line_at number text ≡ (stands text).line ++ []
@@ -216,7 +219,7 @@ detail-foreign : (code : AsmCode) (n : ℕ) (s t : Standing) (a b : List ℕ) �
 unfolding detail_of
 detail-foreign code n s t a b e same = rw e same
 
-up-to-on : (byte : ℕ) (more : List ℕ) → (byte == 10) ≡ false → up_to 10 (byte ∷ more) ≡ byte ∷ up_to 10 more
+up-to-on : (byte : ℕ) (more : List ℕ) → (byte == 10) ≡ false → up_to_feed (byte ∷ more) ≡ byte ∷ up_to_feed more
 up-to-on byte more e =
     let n : 1 + prefix_len (λ b. not (b == 10)) more ≡ suc (prefix_len (λ b. not (b == 10)) more) = omega arith in
     rw (e, n) refl
@@ -233,7 +236,7 @@ told-foreign input text more byte found fault foreign is code law h =
     let line = (stands text).line in
     let short = line-on text (byte ∷ []) found.line number ∙ ap (λ xs. line ++ xs) (up-to-on byte [] e) in
     let long = line-on text (byte ∷ more) found.line number ∙ ap (λ xs. line ++ xs) (up-to-on byte more e) in
-    let same = ap foreign_read short ∙ foreign-same line byte (up_to 10 []) (up_to 10 more) foreign ∙ sym (ap foreign_read long) in
+    let same = ap foreign_read short ∙ foreign-same line byte (up_to_feed []) (up_to_feed more) foreign ∙ sym (ap foreign_read long) in
     told-on input (text ++ byte ∷ []) (text ++ byte ∷ more) found fault (law is.first)
     (detail-foreign found.code (indent_of input found.line) (standing_of (text ++ byte ∷ [])) (standing_of (text ++ byte ∷ more)) _ _
     code same)

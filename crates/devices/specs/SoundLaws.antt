@@ -1,5 +1,6 @@
 -- Sound devices give numbers of 64 bits, and whatever happens leaves them sound.
-use Rattle.std.proofs.Common.{◌≡◌, ℕ, zero, suc, ◌+◌, ◌^◌, ◌<◌, ◌≤◌, Bool, true, false, eqb, ltb, not, List, [], ◌∷◌, ◌++◌, length, Option, Some, None}
+use Rattle.std.proofs.Common.{◌≡◌, ℕ, zero, suc, ◌+◌, ◌^◌, ◌<◌, ◌≤◌, Bool, true, false, eqb}
+use Rattle.std.proofs.Common.{ltb, not, List, [], ◌∷◌, ◌++◌, length, Option, Some, None}
 use Rattle.std.proofs.Common.{refl, length-append, arith, lit<, lit≤}
 use Rattle.std.specs.Prelude.{nat_le, slice_index, slice_set, IfSome, ◌&&◌}
 use Rattle.std.specs.List.{list_all}

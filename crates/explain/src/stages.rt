@@ -6,7 +6,8 @@ ghost use Rattle.isa_rows.specs.Decoded.{insn_of};
 ghost use Rattle.steps.specs.State.{pc_of};
 ghost use Rattle.explain.specs.Asked.{all_conditions, word_stages};
 ghost use Rattle.explain.specs.WhyText as spec;
-ghost use Rattle.explain.specs.WhyText.{ram_name, moved_name, sized_place, place_text, tag_lines, capability_lines, stage_text, stages_text};
+ghost use Rattle.explain.specs.WhyText.{ram_name, moved_name, sized_place, place_text};
+ghost use Rattle.explain.specs.WhyText.{tag_lines, capability_lines, stage_text, stages_text};
 
 use crate::conditions::{append_at, append_capability, append_conditions, append_line};
 use crate::effect::size_text;

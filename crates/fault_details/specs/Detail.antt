@@ -1,7 +1,7 @@
 -- What stands after the text of an assembler's fault: the line with carets under what the fault is about, and what was read there.
-use Rattle.std.specs.Prelude.{ℕ, zero, suc, ◌+◌, ◌-◌, not, ◌==◌, if◌then◌else◌, List, [], ◌++◌, map, length, take, drop, max, replicate}
+use Rattle.std.specs.Prelude.{ℕ, zero, suc, ◌+◌, ◌-◌, not, ◌==◌, if◌then◌else◌, List, [], ◌++◌, map, length, take, max, replicate}
 use Rattle.std.specs.Prelude.{slice_index, codes, decimal}
-use Rattle.std.specs.List.{prefix_len}
+use Rattle.std.specs.List.{prefix_len, before_first, after_first}
 use Rattle.std.specs.Option.{option_map_or}
 use Rattle.asm_lines.specs.Text.{is_foreign, trimmed_end}
 use Rattle.asm_lines.specs.Parts.{Part, parts_of}
@@ -13,20 +13,13 @@ use Rattle.assembler.specs.Standing.{Standing}
 use Rattle.texts.specs.Hex.{hex_of}
 use Rattle.fault_details.specs.Reasons.{reason_text}
 
--- what stands before a byte, and after it
-abbrev pub up_to : ℕ → List ℕ → List ℕ
-up_to byte text = take (prefix_len (λ b. not (b == byte)) text) text
-
-abbrev pub past : ℕ → List ℕ → List ℕ
-past byte text = drop (prefix_len (λ b. not (b == byte)) text + 1) text
-
 -- a line of a text, counted from 1
 abbrev pub after_lines : ℕ → List ℕ → List ℕ
 after_lines zero text = text
-after_lines (suc count) text = after_lines count (past 10 text)
+after_lines (suc count) text = after_lines count (after_first (λ b. b == 10) text)
 
 abbrev pub line_at : ℕ → List ℕ → List ℕ
-line_at number text = up_to 10 (after_lines (number - 1) text)
+line_at number text = before_first (λ b. b == 10) (after_lines (number - 1) text)
 
 -- what stands under a byte: a tab under a tab, and else a blank
 abbrev pub under : ℕ → ℕ

@@ -1,5 +1,6 @@
 -- Special registers that are sound and in range give what is sound and in range, and stay so.
-use Rattle.std.proofs.Common.{◌≡◌, ℕ, ◌+◌, ◌*◌, ◌/◌, ◌%◌, ◌^◌, ◌<◌, Bool, true, false, eqb, cond, List, [], ◌∷◌, Some, arith, lit<, refl, ◌∙◌, length}
+use Rattle.std.proofs.Common.{◌≡◌, ℕ, ◌+◌, ◌*◌, ◌/◌, ◌%◌, ◌^◌, ◌<◌, Bool, true, false, eqb}
+use Rattle.std.proofs.Common.{cond, List, [], ◌∷◌, Some, arith, lit<, refl, ◌∙◌, length}
 use Rattle.std.proofs.lemmas.List.{length-set}
 use Rattle.std.specs.Prelude.{IfSome, bit_and, zero, suc, None, Option, slice_index, slice_set, replicate}
 use Rattle.std.specs.Option.{option_or}
