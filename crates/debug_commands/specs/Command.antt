@@ -173,10 +173,14 @@ abbrev pub made : {A : Type 0} → (A → Command) → Result A DebugFault → R
 made make (Ok said) = Ok (make said)
 made make (Err fault) = Err fault
 
+-- a command without operands, or B2
+abbrev pub alone : Command → List (List ℕ) → Result Command DebugFault
+alone command [] = Ok command
+alone command (w ∷ rest) = Err B2
+
 -- the command of what operands say, or B2
 abbrev pub said_by : List Symbol → Operands → List (List ℕ) → Result Command DebugFault
-said_by symbols (nothing command) [] = Ok command
-said_by symbols (nothing command) (w ∷ rest) = Err B2
+said_by symbols (nothing command) words = alone command words
 said_by symbols (number low high make) words = made make (one_number low high words)
 said_by symbols (place multiple high make) words = made (λ p. make p.0 p.1) (address_and_number symbols multiple high words)
 said_by symbols (an_address make) words = made make (one_address symbols words)

@@ -165,12 +165,7 @@ macro_rules! made_of {
         let ($said, until) = bytes_and_horizon($symbols, $operands, $high)?;
         Ok(Command::Shows(View::May($made, until)))
     }};
-    ((nothing) $said:ident $made:expr, $symbols:ident $operands:ident) => {
-        match split_word($operands) {
-            Some(_) => Err(DebugFault::B2),
-            None => Ok($made),
-        }
-    };
+    ((nothing) $said:ident $made:expr, $symbols:ident $operands:ident) => { alone($operands, $made) };
 }
 
 // The command of the line that has this name, or a fault.
@@ -190,6 +185,18 @@ pub fn help_text() -> &'static str
     ensures { result.now ≡ spec.help_text }
 {
     HELP
+}
+
+/// A command without operands, or B2.
+fn alone(operands: &[u8], command: Command) -> Result<Command, DebugFault>
+    requires { IsWithinLimits command }
+    ensures value { result ≡ spec.alone command (words_of operands.now) }
+    ensures limits { IfOk result IsWithinLimits }
+{
+    match split_word(operands) {
+        Some(_) => Err(DebugFault::B2),
+        None => Ok(command),
+    }
 }
 
 /// The command of what follows `reach`, over a table of labels, or B2.

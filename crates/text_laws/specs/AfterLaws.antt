@@ -1,10 +1,12 @@
 -- What is shown of a step is what the state after it has.
 use Rattle.std.proofs.Common.{◌≡◌, ℕ, zero, suc, ◌+◌, ◌-◌, ◌*◌, ◌/◌, ◌%◌, ◌^◌, ◌<◌, ◌≤◌, Bool, true, false, not, ◌&&◌, ◌||◌, cond, eqb}
-use Rattle.std.proofs.Common.{List, [], ◌∷◌, ◌++◌, length, take, drop, None, Some, refl, sym, ap, subst, ◌∙◌, arith, append-nil, lit<}
-use Rattle.std.proofs.Common.{append_assoc}
-use Rattle.std.specs.Prelude.{codes, decimal}
+use Rattle.std.proofs.Common.{List, [], ◌∷◌, ◌++◌, length, take, drop, None, Some, refl, sym, ap, subst, ◌∙◌, arith, append-nil}
+use Rattle.std.proofs.Common.{append_assoc, get_or}
+use Rattle.std.specs.Prelude.{codes, decimal, is_some}
 use Rattle.std.proofs.lemmas.Bool.{true≢false, and_parts, not-true, eq-eqb, ne_eqb, eqb-true, cond_both}
 use Rattle.std.proofs.lemmas.List.{get_or-set_same}
+use Rattle.std.proofs.lemmas.List.Quantifiers.{position-Some}
+use Rattle.std.specs.List.{list_all, list_any}
 use Rattle.std.proofs.Math.Nat.{add-mul, add_assoc, div-add-mod', mod-eq_of_lt, mod-lt, mul-add-mod_self_right, mul-le-mul_right}
 use Rattle.std.proofs.Math.Nat.{mul_assoc, one-le-pow, pow-suc}
 use Rattle.std.specs.Fmt.{digit_glyph}
@@ -12,6 +14,7 @@ use Rattle.byteorder.specs.Endian.{little_bytes, little_from}
 use Rattle.byteorder.specs.Numbers.{little_from-bytes, little_from-take, length-bytes_low_first}
 use Rattle.base.specs.Ram.{ram_base}
 use Rattle.base.specs.Registers.{is_csr, is_scr}
+use Rattle.base.specs.declared.registers.TheConstants.{CSRS}
 use Rattle.base.specs.Size.{bytes_of}
 use Rattle.base.specs.declared.size.Size.{Size}
 use Rattle.base.specs.declared.size.Size.TheVariants.{Byte, Half, Word, Double}
@@ -25,7 +28,9 @@ use Rattle.tagged_memory.specs.Memory.{Memory, is_in_ram, number_at, word_at, ha
 use Rattle.tagged_memory.specs.MemoryLaws.{in_ram}
 use Rattle.tagged_memory.specs.Replaced.{part-new}
 use Rattle.devices.specs.Devices.{interrupts_of}
+use Rattle.special_regs.specs.Csrs.{kept_at}
 use Rattle.special_regs.specs.CsrValues.{csr_value}
+use Rattle.special_regs.specs.declared.csrs.TheConstants.{KEPT}
 use Rattle.special_regs.specs.Mtvec.{is_vectored, mtvec_of}
 use Rattle.special_regs.specs.Refusals.{is_read_only}
 use Rattle.special_regs.specs.Writes.{csrs_written, views_written, scr_written}
@@ -174,29 +179,68 @@ each-scr P n is ddc mtcc mtdc mscratchc mepcc =
     listed P 30 n _ others (λ e. subst P e mscratchc) (λ others.
     listed P 31 n _ others (λ e. subst P e mepcc) (λ none. cc))))))
 
+-- a number that is not among those listed differs from each
+not-listed : (k n : ℕ) (others : Bool) → (eqb k n || others) ≡ false → (eqb k n ≡ false) × (eqb n k ≡ false) × (others ≡ false)
+not-listed k n others is =
+    elim (eqb k n) as (λ b. eqb k n ≡ b → (b || others) ≡ false → (eqb k n ≡ false) × (eqb n k ≡ false) × (others ≡ false)) [
+      | true ↦ λ _ e. absurd (true≢false e)
+      | false ↦ λ e rest. (e, ne_eqb n k (λ same. true≢false (sym (eq-eqb k n (sym same)) ∙ e)), rest)
+    ] refl is
+
+-- what holds of all numbers of a list holds of one that is listed
+all-listed : {X : Type 0} (number : X → ℕ) (test : ℕ → Bool) (xs : List X) (n : ℕ) → list_all (λ x. test (number x)) xs ≡ true
+    → list_any (λ x. eqb (number x) n) xs ≡ true → test n ≡ true
+all-listed number test [] n all any = cc
+all-listed number test (x ∷ xs) n all any =
+    let parts = and_parts _ _ all in
+    listed (λ m. test m ≡ true) (number x) n _ any (λ is. subst (λ m. test m ≡ true) is parts.0)
+    (λ others. all-listed number test xs n parts.1 others)
+
+all-at : (test : ℕ → Bool) (xs : List ℕ) (i : ℕ) → list_all test xs ≡ true → i < length xs → test (get_or xs i 0) ≡ true
+all-at test [] i all less = absurd (omega (arith, less))
+all-at test (x ∷ xs) zero all less = (and_parts _ _ all).0
+all-at test (x ∷ xs) (suc i) all less = all-at test xs i (and_parts _ _ all).1 (omega (arith, less))
+
+-- the registers that can be written and have a meaning of their own
+abbrev own : List ℕ
+own = 0x300 ∷ 0x301 ∷ 0x304 ∷ 0x305 ∷ 0x341 ∷ 0x342 ∷ 0x343 ∷ 0x344 ∷ 0xb00 ∷ 0xb02 ∷ []
+
+abbrev is_own : ℕ → Bool
+is_own n = list_any (λ k. eqb k n) own
+
+-- a control and status register is only read, keeps what is written, or has a meaning of its own
+abbrev is_known : ℕ → Bool
+is_known n = is_read_only n || (is_some (kept_at n) || is_own n)
+
+own-apart : (n i : ℕ) → kept_at n ≡ Some i → (i < length KEPT) × (is_own n ≡ false)
+own-apart n i at =
+    let found = position-Some (λ k. eqb k n) KEPT i 0 at in (
+      found.0,
+      not-true _ (subst (λ m. not (is_own m) ≡ true) (eqb-true _ _ found.1) (all-at (λ k. not (is_own k)) KEPT i refl found.0)),
+    )
+
 -- a control and status register that can be written
-each-csr : (P : ℕ → Type 0) (n : ℕ) → (is_csr n && not (is_read_only n)) ≡ true → P 0x300 → P 0x301 → P 0x304 → P 0x305 → P 0x340 → P 0x341
-    → P 0x342 → P 0x343 → P 0x344 → P 0xb00 → P 0xb02 → P n
-each-csr P n is mstatus misa mie mtvec mscratch mepc mcause mtval mip mcycle minstret =
+each-csr : (P : ℕ → Type 0) (n : ℕ) → (is_csr n && not (is_read_only n)) ≡ true → ((i : ℕ) → kept_at n ≡ Some i → P n)
+    → P 0x300 → P 0x301 → P 0x304 → P 0x305 → P 0x341 → P 0x342 → P 0x343 → P 0x344 → P 0xb00 → P 0xb02 → P n
+each-csr P n is keeps mstatus misa mie mtvec mepc mcause mtval mip mcycle minstret =
     let both = and_parts _ _ is in
-    let written : is_read_only n ≡ false = not-true _ both.1 in
-    let read : (k : ℕ) → is_read_only k ≡ true → k ≡ n → P n =
-    λ k only e. absurd (true≢false (sym (ap is_read_only (sym e) ∙ only) ∙ written)) in
-    listed P 0x300 n _ both.0 (λ e. subst P e mstatus) (λ others.
-    listed P 0x301 n _ others (λ e. subst P e misa) (λ others.
-    listed P 0x304 n _ others (λ e. subst P e mie) (λ others.
-    listed P 0x305 n _ others (λ e. subst P e mtvec) (λ others.
-    listed P 0x340 n _ others (λ e. subst P e mscratch) (λ others.
-    listed P 0x341 n _ others (λ e. subst P e mepc) (λ others.
-    listed P 0x342 n _ others (λ e. subst P e mcause) (λ others.
-    listed P 0x343 n _ others (λ e. subst P e mtval) (λ others.
-    listed P 0x344 n _ others (λ e. subst P e mip) (λ others.
-    listed P 0xb00 n _ others (λ e. subst P e mcycle) (λ others.
-    listed P 0xb02 n _ others (λ e. subst P e minstret) (λ others.
-    listed P 0xf11 n _ others (λ e. read 0xf11 refl e) (λ others.
-    listed P 0xf12 n _ others (λ e. read 0xf12 refl e) (λ others.
-    listed P 0xf13 n _ others (λ e. read 0xf13 refl e) (λ others.
-    listed P 0xf14 n _ others (λ e. read 0xf14 refl e) (λ none. cc)))))))))))))))
+    let known : (is_read_only n || (is_some (kept_at n) || is_own n)) ≡ true = all-listed (λ r. r.0) is_known CSRS n refl both.0 in
+    let other : (is_some (kept_at n) || is_own n) ≡ true =
+    sym (ap (λ b. b || (is_some (kept_at n) || is_own n)) (not-true _ both.1)) ∙ known in
+    elim (kept_at n) as (λ at. kept_at n ≡ at → (is_some at || is_own n) ≡ true → P n) [
+      | Some i ↦ λ at _. keeps i at
+      | None ↦ λ _ is.
+          listed P 0x300 n _ is (λ e. subst P e mstatus) (λ others.
+          listed P 0x301 n _ others (λ e. subst P e misa) (λ others.
+          listed P 0x304 n _ others (λ e. subst P e mie) (λ others.
+          listed P 0x305 n _ others (λ e. subst P e mtvec) (λ others.
+          listed P 0x341 n _ others (λ e. subst P e mepc) (λ others.
+          listed P 0x342 n _ others (λ e. subst P e mcause) (λ others.
+          listed P 0x343 n _ others (λ e. subst P e mtval) (λ others.
+          listed P 0x344 n _ others (λ e. subst P e mip) (λ others.
+          listed P 0xb00 n _ others (λ e. subst P e mcycle) (λ others.
+          listed P 0xb02 n _ others (λ e. subst P e minstret) (λ none. cc))))))))))
+    ] refl other
 
 -- ---- effects
 
@@ -262,6 +306,26 @@ module _ (s : State) (is : IsState s) where
   unfolding mtvec_of
   mtvec-below n fits = cond_both (is_vectored n) n (n / 4 * 4) (λ m. m < 2 ^ 64) (λ _. fits) (λ _. omega arith)
 
+  -- a register that keeps what is written has it
+  keeps-written : (w : CsrWrite CapValue) (i : ℕ) → kept_at w.number ≡ Some i
+      → csr_value (applied (Csr w) s).csrs (applied (Csr w) s).scrs (interrupts_of (applied (Csr w) s).devices) w.number
+      ≡ Some (kept w.number w.value s)
+  unfolding applied csr_value csrs_written views_written
+  keeps-written w i at =
+      let apart = own-apart w.number i at in
+      let a = not-listed 0x300 w.number _ apart.1 in
+      let b = not-listed 0x301 w.number _ a.2 in
+      let c = not-listed 0x304 w.number _ b.2 in
+      let d = not-listed 0x305 w.number _ c.2 in
+      let e = not-listed 0x341 w.number _ d.2 in
+      let f = not-listed 0x342 w.number _ e.2 in
+      let g = not-listed 0x343 w.number _ f.2 in
+      let h = not-listed 0x344 w.number _ g.2 in
+      let k = not-listed 0xb00 w.number _ h.2 in
+      let l = not-listed 0xb02 w.number _ k.2 in
+      rw (a.0, b.0, c.0, d.0, e.0, f.0, g.0, h.0, k.0, l.0, a.1, b.1, c.1, d.1, e.1, h.1, at)
+      (ap Some (get_or-set_same s.csrs.kept i w.value 0 (subst (λ n. i < n) (sym is.csrs.count) apart.0)))
+
   csr-kept : (w : CsrWrite CapValue) → w.value < 2 ^ 64 → (is_csr w.number && not (is_read_only w.number)) ≡ true
       → csr_value (applied (Csr w) s).csrs (applied (Csr w) s).scrs (interrupts_of (applied (Csr w) s).devices) w.number
       ≡ Some (kept w.number w.value s)
@@ -271,15 +335,14 @@ module _ (s : State) (is : IsState s) where
       value_address-at_address s.scrs.mtcc (mtvec_of w.value) (mtvec-below w.value fits) in
       let low : value_address (at_address s.scrs.mepcc (w.value / 4 * 4)) ≡ w.value / 4 * 4 =
       value_address-at_address s.scrs.mepcc (w.value / 4 * 4) (omega arith) in
-      let one : 0 < length s.csrs.kept = subst (λ n. 0 < n) (sym is.csrs.count) (lit< tt) in
       each-csr (λ n. csr_value (applied (Csr (record w { number = n })) s).csrs (applied (Csr (record w { number = n })) s).scrs
       (interrupts_of (applied (Csr (record w { number = n })) s).devices) n
       ≡ Some (kept n w.value s)) w.number listed
+      (λ i at. keeps-written w i at)
       refl
       refl
       refl
       (ap Some (ap mtvec_of view ∙ mtvec-kept w.value))
-      (ap Some (get_or-set_same s.csrs.kept 0 w.value 0 one))
       (ap Some (ap (λ n. n / 4 * 4) low ∙ omega arith))
       refl
       refl
