@@ -5,6 +5,7 @@ use Rattle.std.proofs.Common.{append_assoc, get_or}
 use Rattle.std.specs.Prelude.{codes, decimal, is_some}
 use Rattle.std.proofs.lemmas.Bool.{true≢false, and_parts, not-true, eq-eqb, ne_eqb, eqb-true, cond_both}
 use Rattle.std.proofs.lemmas.List.{get_or-set_same}
+use Rattle.std.proofs.lemmas.List.Folds.{list_all_at}
 use Rattle.std.proofs.lemmas.List.Quantifiers.{position-Some}
 use Rattle.std.specs.List.{list_all, list_any}
 use Rattle.std.proofs.Math.Nat.{add-mul, add_assoc, div-add-mod', mod-eq_of_lt, mod-lt, mul-add-mod_self_right, mul-le-mul_right}
@@ -196,11 +197,6 @@ all-listed number test (x ∷ xs) n all any =
     listed (λ m. test m ≡ true) (number x) n _ any (λ is. subst (λ m. test m ≡ true) is parts.0)
     (λ others. all-listed number test xs n parts.1 others)
 
-all-at : (test : ℕ → Bool) (xs : List ℕ) (i : ℕ) → list_all test xs ≡ true → i < length xs → test (get_or xs i 0) ≡ true
-all-at test [] i all less = absurd (omega (arith, less))
-all-at test (x ∷ xs) zero all less = (and_parts _ _ all).0
-all-at test (x ∷ xs) (suc i) all less = all-at test xs i (and_parts _ _ all).1 (omega (arith, less))
-
 -- the registers that can be written and have a meaning of their own
 abbrev own : List ℕ
 own = 0x300 ∷ 0x301 ∷ 0x304 ∷ 0x305 ∷ 0x341 ∷ 0x342 ∷ 0x343 ∷ 0x344 ∷ 0xb00 ∷ 0xb02 ∷ []
@@ -214,10 +210,13 @@ is_known n = is_read_only n || (is_some (kept_at n) || is_own n)
 
 own-apart : (n i : ℕ) → kept_at n ≡ Some i → (i < length KEPT) × (is_own n ≡ false)
 own-apart n i at =
-    let found = position-Some (λ k. eqb k n) KEPT i 0 at in (
-      found.0,
-      not-true _ (subst (λ m. not (is_own m) ≡ true) (eqb-true _ _ found.1) (all-at (λ k. not (is_own k)) KEPT i refl found.0)),
-    )
+    let found = position-Some (λ k. eqb k n) KEPT i 0 at in
+    let kept : is_own (get_or KEPT i 0) ≡ false =
+    elim (is_own (get_or KEPT i 0)) as (λ b. is_own (get_or KEPT i 0) ≡ b → b ≡ false) [
+      | true ↦ λ e. absurd (true≢false (list_all_at (λ k. not (is_own k)) KEPT i 0 found.0 (ap not e)))
+      | false ↦ λ _. refl
+    ] refl in
+    (found.0, subst (λ m. is_own m ≡ false) (eqb-true _ _ found.1) kept)
 
 -- a control and status register that can be written
 each-csr : (P : ℕ → Type 0) (n : ℕ) → (is_csr n && not (is_read_only n)) ≡ true → ((i : ℕ) → kept_at n ≡ Some i → P n)
