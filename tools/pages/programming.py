@@ -92,7 +92,7 @@ def fetch_table():
 
 def map_table():
     matched(r"is_named address \|\| is_some \(kept_at address\)", DEVICES.body("is_register"))
-    rows = [(worth(place), [*comment.split(": ", 1), "sets it to the number"]) for place, comment in kept_rows("KEPT")]
+    rows = [(worth(place), [name, comment, "sets it to the number"]) for place, name, _, comment in kept_rows()]
     places = {name: worth(DEVICES.body(name)) for name in items(
         matched(r"list_any \(λ register\. address == register\) (.*)", DEVICES.body("is_named")).group(1))}
     loads = {at: value for at, value in choices(DEVICES.body("value_at"))}

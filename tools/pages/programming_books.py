@@ -166,13 +166,13 @@ def asked_of_register(name):
     return checks([(called(QUESTION, "fault_of", f"({question})"), holds) for holds, question in questions])
 
 
-def kept_rows(name):
-    """The lines of a table of the registers that only keep a number: of each what stands there and what the comment says."""
+def kept_rows():
+    """The lines of the registers that only keep a number: of each its place, its name, what it holds first, and what the comment says."""
     text = text_of("devices/src/map.rt")
-    begin = text.index(f"pub const {name}:")
-    rows = re.findall(r"^    (\S+), // (.*)$", text[begin:text.index("];", begin)], re.M)
+    begin = text.index("macro_rules! kept_registers")
+    rows = re.findall(r"^ +(0x\w+) \"(\w+)\" (\S+); // (.*)$", text[begin:text.index("\n}", begin)], re.M)
     if len(rows) != int(re.search(r"KEPT_COUNT: usize = (\d+);", text).group(1)):
-        raise NotUnderstood(f"devices/src/map.rt: {name}")
+        raise NotUnderstood("devices/src/map.rt: kept_registers")
     return rows
 
 
@@ -187,30 +187,36 @@ def numbered(path):
 
 def unnamed(path):
     """The registers that a list has by their numbers alone: (number, comment)."""
-    rows = re.findall(r"// ([^\n]*)\n\s*\((0x[0-9a-f]+), \"\w+\"\),", text_of(path))
+    rows = re.findall(r"// ([^\n]*)\n\s*\((0x[0-9a-f]+), \"\w+\", ", text_of(path))
     return {number: (worth(number), comment) for comment, number in rows}
 
 
 REGISTERS = numbered("base/src/registers.rt") | unnamed("base/src/registers.rt")
 
 
-def listed(name):
-    """The registers of a list, in order, by constant or else by number, each with the name that it is shown by."""
+def lines_of(name):
+    """The lines of a list of registers, in order: each register by constant or else by number, its name, and what it holds."""
     text = text_of("base/src/registers.rt")
     begin = text.index(f"pub const {name}:")
-    rows = r"\((?:(?:scr|csr)::)?(\w+)(?: as u16)?, \"(\w+)\"\)"
+    rows = r"\((?:(?:scr|csr)::)?(\w+)(?: as u16)?, \"(\w+)\", Holds::(\w+)(?:\(([\w:]+)\))?\)"
     found = re.findall(rows, text[begin:text.index("];", begin)])
-    count = int(re.search(r"; (\d+)\]", text[begin:]).group(1))
-    if len(found) != count:
+    count = re.search(r"; (\w+)\]", text[begin:]).group(1)
+    if len(found) != int(count if count.isdigit() else re.search(rf"{count}: usize = (\d+);", text).group(1)):
         raise NotUnderstood(f"base/src/registers.rt: {name} has {len(found)} of {count} lines")
     return found
 
 
-def kept():
-    """The registers that keep what is written."""
-    text = text_of("special_regs/src/csrs.rt")
-    begin = text.index("pub const KEPT:")
-    return re.findall(r"csr::(\w+)|(0x[0-9a-f]+)", text[begin:text.index("];", begin)])
+def listed(name):
+    """The registers of a list, in order, by constant or else by number, each with the name that it is shown by."""
+    return [(constant, shown) for constant, shown, _, _ in lines_of(name)]
 
 
-KEPT = [constant or number for constant, number in kept()]
+def holding(kind):
+    """The control and status registers that hold something of this kind, each with what its line says of it."""
+    return {constant: said for constant, _, holds, said in lines_of("CSRS") if holds == kind}
+
+
+# Those that hold what was written last, with the bits that a write sets, and those that hold a fixed number.
+KEPT = holding("Written")
+FIXED = {constant: number if number[0].isdigit() else re.search(rf"const {number}: u64 = (\w+);", text_of("base/src/registers.rt")).group(1)
+         for constant, number in holding("Fixed").items()}

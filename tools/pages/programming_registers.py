@@ -4,7 +4,7 @@ import re
 
 from pages.definitions import Definitions, NotUnderstood, choices, fields, items, matched, pair, split, worth
 from pages.markdown import table
-from pages.programming_books import DEVICES, KEPT, NUMBERS, REFUSALS, REGISTERS, asked_of_register, defined, kept_rows, listed, said
+from pages.programming_books import DEVICES, FIXED, KEPT, NUMBERS, REFUSALS, REGISTERS, asked_of_register, defined, kept_rows, listed, said
 
 WRITES = Definitions("special_regs/specs/Writes")
 OPENING = Definitions("hart/specs/Opening")
@@ -13,11 +13,7 @@ BITS = {name: worth(WRITES.body(name), NUMBERS) for name in ("mie_bit", "mpie_bi
 
 def first_numbers():
     """What the registers that only keep a number hold first, by name."""
-    names = [said.split(":")[0] for _, said in kept_rows("KEPT")]
-    first = kept_rows("FIRST")
-    if names != [name for _, name in first]:
-        raise NotUnderstood("devices/src/map.rt: KEPT, FIRST")
-    return [(name, "2^64 - 1" if value == "u64::MAX" else str(worth(value))) for value, name in first]
+    return [(name, "2^64 - 1" if first == "u64::MAX" else str(worth(first))) for _, name, first, _ in kept_rows()]
 
 
 def register_name(name):
@@ -45,7 +41,14 @@ def mstatus_read():
     return f"{bits}; bits {' and '.join(map(str, ones))} are 1; the other bits 0"
 
 
-def csr_read(text):
+def bits_named(bits):
+    """Bits by their places: those of a run by its two ends."""
+    if len(bits) > 2 and bits == list(range(bits[0], bits[-1] + 1)):
+        return f"{bits[-1]}..{bits[0]}"
+    return " and ".join(map(str, bits))
+
+
+def csr_read(constant, text):
     if text == "mstatus c":
         return mstatus_read()
     if text == "mip":
@@ -53,13 +56,14 @@ def csr_read(text):
     if re.fullmatch(r"0x[0-9A-Fa-f_]+", text):
         number = worth(text)
         letters = "".join(chr(ord("A") + bit) for bit in set_bits(number) if bit < 26)
-        return f"`{number:#018x}`: 64 bits, extensions {' and '.join(letters)}"
+        return f"`{number:#018x}`" + (f": 64 bits, extensions {' and '.join(letters)}" if constant == "MISA" else "")
     return "what is kept" if re.fullmatch(r"c\.\w+", text) else said("READS", text)
 
 
 def csr_written():
     """What is kept of a write, by register."""
-    written = {constant: [said("WRITES", "value")] for constant in KEPT}
+    written = {constant: [said("WRITES", "value") if bits == "u64::MAX" else bits_named(set_bits(worth(bits)))]
+               for constant, bits in KEPT.items()}
     for field, text in fields(WRITES.body("csrs_written")) + fields(WRITES.body("views_written")):
         if text == "kept_written n value c.kept":
             continue
@@ -70,7 +74,7 @@ def csr_written():
         if found:
             kept = str(BITS[found.group(1)])
         elif value == "bit_and value interrupt_bits":
-            kept = " and ".join(map(str, set_bits(BITS["interrupt_bits"])))
+            kept = bits_named(set_bits(BITS["interrupt_bits"]))
         else:
             kept = said("WRITES", value)
         written.setdefault(at.removeprefix("n == "), []).append(kept)
@@ -80,7 +84,7 @@ def csr_written():
 
 def csr_table():
     reads = dict(map(pair, items(Definitions("special_regs/specs/CsrValues").body("csr_values"))))
-    reads |= {constant: "c.kept" for constant in KEPT}
+    reads |= {constant: "c.kept" for constant in KEPT} | FIXED
     bits, _, ones = REFUSALS.body("is_read_only").partition(" == ")
     read_only = [constant for constant, _ in listed("CSRS") if worth(bits, {"n": REGISTERS[constant][0]}) == worth(ones, {})]
     written = csr_written()
@@ -88,7 +92,7 @@ def csr_table():
     for constant, name in listed("CSRS"):
         number, comment = REGISTERS[constant]
         write = "illegal instruction" if constant in read_only else written.get(constant, "nothing; it is no fault")
-        rows.append([f"`{number:#05x}`", name, comment.rstrip("."), csr_read(reads.pop(constant, "0")), write])
+        rows.append([f"`{number:#05x}`", name, comment.rstrip("."), csr_read(constant, reads.pop(constant)), write])
     if reads:
         raise NotUnderstood(f"special_regs/specs/CsrValues.antt: {reads}")
     return table(["Number", "Name", "It is", "A read gives", "A write keeps"], rows)
@@ -142,7 +146,7 @@ def opening_list():
               for name, text in fields(OPENING.body("opening_scrs"))]
     csrs = []
     for name, text in fields(Definitions("special_regs/specs/Csrs").body("zero_csrs")):
-        if (name, text) == ("kept", "replicate KEPT_COUNT 0"):
+        if (name, text) == ("kept", "replicate (length CSRS) 0"):
             csrs += [(name, "0") for constant, name in listed("CSRS") if constant in KEPT]
         else:
             csrs.append((name.replace("mstatus_", "").upper() if "mstatus" in name else name, said("OPENING", text)))

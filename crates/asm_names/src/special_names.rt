@@ -2,7 +2,7 @@ ghost use Rattle.std.specs.Prelude.{◌≡◌, ◌<◌, IfSome, map, option_map}
 ghost use Rattle.asm_names.specs.SpecialNames.{csr_name as csr_name_of, csr_named as csr_of, number_in, name_in};
 ghost use Rattle.asm_names.specs.SpecialNames.{scr_name as scr_name_of, scr_named as scr_of};
 
-use base::{CSRS, SPECIAL_REGISTERS};
+use base::{CSRS, SPECIAL_REGISTERS, SpecialRegister};
 
 /// The number of the control and status register that a text names, below 4096, or none.
 #[tactic(auto, unfolding(crate::specs::SpecialNames::csr_named))]
@@ -42,7 +42,7 @@ pub fn scr_name(number: u8) -> Option<&'static str>
 }
 
 /// The number that a table gives a name.
-fn number_in(names: &[(u16, &str)], text: &[u8]) -> Option<u16>
+fn number_in(names: &[SpecialRegister], text: &[u8]) -> Option<u16>
     ensures { result ≡ number_in (map (λ r. (r.0, r.1.now)) names.now) text.now }
 {
     let (first, rest) = names.split_first()?;
@@ -54,7 +54,7 @@ fn number_in(names: &[(u16, &str)], text: &[u8]) -> Option<u16>
 }
 
 /// The name that a table gives a number.
-fn name_in(names: &[(u16, &'static str)], number: u16) -> Option<&'static str>
+fn name_in(names: &[SpecialRegister], number: u16) -> Option<&'static str>
     ensures { option_map (λ name. name.now) result ≡ name_in (map (λ r. (r.0, r.1.now)) names.now) number }
 {
     let (first, rest) = names.split_first()?;

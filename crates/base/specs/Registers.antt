@@ -2,12 +2,21 @@
 -- capability registers).
 use Rattle.std.specs.Prelude.{ℕ, ◌+◌, Bool, ◌==◌, List, map}
 use Rattle.std.specs.List.{list_any}
+use Rattle.base.specs.declared.registers.Holds.{Holds}
 use Rattle.base.specs.declared.registers.TheConstants.{CSRS, SPECIAL_REGISTERS}
 use Rattle.base.specs.declared.registers.scr.TheConstants.{PCC, DDC}
+
+-- the control and status registers: of each its number, the bytes of its name, and what it holds
+abbrev pub listing : List (ℕ × List ℕ × Holds)
+listing = map (λ r. (r.0, r.1.now, r.2)) CSRS
 
 -- each register's number with the bytes of its name
 abbrev pub csrs : List (ℕ × List ℕ)
 csrs = map (λ r. (r.0, r.1.now)) CSRS
+
+-- each register's number with what it holds
+abbrev pub held : List (ℕ × Holds)
+held = map (λ r. (r.0, r.2)) CSRS
 
 abbrev pub special_registers : List (ℕ × List ℕ)
 special_registers = map (λ r. (r.0, r.1.now)) SPECIAL_REGISTERS

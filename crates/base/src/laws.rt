@@ -1,17 +1,18 @@
 //! What holds of the constants here: each function's contract is a law, and its body is empty. The numbers are the manuals', as literals,
 //! so that a constant that is another number is refused, though definitions take it from the code.
 
-ghost use Rattle.std.specs.Prelude.{◌≡◌, ◌∷◌, [], codes};
+ghost use Rattle.std.specs.Prelude.{◌≡◌, ◌-◌, ◌^◌, ◌∷◌, [], codes};
 ghost use Rattle.base.specs.declared.cause.Cause.TheVariants as cause;
 ghost use Rattle.base.specs.declared.cause.CheriCause.TheVariants as cheri_cause;
 ghost use Rattle.base.specs.declared.interrupt.TheConstants.{CAUSE, TIMER, EXTERNAL};
 ghost use Rattle.base.specs.declared.otype.TheConstants.{UNSEALED, SENTRY, FIRST_RESERVED};
+ghost use Rattle.base.specs.declared.registers.Holds.TheVariants.{Written, Fixed, Part};
 ghost use Rattle.base.specs.declared.ram.TheConstants.{BASE, PAGE_BYTES, MOST_PAGES, MOST_PAGES_VERSION_1};
 ghost use Rattle.base.specs.declared.registers.csr.TheConstants.{MSTATUS, MISA, MIE, MTVEC, MSCRATCH, MEPC, MCAUSE, MTVAL, MIP};
 ghost use Rattle.base.specs.declared.registers.csr.TheConstants.{MCYCLE, MINSTRET};
 ghost use Rattle.base.specs.declared.registers.scr.TheConstants.{PCC, DDC, MTCC, MTDC, MSCRATCHC, MEPCC};
 ghost use Rattle.base.specs.Fault.{number_of, cheri_number_of};
-ghost use Rattle.base.specs.Registers.{csrs, special_registers, special_register, pcc_register, ddc_register};
+ghost use Rattle.base.specs.Registers.{listing, special_registers, special_register, pcc_register, ddc_register};
 
 use crate::registers::{DDC_REGISTER, FIRST_SPECIAL, PCC_REGISTER};
 
@@ -37,12 +38,14 @@ pub fn numbers_of_control_and_status_registers()
     ensures minstret { MINSTRET ≡ 0xb02 }
 {}
 
-/// Which control and status registers there are, by number and name (RISC-V privileged manual, CSR listing).
-pub fn names_of_control_and_status_registers()
-    ensures { csrs ≡ (0x300, codes "mstatus") ∷ (0x301, codes "misa") ∷ (0x304, codes "mie") ∷ (0x305, codes "mtvec")
-        ∷ (0x340, codes "mscratch") ∷ (0x341, codes "mepc") ∷ (0x342, codes "mcause") ∷ (0x343, codes "mtval") ∷ (0x344, codes "mip")
-        ∷ (0xb00, codes "mcycle") ∷ (0xb02, codes "minstret") ∷ (0xf11, codes "mvendorid") ∷ (0xf12, codes "marchid")
-        ∷ (0xf13, codes "mimpid") ∷ (0xf14, codes "mhartid") ∷ [] }
+/// Which control and status registers there are, by number and name, and what each holds (RISC-V privileged manual, CSR listing and
+/// machine-level CSRs): misa says RV64IM, mscratch keeps all that is written, and those that name the machine say nothing of it.
+pub fn control_and_status_registers()
+    ensures { listing ≡ (0x300, codes "mstatus", Part) ∷ (0x301, codes "misa", Fixed 0x8000000000001100) ∷ (0x304, codes "mie", Part)
+        ∷ (0x305, codes "mtvec", Part) ∷ (0x340, codes "mscratch", Written (2 ^ 64 - 1)) ∷ (0x341, codes "mepc", Part)
+        ∷ (0x342, codes "mcause", Part) ∷ (0x343, codes "mtval", Part) ∷ (0x344, codes "mip", Part) ∷ (0xb00, codes "mcycle", Part)
+        ∷ (0xb02, codes "minstret", Part) ∷ (0xf11, codes "mvendorid", Fixed 0) ∷ (0xf12, codes "marchid", Fixed 0)
+        ∷ (0xf13, codes "mimpid", Fixed 0) ∷ (0xf14, codes "mhartid", Fixed 0) ∷ [] }
 {}
 
 /// The numbers of the special capability registers (UCAM-CL-TR-987, CHERI-RISC-V special capability registers).

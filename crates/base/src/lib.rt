@@ -14,6 +14,7 @@ mod size;
 pub use cause::{Cause, CheriCause};
 pub use fault::Fault;
 pub use registers::{
-    CSRS, DDC_REGISTER, FIRST_SPECIAL, PCC_REGISTER, SPECIAL_REGISTERS, csr, is_csr, is_scr, scr,
+    CSR_COUNT, CSRS, DDC_REGISTER, FIRST_SPECIAL, Holds, PCC_REGISTER, SPECIAL_REGISTERS,
+    SpecialRegister, csr, is_csr, is_scr, scr,
 };
 pub use size::{CAPABILITY_BYTES, INSTRUCTION_BYTES, Size};

@@ -70,37 +70,58 @@ pub mod csr {
     pub const MINSTRET: u16 = 0xb02;
 }
 
+/// What misa reads: 64-bit registers, the base set I and the extension M.
+const INSTRUCTION_SET: u64 = 0x8000_0000_0000_1100;
+
+/// What a special register holds.
+#[derive(Clone, Copy, Debug, PartialEq, Eq)]
+pub enum Holds {
+    /// What was written last, of these bits.
+    Written(u64),
+    /// This number, whatever is written.
+    Fixed(u64),
+    /// A part of the machine, which says itself what a read gives and what a write leaves.
+    Part,
+}
+
+/// A special register: its number, its name, and what it holds.
+pub type SpecialRegister = (u16, &'static str, Holds);
+
 /// The special capability registers that there are, in order of number, with their names.
-pub const SPECIAL_REGISTERS: [(u16, &str); 6] = [
-    (scr::PCC as u16, "pcc"),
-    (scr::DDC as u16, "ddc"),
-    (scr::MTCC as u16, "mtcc"),
-    (scr::MTDC as u16, "mtdc"),
-    (scr::MSCRATCHC as u16, "mscratchc"),
-    (scr::MEPCC as u16, "mepcc"),
+pub const SPECIAL_REGISTERS: [SpecialRegister; 6] = [
+    (scr::PCC as u16, "pcc", Holds::Part),
+    (scr::DDC as u16, "ddc", Holds::Part),
+    (scr::MTCC as u16, "mtcc", Holds::Part),
+    (scr::MTDC as u16, "mtdc", Holds::Part),
+    (scr::MSCRATCHC as u16, "mscratchc", Holds::Part),
+    (scr::MEPCC as u16, "mepcc", Holds::Part),
 ];
 
-/// The control and status registers that there are, in order of number, with their names. Those that no definition names read 0.
-pub const CSRS: [(u16, &str); 15] = [
-    (csr::MSTATUS, "mstatus"),
-    (csr::MISA, "misa"),
-    (csr::MIE, "mie"),
-    (csr::MTVEC, "mtvec"),
-    (csr::MSCRATCH, "mscratch"),
-    (csr::MEPC, "mepc"),
-    (csr::MCAUSE, "mcause"),
-    (csr::MTVAL, "mtval"),
-    (csr::MIP, "mip"),
-    (csr::MCYCLE, "mcycle"),
-    (csr::MINSTRET, "minstret"),
+/// How many control and status registers there are.
+pub const CSR_COUNT: usize = 15;
+
+/// The control and status registers that there are, in order of number: a line each, with the number, the name, and what is stored, by
+/// the bits that a write sets, or what a read gives.
+pub const CSRS: [SpecialRegister; CSR_COUNT] = [
+    (csr::MSTATUS, "mstatus", Holds::Part),
+    (csr::MISA, "misa", Holds::Fixed(INSTRUCTION_SET)),
+    (csr::MIE, "mie", Holds::Part),
+    (csr::MTVEC, "mtvec", Holds::Part),
+    (csr::MSCRATCH, "mscratch", Holds::Written(u64::MAX)),
+    (csr::MEPC, "mepc", Holds::Part),
+    (csr::MCAUSE, "mcause", Holds::Part),
+    (csr::MTVAL, "mtval", Holds::Part),
+    (csr::MIP, "mip", Holds::Part),
+    (csr::MCYCLE, "mcycle", Holds::Part),
+    (csr::MINSTRET, "minstret", Holds::Part),
     // Who made the machine.
-    (0xf11, "mvendorid"),
+    (0xf11, "mvendorid", Holds::Fixed(0)),
     // The machine's architecture.
-    (0xf12, "marchid"),
+    (0xf12, "marchid", Holds::Fixed(0)),
     // The machine's version.
-    (0xf13, "mimpid"),
+    (0xf13, "mimpid", Holds::Fixed(0)),
     // Which hart it is.
-    (0xf14, "mhartid"),
+    (0xf14, "mhartid", Holds::Fixed(0)),
 ];
 
 /// Whether there is a control and status register of this number.
@@ -117,7 +138,7 @@ pub fn is_scr(number: u8) -> bool
     is_listed(&SPECIAL_REGISTERS, u16::from(number))
 }
 
-fn is_listed(registers: &[(u16, &str)], number: u16) -> bool
+fn is_listed(registers: &[SpecialRegister], number: u16) -> bool
     ensures { result ≡ list_any (λ r. r.0 == number) registers.now }
 {
     registers.iter().any(|r| r.0 == number)

@@ -54,9 +54,9 @@ pub(crate) type CommandRow = (&'static str, &'static str, &'static [Argument]);
 
 // An argument by what its line says; where the line says limits, the help ends with them and what comes after.
 macro_rules! argument {
-    ($id:literal $stands:ident $takes:ident $least:literal to $most:literal, $value:literal, $default:expr, $help:literal $more:literal) => {
+    ($id:literal $stands:ident $takes:ident $least:literal to $most:literal, $value:literal, $default:expr, $help:literal $end:literal) => {
         ($id, Stands::$stands, Takes::$takes($least, $most), $default,
-            ($value, concat!($help, ", ", $least, " to ", $most, $more), MISSING))
+            ($value, concat!($help, ", ", $least, " to ", $most, $end), MISSING))
     };
     ($id:literal $stands:ident Number, $value:literal, $takes:expr, $help:literal) => {
         ($id, Stands::$stands, Takes::Number, None, ($value, $help, $takes))

@@ -17,7 +17,7 @@ fn have_same_registers<C: CapRep>(one: &Machine<C>, two: &Machine<C>) -> bool {
             return false;
         }
     }
-    for (n, _) in &CSRS {
+    for (n, _, _) in &CSRS {
         if is_csr(*n) && one.csr(*n) != two.csr(*n) {
             return false;
         }

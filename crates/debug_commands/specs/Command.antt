@@ -255,20 +255,10 @@ abbrev pub help_on : List Symbol → List (List ℕ) → Result Command DebugFau
 help_on symbols [] = Ok (Shows view.Help)
 help_on symbols (word ∷ operands) = command_among B2 symbols explained word operands
 
-abbrev pub commands : List Line
-commands =
-    line (codes "step") (codes " N") (number 1 1000000 (λ n. Gives (Steps n)))
-    ∷ line (codes "tick") (codes " N") (number 1 1000000 (λ n. Gives (Ticks n)))
-    ∷ line (codes "byte") (codes " B") (number 0 255 (λ n. Gives (Byte n)))
-    ∷ line (codes "until") (codes " ADDR N") (place 1 1000000 (λ address n. Gives (Until (Address address) n)))
-    ∷ line (codes "trap") (codes " N") (number 1 1000000 (λ n. Gives (Until Trap n)))
-    ∷ line (codes "go") [] (nothing (Gives Go))
-    ∷ line (codes "changed") (codes " R|ADDR N") (a_holder_and_number 1000000 (λ place n. Gives (Changed place n)))
-    ∷ line (codes "back") (codes " N") (number 1 (2 ^ 64 - 1) (λ n. Back n))
-    ∷ line (codes "ago") [] (nothing (Recalls Ago))
-    ∷ line (codes "origin") (codes " R|ADDR") (a_holder (λ place. Recalls (Origin place)))
-    ∷ line (codes "lost") (codes " R|ADDR") (a_holder (λ place. Recalls (Lost place)))
-    ∷ line (codes "stop") (codes " at ADDR|trap|off") (a_verb stop_of)
+-- the commands of stops, and those that show
+abbrev pub of_states : List Line
+of_states =
+    line (codes "stop") (codes " at ADDR|trap|off") (a_verb stop_of)
     ∷ line (codes "stops") [] (nothing (Shows view.Stops))
     ∷ line (codes "reg") (codes " R") (a_register (λ n. Shows (view.Register n)))
     ∷ line (codes "regs") [] (nothing (Shows view.Registers))
@@ -285,6 +275,22 @@ commands =
     ∷ line (codes "help") (codes " [B1|B2|B3|B4]") (a_verb help_on)
     ∷ line (codes "quit") [] (nothing Quit)
     ∷ []
+
+-- before them the commands that give events, take them back, or ask about them
+abbrev pub commands : List Line
+commands =
+    line (codes "step") (codes " N") (number 1 1000000 (λ n. Gives (Steps n)))
+    ∷ line (codes "tick") (codes " N") (number 1 1000000 (λ n. Gives (Ticks n)))
+    ∷ line (codes "byte") (codes " B") (number 0 255 (λ n. Gives (Byte n)))
+    ∷ line (codes "until") (codes " ADDR N") (place 1 1000000 (λ address n. Gives (Until (Address address) n)))
+    ∷ line (codes "trap") (codes " N") (number 1 1000000 (λ n. Gives (Until Trap n)))
+    ∷ line (codes "go") [] (nothing (Gives Go))
+    ∷ line (codes "changed") (codes " R|ADDR N") (a_holder_and_number 1000000 (λ place n. Gives (Changed place n)))
+    ∷ line (codes "back") (codes " N") (number 1 (2 ^ 64 - 1) (λ n. Back n))
+    ∷ line (codes "ago") [] (nothing (Recalls Ago))
+    ∷ line (codes "origin") (codes " R|ADDR") (a_holder (λ place. Recalls (Origin place)))
+    ∷ line (codes "lost") (codes " R|ADDR") (a_holder (λ place. Recalls (Lost place)))
+    ∷ of_states
 
 -- what `help` answers: the commands with their operands, one a line
 abbrev pub help_text : List ℕ

@@ -1,6 +1,7 @@
 //! The table of the commands, and what is read off it: what `help` answers, and the command that a line writes.
 ghost use Rattle.std.specs.Prelude.{◌≡◌, IfOk};
-ghost use Rattle.debug_commands.specs.Command.{words_of};
+ghost use Rattle.debug_commands.specs.Command.{command_among, of_states, words_of};
+ghost use Rattle.debug_commands.specs.declared.fault.DebugFault.TheVariants.{B1};
 ghost use Rattle.debug_commands.specs.Command as spec;
 ghost use Rattle.debug_commands.specs.Limits.{IsWithinLimits};
 
@@ -32,9 +33,10 @@ const MOST_ASKED: u64 = u64::MAX;
 /// The greatest object type, of 18 bits.
 const MOST_TYPE: u64 = 0x3ffff;
 
-// The table. Of each command: its name, its operands as `help` shows them, how they are read, and the command of what they say.
-macro_rules! commands {
-    ($reading:ident $($what:ident)*) => {
+// The table. Of each command: its name, its operands as `help` shows them, how they are read, and the command of what they say. It is in
+// two parts, for proving a long one costs more: first the commands that give events, take them back, or ask about them.
+macro_rules! of_events {
+    ($reading:ident $($what:tt)*) => {
         $reading! {
             $($what)*;
             "step" " N" (number 1 MOST_EVENTS) n => Command::Gives(Events::Steps(n));
@@ -48,6 +50,15 @@ macro_rules! commands {
             "ago" "" (nothing) n => Command::Recalls(Recall::Ago);
             "origin" " R|ADDR" (holder) p => Command::Recalls(Recall::Origin(p));
             "lost" " R|ADDR" (holder) p => Command::Recalls(Recall::Lost(p));
+        }
+    };
+}
+
+// The commands of stops, and those that show.
+macro_rules! of_states {
+    ($reading:ident $($what:tt)*) => {
+        $reading! {
+            $($what)*;
             "stop" " at ADDR|trap|off" (verb stop_of) n => ();
             "stops" "" (nothing) n => Command::Shows(View::Stops);
             "reg" " R" (register) n => Command::Shows(View::Register(n));
@@ -71,7 +82,7 @@ macro_rules! commands {
 
 // What may follow `reach`, `may`, `stop` and `help`: a word, and then operands as a command has them.
 macro_rules! reaches {
-    ($reading:ident $($what:ident)*) => {
+    ($reading:ident $($what:tt)*) => {
         $reading! {
             $($what)*;
             "members" "" (nothing) n => Command::Shows(View::ReachMembers);
@@ -82,7 +93,7 @@ macro_rules! reaches {
 }
 
 macro_rules! questions {
-    ($reading:ident $($what:ident)*) => {
+    ($reading:ident $($what:tt)*) => {
         $reading! {
             $($what)*;
             "store" "" (question_of_bytes MOST_ASKED) p => May::Store { address: p.0, count: p.1 };
@@ -99,7 +110,7 @@ macro_rules! questions {
 }
 
 macro_rules! settings {
-    ($reading:ident $($what:ident)*) => {
+    ($reading:ident $($what:tt)*) => {
         $reading! {
             $($what)*;
             "at" "" (address) a => Command::Sets(SetStops::Add(Stop::Address(a)));
@@ -110,7 +121,7 @@ macro_rules! settings {
 }
 
 macro_rules! explained {
-    ($reading:ident $($what:ident)*) => {
+    ($reading:ident $($what:tt)*) => {
         $reading! {
             $($what)*;
             "B1" "" (nothing) n => Command::Shows(View::Code(DebugFault::B1));
@@ -121,9 +132,16 @@ macro_rules! explained {
     };
 }
 
-// The lines of all commands, as `help` shows them.
+// The lines of all commands, as `help` shows them: those of the first part, then those of the second.
 macro_rules! help_of {
-    (; $($name:literal $usage:literal $form:tt $said:ident => $made:expr;)*) => { concat!($($name, $usage, "\n"),*) };
+    (; $($row:tt)*) => { of_states!(help_of_all $($row)*) };
+}
+
+macro_rules! help_of_all {
+    ($($name:literal $usage:literal $form:tt $said:ident => $made:expr;)*;
+        $($last:literal $its_usage:literal $its_form:tt $it:ident => $its_command:expr;)*) => {
+        concat!($($name, $usage, "\n",)* $($last, $its_usage, "\n"),*)
+    };
 }
 
 // The command of what operands say, or B2.
@@ -168,17 +186,17 @@ macro_rules! made_of {
     ((nothing) $said:ident $made:expr, $symbols:ident $operands:ident) => { alone($operands, $made) };
 }
 
-// The command of the line that has this name, or a fault.
+// The command of the line that has this name, or else what is said of no such line.
 macro_rules! named {
-    ($sought:ident $symbols:ident $operands:ident $fault:ident; $($name:literal $usage:literal $form:tt $said:ident => $made:expr;)*) => {{
+    ($sought:ident $symbols:ident $operands:ident $otherwise:tt; $($name:literal $usage:literal $form:tt $said:ident => $made:expr;)*) => {{
         $(if $sought == $name.as_bytes() {
             return made_of!($form $said $made, $symbols $operands);
         })*
-        Err(DebugFault::$fault)
+        $otherwise
     }};
 }
 
-const HELP: &str = commands!(help_of);
+const HELP: &str = of_events!(help_of);
 
 /// What `help` answers: the commands with their operands, one a line, each ended by a line feed.
 pub fn help_text() -> &'static str
@@ -207,7 +225,7 @@ fn reach_of(symbols: &Symbols, operands: &[u8]) -> Result<Command, DebugFault>
     let Some((word, rest)) = split_word(operands) else {
         return Ok(Command::Shows(View::Reach(Horizon::Stretch)));
     };
-    reaches!(named word symbols rest B2)
+    reaches!(named word symbols rest (Err(DebugFault::B2)))
 }
 
 /// The command of what follows `may`, over a table of labels, or B2.
@@ -218,7 +236,7 @@ fn may_of(symbols: &Symbols, operands: &[u8]) -> Result<Command, DebugFault>
     let Some((word, rest)) = split_word(operands) else {
         return Err(DebugFault::B2);
     };
-    questions!(named word symbols rest B2)
+    questions!(named word symbols rest (Err(DebugFault::B2)))
 }
 
 /// The command of what follows `stop`, over a table of labels, or B2.
@@ -229,7 +247,7 @@ fn stop_of(symbols: &Symbols, operands: &[u8]) -> Result<Command, DebugFault>
     let Some((word, rest)) = split_word(operands) else {
         return Err(DebugFault::B2);
     };
-    settings!(named word symbols rest B2)
+    settings!(named word symbols rest (Err(DebugFault::B2)))
 }
 
 /// The command of what follows `help`, over a table of labels, or B2.
@@ -240,7 +258,15 @@ fn help_on(symbols: &Symbols, operands: &[u8]) -> Result<Command, DebugFault>
     let Some((word, rest)) = split_word(operands) else {
         return Ok(Command::Shows(View::Help));
     };
-    explained!(named word symbols rest B2)
+    explained!(named word symbols rest (Err(DebugFault::B2)))
+}
+
+/// The command of stops or of what is shown that has this name: B1 where none has it, and else B2 where the operands are not its own.
+fn state_command(symbols: &Symbols, name: &[u8], operands: &[u8]) -> Result<Command, DebugFault>
+    ensures value { result ≡ command_among B1 symbols.now of_states name.now (words_of operands.now) }
+    ensures limits { IfOk result IsWithinLimits }
+{
+    of_states!(named name symbols operands (Err(DebugFault::B1)))
 }
 
 /// The command of a name and operands, over a table of labels: B1 where no command has that name, and else B2 where the operands are
@@ -249,7 +275,7 @@ fn command_named(symbols: &Symbols, name: &[u8], operands: &[u8]) -> Result<Comm
     ensures value { result ≡ spec.command_named symbols.now name.now (words_of operands.now) }
     ensures limits { IfOk result IsWithinLimits }
 {
-    commands!(named name symbols operands B1)
+    of_events!(named name symbols operands (state_command(symbols, name, operands)))
 }
 
 /// The command that a line writes, over a table of labels: B2 where the line has more than 255 bytes or one of 128 or more; else B1

@@ -8,6 +8,6 @@ use Rattle.debugger.proofs.AllListed.{all-first}
 pub scr-below : (n : ℕ) → is_scr n ≡ true → n < 256
 scr-below n listed = grind (arith, nat_tests, listed)
 
-pub first-below : {B : Type 0} (d : ℕ × B) (xs : List (ℕ × B)) → 1 ≤ length xs → list_all (λ r. is_scr r.0) xs ≡ true
+pub first-below : {A B : Type 0} (d : ℕ × A × B) (xs : List (ℕ × A × B)) → 1 ≤ length xs → list_all (λ r. is_scr r.0) xs ≡ true
     → (get_or xs 0 d).0 < 256
 first-below d xs some all = scr-below (get_or xs 0 d).0 (all-first (λ r. is_scr r.0) d xs some all)

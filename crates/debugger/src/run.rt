@@ -18,7 +18,7 @@ ghost use Rattle.past.specs.Given.{count_of, count_of_one};
 ghost use Rattle.debug_commands.specs.Limits.{AreWithinLimits};
 
 use crate::changed::steps_holding;
-use crate::stepping::{pass, pc, steps_while};
+use crate::stepping::{pass, pc, steps_replayed, steps_while};
 use crate::timeline::Timeline;
 use arrayvec::ArrayString;
 use cap_bounds::CapRep;
@@ -110,11 +110,13 @@ fn give_steps<C: CapRep>(
     ensures count { result ≡ length (counted_steps replay.old times machine.old) }
     ensures len { vec_len sent.new ≤ vec_len sent.old + times }
 {
-    if replay.is_some() {
-        return steps_while(machine, replay, &[], &[], times, times, sent);
+    match replay {
+        Some(replay) => steps_replayed(machine, replay, &[], &[], times, times, sent),
+        None => {
+            steps(machine, times, sent);
+            times
+        }
     }
-    steps(machine, times, sent);
-    times
 }
 
 /// Gives steps of a command with the schedule of a session, if there is one, or without, appends what is sent to the other bytes, and

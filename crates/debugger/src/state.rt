@@ -12,7 +12,7 @@ ghost use Rattle.debugger.specs.Reply.{register_lines, scr_lines, csr_lines, nam
 ghost use Rattle.debugger.specs.Lines.{register_line};
 
 use asm_names::register_name;
-use base::{CSRS, SPECIAL_REGISTERS};
+use base::{CSRS, SPECIAL_REGISTERS, SpecialRegister};
 use cap_bounds::CapRep;
 use explain::value_text;
 use machine::Machine;
@@ -64,7 +64,7 @@ pub(crate) fn append_registers<C: CapRep>(
 fn append_scrs_of<C: CapRep>(
     text: &mut String,
     machine: &Machine<C>,
-    registers: &[(u16, &str)],
+    registers: &[SpecialRegister],
 ) -> Result<(), AllocError>
     requires { IsTrue (list_all (λ r. is_scr r.0) registers.now) }
     ensures { OnOk result (string_bytes text.new ≡ string_bytes text.old
@@ -95,7 +95,7 @@ pub(crate) fn append_scrs<C: CapRep>(
 fn append_csrs_of<C: CapRep>(
     text: &mut String,
     machine: &Machine<C>,
-    registers: &[(u16, &str)],
+    registers: &[SpecialRegister],
 ) -> Result<(), AllocError>
     requires { IsTrue (list_all (λ r. is_csr r.0) registers.now) }
     ensures { OnOk result (string_bytes text.new ≡ string_bytes text.old ++ flat_map (λ r. named_line (hex_of 16) r.1.now

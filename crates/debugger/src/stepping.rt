@@ -242,7 +242,7 @@ fn give_step<C: CapRep>(
 }
 
 /// The same as `steps_until` on a schedule: each step with the byte before it and the tick after it. Answers how many events there were.
-fn steps_replayed<C: CapRep>(
+pub(crate) fn steps_replayed<C: CapRep>(
     machine: &mut Machine<C>,
     replay: &mut Replay,
     first: &[Stop],

@@ -3,11 +3,10 @@ ghost use Rattle.base.specs.Size.{bytes_of};
 ghost use Rattle.base.specs.FirstFault.{unless};
 ghost use Rattle.devices.specs.Devices.{read_fault, value_at, kept_value, taken_at};
 ghost use Rattle.devices.specs.Devices as spec;
-ghost use Rattle.devices.specs.Map.{address_of};
 
 use crate::devices::Devices;
 use crate::fault::DeviceFault;
-use crate::map::{OVERRUN, Register, is_register, kept_at};
+use crate::map::{Register, is_register, kept_at};
 use base::Size;
 
 impl Devices {
@@ -18,21 +17,6 @@ impl Devices {
         ensures { IsTrue result ↔ (read_fault address (bytes_of size) ≡ None) }
     {
         size == Size::Double && is_register(address)
-    }
-
-    /// Answers what a load gives from a register that does something of its own; from halt and transmit 0.
-    #[inline]
-    #[tactic(auto, unfolding(crate::specs::Devices::value_at))]
-    fn value(&self, register: Register) -> u64
-        ensures { result ≡ value_at (address_of register) self.now }
-    {
-        match register {
-            Register::Timer => self.mtime,
-            Register::Receive => self.oldest(),
-            Register::Status => u64::from(self.waits()) + OVERRUN * u64::from(self.overrun),
-            Register::Control => u64::from(self.control),
-            Register::Halt | Register::Transmit => 0,
-        }
     }
 
     /// Answers what the register at the address keeps if it only keeps a number, 0 elsewhere.

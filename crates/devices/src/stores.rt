@@ -3,11 +3,10 @@ ghost use Rattle.base.specs.Size.{bytes_of};
 ghost use Rattle.base.specs.FirstFault.{unless};
 ghost use Rattle.devices.specs.Devices.{write_fault, effect_of, byte_sent, kept_in, written};
 ghost use Rattle.devices.specs.Devices as spec;
-ghost use Rattle.devices.specs.Map.{address_of};
 
 use crate::devices::{Devices, Effect};
 use crate::fault::DeviceFault;
-use crate::map::{OVERRUN, Register, TRANSMIT, is_register, kept_at};
+use crate::map::{Register, TRANSMIT, is_register, kept_at};
 use base::Size;
 
 /// Answers the low byte of a number, which transmit sends.
@@ -72,20 +71,6 @@ impl Devices {
     {
         if let Some(index) = kept_at(address) {
             self.kept[index] = value;
-        }
-    }
-
-    /// Keeps what a store of a number into a register leaves that does something of its own.
-    #[tactic(auto, unfolding(crate::specs::Devices::written))]
-    fn act(&mut self, register: Register, value: u64)
-        ensures { self.new ≡ written self.old (address_of register) value }
-    {
-        match register {
-            Register::Halt => self.halted = Some(value),
-            Register::Timer => self.mtime = value,
-            Register::Status => self.overrun = self.overrun && value / OVERRUN % 2 != 1,
-            Register::Control => self.control = value % 2 == 1,
-            Register::Transmit | Register::Receive => {}
         }
     }
 

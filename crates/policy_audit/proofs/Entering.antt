@@ -19,8 +19,9 @@ among_lines f lines read new line b same is answer =
     answer ∙ ap (λ ls. list_any (λ l. bytes_eq (f l) new) ls) same ∙ ap (λ n. list_any (λ l. bytes_eq (f l) n) lines) is
     ∙ sym (any_of_map (λ l. bytes_eq l line) f lines)
 
-module _ (e : Entered) (s : State) (code : Range) (here : code ≡ bounds_of s.scrs.pcc) (answer : Bool)
-    (answer_is : answer ≡ is_entered e.code code) (holds : answer ≡ true) (line : List ℕ) (line_is : line ≡ entry_line code (values_in s)) where
+module _ (e : Entered) (s : State) (code : Range) (here : code ≡ bounds_of s.scrs.pcc)
+    (answer : Bool) (answer_is : answer ≡ is_entered e.code code) (holds : answer ≡ true)
+    (line : List ℕ) (line_is : line ≡ entry_line code (values_in s)) where
   is_line : entry_line (bounds_of s.scrs.pcc) (values_in s) ≡ line
   is_line = ap (λ c. entry_line c (values_in s)) (sym here) ∙ sym line_is
 

@@ -27,7 +27,8 @@ after_line line xs n d text new whole inside written rest =
 -- the lines of the ranges of members as they are seen, when none is left
 pub lines_of : {X : Type 0} (line : Range → List ℕ) (right : Right) (value : X → CapValue) (ms : List (Member X)) (found read : List Range)
     (n : ℕ) (lines : List ℕ) → found ≡ ranges_of right (values value ms) → read ≡ found → length read ≤ n
-    → lines ++ flat_map line (drop n read) ≡ flat_map line read → lines ≡ flat_map line (ranges_of right (values_of (seen_members value ms)))
+    → lines ++ flat_map line (drop n read) ≡ flat_map line read
+    → lines ≡ flat_map line (ranges_of right (values_of (seen_members value ms)))
 lines_of line right value ms found read n lines are is all written =
     sym (append-nil lines) ∙ ap (λ rest. lines ++ flat_map line rest) (sym (drop_of_length-le read all)) ∙ written
     ∙ ap (flat_map line) (is ∙ are ∙ ap (ranges_of right) (sym (seen_values value ms)))

@@ -1,10 +1,11 @@
 -- What a read of each control and status register gives (RISC-V privileged manual, machine-level CSRs; UCAM-CL-TR-987 for mtvec and
 -- mepc, which are views of MTCC and MEPCC).
-use Rattle.std.specs.Prelude.{ℕ, ◌+◌, ◌*◌, ◌/◌, ◌^◌, if◌then◌else◌, List, [], ◌∷◌, slice_index, Option, Some, None}
-use Rattle.base.specs.declared.registers.csr.TheConstants.{MSTATUS, MISA, MIE, MTVEC, MEPC, MCAUSE, MTVAL, MIP, MCYCLE, MINSTRET}
-use Rattle.base.specs.Registers.{is_csr}
+use Rattle.std.specs.Prelude.{ℕ, ◌+◌, ◌*◌, ◌/◌, ◌^◌, List, [], ◌∷◌, slice_index, Option, option_map}
+use Rattle.base.specs.declared.registers.Holds.{Holds}
+use Rattle.base.specs.declared.registers.Holds.TheVariants.{Written, Fixed, Part}
+use Rattle.base.specs.declared.registers.csr.TheConstants.{MSTATUS, MIE, MTVEC, MEPC, MCAUSE, MTVAL, MIP, MCYCLE, MINSTRET}
 use Rattle.std.specs.Option.{option_or}
-use Rattle.special_regs.specs.Csrs.{kept_at}
+use Rattle.special_regs.specs.Csrs.{holds_at, place_of}
 use Rattle.special_regs.specs.Numbered.{value_at}
 use Rattle.base.specs.Bits.{bit}
 use Rattle.cap_bounds.specs.CapValue.{value_address}
@@ -17,11 +18,10 @@ use Rattle.special_regs.specs.Writes.{mie_bit, mpie_bit}
 abbrev pub mstatus : Csrs → ℕ
 mstatus c = 3 * 2 ^ 11 + bit c.mstatus_mpie * 2 ^ mpie_bit + bit c.mstatus_mie * 2 ^ mie_bit
 
--- the registers that have a meaning of their own, and their values; mip is what the devices ask for
+-- the registers that are parts of the machine, and what a read gives of each; mip is what the devices ask for
 abbrev pub csr_values : Csrs → Scrs → ℕ → List (ℕ × ℕ)
 csr_values c s mip =
     (MSTATUS, mstatus c)
-    ∷ (MISA, 0x8000_0000_0000_1100)
     ∷ (MIE, c.mie)
     ∷ (MTVEC, mtvec_of (value_address s.mtcc))
     ∷ (MEPC, value_address s.mepcc / 4 * 4)
@@ -32,14 +32,15 @@ csr_values c s mip =
     ∷ (MINSTRET, c.minstret)
     ∷ []
 
--- the value of a register that keeps what is written; any other that there is reads 0
-abbrev pub kept_or_nought : Option ℕ → Csrs → ℕ → Option ℕ
-kept_or_nought (Some i) c n = Some (slice_index c.kept i)
-kept_or_nought None c n = if is_csr n then Some 0 else None
+-- what a read gives by a register's line in the listing, where `kept` was written last; the parts of the machine are read above
+abbrev pub read_by : Holds → ℕ → ℕ
+read_by (Written bits) kept = kept
+read_by (Fixed number) kept = number
+read_by Part kept = 0
 
-abbrev pub kept_value : Csrs → ℕ → Option ℕ
-kept_value c n = kept_or_nought (kept_at n) c n
+abbrev pub listed_value : Csrs → ℕ → Option ℕ
+listed_value c n = option_map (λ holds. read_by holds (slice_index c.kept (place_of n))) (holds_at n)
 
 -- what a read of register n gives, or none where there is no such register
 unfoldable pub csr_value : Csrs → Scrs → ℕ → ℕ → Option ℕ
-csr_value c s mip n = option_or (value_at n (csr_values c s mip)) (kept_value c n)
+csr_value c s mip n = option_or (value_at n (csr_values c s mip)) (listed_value c n)

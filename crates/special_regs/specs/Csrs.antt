@@ -1,6 +1,10 @@
 -- The control and status registers that hold something of their own (RISC-V privileged manual, machine level).
-use Rattle.std.specs.Prelude.{ℕ, ◌+◌, ◌%◌, ◌^◌, ◌==◌, false, Option, position, replicate}
-use Rattle.special_regs.specs.declared.csrs.TheConstants.{KEPT, KEPT_COUNT}
+use Rattle.std.specs.Prelude.{ℕ, ◌+◌, ◌%◌, ◌^◌, ◌==◌, false, Option, Some, None, length, option_and_then, position, replicate, unwrap_or}
+use Rattle.base.specs.Registers.{held}
+use Rattle.base.specs.declared.registers.Holds.{Holds}
+use Rattle.base.specs.declared.registers.Holds.TheVariants.{Written, Fixed, Part}
+use Rattle.base.specs.declared.registers.TheConstants.{CSRS}
+use Rattle.special_regs.specs.Numbered.{value_at}
 use Rattle.special_regs.specs.declared.csrs.Csrs.{Csrs}
 
 -- as they begin
@@ -9,16 +13,28 @@ zero_csrs = record {
   mstatus_mie = false;
   mstatus_mpie = false;
   mie = 0;
-  kept = replicate KEPT_COUNT 0;
+  kept = replicate (length CSRS) 0;
   mcause = 0;
   mtval = 0;
   mcycle = 0;
   minstret = 0;
 }
 
--- where a register stands among those that keep what is written
-abbrev pub kept_at : ℕ → Option ℕ
-kept_at n = position (λ k. k == n) KEPT
+-- what a register holds, and the place where that is kept: its line in the listing
+abbrev pub holds_at : ℕ → Option Holds
+holds_at n = value_at n held
+
+abbrev pub place_of : ℕ → ℕ
+place_of n = unwrap_or (position (λ r. r.0 == n) CSRS) 0
+
+-- the bits that a write sets, where a register holds what was written last
+abbrev pub bits_of : Holds → Option ℕ
+bits_of (Written bits) = Some bits
+bits_of (Fixed number) = None
+bits_of Part = None
+
+abbrev pub bits_at : ℕ → Option ℕ
+bits_at n = option_and_then bits_of (holds_at n)
 
 -- one more of a counter, modulo 2 ^ 64
 abbrev pub one_more : ℕ → ℕ

@@ -11,4 +11,5 @@ pub mod Interrupts
 pub mod Sound
 -- Laws
 pub mod NumberedLaws
+pub mod ListingLaws
 pub mod SoundLaws

@@ -1,6 +1,6 @@
 -- A number that is listed has a value.
 use Rattle.std.proofs.Common.{◌≡◌, ℕ, true, false, cond, eqb, List, [], ◌∷◌, Option, Some, None, refl, ◌||◌}
-use Rattle.std.specs.Prelude.{IsSome}
+use Rattle.std.specs.Prelude.{IsSome, option_map}
 use Rattle.std.specs.List.{list_any}
 use Rattle.std.specs.Option.{option_or}
 use Rattle.special_regs.specs.Numbered.{value_at}
@@ -8,8 +8,9 @@ use Rattle.special_regs.specs.declared.csrs.Csrs.{Csrs}
 use Rattle.base.specs.Registers.{is_scr}
 use Rattle.special_regs.specs.Scrs.{Scrs, scr_value, scr_values}
 use Rattle.base.specs.Registers.{is_csr}
-use Rattle.special_regs.specs.Csrs.{kept_at}
-use Rattle.special_regs.specs.CsrValues.{csr_value, csr_values, kept_or_nought, kept_value}
+use Rattle.base.specs.Registers.{held}
+use Rattle.special_regs.specs.Csrs.{holds_at}
+use Rattle.special_regs.specs.CsrValues.{csr_value, csr_values, listed_value}
 
 IsSome-value_at : {X : Type 0} (n : ℕ) (entries : List (ℕ × X)) → list_any (λ e. eqb e.0 n) entries ≡ true → IsSome (value_at n entries)
 IsSome-value_at n [] listed = cc
@@ -27,10 +28,11 @@ some-or : {X : Type 0} (a b : Option X) → IsSome b → IsSome (option_or a b)
 some-or None b some = some
 some-or (Some x) b some = refl
 
-IsSome-kept : (at : Option ℕ) (c : Csrs) (n : ℕ) → is_csr n ≡ true → IsSome (kept_or_nought at c n)
-IsSome-kept None c n listed = rw listed refl
-IsSome-kept (Some i) c n listed = refl
+some-map : {X Y : Type 0} (f : X → Y) (a : Option X) → IsSome a → IsSome (option_map f a)
+some-map f (Some x) some = refl
+some-map f None some = cc
 
 pub IsSome-csr_value : (c : Csrs) (s : Scrs) (mip n : ℕ) → is_csr n ≡ true → IsSome (csr_value c s mip n)
 unfolding csr_value
-IsSome-csr_value c s mip n listed = some-or (value_at n (csr_values c s mip)) (kept_value c n) (IsSome-kept (kept_at n) c n listed)
+IsSome-csr_value c s mip n listed =
+    some-or (value_at n (csr_values c s mip)) (listed_value c n) (some-map _ (holds_at n) (IsSome-value_at n held listed))

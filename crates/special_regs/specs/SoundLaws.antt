@@ -1,13 +1,16 @@
 -- Special registers that are sound and in range give what is sound and in range, and stay so.
-use Rattle.std.proofs.Common.{◌≡◌, ℕ, ◌+◌, ◌*◌, ◌/◌, ◌%◌, ◌^◌, ◌<◌, Bool, true, false, eqb}
+use Rattle.std.proofs.Common.{◌≡◌, ℕ, ◌+◌, ◌*◌, ◌/◌, ◌%◌, ◌^◌, ◌<◌, Bool, true, false, eqb, ltb}
 use Rattle.std.proofs.Common.{cond, List, [], ◌∷◌, Some, arith, lit<, refl, ◌∙◌, length}
 use Rattle.std.proofs.lemmas.List.{length-set}
-use Rattle.std.specs.Prelude.{IfSome, bit_and, zero, suc, None, Option, slice_index, slice_set, replicate}
+use Rattle.std.specs.Prelude.{IfSome, bit_and, zero, suc, None, Option, option_map, slice_index, slice_set, replicate}
+use Rattle.std.specs.List.{list_all}
 use Rattle.std.specs.Option.{option_or}
-use Rattle.base.specs.Registers.{is_csr}
-use Rattle.special_regs.specs.declared.csrs.TheConstants.{KEPT_COUNT}
+use Rattle.base.specs.Registers.{held}
+use Rattle.base.specs.declared.registers.Holds.{Holds}
+use Rattle.base.specs.declared.registers.Holds.TheVariants.{Written, Fixed, Part}
+use Rattle.base.specs.declared.registers.TheConstants.{CSRS}
 use Rattle.std.proofs.lemmas.Nat.{and_le_l, mod_below, pow_pos}
-use Rattle.std.proofs.lemmas.Bool.{cond_both, eqb-true}
+use Rattle.std.proofs.lemmas.Bool.{and_parts, cond_both, eqb-true, ltb-true}
 use Rattle.base.specs.declared.fault.Fault.{Fault}
 use Rattle.base.specs.FaultLaws.{IsInRange}
 use Rattle.base.specs.declared.registers.csr.TheConstants.{MIE, MTVEC, MEPC, MCAUSE, MTVAL, MCYCLE, MINSTRET}
@@ -22,15 +25,15 @@ use Rattle.cap_rights.specs.DerivationLaws.{IsSound-opened}
 use Rattle.special_regs.specs.declared.csrs.Csrs.{Csrs}
 use Rattle.special_regs.specs.declared.interrupts.Interrupt.{Interrupt}
 use Rattle.special_regs.specs.declared.interrupts.Interrupt.TheVariants.{External, Timer}
-use Rattle.special_regs.specs.Csrs.{zero_csrs, kept_at, cycle_counted, instruction_counted}
-use Rattle.special_regs.specs.CsrValues.{mstatus, csr_values, csr_value, kept_or_nought, kept_value}
+use Rattle.special_regs.specs.Csrs.{zero_csrs, holds_at, place_of, bits_at, cycle_counted, instruction_counted}
+use Rattle.special_regs.specs.CsrValues.{mstatus, csr_values, csr_value, read_by, listed_value}
 use Rattle.special_regs.specs.Interrupts.{cause_of}
 use Rattle.special_regs.specs.Numbered.{value_at}
 use Rattle.special_regs.specs.Scrs.{Scrs, IsAligned, scr_values, scr_value}
 use Rattle.special_regs.specs.Mtvec.{is_vectored, mtvec_of}
 use Rattle.special_regs.specs.Traps.{is_sentry, sentry_opened, aligned, target, trapped_scrs, trapped_csrs, returned_scrs, returned_csrs}
 use Rattle.special_regs.specs.Traps.{vector_of, entry_address, placed_at}
-use Rattle.special_regs.specs.Writes.{interrupt_bits, kept_in, csrs_written, views_written, scr_written}
+use Rattle.special_regs.specs.Writes.{interrupt_bits, kept_by, csrs_written, views_written, scr_written}
 use Rattle.special_regs.specs.Sound.{AreSound, AreInRange}
 
 -- ---- what they give
@@ -61,9 +64,30 @@ mtvec_of-below : (n : ℕ) → n < 2 ^ 64 → mtvec_of n < 2 ^ 64
 unfolding mtvec_of
 mtvec_of-below n fits = cond_both (is_vectored n) n (n / 4 * 4) (λ m. m < 2 ^ 64) (λ _. fits) (λ _. omega arith)
 
-kept-below : (at : Option ℕ) (c : Csrs) (n : ℕ) → AreInRange c → IfSome (kept_or_nought at c n) (λ v. v < 2 ^ 64)
-kept-below (Some i) c n range = range.kept i
-kept-below None c n range = elim (is_csr n) as (λ b. IfSome (cond b (Some 0) None) (λ v. v < 2 ^ 64)) [ true ↦ lit< tt | false ↦ tt ]
+-- a test that each value of a list passes, the one of a number passes
+passes : {X : Type 0} (test : X → Bool) (n : ℕ) (entries : List (ℕ × X)) → list_all (λ e. test e.1) entries ≡ true
+    → IfSome (value_at n entries) (λ x. test x ≡ true)
+passes test n [] all = tt
+passes test n (entry ∷ entries) all =
+    let both = and_parts _ _ all in
+    elim (eqb entry.0 n) as (λ b. IfSome (cond b (Some entry.1) (value_at n entries)) (λ x. test x ≡ true))
+    [ true ↦ both.0 | false ↦ passes test n entries both.1 ]
+
+-- a number that a line of the listing fixes has 64 bits
+abbrev fits : Holds → Bool
+fits (Written bits) = true
+fits (Fixed number) = ltb number (2 ^ 64)
+fits Part = true
+
+read-below : (holds : Holds) (kept : ℕ) → fits holds ≡ true → kept < 2 ^ 64 → read_by holds kept < 2 ^ 64
+read-below (Written bits) kept small below = below
+read-below (Fixed number) kept small below = ltb-true number (2 ^ 64) small
+read-below Part kept small below = lit< tt
+
+map-below : (a : Option Holds) (kept : ℕ) → IfSome a (λ holds. fits holds ≡ true) → kept < 2 ^ 64
+    → IfSome (option_map (λ holds. read_by holds kept) a) (λ v. v < 2 ^ 64)
+map-below (Some holds) kept small below = read-below holds kept small below
+map-below None kept small below = tt
 
 either : {X : Type 0} (P : X → Type 0) (a b : Option X) → IfSome a P → IfSome b P → IfSome (option_or a b) P
 either P None b here there = there
@@ -72,22 +96,19 @@ either P (Some x) b here there = here
 pub csr_value-below : (c : Csrs) (s : Scrs) (mip n : ℕ) → AreInRange c → AreSound s → mip < 2 ^ 64
     → IfSome (csr_value c s mip n) (λ v. v < 2 ^ 64)
 unfolding csr_value
-csr_value-below c s mip n range sound fits =
-    either (λ v. v < 2 ^ 64) (value_at n (csr_values c s mip)) (kept_value c n)
+csr_value-below c s mip n range sound small =
+    either (λ v. v < 2 ^ 64) (value_at n (csr_values c s mip)) (listed_value c n)
     (value_at-each (λ v. v < 2 ^ 64) n (csr_values c s mip) (
       mstatus-below c,
       (
-        lit< tt,
+        range.mie,
         (
-          range.mie,
-          (
-            mtvec_of-below _ (value_address-below s.mtcc sound.mtcc),
-            (view-below s.mepcc sound.mepcc, (range.mcause, (range.mtval, (fits, (range.mcycle, (range.minstret, tt)))))),
-          ),
+          mtvec_of-below _ (value_address-below s.mtcc sound.mtcc),
+          (view-below s.mepcc sound.mepcc, (range.mcause, (range.mtval, (small, (range.mcycle, (range.minstret, tt)))))),
         ),
       ),
     ))
-    (kept-below (kept_at n) c n range)
+    (map-below (holds_at n) (slice_index c.kept (place_of n)) (passes fits n held refl) (range.kept (place_of n)))
 
 pub IsInRange-cause_of : (interrupt : Interrupt) → IsInRange (cause_of interrupt)
 IsInRange-cause_of External = record { mcause = lit< tt; mtval = lit< tt }
@@ -210,7 +231,7 @@ nought-below (suc n) (suc k) = nought-below n k
 pub AreInRange-zero : AreInRange zero_csrs
 AreInRange-zero = record {
   mie = lit< tt;
-  kept = nought-below KEPT_COUNT;
+  kept = nought-below (length CSRS);
   count = refl;
   mcause = lit< tt;
   mtval = lit< tt;
@@ -276,14 +297,15 @@ set-below (v ∷ vs) zero (suc k) value new old = old
 set-below (v ∷ vs) (suc i) zero value new old = old
 set-below (v ∷ vs) (suc i) (suc k) value new old = set-below vs i k value new old
 
-kept_in-below : (at : Option ℕ) (value : ℕ) (kept : List ℕ) → value < 2 ^ 64 → ((k : ℕ) → slice_index kept k < 2 ^ 64)
-    → (k : ℕ) → slice_index (kept_in at value kept) k < 2 ^ 64
-kept_in-below (Some i) value kept new old k = set-below kept i k value new (old k)
-kept_in-below None value kept new old k = old k
+kept-below : (bits : Option ℕ) (place value : ℕ) (kept : List ℕ) → value < 2 ^ 64 → ((k : ℕ) → slice_index kept k < 2 ^ 64)
+    → (k : ℕ) → slice_index (kept_by bits place value kept) k < 2 ^ 64
+kept-below (Some bits) place value kept new old k =
+    let low = and_le_l value bits in set-below kept place k (bit_and value bits) (omega arith) (old k)
+kept-below None place value kept new old k = old k
 
-kept_in-count : (at : Option ℕ) (value : ℕ) (kept : List ℕ) → length (kept_in at value kept) ≡ length kept
-kept_in-count (Some i) value kept = length-set kept i value
-kept_in-count None value kept = refl
+kept-count : (bits : Option ℕ) (place value : ℕ) (kept : List ℕ) → length (kept_by bits place value kept) ≡ length kept
+kept-count (Some bits) place value kept = length-set kept place (bit_and value bits)
+kept-count None place value kept = refl
 
 pub AreInRange-written : (n value : ℕ) (c : Csrs) → value < 2 ^ 64 → AreInRange c → AreInRange (csrs_written n value c)
 unfolding csrs_written
@@ -292,8 +314,8 @@ AreInRange-written n value c fits range =
     let bits : bit_and value interrupt_bits < 2 ^ 64 = omega arith in
     record {
       mie = number_if (eqb n MIE) (bit_and value interrupt_bits) c.mie bits range.mie;
-      kept = kept_in-below (kept_at n) value c.kept fits range.kept;
-      count = kept_in-count (kept_at n) value c.kept ∙ range.count;
+      kept = kept-below (bits_at n) (place_of n) value c.kept fits range.kept;
+      count = kept-count (bits_at n) (place_of n) value c.kept ∙ range.count;
       mcause = number_if (eqb n MCAUSE) value c.mcause fits range.mcause;
       mtval = number_if (eqb n MTVAL) value c.mtval fits range.mtval;
       mcycle = number_if (eqb n MCYCLE) value c.mcycle fits range.mcycle;

@@ -7,7 +7,7 @@ use Rattle.base.specs.declared.registers.csr.TheConstants.{MSTATUS, MIE, MTVEC, 
 use Rattle.base.specs.declared.registers.scr.TheConstants.{DDC, MTCC, MTDC, MSCRATCHC, MEPCC}
 use Rattle.base.specs.declared.interrupt.TheConstants.{TIMER, EXTERNAL}
 use Rattle.special_regs.specs.declared.csrs.Csrs.{Csrs}
-use Rattle.special_regs.specs.Csrs.{kept_at}
+use Rattle.special_regs.specs.Csrs.{bits_at, place_of}
 use Rattle.special_regs.specs.Scrs.{Scrs}
 use Rattle.special_regs.specs.Mtvec.{mtvec_of}
 
@@ -26,15 +26,15 @@ mpie_bit = 7
 abbrev pub interrupt_bits : ℕ
 interrupt_bits = 2 ^ TIMER + 2 ^ EXTERNAL
 
--- of the registers that keep what is written, the one of this number holds the value
-abbrev pub kept_in : Option ℕ → ℕ → List ℕ → List ℕ
-kept_in (Some i) value kept = slice_set kept i value
-kept_in None value kept = kept
+-- what is kept after a write of a number: at the register's place the bits that a write sets, if it sets any
+abbrev pub kept_by : Option ℕ → ℕ → ℕ → List ℕ → List ℕ
+kept_by (Some bits) place value kept = slice_set kept place (bit_and value bits)
+kept_by None place value kept = kept
 
 abbrev pub kept_written : ℕ → ℕ → List ℕ → List ℕ
-kept_written n value kept = kept_in (kept_at n) value kept
+kept_written n value kept = kept_by (bits_at n) (place_of n) value kept
 
--- Of mstatus MIE and MPIE are kept, of mie two bits. A write of misa or mip changes nothing.
+-- Of mstatus MIE and MPIE are kept, of mie two bits. A write of mip changes nothing.
 unfoldable pub csrs_written : ℕ → ℕ → Csrs → Csrs
 csrs_written n value c = record c {
   mstatus_mie = if n == MSTATUS then has_bit value mie_bit else c.mstatus_mie;

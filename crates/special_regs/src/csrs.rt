@@ -1,20 +1,45 @@
-ghost use Rattle.std.specs.Prelude.{◌≡◌, ℕ, ◌<◌, ◌^◌, slice_index};
-ghost use Rattle.special_regs.specs.Csrs.{kept_at};
+ghost use Rattle.std.specs.Prelude.{◌≡◌, ℕ, ◌<◌, ◌==◌, ◌^◌, map, position, slice_index};
+ghost use Rattle.base.specs.declared.registers.TheConstants.{CSR_COUNT};
+ghost use Rattle.special_regs.specs.Csrs as spec;
+ghost use Rattle.special_regs.specs.Numbered.{value_at};
 
-use base::csr;
+use base::{CSR_COUNT, CSRS, Holds, SpecialRegister};
 
-/// How many registers keep what is written.
-pub const KEPT_COUNT: usize = 1;
-
-/// The numbers of the registers that keep what is written, all 64 bits, and do nothing else.
-pub const KEPT: [u16; KEPT_COUNT] = [csr::MSCRATCH];
-
-/// Where a register stands among those that keep what is written.
+/// What a register holds, by its line in the listing.
 #[inline]
-pub(crate) fn kept_at(number: u16) -> Option<usize>
-    ensures { result ≡ kept_at number }
+pub(crate) fn holds_at(number: u16) -> Option<Holds>
+    ensures { result ≡ spec.holds_at number }
 {
-    KEPT.iter().position(|kept| *kept == number)
+    held_in(&CSRS, number)
+}
+
+fn held_in(listing: &[SpecialRegister], number: u16) -> Option<Holds>
+    ensures { result ≡ value_at number (map (λ r. (r.0, r.2)) listing.now) }
+{
+    let (first, rest) = listing.split_first()?;
+    if first.0 == number {
+        Some(first.2)
+    } else {
+        held_in(rest, number)
+    }
+}
+
+/// The place where it is kept what was written last into a register: that of its line in the listing.
+#[inline]
+pub(crate) fn place_of(number: u16) -> usize
+    ensures is { result ≡ spec.place_of number }
+    ensures within { result < CSR_COUNT }
+{
+    match place_in(&CSRS, number) {
+        Some(place) => place,
+        None => 0,
+    }
+}
+
+fn place_in(listing: &[SpecialRegister], number: u16) -> Option<usize>
+    ensures { result ≡ position (λ r. r.0 == number) listing.now }
+{
+    listing.iter().position(|r| r.0 == number)
 }
 
 /// Tells proofs that numbers have 64 bits. It does nothing.
@@ -37,8 +62,8 @@ pub struct Csrs {
     pub mstatus_mpie: bool,
     /// The interrupts that may be taken, by bit.
     pub mie: u64,
-    /// What the registers hold that keep what is written, in the order of `KEPT`.
-    pub kept: [u64; KEPT_COUNT],
+    /// What was written last into those registers that hold that, each at the place of its line in the listing; 0 at the others.
+    pub kept: [u64; CSR_COUNT],
     /// The cause of the last trap.
     pub mcause: u64,
     /// What the cause says more of.
@@ -61,7 +86,7 @@ impl Csrs {
             mstatus_mie: false,
             mstatus_mpie: false,
             mie: 0,
-            kept: [0; KEPT_COUNT],
+            kept: [0; CSR_COUNT],
             mcause: 0,
             mtval: 0,
             mcycle: 0,

@@ -1,8 +1,7 @@
-//! What holds of traps, and of the registers that keep what is written: each function's contract is a law, and its body is empty.
+//! What holds of traps: each function's contract is a law, and its body is empty.
 
-ghost use Rattle.std.specs.Prelude.{◌≡◌, ℕ, ◌+◌, ◌%◌, ◌^◌, ◌<◌, [], ◌∷◌};
+ghost use Rattle.std.specs.Prelude.{◌≡◌, ℕ, ◌+◌, ◌%◌, ◌^◌, ◌<◌};
 ghost use Rattle.special_regs.specs.Traps.{entry_address};
-ghost use Rattle.special_regs.specs.declared.csrs.TheConstants.{KEPT, KEPT_COUNT};
 
 /// Where a trap begins, with a handler at a multiple of 4 (RISC-V privileged manual, mtvec): there where mtvec is direct, and for each
 /// exception; where it is vectored, 7 words on for the timer's interrupt and 11 for the external one.
@@ -15,10 +14,4 @@ pub fn entries_of_traps()
         → entry_address (record { mcause = 0x8000000000000007; mtval = mtval }) (handler + 1) ≡ handler + 28 }
     ensures external { (handler mtval : ℕ) → handler % 4 ≡ 0 → handler + 44 < 2 ^ 64
         → entry_address (record { mcause = 0x800000000000000b; mtval = mtval }) (handler + 1) ≡ handler + 44 }
-{}
-
-/// Which registers keep what is written, all 64 bits, and do nothing else (RISC-V privileged manual, mscratch).
-pub fn registers_that_keep_what_is_written()
-    ensures numbers { KEPT ≡ 0x340 ∷ [] }
-    ensures count { KEPT_COUNT ≡ 1 }
 {}

@@ -1,12 +1,13 @@
 -- What a line of a trace shows of a step, read off the state after it: a value of another register, or under another name, is refused here,
 -- though definition and code show the same. `why` shows the same text of the effect.
-use Rattle.std.specs.Prelude.{◌≡◌, ℕ, ◌+◌, ◌*◌, ◌/◌, ◌^◌, ◌==◌, true, false, if◌then◌else◌, bit_and, List, [], ◌++◌, Some}
+use Rattle.std.specs.Prelude.{◌≡◌, ℕ, ◌+◌, ◌*◌, ◌/◌, ◌^◌, ◌==◌, true, false, if◌then◌else◌, bit_and, List, [], ◌++◌, Option, Some}
 use Rattle.std.specs.Prelude.{None, codes, decimal}
 use Rattle.base.specs.Bits.{bit}
 use Rattle.base.specs.Size.{bytes_of}
 use Rattle.cap_bounds.specs.CapValue.{CapValue, value_of, value_address, value_flag}
 use Rattle.tagged_memory.specs.Memory.{is_in_ram, number_at, word_at, has_tag}
 use Rattle.devices.specs.Devices.{effect_of, byte_sent, written, interrupts_of}
+use Rattle.special_regs.specs.Csrs.{bits_at}
 use Rattle.special_regs.specs.CsrValues.{csr_value}
 use Rattle.special_regs.specs.Mtvec.{mtvec_of}
 use Rattle.special_regs.specs.Traps.{is_sentry}
@@ -119,7 +120,12 @@ ShowsTheWord =
 
 -- ---- control and status registers
 
--- what a control and status register holds after a write of a number in a state: all of it, but for mstatus, misa, mie, mtvec, mepc, mip
+-- what a register keeps of a number by its line in the listing: the bits that a write sets, and all of it where none are said
+abbrev pub bits_kept : Option ℕ → ℕ → ℕ
+bits_kept (Some bits) value = bit_and value bits
+bits_kept None value = value
+
+-- what a control and status register holds after a write of a number in a state: that, but for mstatus, misa, mie, mtvec, mepc, mip
 abbrev pub kept : ℕ → ℕ → State → ℕ
 kept n value s =
     if n == 0x300 then 0x1800 + bit (has_bit value 7) * 2 ^ 7 + bit (has_bit value 3) * 2 ^ 3
@@ -128,7 +134,7 @@ kept n value s =
     else (if n == 0x305 then mtvec_of value
     else (if n == 0x341 then value / 4 * 4
     else (if n == 0x344 then interrupts_of s.devices
-    else value)))))
+    else bits_kept (bits_at n) value)))))
 
 -- The law: after a write of a control and status register it holds what it keeps of the number that is shown.
 abbrev pub CsrsKeepWhatIsShown : Type 0

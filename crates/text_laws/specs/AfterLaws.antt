@@ -1,13 +1,12 @@
 -- What is shown of a step is what the state after it has.
 use Rattle.std.proofs.Common.{◌≡◌, ℕ, zero, suc, ◌+◌, ◌-◌, ◌*◌, ◌/◌, ◌%◌, ◌^◌, ◌<◌, ◌≤◌, Bool, true, false, not, ◌&&◌, ◌||◌, cond, eqb}
 use Rattle.std.proofs.Common.{List, [], ◌∷◌, ◌++◌, length, take, drop, None, Some, refl, sym, ap, subst, ◌∙◌, arith, append-nil}
-use Rattle.std.proofs.Common.{append_assoc, get_or}
+use Rattle.std.proofs.Common.{append_assoc}
 use Rattle.std.specs.Prelude.{codes, decimal, is_some}
-use Rattle.std.proofs.lemmas.Bool.{true≢false, and_parts, not-true, eq-eqb, ne_eqb, eqb-true, cond_both}
 use Rattle.std.proofs.lemmas.List.{get_or-set_same}
-use Rattle.std.proofs.lemmas.List.Folds.{list_all_at}
-use Rattle.std.proofs.lemmas.List.Quantifiers.{position-Some}
+use Rattle.std.proofs.lemmas.Bool.{true≢false, and_parts, not-true, eq-eqb, ne_eqb, eqb-true, cond_both}
 use Rattle.std.specs.List.{list_all, list_any}
+use Rattle.std.specs.Option.{option_or}
 use Rattle.std.proofs.Math.Nat.{add-mul, add_assoc, div-add-mod', mod-eq_of_lt, mod-lt, mul-add-mod_self_right, mul-le-mul_right}
 use Rattle.std.proofs.Math.Nat.{mul_assoc, one-le-pow, pow-suc}
 use Rattle.std.specs.Fmt.{digit_glyph}
@@ -29,10 +28,11 @@ use Rattle.tagged_memory.specs.Memory.{Memory, is_in_ram, number_at, word_at, ha
 use Rattle.tagged_memory.specs.MemoryLaws.{in_ram}
 use Rattle.tagged_memory.specs.Replaced.{part-new}
 use Rattle.devices.specs.Devices.{interrupts_of}
-use Rattle.special_regs.specs.Csrs.{kept_at}
-use Rattle.special_regs.specs.CsrValues.{csr_value}
-use Rattle.special_regs.specs.declared.csrs.TheConstants.{KEPT}
+use Rattle.special_regs.specs.Csrs.{bits_at}
+use Rattle.special_regs.specs.CsrValues.{csr_value, csr_values, listed_value}
+use Rattle.special_regs.specs.ListingLaws.{written-listed_value}
 use Rattle.special_regs.specs.Mtvec.{is_vectored, mtvec_of}
+use Rattle.special_regs.specs.Numbered.{value_at}
 use Rattle.special_regs.specs.Refusals.{is_read_only}
 use Rattle.special_regs.specs.Writes.{csrs_written, views_written, scr_written}
 use Rattle.texts.specs.Hex.{hex_of}
@@ -57,7 +57,7 @@ use Rattle.explain.specs.TraceLine.{word_part, step_word}
 use Rattle.explain.specs.ValueText.{shown_value}
 use Rattle.text_laws.specs.Says.{held, word_here}
 use Rattle.explain.specs.WhyText.{instruction_text, stages_text, why_unless, why_text}
-use Rattle.text_laws.specs.After.{register_or, register_first, text_after, kept, ShowsTheStateAfter, ShowsTheWord}
+use Rattle.text_laws.specs.After.{register_or, register_first, text_after, bits_kept, kept, ShowsTheStateAfter, ShowsTheWord}
 use Rattle.text_laws.specs.After.{CsrsKeepWhatIsShown, DevicesAreGivenWhatIsShown}
 use Rattle.text_laws.specs.FitsLaws.{Fits, step-fits}
 
@@ -204,30 +204,29 @@ own = 0x300 ∷ 0x301 ∷ 0x304 ∷ 0x305 ∷ 0x341 ∷ 0x342 ∷ 0x343 ∷ 0x34
 abbrev is_own : ℕ → Bool
 is_own n = list_any (λ k. eqb k n) own
 
--- a control and status register is only read, keeps what is written, or has a meaning of its own
+-- a control and status register is only read, holds what was written last, or has a meaning of its own
 abbrev is_known : ℕ → Bool
-is_known n = is_read_only n || (is_some (kept_at n) || is_own n)
+is_known n = is_read_only n || (is_some (bits_at n) || is_own n)
 
-own-apart : (n i : ℕ) → kept_at n ≡ Some i → (i < length KEPT) × (is_own n ≡ false)
-own-apart n i at =
-    let found = position-Some (λ k. eqb k n) KEPT i 0 at in
-    let kept : is_own (get_or KEPT i 0) ≡ false =
-    elim (is_own (get_or KEPT i 0)) as (λ b. is_own (get_or KEPT i 0) ≡ b → b ≡ false) [
-      | true ↦ λ e. absurd (true≢false (list_all_at (λ k. not (is_own k)) KEPT i 0 found.0 (ap not e)))
+own-apart : (n bits : ℕ) → bits_at n ≡ Some bits → is_own n ≡ false
+own-apart n bits at =
+    elim (is_own n) as (λ b. is_own n ≡ b → b ≡ false) [
+      | true ↦ λ e.
+          let none : not (is_some (bits_at n)) ≡ true = all-listed (λ k. k) (λ k. not (is_some (bits_at k))) own n refl e in
+          absurd (true≢false (sym none ∙ ap (λ o. not (is_some o)) at))
       | false ↦ λ _. refl
-    ] refl in
-    (found.0, subst (λ m. is_own m ≡ false) (eqb-true _ _ found.1) kept)
+    ] refl
 
 -- a control and status register that can be written
-each-csr : (P : ℕ → Type 0) (n : ℕ) → (is_csr n && not (is_read_only n)) ≡ true → ((i : ℕ) → kept_at n ≡ Some i → P n)
+each-csr : (P : ℕ → Type 0) (n : ℕ) → (is_csr n && not (is_read_only n)) ≡ true → ((bits : ℕ) → bits_at n ≡ Some bits → P n)
     → P 0x300 → P 0x301 → P 0x304 → P 0x305 → P 0x341 → P 0x342 → P 0x343 → P 0x344 → P 0xb00 → P 0xb02 → P n
 each-csr P n is keeps mstatus misa mie mtvec mepc mcause mtval mip mcycle minstret =
     let both = and_parts _ _ is in
-    let known : (is_read_only n || (is_some (kept_at n) || is_own n)) ≡ true = all-listed (λ r. r.0) is_known CSRS n refl both.0 in
-    let other : (is_some (kept_at n) || is_own n) ≡ true =
-    sym (ap (λ b. b || (is_some (kept_at n) || is_own n)) (not-true _ both.1)) ∙ known in
-    elim (kept_at n) as (λ at. kept_at n ≡ at → (is_some at || is_own n) ≡ true → P n) [
-      | Some i ↦ λ at _. keeps i at
+    let known : (is_read_only n || (is_some (bits_at n) || is_own n)) ≡ true = all-listed (λ r. r.0) is_known CSRS n refl both.0 in
+    let other : (is_some (bits_at n) || is_own n) ≡ true =
+    sym (ap (λ b. b || (is_some (bits_at n) || is_own n)) (not-true _ both.1)) ∙ known in
+    elim (bits_at n) as (λ at. bits_at n ≡ at → (is_some at || is_own n) ≡ true → P n) [
+      | Some bits ↦ λ at _. keeps bits at
       | None ↦ λ _ is.
           listed P 0x300 n _ is (λ e. subst P e mstatus) (λ others.
           listed P 0x301 n _ others (λ e. subst P e misa) (λ others.
@@ -305,14 +304,13 @@ module _ (s : State) (is : IsState s) where
   unfolding mtvec_of
   mtvec-below n fits = cond_both (is_vectored n) n (n / 4 * 4) (λ m. m < 2 ^ 64) (λ _. fits) (λ _. omega arith)
 
-  -- a register that keeps what is written has it
-  keeps-written : (w : CsrWrite CapValue) (i : ℕ) → kept_at w.number ≡ Some i
+  -- a register that holds what was written last has the bits that the write sets
+  keeps-written : (w : CsrWrite CapValue) (bits : ℕ) → bits_at w.number ≡ Some bits
       → csr_value (applied (Csr w) s).csrs (applied (Csr w) s).scrs (interrupts_of (applied (Csr w) s).devices) w.number
       ≡ Some (kept w.number w.value s)
   unfolding applied csr_value csrs_written views_written
-  keeps-written w i at =
-      let apart = own-apart w.number i at in
-      let a = not-listed 0x300 w.number _ apart.1 in
+  keeps-written w bits at =
+      let a = not-listed 0x300 w.number _ (own-apart w.number bits at) in
       let b = not-listed 0x301 w.number _ a.2 in
       let c = not-listed 0x304 w.number _ b.2 in
       let d = not-listed 0x305 w.number _ c.2 in
@@ -322,8 +320,13 @@ module _ (s : State) (is : IsState s) where
       let h = not-listed 0x344 w.number _ g.2 in
       let k = not-listed 0xb00 w.number _ h.2 in
       let l = not-listed 0xb02 w.number _ k.2 in
-      rw (a.0, b.0, c.0, d.0, e.0, f.0, g.0, h.0, k.0, l.0, a.1, b.1, c.1, d.1, e.1, h.1, at)
-      (ap Some (get_or-set_same s.csrs.kept i w.value 0 (subst (λ n. i < n) (sym is.csrs.count) apart.0)))
+      let t = applied (Csr w) s in
+      let apart : value_at w.number (csr_values t.csrs t.scrs (interrupts_of t.devices)) ≡ None =
+      rw (a.0, c.0, d.0, e.0, f.0, g.0, h.0, k.0, l.0) refl in
+      let shown : kept w.number w.value s ≡ bits_kept (bits_at w.number) w.value = rw (a.1, b.1, c.1, d.1, e.1, h.1) refl in
+      ap (λ o. option_or o (listed_value t.csrs w.number)) apart
+      ∙ written-listed_value s.csrs t.csrs w.number w.value bits is.csrs.count refl at
+      ∙ ap Some (ap (λ o. bits_kept o w.value) (sym at) ∙ sym shown)
 
   csr-kept : (w : CsrWrite CapValue) → w.value < 2 ^ 64 → (is_csr w.number && not (is_read_only w.number)) ≡ true
       → csr_value (applied (Csr w) s).csrs (applied (Csr w) s).scrs (interrupts_of (applied (Csr w) s).devices) w.number
@@ -337,7 +340,7 @@ module _ (s : State) (is : IsState s) where
       each-csr (λ n. csr_value (applied (Csr (record w { number = n })) s).csrs (applied (Csr (record w { number = n })) s).scrs
       (interrupts_of (applied (Csr (record w { number = n })) s).devices) n
       ≡ Some (kept n w.value s)) w.number listed
-      (λ i at. keeps-written w i at)
+      (keeps-written w)
       refl
       refl
       refl

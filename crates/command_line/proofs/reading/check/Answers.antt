@@ -7,5 +7,5 @@ use Rattle.command_line.proofs.reading.check.Goals as goal
 pub returns-else-are_apart-clause-err : goal.returns-else-are_apart-clause-err
 returns-else-are_apart-clause-err c =
     λ saids are stand apart.
-    not_apart (rows_of (found_of c.args.found.now)) (map line_of c.args.lines.now) c.are_apart.result c.are_apart.ensures c.if-are_apart.false
-    saids are apart
+    let rows = rows_of (found_of c.args.found.now) in
+    not_apart rows (map line_of c.args.lines.now) c.are_apart.result c.are_apart.ensures c.if-are_apart.false saids are apart

@@ -10,5 +10,6 @@ returns g c =
     let place : c.as_str.result.now ≡ labelled c.args.symbols.now (pc_of c.args.machine.now) =
     c.as_str.ensures.value ∙ c.labelled-place.ensures.text ∙ ap (labelled c.args.symbols.now) c.pc.ensures in
     on_ok_weaker c.append.result
-    (λ e. e ∙ ap (λ more. string_bytes c.args.text.now ++ (codes "cherisim: steps " ++ decimal c.args.steps ++ codes ", pcc " ++ more)) place)
+    (λ e. e
+    ∙ ap (λ more. string_bytes c.args.text.now ++ (codes "cherisim: steps " ++ decimal c.args.steps ++ codes ", pcc " ++ more)) place)
     c.append.ensures.bytes

@@ -1,6 +1,6 @@
 use Rattle.std.proofs.Common.{rules}
 use Rattle.special_regs.specs.CsrValues.{csr_value}
-use Rattle.special_regs.proofs.reads.csr_value.Goals as goal
+use Rattle.special_regs.proofs.parts.csr_value.Goals as goal
 
 pub returns-in-833 : goal.returns-in-833
 unfolding csr_value
