@@ -14,6 +14,11 @@ With a line `over: LAWS` the laws of that crate are what is checked: its definit
 of the mistaken crate is checked beside them, so that the code need not follow. Without it the mistake stands in definition and code
 together.
 
+That a proof doesn't fit any more is no proof that none would. A mistake is told as *refused* where that is shown: its law is a closed
+computation that comes out otherwise (a line `refuted by: NUMBERS`), or NAME.worked stands beside it, definitions with a worked state in
+which the law is false under the mistaken definition: `Law`, what is refuted, and `refuted : State → Law → ⊥`, which is proved in the copy.
+Of the others it is said that the law's proof doesn't hold.
+
 It stands on the libraries in crates/*/out/rlib, as the gate or `rt lib` leaves them. It ends with 1 where a mistake is not refused so.
 """
 import glob
@@ -49,6 +54,8 @@ class Mistake:
                 else:
                     self.given[word] = rest
         self.crate, self.law, self.over = self.given["crate"], self.given["refused by"], self.given.get("over")
+        worked = path.removesuffix(".edit") + ".worked"
+        self.worked = worked if os.path.exists(worked) else None
 
     def made_in(self, room):
         """Makes the mistake in a copy of its crate; answers the texts that aren't there once."""
@@ -110,6 +117,21 @@ def with_laws(room, crate, laws):
     return found
 
 
+def with_worked_state(room, crate, laws, path):
+    """Puts a worked state into the copy, and a function whose contract says what it refutes."""
+    os.makedirs(os.path.join(room, "proofs", "worked", "law_is_false"))
+    moved(path, os.path.join(room, "specs", "Worked.antt"), crate, laws, [])
+    appended(os.path.join(room, "specs", "Lib.antt"), "pub mod Worked\n")
+    appended(os.path.join(room, "src", "lib.rt"), "pub mod worked;\n")
+    with open(os.path.join(room, "src", "worked.rt"), "w", encoding="utf-8") as file:
+        file.write(f"ghost use Rattle.steps.specs.State.{{State}};\nghost use Rattle.{crate}.specs.Worked.{{Law}};\n\n"
+                   "pub fn law_is_false()\n    ensures { State → Law → ⊥ }\n{}\n")
+    with open(os.path.join(room, "proofs", "worked", "law_is_false", "Answers.antt"), "w", encoding="utf-8") as file:
+        file.write(f"use Rattle.{crate}.specs.Worked.{{refuted}}\nuse Rattle.{crate}.proofs.worked.law_is_false.Goals as goal\n\n"
+                   "pub returns : goal.returns\nreturns c = refuted\n")
+    return ["worked::law_is_false"]
+
+
 def lemma_at(path, line):
     """The lemma of a definition file in which a line stands, as MODULE::NAME."""
     with open(path, encoding="utf-8") as file:
@@ -137,6 +159,8 @@ def tried(mistake, known):
         faults = mistake.made_in(room)
         if faults:
             return faults, False
+        if mistake.worked:
+            functions = [*functions, *with_worked_state(room, mistake.crate, mistake.over, mistake.worked)]
         only = [word for it in functions for word in ("--only", it)]
         how = {"cwd": room, "stdin": subprocess.DEVNULL, "stdout": subprocess.PIPE, "stderr": subprocess.STDOUT}
         needs = [it for it in [*known[mistake.crate], *known.get(mistake.over, [])] if it != mistake.crate]
@@ -148,7 +172,7 @@ def tried(mistake, known):
             found = [*lemmas_left(room, run.stdout), *(it.removeprefix(f"{mistake.over}_") for it in found)]
         if "--report" in sys.argv:
             print(run.stdout)
-        return found, run.returncode != 0 and mistake.law in found
+        return found, run.returncode != 0 and mistake.law in found and "worked::law_is_false" not in found
 
 
 def fits(mistake):
@@ -166,14 +190,15 @@ def main():
         faults = [fault for mistake in mistakes for fault in fits(mistake)]
         print("\n".join(faults) or f"{len(mistakes)} mistakes in definitions fit the texts that they change")
         return 1 if faults else 0
-    known, refused = crates(), 0
+    known, as_said = crates(), 0
     for mistake in mistakes:
         found, so = tried(mistake, known)
-        refused += so
+        as_said += so
         left = ", ".join(found) or "nothing is left unproved"
-        print(f"{'refused' if so else 'NOT REFUSED SO'}: {mistake.given['says']}: {left}", flush=True)
-    print(f"{refused} of {len(mistakes)} mistakes in definitions are refused by the law that they name")
-    return 0 if refused == len(mistakes) else 1
+        word = "refused" if mistake.worked or "refuted by" in mistake.given else "not proved"
+        print(f"{word if so else 'NOT AS SAID'}: {mistake.given['says']}: {left}", flush=True)
+    print(f"{as_said} of {len(mistakes)} mistakes in definitions leave the law unproved that they name")
+    return 0 if as_said == len(mistakes) else 1
 
 
 if __name__ == "__main__":

@@ -44,9 +44,11 @@ bool cheri_is_representable(cheri_word_t word, uint64_t address);
 /* The capability with this address. It keeps its tag exactly where it is unsealed and its bounds stay. */
 cheri_cap_t cheri_set_address(cheri_cap_t cap, uint64_t address);
 /* The capability with the bounds of `length` bytes from its address, rounded out to what a word can say; *exact: whether rounding
- * changed nothing. It keeps its tag exactly where it is unsealed and its bounds hold what was asked for. */
+ * changed nothing, also of a request that ends above 2^64 and so takes the tag. It keeps its tag exactly where it is unsealed and its
+ * bounds hold what was asked for. */
 cheri_cap_t cheri_set_bounds(cheri_cap_t cap, uint64_t length, bool *exact);
-/* Whether bounds can be exactly the `length` bytes from `base`. */
+/* Whether bounds can be exactly the `length` bytes from `base`: they end at 2^64 or before, since no capability's end above it, and
+ * rounding them out changes nothing. */
 bool cheri_is_exact(uint64_t base, uint64_t length);
 /* A length rounded up to one that an aligned base can have, modulo 2^64 (CRRL), and the mask that aligns the base for it (CRAM). */
 uint64_t cheri_representable_length(uint64_t length);

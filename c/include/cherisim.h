@@ -27,7 +27,7 @@ typedef struct { void *at; } cherisim_t;
 typedef cheri_cap_t cherisim_cap_t;
 
 /* What a call answers: 1 to 15 are the faults L1 to L15 of an image, 33 to 43 the faults A1 to A11 of a text; but that there is no memory
- * for it (L11, A10) is CHERISIM_NO_MEMORY, and bytes never fail to be read (L10), which no contract says. */
+ * for it (L11, A10) is CHERISIM_NO_MEMORY, and 10 never comes, because bytes in memory can't fail to be read (L10). */
 typedef uint32_t cherisim_status;
 enum {
     CHERISIM_OK = 0,
@@ -85,7 +85,8 @@ enum {
  * of their numbers). */
 typedef struct { uint64_t steps, sent; uint32_t stop; } cherisim_ran_t;
 /* Runs, and puts the bytes that the steps send into `buffer`. It stops before a step where the buffer is full, so one of no bytes
- * takes no step. With `at_end` each step is looked at before it is done, so that such a run is some ten times slower. */
+ * takes no step. With `at_end` plain steps go as fast as without it, and others (a jump through a capability, a store to a device, a system
+ * register) are looked at before they are done, one at a time. */
 cherisim_status cherisim_run(cherisim_t *machine, const cherisim_asked_t *asked, uint8_t *buffer, size_t room, cherisim_ran_t *ran);
 
 /* ---- what a machine holds */

@@ -78,6 +78,7 @@ static void worked_rows(void) {
     ROW(!exactly.tag && exactly.upper == fourth.upper && exactly.address == fourth.address);
     cheri_cap_t fifth = bounded(root_at(1), 8191);
     ROW(is(fifth, true, 0, 8192) && high_in_memory(fifth) == 0xffff000000018005u);
+    ROW(cheri_is_exact(0xfffffffffffff000u, 0x1000) && !cheri_is_exact(0xfffffffffffff000u, 0x2000));
     ROW(cheri_representable_length(8191) == 8192 && cheri_alignment_mask(8191) == 0xfffffffffffffff0u);
     ROW(cheri_representable_length(UINT64_MAX) == 0 && cheri_alignment_mask(UINT64_MAX) == 0xff80000000000000u);
     ROW(is(cheri_set_address(third, 0x800047ff), true, 0x80001000, 0x80001fff));
@@ -151,7 +152,7 @@ static void of_request(uint64_t address, uint64_t upper, uint64_t length) {
     cheri_cap_t got = cheri_set_bounds(c, length, &exact);
     check(got.tag == tag && exact == is_exact && got.address == address && got.upper == upper_of(&set, q.e, q.internal),
           "set bounds", address, upper, length);
-    check(cheri_is_exact(address, length) == is_exact, "exact", address, upper, length);
+    check(cheri_is_exact(address, length) == (is_exact && q.top <= ALL), "exact", address, upper, length);
     struct request from_zero = rounded(0, length);
     u128 granule = length < 4096 ? 1 : power(from_zero.e + 3);
     check(cheri_representable_length(length) == (uint64_t)from_zero.top, "CRRL", address, upper, length);

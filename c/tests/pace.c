@@ -32,23 +32,23 @@ static void assembled(cherisim_t *m, unsigned long turns) {
     must(cherisim_assemble((const uint8_t *)text, (size_t)length, m, &line));
 }
 
-static void long_calls(unsigned long turns) {
+static void long_call(const char *what, unsigned long turns, uint64_t tick, bool at_end) {
     cherisim_t m = CHERISIM_NONE;
-    cherisim_asked_t asked = {UINT64_MAX, 0, 0, 0, false, false};
+    cherisim_asked_t asked = {UINT64_MAX, tick, 0, 0, false, at_end};
     cherisim_ran_t ran;
     uint8_t sent[1];
     assembled(&m, turns);
     double began = now();
     must(cherisim_run(&m, &asked, sent, 1, &ran));
     double took = now() - began;
-    printf("a long call: %.1f million steps a second (%lu steps)\n", (double)ran.steps / took / 1e6, (unsigned long)ran.steps);
-    asked.tick = 50;
-    assembled(&m, turns);
-    began = now();
-    must(cherisim_run(&m, &asked, sent, 1, &ran));
-    took = now() - began;
-    printf("a long call with a tick every 50 steps: %.1f million steps a second\n", (double)ran.steps / took / 1e6);
+    printf("%s: %.1f million steps a second (%lu steps)\n", what, (double)ran.steps / took / 1e6, (unsigned long)ran.steps);
     cherisim_free(&m);
+}
+
+static void long_calls(unsigned long turns) {
+    long_call("a long call", turns, 0, false);
+    long_call("a long call with a tick every 50 steps", turns, 50, false);
+    long_call("a long call that stops before a trap", turns, 0, true);
 }
 
 /* the nanoseconds of a call */

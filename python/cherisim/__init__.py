@@ -216,7 +216,10 @@ class Cap:
         return self._of(lib.cheri_set_address(self._c, address & _ALL))
 
     def set_bounds(self, length: int) -> Tuple[Cap, bool]:
-        """It with the bounds of so many bytes from its address on, rounded out, as CSetBounds gives it, and whether nothing was rounded."""
+        """It with the bounds of so many bytes from its address on, rounded out, as CSetBounds gives it, and whether nothing was rounded.
+
+        Of a range that ends above 2^64, which no capability has, nothing may be rounded either: the result is not tagged.
+        """
         in_range("length", length, 64)
         exact = c_bool()
         return self._of(lib.cheri_set_bounds(self._c, length, byref(exact))), exact.value

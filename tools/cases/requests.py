@@ -71,6 +71,8 @@ def at_the_end(numbers):
         address = SPACE - length
         for more in (0, 1, granule):
             yield root_or_narrower(numbers, address, SPACE), address, True, length + more
+    for length in (0xFFF, 0x1000, 0x1001, 0x1008, 0x2000):
+        yield ROOT_HIGH, SPACE - 0x1000, True, length
     for address in (0, 1, SPACE // 2, SPACE // 2 + 1, ONES):
         yield ROOT_HIGH, address, True, ONES
         yield ROOT_HIGH, address, True, SPACE // 2

@@ -69,7 +69,7 @@ def request(bench, case):
     value, length, exact = words.value(), words.hex(), c_bool()
     bounded = library.cheri_set_bounds(value, length, byref(exact))
     found = bounded.word()
-    if library.cheri_is_exact(value.address, length) != exact.value:
+    if library.cheri_is_exact(value.address, length) != (exact.value and value.address + length <= SPACE):
         return "cheri_is_exact says otherwise"
     fields = f"{library.cheri_perms(found):x} {library.cheri_flag(found):d} {library.cheri_otype(found):x}"
     return f"{cap_text(bounded)} {exact.value:d} {fields} {library.cheri_base(found):x} {int(library.cheri_top(found)):x}"
@@ -101,7 +101,9 @@ class Modelled:
         value, exact = self.value, c_bool()
         bounded = self.library.cheri_set_bounds(value, length, byref(exact))
         upper, tag, is_exact, *_ = bounded_by_formulas(value.upper, value.address, value.tag, length)
-        return exact.value == is_exact and self.is_same(bounded, upper, value.address, tag)
+        has_bounds = self.library.cheri_is_exact(value.address, length)
+        return (exact.value == is_exact and has_bounds == (is_exact and value.address + length <= SPACE)
+                and self.is_same(bounded, upper, value.address, tag))
 
 
 def agreement(bench, case):

@@ -27,7 +27,7 @@ FILES = [
     File("words", capabilities.word, 674),
     File("parts", capabilities.parts, 385),
     File("windows", capabilities.window, 1641),
-    File("requests", capabilities.request, 399),
+    File("requests", capabilities.request, 402),
     File("agreements", capabilities.agreement, 3000),
     File("rights", capabilities.right, 246, 18),
     File("capability_rows", capabilities.capability_row, 445),

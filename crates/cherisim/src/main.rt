@@ -39,7 +39,7 @@ fn status(rt: &HostRuntime, words: &[String]) -> u8 {
     let mut disk = Disk::new(rt);
     let input = rt.reader();
     let output = io::writer(rt);
-    status_of(rt.alloc(), &mut disk, input, output, &mut errors, &texts)
+    status_of(rt.alloc(), &mut disk, input, output, &mut errors, &texts).status
 }
 
 fn main(rt: HostRuntime) -> io::Result<ExitCode> {

@@ -1,7 +1,8 @@
 -- A run in two parts: steps that are done in one call with the tick after them, and what is left.
 use Rattle.std.proofs.Common.{◌≡◌, ℕ, zero, suc, ◌+◌, ◌-◌, ◌/◌, ◌%◌, ◌<◌, ◌≤◌, Bool, true, false, List, [], ◌∷◌, ◌++◌, length, replicate}
 use Rattle.std.proofs.Common.{refl, sym, ap, ap₂, ◌∙◌, append_assoc, arith}
-use Rattle.std.specs.Prelude.{Option, None, Some, is_some, option_to_list, not, ◌==◌, ◌&&◌, if◌then◌else◌}
+use Rattle.std.specs.Prelude.{Option, None, Some, IfSome, is_some, option_to_list, not, ◌==◌, ◌&&◌, if◌then◌else◌}
+use Rattle.std.specs.Bool.{then_some}
 use Rattle.std.proofs.lemmas.Bool.{cond_both}
 use Rattle.std.proofs.lemmas.Bool.Decides.{nat_tests}
 use Rattle.cap_bounds.specs.RemainderLaws.{mod-is}
@@ -10,6 +11,8 @@ use Rattle.steps.specs.declared.event.Event.TheVariants.{Step, Tick, Byte}
 use Rattle.steps.specs.State.{State, pc_of}
 use Rattle.steps.specs.Ends.{why_of}
 use Rattle.steps.specs.Event.{after, sent, outcome}
+use Rattle.steps.specs.Outcome.{Plain}
+use Rattle.steps.specs.Steps.{GoesBy}
 use Rattle.machine.specs.Run.{run_after, run_sent}
 use Rattle.cherisim_c.specs.declared.types.Asked.{Asked}
 use Rattle.cherisim_c.specs.Running.{stop_at, is_at_stop, is_tick_after, tick_after, end_code, run_from, run_events, steps_in}
@@ -102,23 +105,35 @@ nothing None none test is = refl
 nothing (Some why) true test is = absurd (cc)
 nothing (Some why) false test is = absurd (cc)
 
+no-reason : (done halted full there : Bool) (end : Option ℕ) → done ≡ false → halted ≡ false → full ≡ false → there ≡ false → end ≡ None
+    → (if done then Some 0 else (if halted then Some 1 else (if full then Some 2 else (if there then Some 3 else end)))) ≡ None
+no-reason done halted full there end more running space elsewhere on = rw (more, running, space, elsewhere) on
+
 -- nothing stops a run in a state that it goes by
 stopless : (a : Asked) (left room : ℕ) (s : State) → 1 ≤ left → 1 ≤ room → GoesOn a s → stop_at a left room s ≡ None
 unfolding stop_at
 stopless a left room s some place on =
     let more : left == 0 ≡ false = grind (arith, nat_tests) in
     let space : room == 0 ≡ false = grind (arith, nat_tests) in
-    rw (more, on.running, space, on.elsewhere, on.no_end) refl
-
--- steps short of an address go by it
-pub not-there : (a : Asked) (s : State) → (pc_of s ≡ a.address → ⊥) → is_at_stop a s ≡ false
-not-there a s other =
-    let apart : pc_of s == a.address ≡ false = grind (arith, nat_tests, other) in
-    rw apart (and-false a.at_address)
+    no-reason (left == 0) (is_some s.devices.halted) (room == 0) (is_at_stop a s) _ more (ap is_some on.running) space on.elsewhere
+    (no-end a.at_end s on.no_end)
   where
-    and-false : (b : Bool) → b && false ≡ false
-    and-false true = refl
-    and-false false = refl
+    no-end : (ends : Bool) (s : State) → (ends ≡ true → outcome Step s ≡ Plain)
+        → (if ends then end_code (why_of (outcome Step s)) else None) ≡ None
+    no-end true s plain = ap (λ o. end_code (why_of o)) (plain refl)
+    no-end false s plain = refl
+
+-- a plain step short of the address where a run stops, if it stops at one, is one that the run goes by
+pub goes-by : (a : Asked) (s : State) → GoesBy (then_some a.at_address a.address) s → GoesOn a s
+goes-by a s by = record { running = by.running; elsewhere = not-there a.at_address (pc_of s) by.elsewhere; no_end = λ ends. by.plain }
+  where
+    apart : (m n : ℕ) → (m ≡ n → ⊥) → m == n ≡ false
+    apart m n other = grind (arith, nat_tests, other)
+
+    not-there : (stops : Bool) (pc : ℕ) → IfSome (then_some stops a.address) (λ address. pc ≡ address → ⊥)
+        → stops && (pc == a.address) ≡ false
+    not-there true pc other = apart pc a.address other
+    not-there false pc other = refl
 
 pub silent-before : (count : ℕ) (s : State) → run_sent (replicate count Step) s ≡ [] → run_sent (replicate (count - 1) Step) s ≡ []
 silent-before zero s silent = refl

@@ -1,16 +1,19 @@
 -- What steps that are done in one call are to a run for C.
-use Rattle.std.specs.Prelude.{◌≡◌, ℕ, ◌+◌, ◌-◌, ◌<◌, ◌≤◌, false, [], ◌++◌, length, replicate, Option, None, option_to_list}
+use Rattle.std.specs.Prelude.{◌≡◌, ℕ, ◌+◌, ◌-◌, ◌<◌, ◌≤◌, true, false, [], ◌++◌, length, replicate, Option, None, option_to_list}
 use Rattle.steps.specs.declared.event.Event.TheVariants.{Step}
+use Rattle.steps.specs.Event.{outcome}
+use Rattle.steps.specs.Outcome.{Plain}
 use Rattle.steps.specs.State.{State}
 use Rattle.machine.specs.Run.{run_after, run_sent}
 use Rattle.cherisim_c.specs.declared.types.Asked.{Asked}
 use Rattle.cherisim_c.specs.Running.{is_at_stop, is_tick_after, run_from, steps_in}
 
--- a state that steps of a run go by: it runs, it is not at the address where the run stops, and the run does not stop at ends
+-- a state that steps of a run go by: it runs, it is not at the address where the run stops, and where the run stops at ends its step is
+-- plain
 pub record GoesOn (a : Asked) (s : State) : Type 0 where
   pub running : s.devices.halted ≡ None
   pub elsewhere : is_at_stop a s ≡ false
-  pub no_end : a.at_end ≡ false
+  pub no_end : a.at_end ≡ true → outcome Step s ≡ Plain
 
 -- so many steps go by such states, and none but the last of them sends
 pub record WalksOn (a : Asked) (count : ℕ) (s : State) : Type 0 where

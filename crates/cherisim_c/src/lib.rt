@@ -2,6 +2,7 @@
 #![tactic(auto)]
 
 mod asking;
+mod bytes;
 mod events;
 mod handle;
 mod life;

@@ -1,6 +1,6 @@
 //! Machines are made, copied and freed.
 
-ghost use Rattle.std.specs.Prelude.{◌≡◌, ◌⊎◌, ◌≤◌, Some, None, IfSome, IfOk, IfErr, [], ◌∷◌, Ok};
+ghost use Rattle.std.specs.Prelude.{◌≡◌, ◌≢◌, ◌⊎◌, ◌≤◌, Some, None, IfSome, IfOk, IfErr, [], ◌∷◌, Ok};
 ghost use Rattle.image.specs.Grammar.{reading};
 ghost use Rattle.image.specs.Reads.{Answers};
 ghost use Rattle.image.specs.Image.{Image as ImageRecord, Builds};
@@ -10,10 +10,11 @@ ghost use Rattle.hart.specs.Opening.{opening};
 ghost use Rattle.cherisim_c.specs.Status.{no_memory, no_machine, image_status};
 ghost use Rattle.cherisim_c.specs.Made.{IsImageRefusal, IsTextRefusal, flat_fault, flat_image};
 
+use crate::bytes::Bytes;
 use crate::handle::Handle;
 use crate::status::{NO_MACHINE, NO_MEMORY, OK, status_of_image, status_of_text};
 use assembler::{AsmCode, AsmFault, assemble};
-use image::{FromRead, Image, ImageFault, read};
+use image::{Image, ImageFault, read};
 use machine::Machine;
 use std::alloc::Global;
 use word_cap::WordCap;
@@ -36,15 +37,17 @@ fn opened(alloc: Global, image: &Image) -> Option<Box<Machine<WordCap>>>
 
 /// The image that bytes are.
 fn image_of_bytes(alloc: Global, bytes: &[u8]) -> Result<Image, ImageFault>
-    ensures { Answers (reading bytes.now) result }
+    ensures value { Answers (reading bytes.now) result }
+    ensures read { IfErr result (λ fault. fault ≢ ImageFault.L10) }
 {
-    read(alloc, &mut FromRead::new(bytes))
+    read(alloc, &mut Bytes::new(bytes))
 }
 
 /// The machine of an image's bytes.
 fn machine_of_bytes(alloc: Global, bytes: &[u8]) -> Result<Box<Machine<WordCap>>, ImageFault>
     ensures ok { IfOk result (λ machine. (image : ImageRecord) × (reading bytes.now ≡ Ok image) × (machine.value ≡ opening image)) }
     ensures err { IfErr result (λ fault. IsImageRefusal (reading bytes.now) (image_status fault)) }
+    ensures read { IfErr result (λ fault. fault ≢ ImageFault.L10) }
 {
     let image = image_of_bytes(alloc, bytes)?;
     match opened(alloc, &image) {
@@ -53,11 +56,13 @@ fn machine_of_bytes(alloc: Global, bytes: &[u8]) -> Result<Box<Machine<WordCap>>
     }
 }
 
-/// Makes a machine in the opening state of the image that the bytes are. Where it fails, the handle keeps what it held.
+/// Makes a machine in the opening state of the image that the bytes are. Where it fails, the handle keeps what it held. L10 never comes:
+/// bytes in memory can't fail to be read.
 #[unsafe(no_mangle)]
 pub extern "C" fn cherisim_new(alloc: Global, bytes: &[u8], machine: &mut Handle) -> u32
     ensures ok { result ≡ 0 → (image : ImageRecord) × (reading bytes.now ≡ Ok image) × (machine.new.machine ≡ Some (opening image)) }
     ensures refused { 1 ≤ result → IsImageRefusal (reading bytes.now) result }
+    ensures read { result ≢ image_status ImageFault.L10 }
     ensures same { 1 ≤ result → machine.new.machine ≡ machine.old.machine }
 {
     match machine_of_bytes(alloc, bytes) {

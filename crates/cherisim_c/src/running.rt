@@ -1,6 +1,7 @@
 //! Runs of steps into a buffer.
 
 ghost use Rattle.std.specs.Prelude.{◌≡◌, ℕ, ◌+◌, ◌-◌, ◌^◌, ◌<◌, ◌≤◌, ◌++◌, length, take, replicate, option_to_list, None, Some};
+ghost use Rattle.std.specs.Bool.{then_some};
 ghost use Rattle.steps.specs.declared.event.Event.TheVariants.{Step};
 ghost use Rattle.steps.specs.Ends.{why_of};
 ghost use Rattle.steps.specs.State.{pc_of};
@@ -34,6 +35,13 @@ pub(crate) fn code_of_end(why: Option<Why>) -> Option<u32>
         Some(Why::Unseal) => Some(5),
         Some(Why::SealedJump) => Some(6),
     }
+}
+
+/// The address where a run stops, if it stops at one.
+fn stop_address(asked: &Asked) -> Option<u64>
+    ensures { result ≡ then_some asked.now.at_address asked.now.address }
+{
+    asked.at_address.then_some(asked.address)
 }
 
 /// Whether PCC has the address where a run stops.
@@ -95,7 +103,7 @@ fn one_step(machine: &mut Machine<WordCap>) -> Advance
     }
 }
 
-/// Does steps of a run, one at least.
+/// Does steps of a run, one at least. Where the run may stop before a step, they are plain and short of its address, or one step.
 fn some_steps(machine: &mut Machine<WordCap>, asked: &Asked, most: u64) -> Advance
     requires some { 1 ≤ most }
     requires running { machine.old.devices.halted ≡ None }
@@ -105,17 +113,14 @@ fn some_steps(machine: &mut Machine<WordCap>, asked: &Asked, most: u64) -> Advan
     ensures bytes { run_sent (replicate result.steps Step) machine.old ≡ option_to_list result.byte }
     ensures walks { WalksOn asked.now result.steps machine.old }
 {
-    if asked.at_end {
+    if !asked.at_address && !asked.at_end {
+        return machine.advance(most);
+    }
+    let steps = machine.advance_short_of(stop_address(asked), most);
+    if steps == 0 {
         one_step(machine)
-    } else if asked.at_address {
-        let steps = machine.advance_short_of(Some(asked.address), most);
-        if steps == 0 {
-            one_step(machine)
-        } else {
-            Advance { steps, byte: None }
-        }
     } else {
-        machine.advance(most)
+        Advance { steps, byte: None }
     }
 }
 

@@ -5,3 +5,4 @@ pub mod Typed
 pub mod Debugged
 pub mod Policies
 pub mod Gap
+pub mod FirstRun

@@ -5,8 +5,8 @@ use Rattle.std.proofs.Common.{arith, ap, inl, inr}
 use Rattle.std.proofs.lemmas.Bool.{cases_lt}
 use Rattle.std.proofs.Math.Nat.{div-mul-le_self}
 use Rattle.steps.specs.State.{State}
-use Rattle.sim_run.specs.declared.schedule.Schedule.{Schedule}
-use Rattle.sim_run.specs.Schedule.{byte_before, first_steps, scheduled, up_to_halt}
+use Rattle.schedules.specs.declared.schedule.Schedule.{Schedule}
+use Rattle.schedules.specs.Schedule.{byte_before, first_steps, scheduled, up_to_halt}
 
 pub slice_get-take : (m : ℕ) (xs : List ℕ) (i : ℕ) → i < m → slice_get (take m xs) i ≡ slice_get xs i
 slice_get-take zero xs i below = absurd (omega (arith, below))

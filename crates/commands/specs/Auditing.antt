@@ -11,9 +11,9 @@ use Rattle.policy_audit.specs.Entries.{entries_text}
 use Rattle.policy_audit.specs.Text.{audit_findings, audit_text}
 use Rattle.policy_text.specs.declared.reading.Policy.{Policy}
 use Rattle.policy_text.specs.Policy.{line_text}
-use Rattle.sim_run.specs.declared.schedule.Schedule.{Schedule}
-use Rattle.sim_run.specs.Schedule.{scheduled}
-use Rattle.sim_run.specs.Stopping.{events_before}
+use Rattle.schedules.specs.declared.schedule.Schedule.{Schedule}
+use Rattle.schedules.specs.Schedule.{scheduled}
+use Rattle.schedules.specs.Schedule.{events_before}
 use Rattle.sim_run.specs.Trace.{trace_text}
 use Rattle.symbols.specs.Symbols.{Symbol}
 use Rattle.commands.specs.declared.auditing.Audited.{Audited}

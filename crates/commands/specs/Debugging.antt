@@ -8,7 +8,7 @@ use Rattle.debugger.specs.SessionState.{session_of_image}
 use Rattle.debugger.specs.Talk.{heard}
 use Rattle.image.specs.Grammar.{reading}
 use Rattle.image.specs.Image.{Image}
-use Rattle.sim_run.specs.declared.schedule.Schedule.{Schedule}
+use Rattle.schedules.specs.declared.schedule.Schedule.{Schedule}
 use Rattle.symbols.specs.Symbols.{Symbol}
 use Rattle.commands.specs.Files.{Text, File, IsTable, bytes_of}
 

@@ -1,5 +1,5 @@
 -- What `run` writes of a file, and where the run ends. After an address stands its label, where a file with labels is named.
-use Rattle.std.specs.Prelude.{◌≡◌, ℕ, Bool, true, false, not, is_some, ◌==◌, ◌&&◌, if◌then◌else◌, List, [], Option, Some, None, Ok}
+use Rattle.std.specs.Prelude.{◌≡◌, ℕ, Bool, true, false, not, is_some, ◌==◌, ◌&&◌, if◌then◌else◌, List, [], ◌∷◌, Option, Some, None, Ok}
 use Rattle.std.specs.Prelude.{IfSome, string_bytes}
 use Rattle.std.specs.Borrow.{Bor}
 use Rattle.std.specs.Io.KnownBytes.{Appends}
@@ -7,12 +7,13 @@ use Rattle.steps.specs.declared.event.Event.{Event}
 use Rattle.hart.specs.Opening.{opening}
 use Rattle.steps.specs.State.{State}
 use Rattle.image.specs.Grammar.{reading}
-use Rattle.image.specs.Image.{Image}
+use Rattle.base.specs.Ram.{ram_base}
+use Rattle.image.specs.Image.{Image, image_of}
 use Rattle.machine.specs.declared.end.End.{End}
 use Rattle.machine.specs.Run.{run_after, run_sent, end_of}
-use Rattle.sim_run.specs.declared.schedule.Schedule.{Schedule}
+use Rattle.schedules.specs.declared.schedule.Schedule.{Schedule}
 use Rattle.sim_run.specs.Ending.{ending_lines}
-use Rattle.sim_run.specs.Schedule.{scheduled, steps_in}
+use Rattle.schedules.specs.Schedule.{scheduled, steps_in}
 use Rattle.sim_run.specs.declared.stopping.StopAt.{StopAt}
 use Rattle.sim_run.specs.declared.stopping.StopAt.TheVariants as stop
 use Rattle.sim_run.specs.Stopping.{events_met, stop_met, stopped_lines}
@@ -105,3 +106,20 @@ abbrev pub RunsFile : Option (Bor Text) → Option StopAt → Schedule → Optio
 RunsFile symbols at schedule input quiet bytes trace kept files_old files_new ended old new =
     (image : Image) × (table : List Symbol) × (reading bytes ≡ Ok image) × IsTable symbols files_old table
     × RunsTyped table at schedule input quiet image trace kept files_old files_new ended old new
+
+-- ---- the first image
+
+-- lui a1, 0x10000; addi a0, zero, 65; sb a0, 0(a1); lui a1, 0x100; sd zero, 0(a1): it sends A and halts with 0
+abbrev pub first_words : List ℕ
+first_words =
+    0xb7 ∷ 0x05 ∷ 0x00 ∷ 0x10 ∷ 0x13 ∷ 0x05 ∷ 0x10 ∷ 0x04 ∷ 0x23 ∷ 0x80 ∷ 0xa5 ∷ 0x00 ∷ 0xb7 ∷ 0x05 ∷ 0x10 ∷ 0x00 ∷ 0x23 ∷ 0xb0 ∷ 0x05 ∷
+    0x00
+    ∷ []
+
+-- in a page of RAM, from its first address on, in integer mode
+abbrev pub first_image : Image
+first_image = image_of 1 1 ram_base 0 (record { address = ram_base; bytes = first_words } ∷ []) []
+
+-- its five steps, without labels or bytes that come
+abbrev pub RunsFirst : Ended → Option (List ℕ) → Option (List ℕ) → Type 0
+RunsFirst ended old new = Runs [] None (record { steps = 5; gap = 1000; tick = 100 }) [] false first_image ended old new

@@ -18,9 +18,9 @@ use Rattle.policy_runs.specs.Keeping.{StepsKeepToEach}
 use Rattle.policy_text.specs.declared.reading.Policy.{Policy}
 use Rattle.policy_text.specs.Policy.{line_text, policy_of}
 use Rattle.policy_text.specs.Seen.{seen}
-use Rattle.sim_run.specs.declared.schedule.Schedule.{Schedule}
-use Rattle.sim_run.specs.Stopped.{IsPlaceOf}
-use Rattle.sim_run.specs.Stopping.{events_before}
+use Rattle.schedules.specs.declared.schedule.Schedule.{Schedule}
+use Rattle.schedules.specs.Schedule.{IsPlaceOf}
+use Rattle.schedules.specs.Schedule.{events_before}
 use Rattle.sim_run.specs.Trace.{trace_text}
 use Rattle.symbols.specs.Symbols.{Symbol}
 use Rattle.commands.specs.declared.fault.ProgramFault.{ProgramFault}

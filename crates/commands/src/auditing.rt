@@ -3,7 +3,7 @@
 ghost use Rattle.std.specs.Prelude.{◌≡◌, ◌≤◌, IfOk, IfSome, IfErr, OnOk, string_bytes, length};
 ghost use Rattle.std.specs.Io.KnownBytes.{Appends};
 ghost use Rattle.hart.specs.Opening.{opening};
-ghost use Rattle.sim_run.specs.Schedule.{IsRunnable, scheduled};
+ghost use Rattle.schedules.specs.Schedule.{IsRunnable, scheduled};
 ghost use Rattle.policy_audit.specs.Entries.{entries_text};
 ghost use Rattle.commands.specs.Auditing.{AreLinesOf, Audits, AuditsBy, AuditsFile, AuditsImage, Lists, ListsAll};
 ghost use Rattle.commands.specs.Auditing.{TracesRun, told_unless};
@@ -19,7 +19,7 @@ use image::{Image, write_all};
 use machine::Machine;
 use policy_audit::{audit_run, entries_run};
 use policy_text::Policy;
-use sim_run::Schedule;
+use schedules::Schedule;
 use std::alloc::{AllocError, Global};
 use std::io::Write;
 use symbols::Symbols;

@@ -1,10 +1,11 @@
 //! A command line carried out, and the status that it ends with.
 
 ghost use Rattle.command_line.specs.CommandLine.{AreInRange, IsSound};
-ghost use Rattle.std.specs.Prelude.{◌≡◌, ◌≤◌, ◌*◌, ◌⊎◌, false, true, map, IfOk, IfSome};
-ghost use Rattle.sim_run.specs.Schedule.{IsRunnable};
+ghost use Rattle.std.specs.Prelude.{◌≡◌, ◌≤◌, ◌*◌, ◌⊎◌, Some, false, true, map, IfOk, IfSome};
+ghost use Rattle.std.specs.Io.KnownBytes.{Appends};
+ghost use Rattle.schedules.specs.Schedule.{IsRunnable};
 ghost use Rattle.sim_run.specs.Verdict.{status_of as status_of_run};
-ghost use Rattle.commands.specs.Carrying.{HasStatus, IsCarriedOut, IsKept, IsRefused, RunsBy, asks_version, status_of_done};
+ghost use Rattle.commands.specs.Carrying.{HasStatus, IsCarriedOut, IsKept, IsRefused, RunsBy, asks_version, status_of_done, version_line};
 ghost use Rattle.commands.specs.Files.{bytes_of};
 ghost use Rattle.commands.specs.Overwriting.{Overwrites};
 
@@ -21,7 +22,8 @@ use crate::running::{Ended, Kept, run_file, run_first, stop_at};
 use crate::watching::watch_file;
 use command_line::{Plan, PlanFault, plan};
 use image::DeviceFailed;
-use sim_run::{Schedule, StopAt, verdict};
+use schedules::Schedule;
+use sim_run::{StopAt, verdict};
 use std::alloc::Global;
 use std::io::{Read, Write};
 
@@ -46,6 +48,15 @@ enum Done {
     Run(Ended),
     /// An audit that found so many parts of rules that are broken.
     Audit(usize),
+}
+
+/// What a command line ends with.
+#[derive(Debug, Drop)]
+pub struct Answer<O> {
+    /// The status.
+    pub status: u8,
+    /// The output, where all that was to be written to it is written.
+    pub output: Option<O>,
 }
 
 /// Tells how a run ended, and where; and answers the status.
@@ -134,22 +145,22 @@ fn run_by<'a, F: Folder, O: Write + Drop>(
     }
 }
 
-/// Does what the plan says.
+/// Does what the plan says, and hands the output back.
 fn carry_out<'a, F: Folder, I: Read + Drop, O: Write + Drop>(
     alloc: Global,
     folder: &mut F,
     input: I,
     output: O,
     plan: Plan<'a>,
-) -> Result<Done, ProgramFault<'a>>
+) -> Result<(Done, O), ProgramFault<'a>>
     requires { IsSound plan }
-    ensures { IfOk result (λ done. HasStatus plan.entry (O.contents output) (F.files folder.old) (F.files folder.new)
-        (status_of_done done)) }
+    ensures { IfOk result (λ done. HasStatus plan.entry (I.remaining input) (O.contents output) (O.contents done.1) (F.files folder.old)
+        (F.files folder.new) (status_of_done done.0)) }
 {
     match plan {
         Plan::First => {
-            let (ended, _output) = run_first(alloc, output)?;
-            Ok(Done::Run(ended))
+            let (ended, output) = run_first(alloc, output)?;
+            Ok((Done::Run(ended), output))
         }
         Plan::Run {
             image,
@@ -172,11 +183,11 @@ fn carry_out<'a, F: Folder, I: Read + Drop, O: Write + Drop>(
                 from: trace_from,
                 last: trace_last,
             };
-            let (ended, _output) = run_by(
+            let (ended, output) = run_by(
                 alloc, folder, image, policy, symbols, at, schedule, input, quiet, trace, kept,
                 output,
             )?;
-            Ok(Done::Run(ended))
+            Ok((Done::Run(ended), output))
         }
         Plan::Audit {
             image,
@@ -196,7 +207,7 @@ fn carry_out<'a, F: Folder, I: Read + Drop, O: Write + Drop>(
                 from: trace_from,
                 last: trace_last,
             };
-            let (count, _output) = audit_file(
+            let (count, output) = audit_file(
                 alloc,
                 folder,
                 image,
@@ -209,25 +220,25 @@ fn carry_out<'a, F: Folder, I: Read + Drop, O: Write + Drop>(
                 kept,
                 output,
             )?;
-            Ok(Done::Audit(count))
+            Ok((Done::Audit(count), output))
         }
         Plan::Asm {
-            input,
-            output,
+            input: text,
+            output: made,
             symbols,
             ..
         } => {
-            assemble_file(alloc, folder, input, output, symbols)?;
-            Ok(Done::All)
+            assemble_file(alloc, folder, text, made, symbols)?;
+            Ok((Done::All, output))
         }
         Plan::Image {
             flat,
-            output,
+            output: made,
             layout,
             ..
         } => {
-            image_file(alloc, folder, flat, output, layout)?;
-            Ok(Done::All)
+            image_file(alloc, folder, flat, made, layout)?;
+            Ok((Done::All, output))
         }
         Plan::Dis {
             image,
@@ -235,8 +246,8 @@ fn carry_out<'a, F: Folder, I: Read + Drop, O: Write + Drop>(
             header,
             ..
         } => {
-            let _output = list_file(alloc, folder, image, symbols, header, output)?;
-            Ok(Done::All)
+            let output = list_file(alloc, folder, image, symbols, header, output)?;
+            Ok((Done::All, output))
         }
         Plan::Debug {
             image,
@@ -246,27 +257,38 @@ fn carry_out<'a, F: Folder, I: Read + Drop, O: Write + Drop>(
             tick,
             ..
         } => {
-            let _output = debug_file(
+            let output = debug_file(
                 alloc, folder, image, symbols, typed, gap, tick, input, output,
             )?;
-            Ok(Done::All)
+            Ok((Done::All, output))
         }
         Plan::Bounds {
             base,
             length,
             address,
         } => {
-            let _output = show_bounds(base, length, address, output)?;
-            Ok(Done::All)
+            let output = show_bounds(base, length, address, output)?;
+            Ok((Done::All, output))
         }
         Plan::Word { high, low, memory } => {
-            let _output = show_word(high, low, memory, output)?;
-            Ok(Done::All)
+            let output = show_word(high, low, memory, output)?;
+            Ok((Done::All, output))
         }
     }
 }
 
-/// Does what the plan says, and answers the status.
+/// Tells what became of a command that was carried out, and answers the status.
+fn tell_done<E: Write>(errors: &mut E, done: &Done) -> u8
+    ensures { result ≡ status_of_done done.now }
+{
+    match done {
+        Done::All | Done::Audit(0) => 0,
+        Done::Run(ended) => tell_end(errors, ended),
+        Done::Audit(_) => 1,
+    }
+}
+
+/// Does what the plan says, and answers the status and the output.
 fn carry<'a, F: Folder, I: Read + Drop, O: Write + Drop, E: Write>(
     alloc: Global,
     folder: &mut F,
@@ -274,27 +296,33 @@ fn carry<'a, F: Folder, I: Read + Drop, O: Write + Drop, E: Write>(
     output: O,
     errors: &mut E,
     plan: Plan<'a>,
-) -> u8
+) -> Answer<O>
     requires { IsSound plan }
-    ensures done { result ≤ 1 → HasStatus plan.entry (O.contents output) (F.files folder.old) (F.files folder.new) result }
-    ensures otherwise { (result ≤ 1) ⊎ (result ≡ 3) }
+    ensures done { result.status ≤ 1 → (out : O) × (result.output ≡ Some out)
+        × HasStatus plan.entry (I.remaining input) (O.contents output) (O.contents out) (F.files folder.old) (F.files folder.new)
+        result.status }
+    ensures otherwise { (result.status ≤ 1) ⊎ (result.status ≡ 3) }
 {
     match carry_out(alloc, folder, input, output, plan) {
-        Ok(Done::All) => 0,
-        Ok(Done::Run(ended)) => tell_end(errors, &ended),
-        Ok(Done::Audit(0)) => 0,
-        Ok(Done::Audit(_)) => 1,
+        Ok((done, output)) => Answer {
+            status: tell_done(errors, &done),
+            output: Some(output),
+        },
         Err(fault) => {
-            if is_quiet(plan) {
+            let status = if is_quiet(plan) {
                 tell_text(alloc, errors, &fault)
             } else {
                 tell_fault(errors, &fault)
+            };
+            Answer {
+                status,
+                output: None,
             }
         }
     }
 }
 
-/// Does what the plan says, unless a file would be written over another of the command, and answers the status.
+/// Does what the plan says, unless a file would be written over another of the command, and answers the status and the output.
 fn carry_apart<'a, F: Folder, I: Read + Drop, O: Write + Drop, E: Write>(
     alloc: Global,
     folder: &mut F,
@@ -302,15 +330,21 @@ fn carry_apart<'a, F: Folder, I: Read + Drop, O: Write + Drop, E: Write>(
     output: O,
     errors: &mut E,
     plan: Plan<'a>,
-) -> u8
+) -> Answer<O>
     requires { IsSound plan }
-    ensures done { result ≤ 1 → HasStatus plan.entry (O.contents output) (F.files folder.old) (F.files folder.new) result }
-    ensures apart { result ≤ 1 → Overwrites (F.same folder.old) plan.entry false }
-    ensures refused { result ≡ 2 → Overwrites (F.same folder.old) plan.entry true × (F.files folder.new ≡ F.files folder.old) }
-    ensures most { result ≤ 3 }
+    ensures done { result.status ≤ 1 → (out : O) × (result.output ≡ Some out)
+        × HasStatus plan.entry (I.remaining input) (O.contents output) (O.contents out) (F.files folder.old) (F.files folder.new)
+        result.status }
+    ensures apart { result.status ≤ 1 → Overwrites (F.same folder.old) plan.entry false }
+    ensures refused { result.status ≡ 2
+        → Overwrites (F.same folder.old) plan.entry true × (F.files folder.new ≡ F.files folder.old) }
+    ensures most { result.status ≤ 3 }
 {
     if overwrites(folder, plan) {
-        return refuse(errors, SAME_FILE);
+        return Answer {
+            status: refuse(errors, SAME_FILE),
+            output: None,
+        };
     }
     carry(alloc, folder, input, output, errors, plan)
 }
@@ -323,12 +357,25 @@ fn asks_version(words: &[&str]) -> bool
 }
 
 /// Writes a text that was asked for, and answers this status where it could be written.
-fn show<O: Write + Drop, E: Write>(mut output: O, errors: &mut E, text: &str, status: u8) -> u8
-    ensures { (result ≡ status) ⊎ (result ≡ 3) }
+fn show<O: Write + Drop, E: Write>(
+    mut output: O,
+    errors: &mut E,
+    text: &str,
+    status: u8,
+) -> Answer<O>
+    ensures status { (result.status ≡ status) ⊎ (result.status ≡ 3) }
+    ensures written { (result.status ≡ 3 → ⊥) → (out : O) × (result.output ≡ Some out)
+        × Appends (O.contents output) (O.contents out) text.now }
 {
     match output.write_all(text.as_bytes()) {
-        Ok(()) => status,
-        Err(_) => tell_fault(errors, &ProgramFault::Write(DeviceFailed)),
+        Ok(()) => Answer {
+            status,
+            output: Some(output),
+        },
+        Err(_) => Answer {
+            status: tell_fault(errors, &ProgramFault::Write(DeviceFailed)),
+            output: None,
+        },
     }
 }
 
@@ -341,14 +388,18 @@ pub fn refuse<E: Write>(errors: &mut E, text: &str) -> u8
 }
 
 /// Tells why the words are no plan, or gives the help that they ask for, and answers the status.
-fn tell_no_plan<O: Write + Drop, E: Write>(output: O, errors: &mut E, fault: PlanFault) -> u8
-    ensures memory { fault ≡ PlanFault.Memory → result ≡ 3 }
-    ensures otherwise { (result ≡ 2) ⊎ (result ≡ 3) }
+fn tell_no_plan<O: Write + Drop, E: Write>(output: O, errors: &mut E, fault: PlanFault) -> Answer<O>
+    ensures memory { fault ≡ PlanFault.Memory → result.status ≡ 3 }
+    ensures otherwise { (result.status ≡ 2) ⊎ (result.status ≡ 3) }
 {
-    match fault {
+    let status = match fault {
         PlanFault::Memory => tell_fault(errors, &ProgramFault::Memory),
-        PlanFault::Help(text) => show(output, errors, &text, REFUSED),
+        PlanFault::Help(text) => return show(output, errors, &text, REFUSED),
         PlanFault::Refused(text) => refuse(errors, &text),
+    };
+    Answer {
+        status,
+        output: None,
     }
 }
 
@@ -357,7 +408,7 @@ fn tell_no_plan<O: Write + Drop, E: Write>(output: O, errors: &mut E, fault: Pla
 ///
 /// Answers the status: 0 for what was done, the version shown among it, and of a run where the machine halted with 0; 1 for a run
 /// that ended otherwise; 2 for a command line that was refused or asks for help, and where a file would be written over another of the
-/// command; 3 for another fault.
+/// command; 3 for another fault. At 0 and 1 the output comes with it, which has grown by exactly what was asked for.
 pub fn status_of<F: Folder, I: Read + Drop, O: Write + Drop, E: Write>(
     alloc: Global,
     folder: &mut F,
@@ -365,16 +416,18 @@ pub fn status_of<F: Folder, I: Read + Drop, O: Write + Drop, E: Write>(
     output: O,
     errors: &mut E,
     words: &[&str],
-) -> u8
-    ensures version { asks_version (map (λ word. word.now) words.entry.now) ≡ true → (result ≡ 0) ⊎ (result ≡ 3) }
+) -> Answer<O>
+    ensures version { asks_version (map (λ word. word.now) words.entry.now) ≡ true
+        → ((result.status ≡ 0) × (out : O) × (result.output ≡ Some out) × Appends (O.contents output) (O.contents out) version_line)
+        ⊎ (result.status ≡ 3) }
     // At 0 and 1 a plan that the words are was carried out wholly.
-    ensures done { asks_version (map (λ word. word.now) words.entry.now) ≡ false → result ≤ 1
-        → IsCarriedOut (map (λ word. word.now) words.entry.now) (F.same folder.old) (O.contents output) (F.files folder.old)
-        (F.files folder.new) result }
+    ensures done { asks_version (map (λ word. word.now) words.entry.now) ≡ false → result.status ≤ 1
+        → (out : O) × (result.output ≡ Some out) × IsCarriedOut (map (λ word. word.now) words.entry.now) (F.same folder.old)
+        (I.remaining input) (O.contents output) (O.contents out) (F.files folder.old) (F.files folder.new) result.status }
     // At 2 clap doesn't take the words, or finds no sound plan in them, or a file would be written over another of the command.
-    ensures refused { result ≡ 2 → IsRefused (map (λ word. word.now) words.entry.now)
+    ensures refused { result.status ≡ 2 → IsRefused (map (λ word. word.now) words.entry.now)
         ⊎ IsKept (map (λ word. word.now) words.entry.now) (F.same folder.old) (F.files folder.old) (F.files folder.new) }
-    ensures most { result ≤ 3 }
+    ensures most { result.status ≤ 3 }
 {
     if asks_version(words) {
         return show(output, errors, VERSION, 0);

@@ -15,7 +15,7 @@ use crate::writing::Writing;
 use debugger::{Session, talk};
 use image::{FromRead, Image};
 use machine::Machine;
-use sim_run::Schedule;
+use schedules::Schedule;
 use std::alloc::Global;
 use std::io::{Read, Write};
 use symbols::Symbols;

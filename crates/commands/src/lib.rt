@@ -15,6 +15,6 @@ mod running;
 mod watching;
 mod writing;
 
-pub use carrying::{FAULT, refuse, status_of, tell_fault};
+pub use carrying::{Answer, FAULT, refuse, status_of, tell_fault};
 pub use fault::ProgramFault;
 pub use files::Folder;

@@ -5,13 +5,11 @@ ghost use Rattle.std.specs.Io.Buffered.{line_writer_contents, writer_contents};
 ghost use Rattle.std.specs.Io.KnownBytes.{Keeps};
 ghost use Rattle.hart.specs.Opening.{opening};
 ghost use Rattle.machine.specs.Run.{run_after, end_of};
-ghost use Rattle.sim_run.specs.Schedule.{IsRunnable, steps_in};
-ghost use Rattle.sim_run.specs.Stopped.{IsPlaceOf};
-ghost use Rattle.sim_run.specs.Stopping.{events_before};
+ghost use Rattle.schedules.specs.Schedule.{IsRunnable, IsPlaceOf, events_before, steps_in};
 ghost use Rattle.sim_run.specs.Trace.{lines_past, trace_text};
 ghost use Rattle.symbols.specs.Symbols.{Symbol};
 ghost use Rattle.commands.specs.Files.{Closes, Gains, IsNew, begun, bytes_of, whole};
-ghost use Rattle.commands.specs.Running.{HasEnded, IsTyped, Meets, Runs, RunsFile, RunsTyped, Traces};
+ghost use Rattle.commands.specs.Running.{HasEnded, IsTyped, Meets, Runs, RunsFile, RunsFirst, RunsTyped, Traces};
 ghost use Rattle.commands.specs.Running.{events_of, is_told, place_lines, stop_at, stops, trace_of};
 
 use crate::fault::ProgramFault;
@@ -20,9 +18,10 @@ use crate::writing::{UntilFailure, Writing};
 use command_line::Why;
 use image::{DeviceFailed, Image};
 use machine::{End, Machine};
+use schedules::Schedule;
 use sim_run::{
-    Ran, Schedule, StopAt, TraceFault, count_steps, ending_lines, find_stop, lines_skipped,
-    run_before, run_traced_before, stopped_lines,
+    Ran, StopAt, TraceFault, count_steps, ending_lines, find_stop, lines_skipped, run_before,
+    run_traced_before, stopped_lines,
 };
 use std::alloc::{AllocError, Global};
 use std::io::{BufWriter, LineWriter, Write};
@@ -464,7 +463,9 @@ pub fn run_file<'a, F: Folder, O: Write + Drop>(
 pub fn run_first<'a, O: Write + Drop>(
     alloc: Global,
     output: O,
-) -> Result<(Ended, O), ProgramFault<'a>> {
+) -> Result<(Ended, O), ProgramFault<'a>>
+    ensures { IfOk result (λ done. RunsFirst done.0 (O.contents output) (O.contents done.1)) }
+{
     let image = Image::build(alloc, 1, ENTRY, 0, &[(ENTRY, &FIRST)])?;
     let schedule = Schedule {
         steps: 5,

@@ -12,7 +12,7 @@ use Rattle.past.specs.Position.{Position, after_byte_or_step, at, beginning, nex
 use Rattle.past.specs.Replay.{ReplayState, byte_due}
 use Rattle.past.specs.declared.given.Given.{Given}
 use Rattle.past.specs.declared.given.Given.TheVariants as gave
-use Rattle.sim_run.specs.Schedule.{is_halted}
+use Rattle.schedules.specs.Schedule.{is_halted}
 use Rattle.debugger.specs.Keeping.{timeline}
 use Rattle.debugger.specs.Reply.{taken_back_to}
 use Rattle.debugger.specs.SessionState.{HasItsPast, TimelineState}

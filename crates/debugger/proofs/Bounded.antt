@@ -1,5 +1,5 @@
 -- A step on a schedule is three events at most.
-use Rattle.std.proofs.Common.{◌≡◌, ℕ, zero, suc, ◌+◌, ◌-◌, ◌*◌, ◌≤◌, Bool, true, false, ◌&&◌, List, [], ◌∷◌, ◌++◌, length, map, refl, arith}
+use Rattle.std.proofs.Common.{◌≡◌, ℕ, zero, suc, ◌-◌, ◌*◌, ◌≤◌, Bool, true, false, ◌&&◌, List, [], ◌∷◌, ◌++◌, length, map, refl, arith}
 use Rattle.std.specs.Prelude.{Option, None, Some, if◌then◌else◌, not, option_to_list, replicate}
 use Rattle.std.proofs.lemmas.List.{length-append}
 use Rattle.steps.specs.declared.event.Event.{Event}
@@ -7,7 +7,7 @@ use Rattle.steps.specs.declared.event.Event.TheVariants.{Step, Tick, Byte}
 use Rattle.steps.specs.Event.{after, sent}
 use Rattle.steps.specs.State.{State}
 use Rattle.machine.specs.Run.{run_after}
-use Rattle.sim_run.specs.Schedule.{is_halted}
+use Rattle.schedules.specs.Schedule.{is_halted}
 use Rattle.debug_commands.specs.declared.command.Stop.{Stop}
 use Rattle.past.specs.Replay.{ReplayState, byte_due, byte_events, is_tick_due}
 use Rattle.debugger.specs.Stepping.{counted_steps, is_any_stop, is_at_end, next_step, ready, step_events, steps_while}

@@ -1,5 +1,5 @@
 -- Steps while a place holds a value: one more, or none.
-use Rattle.std.proofs.Common.{◌≡◌, ℕ, zero, suc, ◌+◌, ◌-◌, ◌<◌, ◌≤◌, Bool, true, false, not, ◌&&◌, ◌||◌, List, [], ◌∷◌, length, refl, sym}
+use Rattle.std.proofs.Common.{◌≡◌, ℕ, zero, suc, ◌-◌, ◌<◌, Bool, true, false, not, ◌&&◌, ◌||◌, List, [], ◌∷◌, length, refl, sym}
 use Rattle.std.proofs.Common.{ap, ◌∙◌}
 use Rattle.std.proofs.Common.{arith}
 use Rattle.std.specs.Prelude.{if◌then◌else◌, nat_lt}
@@ -9,10 +9,9 @@ use Rattle.debug_commands.specs.declared.command.Place.{Place}
 use Rattle.steps.specs.declared.event.Event.{Event}
 use Rattle.steps.specs.State.{State}
 use Rattle.steps.specs.Event.{after}
-use Rattle.machine.specs.Run.{run_after}
 use Rattle.past.specs.Replay.{is_over}
-use Rattle.sim_run.specs.Schedule.{is_halted}
-use Rattle.past.specs.Position.{Position, events_from, next_event, next_position, position_after}
+use Rattle.schedules.specs.Schedule.{is_halted}
+use Rattle.past.specs.Position.{Position, events_from, next_event, next_position}
 use Rattle.debugger.specs.Stepping.{holds, holds_on, is_done, steps_holding}
 use Rattle.debugger.proofs.RunSteps.{if_not}
 

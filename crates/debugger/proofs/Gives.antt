@@ -1,7 +1,7 @@
 -- What a command gives is what its session's steps give next, and the past keeps it.
-use Rattle.std.proofs.Common.{◌≡◌, ℕ, zero, suc, ◌+◌, Bool, true, false, not, ◌&&◌, ◌||◌, List, [], ◌∷◌, ◌++◌, length, refl, sym, ap, ap₂}
-use Rattle.std.proofs.Common.{◌∙◌, subst, arith}
-use Rattle.std.specs.Prelude.{Option, None, Some, option_map, replicate, if◌then◌else◌}
+use Rattle.std.proofs.Common.{◌≡◌, ℕ, zero, suc, ◌+◌, Bool, true, false, not, ◌&&◌, ◌||◌, List, [], ◌∷◌, ◌++◌, length, refl, sym, ap}
+use Rattle.std.proofs.Common.{◌∙◌, arith}
+use Rattle.std.specs.Prelude.{Option, None, Some, option_map, if◌then◌else◌}
 use Rattle.debug_commands.specs.declared.command.Events.{Events}
 use Rattle.debug_commands.specs.declared.command.Events.TheVariants.{Steps, Ticks, Byte, Until, Go, Changed}
 use Rattle.debug_commands.specs.declared.command.Place.{Place}
@@ -14,9 +14,9 @@ use Rattle.origins.specs.Places.{held}
 use Rattle.cap_bounds.specs.CapValue.{CapValue}
 use Rattle.past.specs.Position.{Position, after_byte_or_step, at, byte_or_step, events_from, next_event, next_position, position_after}
 use Rattle.past.specs.Replay.{ReplayState, byte_due, replayed}
-use Rattle.sim_run.specs.Schedule.{is_halted}
+use Rattle.schedules.specs.Schedule.{is_halted}
 use Rattle.debugger.specs.Reply.{are_scheduled, given, owed_after, owed_events, own_steps, replay_after, with_tick}
-use Rattle.debugger.specs.Stepping.{counted_steps, holds, is_at_end, is_done, most_gone, most_sent, steps_holding, steps_while}
+use Rattle.debugger.specs.Stepping.{holds, is_at_end, is_done, most_gone, most_sent, steps_holding, steps_while}
 use Rattle.debugger.proofs.Changes.{holding_is_stream}
 use Rattle.debugger.proofs.Streams.{IsStream, counted_are_streams, steps_are_streams}
 

@@ -15,12 +15,12 @@ use Rattle.steps.specs.declared.event.Event.TheVariants as event
 use Rattle.machine.specs.Run.{run_after}
 use Rattle.past.proofs.InOrder.{events_of-append, position_of-append}
 use Rattle.past.specs.Given.{PastState, events_of, events_of_one, past_events, position_after_one, position_of}
-use Rattle.past.specs.Position.{Position, at, beginning, events_from, next_position, position_after, rewound}
+use Rattle.past.specs.Position.{Position, at, beginning, events_from, position_after}
 use Rattle.past.specs.Replay.{ReplayState, replayed}
 use Rattle.past.specs.declared.given.Given.{Given}
 use Rattle.past.specs.declared.given.Given.TheVariants as gave
-use Rattle.sim_run.specs.Schedule.{is_halted}
-use Rattle.sim_run.proofs.Events.{run_after-append}
+use Rattle.schedules.specs.Schedule.{is_halted}
+use Rattle.schedules.proofs.Events.{run_after-append}
 use Rattle.debugger.specs.Reply.{are_scheduled, given, given_of, owed_after, replay_after}
 use Rattle.debugger.specs.SessionState.{StandsAfter}
 use Rattle.debugger.proofs.Bounded.{length-replicate}

@@ -1,5 +1,5 @@
 -- A line that is refused: what is left of the session, and of the sink where the refusal was not written.
-use Rattle.std.proofs.Common.{◌≡◌, ℕ, false, List, Option, Some, None, Err, ◌⊎◌, refl, sym, ◌∙◌, ⊎_elim}
+use Rattle.std.proofs.Common.{◌≡◌, ℕ, false, List, Option, None, Err, ◌⊎◌, refl, ◌∙◌, ⊎_elim}
 use Rattle.std.specs.Prelude.{◌≢◌}
 use Rattle.debug_commands.specs.declared.fault.DebugFault.{DebugFault}
 use Rattle.debug_commands.specs.declared.fault.DebugFault.TheVariants.{B4}

@@ -8,7 +8,7 @@ use Rattle.steps.specs.declared.event.Event.TheVariants.{Step, Tick, Byte}
 use Rattle.steps.specs.State.{State}
 use Rattle.steps.specs.Event.{after, sent}
 use Rattle.machine.specs.Run.{run_after, run_sent}
-use Rattle.sim_run.proofs.Events.{run_after-append, run_sent-append, run_sent-brought}
+use Rattle.schedules.proofs.Events.{run_after-append, run_sent-append, run_sent-brought}
 use Rattle.debug_commands.specs.declared.command.Stop.{Stop}
 use Rattle.past.specs.Replay.{ReplayState}
 use Rattle.debugger.specs.Stepping.{is_any_stop, is_at_end, step_events, steps_while}

@@ -7,8 +7,8 @@ use Rattle.steps.specs.declared.event.Event.TheVariants.{Step, Tick, Byte}
 use Rattle.steps.specs.State.{State}
 use Rattle.steps.specs.Event.{after, sent}
 use Rattle.machine.specs.Run.{run_after}
-use Rattle.sim_run.specs.Schedule.{byte_before, first_steps, is_halted, is_tick_after, steps_in, up_to_halt}
-use Rattle.sim_run.proofs.Events.{is_halted-brought, no_more, run_after-append, state_after}
+use Rattle.schedules.specs.Schedule.{byte_before, first_steps, is_halted, is_tick_after, steps_in, up_to_halt}
+use Rattle.schedules.proofs.Events.{is_halted-brought, no_more, run_after-append, state_after}
 use Rattle.debug_commands.specs.declared.command.Stop.{Stop}
 use Rattle.past.specs.Replay.{ReplayState}
 use Rattle.debugger.specs.Stepping.{is_any_stop, is_at_end, ready, step_events, steps_while}

@@ -7,8 +7,8 @@ use Rattle.steps.specs.declared.event.Event.TheVariants.{Step, Tick, Byte}
 use Rattle.steps.specs.State.{State}
 use Rattle.steps.specs.Event.{after, sent}
 use Rattle.machine.specs.Run.{run_after}
-use Rattle.sim_run.specs.Schedule.{is_halted}
-use Rattle.sim_run.proofs.Events.{run_after-append}
+use Rattle.schedules.specs.Schedule.{is_halted}
+use Rattle.schedules.proofs.Events.{run_after-append}
 use Rattle.debug_commands.specs.declared.command.Stop.{Stop}
 use Rattle.past.specs.Position.{Position, after_byte_or_step, at, byte_or_step, events_from, next_event, next_position, position_after}
 use Rattle.past.specs.Replay.{ReplayState, byte_due, byte_events, is_tick_due, replayed, step_done}

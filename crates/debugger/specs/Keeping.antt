@@ -1,5 +1,5 @@
 -- How a command's events are kept: the past has one command more before its first event, and what it gave in its place after the last.
-use Rattle.std.specs.Prelude.{ℕ, Bool, ◌+◌, ◌^◌, ◌≤◌, List, [], ◌∷◌, ◌++◌, length, Option, Some, None}
+use Rattle.std.specs.Prelude.{Bool, ◌^◌, ◌≤◌, [], ◌∷◌, ◌++◌, length, Option, Some, None}
 use Rattle.debug_commands.specs.declared.command.Events.{Events}
 use Rattle.debug_commands.specs.declared.command.Events.TheVariants.{Changed}
 use Rattle.debug_commands.specs.declared.command.Recall.{Recall}

@@ -4,8 +4,8 @@ use Rattle.steps.specs.declared.event.Event.{Event}
 use Rattle.steps.specs.declared.event.Event.TheVariants as event
 use Rattle.steps.specs.State.{State}
 use Rattle.machine.specs.Run.{run_after}
-use Rattle.sim_run.specs.declared.schedule.Schedule.{Schedule}
-use Rattle.sim_run.specs.Schedule.{byte_before, first_steps, steps_in, up_to_halt}
+use Rattle.schedules.specs.declared.schedule.Schedule.{Schedule}
+use Rattle.schedules.specs.Schedule.{byte_before, first_steps, steps_in, up_to_halt}
 use Rattle.debug_commands.specs.declared.command.Command.TheVariants.{Gives}
 use Rattle.debug_commands.specs.declared.command.Events.{Events}
 use Rattle.debug_commands.specs.declared.command.Events.TheVariants.{Steps, Until, Go}

@@ -49,7 +49,7 @@ use Rattle.past.specs.Position.{at, position_after}
 use Rattle.past.specs.Replay.{ReplayState, replayed}
 use Rattle.past.specs.declared.given.Given.{Given}
 use Rattle.past.specs.declared.given.Given.TheVariants as gave
-use Rattle.sim_run.specs.Schedule.{is_halted}
+use Rattle.schedules.specs.Schedule.{is_halted}
 use Rattle.debugger.specs.Stepping.{counted_steps, most_gone, most_sent, steps_holding, steps_while}
 use Rattle.debugger.specs.Reaching.{graph_reply, may_reply, members_reply, reach_reply}
 

@@ -5,8 +5,8 @@ use Rattle.hart.specs.Opening.{opening}
 use Rattle.steps.specs.State.{State}
 use Rattle.image.specs.Image.{Image}
 use Rattle.symbols.specs.Symbols.{Symbol}
-use Rattle.sim_run.specs.Schedule.{is_halted}
-use Rattle.sim_run.specs.declared.schedule.Schedule.{Schedule}
+use Rattle.schedules.specs.Schedule.{is_halted}
+use Rattle.schedules.specs.declared.schedule.Schedule.{Schedule}
 use Rattle.debug_commands.specs.declared.command.Stop.{Stop}
 use Rattle.machine.specs.Run.{run_after}
 use Rattle.past.specs.Given.{PastState, past_events, past_of, position_of}
@@ -42,12 +42,9 @@ session_with time symbols stops = record {
 abbrev pub begun : State → Option ReplayState → Option PastState → TimelineState
 begun machine replay past = record { machine = machine; replay = replay; owed = false; past = past }
 
--- a session as it begins, without a schedule and on one
+-- a session as it begins, without a schedule and without a past
 abbrev pub session_state : State → List Symbol → SessionState
 session_state machine symbols = session_with (begun machine None None) symbols []
-
-abbrev pub replaying_state : State → List Symbol → Schedule → List ℕ → SessionState
-replaying_state machine symbols schedule input = session_with (begun machine (Some (replay_from schedule input)) None) symbols []
 
 -- with a past: in the opening state of an image, on a schedule with this input if there is one
 abbrev pub session_of_image : Image → List Symbol → Option Schedule → List ℕ → SessionState

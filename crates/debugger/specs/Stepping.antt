@@ -1,5 +1,5 @@
 -- The steps of a command, with the byte before each and the tick after it where a session has a schedule; and where they stop.
-use Rattle.std.specs.Prelude.{ℕ, zero, suc, ◌-◌, ◌==◌, nat_lt, Bool, true, false, not, ◌&&◌, ◌||◌, if◌then◌else◌, List, [], ◌∷◌, ◌++◌}
+use Rattle.std.specs.Prelude.{ℕ, zero, suc, ◌-◌, ◌==◌, nat_lt, Bool, not, ◌&&◌, ◌||◌, if◌then◌else◌, List, [], ◌∷◌, ◌++◌}
 use Rattle.std.specs.Prelude.{length, replicate, Option, Some, None, option_to_list}
 use Rattle.std.specs.List.{list_any}
 use Rattle.steps.specs.declared.event.Event.{Event}
@@ -8,7 +8,7 @@ use Rattle.steps.specs.State.{State, pc_of}
 use Rattle.steps.specs.Event.{after, sent}
 use Rattle.steps.specs.Outcome.{is_trap, step_outcome}
 use Rattle.machine.specs.Run.{run_after}
-use Rattle.sim_run.specs.Schedule.{is_halted}
+use Rattle.schedules.specs.Schedule.{is_halted}
 use Rattle.debug_commands.specs.declared.command.Stop.{Stop}
 use Rattle.debug_commands.specs.declared.command.Stop.TheVariants.{Address, Trap}
 use Rattle.debug_commands.specs.declared.command.Place.{Place}

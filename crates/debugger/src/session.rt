@@ -1,7 +1,7 @@
 //! Sessions.
 ghost use Rattle.std.specs.Prelude.{◌≡◌, ◌≤◌, ◌⊎◌, [], false, None, Err, IfOk, IfErr, IfSome, OnOk, OnErr};
 ghost use Rattle.debugger.specs.Reply.{allowed, command_in, is_beyond, is_outside, state_after};
-ghost use Rattle.debugger.specs.SessionState.{HasItsPast, begun, replaying_state, session_of_image, session_state, session_with};
+ghost use Rattle.debugger.specs.SessionState.{HasItsPast, begun, session_of_image, session_state, session_with};
 ghost use Rattle.hart.specs.Opening.{opening};
 ghost use Rattle.debug_commands.specs.Command.{command_of as command_of_line};
 ghost use Rattle.debug_commands.specs.Limits.{IsWithinLimits};
@@ -16,7 +16,7 @@ use debug_commands::{Command, DebugFault, Stop, command_of};
 use image::Image;
 use machine::Machine;
 use past::{Past, Replay};
-use sim_run::Schedule;
+use schedules::Schedule;
 use std::alloc::Global;
 use std::marker::Model;
 use symbols::Symbols;
@@ -80,31 +80,11 @@ impl<C: CapRep> Session<C> {
         Session::begun(alloc, machine, symbols, None, None)
     }
 
-    /// The same with a schedule, before its first step. The steps of `step`, `until`, `trap` and `go` are then those of a run on this
-    /// schedule with this input: each comes with the byte before it and the tick after it, counted over the whole session, and nothing
-    /// comes after the halt, nor after the schedule's last step.
-    pub fn replaying(
-        alloc: Global,
-        machine: Machine<C>,
-        symbols: Symbols,
-        schedule: Schedule,
-        input: Vec<u8>,
-    ) -> Self
-        requires { 1 ≤ schedule.gap }
-        ensures { result ≡ replaying_state machine symbols schedule input.items }
-    {
-        Session::begun(
-            alloc,
-            machine,
-            symbols,
-            Some(Replay::new(schedule, input)),
-            None,
-        )
-    }
-
     /// A session with a past: its machine stands in the opening state of an image, which is kept, as is each event that it is given. So it
-    /// can go back, and tell where a value came from and where a tag was lost. Its steps follow a schedule with this input, if there is
-    /// one; without one the input is not used.
+    /// can go back, and tell where a value came from and where a tag was lost. With a schedule, before its first step, the steps of `step`,
+    /// `until`, `trap` and `go` are those of a run on this schedule with this input: each comes with the byte before it and the tick after
+    /// it, counted over the whole session, and nothing comes after the halt, nor after the schedule's last step. Without one the input is
+    /// not used.
     pub fn with_past(
         alloc: Global,
         machine: Machine<C>,

@@ -8,7 +8,7 @@ ghost use Rattle.steps.specs.State.{pc_of};
 ghost use Rattle.steps.specs.Applying.{meant, IsPlanned};
 ghost use Rattle.steps.specs.Outcome.{is_trap, outcome_of};
 ghost use Rattle.machine.specs.Run.{run_after, run_sent};
-ghost use Rattle.sim_run.specs.Schedule.{is_halted};
+ghost use Rattle.schedules.specs.Schedule.{is_halted};
 ghost use Rattle.debugger.specs.Stepping.{is_any_stop, is_at_end, is_stop, step_events};
 ghost use Rattle.past.specs.Replay.{byte_events, is_over, replayed, step_done};
 ghost use Rattle.debugger.specs.Stepping.{steps_while as steps_while_of};

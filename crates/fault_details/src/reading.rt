@@ -68,8 +68,8 @@ fn append_underlined(
 }
 
 /// What was read of the line at fault, by the fault's code (docs/ASSEMBLY.md, Faults): the line, which `indent` columns stand before, on
-/// the next line carets under what the fault is about, and what was expected there; without the line, byte and column (counted from 1) of A8
-/// and the length of A9; nothing of A10.
+/// the next line carets under what the fault is about, and what was expected there; without the line, byte and column (counted from 1)
+/// of A8 and the length of A9; nothing of A10.
 ///
 /// # Errors
 ///

@@ -2,8 +2,8 @@
 use Rattle.std.specs.Prelude.{ℕ, ◌+◌, nat_le, Bool, true, false, if◌then◌else◌, List, [], ◌∷◌, map, Option, Some, None, option_to_list}
 use Rattle.steps.specs.declared.event.Event.{Event}
 use Rattle.steps.specs.declared.event.Event.TheVariants.{Step, Tick, Byte}
-use Rattle.sim_run.specs.Schedule.{byte_before, is_tick_after}
-use Rattle.sim_run.specs.declared.schedule.Schedule.{Schedule}
+use Rattle.schedules.specs.Schedule.{byte_before, is_tick_after}
+use Rattle.schedules.specs.declared.schedule.Schedule.{Schedule}
 
 -- A schedule and the bytes of its input; how many of its steps were given, and whether the byte before the next of them was.
 pub record ReplayState : Type 0 where

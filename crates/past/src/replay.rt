@@ -1,9 +1,9 @@
 //! A schedule that a session's steps follow.
 ghost use Rattle.std.specs.Prelude.{◌≡◌, ◌≤◌, Some, false};
 ghost use Rattle.past.specs.Replay.{byte_due, byte_events, is_over, is_tick_due, replay_from, replayed, step_done};
-ghost use Rattle.sim_run.specs.Schedule.{byte_before, is_tick_after};
+ghost use Rattle.schedules.specs.Schedule.{byte_before, is_tick_after};
 
-use sim_run::Schedule;
+use schedules::Schedule;
 use std::marker::Model;
 
 /// A schedule and the bytes of its input, and how many of its steps were given.

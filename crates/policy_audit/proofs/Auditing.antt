@@ -2,8 +2,8 @@
 use Rattle.std.proofs.Common.{◌≡◌, ℕ, ◌+◌, ◌++◌, ◌≤◌, false, List, ap, ◌∙◌}
 use Rattle.steps.specs.State.{State}
 use Rattle.machine.specs.Run.{run_after}
-use Rattle.sim_run.specs.declared.schedule.Schedule.{Schedule}
-use Rattle.sim_run.specs.Schedule.{first_steps, is_halted, steps_in, up_to_halt}
+use Rattle.schedules.specs.declared.schedule.Schedule.{Schedule}
+use Rattle.schedules.specs.Schedule.{first_steps, is_halted, steps_in, up_to_halt}
 use Rattle.symbols.specs.Symbols.{Symbol}
 use Rattle.breach_texts.specs.declared.breach.RuleLine.{RuleLine}
 use Rattle.policy.specs.Terms.{Terms}

@@ -7,11 +7,11 @@ use Rattle.steps.specs.declared.event.Event.TheVariants.{Step, Tick, Byte}
 use Rattle.steps.specs.State.{State}
 use Rattle.steps.specs.Event.{after}
 use Rattle.machine.specs.Run.{run_after}
-use Rattle.sim_run.specs.declared.schedule.Schedule.{Schedule}
-use Rattle.sim_run.specs.Schedule.{block, first_steps, is_halted, scheduled, steps_in, up_to_halt}
-use Rattle.sim_run.proofs.Events.{brought, ticked_after, state_of_block}
-use Rattle.sim_run.proofs.Scheduled.{block_state, block_ends}
-use Rattle.sim_run.proofs.TracedSteps.{at_step, met, one_alone, one_block}
+use Rattle.schedules.specs.declared.schedule.Schedule.{Schedule}
+use Rattle.schedules.specs.Schedule.{block, first_steps, is_halted, scheduled, steps_in, up_to_halt}
+use Rattle.schedules.proofs.Events.{brought, ticked_after, state_of_block}
+use Rattle.schedules.proofs.Scheduled.{block_state, block_ends}
+use Rattle.schedules.proofs.SingleSteps.{at_step, met, one_alone, one_block}
 use Rattle.policy_audit.specs.Told.{remembered, told}
 use Rattle.policy_audit.specs.Turn.{turn_of}
 

@@ -2,8 +2,8 @@
 use Rattle.std.specs.Prelude.{ℕ, ◌+◌, List}
 use Rattle.steps.specs.declared.event.Event.{Event}
 use Rattle.steps.specs.State.{State}
-use Rattle.sim_run.specs.declared.schedule.Schedule.{Schedule}
-use Rattle.sim_run.specs.Schedule.{block, byte_before, is_tick_after, up_to_halt}
+use Rattle.schedules.specs.declared.schedule.Schedule.{Schedule}
+use Rattle.schedules.specs.Schedule.{block, byte_before, is_tick_after, up_to_halt}
 
 -- the step after so many others, with the byte before it and the tick after it
 abbrev pub turn_of : Schedule → List ℕ → ℕ → State → List Event

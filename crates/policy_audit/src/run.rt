@@ -1,7 +1,7 @@
 //! The audit of a run.
 ghost use Rattle.std.specs.Prelude.{◌≡◌, ◌<◌, ◌++◌, false, length, IfOk, OnOk, string_bytes};
 ghost use Rattle.machine.specs.Run.{run_after};
-ghost use Rattle.sim_run.specs.Schedule.{is_halted, scheduled, IsRunnable};
+ghost use Rattle.schedules.specs.Schedule.{is_halted, scheduled, IsRunnable};
 ghost use Rattle.policy.specs.Terms.{terms_of};
 ghost use Rattle.policy_audit.specs.Found.{found_at};
 ghost use Rattle.policy_audit.specs.Look.{IsWhole, notes_of, rules_of, said_to, seen_by};
@@ -16,7 +16,7 @@ use breach_texts::RuleLine;
 use cap_bounds::CapRep;
 use machine::Machine;
 use policy::Rule;
-use sim_run::Schedule;
+use schedules::Schedule;
 use std::alloc::{AllocError, Global};
 use symbols::Symbols;
 

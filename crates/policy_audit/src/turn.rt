@@ -3,7 +3,7 @@ ghost use Rattle.std.specs.Prelude.{◌≡◌, ◌&&◌, not, [], ◌∷◌, map
 ghost use Rattle.steps.specs.declared.event.Event.TheVariants.{Step, Tick, Byte};
 ghost use Rattle.steps.specs.Event.{after};
 ghost use Rattle.machine.specs.Run.{run_after};
-ghost use Rattle.sim_run.specs.Schedule.{is_halted};
+ghost use Rattle.schedules.specs.Schedule.{is_halted};
 
 use cap_bounds::CapRep;
 use machine::{Event, Machine};

@@ -11,11 +11,11 @@ use Rattle.machine.specs.Run.{run_after}
 use Rattle.policy.specs.Terms.{Terms}
 use Rattle.policy.specs.Watch.{IsRefused}
 use Rattle.policy.specs.Lending.{in_force_from}
-use Rattle.sim_run.specs.declared.schedule.Schedule.{Schedule}
-use Rattle.sim_run.specs.Schedule.{block, byte_before, first_steps, is_halted, scheduled, up_to_halt, AreAlone}
-use Rattle.sim_run.specs.Stopping.{events_before}
-use Rattle.sim_run.proofs.Events.{brought, no_more, then_up_to_halt, up_to_halt-append}
-use Rattle.sim_run.proofs.Scheduled.{block_follows, more_follow, nth_block, steps_from}
+use Rattle.schedules.specs.declared.schedule.Schedule.{Schedule}
+use Rattle.schedules.specs.Schedule.{block, byte_before, first_steps, is_halted, scheduled, up_to_halt, AreAlone}
+use Rattle.schedules.specs.Schedule.{events_before}
+use Rattle.schedules.proofs.Events.{brought, no_more, then_up_to_halt, up_to_halt-append}
+use Rattle.schedules.proofs.Scheduled.{block_follows, more_follow, nth_block, steps_from}
 use Rattle.policy_runs.specs.declared.breach.Breach.{Breach}
 use Rattle.policy_runs.specs.Keeping.{StepsKeepFrom}
 use Rattle.policy_runs.specs.Kept.{Kept, IsBreachPast}

@@ -15,8 +15,8 @@ use Rattle.policy.specs.Watch.{HoldEach, KeepsToEach, values_in}
 use Rattle.policy.specs.Lending.{each_after, in_force_after, in_force_from, next_door}
 use Rattle.policy.proofs.Forced.{each-uncalled, no-door}
 use Rattle.policy.proofs.Learning.{keeps-to}
-use Rattle.sim_run.specs.Schedule.{block, is_halted, up_to_halt}
-use Rattle.sim_run.proofs.Events.{all_are_met, brought, ticking, ends_at_halt, goes_on, is_halted-brought, no_more, state_after}
+use Rattle.schedules.specs.Schedule.{block, is_halted, up_to_halt}
+use Rattle.schedules.proofs.Events.{all_are_met, brought, ticking, ends_at_halt, goes_on, is_halted-brought, no_more, state_after}
 use Rattle.policy_runs.specs.declared.breach.Breach.{Breach}
 use Rattle.policy_runs.specs.Keeping.{StepsKeepFrom}
 use Rattle.policy_runs.specs.Kept.{Kept, IsBreachPast}

@@ -7,7 +7,7 @@ use Rattle.machine.specs.Run.{run_after}
 use Rattle.policy.specs.Terms.{Terms}
 use Rattle.policy.specs.Watch.{IsRefused}
 use Rattle.policy.specs.Lending.{in_force_from}
-use Rattle.sim_run.specs.Schedule.{is_halted, up_to_halt}
+use Rattle.schedules.specs.Schedule.{is_halted, up_to_halt}
 use Rattle.policy_runs.specs.declared.breach.Breach.{Breach}
 use Rattle.policy_runs.specs.Keeping.{StepsKeepFrom}
 

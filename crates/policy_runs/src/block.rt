@@ -4,7 +4,7 @@ ghost use Rattle.std.specs.Prelude.{◌≡◌, false, [], ◌∷◌, map, option
 ghost use Rattle.steps.specs.declared.event.Event.TheVariants.{Tick, Byte};
 ghost use Rattle.machine.specs.Run.{run_after};
 ghost use Rattle.policy.specs.Known.{Knows, rules_of, said_to};
-ghost use Rattle.sim_run.specs.Schedule.{block, is_halted};
+ghost use Rattle.schedules.specs.Schedule.{block, is_halted};
 ghost use Rattle.policy_runs.specs.Kept.{Kept, IsBreachPast};
 
 use crate::breach::Breach;

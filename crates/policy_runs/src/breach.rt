@@ -5,16 +5,16 @@ ghost use Rattle.machine.specs.Run.{run_after};
 ghost use Rattle.policy.specs.Terms.{terms_of};
 ghost use Rattle.policy.specs.Watch.{IsRefused};
 ghost use Rattle.policy.specs.Lending.{in_force};
-ghost use Rattle.sim_run.specs.Schedule.{is_halted, scheduled, IsRunnable};
-ghost use Rattle.sim_run.specs.Stopping.{events_before};
-ghost use Rattle.sim_run.specs.Stopped.{IsPlaceOf};
+ghost use Rattle.schedules.specs.Schedule.{is_halted, scheduled, IsRunnable};
+ghost use Rattle.schedules.specs.Schedule.{events_before};
+ghost use Rattle.schedules.specs.Schedule.{IsPlaceOf};
 ghost use Rattle.policy_runs.specs.Keeping.{StepsKeepToEach};
 
 use crate::block::keep_block;
 use cap_bounds::CapRep;
 use machine::Machine;
 use policy::{Refused, Rule, Watcher};
-use sim_run::Schedule;
+use schedules::Schedule;
 use std::alloc::{AllocError, Global};
 
 /// Where rules stop a run: before which step, and why.

@@ -4,7 +4,7 @@ ghost use Rattle.std.specs.Prelude.{◌≡◌, ◌≤◌, false, [], replicate, 
 ghost use Rattle.steps.specs.declared.event.Event.TheVariants.{Step};
 ghost use Rattle.policy.specs.Known.{Knows, rules_of, said_to};
 ghost use Rattle.policy.specs.Watch.{HoldEach};
-ghost use Rattle.sim_run.specs.Schedule.{is_halted};
+ghost use Rattle.schedules.specs.Schedule.{is_halted};
 ghost use Rattle.policy_runs.specs.Kept.{Kept, IsBreachPast};
 
 use crate::breach::Breach;

@@ -24,7 +24,7 @@ pub(crate) enum Question {
     IsSealed(OType),
 }
 
-/// Whether a capability is sealed.
+/// Whether a capability is not sealed.
 fn is_unsealed<C: CapRep>(c: C) -> bool
     ensures { result ≡ not (is_sealed (C.value c)) }
 {

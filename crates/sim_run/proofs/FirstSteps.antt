@@ -14,16 +14,16 @@ use Rattle.steps.specs.Event.{after}
 use Rattle.machine.specs.declared.end.End.{End}
 use Rattle.machine.specs.declared.end.End.TheVariants.{Running}
 use Rattle.machine.specs.Run.{run_after, run_sent, end_of, ended}
-use Rattle.sim_run.specs.declared.schedule.Schedule.{Schedule}
+use Rattle.schedules.specs.declared.schedule.Schedule.{Schedule}
 use Rattle.sim_run.specs.declared.traced.TraceFault.{TraceFault}
 use Rattle.sim_run.specs.declared.traced.TraceFault.TheVariants.{Output, Trace}
-use Rattle.sim_run.specs.Schedule.{around, byte_before, is_tick_after, first_steps, is_halted, scheduled, steps_in, up_to_halt, IsCutShort}
+use Rattle.schedules.specs.Schedule.{around, byte_before, is_tick_after, first_steps, is_halted, scheduled, steps_in, up_to_halt}
+use Rattle.schedules.specs.Schedule.{IsCutShort}
 use Rattle.symbols.specs.Symbols.{Symbol}
 use Rattle.sim_run.specs.Trace.{trace_lines, lines_past, trace_text, WasCut}
-use Rattle.sim_run.proofs.Events.{brought, run_after-append, run_sent-append, run_sent-brought, steps_in-append, steps_in-brought}
-use Rattle.sim_run.proofs.Events.{cut_within, ends_at_halt, up_to_halt-append, then_up_to_halt}
-use Rattle.sim_run.proofs.Scheduled.{more_follow, steps_from}
-use Rattle.sim_run.proofs.TracedSteps.{length_lines, no_lines_past, trace_lines-append}
+use Rattle.schedules.proofs.Events.{brought, run_after-append, run_sent-append, run_sent-brought, steps_in-append, steps_in-brought}
+use Rattle.schedules.proofs.Events.{cut_within}
+use Rattle.sim_run.specs.LineLaws.{length_lines, trace_lines-append}
 
 -- ---- the schedule of the first steps
 
@@ -104,51 +104,6 @@ module _ (schedule : Schedule) (input : List ℕ) (m : ℕ) (s : State) where
   pub all_steps : is_halted (run_after (up_to_halt (first_steps schedule input m) s) s) ≡ false
       → steps_in (up_to_halt (first_steps schedule input m) s) ≡ m
   all_steps running = ap steps_in (met_all (first_steps schedule input m) s running) ∙ steps_in-first schedule input m
-
-  -- none of their lines, where they are left out
-  pub no_lines_of_first : (symbols : List Symbol) (k : ℕ) (a : Option (List ℕ)) → m ≤ k
-      → Appends a a (lines_past symbols k 0 (up_to_halt (first_steps schedule input m) s) s)
-  no_lines_of_first symbols k a past =
-      let few = few_steps in
-      subst (Appends a a)
-      (sym (no_lines_past symbols k 0 (up_to_halt (first_steps schedule input m) s) s (omega (arith, few, past)))) (Appends-nil a)
-
-  module _ (few : m ≤ schedule.steps) (running : is_halted s ≡ false) where
-    pub first_ends : is_halted (run_after (up_to_halt (first_steps schedule input m) s) s) ≡ true
-        → up_to_halt (first_steps schedule input m) s ≡ scheduled schedule input s
-    first_ends halted =
-        ends_at_halt (first_steps schedule input m) (steps_from schedule input m (schedule.steps - m)) s running halted
-        ∙ ap (λ es. up_to_halt es s) (sym (more_follow schedule input m few))
-
-    whole : up_to_halt (first_steps schedule input m) s
-        ++ then_up_to_halt (steps_from schedule input m (schedule.steps - m)) (run_after (up_to_halt (first_steps schedule input m) s) s)
-        ≡ scheduled schedule input s
-    whole =
-        sym (up_to_halt-append (first_steps schedule input m) (steps_from schedule input m (schedule.steps - m)) s running)
-        ∙ ap (λ es. up_to_halt es s) (sym (more_follow schedule input m few))
-
-    -- the output failed among them
-    pub first_cut : (symbols : List Symbol) (k : ℕ) (u : State) (a b d : Option (List ℕ)) → m ≤ k
-        → IsCutShort (up_to_halt (first_steps schedule input m) s) s u a b
-        → WasCut symbols Output k 0 (scheduled schedule input s) s u a b d d
-    first_cut symbols k u a b d past cut =
-        let later = then_up_to_halt (steps_from schedule input m (schedule.steps - m))
-        (run_after (up_to_halt (first_steps schedule input m) s) s) in
-        let done = cut.done ++ cut.last ∷ [] in
-        let parts : up_to_halt (first_steps schedule input m) s ≡ done ++ cut.rest =
-        cut.order ∙ sym (append_assoc cut.done (cut.last ∷ []) cut.rest) in
-        let total = ap steps_in parts ∙ steps_in-append done cut.rest in
-        let few = few_steps in
-        record {
-          done = cut.done;
-          last = cut.last;
-          rest = cut.rest ++ later;
-          order = sym whole ∙ ap (λ es. es ++ later) cut.order ∙ append_assoc cut.done (cut.last ∷ cut.rest) later;
-          state = cut.state;
-          unwritten = cut.unwritten;
-          held = cut.held;
-          lines = subst (Appends d d) (sym (no_lines_past symbols k 0 done s (omega (arith, total, few, past)))) (Appends-nil d);
-        }
 
 -- ---- a byte after events
 

@@ -1,5 +1,6 @@
 -- The trap that is left after events, one after the other, and where PCC then is.
-use Rattle.std.proofs.Common.{◌≡◌, ℕ, suc, ◌+◌, ◌*◌, ◌/◌, ◌%◌, ◌^◌, ◌≤◌, ◌<◌, Bool, true, false, List, [], ◌∷◌, ◌++◌, Option, Some, None}
+use Rattle.std.proofs.Common.{◌≡◌, ℕ, zero, suc, replicate, ◌+◌, ◌*◌, ◌/◌, ◌%◌, ◌^◌, ◌≤◌, ◌<◌, Bool, true, false, List, [], ◌∷◌, ◌++◌}
+use Rattle.std.proofs.Common.{Option, Some, None}
 use Rattle.std.proofs.Common.{◌⊎◌, inl, inr, refl, sym, ap, ◌∙◌, subst, arith}
 use Rattle.std.proofs.lemmas.Bool.{cond_both, eqb-true}
 use Rattle.std.specs.Prelude.{◌==◌, is_some, if◌then◌else◌, codes, decimal}
@@ -8,7 +9,7 @@ use Rattle.cap_bounds.specs.AddressLaws.{value_address-at_address}
 use Rattle.cap_bounds.specs.CapValue.{CapValue, value_address, is_tagged}
 use Rattle.cap_bounds.specs.SetAddress.{at_address}
 use Rattle.special_regs.specs.Mtvec.{is_vectored}
-use Rattle.special_regs.specs.Traps.{entry_address, placed_at, sentry_opened, trap_target, vector_of}
+use Rattle.special_regs.specs.Traps.{entry_address, placed_at, sentry_opened, trap_target}
 use Rattle.special_regs.specs.Writes.{has_bit}
 use Rattle.steps.specs.declared.effect.Effect.{Effect}
 use Rattle.steps.specs.declared.effect.Effect.TheVariants as effect
@@ -16,73 +17,43 @@ use Rattle.steps.specs.declared.event.Event.{Event}
 use Rattle.steps.specs.declared.event.Event.TheVariants.{Step, Tick, Byte}
 use Rattle.steps.specs.Effect.{applied}
 use Rattle.steps.specs.Event.{after, outcome}
-use Rattle.steps.specs.Outcome.{Outcome, Plain, Unseal, SealedJump, is_trap, outcome_of, step_outcome, step_outcome_unless}
+use Rattle.steps.specs.Outcome.{Plain, Unseal, SealedJump, is_trap, outcome_of, step_outcome, step_outcome_unless}
 use Rattle.steps.specs.State.{State, pc_of}
 use Rattle.steps.specs.Step.{fetch, step_effect, stepped, stepped_unless}
 use Rattle.machine.specs.Run.{run_after}
 use Rattle.explain.specs.WhyText.{failed_line}
-use Rattle.explain.specs.TrapText.{trap_text}
-use Rattle.sim_run.specs.declared.schedule.Schedule.{Schedule}
-use Rattle.sim_run.specs.Schedule.{block, first_steps, is_halted, steps_in, up_to_halt}
+use Rattle.steps.specs.Steps.{GoesBy}
+use Rattle.schedules.specs.Schedule.{is_halted, steps_in}
 use Rattle.symbols.specs.Symbols.{Symbol}
 use Rattle.sim_run.specs.Ending.{first_trap, trap_part}
 use Rattle.sim_run.specs.Unhandled.{Trapped, first_of, after_step, unfetched_in, unhandled, trap_left}
 use Rattle.sim_run.specs.Watched.{trap_in, IsTold}
-use Rattle.sim_run.proofs.Events.{brought, ticked_after}
-use Rattle.sim_run.proofs.Scheduled.{nth_block}
-use Rattle.sim_run.proofs.TracedSteps.{one_block, met}
 
--- ---- events, one after the other
+-- ---- plain steps
 
-unhandled-append : (n : ℕ) (found : Option Trapped) (xs ys : List Event) (s : State)
-    → unhandled n found (xs ++ ys) s ≡ unhandled (n + steps_in xs) (unhandled n found xs s) ys (run_after xs s)
-unhandled-append n found [] ys s =
-    let none : n ≡ n + 0 = omega arith in
-    ap (λ m. unhandled m found ys s) none
-unhandled-append n found (Step ∷ xs) ys s =
-    let one : n + 1 + steps_in xs ≡ n + suc (steps_in xs) = omega arith in
-    let next = after_step (n + 1) s found in
-    unhandled-append (n + 1) next xs ys (after Step s)
-    ∙ ap (λ m. unhandled m (unhandled (n + 1) next xs (after Step s)) ys (run_after xs (after Step s))) one
-unhandled-append n found (Tick ∷ xs) ys s = unhandled-append n found xs ys (after Tick s)
-unhandled-append n found (Byte b ∷ xs) ys s = unhandled-append n found xs ys (after (Byte b) s)
+no_steps : {P : Type 0} → 1 ≤ 0 → P
+no_steps some = absurd (no some)
+  where
+    no : 1 ≤ 0 → ⊥
+    no some = omega (arith, some)
 
-unhandled-brought : (n : ℕ) (found : Option Trapped) (byte : Option ℕ) (es : List Event) (s : State)
-    → unhandled n found (brought byte ++ es) s ≡ unhandled n found es (run_after (brought byte) s)
-unhandled-brought n found None es s = refl
-unhandled-brought n found (Some b) es s = refl
+not_trapped : (stop : Option ℕ) (number : ℕ) (s : State) (found : Option Trapped) → GoesBy stop s → after_step number s found ≡ None
+not_trapped stop number s found goes =
+    let plain : is_trap (outcome Step s) ≡ false = ap is_trap goes.plain in
+    rw plain refl
 
-unhandled-ticked : (n : ℕ) (found : Option Trapped) (b : Bool) (s : State) → unhandled n found (if b then Tick ∷ [] else []) s ≡ found
-unhandled-ticked n found true s = refl
-unhandled-ticked n found false s = refl
+-- they handle every trap
+pub all_handled : (stop : Option ℕ) (n k : ℕ) (s : State) (found : Option Trapped) → 1 ≤ k
+    → ((j : ℕ) → j < k → GoesBy stop (run_after (replicate j Step) s)) → None ≡ unhandled n found (replicate k Step) s
+all_handled stop n zero s found some goes = no_steps some
+all_handled stop n (suc zero) s found some goes = sym (not_trapped stop (n + 1) s found (goes 0 (omega arith)))
+all_handled stop n (suc (suc k)) s found some goes =
+    all_handled stop (n + 1) (suc k) (after Step s) (after_step (n + 1) s found) (omega arith)
+    (λ j below. goes (suc j) (omega (arith, below)))
 
--- t is the machine after the byte
-module _ (byte : Option ℕ) (ticks : Bool) (s t : State) (running : is_halted s ≡ false) (at_byte : t ≡ run_after (brought byte) s) where
-  -- over a step with a byte before it and a tick after it
-  pub unhandled-block : (n : ℕ) (found : Option Trapped)
-      → after_step (n + 1) t found ≡ unhandled n found (up_to_halt (block byte 1 ticks) s) s
-  unhandled-block n found =
-      let past = ticked_after ticks (after Step t) in
-      sym (ap (λ es. unhandled n found es s) (one_block byte ticks s t running at_byte)
-      ∙ unhandled-brought n found byte ((Step ∷ []) ++ past) s
-      ∙ ap (λ v. unhandled n found ((Step ∷ []) ++ past) v) (sym at_byte)
-      ∙ unhandled-ticked (n + 1) (after_step (n + 1) t found) _ (after Step t))
-
-module _ (schedule : Schedule) (input : List ℕ) (m : ℕ) (s t : State) (running : is_halted s ≡ false)
-    (so_far : t ≡ run_after (up_to_halt (first_steps schedule input m) s) s) (still : is_halted t ≡ false)
-    (few : m + 1 ≤ schedule.steps) (count : steps_in (up_to_halt (first_steps schedule input m) s) ≡ m) where
-  -- over one step more of a schedule
-  pub unhandled-more : unhandled m (trap_left (up_to_halt (first_steps schedule input m) s) s)
-      (up_to_halt (nth_block schedule input m 1) t) t
-      ≡ trap_left (up_to_halt (first_steps schedule input (m + 1)) s) s
-  unhandled-more =
-      let done = up_to_halt (first_steps schedule input m) s in
-      let next = up_to_halt (nth_block schedule input m 1) t in
-      let none : steps_in done ≡ 0 + steps_in done = omega arith in
-      ap (λ k. unhandled k (trap_left done s) next t) (sym count ∙ none)
-      ∙ ap (λ v. unhandled (0 + steps_in done) (trap_left done s) next v) so_far
-      ∙ sym (unhandled-append 0 None done next s)
-      ∙ ap (λ es. unhandled 0 None es s) (sym (met schedule input m s t running so_far still few count))
+pub steps_in-steps : (n : ℕ) → steps_in (replicate n Step) ≡ n
+steps_in-steps zero = refl
+steps_in-steps (suc n) = ap suc (steps_in-steps n)
 
 -- ---- one step
 
@@ -121,12 +92,12 @@ module _ (s : State) (running : is_halted s ≡ false) where
   traps =
       ap (λ halted. is_trap (step_outcome_unless halted s)) (not-halted s.devices.halted running) ∙ is-trap-in (step_effect s)
 
-  after-trap : (f : Fault) → step_effect s ≡ effect.Trap f → after Step s ≡ applied (effect.Trap f) s
+  pub after-trap : (f : Fault) → step_effect s ≡ effect.Trap f → after Step s ≡ applied (effect.Trap f) s
   unfolding stepped
   after-trap f is =
       ap (λ halted. stepped_unless halted s) (not-halted s.devices.halted running) ∙ ap (λ e. applied e s) is
 
-  cause-left : (f : Fault) → step_effect s ≡ effect.Trap f → (after Step s).csrs.mcause ≡ f.mcause
+  pub cause-left : (f : Fault) → step_effect s ≡ effect.Trap f → (after Step s).csrs.mcause ≡ f.mcause
   unfolding applied
   cause-left f is = ap (λ (t : State). t.csrs.mcause) (after-trap f is)
 

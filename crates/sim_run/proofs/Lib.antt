@@ -1,9 +1,6 @@
-pub mod Events
-pub mod Scheduled
-pub mod Alone
-pub mod StepsMet
-pub mod TracedSteps
 pub mod LeftTraps
+pub mod WatchedSteps
 pub mod Texts
 pub mod Stops
+pub mod TraceCuts
 pub mod FirstSteps

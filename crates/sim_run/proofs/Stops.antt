@@ -1,170 +1,112 @@
--- The step that a run ends before, and the events up to it.
-use Rattle.std.proofs.Common.{◌≡◌, ℕ, suc, ◌+◌, ◌-◌, ◌≤◌, Bool, true, false, List, [], ◌∷◌, ◌++◌, refl, sym, ap, ◌∙◌}
-use Rattle.std.proofs.Common.{append_assoc, append-nil, arith}
-use Rattle.std.specs.Prelude.{Option, Some, None, is_some, if◌then◌else◌}
+-- The step that a run stops before, among the events of a schedule.
+use Rattle.std.proofs.Common.{◌≡◌, ℕ, zero, suc, ◌+◌, ◌-◌, ◌<◌, Bool, true, false, List, [], ◌∷◌, ◌++◌, replicate, refl, sym, ap, ◌∙◌}
+use Rattle.std.proofs.Common.{append-nil, arith}
+use Rattle.std.specs.Prelude.{Option, Some, None, map, option_to_list}
+use Rattle.base.specs.declared.fault.Fault.{Fault}
 use Rattle.steps.specs.declared.event.Event.{Event}
 use Rattle.steps.specs.declared.event.Event.TheVariants.{Step, Tick, Byte}
+use Rattle.steps.specs.declared.effect.Effect.TheVariants as effect
+use Rattle.steps.specs.Effect.{applied}
+use Rattle.steps.specs.Event.{after, outcome}
+use Rattle.steps.specs.Outcome.{is_trap}
 use Rattle.steps.specs.State.{State}
-use Rattle.steps.specs.Event.{after}
 use Rattle.steps.specs.Step.{step_effect}
+use Rattle.steps.specs.Steps.{GoesBy}
+use Rattle.special_regs.specs.Traps.{trapped_scrs}
 use Rattle.machine.specs.Run.{run_after}
-use Rattle.sim_run.specs.declared.schedule.Schedule.{Schedule}
+use Rattle.schedules.specs.declared.schedule.Schedule.{Schedule}
+use Rattle.schedules.specs.Schedule.{byte_before, events_before, first_steps, is_halted, scheduled, steps_in, up_to_halt}
+use Rattle.schedules.proofs.Events.{first_are_met}
 use Rattle.sim_run.specs.declared.stopping.StopAt.{StopAt}
-use Rattle.sim_run.specs.Schedule.{block, byte_before, is_tick_after, first_steps, is_halted, scheduled, steps_in, up_to_halt}
-use Rattle.sim_run.specs.Stopped.{is_stop_brought}
+use Rattle.sim_run.specs.Stopped.{PassesStops}
+use Rattle.sim_run.specs.Stopping.{first_stop, is_asked, is_stop, up_to_stop}
 use Rattle.sim_run.specs.Watched.{trap_in}
-use Rattle.sim_run.specs.Stopping.{is_asked, is_stop, first_stop, up_to_stop, events_before, events_met, stop_met}
-use Rattle.sim_run.proofs.Events.{brought, ticked_after}
-use Rattle.sim_run.proofs.LeftTraps.{traps}
-use Rattle.sim_run.proofs.Scheduled.{nth_block}
-use Rattle.sim_run.proofs.TracedSteps.{one_block, met, more_whole}
+use Rattle.sim_run.proofs.LeftTraps.{after-trap, traps}
 
 -- ---- one step
 
-module _ (at : StopAt) (s u : State) (running : is_halted s ≡ false) (stepped : u ≡ after Step s) where
-  pub stop-trapped : is_some (trap_in (step_effect s)) ≡ true → is_asked at u ≡ is_stop at s
+module _ (at : StopAt) (s : State) (running : is_halted s ≡ false) where
+  -- one that is a trap
+  pub stop-trapped : (f : Fault) (asked : Bool) → trap_in (step_effect s) ≡ Some f → asked ≡ is_asked at (after Step s)
+      → asked ≡ is_stop at s
   unfolding is_stop
-  stop-trapped trapped = rw (traps s running, trapped) (ap (is_asked at) stepped)
+  stop-trapped f asked is same = rw (traps s running, is) same
 
-  pub stop-untrapped : is_some (trap_in (step_effect s)) ≡ false → false ≡ is_stop at s
+  pub stop-untrapped : trap_in (step_effect s) ≡ None → false ≡ is_stop at s
   unfolding is_stop
-  stop-untrapped trapped = rw (traps s running, trapped) refl
+  stop-untrapped is = rw (traps s running, is) refl
+
+stop-plain : (at : StopAt) (stop : Option ℕ) (s : State) → GoesBy stop s → is_stop at s ≡ false
+unfolding is_stop
+stop-plain at stop s goes =
+    let plain : is_trap (outcome Step s) ≡ false = ap is_trap goes.plain in
+    rw plain refl
+
+pub plain_passes : (at : StopAt) (stop : Option ℕ) (n : ℕ) (s : State)
+    → ((k : ℕ) → k < n → GoesBy stop (run_after (replicate k Step) s)) → PassesStops at (replicate n Step) s
+plain_passes at stop zero s goes = tt
+plain_passes at stop (suc n) s goes =
+    (stop-plain at stop s (goes 0 (omega arith)), plain_passes at stop n (after Step s) (λ k below. goes (suc k) (omega (arith, below))))
 
 -- ---- events, one after the other
 
-some-none : {P : Type 0} (n : ℕ) → Some n ≡ None → P
-some-none n e = absurd cc
-
-first_stop-behind : (at : StopAt) (n : ℕ) (xs ys : List Event) (s : State) → first_stop at n xs s ≡ None
+first_past : (at : StopAt) (n : ℕ) (xs ys : List Event) (s : State) → PassesStops at xs s
     → first_stop at n (xs ++ ys) s ≡ first_stop at (n + steps_in xs) ys (run_after xs s)
-first_stop-behind at n [] ys s none =
+first_past at n [] ys s passes =
     let same : n ≡ n + 0 = omega arith in
     ap (λ m. first_stop at m ys s) same
-first_stop-behind at n (Step ∷ xs) ys s none = go (is_stop at s) none (first_stop-behind at (n + 1) xs ys (after Step s))
-  where
-    one : n + 1 + steps_in xs ≡ n + suc (steps_in xs)
-    one = omega arith
+first_past at n (Step ∷ xs) ys s passes =
+    let one : n + 1 + steps_in xs ≡ n + suc (steps_in xs) = omega arith in
+    rw passes.0 (first_past at (n + 1) xs ys (after Step s) passes.1 ∙ ap (λ m. first_stop at m ys (run_after xs (after Step s))) one)
+first_past at n (Tick ∷ xs) ys s passes = first_past at n xs ys (after Tick s) passes
+first_past at n (Byte b ∷ xs) ys s passes = first_past at n xs ys (after (Byte b) s) passes
 
-    go : (b : Bool) → (if b then Some (n + 1) else first_stop at (n + 1) xs (after Step s)) ≡ None
-        → (first_stop at (n + 1) xs (after Step s) ≡ None
-        → first_stop at (n + 1) (xs ++ ys) (after Step s) ≡ first_stop at (n + 1 + steps_in xs) ys (run_after xs (after Step s)))
-        → (if b then Some (n + 1) else first_stop at (n + 1) (xs ++ ys) (after Step s))
-        ≡ first_stop at (n + suc (steps_in xs)) ys (run_after xs (after Step s))
-    go true is later = some-none (n + 1) is
-    go false is later = later is ∙ ap (λ m. first_stop at m ys (run_after xs (after Step s))) one
-first_stop-behind at n (Tick ∷ xs) ys s none = first_stop-behind at n xs ys (after Tick s) none
-first_stop-behind at n (Byte b ∷ xs) ys s none = first_stop-behind at n xs ys (after (Byte b) s) none
-
-up_to_stop-behind : (at : StopAt) (n : ℕ) (xs ys : List Event) (s : State) → first_stop at n xs s ≡ None
+up_to_past : (at : StopAt) (xs ys : List Event) (s : State) → PassesStops at xs s
     → up_to_stop at (xs ++ ys) s ≡ xs ++ up_to_stop at ys (run_after xs s)
-up_to_stop-behind at n [] ys s none = refl
-up_to_stop-behind at n (Step ∷ xs) ys s none = go (is_stop at s) none (up_to_stop-behind at (n + 1) xs ys (after Step s))
-  where
-    go : (b : Bool) → (if b then Some (n + 1) else first_stop at (n + 1) xs (after Step s)) ≡ None
-        → (first_stop at (n + 1) xs (after Step s) ≡ None
-        → up_to_stop at (xs ++ ys) (after Step s) ≡ xs ++ up_to_stop at ys (run_after xs (after Step s)))
-        → (if b then [] else Step ∷ up_to_stop at (xs ++ ys) (after Step s))
-        ≡ Step ∷ (xs ++ up_to_stop at ys (run_after xs (after Step s)))
-    go true is later = some-none (n + 1) is
-    go false is later = ap (λ es. Step ∷ es) (later is)
-up_to_stop-behind at n (Tick ∷ xs) ys s none = ap (λ es. Tick ∷ es) (up_to_stop-behind at n xs ys (after Tick s) none)
-up_to_stop-behind at n (Byte b ∷ xs) ys s none = ap (λ es. Byte b ∷ es) (up_to_stop-behind at n xs ys (after (Byte b) s) none)
+up_to_past at [] ys s passes = refl
+up_to_past at (Step ∷ xs) ys s passes = rw passes.0 (ap (λ es. Step ∷ es) (up_to_past at xs ys (after Step s) passes.1))
+up_to_past at (Tick ∷ xs) ys s passes = ap (λ es. Tick ∷ es) (up_to_past at xs ys (after Tick s) passes)
+up_to_past at (Byte b ∷ xs) ys s passes = ap (λ es. Byte b ∷ es) (up_to_past at xs ys (after (Byte b) s) passes)
 
 -- where no step is a stop
-pub all_met : (at : StopAt) (xs : List Event) (s : State) → first_stop at 0 xs s ≡ None → xs ≡ up_to_stop at xs s
-all_met at xs s none =
-    sym (ap (λ es. up_to_stop at es s) (sym (append-nil xs)) ∙ up_to_stop-behind at 0 xs [] s none ∙ append-nil xs)
+module _ (at : StopAt) (xs : List Event) (s : State) (passes : PassesStops at xs s) where
+  pub no_stop : None ≡ first_stop at 0 xs s
+  no_stop = sym (ap (λ es. first_stop at 0 es s) (sym (append-nil xs)) ∙ first_past at 0 xs [] s passes)
 
-first_stop-brought : (at : StopAt) (n : ℕ) (byte : Option ℕ) (es : List Event) (s : State)
-    → first_stop at n (brought byte ++ es) s ≡ first_stop at n es (run_after (brought byte) s)
-first_stop-brought at n None es s = refl
-first_stop-brought at n (Some b) es s = refl
+  pub all_met : xs ≡ up_to_stop at xs s
+  all_met = sym (ap (λ es. up_to_stop at es s) (sym (append-nil xs)) ∙ up_to_past at xs [] s passes ∙ append-nil xs)
 
-up_to_stop-brought : (at : StopAt) (byte : Option ℕ) (es : List Event) (s : State)
-    → up_to_stop at (brought byte ++ es) s ≡ brought byte ++ up_to_stop at es (run_after (brought byte) s)
-up_to_stop-brought at None es s = refl
-up_to_stop-brought at (Some b) es s = refl
+-- ---- of a schedule: the step after n others is the first stop, and t is the machine before it
 
-first_stop-ticked : (at : StopAt) (n : ℕ) (b : Bool) (s : State) → first_stop at n (if b then Tick ∷ [] else []) s ≡ None
-first_stop-ticked at n true s = refl
-first_stop-ticked at n false s = refl
+module _ (at : StopAt) (schedule : Schedule) (input : List ℕ) (n : ℕ) (s t : State) (events more : List Event)
+    (order : scheduled schedule input s ≡ events ++ Step ∷ more)
+    (place : events ≡ first_steps schedule input n ++ map Byte (option_to_list (byte_before schedule input (n + 1))))
+    (there : t ≡ run_after events s) (all : up_to_halt events s ≡ events) (steps : n ≡ steps_in events) (passes : PassesStops at events s)
+    (stop : is_stop at t ≡ true) where
+  pub number_found : Some (n + 1) ≡ first_stop at 0 (scheduled schedule input s) s
+  number_found =
+      let count : 0 + steps_in events ≡ n = omega (arith, steps) in
+      sym (ap (λ es. first_stop at 0 es s) order ∙ first_past at 0 events (Step ∷ more) s passes
+      ∙ ap (λ v. first_stop at (0 + steps_in events) (Step ∷ more) v) (sym there) ∙ rw stop (ap (λ k. Some (k + 1)) count))
 
--- ---- a step with a byte before it and a tick after it, and more events after that
+  pub events_found : events_before (Some (n + 1)) schedule input s ≡ up_to_stop at (scheduled schedule input s) s
+  events_found =
+      let one_less : n + 1 - 1 ≡ n = omega arith in
+      let byte = map Byte (option_to_list (byte_before schedule input (n + 1))) in
+      let whole : up_to_halt (first_steps schedule input n ++ byte) s ≡ first_steps schedule input n ++ byte =
+      ap (λ es. up_to_halt es s) (sym place) ∙ all ∙ place in
+      ap (λ k. up_to_halt (first_steps schedule input k) s ++ byte) one_less
+      ∙ ap (λ es. es ++ byte) (first_are_met (first_steps schedule input n) byte s whole) ∙ sym place
+      ∙ sym (ap (λ es. up_to_stop at es s) order ∙ up_to_past at events (Step ∷ more) s passes
+      ∙ ap (λ v. events ++ up_to_stop at (Step ∷ more) v) (sym there) ∙ rw stop (append-nil events))
 
-module _ (at : StopAt) (byte : Option ℕ) (ticks : Bool) (s : State) (running : is_halted s ≡ false) where
-  there : State
-  there = run_after (brought byte) s
+-- ---- the entry of a trap
 
-  abbrev rest : List Event
-  rest = (Step ∷ []) ++ ticked_after ticks (after Step (run_after (brought byte) s))
-
-  in_order : (more : List Event) → up_to_halt (block byte 1 ticks) s ++ more ≡ brought byte ++ (rest ++ more)
-  in_order more =
-      ap (λ es. es ++ more) (one_block byte ticks s (run_after (brought byte) s) running refl) ∙ append_assoc (brought byte) rest more
-
-  number_at_stop : (n : ℕ) (more : List Event) → is_stop_brought at byte s ≡ true
-      → first_stop at n (up_to_halt (block byte 1 ticks) s ++ more) s ≡ Some (n + 1)
-  number_at_stop n more stop =
-      ap (λ es. first_stop at n es s) (in_order more) ∙ first_stop-brought at n byte (rest ++ more) s ∙ rw stop refl
-
-  events_at_stop : (more : List Event) → is_stop_brought at byte s ≡ true
-      → up_to_stop at (up_to_halt (block byte 1 ticks) s ++ more) s ≡ brought byte
-  events_at_stop more stop =
-      ap (λ es. up_to_stop at es s) (in_order more) ∙ up_to_stop-brought at byte (rest ++ more) s
-      ∙ ap (λ es. brought byte ++ es) (rw stop refl) ∙ append-nil (brought byte)
-
-  none_in_block : (n : ℕ) → is_stop_brought at byte s ≡ false → first_stop at n (up_to_halt (block byte 1 ticks) s) s ≡ None
-  none_in_block n stop =
-      ap (λ es. first_stop at n es s) (one_block byte ticks s (run_after (brought byte) s) running refl)
-      ∙ first_stop-brought at n byte rest s
-      ∙ rw stop (first_stop-ticked at (n + 1) _ (after Step (run_after (brought byte) s)))
-
--- ---- the steps of a schedule: after the first m steps of s, of which none is a stop, the machine is t
-
-module _ (at : StopAt) (schedule : Schedule) (input : List ℕ) (m : ℕ) (s t : State) (running : is_halted s ≡ false)
-    (so_far : t ≡ run_after (up_to_halt (first_steps schedule input m) s) s) (still : is_halted t ≡ false)
-    (few : m + 1 ≤ schedule.steps) (count : steps_in (up_to_halt (first_steps schedule input m) s) ≡ m)
-    (none : first_stop at 0 (up_to_halt (first_steps schedule input m) s) s ≡ None) where
-  abbrev done : List Event
-  done = up_to_halt (first_steps schedule input m) s
-
-  abbrev next : List Event
-  next = up_to_halt (nth_block schedule input m 1) t
-
-  abbrev byte : Option ℕ
-  byte = byte_before schedule input (m + 1)
-
-  abbrev ticks : Bool
-  ticks = is_tick_after schedule (m + 1)
-
-  none_before : 0 + steps_in done ≡ m
-  none_before = omega (arith, count)
-
-  pub number_found : is_stop_brought at (byte_before schedule input (m + 1)) t ≡ true
-      → Some (m + 1) ≡ stop_met (Some at) (scheduled schedule input s) s
-  number_found stop =
-      let whole = more_whole schedule input m s t running so_far still few count in
-      sym (ap (λ es. first_stop at 0 es s) (sym whole.1)
-      ∙ first_stop-behind at 0 done (next ++ whole.0) s none
-      ∙ ap (λ v. first_stop at (0 + steps_in done) (next ++ whole.0) v) (sym so_far)
-      ∙ number_at_stop at byte ticks t still (0 + steps_in done) whole.0 stop
-      ∙ ap (λ k. Some (k + 1)) none_before)
-
-  pub events_found : is_stop_brought at (byte_before schedule input (m + 1)) t ≡ true
-      → events_before (Some (m + 1)) schedule input s ≡ events_met (Some at) (scheduled schedule input s) s
-  events_found stop =
-      let whole = more_whole schedule input m s t running so_far still few count in
-      let one_less : m + 1 - 1 ≡ m = omega arith in
-      ap (λ k. up_to_halt (first_steps schedule input k) s ++ brought byte) one_less
-      ∙ sym (ap (λ es. up_to_stop at es s) (sym whole.1)
-      ∙ up_to_stop-behind at 0 done (next ++ whole.0) s none
-      ∙ ap (λ v. done ++ up_to_stop at (next ++ whole.0) v) (sym so_far)
-      ∙ ap (λ es. done ++ es) (events_at_stop at byte ticks t still whole.0 stop))
-
-  pub none_yet : is_stop_brought at (byte_before schedule input (m + 1)) t ≡ false
-      → first_stop at 0 (up_to_halt (first_steps schedule input (m + 1)) s) s ≡ None
-  none_yet stop =
-      ap (λ es. first_stop at 0 es s) (met schedule input m s t running so_far still few count)
-      ∙ first_stop-behind at 0 done next s none
-      ∙ ap (λ v. first_stop at (0 + steps_in done) next v) (sym so_far)
-      ∙ none_in_block at byte ticks t still (0 + steps_in done) stop
+-- what of a state a fetch looks at, after a trap
+pub at_entry : (s : State) (f : Fault) → is_halted s ≡ false → step_effect s ≡ effect.Trap f
+    → ((after Step s).scrs ≡ trapped_scrs f s.scrs) × ((after Step s).memory ≡ s.memory)
+unfolding applied
+at_entry s f running is = (
+  ap (λ (t : State). t.scrs) (after-trap s running f is),
+  ap (λ (t : State). t.memory) (after-trap s running f is),
+)

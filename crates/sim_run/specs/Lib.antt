@@ -1,10 +1,13 @@
 -- What to read
-pub mod Schedule
 pub mod Trace
 pub mod Verdict
 pub mod Unhandled
 pub mod Ending
 pub mod Stopping
 -- Inner words
+pub mod Lines
+pub mod LineLaws
+pub mod WatchedLaws
 pub mod Watched
 pub mod Stopped
+pub mod StoppedLaws

@@ -1,5 +1,5 @@
 -- Where a run ends that is to show why a step traps: before the first step that is such a trap.
-use Rattle.std.specs.Prelude.{ℕ, ◌+◌, ◌-◌, ◌==◌, ◌&&◌, ◌||◌, Bool, if◌then◌else◌, List, [], ◌∷◌, ◌++◌, map, option_to_list, is_err}
+use Rattle.std.specs.Prelude.{ℕ, ◌+◌, ◌==◌, ◌&&◌, ◌||◌, Bool, if◌then◌else◌, List, [], ◌∷◌, ◌++◌, is_err}
 use Rattle.std.specs.Prelude.{Option, Some, None, codes, decimal}
 use Rattle.base.specs.declared.cause.Cause.TheVariants as cause
 use Rattle.base.specs.Fault.{number_of}
@@ -12,10 +12,8 @@ use Rattle.steps.specs.Step.{fetch}
 use Rattle.symbols.specs.Symbols.{Symbol}
 use Rattle.symbols.specs.Labels.{labelled}
 use Rattle.explain.specs.WhyText.{why_text}
-use Rattle.sim_run.specs.declared.schedule.Schedule.{Schedule}
 use Rattle.sim_run.specs.declared.stopping.StopAt.{StopAt}
 use Rattle.sim_run.specs.declared.stopping.StopAt.TheVariants.{Unfetched, Violation}
-use Rattle.sim_run.specs.Schedule.{byte_before, first_steps, scheduled, up_to_halt}
 
 -- a CHERI exception, or a fetch, a load or a store where nothing answers
 abbrev pub is_violation : ℕ → Bool
@@ -54,12 +52,6 @@ events_met (Some at) events s = up_to_stop at events s
 abbrev pub stop_met : Option StopAt → List Event → State → Option ℕ
 stop_met None events s = None
 stop_met (Some at) events s = first_stop at 0 events s
-
--- the events of a schedule before the step of a number: those of the steps before it, and the byte that comes just before it
-abbrev pub events_before : Option ℕ → Schedule → List ℕ → State → List Event
-events_before None schedule input s = scheduled schedule input s
-events_before (Some number) schedule input s =
-    up_to_halt (first_steps schedule input (number - 1)) s ++ map Byte (option_to_list (byte_before schedule input number))
 
 -- how many steps were done, where PCC is, and what the next step will do, and why; after an address stands its label
 unfoldable pub stopped_lines : List Symbol → ℕ → State → List ℕ

@@ -7,17 +7,17 @@ ghost use Rattle.steps.specs.State.{State};
 ghost use Rattle.symbols.specs.Symbols.{Symbol};
 ghost use Rattle.steps.specs.declared.event.Event.{Event};
 ghost use Rattle.machine.specs.Run.{run_after, run_sent, end_of};
-ghost use Rattle.sim_run.specs.Schedule.{is_halted, steps_in, IsCutShort, IsRunnable};
-ghost use Rattle.sim_run.specs.Stopped.{IsPlaceOf};
-ghost use Rattle.sim_run.specs.Stopping.{events_before};
+ghost use Rattle.schedules.specs.Schedule.{is_halted, steps_in, IsCutShort, IsRunnable};
+ghost use Rattle.schedules.specs.Schedule.{IsPlaceOf};
+ghost use Rattle.schedules.specs.Schedule.{events_before};
 ghost use Rattle.sim_run.specs.Trace.{lines_past, trace_text, CountsTraced, WasCut};
 
 use crate::run::{Ran, bring, run_counted, skip};
-use crate::schedule::Schedule;
 use crate::traced::{TraceFault, run_traced};
 use cap_bounds::CapRep;
 use image::{DeviceFailed, Sink};
 use machine::Machine;
+use schedules::Schedule;
 use symbols::Symbols;
 
 /// Runs a machine on a schedule up to the step of a number, which is not done, and gives it the byte that comes just before that step.

@@ -10,12 +10,11 @@ ghost use Rattle.explain.specs.WhyText.{failed_line};
 ghost use Rattle.hart.specs.Opening.{opening};
 ghost use Rattle.machine.specs.Run.{run_after};
 ghost use Rattle.sim_run.specs.Ending.{ending_lines, first_trap, is_trapped, last_trap, since_line, trap_lines, trap_part};
-ghost use Rattle.sim_run.specs.Schedule.{is_halted, scheduled, IsRunnable};
+ghost use Rattle.schedules.specs.Schedule.{is_halted, scheduled, IsRunnable};
 ghost use Rattle.sim_run.specs.Unhandled.{trap_left, Trapped};
 ghost use Rattle.sim_run.specs.Watched.{IsTold};
 ghost use Rattle.sim_run.specs.Verdict.{status_of, verdict_line};
 
-use crate::schedule::Schedule;
 use crate::unhandled::trap_left;
 use arrayvec::ArrayString;
 use base::{Fault, csr, scr};
@@ -23,6 +22,7 @@ use cap_bounds::CapRep;
 use explain::{put_failed, trap_text};
 use image::Image;
 use machine::{End, Machine};
+use schedules::Schedule;
 use std::alloc::{AllocError, Global};
 use symbols::{Symbols, labelled};
 use texts::Piece::{Decimal, Text};
@@ -243,10 +243,9 @@ pub fn ending_lines<C: CapRep>(
     ensures { IfOk result (λ text. string_bytes text
         ≡ ending_lines symbols.now steps (trap_left (scheduled schedule input.now (opening image.now)) (opening image.now)) machine.now) }
 {
-    let mut first = String::new(alloc);
-    let unfetched = trap_left(alloc, symbols, image, schedule, input, machine, &mut first)?;
+    let left = trap_left(alloc, symbols, image, schedule, input, machine)?;
     let mut text = String::new(alloc);
     put_place(&mut text, symbols, machine, steps)?;
-    append_trap_lines(&mut text, symbols, machine, unfetched, &first)?;
+    append_trap_lines(&mut text, symbols, machine, left.unfetched, &left.text)?;
     Ok(text)
 }

@@ -4,7 +4,6 @@
 mod before;
 mod ending;
 mod run;
-mod schedule;
 mod stopping;
 mod traced;
 mod unhandled;
@@ -12,6 +11,5 @@ mod unhandled;
 pub use before::{count_steps, lines_skipped, run_before, run_traced_before};
 pub use ending::{ending_lines, put_place, verdict};
 pub use run::{Ran, run_counted, run_scheduled};
-pub use schedule::Schedule;
 pub use stopping::{StopAt, find_stop, stopped_lines};
 pub use traced::{TraceFault, run_traced};

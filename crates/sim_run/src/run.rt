@@ -1,98 +1,16 @@
-ghost use Rattle.std.specs.Prelude.{ℕ, ◌≡◌, ◌≤◌, ◌<◌, ◌+◌, ◌-◌, ◌^◌, None, IfOk, OnOk, OnErr, true, false, is_some, [], ◌∷◌, map};
-ghost use Rattle.std.specs.Prelude.{replicate, option_to_list};
-ghost use Rattle.std.specs.Prelude.{if◌then◌else◌};
-ghost use Rattle.std.specs.Io.KnownBytes.{Appends, Keeps};
-ghost use Rattle.image.specs.Devices.{Counts};
-ghost use Rattle.steps.specs.declared.event.Event.TheVariants.{Step, Tick, Byte};
-ghost use Rattle.machine.specs.Run.{run_after, run_sent, end_of};
-ghost use Rattle.sim_run.specs.Schedule.{byte_before, is_tick_after, block, AreAlone, is_halted, steps_in};
-ghost use Rattle.sim_run.specs.Schedule.{first_steps, up_to_halt, scheduled, IsCutShort, IsInRange, IsRunnable};
+//! Runs of a machine on a schedule.
 
-use crate::schedule::Schedule;
+ghost use Rattle.std.specs.Prelude.{◌≡◌, ◌≤◌, ◌<◌, ◌-◌, ◌^◌, IfOk, OnOk, OnErr, false, [], ◌∷◌, map, option_to_list, if◌then◌else◌};
+ghost use Rattle.std.specs.Io.KnownBytes.{Appends};
+ghost use Rattle.image.specs.Devices.{Counts};
+ghost use Rattle.steps.specs.declared.event.Event.TheVariants.{Tick, Byte};
+ghost use Rattle.machine.specs.Run.{run_after, run_sent, end_of};
+ghost use Rattle.schedules.specs.Schedule.{first_steps, is_halted, scheduled, steps_in, up_to_halt, IsCutShort, IsInRange, IsRunnable};
+
 use cap_bounds::CapRep;
 use image::{DeviceFailed, Sink};
 use machine::{End, Event, Machine};
-
-impl Schedule {
-    /// The byte that comes just before this step, counted from 1.
-    #[tactic(auto, unfolding(crate::specs::Schedule::byte_before))]
-    pub fn byte_before(self, input: &[u8], step: u64) -> Option<u8>
-        requires gap { 1 ≤ self.gap }
-        requires step { 1 ≤ step }
-        ensures { result ≡ byte_before self input.now step }
-    {
-        let done = step - 1;
-        if done % self.gap != 0 {
-            return None;
-        }
-        input.get((done / self.gap) as usize).copied()
-    }
-
-    /// Whether a tick comes after this step, counted from 1.
-    #[tactic(auto, unfolding(crate::specs::Schedule::is_tick_after))]
-    pub fn is_tick_after(self, step: u64) -> bool
-        ensures { result ≡ is_tick_after self step }
-    {
-        self.tick != 0 && step % self.tick == 0
-    }
-
-    /// How many steps come after the first `done` without a byte or a tick between them: at least one, and no more than are left.
-    pub fn steps_alone(self, input: &[u8], done: u64) -> u64
-        requires gap { 1 ≤ self.gap }
-        requires more { done < self.steps }
-        ensures some { 1 ≤ result }
-        ensures few { done + result ≤ self.steps }
-        ensures alone { AreAlone self input.now done result }
-    {
-        let left = self.steps - done;
-        let to_byte = self.steps_to_byte(input, done);
-        let to_tick = self.steps_to_tick(done);
-        left.min(to_byte).min(to_tick)
-    }
-
-    /// How many steps come after the first `done` without a byte between them; where none is to come, 2^64 - 1.
-    fn steps_to_byte(self, input: &[u8], done: u64) -> u64
-        requires gap { 1 ≤ self.gap }
-        ensures some { 1 ≤ result }
-        ensures alone { (j : ℕ) → 1 ≤ j → j < result → byte_before self input.now (done + j + 1) ≡ None }
-    {
-        let last = (input.len() as u64).saturating_sub(1);
-        if done / self.gap < last {
-            self.gap - done % self.gap
-        } else {
-            u64::MAX
-        }
-    }
-
-    /// How many steps come after the first `done` without a tick between them; where none is to come, 2^64 - 1.
-    fn steps_to_tick(self, done: u64) -> u64
-        ensures some { 1 ≤ result }
-        ensures alone { (j : ℕ) → 1 ≤ j → j < result → is_tick_after self (done + j) ≡ false }
-    {
-        if self.tick != 0 {
-            self.tick - done % self.tick
-        } else {
-            u64::MAX
-        }
-    }
-}
-
-/// Writes the byte that a step sent, if it sent one.
-pub(crate) fn write_sent<W: Sink>(byte: Option<u8>, sink: &mut W) -> Result<(), DeviceFailed>
-    requires { W.failed sink.old < 2 ^ 64 - 1 }
-    ensures ok { OnOk result (Appends (W.held sink.old) (W.held sink.new) (option_to_list byte)) }
-    ensures err { OnErr result (Keeps (W.held sink.old) (W.held sink.new)) }
-    ensures unwritten { OnErr result (is_some byte ≡ true) }
-    ensures count { Counts (W.failed sink.old) (W.failed sink.new) result }
-{
-    match byte {
-        None => Ok(()),
-        Some(byte) => {
-            sink.write(&[byte])?;
-            Ok(())
-        }
-    }
-}
+use schedules::{How, Output, Schedule, Walking, walk_whole};
 
 /// Gives the machine the byte that comes, if one does.
 pub(crate) fn bring<C: CapRep>(machine: &mut Machine<C>, byte: Option<u8>)
@@ -110,62 +28,6 @@ pub(crate) fn pass<C: CapRep>(machine: &mut Machine<C>, ticks: bool)
     if ticks {
         machine.event(Event::Tick);
     }
-}
-
-/// Does so many steps, or those up to the one that halts the machine, and writes each byte that they send at once. Answers how many
-/// steps were done.
-fn meet_steps<C: CapRep, W: Sink>(
-    machine: &mut Machine<C>,
-    count: u64,
-    sink: &mut W,
-) -> Result<u64, DeviceFailed>
-    requires failed { W.failed sink.old < 2 ^ 64 - 1 }
-    requires running { is_halted machine.old ≡ false }
-    ensures state { OnOk result (machine.new ≡ run_after (up_to_halt (replicate count Step) machine.old) machine.old) }
-    ensures ok { OnOk result (Appends (W.held sink.old) (W.held sink.new)
-        (run_sent (up_to_halt (replicate count Step) machine.old) machine.old)) }
-    ensures steps { IfOk result (λ n. n ≡ steps_in (up_to_halt (replicate count Step) machine.old)) }
-    ensures few { IfOk result (λ n. n ≤ count) }
-    ensures err { OnErr result (IsCutShort (up_to_halt (replicate count Step) machine.old) machine.old machine.new
-        (W.held sink.old) (W.held sink.new)) }
-    ensures count { Counts (W.failed sink.old) (W.failed sink.new) result }
-{
-    let mut done = 0;
-    while done < count {
-        let met = machine.advance(count - done);
-        write_sent(met.byte, sink)?;
-        if machine.halted().is_some() {
-            return Ok(done + met.steps);
-        }
-        done += met.steps;
-    }
-    Ok(done)
-}
-
-/// Does so many steps, with the byte before the first of them and the tick after the last. Answers how many steps were done.
-fn meet_block<C: CapRep, W: Sink>(
-    machine: &mut Machine<C>,
-    byte: Option<u8>,
-    count: u64,
-    ticks: bool,
-    sink: &mut W,
-) -> Result<u64, DeviceFailed>
-    requires failed { W.failed sink.old < 2 ^ 64 - 1 }
-    requires running { is_halted machine.old ≡ false }
-    ensures state { OnOk result (machine.new ≡ run_after (up_to_halt (block byte count ticks) machine.old) machine.old) }
-    ensures ok { OnOk result (Appends (W.held sink.old) (W.held sink.new)
-        (run_sent (up_to_halt (block byte count ticks) machine.old) machine.old)) }
-    ensures steps { IfOk result (λ n. n ≡ steps_in (up_to_halt (block byte count ticks) machine.old)) }
-    ensures few { IfOk result (λ n. n ≤ count) }
-    ensures err { OnErr result (IsCutShort (up_to_halt (block byte count ticks) machine.old) machine.old machine.new
-        (W.held sink.old) (W.held sink.new)) }
-    ensures count { Counts (W.failed sink.old) (W.failed sink.new) result }
-{
-    bring(machine, byte);
-    let steps = meet_steps(machine, count, sink)?;
-    let running = machine.halted().is_none();
-    pass(machine, ticks && running);
-    Ok(steps)
 }
 
 /// What a run came to.
@@ -197,21 +59,24 @@ pub fn run_counted<C: CapRep, W: Sink>(
         (W.held sink.old) (W.held sink.new)) }
     ensures count { Counts (W.failed sink.old) (W.failed sink.new) result }
 {
-    let mut done = 0;
-    let mut steps = 0;
-    while done < schedule.steps {
-        let byte = schedule.byte_before(input, done + 1);
-        let count = schedule.steps_alone(input, done);
-        let ticks = schedule.is_tick_after(done + count);
-        steps += meet_block(machine, byte, count, ticks, sink)?;
-        if let Some(number) = machine.halted() {
-            let end = End::Halted(number);
-            return Ok(Ran { end, steps });
+    let mut output = Output::new(sink);
+    let Walking { how, steps } = walk_whole(machine, schedule, input, &mut output);
+    match how {
+        How::Done => {
+            let end = End::Running;
+            Ok(Ran { end, steps })
         }
-        done += count;
+        How::Halted => match machine.halted() {
+            Some(number) => {
+                let end = End::Halted(number);
+                Ok(Ran { end, steps })
+            }
+            None => unreachable!(),
+        },
+        How::Failed(fault) => Err(fault),
+        // Nothing stops that watch, or bars it, before a step.
+        How::Stopped | How::Barred(_) => unreachable!(),
     }
-    let end = End::Running;
-    Ok(Ran { end, steps })
 }
 
 /// Does the first so many steps of a schedule.

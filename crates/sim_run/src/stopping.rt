@@ -1,23 +1,32 @@
 //! A run that ends before a step that traps, to show why.
 
-ghost use Rattle.std.specs.Prelude.{◌≡◌, Some, IfOk, IfSome, false, string_bytes};
+ghost use Rattle.std.proofs.Common.{◌∙◌};
+ghost use Rattle.std.specs.Prelude.{◌≡◌, Some, None, IfOk, IfSome, false, is_err, string_bytes, ⊤, refl};
+ghost use Rattle.special_regs.specs.Scrs.{IsAligned};
 ghost use Rattle.steps.specs.Event.{after};
+ghost use Rattle.steps.specs.State.{State};
+ghost use Rattle.steps.specs.Step.{fetch, step_effect};
+ghost use Rattle.steps.specs.declared.effect.Effect.TheVariants.{Trap};
 ghost use Rattle.steps.specs.declared.event.Event.TheVariants.{Step};
-ghost use Rattle.machine.specs.Run.{run_after};
-ghost use Rattle.sim_run.specs.Schedule.{block, is_halted, scheduled, up_to_halt, IsRunnable};
-ghost use Rattle.sim_run.specs.Stopping.{events_before, events_met, is_asked, is_stop, is_violation, stop_met, stopped_lines};
-ghost use Rattle.sim_run.specs.Stopped.{IsPlaceOf, is_stop_brought};
+ghost use Rattle.schedules.specs.declared.pace.Speed.TheVariants.{Short};
+ghost use Rattle.schedules.specs.Schedule.{events_before, is_halted, scheduled, IsPlaceOf, IsRunnable};
+ghost use Rattle.sim_run.specs.Stopping.{events_met, is_asked, is_stop, is_violation, stop_met, stopped_lines};
+ghost use Rattle.sim_run.specs.Stopped.{PassesStops};
+ghost use Rattle.sim_run.specs.StoppedLaws.{passes_more};
 
-use crate::ending::{mcause, put_place};
-use crate::run::{bring, pass};
-use crate::schedule::Schedule;
+use crate::ending::put_place;
 use crate::unhandled::trap_in;
-use base::Cause;
+use base::{Cause, Fault, Size};
 use cap_bounds::CapRep;
+use cap_checks::check_fetch;
 use explain::put_why;
+use hart::Planned;
 use machine::Machine;
+use schedules::{How, Never, Pace, Schedule, Speed, Walking, Watch, walk_whole};
+use special_regs::enter_trap;
 use std::alloc::{AllocError, Global};
 use symbols::Symbols;
+use tagged_memory::Memory;
 use texts::Piece::Text;
 use texts::append;
 
@@ -40,48 +49,110 @@ fn is_violation(mcause: u64) -> bool
         || mcause == Cause::StoreAccess.number()
 }
 
-/// Whether a trap that left this machine is one to stop before.
-fn is_asked<C: CapRep>(machine: &Machine<C>, at: StopAt) -> bool
-    ensures { result ≡ is_asked at machine.now }
+/// Whether an instruction can't be fetched through this PCC.
+fn is_unfetched<C: CapRep>(pcc: C, memory: &Memory) -> bool
+    requires { IsAligned (C.value pcc) }
+    ensures { (s : State) → result ≡ is_err (fetch (record s { scrs = record s.scrs { pcc = C.value pcc }; memory = memory.now })) }
 {
-    match at {
-        StopAt::Unfetched => machine.hart().fetch().is_err(),
-        StopAt::Violation => is_violation(mcause(machine)),
+    match check_fetch(pcc) {
+        Ok(address) => match memory.read(address, Size::Word) {
+            Ok(_) => false,
+            Err(_) => true,
+        },
+        Err(_) => true,
     }
 }
 
-/// Does the next step, and answers whether it is a trap to stop before.
-fn stops<C: CapRep>(machine: &mut Machine<C>, at: StopAt) -> bool
-    requires running { is_halted machine.old ≡ false }
-    ensures state { machine.new ≡ after Step machine.old }
-    ensures stop { result ≡ is_stop at machine.old }
+/// Whether the entry of a trap by this fault, which the next step is, can't be fetched.
+fn is_entry_unfetched<C: CapRep>(machine: &Machine<C>, fault: Fault) -> bool
+    requires running { is_halted machine.now ≡ false }
+    requires traps { step_effect machine.now ≡ Trap fault }
+    ensures { result ≡ is_err (fetch (after Step machine.now)) }
 {
-    let planned = machine.next();
-    let trapped = trap_in(&planned).is_some();
-    machine.apply(planned);
-    trapped && is_asked(machine, at)
+    let hart = machine.hart();
+    let mut scrs = hart.scrs().copied();
+    let mut csrs = *hart.csrs();
+    enter_trap(&mut scrs, &mut csrs, fault);
+    is_unfetched(scrs.pcc(), hart.memory())
 }
 
-/// Does the next step, with the byte before it and the tick after it, and answers whether it is a trap to stop before.
-fn stops_around<C: CapRep>(
-    machine: &mut Machine<C>,
-    at: StopAt,
-    byte: Option<u8>,
-    ticks: bool,
-) -> bool
-    requires running { is_halted machine.old ≡ false }
-    ensures state { machine.new ≡ run_after (up_to_halt (block byte 1 ticks) machine.old) machine.old }
-    ensures stop { result ≡ is_stop_brought at byte machine.old }
+/// Whether the trap by this fault, which the next step is, is one to stop before.
+fn is_asked<C: CapRep>(machine: &Machine<C>, at: StopAt, fault: Fault) -> bool
+    requires running { is_halted machine.now ≡ false }
+    requires traps { step_effect machine.now ≡ Trap fault }
+    ensures { result ≡ is_asked at (after Step machine.now) }
 {
-    bring(machine, byte);
-    let stop = stops(machine, at);
-    let running = machine.halted().is_none();
-    pass(machine, ticks && running);
-    stop
+    match at {
+        StopAt::Unfetched => is_entry_unfetched(machine, fault),
+        StopAt::Violation => is_violation(fault.mcause),
+    }
+}
+
+/// A watch that stops before the first step that is such a trap.
+#[derive(Drop)]
+pub struct Stop {
+    /// Which trap.
+    pub at: StopAt,
+}
+
+impl<C: CapRep> Watch<Machine<C>> for Stop {
+    type Fault = Never;
+
+    ghost Saw = { λ events s a b. (b.at ≡ a.at) × PassesStops a.at events s };
+
+    ghost Lost = { λ _ _ _ _ _. ⊥ };
+
+    ghost Barred = { λ _ _ _ _ _. ⊥ };
+
+    ghost Asked = { λ s a b. (b.at ≡ a.at) × (is_stop a.at s ≡ false) };
+
+    ghost IsReady = { λ _. ⊤ };
+
+    ghost pace_of = { λ _. record { speed = Short None; most = 18446744073709551615 } };
+
+    ghost stops_at = { λ w s. is_stop w.at s };
+
+    ghost starts = { λ s w. (refl, tt) };
+
+    ghost goes_on = { λ xs ys s u v w first later. (later.0 ∙ first.0, passes_more xs ys s u.at v.at first.0 first.1 later.1) };
+
+    ghost fails_later = { λ fault xs ys s u v w first later. later };
+
+    ghost bars_later = { λ fault xs ys s u v w first later. later };
+
+    fn pace(&self) -> Pace {
+        Pace::of(Speed::Short(None))
+    }
+
+    fn stops(&self, machine: &Machine<C>, planned: &Planned<C>) -> bool {
+        match trap_in(planned) {
+            Some(fault) => is_asked(machine, self.at, fault),
+            None => false,
+        }
+    }
+
+    fn came(&mut self, _machine: &Machine<C>) {}
+
+    fn passed(
+        &mut self,
+        _machine: &Machine<C>,
+        _steps: u64,
+        _sent: Option<u8>,
+    ) -> Result<(), Never> {
+        Ok(())
+    }
+
+    fn before(&mut self, _machine: &Machine<C>, _planned: &Planned<C>) -> Result<(), Never> {
+        Ok(())
+    }
+
+    fn after(&mut self, _machine: &Machine<C>, _sent: Option<u8>) -> Result<(), Never> {
+        Ok(())
+    }
 }
 
 /// The number of the first step of a machine's run on a schedule, counted from 1, that is a trap to stop before; none where there is none.
-/// The machine is run step by step up to it and past it, and what it sends is forgotten. It takes no memory.
+/// The machine is run up to it, at once over plain steps, and what it sends is forgotten. It takes no memory.
 pub fn find_stop<C: CapRep>(
     machine: &mut Machine<C>,
     at: StopAt,
@@ -95,19 +166,13 @@ pub fn find_stop<C: CapRep>(
         ≡ events_met (Some at) (scheduled schedule input.now machine.old) machine.old }
     ensures place { IfSome result (IsPlaceOf schedule) }
 {
-    let mut done = 0;
-    while done < schedule.steps {
-        let byte = schedule.byte_before(input, done + 1);
-        let ticks = schedule.is_tick_after(done + 1);
-        if stops_around(machine, at, byte, ticks) {
-            return Some(done + 1);
-        }
-        done += 1;
-        if machine.halted().is_some() {
-            return None;
-        }
+    let mut stop = Stop { at };
+    let Walking { how, steps } = walk_whole(machine, schedule, input, &mut stop);
+    match how {
+        How::Done | How::Halted => None,
+        How::Stopped => Some(steps + 1),
+        How::Failed(never) | How::Barred(never) => match never {},
     }
-    None
 }
 
 /// The lines for standard error that say where a run ended before a step that traps: how many steps were done, where PCC is, and what

@@ -1,20 +1,25 @@
 //! A machine that is run on a schedule, with a line of a trace for each of its steps.
 
-ghost use Rattle.std.specs.Prelude.{◌≡◌, ◌<◌, ◌+◌, ◌-◌, ◌^◌, IfOk, IfErr, OnOk, false, [], ◌∷◌, option_to_list};
+ghost use Rattle.std.proofs.Common.{◌∙◌};
+ghost use Rattle.std.specs.Prelude.{◌≡◌, ◌<◌, ◌+◌, ◌-◌, ◌^◌, ◌==◌, IfOk, IfErr, OnOk, OnErr, false, true, nat_lt, [], ◌∷◌, ⊤, refl};
 ghost use Rattle.std.specs.Io.KnownBytes.{Appends};
-ghost use Rattle.steps.specs.Event.{after, sent};
+ghost use Rattle.image.specs.Devices.{AppendsBeginning, Counts};
+ghost use Rattle.steps.specs.Applying.{IsPlanned};
 ghost use Rattle.steps.specs.declared.event.Event.TheVariants.{Step};
 ghost use Rattle.machine.specs.Run.{run_after, run_sent, end_of};
 ghost use Rattle.explain.specs.TraceLine.{trace_line as trace_line_of};
-ghost use Rattle.sim_run.specs.Schedule.{block, is_halted, scheduled, steps_in, up_to_halt, IsRunnable};
+ghost use Rattle.schedules.specs.Schedule.{is_halted, scheduled, steps_in, IsRunnable};
 ghost use Rattle.sim_run.specs.Trace.{lines_past, CountsTraced, WasCut};
+ghost use Rattle.sim_run.specs.Lines.{lines_pace, MissedLine, WroteLines};
+ghost use Rattle.sim_run.specs.LineLaws.{missed_more, wrote_more, wrote_no_line};
 
-use crate::run::{Ran, bring, pass, skip, write_sent};
-use crate::schedule::Schedule;
+use crate::run::Ran;
 use cap_bounds::CapRep;
 use explain::trace_line;
-use image::{Sink, write_all};
+use hart::Planned;
+use image::{DeviceFailed, Sink, write_all};
 use machine::{End, Machine};
+use schedules::{Both, Either, How, Output, Pace, Schedule, Speed, Walking, Watch, walk_whole};
 use symbols::Symbols;
 
 /// Which sink of a traced run failed.
@@ -26,68 +31,156 @@ pub enum TraceFault {
     Trace,
 }
 
-/// Writes the line of the step after so many others to the trace, does the step, and writes the byte that it sends.
-fn meet_step<C: CapRep, W: Sink, T: Sink>(
-    machine: &mut Machine<C>,
-    before: u64,
-    symbols: &Symbols,
-    sink: &mut W,
-    trace: &mut T,
-) -> Result<(), TraceFault>
-    requires before { before < 2 ^ 64 - 1 }
-    requires sink { W.failed sink.old < 2 ^ 64 - 1 }
-    requires trace { T.failed trace.old < 2 ^ 64 - 1 }
-    ensures state { OnOk result (machine.new ≡ after Step machine.old) }
-    ensures bytes { OnOk result (Appends (W.held sink.old) (W.held sink.new) (option_to_list (sent Step machine.old))) }
-    ensures lines { OnOk result (Appends (T.held trace.old) (T.held trace.new) (trace_line_of symbols.now (before + 1) machine.old)) }
-    ensures cut { IfErr result (λ fault. WasCut symbols.now fault 0 before (Step ∷ []) machine.old machine.new (W.held sink.old)
-        (W.held sink.new) (T.held trace.old) (T.held trace.new)) }
-    ensures count { CountsTraced result (W.failed sink.old) (W.failed sink.new) (T.failed trace.old) (T.failed trace.new) }
-{
-    let planned = machine.next();
-    let line = trace_line(symbols, before + 1, machine.hart(), &planned);
-    match write_all(trace, line.as_bytes()) {
-        Ok(()) => {}
-        Err(_) => return Err(TraceFault::Trace),
-    }
-    let out = machine.apply(planned);
-    match write_sent(out.byte, sink) {
-        Ok(()) => Ok(()),
-        Err(_) => Err(TraceFault::Output),
+/// A watch that writes the line of each step before it is done, past the first so many. It stops before a step whose number has more
+/// than 64 bits.
+#[derive(Drop)]
+pub struct Lines<'a, T: Sink> {
+    symbols: &'a Symbols,
+    trace: &'a mut T,
+    /// How many of the first steps have no line.
+    skipped: u64,
+    /// How many steps were done.
+    number: u64,
+}
+
+impl<'a, T: Sink> Lines<'a, T> {
+    /// A watch of a run from its begin.
+    pub fn new(symbols: &'a Symbols, trace: &'a mut T, skipped: u64) -> Self
+        ensures same_reference { result.trace.ghost_name ≡ trace.entry.ghost_name }
+        ensures trace { result.trace.now ≡ trace.old }
+        ensures symbols { result.symbols.now ≡ symbols.entry.now }
+        ensures skipped { result.skipped ≡ skipped }
+        ensures number { result.number ≡ 0 }
+    {
+        Lines {
+            symbols,
+            trace,
+            skipped,
+            number: 0,
+        }
     }
 }
 
-/// Does the step after so many others, with the byte before it and the tick after it, and writes its line and what it sends.
-fn meet_around<C: CapRep, W: Sink, T: Sink>(
-    machine: &mut Machine<C>,
-    byte: Option<u8>,
-    before: u64,
-    ticks: bool,
+/// Writes the line of the step after so many others, which is planned, unless it is one of the first that have none.
+fn write_line<C: CapRep, T: Sink>(
     symbols: &Symbols,
-    sink: &mut W,
     trace: &mut T,
-) -> Result<(), TraceFault>
-    requires before { before < 2 ^ 64 - 1 }
-    requires running { is_halted machine.old ≡ false }
-    requires sink { W.failed sink.old < 2 ^ 64 - 1 }
-    requires trace { T.failed trace.old < 2 ^ 64 - 1 }
-    ensures state { OnOk result (machine.new ≡ run_after (up_to_halt (block byte 1 ticks) machine.old) machine.old) }
-    ensures bytes { OnOk result (Appends (W.held sink.old) (W.held sink.new)
-        (run_sent (up_to_halt (block byte 1 ticks) machine.old) machine.old)) }
-    ensures lines { OnOk result (Appends (T.held trace.old) (T.held trace.new)
-        (lines_past symbols.now 0 before (up_to_halt (block byte 1 ticks) machine.old) machine.old)) }
-    ensures cut { IfErr result (λ fault. WasCut symbols.now fault 0 before (up_to_halt (block byte 1 ticks) machine.old) machine.old
-        machine.new (W.held sink.old) (W.held sink.new) (T.held trace.old) (T.held trace.new)) }
-    ensures count { CountsTraced result (W.failed sink.old) (W.failed sink.new) (T.failed trace.old) (T.failed trace.new) }
+    skipped: u64,
+    before: u64,
+    machine: &Machine<C>,
+    planned: &Planned<C>,
+) -> Result<(), DeviceFailed>
+    requires planned { IsPlanned C.value planned.now.effect machine.now }
+    requires ready { T.failed trace.old < 2 ^ 64 - 1 }
+    ensures ok { before < 2 ^ 64 - 1 → OnOk result (Appends (T.held trace.old) (T.held trace.new)
+        (lines_past symbols.now (skipped - before) before (Step ∷ []) machine.now)) }
+    ensures err { before < 2 ^ 64 - 1 → OnErr result (AppendsBeginning (T.held trace.old) (T.held trace.new)
+        (lines_past symbols.now (skipped - before) before (Step ∷ []) machine.now)) }
+    ensures count { Counts (T.failed trace.old) (T.failed trace.new) result }
 {
-    bring(machine, byte);
-    match meet_step(machine, before, symbols, sink, trace) {
-        Ok(()) => {}
-        Err(fault) => return Err(fault),
+    if before < skipped {
+        return Ok(());
     }
-    let running = machine.halted().is_none();
-    pass(machine, ticks && running);
-    Ok(())
+    let line = trace_line(symbols, before.saturating_add(1), machine.hart(), planned);
+    write_all(trace, line.as_bytes())
+}
+
+/// Where steps are done at once: those that have no line.
+fn lines_pace(skipped: u64, number: u64) -> Pace
+    ensures { result ≡ lines_pace skipped number }
+{
+    if number < skipped {
+        Pace {
+            speed: Speed::Any,
+            most: skipped - number,
+        }
+    } else {
+        Pace::of(Speed::Each)
+    }
+}
+
+impl<C: CapRep, T: Sink> Watch<Machine<C>> for Lines<'_, T> {
+    type Fault = DeviceFailed;
+
+    ghost Saw = { λ events s a b. (b.trace.ghost_name ≡ a.trace.ghost_name) × (b.symbols.now ≡ a.symbols.now) × (b.skipped ≡ a.skipped)
+        × WroteLines a.symbols.now a.skipped a.number events s (T.held a.trace.now) (T.held b.trace.now) (T.failed a.trace.now)
+        (T.failed b.trace.now) b.number };
+
+    ghost Lost = { λ _ _ _ _ _. ⊥ };
+
+    ghost Barred = { λ _ events s a b. (b.trace.ghost_name ≡ a.trace.ghost_name)
+        × MissedLine a.symbols.now a.skipped a.number events s (T.held a.trace.now) (T.held b.trace.now) (T.failed a.trace.now)
+        (T.failed b.trace.now) };
+
+    ghost Asked = { λ s a b. (b.trace.ghost_name ≡ a.trace.ghost_name) × (b.symbols.now ≡ a.symbols.now) × (b.skipped ≡ a.skipped)
+        × (b.number ≡ a.number) × (a.number < 2 ^ 64 - 1)
+        × Appends (T.held a.trace.now) (T.held b.trace.now) (lines_past a.symbols.now (a.skipped - a.number) a.number (Step ∷ []) s)
+        × (T.failed b.trace.now ≡ T.failed a.trace.now) };
+
+    ghost IsReady = { λ w. (T.failed w.trace.now < 2 ^ 64 - 1) × (w.skipped < 2 ^ 64) × (w.number < 2 ^ 64) };
+
+    ghost pace_of = { λ w. lines_pace w.skipped w.number };
+
+    ghost stops_at = { λ w _. w.number == 18446744073709551615 };
+
+    ghost starts = { λ s w. (
+      refl,
+      refl,
+      refl,
+      wrote_no_line w.symbols.now w.skipped w.number s (T.held w.trace.now)
+          (T.failed w.trace.now),
+    ) };
+
+    ghost goes_on = { λ xs ys s u v w first later. (
+      later.0 ∙ first.0,
+      later.1 ∙ first.1,
+      later.2 ∙ first.2,
+      wrote_more xs ys s u.symbols.now v.symbols.now u.skipped v.skipped u.number v.number _ _ _ _ _ _ first.1 first.2 first.3 w.number
+          later.3,
+    ) };
+
+    ghost fails_later = { λ fault xs ys s u v w first later. later };
+
+    ghost bars_later = { λ fault xs ys s u v w first later. (
+      later.0 ∙ first.0,
+      missed_more xs ys s u.symbols.now v.symbols.now u.skipped v.skipped u.number v.number _ _ _ _ _ _ first.1 first.2 first.3 later.1,
+    ) };
+
+    fn pace(&self) -> Pace {
+        lines_pace(self.skipped, self.number)
+    }
+
+    fn stops(&self, _machine: &Machine<C>, _planned: &Planned<C>) -> bool {
+        self.number == u64::MAX
+    }
+
+    fn came(&mut self, _machine: &Machine<C>) {}
+
+    fn passed(
+        &mut self,
+        _machine: &Machine<C>,
+        steps: u64,
+        _sent: Option<u8>,
+    ) -> Result<(), DeviceFailed> {
+        self.number = self.number.saturating_add(steps);
+        Ok(())
+    }
+
+    fn before(&mut self, machine: &Machine<C>, planned: &Planned<C>) -> Result<(), DeviceFailed> {
+        write_line(
+            self.symbols,
+            self.trace,
+            self.skipped,
+            self.number,
+            machine,
+            planned,
+        )
+    }
+
+    fn after(&mut self, _machine: &Machine<C>, _sent: Option<u8>) -> Result<(), DeviceFailed> {
+        self.number = self.number.saturating_add(1);
+        Ok(())
+    }
 }
 
 /// Runs a machine as `run_counted` does, and past the first `skipped` steps step by step: of each of those steps it writes a line to
@@ -120,29 +213,33 @@ pub fn run_traced<C: CapRep, W: Sink, T: Sink>(
         machine.new (W.held sink.old) (W.held sink.new) (T.held trace.old) (T.held trace.new)) }
     ensures count { CountsTraced result (W.failed sink.old) (W.failed sink.new) (T.failed trace.old) (T.failed trace.new) }
 {
-    let first = skipped.min(schedule.steps);
-    match skip(machine, schedule, input, first, sink) {
-        Ok(ran) => {
-            if machine.halted().is_some() {
-                return Ok(ran);
+    let mut both = Both {
+        first: Lines::new(symbols, trace, skipped),
+        second: Output::new(sink),
+    };
+    let Walking { how, steps } = walk_whole(machine, schedule, input, &mut both);
+    match how {
+        How::Done => {
+            let end = End::Running;
+            Ok(Ran { end, steps })
+        }
+        How::Halted => match machine.halted() {
+            Some(number) => {
+                let end = End::Halted(number);
+                Ok(Ran { end, steps })
             }
-        }
-        Err(_) => return Err(TraceFault::Output),
+            None => unreachable!(),
+        },
+        // A schedule has fewer steps than have a number of 64 bits.
+        How::Stopped => unreachable!(),
+        // A line is written before its step, and a byte after it.
+        How::Failed(fault) => match fault {
+            Either::First(_) => unreachable!(),
+            Either::Second(_) => Err(TraceFault::Output),
+        },
+        How::Barred(fault) => match fault {
+            Either::First(_) => Err(TraceFault::Trace),
+            Either::Second(_) => unreachable!(),
+        },
     }
-    let mut done = first;
-    while done < schedule.steps {
-        let byte = schedule.byte_before(input, done + 1);
-        let ticks = schedule.is_tick_after(done + 1);
-        match meet_around(machine, byte, done, ticks, symbols, sink, trace) {
-            Ok(()) => {}
-            Err(fault) => return Err(fault),
-        }
-        done += 1;
-        if let Some(number) = machine.halted() {
-            let end = End::Halted(number);
-            return Ok(Ran { end, steps: done });
-        }
-    }
-    let end = End::Running;
-    Ok(Ran { end, steps: done })
 }

@@ -6,7 +6,7 @@ use Rattle.policy.specs.Terms.{terms, terms_of}
 use Rattle.policy.specs.Watch.{IsRefused, values_in}
 use Rattle.policy.specs.Lending.{in_force}
 use Rattle.reach.specs.Reach.{members_in}
-use Rattle.sim_run.specs.Stopping.{events_before}
+use Rattle.schedules.specs.Schedule.{events_before}
 use Rattle.commands.proofs.Policies.{in_force-length, member-inside}
 use Rattle.commands.proofs.watching.stop_of.Goals as goal
 

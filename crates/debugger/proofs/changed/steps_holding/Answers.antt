@@ -1,12 +1,12 @@
-use Rattle.std.proofs.Common.{◌≡◌, true, false, ◌-◌, ◌∷◌, ◌++◌, length, ◌∙◌, ap, sym, arith}
+use Rattle.std.proofs.Common.{◌≡◌, true, ◌-◌, ◌∷◌, ◌++◌, length, ◌∙◌, ap, sym, arith}
 use Rattle.std.specs.Prelude.{option_to_list}
 use Rattle.std.proofs.lemmas.Grind.{common_steps}
 use Rattle.steps.specs.Event.{after}
 use Rattle.origins.proofs.Stays.{stays-as}
 use Rattle.origins.specs.Places.{held}
-use Rattle.past.specs.Position.{Position, at, next_event, next_position, position_after}
+use Rattle.past.specs.Position.{Position, at, next_position, position_after}
 use Rattle.debugger.specs.Stepping.{holds_on, steps_holding}
-use Rattle.debugger.proofs.Changes.{is_not_over, no_more, one_more, some}
+use Rattle.debugger.proofs.Changes.{no_more, one_more, some}
 use Rattle.debugger.proofs.RunSteps.{state_goes_on, bytes_go_on}
 use Rattle.debugger.proofs.changed.steps_holding.Goals as goal
 

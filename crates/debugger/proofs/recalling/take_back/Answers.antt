@@ -2,7 +2,7 @@ use Rattle.std.proofs.Common.{◌≡◌, ◌-◌, ◌&&◌, not, sym, ap, ap₂,
 use Rattle.std.specs.Prelude.{Some, is_some}
 use Rattle.past.specs.Given.{first_of, position_at, state_at}
 use Rattle.past.specs.Position.{beginning}
-use Rattle.sim_run.specs.Schedule.{is_halted}
+use Rattle.schedules.specs.Schedule.{is_halted}
 use Rattle.debugger.specs.Keeping.{timeline}
 use Rattle.debugger.specs.Reply.{left_of}
 use Rattle.debugger.specs.SessionState.{HasItsPast}

@@ -1,4 +1,4 @@
-use Rattle.std.proofs.Common.{◌++◌, length, ap, sym, ◌∙◌}
+use Rattle.std.proofs.Common.{◌++◌, length, ap, ◌∙◌}
 use Rattle.machine.specs.Run.{run_after, run_sent}
 use Rattle.std.specs.Prelude.{is_some, not}
 use Rattle.debugger.proofs.Gives.{not_both, other_own, own_given, paid_owed, paid_replay, changed_replay, changed_owed}

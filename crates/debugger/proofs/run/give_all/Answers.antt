@@ -1,7 +1,7 @@
 use Rattle.std.proofs.Common.{◌≤◌, ap, ap₂, sym, subst, ◌∙◌}
 use Rattle.std.specs.Prelude.{option_map}
 use Rattle.past.specs.Given.{count_of_one}
-use Rattle.debugger.specs.Keeping.{HasBegun, kept_last, timeline}
+use Rattle.debugger.specs.Keeping.{HasBegun, kept_last}
 use Rattle.debugger.specs.Reply.{after_events, given, given_on}
 use Rattle.debugger.specs.SessionState.{HasItsPast, TimelineState}
 use Rattle.debugger.proofs.Begun.{all_same, given_few, has_begun, kept_begun, stays_there}

@@ -7,7 +7,8 @@ use Rattle.debugger.proofs.state.+append_scrs_of.Goals as goal
 
 pub overflow_cast-first : goal.overflow_cast-first
 overflow_cast-first g t c =
-    let below = first-below (0, record { ref_ptr = (0, 0); now = [] }, Written 0) c.args.registers.now c.in-len1-up.len_at_least c.requires in
+    let below =
+    first-below (0, record { ref_ptr = (0, 0); now = [] }, Written 0) c.args.registers.now c.in-len1-up.len_at_least c.requires in
     omega (arith, below)
 
 pub scr-requires : goal.scr-requires

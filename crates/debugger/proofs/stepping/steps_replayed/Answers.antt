@@ -4,7 +4,7 @@ use Rattle.std.proofs.lemmas.Grind.{common_steps}
 use Rattle.steps.specs.declared.event.Event.TheVariants.{Step}
 use Rattle.steps.specs.Event.{sent}
 use Rattle.machine.specs.Run.{run_after, run_sent}
-use Rattle.sim_run.proofs.Events.{run_sent-brought}
+use Rattle.schedules.proofs.Events.{run_sent-brought}
 use Rattle.debugger.specs.Stepping.{is_any_stop, is_at_end, steps_while}
 use Rattle.past.specs.Replay.{byte_due, replayed}
 use Rattle.debugger.proofs.ReplaySteps.{at-end, none-left, room-left, stops, state-goes-on, bytes-go-on, replay-goes-on, count-goes-on}

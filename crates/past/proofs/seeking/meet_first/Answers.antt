@@ -2,7 +2,7 @@ use Rattle.std.proofs.Common.{◌≡◌, ◌≤◌, ◌+◌, ◌-◌, ◌∙◌,
 use Rattle.std.proofs.lemmas.List.{drop_more}
 use Rattle.steps.specs.declared.event.Event.{Event}
 use Rattle.machine.specs.Run.{run_after}
-use Rattle.sim_run.proofs.Events.{run_after-append}
+use Rattle.schedules.proofs.Events.{run_after-append}
 use Rattle.past.specs.declared.given.Given.TheVariants.{Steps}
 use Rattle.past.specs.Given.{count_of_one, events_of}
 use Rattle.past.specs.Giving.{place_after, some_of}

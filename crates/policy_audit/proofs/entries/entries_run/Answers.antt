@@ -1,8 +1,8 @@
 use Rattle.std.proofs.Common.{◌≡◌, ◌+◌, ◌++◌, ◌≤◌, true, [], ap, sym, ◌∙◌, rules, arith}
 use Rattle.std.specs.Prelude.{None, is_some, string_bytes}
 use Rattle.machine.specs.Run.{run_after}
-use Rattle.sim_run.specs.Schedule.{first_steps, is_halted, up_to_halt}
-use Rattle.sim_run.proofs.TracedSteps.{more_count}
+use Rattle.schedules.specs.Schedule.{first_steps, is_halted, up_to_halt}
+use Rattle.schedules.proofs.SingleSteps.{more_count}
 use Rattle.policy_audit.specs.Entries.{Entered, adds_entry, entries_text, says_entry}
 use Rattle.policy_audit.specs.Recalled.{recalled}
 use Rattle.policy_audit.proofs.Telling.{ends_here, memory_next, state_more, text_next}

@@ -1,7 +1,7 @@
 use Rattle.std.proofs.Common.{◌≡◌, ◌++◌, ◌-◌, ◌≤◌, false, []}
 use Rattle.std.specs.Prelude.{string_bytes, None}
 use Rattle.machine.specs.Run.{run_after}
-use Rattle.sim_run.specs.Schedule.{first_steps, is_halted, steps_in, up_to_halt}
+use Rattle.schedules.specs.Schedule.{first_steps, is_halted, steps_in, up_to_halt}
 use Rattle.policy_audit.specs.Entries.{adds_entry, entries_text}
 use Rattle.policy_audit.specs.Recalled.{recalled}
 use Rattle.policy_audit.specs.Told.{remembered}

@@ -1,8 +1,8 @@
 use Rattle.std.proofs.Common.{◌+◌, ◌++◌, ap, sym, ◌∙◌}
 use Rattle.std.specs.Prelude.{string_bytes}
 use Rattle.machine.specs.Run.{run_after}
-use Rattle.sim_run.specs.Schedule.{byte_before, is_tick_after}
-use Rattle.sim_run.proofs.Events.{brought}
+use Rattle.schedules.specs.Schedule.{byte_before, is_tick_after}
+use Rattle.schedules.proofs.Events.{brought}
 use Rattle.policy_audit.specs.Entries.{adds_entry, says_entry}
 use Rattle.policy_audit.specs.Recalled.{recalled}
 use Rattle.policy_audit.proofs.Telling.{remembered_of_block, state_of_turn, told_of_block}

@@ -1,13 +1,13 @@
 use Rattle.std.proofs.Common.{◌≡◌, ◌+◌, ◌++◌, ◌≤◌, true, ap, sym, ◌∙◌, rules, arith}
 use Rattle.std.specs.Prelude.{is_some, length, string_bytes}
 use Rattle.machine.specs.Run.{run_after}
-use Rattle.sim_run.specs.Schedule.{first_steps, is_halted, up_to_halt}
+use Rattle.schedules.specs.Schedule.{first_steps, is_halted, up_to_halt}
 use Rattle.policy.specs.Terms.{terms_of}
 use Rattle.policy_audit.specs.Look.{notes_of, said_to}
 use Rattle.policy_audit.specs.Text.{audit_notes, audit_text}
 use Rattle.policy_audit.proofs.Auditing.{found_next, audit_next}
 use Rattle.policy_audit.proofs.Telling.{ends_here, state_more}
-use Rattle.sim_run.proofs.TracedSteps.{more_count}
+use Rattle.schedules.proofs.SingleSteps.{more_count}
 use Rattle.policy_audit.proofs.run.audit_run.Goals as goal
 
 pub loop-done-preserved : goal.loop-done-preserved

@@ -1,7 +1,7 @@
 use Rattle.std.proofs.Common.{◌≡◌, ◌++◌, ◌-◌, ◌≤◌, false}
 use Rattle.std.specs.Prelude.{string_bytes}
 use Rattle.machine.specs.Run.{run_after}
-use Rattle.sim_run.specs.Schedule.{first_steps, is_halted, steps_in, up_to_halt}
+use Rattle.schedules.specs.Schedule.{first_steps, is_halted, steps_in, up_to_halt}
 use Rattle.policy.specs.Terms.{terms_of}
 use Rattle.policy_audit.specs.Look.{IsWhole, notes_of, said_to}
 use Rattle.policy_audit.specs.Text.{audit_notes, audit_text}

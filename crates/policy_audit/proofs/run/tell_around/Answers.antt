@@ -2,8 +2,8 @@ use Rattle.std.proofs.Common.{◌≡◌, ◌+◌, ◌++◌, List, ap, ap₂, sym
 use Rattle.std.specs.Prelude.{string_bytes}
 use Rattle.steps.specs.declared.event.Event.TheVariants.{Step}
 use Rattle.machine.specs.Run.{run_after}
-use Rattle.sim_run.specs.Schedule.{byte_before, is_tick_after}
-use Rattle.sim_run.proofs.Events.{brought}
+use Rattle.schedules.specs.Schedule.{byte_before, is_tick_after}
+use Rattle.schedules.proofs.Events.{brought}
 use Rattle.policy.specs.Terms.{Terms}
 use Rattle.policy.specs.Lending.{in_force_after}
 use Rattle.policy_audit.specs.declared.finding.Finding.{Finding}

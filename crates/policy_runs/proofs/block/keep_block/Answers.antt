@@ -1,7 +1,7 @@
 use Rattle.std.proofs.Common.{◌≡◌, ◌∙◌, false, true, ap, sym, rules}
 use Rattle.std.specs.Prelude.{is_some}
 use Rattle.policy.specs.Known.{rules_of, said_to}
-use Rattle.sim_run.specs.Schedule.{is_halted}
+use Rattle.schedules.specs.Schedule.{is_halted}
 use Rattle.policy_runs.proofs.Parts.{block-halted, block-kept, breach-after, still-running}
 use Rattle.policy_runs.proofs.block.keep_block.Goals as goal
 

@@ -2,7 +2,7 @@ use Rattle.std.proofs.Common.{◌≡◌, ◌+◌, ◌∙◌, true, ap, sym, subs
 use Rattle.std.specs.Prelude.{is_some}
 use Rattle.policy.specs.Terms.{terms_of}
 use Rattle.policy.specs.Known.{rules_of, said_to}
-use Rattle.sim_run.specs.Schedule.{byte_before, first_steps, is_halted, is_tick_after}
+use Rattle.schedules.specs.Schedule.{byte_before, first_steps, is_halted, is_tick_after}
 use Rattle.policy_runs.specs.Kept.{Kept}
 use Rattle.policy_runs.proofs.Found.{block-as, found-as, found-keep, found-refused, found-state, kept-further, kept-halted}
 use Rattle.policy_runs.proofs.Parts.{kept-none}

@@ -1,7 +1,7 @@
 use Rattle.std.proofs.Common.{◌≡◌, ◌-◌, ◌≤◌, false}
 use Rattle.policy.specs.Terms.{terms_of}
 use Rattle.policy.specs.Known.{Knows, rules_of, said_to}
-use Rattle.sim_run.specs.Schedule.{first_steps, is_halted}
+use Rattle.schedules.specs.Schedule.{first_steps, is_halted}
 use Rattle.policy_runs.specs.Kept.{Kept}
 use Rattle.policy_runs.proofs.breach.find_breach.Given as goal
 

@@ -3,7 +3,7 @@ use Rattle.std.specs.Prelude.{is_some}
 use Rattle.steps.specs.declared.event.Event.TheVariants.{Step}
 use Rattle.policy.specs.Known.{rules_of, said_to}
 use Rattle.policy.specs.Watch.{HoldEach}
-use Rattle.sim_run.specs.Schedule.{is_halted}
+use Rattle.schedules.specs.Schedule.{is_halted}
 use Rattle.policy_runs.specs.Kept.{Kept}
 use Rattle.policy_runs.proofs.Parts.{kept-all, kept-none, kept-steps}
 use Rattle.policy_runs.proofs.keeping.keep_steps.Goals as goal

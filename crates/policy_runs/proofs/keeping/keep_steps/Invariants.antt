@@ -1,7 +1,7 @@
 use Rattle.std.proofs.Common.{◌≡◌, ◌-◌, ◌≤◌, false, replicate}
 use Rattle.steps.specs.declared.event.Event.TheVariants.{Step}
 use Rattle.policy.specs.Known.{Knows, rules_of, said_to}
-use Rattle.sim_run.specs.Schedule.{is_halted}
+use Rattle.schedules.specs.Schedule.{is_halted}
 use Rattle.policy_runs.specs.Kept.{Kept}
 use Rattle.policy_runs.proofs.keeping.keep_steps.Given as goal
 

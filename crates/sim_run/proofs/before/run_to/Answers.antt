@@ -1,7 +1,7 @@
 use Rattle.std.proofs.Common.{◌-◌, ap, ◌∙◌}
 use Rattle.machine.specs.Run.{run_after}
-use Rattle.sim_run.specs.Schedule.{byte_before, first_steps, up_to_halt}
-use Rattle.sim_run.proofs.Events.{brought}
+use Rattle.schedules.specs.Schedule.{byte_before, first_steps, up_to_halt}
+use Rattle.schedules.proofs.Events.{brought}
 use Rattle.sim_run.proofs.FirstSteps.{cut-then, end-then, sent-then, state-then, steps-then}
 use Rattle.sim_run.proofs.before.run_to.Goals as goal
 

@@ -1,9 +1,9 @@
 use Rattle.std.proofs.Common.{◌-◌, ap, subst, ◌∙◌}
 use Rattle.std.specs.Io.KnownBytes.{Appends}
 use Rattle.machine.specs.Run.{run_after, run_sent}
-use Rattle.sim_run.specs.Schedule.{byte_before, first_steps, steps_in, up_to_halt}
+use Rattle.schedules.specs.Schedule.{byte_before, first_steps, steps_in, up_to_halt}
 use Rattle.sim_run.specs.Trace.{lines_past, WasCut}
-use Rattle.sim_run.proofs.Events.{brought}
+use Rattle.schedules.proofs.Events.{brought}
 use Rattle.sim_run.proofs.FirstSteps.{first_scheduled, end-then, lines-then, sent-then, state-then, steps-then, traced-then}
 use Rattle.sim_run.proofs.before.trace_to.Goals as goal
 

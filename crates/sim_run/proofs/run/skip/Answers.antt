@@ -2,7 +2,7 @@ use Rattle.std.proofs.Common.{ap, subst, ◌∙◌}
 use Rattle.std.proofs.lemmas.Result.{on_ok_weaker, on_err_weaker, IfOk-weaker}
 use Rattle.std.specs.Io.KnownBytes.{Appends}
 use Rattle.machine.specs.Run.{run_after, run_sent}
-use Rattle.sim_run.specs.Schedule.{steps_in, IsCutShort}
+use Rattle.schedules.specs.Schedule.{steps_in, IsCutShort}
 use Rattle.sim_run.proofs.FirstSteps.{first_scheduled}
 use Rattle.sim_run.proofs.run.skip.Goals as goal
 

@@ -1,4 +1,4 @@
-use Rattle.std.proofs.Common.{◌≡◌, ◌^◌, ◌<◌, inl, inr, ◌∙◌, arith}
+use Rattle.std.proofs.Common.{◌^◌, ◌<◌, inl, inr, ◌∙◌, arith}
 use Rattle.std.proofs.lemmas.Bool.{eq-eqb}
 use Rattle.sim_run.proofs.LeftTraps.{fault_with, two-entries}
 use Rattle.sim_run.proofs.unhandled.is_entry.Goals as goal

@@ -1,0 +1,11 @@
+pub mod Events
+pub mod Scheduled
+pub mod Alone
+pub mod SingleSteps
+pub mod Steps
+pub mod Pieces
+pub mod Blocks
+pub mod Whole
+pub mod Paces
+pub mod Fell
+pub mod Cut

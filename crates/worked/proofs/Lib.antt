@@ -1,0 +1,4 @@
+pub mod Counting
+pub mod Confining
+pub mod Ruled
+pub mod Invoking

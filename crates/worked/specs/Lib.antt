@@ -1,0 +1,3 @@
+-- What to read
+pub mod Counter
+pub mod Pair

@@ -1,0 +1,6 @@
+//! Worked states: what meets the premises of the laws on authority, two worlds, reach, doors, turns and policies, and what they say of it.
+//! Each function's contract is a law, and its body calls the laws that it stands on.
+#![tactic(auto)]
+
+pub mod counter;
+pub mod pair;
