@@ -12,7 +12,7 @@ mod watch;
 
 pub use both::{Both, Either};
 pub use output::Output;
-pub use pace::{How, Never, Pace, Speed};
+pub use pace::{How, Pace, Speed};
 pub use position::Position;
 pub use schedule::Schedule;
 pub use seen::Seen;

@@ -88,7 +88,3 @@ pub enum How<F> {
     /// The watch failed before a step, which was not done.
     Barred(F),
 }
-
-/// Why a watch fails that never does.
-#[derive(Clone, Copy, Debug)]
-pub enum Never {}

@@ -22,9 +22,10 @@ use cap_checks::check_fetch;
 use explain::put_why;
 use hart::Planned;
 use machine::Machine;
-use schedules::{How, Never, Pace, Schedule, Speed, Walking, Watch, walk_whole};
+use schedules::{How, Pace, Schedule, Speed, Walking, Watch, walk_whole};
 use special_regs::enter_trap;
 use std::alloc::{AllocError, Global};
+use std::convert::Infallible;
 use symbols::Symbols;
 use tagged_memory::Memory;
 use texts::Piece::Text;
@@ -96,7 +97,7 @@ pub struct Stop {
 }
 
 impl<C: CapRep> Watch<Machine<C>> for Stop {
-    type Fault = Never;
+    type Fault = Infallible;
 
     ghost Saw = { λ events s a b. (b.at ≡ a.at) × PassesStops a.at events s };
 
@@ -138,15 +139,15 @@ impl<C: CapRep> Watch<Machine<C>> for Stop {
         _machine: &Machine<C>,
         _steps: u64,
         _sent: Option<u8>,
-    ) -> Result<(), Never> {
+    ) -> Result<(), Infallible> {
         Ok(())
     }
 
-    fn before(&mut self, _machine: &Machine<C>, _planned: &Planned<C>) -> Result<(), Never> {
+    fn before(&mut self, _machine: &Machine<C>, _planned: &Planned<C>) -> Result<(), Infallible> {
         Ok(())
     }
 
-    fn after(&mut self, _machine: &Machine<C>, _sent: Option<u8>) -> Result<(), Never> {
+    fn after(&mut self, _machine: &Machine<C>, _sent: Option<u8>) -> Result<(), Infallible> {
         Ok(())
     }
 }
