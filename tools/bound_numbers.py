@@ -46,9 +46,10 @@ def laws_of(crate):
 
 
 def made_of(crate, constant):
-    """The names of the definitions of a crate that are made of a constant: those whose equation names it."""
-    lines = [line for path in glob.glob(os.path.join(TOP, "crates", crate, "specs", "*.antt")) for line in read(path).split("\n")]
-    return {line.split()[0] for line in lines if re.match(r"\w+ = ", line) and re.search(rf"\b{constant}\b", line)}
+    """The names of the definitions of a crate that are made of a constant: those whose equation, with the lines that go on, names it."""
+    texts = [read(path) for path in glob.glob(os.path.join(TOP, "crates", crate, "specs", "*.antt"))]
+    equations = [found for text in texts for found in re.findall(r"^(\w+) =((?:.|\n(?= ))*)", text, re.M)]
+    return {name for name, equation in equations if re.search(rf"\b{constant}\b", equation)}
 
 
 def binding(crate, constant):

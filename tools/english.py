@@ -44,6 +44,8 @@ KEPT = (
     "behind B's door",
     "behind the other's door",
     "behind it, by a door",
+    "left behind",
+    "Left behind",
     "hexadecimal behind 0x",
 )
 

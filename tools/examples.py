@@ -6,10 +6,12 @@
 PROGRAM is the proved program, as the gate leaves it: crates/cherisim/out/cherisim. An example is a text NAME.s in examples/, with what
 it sends in NAME.out, and NAME.in where bytes come in; it must halt with 0 within 100000 steps, and do the same under NAME.policy where
 there is one. Where a page shows a session with it, what is typed stands in NAME.commands and what is answered in NAME.replies. A policy has
-the text's labels, and so have sessions whose page gives them.
+the text's labels, and so have sessions whose page gives them. And a byte that no line feed follows is seen while the program that sent it
+still runs.
 """
 import glob
 import os
+import select
 import subprocess
 import sys
 import tempfile
@@ -25,6 +27,10 @@ OPTIONS = {"echo": ["--gap", "20"], "timer": ["--tick", "10"], "compartments": [
 LABELLED = ("compartments",)
 
 STEPS = "100000"
+
+# A program that sends a byte without a line feed after it, and loops; and what runs it for hours.
+PROMPT = "lui a1, 0x10000\naddi a0, zero, 62\nsb a0, 0(a1)\nloop: jal zero, loop\n"
+FOR_HOURS = ["100000000", "--times", "1000000"]
 # How long a command may take.
 SECONDS = 120
 
@@ -64,6 +70,20 @@ def wrong(program, name, room):
     return ""
 
 
+def is_shown(program, room):
+    """Whether a byte that no line feed follows is seen while the program that sent it still runs."""
+    text, image = (os.path.join(room, name) for name in ("prompt.s", "prompt.img"))
+    with open(text, "w", encoding="ascii") as file:
+        file.write(PROMPT)
+    came([program, "asm", text, image])
+    with subprocess.Popen([program, "run", image, *FOR_HOURS], stdout=subprocess.PIPE) as running:
+        try:
+            ready, _, _ = select.select([running.stdout], [], [], SECONDS)
+            return bool(ready) and running.stdout.read(1) == b">" and running.poll() is None
+        finally:
+            running.kill()
+
+
 def tried(program, name, room):
     """Tries an example, says how it went, and answers whether it is as expected."""
     try:
@@ -81,7 +101,10 @@ def main():
         return 1
     names = sorted(os.path.basename(path).removesuffix(".s") for path in glob.glob(os.path.join(EXAMPLES, "*.s")))
     with tempfile.TemporaryDirectory(prefix="examples-") as room:
-        return 0 if names and all([tried(program, name, room) for name in names]) else 1
+        all_tried = all([tried(program, name, room) for name in names])
+        shown = is_shown(program, room)
+    print("a byte that no line feed follows: " + ("seen while the program runs" if shown else "kept back"))
+    return 0 if names and all_tried and shown else 1
 
 
 if __name__ == "__main__":

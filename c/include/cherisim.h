@@ -159,7 +159,7 @@ cherisim_status cherisim_reach(cherisim_t *machine, cherisim_member_t *members, 
 
 /* Whether some member allows what was asked, and the number of the first that does, else 0. */
 typedef struct { uint64_t member; bool may; } cherisim_answer_t;
-/* May the code store to some of `length` bytes from an address on? If not, those of RAM stay as they are. Here and in the next three the
+/* May the code store to some of `length` bytes from an address on? If not, those of RAM stay as they are. Here and in the next four the
  * bytes go on past address 2^64 - 1, and of none it may nothing. */
 cherisim_status cherisim_may_store(cherisim_t *machine, uint64_t address, uint64_t length, cherisim_answer_t *answer);
 /* May it load some of them? May it execute some? If not, no member allows it. */
@@ -167,6 +167,9 @@ cherisim_status cherisim_may_load(cherisim_t *machine, uint64_t address, uint64_
 cherisim_status cherisim_may_execute(cherisim_t *machine, uint64_t address, uint64_t length, cherisim_answer_t *answer);
 /* May it learn anything of them, by a load or by executing them? If not, whatever those of RAM are, it does the same. */
 cherisim_status cherisim_may_learn(cherisim_t *machine, uint64_t address, uint64_t length, cherisim_answer_t *answer);
+/* May it keep what is lent without Global in a granule with one of them? If not, none of these granules comes to hold a capability, but one
+ * with Global that it could reach with Global. */
+cherisim_status cherisim_may_keep(cherisim_t *machine, uint64_t address, uint64_t length, cherisim_answer_t *answer);
 /* May it send a byte? If not, none is sent. */
 cherisim_status cherisim_may_send(cherisim_t *machine, cherisim_answer_t *answer);
 /* May it halt the machine? If not, it is not halted. */

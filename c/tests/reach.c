@@ -3,7 +3,8 @@
 #include "machines.h"
 
 enum { MOST = 256, TEXT = 1 << 16 };
-enum { EXECUTE = 1 << 1, LOAD = 1 << 2, STORE = 1 << 3, LOAD_CAPABILITY = 1 << 4, SEAL = 1 << 7, SYSTEM = 1 << 10 };
+enum { EXECUTE = 1 << 1, LOAD = 1 << 2, STORE = 1 << 3, LOAD_CAPABILITY = 1 << 4, STORE_CAPABILITY = 1 << 5,
+       STORE_LOCAL = 1 << 6, SEAL = 1 << 7, SYSTEM = 1 << 10 };
 #define HALT UINT64_C(0x100000)
 #define MTIMECMP UINT64_C(0x2004000)
 #define TRANSMIT UINT64_C(0x10000000)
@@ -20,6 +21,11 @@ static bool has(cherisim_cap_t cap, unsigned perms) { return is_unsealed(cap) &&
 static bool opens(cherisim_cap_t cap, unsigned perms, uint64_t address, uint64_t length) {
     u128 low = cheri_base(bits(cap)), high = top(cap), end = (u128)address + length;
     return has(cap, perms) && (low > address ? low : address) < (high < end ? high : end);
+}
+/* a granule that lies wholly in its bounds has one of the bytes, and a capability without Global may be stored there */
+static bool keeps(cherisim_cap_t cap, uint64_t address, uint64_t length) {
+    u128 from = ((u128)cheri_base(bits(cap)) + 15) / 16 * 16, at = address / 16 * 16, granule = from > at ? from : at;
+    return has(cap, STORE | STORE_CAPABILITY | STORE_LOCAL) && granule + 16 <= top(cap) && granule < (u128)address + length && length > 0;
 }
 static bool holds(cherisim_cap_t cap, uint32_t otype) {
     if (!is_unsealed(cap)) return cheri_otype(bits(cap)) == otype;
@@ -54,6 +60,11 @@ static answer_t first_that_opens(const reach_t *r, unsigned one, unsigned other,
     for (size_t i = 0; i < r->count; i += 1)
         if (opens(r->members[i].value, one, address, length) || opens(r->members[i].value, other, address, length))
             return (answer_t){i, true};
+    return (answer_t){0, false};
+}
+static answer_t first_that_keeps(const reach_t *r, uint64_t address, uint64_t length) {
+    for (size_t i = 0; i < r->count; i += 1)
+        if (keeps(r->members[i].value, address, length)) return (answer_t){i, true};
     return (answer_t){0, false};
 }
 static answer_t first_that_holds(const reach_t *r, uint32_t otype) {
@@ -96,10 +107,11 @@ static void ask_of_bytes(cherisim_t *m, const reach_t *r, uint64_t address, uint
     ASKED(first_that_opens(r, LOAD, LOAD, address, length), cherisim_may_load(m, address, length, &answer));
     ASKED(first_that_opens(r, EXECUTE, EXECUTE, address, length), cherisim_may_execute(m, address, length, &answer));
     ASKED(first_that_opens(r, LOAD, EXECUTE, address, length), cherisim_may_learn(m, address, length, &answer));
+    ASKED(first_that_keeps(r, address, length), cherisim_may_keep(m, address, length, &answer));
 }
 static void ask(cherisim_t *m, const reach_t *r) {
     static const uint64_t rooms[][2] = {{0, 0}, {0, 1}, {0, UINT64_MAX}, {UINT64_MAX, UINT64_MAX}, {RAM, 0}, {RAM - 1, 1}, {RAM - 1, 2},
-                                        {0x80002040, 544}, {0x80003000, 4096}, {0x80003fff, 1}, {0x80004000, 4096}, {0x80005000, 1},
+                                        {0x80002040, 544}, {0x80002048, 0}, {0x8000225f, 1}, {0x80003000, 4096}, {0x80003fff, 1}, {0x80004000, 4096}, {0x80005000, 1},
                                         {0x80005fff, 1}, {0x80006000, 8}, {0x80006fff, 1}, {0x80007000, 1}, {TRANSMIT, 8}};
     static const uint32_t otypes[] = {0, 1, 2, 3, SENTRY, UNSEALED};
     for (size_t i = 0; i < COUNT_OF(rooms); i += 1) ask_of_bytes(m, r, rooms[i][0], rooms[i][1]);
@@ -152,6 +164,7 @@ static void at_a(cherisim_t *m) {
     ROW(equal(r.members[0].value, reg(m, 3)) && equal(r.members[5].value, scr(m, PCC)));
     ASKED(no, cherisim_may_store(m, 0x80004000, 4096, &answer));
     ASKED(no, cherisim_may_learn(m, 0x80004000, 4096, &answer));
+    ASKED(no, cherisim_may_keep(m, 0, UINT64_MAX, &answer));
     ASKED(yes(0), cherisim_may_store(m, 0x80006fff, 1, &answer));
     ASKED(no, cherisim_may_store(m, 0x80005000, 4096, &answer));
     ASKED(yes(5), cherisim_may_execute(m, 0x80005ffc, 4, &answer));

@@ -120,6 +120,8 @@ def answered(machine, line, labels=()):
     _, question, *written = asked.split()
     named = {name: address for address, name in reversed(labels)}
     numbers = [named[word] if word in named else int(word, 0) for word in written]
+    if question == "keep" and not numbers:
+        numbers = [0, ONES]
     if asked == words:
         return answer_text(machine.members(), question, numbers, labels)
     return answer_text(found, question, numbers, labels, doors, NO_THROUGH_DOORS)
@@ -217,6 +219,15 @@ ROOMS = [(DATA - 1, 1), (DATA - 1, 2), (DATA, 1), (DATA + 15, 1), (DATA + 16, 1)
 BYTES = [f"may {what} {address:#x} {size}" for what in ("store", "load", "execute", "learn") for address, size in ROOMS]
 
 
+# What may be kept: 48 bytes from the middle of a granule on have two whole granules, the next capability lacks Store_Local_Capability, and
+# the last has one byte less than a granule.
+KEEPING_PROGRAM, KEEPING_STEPS = narrowed(*bounded("ca2", 0x108, 48, 0x68), *bounded("ca3", 0x140, 16, 0x28), *bounded("ca4", 0x150, 15, 0x68),
+                                          keep=("ca2", "ca3", "ca4"))
+KEEPING_ROOMS = [(DATA + 8, 8), (DATA + 8, 9), (DATA + 16, 1), (DATA + 47, 1), (DATA + 48, 8), (DATA + 48, 32), (DATA + 0x40, 16),
+                 (DATA + 0x50, 16), (0, DATA + 16), (0, DATA + 17), (DATA + 47, ONES), (DATA + 48, ONES), (ONES, ONES), (0, ONES)]
+KEEPING = ["may keep", "may keep through doors", *(f"may keep {address:#x} {size}" for address, size in KEEPING_ROOMS)]
+
+
 def table(*held):
     """A program that keeps a table of these capabilities and its own code."""
     return narrowed(*bounded("ca3", 0x100, 16 * len(held), LOADS), keep=("ca3",), data=[cap(*one) for one in held])
@@ -306,6 +317,12 @@ def conversations():
     yield ("As code goes on it reaches the same or less", LOADING_PROGRAM, LOADING_STEPS, SEEN, 1, SEEN, 1, SEEN)
     yield ("An answer ends with a trap: after it what the kernel keeps is reachable", TRAPPED_PROGRAM, TRAPPED_STEPS, SEEN, 1, SEEN)
     yield ("Each question of bytes, at the ends of what may be stored, loaded and executed", BYTES_PROGRAM, BYTES_STEPS, [*SEEN, *BYTES])
+    yield ("What is lent may be kept in granules that lie wholly in the bounds, with all three permissions to store it", KEEPING_PROGRAM,
+           KEEPING_STEPS, KEEPING)
+    for about, one in (("The last granule of the address space", (SPACE - 16, 16, 0x68)), ("The last granule but for its first byte", (SPACE - 15, 15, 0x68)),
+                       ("Without Store", (0x1000, 16, 0x60)), ("Without Store_Capability", (0x1000, 16, 0x48)),
+                       ("Without Store_Local_Capability", (0x1000, 16, 0x28))):
+        yield f"What may be kept: {about[0].lower() + about[1:]}", *table(one), ["may keep", f"may keep {ONES:#x} 1", "may keep 0x1000 1"]
     for question, address in (("send", TRANSMIT), ("halt", HALT), ("timer", TIMER_COMPARE)):
         for about, (program, steps) in zip(("with the byte before", "after it", "without Store", "of no byte"), edges(address)):
             yield f"`may {question}` asks for the register's first byte: {about}", program, steps, ["may " + question, "reach"]
@@ -330,6 +347,8 @@ def conversations():
             ("Three bytes of code are left", *pair(code=(0, 63, 0x107, 7), offset=60))):
         yield (f"Through doors: {about[0].lower() + about[1:]}", program, steps,
                [*THROUGH, f"may store {DATA:#x} 32 through doors", f"may load {DATA:#x} 1", f"may execute {RAM:#x} 1  through\\tdoors"])
+    yield ("Through doors: what is lent may be kept in the data of a pair", *pair(datum=(0x100, 32, 0x17D, 7)),
+           ["may keep", "may keep through doors", f"may keep {DATA + 31:#x} 1 through doors", f"may keep {DATA + 32:#x} 16  through\\tdoors"])
     yield ("Through doors: what is behind a sentry in a table leads to another table", BEHIND_PROGRAM, BEHIND_STEPS,
            [*THROUGH, "may store 0x1000 1 through doors", "may store 0x2000 1 through doors", f"may execute {DATA + 0x30:#x} 16 through doors",
             f"may learn {DATA + 0x40:#x} 1 through doors", f"may hold {SENTRY} through doors", "may hold 7 through doors"])
@@ -355,6 +374,9 @@ REFUSED_OPERANDS = [
         "may {}", "may {} 0x80000000", "may {} 0x80000000 0", "may {} 0x80000000 -1", "may {} 0x80000000 1 1", "may {} x 1",
         "may {} -1 1", "may {} 0x10000000000000000 1", "may {} 0 18446744073709551616")),
 ]
+REFUSED_OPERANDS += [f"may keep{rest}" for rest in (
+    " x", " through", " doors", " doors through", " through doors 1", " through doors through doors", " 0x80000000", " 0x80000000 0",
+    " 0x80000000 -1", " 0x80000000 1 1", " 0x80000000 1 through", " x 1", " -1 1", " 0x10000000000000000 1", " 0 18446744073709551616")]
 REFUSED_NAMES = ["store 0x80000000 1", "send", "reaches", "Reach", "MAY send", "may: send", "members", "dot"]
 
 # The whole state, in which nothing has changed.

@@ -38,6 +38,7 @@ dis ADDR N
 why
 reach [members|dot|doors]
 may store|load|execute|learn ADDR LEN [through doors]
+may keep [ADDR LEN] [through doors]
 may send|halt|system|timer [through doors]
 may hold TYPE [through doors]
 help [B1|B2|B3|B4]

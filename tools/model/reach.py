@@ -10,7 +10,7 @@ from typing import NamedTuple, Optional
 from model.capabilities import base, has, is_unsealed, otype, perms, top, with_fields
 from model.devices import CONTROL, HALT, RAM, RECEIVE, STATUS, TIMER, TIMER_COMPARE, TRANSMIT
 from model.rights import (ACCESS_SYSTEM_REGISTERS, CINVOKE, EXECUTE, GREATEST_SEALING_TYPE, LOAD, LOAD_CAPABILITY, SEAL, SENTRY, STORE,
-                          UNSEAL, UNSEALED)
+                          STORE_CAPABILITY, STORE_LOCAL, UNSEAL, UNSEALED)
 from model.words import NULL_HIGH
 
 ROOT, SPECIAL, GRANULE, DOOR = "root", "special", "granule", "door"
@@ -108,6 +108,10 @@ def through_doors(state):
 
 # ---- what is asked
 
+# what a capability needs through which one without Global is stored
+KEEPING = STORE | STORE_CAPABILITY | STORE_LOCAL
+
+
 def opens_bytes(value, permission, address, size):
     """Whether it is unsealed, has the permission, and has one of the bytes from an address on in its bounds."""
     return is_unsealed(value) and has(value, permission) and max(base(value), address) < min(top(value), address + size)
@@ -115,6 +119,13 @@ def opens_bytes(value, permission, address, size):
 
 def learns(value, address, size):
     return opens_bytes(value, LOAD, address, size) or opens_bytes(value, EXECUTE, address, size)
+
+
+def keeps(value, address, size):
+    """Whether it is unsealed, has Store, Store_Capability and Store_Local_Capability, and a granule with one of the bytes lies wholly in
+    its bounds: the first from its base on that ends above the address, if any."""
+    granule = next(16 * n for n in (-(-base(value) // 16), address // 16) if 16 * n >= base(value) and 16 * n + 16 > address)
+    return is_unsealed(value) and perms(value) & KEEPING == KEEPING and granule + 16 <= top(value) and granule < address + size > address
 
 
 def may_seal(value, number):
@@ -129,6 +140,7 @@ QUESTIONS = {
     "load": lambda value, address, size: opens_bytes(value, LOAD, address, size),
     "execute": lambda value, address, size: opens_bytes(value, EXECUTE, address, size),
     "learn": learns,
+    "keep": keeps,
     "send": lambda value: opens_bytes(value, STORE, TRANSMIT, 1),
     "halt": lambda value: opens_bytes(value, STORE, HALT, 1),
     "system": opens_system,

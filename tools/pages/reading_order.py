@@ -36,15 +36,15 @@ REST = [
     ("what code can reach, and what that opens",
      "reached/specs/Reached, Links, Chain, Order; doors/specs/Roots; reach/specs/Reach, Opens, First, Ranges, Differs"),
     ("through doors, and by a policy",
-     "doors/specs/Sets, Closed, Doors, Turn, Worlds, Through, ThroughOrder; "
-     "policy/specs/Terms, Rule, Watch, Tests, Opened, Lending, Run"),
+     "doors/specs/Sets, Closed, Doors, Turn, Lent, Worlds, Through, ThroughOrder; "
+     "cap_rights/specs/Opens; policy/specs/Terms, Rule, Watch, Tests, Opened, Lending, Run"),
     ("image files", "image/specs/Grammar, Reads"),
     ("a text: its lines",
-     "asm_names/specs/Mnemonic, Registers, SpecialNames, Slots; asm_lines/specs/Text, Number, Ranges, Operand, Fills, Statement, Line"),
+     "asm_names/specs/Mnemonic, Registers, SpecialNames, Slots; asm_lines/specs/Text, Number, Ranges, Operand, Words, Fills, Statement, Line"),
     ("a text: what it means", "assembler/specs/Places, Values, Bytes, Faults, Text"),
     ("shown texts", "texts/specs/Hex, Piece; disassembler/specs/Shown"),
     ("bounds, lengths and words, as texts", "cap_bounds/specs/WindowEnds; bounds_text/specs/Picture, BoundsText, Letters, LengthText, WordText"),
-    ("what a step comes to, as text", "asm_names/specs/TrapNames; explain/specs/TrapText, ValueText, EffectText, TraceLine, WordLine"),
+    ("what a step comes to, as text", "asm_names/specs/TrapNames; explain/specs/TrapText, ValueText, EffectText, TraceLine, WordLine, StandingText"),
     ("what the next step asks, and why", "explain/specs/Asked, WhyText"),
     ("what is shown, against the state; the numbers of texts on bounds", "text_laws/specs/Says, Shown, After, Bounds"),
     ("names and listings: tables of symbols, what they add to a listing, its lines",
@@ -60,7 +60,7 @@ REST = [
      "origin_texts/specs/Link, Conditions, Origin"),
     ("sessions",
      "debug_commands/specs/Command; debugger/specs/SessionState, Stepping, Reaching, Reply, Answers, Conversation, Talk, OnSchedule"),
-    ("what commands do with files", "commands/specs/Files, Assembling, Imaging, Bounding, Listing, Running, Debugging, Watching, Auditing, Overwriting, Carrying"),
+    ("what commands do with files", "commands/specs/Files, Loading, Assembling, Imaging, Bounding, Listing, Running, Debugging, Watching, Auditing, Overwriting, Carrying"),
     ("capabilities and the machine for C",
      "c_types/specs/Halves, Words; cheri_c/specs/Insns; cherisim_c/specs/Status, Made, Running, Reaching"),
 ]

@@ -56,7 +56,7 @@ FILES = [
     File("bounds", command_lines.bounds, 81, piece=20),
     File("lengths", command_lines.length, 69, piece=20),
     File("word_texts", command_lines.word, 126, piece=20),
-    File("sessions", conversations.session, 125, piece=10),
+    File("sessions", conversations.session, 132, piece=10),
     File("pasts", conversations.session, 201, piece=10),
     File("talks", conversations.talk, 171, piece=20),
     File("runs", programs.program, 15),
@@ -70,6 +70,6 @@ FILES = [
     File("audits", commands.command, 58, piece=20),
     File("told", told.fault, 53, piece=10),
     File("compartments", kernel.meeting, 34),
-    File("reaches", reaching.reach, 36, piece=8),
+    File("reaches", reaching.reach, 43, piece=8),
     File("breaches", policies.breach, 28, piece=4),
 ]

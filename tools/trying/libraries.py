@@ -138,7 +138,7 @@ MACHINES = {
     "cherisim_why": (c_uint32, MACHINE, BYTES, c_size_t, POINTER(c_size_t)),
     "cherisim_disassemble": (c_size_t, c_uint32, c_bool, POINTER(c_char)),
     "cherisim_reach": (c_uint32, MACHINE, POINTER(Member), c_size_t, POINTER(c_size_t)),
-    **{f"cherisim_may_{what}": (c_uint32, MACHINE, c_uint64, c_uint64, POINTER(Answer)) for what in ("store", "load", "execute", "learn")},
+    **{f"cherisim_may_{what}": (c_uint32, MACHINE, c_uint64, c_uint64, POINTER(Answer)) for what in ("store", "load", "execute", "learn", "keep")},
     **{f"cherisim_may_{what}": (c_uint32, MACHINE, POINTER(Answer)) for what in ("send", "halt", "system", "timer")},
     "cherisim_may_hold": (c_uint32, MACHINE, c_uint32, POINTER(Answer)),
 }

@@ -3,6 +3,7 @@ pub mod Text
 pub mod Number
 pub mod Ranges
 pub mod Operand
+pub mod Words
 pub mod Fills
 pub mod Statement
 pub mod Line

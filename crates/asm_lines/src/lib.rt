@@ -19,6 +19,7 @@ mod ranges;
 mod statement;
 mod text;
 mod values;
+mod words;
 
 pub use class::{Class, digit_value, run_length};
 pub use fault::LineFault;
@@ -33,3 +34,4 @@ pub use pattern::is_word;
 pub use ranges::Range;
 pub use text::{after, before, is_dot, is_name, split_piece, trimmed_end, trimmed_start};
 pub use values::{is_in_size, is_natural, operand_at, operand_count};
+pub use words::{number_between, split_word};

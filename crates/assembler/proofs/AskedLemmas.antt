@@ -12,7 +12,7 @@ use Rattle.asm_lines.specs.Statement.{row, load, item, capability_parts, express
 use Rattle.assembler.specs.declared.fault.AsmCode.TheVariants.{A3, A5, A6}
 use Rattle.assembler.specs.declared.checks.Test.TheVariants.{IsUnknown, IsBeyond}
 use Rattle.assembler.specs.Places.{Symbols}
-use Rattle.assembler.specs.Values.{value_of, known_and, reach_of, is_reached, is_loadable, Asked, asked, asked_by_instruction}
+use Rattle.assembler.specs.Values.{value_of, known_and, reach_of, is_reached, is_loadable, AskedValue, asked, asked_by_instruction}
 use Rattle.assembler.specs.Values.{asked_value, asked_part, part_of, asked_by_data, is_beyond, is_unknown, is_far}
 use Rattle.assembler.specs.Checks.{asked_fault, value_fault, passes, any_passes}
 use Rattle.assembler.specs.Sound.{IsKnown, AreKnown}
@@ -36,7 +36,7 @@ one-fault : (range near : ℤ → Bool) (value : Option ℤ)
 one-fault range near None = refl
 one-fault range near (Some v) = known-fault (range v) (near v)
 
-pub asked_one : (page_count : ℕ) (symbols : Symbols) (here : ℕ) (a : Asked)
+pub asked_one : (page_count : ℕ) (symbols : Symbols) (here : ℕ) (a : AskedValue)
     → value_fault a.is_in_range (a.is_near page_count here) (value_of symbols here a.expression)
     ≡ asked_fault page_count symbols here (a ∷ [])
 asked_one page_count symbols here a = sym (one-fault a.is_in_range (a.is_near page_count here) (value_of symbols here a.expression))
@@ -104,21 +104,21 @@ pub asked_parts : (page_count : ℕ) (symbols : Symbols) (here n : ℕ) (operand
 asked_parts page_count symbols here n operands = rw (far-parts page_count symbols here operands capability_parts) refl
 
 -- a range that lies within the limits of numbers
-abbrev pub IsLimited : Asked → Type 0
+abbrev pub IsLimited : AskedValue → Type 0
 IsLimited a = (v : ℤ) → a.is_in_range v ≡ true → is_in_limits v ≡ true
 
-abbrev pub AreLimited : List Asked → Type 0
+abbrev pub AreLimited : List AskedValue → Type 0
 AreLimited [] = Unit {0}
 AreLimited (a ∷ others) = IsLimited a × AreLimited others
 
-known-one : (symbols : Symbols) (here : ℕ) (a : Asked) (value : Option ℤ) → IsLimited a
+known-one : (symbols : Symbols) (here : ℕ) (a : AskedValue) (value : Option ℤ) → IsLimited a
     → known_and (λ v. not (a.is_in_range v)) value ≡ false → is_none value ≡ false → IsKnown value
 known-one symbols here a None l h g = cc
 known-one symbols here a (Some v) l h g =
     l v (elim (a.is_in_range v) as (λ b. not b ≡ false → b ≡ true) [ true ↦ λ _. refl | false ↦ λ e. cc ] h)
 
 -- expressions of which none is beyond its range or unknown
-pub known-asked : (symbols : Symbols) (here : ℕ) (asks : List Asked) → AreLimited asks → list_any (is_beyond symbols here) asks ≡ false
+pub known-asked : (symbols : Symbols) (here : ℕ) (asks : List AskedValue) → AreLimited asks → list_any (is_beyond symbols here) asks ≡ false
     → list_any (is_unknown symbols here) asks ≡ false → AreKnown symbols here asks
 known-asked symbols here [] l h g = tt
 known-asked symbols here (a ∷ others) l h g =

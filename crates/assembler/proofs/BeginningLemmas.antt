@@ -21,7 +21,8 @@ use Rattle.asm_lines.specs.Line.{Line, labelled, line_meaning}
 use Rattle.assembler.specs.declared.fault.AsmCode.{AsmCode}
 use Rattle.assembler.specs.declared.fault.AsmCode.TheVariants.{A2, A3, A4, A5, A6, A7, A8, A9, A11}
 use Rattle.assembler.specs.Places.{Symbols, Places, lines_of, value_in, places_after, all_places, opening_places, symbols_of, with_label}
-use Rattle.assembler.specs.Values.{value_of, named_value, value_by_name, Asked, asked_value, asked_part, asked_by, is_beyond, is_unknown}
+use Rattle.assembler.specs.Values.{value_of, named_value, value_by_name, AskedValue, asked_value, asked_part, asked_by}
+use Rattle.assembler.specs.Values.{is_beyond, is_unknown}
 use Rattle.assembler.specs.Values.{is_far, known_and, has_value_beyond, has_unknown_name, is_out_of_reach}
 use Rattle.assembler.specs.Bytes.{or_zero, value_bytes, bytes_at}
 use Rattle.assembler.specs.Capabilities.{is_inexact, part_value}
@@ -61,18 +62,18 @@ unfolding value_of
 value-stays t u here e more h = by-name-stays t u here e.name e.offset more h
 
 -- expressions with the same values under two tables
-abbrev AreSame : Symbols → Symbols → ℕ → List Asked → Type 0
+abbrev AreSame : Symbols → Symbols → ℕ → List AskedValue → Type 0
 AreSame t u here [] = Unit {0}
 AreSame t u here (a ∷ others) = (value_of u here a.expression ≡ value_of t here a.expression) × AreSame t u here others
 
-same-asked : (t u : Symbols) (here : ℕ) (asks : List Asked) → Extends t u → list_any (is_unknown t here) asks ≡ false
+same-asked : (t u : Symbols) (here : ℕ) (asks : List AskedValue) → Extends t u → list_any (is_unknown t here) asks ≡ false
     → AreSame t u here asks
 same-asked t u here [] more h = tt
 same-asked t u here (a ∷ others) more h =
     let known = or-false _ _ h in
     (value-stays t u here a.expression more known.0, same-asked t u here others more known.1)
 
-any-same : (test : Asked → Option ℤ → Bool) (t u : Symbols) (here : ℕ) (asks : List Asked) → AreSame t u here asks
+any-same : (test : AskedValue → Option ℤ → Bool) (t u : Symbols) (here : ℕ) (asks : List AskedValue) → AreSame t u here asks
     → list_any (λ a. test a (value_of u here a.expression)) asks ≡ list_any (λ a. test a (value_of t here a.expression)) asks
 any-same test t u here [] same = refl
 any-same test t u here (a ∷ others) same =

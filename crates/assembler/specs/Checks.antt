@@ -9,10 +9,10 @@ use Rattle.assembler.specs.declared.fault.AsmCode.TheVariants.{A3, A5, A6}
 use Rattle.assembler.specs.declared.checks.Test.{Test}
 use Rattle.assembler.specs.declared.checks.Test.TheVariants.{IsUnknown, IsBeyond}
 use Rattle.assembler.specs.Places.{Symbols}
-use Rattle.assembler.specs.Values.{value_of, known_and, Asked, asked_by, is_beyond, is_unknown, is_far}
+use Rattle.assembler.specs.Values.{value_of, known_and, AskedValue, asked_by, is_beyond, is_unknown, is_far}
 
 -- the first fault of what is asked of expressions, and of what a statement asks of its expressions
-abbrev pub asked_fault : ℕ → Symbols → ℕ → List Asked → Option AsmCode
+abbrev pub asked_fault : ℕ → Symbols → ℕ → List AskedValue → Option AsmCode
 asked_fault page_count symbols here asks =
     first_fault
     ((not (list_any (is_beyond symbols here) asks), A3)

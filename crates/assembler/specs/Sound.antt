@@ -4,7 +4,7 @@ use Rattle.isa_rows.specs.Insn.{Fits}
 use Rattle.asm_lines.specs.Number.{is_in_limits}
 use Rattle.asm_lines.specs.Statement.{Statement, instruction, Instruction, row, load, capability_parts}
 use Rattle.assembler.specs.Places.{Symbols}
-use Rattle.assembler.specs.Values.{value_of, Asked, asked_by, asked_part}
+use Rattle.assembler.specs.Values.{value_of, AskedValue, asked_by, asked_part}
 use Rattle.image.specs.declared.cap_entry.CapEntry.{CapEntry}
 use Rattle.assembler.specs.Bytes.{aimed}
 use Rattle.assembler.specs.Capabilities.{capability_in, capability_at}
@@ -15,7 +15,7 @@ IsKnown None = ⊥
 IsKnown (Some value) = is_in_limits value ≡ true
 
 -- each value of a statement is known
-abbrev pub AreKnown : Symbols → ℕ → List Asked → Type 0
+abbrev pub AreKnown : Symbols → ℕ → List AskedValue → Type 0
 AreKnown symbols here [] = Unit {0}
 AreKnown symbols here (a ∷ others) = IsKnown (value_of symbols here a.expression) × AreKnown symbols here others
 

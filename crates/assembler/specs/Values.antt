@@ -50,55 +50,55 @@ is_entry page_count value = not (int_lt value (pos 0)) && is_good_header 2 page_
 
 -- What a statement asks of an expression: the range of its value (another is A3), and what the value reaches in an image of so many pages,
 -- from the statement's place (another is A6).
-pub record Asked : Type 0 where
+pub record AskedValue : Type 0 where
   pub expression : Expression
   pub is_in_range : ℤ → Bool
   pub is_near : ℕ → ℕ → ℤ → Bool
 
-abbrev pub asked : Expression → (ℤ → Bool) → (ℕ → ℕ → ℤ → Bool) → Asked
+abbrev pub asked : Expression → (ℤ → Bool) → (ℕ → ℕ → ℤ → Bool) → AskedValue
 asked e range near = record { expression = e; is_in_range = range; is_near = near }
 
 -- the expressions that a statement names, each with what is asked of it
-abbrev pub asked_by_instruction : Instruction → List Asked
+abbrev pub asked_by_instruction : Instruction → List AskedValue
 asked_by_instruction (row i None) = []
 asked_by_instruction (row i (Some target)) =
     asked target is_in_limits (λ page_count here v. is_reached (reach_of (line_of i.row).format) (v -ℤ pos here)) ∷ []
 asked_by_instruction (load capability rd value) = asked value is_in_limits (λ page_count here v. is_loadable (v -ℤ pos here)) ∷ []
 
-abbrev pub asked_by_setting : Setting → List Asked
+abbrev pub asked_by_setting : Setting → List AskedValue
 asked_by_setting (entry e) = asked e is_in_limits (λ page_count here v. is_entry page_count v) ∷ []
 asked_by_setting other = []
 
 -- a value of so many bytes need only be in range
-abbrev pub asked_value : ℕ → List ℕ → Asked
+abbrev pub asked_value : ℕ → List ℕ → AskedValue
 asked_value size piece = asked (expression_or_nought (expression_of piece)) (is_in_size size) (λ page_count here v. true)
 
 -- an operand of .cap
 abbrev pub part_of : List ℕ → ℕ → Expression
 part_of operands i = expression_or_nought (operand_at i operands)
 
-abbrev pub asked_part : List ℕ → ℕ × ℕ → Asked
+abbrev pub asked_part : List ℕ → ℕ × ℕ → AskedValue
 asked_part operands p = asked (part_of operands p.0) (is_natural p.1) (λ page_count here v. true)
 
-abbrev pub asked_by_data : Data → List Asked
+abbrev pub asked_by_data : Data → List AskedValue
 asked_by_data (item (Values size) n operands) = map (asked_value size) (pieces_of operands)
 asked_by_data (item Capability n operands) = map (asked_part operands) capability_parts
 asked_by_data other = []
 
-abbrev pub asked_by : Statement → List Asked
+abbrev pub asked_by : Statement → List AskedValue
 asked_by (instruction i) = asked_by_instruction i
 asked_by (setting s) = asked_by_setting s
 asked_by (origin n) = []
 asked_by (contents d) = asked_by_data d
 
 -- a value out of range (A3), a name that no line defines (A5), a value out of reach (A6)
-abbrev pub is_beyond : Symbols → ℕ → Asked → Bool
+abbrev pub is_beyond : Symbols → ℕ → AskedValue → Bool
 is_beyond symbols here a = known_and (λ v. not (a.is_in_range v)) (value_of symbols here a.expression)
 
-abbrev pub is_unknown : Symbols → ℕ → Asked → Bool
+abbrev pub is_unknown : Symbols → ℕ → AskedValue → Bool
 is_unknown symbols here a = is_none (value_of symbols here a.expression)
 
-abbrev pub is_far : ℕ → Symbols → ℕ → Asked → Bool
+abbrev pub is_far : ℕ → Symbols → ℕ → AskedValue → Bool
 is_far page_count symbols here a = known_and (λ v. not (a.is_near page_count here v)) (value_of symbols here a.expression)
 
 unfoldable pub has_value_beyond : Symbols → ℕ → Statement → Bool

@@ -2,24 +2,18 @@
 use Rattle.std.proofs.Common.{◌≡◌, ℕ, zero, suc, ◌%◌, ◌*◌, ◌/◌, Bool, true, false, eqb, cond, List, [], ◌∷◌, length, set, ◌⊎◌, inl, inr}
 use Rattle.std.proofs.Common.{refl, sym}
 use Rattle.std.proofs.Common.{ap, subst, ◌∙◌, None}
-use Rattle.std.proofs.lemmas.Bool.{cases_eq, cond_both, cond-false}
+use Rattle.std.proofs.lemmas.Bool.{cond_both, cond-false}
 use Rattle.base.specs.declared.registers.csr.TheConstants.{MTVEC, MEPC}
 use Rattle.base.specs.declared.registers.scr.TheConstants.{DDC, MTCC, MTDC, MSCRATCHC, MEPCC}
-use Rattle.cap_bounds.specs.CapValue.{CapValue, IsSound, is_tagged, value_address, value_of, word_of}
-use Rattle.cap_bounds.specs.RecordLaws.{value_of-word_of}
+use Rattle.cap_bounds.specs.CapValue.{CapValue, IsSound, is_tagged, value_address, word_of}
 use Rattle.cap_bounds.specs.SetAddress.{at_address}
 use Rattle.cap_rights.specs.Derived.{IsDerivedIfTagged}
 use Rattle.cap_rights.specs.DerivedLaws.{derived-self, derived-at_address}
-use Rattle.tagged_memory.specs.Memory.{Memory, IsMemory, is_in_ram, has_tag, word_at, data_written, capability_written, place_fault}
-use Rattle.tagged_memory.specs.MemoryLaws.{word_at-data_written, tagged-before_data_written, word_at-capability_written_here}
-use Rattle.tagged_memory.specs.MemoryLaws.{word_at-capability_written_other, has_tag-capability_written_here}
-use Rattle.tagged_memory.specs.MemoryLaws.{has_tag-capability_written_other}
-use Rattle.tagged_memory.specs.AccessLaws.{in_ram-place_fault, aligned-place_fault}
+use Rattle.tagged_memory.specs.Memory.{Memory, IsMemory, is_in_ram, data_written, capability_written, place_fault}
 use Rattle.special_regs.specs.Scrs.{Scrs}
 use Rattle.special_regs.specs.Mtvec.{mtvec_of}
 use Rattle.special_regs.specs.Traps.{is_sentry, sentry_opened, aligned, target, returned_scrs}
 use Rattle.special_regs.specs.Writes.{views_written, scr_written}
-use Rattle.cap_bounds.specs.SoundLaws.{word_of-below}
 use Rattle.steps.specs.Effect.{moved}
 use Rattle.registers.specs.Registers.{register, with_register}
 use Rattle.steps.specs.State.{State}
@@ -28,6 +22,7 @@ use Rattle.authority.specs.Reachable.{from_root, from_special}
 use Rattle.authority.specs.Authority.{HasSystem}
 use Rattle.authority.specs.Grounded.{IsGrounded, IsGroundedIfTagged, IsFramed}
 use Rattle.authority.specs.GroundedLaws.{grounded-reachable, grounded-derived}
+use Rattle.authority.specs.HeldLaws.{held-data_written, held-capability_written}
 
 -- ---- what a state holds
 
@@ -52,21 +47,21 @@ abbrev pub FramesRegisters : State → List CapValue → Type 0
 FramesRegisters s registers = (n : ℕ) → IsGroundedIfTagged s (register registers n)
 
 -- the same value, or a grounded one
-abbrev pub IsKept : State → CapValue → CapValue → Type 0
-IsKept s old v = (v ≡ old) ⊎ IsGroundedIfTagged s v
+abbrev pub StaysGrounded : State → CapValue → CapValue → Type 0
+StaysGrounded s old v = (v ≡ old) ⊎ IsGroundedIfTagged s v
 
 pub record FramesScrs (s : State) (x : Scrs) : Type 0 where
   pub pcc : IsGroundedIfTagged s x.pcc
   pub ddc : IsGroundedIfTagged s x.ddc
-  pub mtcc : IsKept s s.scrs.mtcc x.mtcc
-  pub mtdc : IsKept s s.scrs.mtdc x.mtdc
-  pub mscratchc : IsKept s s.scrs.mscratchc x.mscratchc
-  pub mepcc : IsKept s s.scrs.mepcc x.mepcc
+  pub mtcc : StaysGrounded s s.scrs.mtcc x.mtcc
+  pub mtdc : StaysGrounded s s.scrs.mtdc x.mtdc
+  pub mscratchc : StaysGrounded s s.scrs.mscratchc x.mscratchc
+  pub mepcc : StaysGrounded s s.scrs.mepcc x.mepcc
 
 abbrev pub FramesMemory : State → Memory → Type 0
 FramesMemory s m = (granule : ℕ) (v : CapValue) → IsHeldAt m granule v → IsHeldAt s.memory granule v ⊎ IsGrounded s v
 
-kept-special : (s : State) (v old new : CapValue) → v ≡ new → (v ≡ old → IsSpecial s v) → is_tagged v ≡ true → IsKept s old new
+kept-special : (s : State) (v old new : CapValue) → v ≡ new → (v ≡ old → IsSpecial s v) → is_tagged v ≡ true → StaysGrounded s old new
     → IsSpecial s v ⊎ IsGrounded s v
 kept-special s v old new same special tagged (inl kept) = inl (special (same ∙ kept))
 kept-special s v old new same special tagged (inr earned) = inr (grounded-same s v new same earned tagged)
@@ -141,7 +136,7 @@ scrs-entered s code earned = record {
   mepcc = inl refl;
 }
 
-replaced : (s : State) (may : Bool) (old v : CapValue) → IsGroundedIfTagged s v → IsKept s old (cond may v old)
+replaced : (s : State) (may : Bool) (old v : CapValue) → IsGroundedIfTagged s v → StaysGrounded s old (cond may v old)
 replaced s true old v earned = inr earned
 replaced s false old v earned = inl refl
 
@@ -198,51 +193,15 @@ scrs-returned s has no_sentry =
 pub memory-same : (s : State) → FramesMemory s s.memory
 memory-same s = λ granule v here. inl here
 
--- a write of data leaves no tag where it leaves another word
 pub memory-stored : (s : State) (address : ℕ) (new : List ℕ) → IsMemory s.memory → is_in_ram s.memory address (length new) ≡ true
     → FramesMemory s (data_written s.memory address new)
-memory-stored s address new memory inside = λ granule v here. inl (record {
-  tagged = tagged-before_data_written s.memory address new granule here.tagged;
-  value = here.value ∙ ap (λ w. value_of w true) (word_at-data_written s.memory address new memory inside granule here.tagged);
-})
+memory-stored s address new memory inside = λ granule v here. inl (held-data_written s.memory address new memory inside granule v here)
 
--- memory with a value stored
-abbrev with_value : Memory → ℕ → CapValue → Memory
-with_value m address v = capability_written m address (word_of v) (is_tagged v)
-
-stored-here : (s : State) (address : ℕ) (v : CapValue) → is_in_ram s.memory address 16 ≡ true → IsSound v → IsGroundedIfTagged s v
-    → (w : CapValue) → IsHeldAt (with_value s.memory address v) address w → IsGrounded s w
-stored-here s address v inside sound earned w here =
-    let tag : is_tagged v ≡ true =
-    sym (has_tag-capability_written_here s.memory address (word_of v) (is_tagged v)) ∙ here.tagged in
-    let word : word_at (with_value s.memory address v) address ≡ word_of v =
-    word_at-capability_written_here s.memory address (word_of v) (is_tagged v) inside (word_of-below v sound) in
-    let same : w ≡ v =
-    here.value ∙ ap (λ n. value_of n true) word ∙ ap (value_of (word_of v)) (sym tag) ∙ value_of-word_of v sound in
-    subst (IsGrounded s) (sym same) (earned tag)
-
-stored-elsewhere : (s : State) (address : ℕ) (v : CapValue) → IsMemory s.memory → place_fault s.memory address 16 ≡ None
-    → (granule : ℕ) → (granule ≡ address → ⊥) → (w : CapValue) → IsHeldAt (with_value s.memory address v) granule w
-    → IsHeldAt s.memory granule w
-stored-elsewhere s address v memory none granule apart w here =
-    let before : has_tag s.memory granule ≡ true =
-    sym (has_tag-capability_written_other s.memory address (word_of v) (is_tagged v) granule apart) ∙ here.tagged in
-    record {
-      tagged = before;
-      value = here.value
-          ∙ ap (λ n. value_of n true)
-          (word_at-capability_written_other s.memory address (word_of v) (is_tagged v) memory
-          (aligned-place_fault s.memory address 16 none) (in_ram-place_fault s.memory address 16 none) granule before apart);
-    }
-
--- a value that is stored is read back as itself
 pub memory-value_stored : (s : State) (address : ℕ) (v : CapValue) → IsMemory s.memory → place_fault s.memory address 16 ≡ None
     → IsSound v → IsGroundedIfTagged s v
     → FramesMemory s (capability_written s.memory address (word_of v) (is_tagged v))
 memory-value_stored s address v memory none sound earned = λ granule w here.
-    elim (cases_eq granule address) [
-      | inl same ↦
-          inr (stored-here s address v (in_ram-place_fault s.memory address 16 none) sound earned w
-          (subst (λ g. IsHeldAt (with_value s.memory address v) g w) same here))
-      | inr apart ↦ inl (stored-elsewhere s address v memory none granule apart w here)
+    elim (held-capability_written s.memory address v memory none sound granule w here) [
+      | inl stored ↦ inr (subst (IsGrounded s) (sym stored.value) (earned stored.tagged))
+      | inr before ↦ inl before
     ]

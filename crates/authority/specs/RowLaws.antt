@@ -27,6 +27,7 @@ use Rattle.cap_checks.specs.declared.access.Access.TheVariants as access
 use Rattle.cap_checks.specs.declared.question.Condition.{Condition}
 use Rattle.cap_checks.specs.Question.{judged, first_false}
 use Rattle.cap_checks.specs.FaultLaws.{access_fault-holds}
+use Rattle.cap_checks.specs.StoreLaws.{stored-capability, stored-local}
 use Rattle.cap_checks.specs.FirstFault.{holds, access_fault, fetch_checks, fetch_fault, target_checks, jump_target}
 use Rattle.tagged_memory.specs.Memory.{is_in_ram, has_tag, word_at}
 use Rattle.special_regs.specs.Numbered.{value_at}
@@ -70,7 +71,7 @@ use Rattle.authority.specs.Authority.{HasSystem}
 use Rattle.authority.specs.Grounded.{IsGrounded, IsGroundedIfTagged}
 use Rattle.authority.specs.GroundedLaws.{grounded-reachable, grounded-derived, grounded-made}
 use Rattle.authority.specs.FrameLaws.{grounded-register, grounded-pcc, grounded-ddc, grounded-special}
-use Rattle.authority.specs.Derives.{MayWrite, UsesSystem, Derives}
+use Rattle.authority.specs.Derives.{MayWrite, MayStoreTagged, UsesSystem, Derives}
 
 -- ---- faults
 
@@ -380,6 +381,26 @@ module _ (s : State) (is : IsState s) (insn : Insn) where
       (λ none. grounded-loaded (place_of insn s)
       (access-allowed access.LoadCapability (capability_at cause.LoadAccess (place_of insn s) s) none))
 
+  store-tagged : access_fault (authority_of insn s) (authority_number_of insn s)
+      (access.StoreCapability (stored_of (register s.registers insn.rs2))) (place_of insn s) ≡ None
+      → is_tagged (register s.registers insn.rs2) ≡ true → MayStoreTagged s (place_of insn s) (register s.registers insn.rs2)
+  store-tagged passes tagged =
+      let v : CapValue = register s.registers insn.rs2 in
+      let a : Access = access.StoreCapability (stored_of v) in
+      let allows = allowed (authority_of insn s) (authority_number_of insn s) a (place_of insn s) passes in
+      record {
+        source = authority_of insn s;
+        reachable = reachable-authority s insn allows.tagged;
+        opens = record {
+          unsealed = allows.unsealed;
+          stores = allows.permitted;
+          capabilities = stored-capability (authority_of insn s) v (authority_number_of insn s) (place_of insn s) passes tagged;
+          base = allows.base;
+          top = allows.top;
+        };
+        locals = stored-local (authority_of insn s) v (authority_number_of insn s) (place_of insn s) passes tagged;
+      }
+
   store_capability_effect-derives : Derives (store_capability_effect insn s) s
   unfolding store_capability_effect store_capability_done
   store_capability_effect-derives =
@@ -388,6 +409,7 @@ module _ (s : State) (is : IsState s) (insn : Insn) where
       (λ none. (
         may_write (place_of insn s) 16 (access-allowed a (capability_at cause.StoreAccess (place_of insn s) s) none),
         grounded-register s insn.rs2,
+        store-tagged (access_asked-none a (capability_at cause.StoreAccess (place_of insn s) s) insn s none).0,
       ))
 
   -- ---- system registers

@@ -11,6 +11,7 @@ ghost use Rattle.steps.specs.Outcome.{Plain};
 ghost use Rattle.steps.specs.State.{State};
 ghost use Rattle.authority.specs.Reachable.{IsReachable};
 ghost use Rattle.authority.specs.Authority.{Not, NoNewRights, NewSealsAllowed, IsWritable, HasSystem, LeavesAlone};
+ghost use Rattle.authority.specs.Lent.{KeepsNothingLentBeyond};
 ghost use Rattle.authority.specs.Worlds.{IsReadable};
 ghost use Rattle.authority.specs.Confined.{IsConfined, Spans};
 
@@ -25,6 +26,12 @@ pub fn plain_events_give_no_rights()
 pub fn plain_events_leave_the_rest_alone()
     ensures state { (s : State) → IsState s → (e : Event) → outcome e s ≡ Plain → LeavesAlone s (after e s) }
     ensures silent { (s : State) → IsState s → (e : Event) → Not (IsWritable s transmit) → sent e s ≡ None }
+{}
+
+/// At no event, whatever it comes to, is anything kept that is lent without Global, but where something reachable may keep it: a trap, an
+/// unsealing and a sealed jump keep nothing either.
+pub fn events_keep_nothing_lent()
+    ensures { (s : State) → IsState s → (e : Event) → KeepsNothingLentBeyond (IsReachable s) s.memory (after e s).memory }
 {}
 
 /// Confined code reaches its two capabilities alone: PCC, DDC, and nothing more. It writes in DDC's bounds and reads in PCC's and DDC's;

@@ -10,11 +10,11 @@ ghost use Rattle.bounds_text.specs.BoundsText.{address_line, bounds_text as whol
 ghost use Rattle.bounds_text.specs.BoundsText.{request_lines, set, span_of, standing, window_lines};
 
 use crate::either;
-use crate::length::{alignment_mask, representable_length};
 use crate::window::{Span, column_of, column_size, picture};
 use arrayvec::ArrayString;
 use cap_bounds::{CapRep, Window, is_exact};
 use cap_format::CapWord;
+use cap_insns::{alignment_mask, representable_length};
 use texts::{fill, pieces, text};
 
 /// Root with an address, in integer mode.

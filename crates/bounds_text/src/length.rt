@@ -1,10 +1,10 @@
 //! The text of a length: what an allocator asks.
 
 ghost use Rattle.std.specs.Prelude.{◌≡◌, ◌+◌, ◌^◌, ◌<◌, ◌≤◌};
-ghost use Rattle.cap_insns.specs.CapabilityRows.{alignment_mask, representable_length};
 ghost use Rattle.bounds_text.specs.LengthText.{length_text as text_of, whole_length};
 
 use cap_bounds::granule;
+use cap_insns::alignment_mask;
 use texts::{pieces, text};
 
 /// A length rounded up to what a capability with an aligned base has.
@@ -16,22 +16,6 @@ fn whole_length(length: u64) -> u128
 {
     let granule = granule(length);
     (u128::from(length) + granule - 1) / granule * granule
-}
-
-/// What CRRL gives of a length.
-#[tactic(auto, unfolding(cap_insns::specs::CapabilityRows::representable_length, crate::specs::LengthText::whole_length))]
-pub(crate) fn representable_length(length: u64) -> u64
-    ensures { result ≡ representable_length length }
-{
-    (whole_length(length) % (1 << 64)) as u64
-}
-
-/// What CRAM gives of a length.
-#[tactic(auto, unfolding(cap_insns::specs::CapabilityRows::alignment_mask))]
-pub(crate) fn alignment_mask(length: u64) -> u64
-    ensures { result ≡ alignment_mask length }
-{
-    ((1 << 64) - granule(length)) as u64
 }
 
 /// What an allocator asks of a length, as a text: how long a block is whose bounds are exact, what its base is a multiple of, how many

@@ -1,11 +1,11 @@
 -- What breaks a rule of a policy, as a text.
 use Rattle.std.specs.Prelude.{ℕ, List, [], ◌++◌, codes, decimal}
-use Rattle.steps.specs.State.{State, pc_of}
+use Rattle.steps.specs.State.{State}
 use Rattle.symbols.specs.Symbols.{Symbol}
-use Rattle.symbols.specs.Labels.{labelled}
 use Rattle.policy.specs.declared.rule.Ban.{Ban}
 use Rattle.policy.specs.declared.rule.Ban.TheVariants.{Store, Load, Execute, Transmit, Halt, Timer, System, Seal, Types}
 use Rattle.policy.specs.declared.refused.Refused.{Refused}
+use Rattle.explain.specs.StandingText.{standing_text}
 use Rattle.reach.specs.Reach.{members_in}
 use Rattle.reached.specs.Order.{Found, chain_of}
 use Rattle.reach_texts.specs.Text.{held_text}
@@ -33,10 +33,6 @@ breach_text symbols members number rule ban member =
     rule_lines number rule ban ++ held_text symbols [] members (chain_of members member) member ++ codes "\n"
 
 -- how many steps were done, and where PCC is; then what breaks the rule
-abbrev pub place_text : List Symbol → ℕ → State → List ℕ
-place_text symbols steps s =
-    codes "cherisim: steps " ++ decimal steps ++ codes ", pcc " ++ labelled symbols (pc_of s) ++ codes "\ncherisim: "
-
 unfoldable pub stopped_lines : List Symbol → ℕ → List ℕ → Refused → ℕ → State → List ℕ
 stopped_lines symbols number rule refused steps s =
-    place_text symbols steps s ++ breach_text symbols (members_in s) number rule refused.ban refused.member
+    standing_text symbols steps s ++ codes "\ncherisim: " ++ breach_text symbols (members_in s) number rule refused.ban refused.member

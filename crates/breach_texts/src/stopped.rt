@@ -5,10 +5,10 @@ ghost use Rattle.breach_texts.specs.Text.{stopped_lines};
 
 use crate::breach::{RuleLine, put_breach};
 use cap_bounds::CapRep;
+use explain::put_standing;
 use machine::Machine;
 use policy::Refused;
 use reach::Reach;
-use sim_run::put_place;
 use std::alloc::{AllocError, Global};
 use symbols::Symbols;
 use texts::Piece::Text;
@@ -35,7 +35,7 @@ pub fn stopped_lines<C: CapRep>(
 {
     let reach = Reach::of(alloc, machine.hart())?;
     let mut text = String::new(alloc);
-    put_place(&mut text, symbols, machine, steps)?;
+    put_standing(&mut text, symbols, machine.hart(), steps)?;
     append(&mut text, &[Text("\ncherisim: ")])?;
     put_breach(
         &mut text,

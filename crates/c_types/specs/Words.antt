@@ -16,8 +16,8 @@ abbrev pub bits : CheriWord → ℕ
 bits word = joined word.upper word.address
 
 -- a capability, or 128 bits of data
-abbrev pub meant : CheriCap → CapValue
-meant cap = value_of (joined cap.upper cap.address) cap.tag
+abbrev pub capability_of : CheriCap → CapValue
+capability_of cap = value_of (joined cap.upper cap.address) cap.tag
 
 abbrev pub record_of : CheriFields → Record
 record_of f = record_with f.base (joined f.top_high f.top_low) f.address f.perms f.flag f.otype

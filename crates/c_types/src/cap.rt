@@ -2,7 +2,7 @@
 
 ghost use Rattle.std.specs.Prelude.{◌≡◌};
 ghost use Rattle.word_cap.specs.WordCap.{word_value};
-ghost use Rattle.c_types.specs.Words.{meant};
+ghost use Rattle.c_types.specs.Words.{capability_of};
 
 use crate::halves::{halves_of, word_of};
 use crate::types::{CheriCap, CheriWord};
@@ -12,7 +12,7 @@ use word_cap::WordCap;
 /// The capability that C passed.
 #[inline(always)]
 pub fn inside(cap: CheriCap) -> WordCap
-    ensures { word_value result ≡ meant cap }
+    ensures { word_value result ≡ capability_of cap }
 {
     let word = CheriWord {
         address: cap.address,
@@ -24,7 +24,7 @@ pub fn inside(cap: CheriCap) -> WordCap
 /// The capability as C takes it.
 #[inline(always)]
 pub fn outside<C: CapRep>(cap: C) -> CheriCap
-    ensures { meant result ≡ C.value cap }
+    ensures { capability_of result ≡ C.value cap }
 {
     let word = halves_of(cap.word());
     CheriCap {

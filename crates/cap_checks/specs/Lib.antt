@@ -5,3 +5,4 @@ pub mod FirstFault
 -- Laws
 pub mod QuestionLaws
 pub mod FaultLaws
+pub mod StoreLaws

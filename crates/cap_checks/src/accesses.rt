@@ -3,11 +3,11 @@ ghost use Rattle.cap_checks.specs.Access.{width_of};
 ghost use Rattle.cap_checks.specs.FirstFault.{access_fault, access_checks};
 
 use crate::access::Access;
-use crate::conditions::{holds, is_sealed, push, report};
+use crate::conditions::{holds, push, report};
 use crate::question::{Condition, Question};
 use base::{CheriCause, Fault};
 use cap_bounds::CapRep;
-use cap_rights::{Permission, permits};
+use cap_rights::{Permission, is_sealed, permits};
 use std::alloc::{AllocError, Global};
 
 /// What an access through an authority asks for, in order.

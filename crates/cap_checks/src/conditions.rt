@@ -3,12 +3,11 @@
 //! several checks.
 
 ghost use Rattle.std.specs.Prelude.{◌≡◌, if◌then◌else◌, Ok, Err};
-ghost use Rattle.cap_bounds.specs.CapValue.{is_sealed};
 ghost use Rattle.cap_checks.specs.FirstFault as spec;
 ghost use Rattle.cap_checks.specs.Question.{fault_of, HasRegister};
 
 use crate::question::Question;
-use base::{Fault, otype};
+use base::Fault;
 use cap_bounds::CapRep;
 
 /// The conditions of a check, in order.
@@ -51,14 +50,6 @@ pub(crate) fn check(question: Question, holds: bool) -> Result<(), Fault>
     ensures { result ≡ if holds then Ok tt else Err (fault_of question) }
 {
     if holds { Ok(()) } else { Err(question.fault()) }
-}
-
-/// Tells whether the value, tagged or not, has another type than what is unsealed.
-#[inline]
-pub(crate) fn is_sealed<C: CapRep>(c: C) -> bool
-    ensures { result ≡ is_sealed (C.value c) }
-{
-    c.otype() != otype::UNSEALED
 }
 
 /// Tells whether the `size` bytes from an address lie in the value's bounds.

@@ -2,11 +2,11 @@ ghost use Rattle.std.specs.Prelude.{◌≡◌, None, Some, IfOk, IfErr, OnOk};
 ghost use Rattle.cap_bounds.specs.CapValue.{value_address};
 ghost use Rattle.cap_checks.specs.FirstFault.{fetch_fault, fetch_checks};
 
-use crate::conditions::{checked, holds, is_sealed, listed};
+use crate::conditions::{checked, holds, listed};
 use crate::question::{Condition, Question};
 use base::{CheriCause, Fault, INSTRUCTION_BYTES, PCC_REGISTER};
 use cap_bounds::CapRep;
-use cap_rights::{Permission, permits};
+use cap_rights::{Permission, is_sealed, permits};
 
 /// What the fetch of an instruction asks for, in order.
 macro_rules! asked_of_fetch {

@@ -4,11 +4,11 @@ ghost use Rattle.cap_checks.specs.FirstFault.{target_fault, jump_fault, invoke_t
 ghost use Rattle.cap_checks.specs.FirstFault.{target_checks, jump_checks, invoke_checks};
 ghost use Rattle.cap_checks.specs.FirstFault as spec;
 
-use crate::conditions::{checked, holds, is_sealed, listed};
+use crate::conditions::{checked, holds, listed};
 use crate::question::{Condition, Question};
 use base::{Cause, CheriCause, Fault, INSTRUCTION_BYTES, PCC_REGISTER, otype};
 use cap_bounds::CapRep;
-use cap_rights::{OType, Permission, permits};
+use cap_rights::{OType, Permission, is_sealed, permits};
 
 /// Gives where a jump by an offset goes: modulo `2^64`, with bit 0 cleared.
 #[inline]

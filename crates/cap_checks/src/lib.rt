@@ -7,6 +7,7 @@ mod accesses;
 mod conditions;
 mod fetches;
 mod jumps;
+pub mod laws;
 mod question;
 
 pub use access::{Access, Stored};

@@ -5,5 +5,5 @@ mod derived;
 mod numbers;
 mod rows;
 
-pub use numbers::integer;
+pub use numbers::{alignment_mask, integer, representable_length};
 pub use rows::cap_op;

@@ -42,9 +42,9 @@ pub(crate) fn length<C: CapRep>(c: C) -> u64
     u64::try_from(bytes).unwrap_or(u64::MAX)
 }
 
-/// A length rounded up to what a capability with an aligned base can have, modulo `2^64`.
+/// A length rounded up to what a capability with an aligned base can have, modulo `2^64` (CRRL).
 #[tactic(auto, unfolding(crate::specs::CapabilityRows::representable_length))]
-pub(crate) fn representable_length(length: u64) -> u64
+pub fn representable_length(length: u64) -> u64
     ensures { result ≡ spec.representable_length length }
 {
     let granule = granule(length);
@@ -52,9 +52,9 @@ pub(crate) fn representable_length(length: u64) -> u64
     (granules * granule % (1 << 64)) as u64
 }
 
-/// The mask that aligns a base for a capability of this length.
+/// The mask that aligns a base for a capability of this length (CRAM).
 #[tactic(auto, unfolding(crate::specs::CapabilityRows::alignment_mask))]
-pub(crate) fn alignment_mask(length: u64) -> u64
+pub fn alignment_mask(length: u64) -> u64
     ensures { result ≡ spec.alignment_mask length }
 {
     ((1 << 64) - granule(length)) as u64

@@ -33,6 +33,19 @@ pub record OpensStore (c : CapValue) (address : ℕ) : Type 0 where
   pub base : value_base c ≤ address
   pub top : address < value_top c
 
+-- unsealed, with Store and Store_Capability, and the granule lies wholly in its bounds: a capability may be stored there with its tag
+pub record OpensCapabilityStore (c : CapValue) (granule : ℕ) : Type 0 where
+  pub unsealed : is_sealed c ≡ false
+  pub stores : permits c permission.Store ≡ true
+  pub capabilities : permits c permission.StoreCapability ≡ true
+  pub base : value_base c ≤ granule
+  pub top : granule + 16 ≤ value_top c
+
+-- and with Store_Local_Capability: there a capability without Global may be kept
+pub record OpensKeeping (c : CapValue) (granule : ℕ) : Type 0 where
+  pub store : OpensCapabilityStore c granule
+  pub locals : permits c permission.StoreLocalCapability ≡ true
+
 -- unsealed, with Load or Execute, and the address lies in its bounds: the byte there may be loaded, or fetched as code
 pub record OpensByte (c : CapValue) (address : ℕ) : Type 0 where
   pub unsealed : is_sealed c ≡ false

@@ -16,7 +16,8 @@ use Rattle.cap_rights.specs.PermsLaws.{permits-among}
 use Rattle.cap_rights.specs.Derivations.{subset, equal_exact}
 use Rattle.cap_rights.specs.DerivationLaws.{subset-IsWithin}
 use Rattle.cap_rights.specs.Within.{IsWithin}
-use Rattle.cap_rights.specs.Rights.{IsInRightsOf, OpensSystem, OpensGranule, OpensStore, OpensByte, OpensType}
+use Rattle.cap_rights.specs.Rights.{IsInRightsOf, OpensSystem, OpensGranule, OpensStore, OpensCapabilityStore, OpensKeeping, OpensByte}
+use Rattle.cap_rights.specs.Rights.{OpensType}
 
 -- ---- bounds and permissions
 
@@ -77,6 +78,13 @@ IsInRightsOf-trans v c d inner outer = record {
       inner.of_sealed (ap is_sealed same ∙ closed) ∙ same;
 }
 
+-- what a value permits, every value permits whose rights it is within
+pub permits-in_rights : (v c : CapValue) (p : Permission) → IsInRightsOf v c → permits v p ≡ true → permits c p ≡ true
+permits-in_rights v c p rights has = elim (cases_Bool (is_sealed c)) [
+  | inl closed ↦ subst (λ x. permits x p ≡ true) (rights.of_sealed closed) has
+  | inr opened ↦ permits-outer v c p (rights.of_unsealed opened) has
+]
+
 -- ---- what a value opens, every value opens whose rights it is within
 
 module _ (v c : CapValue) where
@@ -119,6 +127,28 @@ module _ (v c : CapValue) where
         base = omega arith;
         top = omega arith;
       }
+
+  pub OpensCapabilityStore-outer : (granule : ℕ) → IsInRightsOf v c → OpensCapabilityStore v granule → OpensCapabilityStore c granule
+  OpensCapabilityStore-outer granule rights opens =
+      let outer = unsealed-outer v c opens.unsealed rights in
+      let within = outer.1 in
+      let low = within.base in
+      let high = within.top in
+      let base = opens.base in
+      let top = opens.top in
+      record {
+        unsealed = outer.0;
+        stores = permits-outer v c permission.Store within opens.stores;
+        capabilities = permits-outer v c permission.StoreCapability within opens.capabilities;
+        base = omega arith;
+        top = omega arith;
+      }
+
+  pub OpensKeeping-outer : (granule : ℕ) → IsInRightsOf v c → OpensKeeping v granule → OpensKeeping c granule
+  OpensKeeping-outer granule rights opens = record {
+    store = OpensCapabilityStore-outer granule rights opens.store;
+    locals = permits-in_rights v c permission.StoreLocalCapability rights opens.locals;
+  }
 
   reads-outer : IsWithin v c → (permits v permission.Load ≡ true) ⊎ (permits v permission.Execute ≡ true)
       → (permits c permission.Load ≡ true) ⊎ (permits c permission.Execute ≡ true)

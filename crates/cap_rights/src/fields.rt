@@ -40,9 +40,9 @@ pub(crate) fn with_flag<C: CapRep>(c: C, flag: bool) -> C
     C::from_word(c.word().with_flag(flag), c.tag())
 }
 
-/// Whether the value has another type than what is unsealed.
+/// Whether a value, tagged or not, has another type than what is unsealed.
 #[inline]
-pub(crate) fn is_sealed<C: CapRep>(c: C) -> bool
+pub fn is_sealed<C: CapRep>(c: C) -> bool
     ensures { result ≡ is_sealed (C.value c) }
 {
     c.otype() != OType::UNSEALED.number()
@@ -50,7 +50,7 @@ pub(crate) fn is_sealed<C: CapRep>(c: C) -> bool
 
 /// Whether an address is one of the value's bounds.
 #[inline]
-pub(crate) fn address_in_bounds<C: CapRep>(c: C, address: u64) -> bool
+pub fn address_in_bounds<C: CapRep>(c: C, address: u64) -> bool
     ensures { result ≡ address_in_bounds (C.value c) address }
 {
     c.base() <= address && u128::from(address) < c.top()

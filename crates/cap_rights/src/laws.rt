@@ -5,13 +5,15 @@ ghost use Rattle.cap_bounds.specs.CapValue.{CapValue, IsSound, is_tagged};
 ghost use Rattle.cap_bounds.specs.CapValue.{is_sealed};
 ghost use Rattle.cap_bounds.specs.SetAddress.{at_address};
 ghost use Rattle.cap_bounds.specs.SetBounds.{with_bounds};
-ghost use Rattle.cap_rights.specs.Permission.{bit_of};
+ghost use Rattle.cap_rights.specs.Permission.{bit_of, permits};
 ghost use Rattle.cap_rights.specs.Opened.{opened};
 ghost use Rattle.cap_rights.specs.Derivations.{and_perms, set_flags, seal, unseal, seal_entry, subset};
 ghost use Rattle.cap_rights.specs.Within.{IsWithin, IsWithinIfTagged};
-ghost use Rattle.cap_rights.specs.Rights.{IsInRightsOf, OpensSystem, OpensGranule, OpensStore, OpensByte, OpensType};
+ghost use Rattle.cap_rights.specs.Rights.{IsInRightsOf, OpensSystem, OpensGranule, OpensStore, OpensCapabilityStore, OpensKeeping};
+ghost use Rattle.cap_rights.specs.Rights.{OpensByte, OpensType};
 ghost use Rattle.cap_rights.specs.Derived.{IsDerivedIfTagged, IsSealedWith};
 ghost use Rattle.cap_rights.specs.Perms.{set_of_one, PermittedIsAmongThePermissions, ViewNamesItsSet};
+ghost use Rattle.cap_rights.specs.declared.permission.Permission.{Permission};
 ghost use Rattle.cap_rights.specs.declared.permission.Permission.TheVariants as permission;
 
 use crate::perms::Perms;
@@ -90,9 +92,13 @@ pub fn view_names_its_set()
 pub fn rights_pass_outwards()
     ensures itself { (v : CapValue) → IsInRightsOf v v }
     ensures through { (v c d : CapValue) → IsInRightsOf v c → IsInRightsOf c d → IsInRightsOf v d }
+    ensures permission { (v c : CapValue) (p : Permission) → IsInRightsOf v c → permits v p ≡ true → permits c p ≡ true }
     ensures system { (v c : CapValue) → IsInRightsOf v c → OpensSystem v → OpensSystem c }
     ensures granule { (v c : CapValue) (granule : ℕ) → IsInRightsOf v c → OpensGranule v granule → OpensGranule c granule }
     ensures store { (v c : CapValue) (address : ℕ) → IsInRightsOf v c → OpensStore v address → OpensStore c address }
+    ensures capability_store { (v c : CapValue) (granule : ℕ) → IsInRightsOf v c → OpensCapabilityStore v granule
+        → OpensCapabilityStore c granule }
+    ensures keeping { (v c : CapValue) (granule : ℕ) → IsInRightsOf v c → OpensKeeping v granule → OpensKeeping c granule }
     ensures byte { (v c : CapValue) (address : ℕ) → IsInRightsOf v c → OpensByte v address → OpensByte c address }
     ensures object_type { (v c : CapValue) (otype : ℕ) → IsInRightsOf v c → OpensType v otype → OpensType c otype }
 {}
@@ -107,4 +113,14 @@ pub fn derivations_give_no_rights()
     ensures entry { (v : CapValue) → IsDerivedIfTagged (seal_entry v) v }
     ensures type_alone { (v : CapValue) → is_sealed v ≡ false → IsDerivedIfTagged (opened v) v }
     ensures sealed { (v authority : CapValue) → is_tagged (seal v authority) ≡ true → IsSealedWith (seal v authority) v authority }
+{}
+
+/// Global comes of Global alone. CUnseal gives it only where the sealed value and the key have it; CSeal, CSealEntry (so a link too) and
+/// what goes through a seal give the permissions that the value had. All else that is derived is within the rights of its operand.
+pub fn global_comes_of_global_alone()
+    ensures unsealed { (v key : CapValue) → is_tagged (unseal v key) ≡ true → permits (unseal v key) permission.Global ≡ true
+        → (permits v permission.Global ≡ true) × (permits key permission.Global ≡ true) }
+    ensures sealed { (v key : CapValue) (p : Permission) → is_tagged (seal v key) ≡ true → permits (seal v key) p ≡ permits v p }
+    ensures entry { (v : CapValue) (p : Permission) → is_tagged (seal_entry v) ≡ true → permits (seal_entry v) p ≡ permits v p }
+    ensures type_alone { (v : CapValue) (p : Permission) → is_tagged v ≡ true → permits (opened v) p ≡ permits v p }
 {}

@@ -4,6 +4,7 @@
 mod compared;
 mod fields;
 pub mod laws;
+mod opens;
 mod otype;
 mod permission;
 mod perms;
@@ -13,6 +14,8 @@ mod seals;
 mod unsealed;
 
 pub use compared::{equal_exact, subset};
+pub use fields::{address_in_bounds, is_sealed};
+pub use opens::{allows, opens_store, opens_system, opens_type};
 pub use otype::OType;
 pub use permission::{Permission, permits};
 pub use perms::Perms;

@@ -7,7 +7,7 @@ ghost use Rattle.cap_bounds.specs.SetAddress.{at_address};
 ghost use Rattle.cap_bounds.specs.SetBounds.{with_bounds, bounds_exact, HasRoundedBounds, LiesWithin};
 ghost use Rattle.cap_bounds.specs.PlainCap.{plain_value};
 ghost use Rattle.word_cap.specs.WordCap.{word_value};
-ghost use Rattle.c_types.specs.Words.{bits, meant, record_of};
+ghost use Rattle.c_types.specs.Words.{bits, capability_of, record_of};
 ghost use Rattle.c_types.specs.Halves.{joined};
 
 use crate::words::{cheri_base, cheri_flag, cheri_otype, cheri_perms, cheri_top};
@@ -31,7 +31,7 @@ pub extern "C" fn cheri_cap(word: CheriWord, tag: bool) -> CheriCap
 /// The capability with this address, where it is unsealed and its bounds stay; else its bits with this address.
 #[unsafe(no_mangle)]
 pub extern "C" fn cheri_set_address(cap: CheriCap, address: u64) -> CheriCap
-    ensures { meant result ≡ at_address (meant cap) address }
+    ensures { capability_of result ≡ at_address (capability_of cap) address }
 {
     outside(inside(cap).set_address(address))
 }
@@ -39,8 +39,8 @@ pub extern "C" fn cheri_set_address(cap: CheriCap, address: u64) -> CheriCap
 /// The capability with the bounds of `length` bytes from its address, rounded out, and whether rounding changed nothing.
 #[unsafe(no_mangle)]
 pub extern "C" fn cheri_set_bounds(cap: CheriCap, length: u64, exact: &mut bool) -> CheriCap
-    ensures value { meant result ≡ with_bounds (meant cap) length }
-    ensures exact { exact.new ≡ bounds_exact (meant cap) length }
+    ensures value { capability_of result ≡ with_bounds (capability_of cap) length }
+    ensures exact { exact.new ≡ bounds_exact (capability_of cap) length }
 {
     let (bounded, is_exact) = inside(cap).set_bounds(length);
     *exact = is_exact;
@@ -67,7 +67,7 @@ fn plain_of(fields: &CheriFields) -> Option<PlainCap>
 #[unsafe(no_mangle)]
 pub extern "C" fn cheri_compress(fields: &CheriFields, out: &mut CheriCap) -> bool
     ensures some { IsTrue result ↔ IsWellFormed (record_of fields.now) }
-    ensures value { IsTrue result → meant out.new ≡ Cap (record_of fields.now) }
+    ensures value { IsTrue result → capability_of out.new ≡ Cap (record_of fields.now) }
     ensures same { result ≡ false → out.new ≡ out.old }
 {
     match plain_of(fields) {

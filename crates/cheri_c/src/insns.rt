@@ -8,7 +8,7 @@ ghost use Rattle.isa_rows.specs.Kind.{kind_of};
 ghost use Rattle.cap_insns.specs.CapabilityRows.{row_value};
 ghost use Rattle.disassembler.specs.Shown.{shown_word};
 ghost use Rattle.word_cap.specs.WordCap.{word_value};
-ghost use Rattle.c_types.specs.Words.{meant};
+ghost use Rattle.c_types.specs.Words.{capability_of};
 ghost use Rattle.isa_rows.specs.declared.table.TheConstants.{ROWS as rows};
 ghost use Rattle.cheri_c.specs.Insns.{IsOf};
 
@@ -109,7 +109,7 @@ pub extern "C" fn cheri_execute(
     out: &mut CheriCap,
 ) -> bool
     ensures ok { (insn : Instruction) → IsInsn word insn → kind_of insn.row ≡ kind.Capability
-        → (result ≡ true) × (meant out.new ≡ row_value insn.row insn (meant cs1) (meant cs2) (meant ddc)) }
+        → (result ≡ true) × (capability_of out.new ≡ row_value insn.row insn (capability_of cs1) (capability_of cs2) (capability_of ddc)) }
     ensures only { result ≡ true → (insn : Instruction) × IsInsn word insn × (kind_of insn.row ≡ kind.Capability) }
     ensures same { result ≡ false → out.new ≡ out.old }
 {

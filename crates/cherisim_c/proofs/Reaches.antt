@@ -3,7 +3,7 @@ use Rattle.std.proofs.Common.{◌≡◌, ℕ, List, [], ◌∷◌, map, refl, sy
 use Rattle.std.proofs.lemmas.Bool.{false≢true}
 use Rattle.std.specs.Prelude.{Option, None, Some, IfSome, false}
 use Rattle.cap_bounds.specs.CapValue.{CapValue}
-use Rattle.debug_commands.specs.declared.command.May.{May}
+use Rattle.reach.specs.declared.may.May.{May}
 use Rattle.steps.specs.State.{State}
 use Rattle.reach.specs.Reach.{AreReachable, members_in}
 use Rattle.reach_texts.specs.Asked.{first_that, values_of}

@@ -15,7 +15,8 @@ use Rattle.steps.specs.Outcome.{Plain}
 use Rattle.steps.specs.Steps.{GoesBy}
 use Rattle.machine.specs.Run.{run_after, run_sent}
 use Rattle.cherisim_c.specs.declared.types.Asked.{Asked}
-use Rattle.cherisim_c.specs.Running.{stop_at, is_at_stop, is_tick_after, tick_after, end_code, run_from, run_events, steps_in}
+use Rattle.schedules.specs.Schedule.{steps_in, ticks_after}
+use Rattle.cherisim_c.specs.Running.{stop_at, is_at_stop, tick_after, end_code, run_from, run_events}
 use Rattle.cherisim_c.specs.Walks.{GoesOn, WalksOn, NoTicks, GoesOnFrom}
 
 -- ---- lists of events
@@ -42,11 +43,11 @@ steps_in-steps (suc n) = ap suc (steps_in-steps n)
 
 steps_in-tick : (a : Asked) (number : ℕ) (s : State) → steps_in (tick_after a number s) ≡ 0
 steps_in-tick a number s =
-    cond_both (is_tick_after a number && not (is_some s.devices.halted)) (Tick ∷ []) [] (λ es. steps_in es ≡ 0) (λ _. refl) (λ _. refl)
+    cond_both (ticks_after a.tick number && not (is_some s.devices.halted)) (Tick ∷ []) [] (λ es. steps_in es ≡ 0) (λ _. refl) (λ _. refl)
 
 run_sent-tick : (a : Asked) (number : ℕ) (s t : State) → run_sent (tick_after a number s) t ≡ []
 run_sent-tick a number s t =
-    cond_both (is_tick_after a number && not (is_some s.devices.halted)) (Tick ∷ []) [] (λ es. run_sent es t ≡ []) (λ _. refl) (λ _. refl)
+    cond_both (ticks_after a.tick number && not (is_some s.devices.halted)) (Tick ∷ []) [] (λ es. run_sent es t ≡ []) (λ _. refl) (λ _. refl)
 
 pub append-none : (xs : List ℕ) → xs ++ [] ≡ xs
 append-none [] = refl
@@ -177,7 +178,7 @@ begun : (a : Asked) (before left room : ℕ) (s : State) → stop_at a (suc left
     ≡ Step ∷ onward a (before + 1) left (room - length (option_to_list (sent Step s))) (after Step s)
 begun a before left room s go = rw go refl
 
-no-tick-here : (a : Asked) (number : ℕ) (s : State) → is_tick_after a number ≡ false → tick_after a number s ≡ []
+no-tick-here : (a : Asked) (number : ℕ) (s : State) → ticks_after a.tick number ≡ false → tick_after a number s ≡ []
 no-tick-here a number s none = rw none refl
 
 less-none : (room : ℕ) → room - length {A = ℕ} [] ≡ room
@@ -221,7 +222,7 @@ walked a (suc k) before (suc left) room s few none go on =
     quiet : option_to_list (sent Step s) ≡ []
     quiet = empty-first (option_to_list (sent Step s)) (run_sent (replicate k Step) t) whole
 
-    ticks : (j : ℕ) → 1 ≤ j → j < suc k → is_tick_after a (before + 1 + j) ≡ false
+    ticks : (j : ℕ) → 1 ≤ j → j < suc k → ticks_after a.tick (before + 1 + j) ≡ false
     ticks j some below =
         let sum : before + 1 + j ≡ before + suc j = omega arith in
         rw sum (none (suc j) (omega arith) (omega (arith, below)))

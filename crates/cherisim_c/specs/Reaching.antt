@@ -1,7 +1,7 @@
 -- What code can come to hold, and whether it may do something, as C gets it.
 use Rattle.std.specs.Prelude.{ℕ, true, false, Option, None, Some}
 use Rattle.cap_bounds.specs.CapValue.{CapValue}
-use Rattle.c_types.specs.Words.{meant}
+use Rattle.c_types.specs.Words.{capability_of}
 use Rattle.reached.specs.declared.member.Place.{Place}
 use Rattle.reached.specs.declared.member.Place.TheVariants.{Root, Special, Granule}
 use Rattle.reached.specs.Order.{Found}
@@ -16,7 +16,7 @@ pub record Shown : Type 0 where
   pub kind : ℕ
 
 abbrev pub shown_member : Member → Shown
-shown_member m = record { value = meant m.value; place = m.place; from = m.from; kind = m.kind }
+shown_member m = record { value = capability_of m.value; place = m.place; from = m.from; kind = m.kind }
 
 -- a register (0), a special register (1), or memory (2)
 abbrev pub kind_of : Place → ℕ

@@ -1,14 +1,15 @@
 -- Runs for C: the events that a run meets, and why it stops.
-use Rattle.std.specs.Prelude.{ℕ, zero, suc, ◌+◌, ◌-◌, ◌%◌, ◌==◌, ◌&&◌, not, Bool, true, false, if◌then◌else◌, List, [], ◌∷◌, ◌++◌, length}
+use Rattle.std.specs.Prelude.{ℕ, zero, suc, ◌+◌, ◌-◌, ◌==◌, ◌&&◌, not, Bool, true, false, if◌then◌else◌, List, [], ◌∷◌, ◌++◌, length}
 use Rattle.std.specs.Prelude.{Option, None, Some, is_some, option_to_list}
 use Rattle.steps.specs.declared.event.Event.{Event}
-use Rattle.steps.specs.declared.event.Event.TheVariants.{Step, Tick, Byte}
+use Rattle.steps.specs.declared.event.Event.TheVariants.{Step, Tick}
 use Rattle.steps.specs.declared.ends.Why.{Why}
 use Rattle.steps.specs.declared.ends.Why.TheVariants.{Trap, Unseal, SealedJump}
 use Rattle.steps.specs.Ends.{why_of}
 use Rattle.steps.specs.Event.{after, sent, outcome}
 use Rattle.steps.specs.State.{State, pc_of}
 use Rattle.machine.specs.Run.{run_after}
+use Rattle.schedules.specs.Schedule.{ticks_after}
 use Rattle.cherisim_c.specs.declared.types.Asked.{Asked}
 use Rattle.cherisim_c.specs.declared.types.Halted.{Halted}
 use Rattle.cherisim_c.specs.declared.types.Sent.{Sent}
@@ -40,13 +41,9 @@ stop_at a left room s =
     (if is_at_stop a s then Some 3 else
     (if a.at_end then end_code (why_of (outcome Step s)) else None))))
 
--- a tick comes after each step whose number is a multiple of the tick; at 0 there is none
-abbrev pub is_tick_after : Asked → ℕ → Bool
-is_tick_after a number = not (a.tick == 0) && (number % a.tick == 0)
-
 -- the tick after the step of this number, which left this state; none follows a step that halts the machine
 abbrev pub tick_after : Asked → ℕ → State → List Event
-tick_after a number s = if is_tick_after a number && not (is_some s.devices.halted) then Tick ∷ [] else []
+tick_after a number s = if ticks_after a.tick number && not (is_some s.devices.halted) then Tick ∷ [] else []
 
 -- the events of a run from a state on: the number of the last step before them, and how many steps and bytes it has left
 abbrev pub run_from : Asked → ℕ → ℕ → ℕ → State → List Event
@@ -60,13 +57,6 @@ run_from a before (suc left) room s =
 -- all events of a run into a buffer of so many bytes
 abbrev pub run_events : Asked → ℕ → State → List Event
 run_events a room s = run_from a a.before a.steps room s
-
--- how many of the events are steps
-abbrev pub steps_in : List Event → ℕ
-steps_in [] = 0
-steps_in (Step ∷ es) = suc (steps_in es)
-steps_in (Tick ∷ es) = steps_in es
-steps_in (Byte b ∷ es) = steps_in es
 
 -- the byte that a step sent, if it sent one, as C gets it; else 0
 abbrev pub sent_of : Option ℕ → Sent

@@ -6,7 +6,8 @@ use Rattle.steps.specs.Outcome.{Plain}
 use Rattle.steps.specs.State.{State}
 use Rattle.machine.specs.Run.{run_after, run_sent}
 use Rattle.cherisim_c.specs.declared.types.Asked.{Asked}
-use Rattle.cherisim_c.specs.Running.{is_at_stop, is_tick_after, run_from, steps_in}
+use Rattle.schedules.specs.Schedule.{steps_in, ticks_after}
+use Rattle.cherisim_c.specs.Running.{is_at_stop, run_from}
 
 -- a state that steps of a run go by: it runs, it is not at the address where the run stops, and where the run stops at ends its step is
 -- plain
@@ -22,7 +23,7 @@ pub record WalksOn (a : Asked) (count : ℕ) (s : State) : Type 0 where
 
 -- between so many steps after the step of a number comes no tick
 abbrev pub NoTicks : Asked → ℕ → ℕ → Type 0
-NoTicks a before count = (j : ℕ) → 1 ≤ j → j < count → is_tick_after a (before + j) ≡ false
+NoTicks a before count = (j : ℕ) → 1 ≤ j → j < count → ticks_after a.tick (before + j) ≡ false
 
 -- A run from a state goes on from the state after so many of its steps, with the tick after the last of them: what it comes to is the same.
 pub record GoesOnFrom (a : Asked) (before left room count : ℕ) (byte : Option ℕ) (s t : State) : Type 0 where

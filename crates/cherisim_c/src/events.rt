@@ -5,7 +5,8 @@ ghost use Rattle.steps.specs.declared.event.Event.TheVariants.{Step, Tick, Byte}
 ghost use Rattle.steps.specs.Event.{after, sent as sent_at};
 ghost use Rattle.machine.specs.Run.{run_after, run_sent};
 ghost use Rattle.cherisim_c.specs.Status.{no_machine};
-ghost use Rattle.cherisim_c.specs.Running.{run_events, steps_in, stop_at, sent_of};
+ghost use Rattle.schedules.specs.Schedule.{steps_in};
+ghost use Rattle.cherisim_c.specs.Running.{run_events, stop_at, sent_of};
 
 use crate::handle::Handle;
 use crate::running::run;

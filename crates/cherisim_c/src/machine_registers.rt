@@ -3,7 +3,7 @@
 ghost use Rattle.std.specs.Prelude.{◌≡◌, ℕ, ◌%◌, ◌<◌, ◌≤◌, slice_index_or, Some, None, IfSome, IsTrue, false};
 ghost use Rattle.base.specs.Registers.{is_scr, is_csr};
 ghost use Rattle.base.specs.declared.registers.scr.TheConstants.{PCC};
-ghost use Rattle.c_types.specs.Words.{meant};
+ghost use Rattle.c_types.specs.Words.{capability_of};
 ghost use Rattle.c_types.specs.declared.types.CheriCap.{CheriCap as Capability};
 ghost use Rattle.devices.specs.Devices.{interrupts_of};
 ghost use Rattle.steps.specs.Effect.{register_written};
@@ -33,7 +33,7 @@ pub extern "C" fn cherisim_reg(
     ensures state { machine.new.machine ≡ machine.old.machine }
     ensures closed { machine.old.machine ≡ None → result ≡ no_machine }
     ensures range { IfSome machine.old.machine (λ s. 32 ≤ n → result ≡ out_of_range) }
-    ensures ok { IfSome machine.old.machine (λ s. n < 32 → (result ≡ 0) × (meant value.new ≡ register s.registers n)) }
+    ensures ok { IfSome machine.old.machine (λ s. n < 32 → (result ≡ 0) × (capability_of value.new ≡ register s.registers n)) }
     ensures same { 1 ≤ result → value.new ≡ value.old }
 {
     match machine.take(alloc) {
@@ -53,7 +53,7 @@ pub extern "C" fn cherisim_reg(
 
 /// Copies what all general registers hold.
 fn copy_registers(machine: &Machine<WordCap>, values: &mut [CheriCap; 32])
-    ensures { (k : ℕ) (d : Capability) → k < 32 → meant (slice_index_or values.new k d) ≡ register machine.now.registers k }
+    ensures { (k : ℕ) (d : Capability) → k < 32 → capability_of (slice_index_or values.new k d) ≡ register machine.now.registers k }
 {
     for n in 0..32u8 {
         values[n as usize] = outside(machine.reg(n));
@@ -71,7 +71,7 @@ pub extern "C" fn cherisim_all_regs(
     ensures closed { machine.old.machine ≡ None → (result ≡ no_machine) × (values.new ≡ values.old) }
     ensures ok { IfSome machine.old.machine (λ s. result ≡ 0) }
     ensures values { IfSome machine.old.machine (λ s.
-        (k : ℕ) (d : Capability) → k < 32 → meant (slice_index_or values.new k d) ≡ register s.registers k) }
+        (k : ℕ) (d : Capability) → k < 32 → capability_of (slice_index_or values.new k d) ≡ register s.registers k) }
 {
     match machine.take(alloc) {
         Some(held) => {
@@ -94,7 +94,8 @@ pub extern "C" fn cherisim_scr(
     ensures state { machine.new.machine ≡ machine.old.machine }
     ensures closed { machine.old.machine ≡ None → result ≡ no_machine }
     ensures range { IfSome machine.old.machine (λ s. is_scr n ≡ false → result ≡ out_of_range) }
-    ensures ok { IfSome machine.old.machine (λ s. IsTrue (is_scr n) → (result ≡ 0) × (scr_value s.scrs n ≡ Some (meant value.new))) }
+    ensures ok { IfSome machine.old.machine
+        (λ s. IsTrue (is_scr n) → (result ≡ 0) × (scr_value s.scrs n ≡ Some (capability_of value.new))) }
     ensures same { 1 ≤ result → value.new ≡ value.old }
 {
     match machine.take(alloc) {
@@ -148,7 +149,7 @@ pub extern "C" fn cherisim_set_reg(
     ensures closed { machine.old.machine ≡ None → result ≡ no_machine }
     ensures range { IfSome machine.old.machine (λ s. 32 ≤ n → result ≡ out_of_range) }
     ensures ok { IfSome machine.old.machine (λ s. n < 32
-        → (result ≡ 0) × (machine.new.machine ≡ Some (register_written n (meant value) s))) }
+        → (result ≡ 0) × (machine.new.machine ≡ Some (register_written n (capability_of value) s))) }
     ensures same { 1 ≤ result → machine.new.machine ≡ machine.old.machine }
 {
     match machine.take(alloc) {
@@ -185,9 +186,10 @@ pub extern "C" fn cherisim_set_scr(
 ) -> u32
     ensures closed { machine.old.machine ≡ None → result ≡ no_machine }
     ensures range { IfSome machine.old.machine (λ s. 1 ≤ result → result ≡ out_of_range) }
-    ensures ok { IfSome machine.old.machine (λ s. IsTrue (is_scr n) → (n ≡ PCC → IsAligned (meant value)) → result ≡ 0) }
+    ensures ok { IfSome machine.old.machine (λ s. IsTrue (is_scr n) → (n ≡ PCC → IsAligned (capability_of value)) → result ≡ 0) }
     ensures state { IfSome machine.old.machine (λ s. result ≡ 0
-        → IsTrue (is_scr n) × (n ≡ PCC → IsAligned (meant value)) × (machine.new.machine ≡ Some (scr_set n (meant value) s))) }
+        → IsTrue (is_scr n) × (n ≡ PCC → IsAligned (capability_of value))
+        × (machine.new.machine ≡ Some (scr_set n (capability_of value) s))) }
     ensures same { 1 ≤ result → machine.new.machine ≡ machine.old.machine }
 {
     match machine.take(alloc) {

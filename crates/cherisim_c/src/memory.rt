@@ -2,7 +2,7 @@
 
 ghost use Rattle.std.specs.Prelude.{◌≡◌, ◌*◌, ◌≤◌, ◌-◌, ◌^◌, ℕ, List, Some, None, IfSome, IsSome, [], ◌∷◌, length};
 ghost use Rattle.base.specs.Ram.{page_bytes};
-ghost use Rattle.c_types.specs.Words.{meant};
+ghost use Rattle.c_types.specs.Words.{capability_of};
 ghost use Rattle.cap_bounds.specs.CapValue.{value_of};
 ghost use Rattle.hart.specs.Setting.{bytes_set, cap_set};
 ghost use Rattle.tagged_memory.specs.Memory.{fill_fault, place_fault, bytes_at, word_at, has_tag, tagged_between};
@@ -78,7 +78,7 @@ pub extern "C" fn cherisim_read(
 /// The capability or the data in a granule, where the address is one.
 fn granule(machine: &Machine<WordCap>, address: u64, value: &mut CheriCap) -> u32
     ensures ok { place_fault machine.now.memory address 16 ≡ None
-        → (result ≡ 0) × (meant value.new ≡ value_of (word_at machine.now.memory address) (has_tag machine.now.memory address)) }
+        → (result ≡ 0) × (capability_of value.new ≡ value_of (word_at machine.now.memory address) (has_tag machine.now.memory address)) }
     ensures range { IfSome (place_fault machine.now.memory address 16) (λ fault. (result ≡ out_of_range) × (value.new ≡ value.old)) }
 {
     match machine.memory().read_cap(address) {
@@ -101,7 +101,7 @@ pub extern "C" fn cherisim_read_cap(
     ensures state { machine.new.machine ≡ machine.old.machine }
     ensures closed { machine.old.machine ≡ None → (result ≡ no_machine) × (value.new ≡ value.old) }
     ensures ok { IfSome machine.old.machine (λ s. place_fault s.memory address 16 ≡ None
-        → (result ≡ 0) × (meant value.new ≡ value_of (word_at s.memory address) (has_tag s.memory address))) }
+        → (result ≡ 0) × (capability_of value.new ≡ value_of (word_at s.memory address) (has_tag s.memory address))) }
     ensures range { IfSome machine.old.machine (λ s. IfSome (place_fault s.memory address 16) (λ fault.
         (result ≡ out_of_range) × (value.new ≡ value.old))) }
 {
@@ -192,7 +192,7 @@ pub extern "C" fn cherisim_write_cap(
 ) -> u32
     ensures closed { machine.old.machine ≡ None → (result ≡ no_machine) × (machine.new.machine ≡ None) }
     ensures ok { IfSome machine.old.machine (λ s. place_fault s.memory address 16 ≡ None
-        → (result ≡ 0) × (machine.new.machine ≡ Some (cap_set address (meant value) s))) }
+        → (result ≡ 0) × (machine.new.machine ≡ Some (cap_set address (capability_of value) s))) }
     ensures range { IfSome machine.old.machine (λ s. IfSome (place_fault s.memory address 16) (λ fault.
         (result ≡ out_of_range) × (machine.new.machine ≡ Some s))) }
 {

@@ -2,13 +2,14 @@
 
 ghost use Rattle.std.specs.Prelude.{◌≡◌, ◌⊎◌, ◌≤◌, ◌<◌, None, IfSome, IfOk, List, [], false, length, map, take};
 ghost use Rattle.authority.specs.Authority.{SameScrs, SameCsrs};
-ghost use Rattle.debug_commands.specs.declared.command.May.TheVariants.{Store, Load, Execute, Learn, Send, Halt, System, Timer, Hold};
+ghost use Rattle.reach.specs.declared.may.May.TheVariants.{Store, Load, Execute, Learn, Keep, Send, Halt, System, Timer, Hold};
+ghost use Rattle.authority.specs.Reachable.{IsReachable};
 ghost use Rattle.devices.specs.Devices.{mtimecmp};
 ghost use Rattle.steps.specs.declared.event.Event.{Event};
 ghost use Rattle.steps.specs.State.{State};
 ghost use Rattle.machine.specs.Run.{run_after, run_sent};
 ghost use Rattle.machine.specs.Stretch.{ArePlain, IsPlainRun, IsTwin};
-ghost use Rattle.reach.specs.Differs.{KeepsBytes, DiffersWithin};
+ghost use Rattle.reach.specs.Differs.{KeepsBytes, KeepsNoLoan, DiffersWithin};
 ghost use Rattle.reach.specs.Reach.{AreReachable, members_in};
 ghost use Rattle.reach_texts.specs.Asked.{first_that, values_of};
 ghost use Rattle.reached.specs.Order.{seen_member, seen_members};
@@ -21,11 +22,13 @@ use crate::status::{FULL, NO_MACHINE, NO_MEMORY, OK};
 use crate::types::{Answer, Member};
 use c_types::outside;
 use cap_bounds::CapRep;
-use debug_commands::May;
 use machine::Machine;
-use reach::Reach;
+use reach::{May, Reach};
 use reach_texts::first_that;
-use reach_texts::laws::{what_code_may_not_do_is_not_done, what_code_may_not_learn_is_not_learned};
+use reach_texts::laws::{
+    what_code_may_not_do_is_not_done, what_code_may_not_keep_is_not_kept,
+    what_code_may_not_learn_is_not_learned,
+};
 use reached::{Member as Found, Place};
 use std::alloc::{AllocError, Global};
 use word_cap::WordCap;
@@ -281,6 +284,29 @@ pub extern "C" fn cherisim_may_learn(
 {
     what_code_may_not_learn_is_not_learned();
     ask(alloc, machine, May::Learn { address, count }, answer)
+}
+
+/// Whether the code may keep what is lent without Global in a granule with some of `count` bytes from an address on. Where not, over a
+/// plain run none of these granules comes to hold it.
+#[unsafe(no_mangle)]
+pub extern "C" fn cherisim_may_keep(
+    alloc: Global,
+    machine: &mut Handle,
+    address: u64,
+    count: u64,
+    answer: &mut Answer,
+) -> u32
+    ensures state { machine.new.machine ≡ machine.old.machine }
+    ensures closed { machine.old.machine ≡ None → result ≡ no_machine }
+    ensures ok { IfSome machine.old.machine (λ s. result ≡ 0
+        → answer.new ≡ answer_of (first_that (Keep address count) (members_in s))) }
+    ensures law { IfSome machine.old.machine (λ s. result ≡ 0 → answer.new.may ≡ false → (events : List Event) → IsPlainRun events s
+        → KeepsNoLoan (IsReachable s) s.memory (run_after events s).memory address count) }
+    ensures same { 1 ≤ result → answer.new ≡ answer.old }
+    ensures only { IfSome machine.old.machine (λ s. (result ≡ 0) ⊎ (result ≡ no_memory)) }
+{
+    what_code_may_not_keep_is_not_kept();
+    ask(alloc, machine, May::Keep { address, count }, answer)
 }
 
 /// Whether the code may send a byte on the console. Where not, a plain run sends nothing.

@@ -6,7 +6,8 @@ ghost use Rattle.steps.specs.declared.event.Event.TheVariants.{Step};
 ghost use Rattle.steps.specs.Ends.{why_of};
 ghost use Rattle.steps.specs.State.{pc_of};
 ghost use Rattle.machine.specs.Run.{run_after, run_sent};
-ghost use Rattle.cherisim_c.specs.Running.{stop_at, is_at_stop, is_tick_after, tick_after, end_code, run_events, steps_in};
+ghost use Rattle.schedules.specs.Schedule.{steps_in, ticks_after};
+ghost use Rattle.cherisim_c.specs.Running.{stop_at, is_at_stop, tick_after, end_code, run_events};
 ghost use Rattle.cherisim_c.specs.Walks.{WalksOn, NoTicks, GoesOnFrom};
 
 use crate::types::{Asked, Ran};
@@ -73,7 +74,7 @@ fn stop_of(machine: &Machine<WordCap>, asked: &Asked, left: u64, room: usize) ->
 
 /// Whether a tick comes after the step of this number.
 fn is_tick_after(asked: &Asked, number: u128) -> bool
-    ensures { result ≡ is_tick_after asked.now number }
+    ensures { result ≡ ticks_after asked.now.tick number }
 {
     asked.tick != 0 && number % u128::from(asked.tick) == 0
 }

@@ -238,7 +238,7 @@ scheduled : (plan : Plan)
     → IfSome (lines_named (name_of plan) commands) (λ lines. AllZip (λ line said. KeepsLimits line.takes said) lines (said plan))
     → IsScheduled plan
 unfolding commands
-scheduled (Run image steps times gap tick input quiet why trace from last policy symbols) k = record {
+scheduled (Run request why) k = record {
   some_step = k.1.0.0;
   most_steps = k.1.0.1;
   some_times = k.1.1.0.0;
@@ -247,7 +247,7 @@ scheduled (Run image steps times gap tick input quiet why trace from last policy
   most_gap = k.1.1.1.1.0.1;
   most_tick = k.1.1.1.1.1.0.1;
 }
-scheduled (Audit image steps times gap tick input quiet trace from last policy symbols) k = record {
+scheduled (Audit request) k = record {
   some_step = k.1.0.0;
   most_steps = k.1.0.1;
   some_times = k.1.1.0.0;

@@ -2,7 +2,7 @@
 //! code, and a table that says something else is refused here.
 
 ghost use Rattle.std.specs.Prelude.{◌≡◌, ◌∷◌, [], codes, Some, None};
-ghost use Rattle.command_line.specs.CommandLine.{argument, commands, entry, run_limits};
+ghost use Rattle.command_line.specs.CommandLine.{argument, commands, entry, run_limits, run_lines};
 ghost use Rattle.command_line.specs.declared.table.Stands.TheVariants.{Operand, Optional, Named, Flag, FlagOrAll};
 ghost use Rattle.command_line.specs.declared.table.Takes.TheVariants.{Nothing, Ends, Read, Written, Count, Start, Number};
 
@@ -55,4 +55,19 @@ pub fn commands_and_arguments()
 pub fn limits_of_a_run()
     ensures { run_limits ≡ (codes "STEPS", (1, 100000000)) ∷ (codes "times", (1, 1000000)) ∷ (codes "gap", (1, 1000000))
         ∷ (codes "tick", (0, 1000000)) ∷ [] }
+{}
+
+/// The arguments that `run` and `audit` share, as the table has them.
+#[tactic(auto, unfolding(crate::specs::CommandLine::run_lines))]
+pub fn arguments_of_a_run()
+    ensures { run_lines ≡ (argument (codes "IMAGE") Operand Read None)
+        ∷ argument (codes "STEPS") Operand (Count 1 100000000) None
+        ∷ argument (codes "times") Named (Count 1 1000000) (Some (codes "1"))
+        ∷ argument (codes "input") Named Read None
+        ∷ argument (codes "gap") Named (Count 1 1000000) (Some (codes "1000"))
+        ∷ argument (codes "tick") Named (Count 0 1000000) (Some (codes "100"))
+        ∷ argument (codes "quiet") Flag Nothing None ∷ argument (codes "trace") Named Written None
+        ∷ argument (codes "trace-from") Named (Start 1 100000000000000) None
+        ∷ argument (codes "trace-last") Named (Count 1 1000000) None ∷ argument (codes "policy") Named Read None
+        ∷ argument (codes "symbols") Named Read None ∷ [] }
 {}

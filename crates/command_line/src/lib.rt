@@ -14,5 +14,5 @@ mod values;
 
 pub use fault::PlanFault;
 pub use layout::Layout;
-pub use plans::{Plan, Why};
+pub use plans::{Plan, RunRequest, Why};
 pub use reading::plan;

@@ -9,6 +9,35 @@ pub enum Why {
     All,
 }
 
+/// A run of an image that is asked for.
+#[derive(Clone, Copy, Debug, PartialEq, Eq)]
+pub struct RunRequest<'a> {
+    /// The file with the image.
+    pub image: &'a str,
+    /// The most steps that are done, where `times` is 1: 1 to 100000000.
+    pub steps: u64,
+    /// How many times as many are done at most, 1 to 1000000.
+    pub times: u64,
+    /// Steps from one byte of the input to the next, 1 to 1000000.
+    pub gap: u64,
+    /// Steps from one tick of the timer to the next, at most 1000000; at 0 there is no tick.
+    pub tick: u64,
+    /// The file whose bytes come on the console, if one is named.
+    pub input: Option<&'a str>,
+    /// Whether the lines that say where a run ended are left out, and of an audit all that it tells.
+    pub quiet: bool,
+    /// The file that a line for each step is written to, if one is named.
+    pub trace: Option<&'a str>,
+    /// The first step that has a line there, 1 to 100000000000000.
+    pub trace_from: u64,
+    /// How many of the lines are left there in the end, the last ones, 1 to 1000000; else all are.
+    pub trace_last: Option<u64>,
+    /// The file with the policy that the run keeps to or is audited by, if one is named.
+    pub policy: Option<&'a str>,
+    /// The file with labels, if one is named: they stand after the addresses that are told, and the policy may name them.
+    pub symbols: Option<&'a str>,
+}
+
 /// What the command line asks for.
 #[derive(Clone, Copy, Debug, PartialEq, Eq)]
 pub enum Plan<'a> {
@@ -36,60 +65,13 @@ pub enum Plan<'a> {
     },
     /// Run an image.
     Run {
-        /// The file with the image.
-        image: &'a str,
-        /// The most steps that are done, where `times` is 1: 1 to 100000000.
-        steps: u64,
-        /// How many times as many are done at most, 1 to 1000000.
-        times: u64,
-        /// Steps from one byte of the input to the next, 1 to 1000000.
-        gap: u64,
-        /// Steps from one tick of the timer to the next, at most 1000000; at 0 there is no tick.
-        tick: u64,
-        /// The file whose bytes come on the console, if one is named.
-        input: Option<&'a str>,
-        /// Whether the lines that say where a run ended are left out.
-        quiet: bool,
-        /// Which ends are explained, if any.
+        /// Which run.
+        request: RunRequest<'a>,
+        /// Which ends are explained, if any; with a policy none is.
         why: Option<Why>,
-        /// The file that a line for each step is written to, if one is named.
-        trace: Option<&'a str>,
-        /// The first step that has a line there, 1 to 100000000000000.
-        trace_from: u64,
-        /// How many of the lines are left there in the end, the last ones, 1 to 1000000; else all are.
-        trace_last: Option<u64>,
-        /// The file with the policy that the run keeps to, if one is named; then no end is explained.
-        policy: Option<&'a str>,
-        /// The file with labels, if one is named: they stand after the addresses that are told, and the policy may name them.
-        symbols: Option<&'a str>,
     },
     /// List what breaks a policy in a run of an image, or the policy that the run keeps to.
-    Audit {
-        /// The file with the image.
-        image: &'a str,
-        /// The most steps that are done, where `times` is 1: 1 to 100000000.
-        steps: u64,
-        /// How many times as many are done at most, 1 to 1000000.
-        times: u64,
-        /// Steps from one byte of the input to the next, 1 to 1000000.
-        gap: u64,
-        /// Steps from one tick of the timer to the next, at most 1000000; at 0 there is no tick.
-        tick: u64,
-        /// The file whose bytes come on the console, if one is named.
-        input: Option<&'a str>,
-        /// Nothing is told: the status alone says whether something is broken.
-        quiet: bool,
-        /// The file that a line for each step is written to, if one is named.
-        trace: Option<&'a str>,
-        /// The first step with a line there, counted from 1.
-        trace_from: u64,
-        /// How many of the lines are left there in the end, the last ones, 1 to 1000000; else all are.
-        trace_last: Option<u64>,
-        /// The file with the policy, if one is named.
-        policy: Option<&'a str>,
-        /// The file with labels, if one is named: they stand after the addresses that are told, and the policy may name them.
-        symbols: Option<&'a str>,
-    },
+    Audit(RunRequest<'a>),
     /// List an image.
     Dis {
         /// The file with the image.

@@ -1,17 +1,17 @@
 //! The plan that a command line asks for.
 
-ghost use Rattle.std.specs.Prelude.{◌≡◌, List, IsTrue, Option, IfOk, IfErr, OnOk, Some, map, option_map, codes, if◌then◌else◌, None};
+ghost use Rattle.std.specs.Prelude.{◌≡◌, List, [], IsTrue, Option, IfOk, IfErr, OnOk, Some, map, option_map, codes, if◌then◌else◌, None};
 ghost use Rattle.std.specs.List.{list_all};
 ghost use Rattle.clap.specs.Words.{first_of, found_of, rows_of, kind_of, subcommand_rows_of};
 ghost use Rattle.clap.specs.declared.error.kind.ErrorKind.{ErrorKind};
 ghost use Rattle.command_line.specs.CommandLine.{found_in, IsSound, IsTaken, IsPlanOf, NoPlanFits, asks_all, may_stand, line_of, entry_of};
 ghost use Rattle.command_line.specs.CommandLine.{Said, AreFit, AreSaid, HasAll, Says, lines_named, commands, files_found, NothingStands};
-ghost use Rattle.command_line.specs.CommandLine.{are_apart, are_two, have_one_name, is_file, is_written};
+ghost use Rattle.command_line.specs.CommandLine.{are_apart, are_two, have_one_name, is_file, is_written, run_lines, said_of_run};
 ghost use Rattle.command_line.specs.declared.fault.PlanFault.TheVariants.{Memory};
 
 use crate::fault::PlanFault;
 use crate::layout::Layout;
-use crate::plans::Plan;
+use crate::plans::{Plan, RunRequest};
 use crate::program::program;
 use crate::table::*;
 use crate::values::{
@@ -189,12 +189,12 @@ fn image_plan<'a>(found: &ArgMatches<'a>) -> Plan<'a>
     }
 }
 
-#[tactic(auto, unfolding(crate::specs::CommandLine::commands))]
-fn run_plan<'a>(found: &ArgMatches<'a>) -> Plan<'a>
-    requires { HasAll (codes "run") (rows_of (found_of found.now)) }
-    ensures { Says (codes "run") (rows_of (found_of found.now)) result }
+/// The run that the arguments ask for which `run` and `audit` share.
+fn run_request<'a>(found: &ArgMatches<'a>) -> RunRequest<'a>
+    requires { AreFit (rows_of (found_of found.now)) run_lines }
+    ensures { AreSaid (rows_of (found_of found.now)) run_lines (said_of_run result []) }
 {
-    Plan::Run {
+    RunRequest {
         image: operand(found, &IMAGE),
         steps: amount(found, &STEPS),
         times: amount(found, &TIMES),
@@ -202,7 +202,6 @@ fn run_plan<'a>(found: &ArgMatches<'a>) -> Plan<'a>
         tick: amount(found, &RUN_TICK),
         input: file(found, &INPUT),
         quiet: flag(found, &STATUS),
-        why: ends(found, &WHY),
         trace: file(found, &TRACE),
         trace_from: amount(found, &TRACE_FROM),
         trace_last: number(found, &TRACE_LAST),
@@ -212,24 +211,22 @@ fn run_plan<'a>(found: &ArgMatches<'a>) -> Plan<'a>
 }
 
 #[tactic(auto, unfolding(crate::specs::CommandLine::commands))]
+fn run_plan<'a>(found: &ArgMatches<'a>) -> Plan<'a>
+    requires { HasAll (codes "run") (rows_of (found_of found.now)) }
+    ensures { Says (codes "run") (rows_of (found_of found.now)) result }
+{
+    Plan::Run {
+        request: run_request(found),
+        why: ends(found, &WHY),
+    }
+}
+
+#[tactic(auto, unfolding(crate::specs::CommandLine::commands))]
 fn audit_plan<'a>(found: &ArgMatches<'a>) -> Plan<'a>
     requires { HasAll (codes "audit") (rows_of (found_of found.now)) }
     ensures { Says (codes "audit") (rows_of (found_of found.now)) result }
 {
-    Plan::Audit {
-        image: operand(found, &IMAGE),
-        steps: amount(found, &STEPS),
-        times: amount(found, &TIMES),
-        gap: amount(found, &RUN_GAP),
-        tick: amount(found, &RUN_TICK),
-        input: file(found, &INPUT),
-        quiet: flag(found, &STATUS),
-        trace: file(found, &TRACE),
-        trace_from: amount(found, &TRACE_FROM),
-        trace_last: number(found, &TRACE_LAST),
-        policy: file(found, &POLICY),
-        symbols: file(found, &RUN_LABELS),
-    }
+    Plan::Audit(run_request(found))
 }
 
 #[tactic(auto, unfolding(crate::specs::CommandLine::commands))]

@@ -56,6 +56,16 @@ abbrev pub IsTable : Option (Bor Text) → Option (List File) → List Symbol �
 IsTable None files symbols = symbols ≡ []
 IsTable (Some name) files symbols = IfSome (bytes_of name.now files) (λ text. (faulty_line text ≡ None) × (symbols ≡ symbols_of text))
 
+-- What a command changes, where that is known: what an output holds, and what became of files, before and after.
+pub record Change : Type 0 where
+  pub sent : Option (List ℕ)
+  pub out : Option (List ℕ)
+  pub old : Option (List File)
+  pub new : Option (List File)
+
+abbrev pub changed : Option (List ℕ) → Option (List ℕ) → Option (List File) → Option (List File) → Change
+changed sent out old new = record { sent = sent; out = out; old = old; new = new }
+
 -- a fault of the system, its devices or its memory, and none of what was read
 abbrev pub IsOfSystem : ProgramFault → Type 0
 IsOfSystem (NoFile name kind) = ⊤

@@ -4,6 +4,7 @@ pub mod Assembling
 pub mod Imaging
 pub mod Bounding
 pub mod Listing
+pub mod Loading
 pub mod Running
 pub mod Debugging
 pub mod Watching

@@ -3,6 +3,7 @@ use Rattle.std.specs.Prelude.{◌≡◌, Bool, false, ◌||◌, Option, Some, No
 use Rattle.std.specs.Borrow.{Bor}
 use Rattle.command_line.specs.declared.plans.Plan.{Plan}
 use Rattle.command_line.specs.declared.plans.Plan.TheVariants.{Asm, Image, Run, Audit}
+use Rattle.command_line.specs.declared.plans.RunRequest.{RunRequest}
 use Rattle.commands.specs.Files.{Text}
 
 -- whether two names lead to one file
@@ -14,15 +15,19 @@ are_same same None other = false
 are_same same (Some name) None = false
 are_same same (Some name) (Some other) = same name.now other.now
 
+-- the trace of a run is written over a file that is read for it
+abbrev pub traces_over : Sameness → RunRequest → Bool
+traces_over same run =
+    (are_same same run.trace (Some run.image) || are_same same run.trace run.input)
+    || (are_same same run.trace run.policy || are_same same run.trace run.symbols)
+
 -- a file that is written is another file of the command
 abbrev pub overwrites : Sameness → Plan → Bool
 overwrites same (Asm input output symbols quiet) =
     (same output.now input.now || are_same same symbols (Some input)) || are_same same symbols (Some output)
 overwrites same (Image flat output layout quiet) = same output.now flat.now
-overwrites same (Run image steps times gap tick input quiet why trace trace_from trace_last policy symbols) =
-    (are_same same trace (Some image) || are_same same trace input) || (are_same same trace policy || are_same same trace symbols)
-overwrites same (Audit image steps times gap tick input quiet trace trace_from trace_last policy symbols) =
-    (are_same same trace (Some image) || are_same same trace input) || (are_same same trace policy || are_same same trace symbols)
+overwrites same (Run request why) = traces_over same request
+overwrites same (Audit request) = traces_over same request
 overwrites same other = false
 
 -- the same where it is known which names lead to one file

@@ -1,13 +1,13 @@
 //! A command line carried out, and the status that it ends with.
 
 ghost use Rattle.command_line.specs.CommandLine.{AreInRange, IsSound};
-ghost use Rattle.std.specs.Prelude.{◌≡◌, ◌≤◌, ◌*◌, ◌⊎◌, Some, false, true, map, IfOk, IfSome};
+ghost use Rattle.std.specs.Prelude.{◌≡◌, ◌≤◌, ◌⊎◌, Some, false, true, map, IfOk};
 ghost use Rattle.std.specs.Io.KnownBytes.{Appends};
-ghost use Rattle.schedules.specs.Schedule.{IsRunnable};
 ghost use Rattle.sim_run.specs.Verdict.{status_of as status_of_run};
-ghost use Rattle.commands.specs.Carrying.{HasStatus, IsCarriedOut, IsKept, IsRefused, RunsBy, asks_version, status_of_done, version_line};
-ghost use Rattle.commands.specs.Files.{bytes_of};
+ghost use Rattle.commands.specs.Carrying.{HasStatus, IsCarriedOut, IsKept, IsRefused, asks_version, status_of_done, version_line};
+ghost use Rattle.commands.specs.Files.{changed};
 ghost use Rattle.commands.specs.Overwriting.{Overwrites};
+ghost use Rattle.commands.specs.Watching.{RunsFile};
 
 use crate::assembling::assemble_file;
 use crate::auditing::audit_file;
@@ -17,12 +17,12 @@ use crate::fault::ProgramFault;
 use crate::files::Folder;
 use crate::imaging::image_file;
 use crate::listing::list_file;
+use crate::loading::load;
 use crate::overwriting::overwrites;
-use crate::running::{Ended, Kept, run_file, run_first, stop_at};
-use crate::watching::watch_file;
-use command_line::{Plan, PlanFault, plan};
+use crate::running::{Ended, run_first, stop_at};
+use crate::watching::run_loaded;
+use command_line::{Plan, PlanFault, RunRequest, plan};
 use image::DeviceFailed;
-use schedules::Schedule;
 use sim_run::{StopAt, verdict};
 use std::alloc::Global;
 use std::io::{Read, Write};
@@ -95,53 +95,28 @@ fn is_quiet(plan: Plan<'_>) -> bool {
     match plan {
         Plan::Asm { quiet, .. }
         | Plan::Image { quiet, .. }
-        | Plan::Run { quiet, .. }
-        | Plan::Audit { quiet, .. }
         | Plan::Dis { quiet, .. }
         | Plan::Debug { quiet, .. } => quiet,
+        Plan::Run { request, .. } | Plan::Audit(request) => request.quiet,
         Plan::Bounds { .. } | Plan::Word { .. } | Plan::First => false,
     }
 }
 
-/// The schedule of a run, whose numbers lie in their ranges.
-fn schedule_of(steps: u64, times: u64, gap: u64, tick: u64) -> Schedule
-    requires { AreInRange steps times gap tick }
-    ensures some_step { 1 ≤ result.steps }
-    ensures range { IsRunnable result }
-    ensures value { result ≡ record { steps = steps * times; gap = gap; tick = tick } }
-{
-    let steps = steps * times;
-    Schedule { steps, gap, tick }
-}
-
-/// Runs the image of a file, watched by a policy if one is named; else it ends before the trap that it is to stop `at`, if any.
-fn run_by<'a, F: Folder, O: Write + Drop>(
+/// Runs the image of a file as it is asked for. It ends before the trap that it is to stop `at`, if any. Hands the output back.
+fn run_file<'a, F: Folder, O: Write + Drop>(
     alloc: Global,
     folder: &mut F,
-    image: &'a str,
-    policy: Option<&'a str>,
-    symbols: Option<&'a str>,
+    request: RunRequest<'a>,
     at: Option<StopAt>,
-    schedule: Schedule,
-    input: Option<&'a str>,
-    quiet: bool,
-    trace: Option<&'a str>,
-    kept: Kept,
     output: O,
 ) -> Result<(Ended, O), ProgramFault<'a>>
-    requires some_step { 1 ≤ schedule.steps }
-    requires range { IsRunnable schedule }
-    ensures { IfOk result (λ done. IfSome (bytes_of image.entry.now (F.files folder.old)) (λ bytes.
-        RunsBy policy.entry symbols.entry at schedule input.entry quiet bytes trace.entry kept (F.files folder.old)
-        (F.files folder.new) done.0 (O.contents output) (O.contents done.1))) }
+    requires { AreInRange request }
+    ensures { IfOk result (λ done. RunsFile request.entry at done.0
+        (changed (O.contents output) (O.contents done.1) (F.files folder.old) (F.files folder.new))) }
 {
-    match policy {
-        None => run_file(
-            alloc, folder, image, symbols, at, schedule, input, quiet, trace, kept, output,
-        ),
-        Some(policy) => watch_file(
-            alloc, folder, image, policy, symbols, schedule, input, quiet, trace, kept, output,
-        ),
+    match load(alloc, folder, request) {
+        Ok(run) => run_loaded(alloc, folder, &run, at, output),
+        Err(fault) => Err(fault),
     }
 }
 
@@ -154,72 +129,20 @@ fn carry_out<'a, F: Folder, I: Read + Drop, O: Write + Drop>(
     plan: Plan<'a>,
 ) -> Result<(Done, O), ProgramFault<'a>>
     requires { IsSound plan }
-    ensures { IfOk result (λ done. HasStatus plan.entry (I.remaining input) (O.contents output) (O.contents done.1) (F.files folder.old)
-        (F.files folder.new) (status_of_done done.0)) }
+    ensures { IfOk result (λ done. HasStatus plan.entry (I.remaining input)
+        (changed (O.contents output) (O.contents done.1) (F.files folder.old) (F.files folder.new)) (status_of_done done.0)) }
 {
     match plan {
         Plan::First => {
             let (ended, output) = run_first(alloc, output)?;
             Ok((Done::Run(ended), output))
         }
-        Plan::Run {
-            image,
-            steps,
-            times,
-            gap,
-            tick,
-            input,
-            quiet,
-            why,
-            trace,
-            trace_from,
-            trace_last,
-            policy,
-            symbols,
-        } => {
-            let schedule = schedule_of(steps, times, gap, tick);
-            let at = stop_at(why);
-            let kept = Kept {
-                from: trace_from,
-                last: trace_last,
-            };
-            let (ended, output) = run_by(
-                alloc, folder, image, policy, symbols, at, schedule, input, quiet, trace, kept,
-                output,
-            )?;
+        Plan::Run { request, why } => {
+            let (ended, output) = run_file(alloc, folder, request, stop_at(why), output)?;
             Ok((Done::Run(ended), output))
         }
-        Plan::Audit {
-            image,
-            steps,
-            times,
-            gap,
-            tick,
-            input,
-            quiet,
-            trace,
-            trace_from,
-            trace_last,
-            policy,
-            symbols,
-        } => {
-            let kept = Kept {
-                from: trace_from,
-                last: trace_last,
-            };
-            let (count, output) = audit_file(
-                alloc,
-                folder,
-                image,
-                policy,
-                symbols,
-                schedule_of(steps, times, gap, tick),
-                input,
-                quiet,
-                trace,
-                kept,
-                output,
-            )?;
+        Plan::Audit(request) => {
+            let (count, output) = audit_file(alloc, folder, request, output)?;
             Ok((Done::Audit(count), output))
         }
         Plan::Asm {
@@ -299,8 +222,8 @@ fn carry<'a, F: Folder, I: Read + Drop, O: Write + Drop, E: Write>(
 ) -> Answer<O>
     requires { IsSound plan }
     ensures done { result.status ≤ 1 → (out : O) × (result.output ≡ Some out)
-        × HasStatus plan.entry (I.remaining input) (O.contents output) (O.contents out) (F.files folder.old) (F.files folder.new)
-        result.status }
+        × HasStatus plan.entry (I.remaining input)
+        (changed (O.contents output) (O.contents out) (F.files folder.old) (F.files folder.new)) result.status }
     ensures otherwise { (result.status ≤ 1) ⊎ (result.status ≡ 3) }
 {
     match carry_out(alloc, folder, input, output, plan) {
@@ -333,8 +256,8 @@ fn carry_apart<'a, F: Folder, I: Read + Drop, O: Write + Drop, E: Write>(
 ) -> Answer<O>
     requires { IsSound plan }
     ensures done { result.status ≤ 1 → (out : O) × (result.output ≡ Some out)
-        × HasStatus plan.entry (I.remaining input) (O.contents output) (O.contents out) (F.files folder.old) (F.files folder.new)
-        result.status }
+        × HasStatus plan.entry (I.remaining input)
+        (changed (O.contents output) (O.contents out) (F.files folder.old) (F.files folder.new)) result.status }
     ensures apart { result.status ≤ 1 → Overwrites (F.same folder.old) plan.entry false }
     ensures refused { result.status ≡ 2
         → Overwrites (F.same folder.old) plan.entry true × (F.files folder.new ≡ F.files folder.old) }
@@ -423,7 +346,7 @@ pub fn status_of<F: Folder, I: Read + Drop, O: Write + Drop, E: Write>(
     // At 0 and 1 a plan that the words are was carried out wholly.
     ensures done { asks_version (map (λ word. word.now) words.entry.now) ≡ false → result.status ≤ 1
         → (out : O) × (result.output ≡ Some out) × IsCarriedOut (map (λ word. word.now) words.entry.now) (F.same folder.old)
-        (I.remaining input) (O.contents output) (O.contents out) (F.files folder.old) (F.files folder.new) result.status }
+        (I.remaining input) (changed (O.contents output) (O.contents out) (F.files folder.old) (F.files folder.new)) result.status }
     // At 2 clap doesn't take the words, or finds no sound plan in them, or a file would be written over another of the command.
     ensures refused { result.status ≡ 2 → IsRefused (map (λ word. word.now) words.entry.now)
         ⊎ IsKept (map (λ word. word.now) words.entry.now) (F.same folder.old) (F.files folder.old) (F.files folder.new) }

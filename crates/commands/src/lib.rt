@@ -10,6 +10,7 @@ mod fault;
 mod files;
 mod imaging;
 mod listing;
+mod loading;
 mod overwriting;
 mod running;
 mod watching;

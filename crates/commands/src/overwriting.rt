@@ -1,10 +1,10 @@
 //! Commands that would write a file over another of their own.
 
 ghost use Rattle.std.specs.Prelude.{◌≡◌, IfSome};
-ghost use Rattle.commands.specs.Overwriting.{Overwrites, are_same};
+ghost use Rattle.commands.specs.Overwriting.{Overwrites, are_same, traces_over};
 
 use crate::files::Folder;
-use command_line::Plan;
+use command_line::{Plan, RunRequest};
 
 /// Whether two names lead to one file, where both are given.
 fn are_same<F: Folder>(folder: &F, name: Option<&str>, other: Option<&str>) -> bool
@@ -17,6 +17,17 @@ fn are_same<F: Folder>(folder: &F, name: Option<&str>, other: Option<&str>) -> b
             Some(other) => folder.is_same(name, other),
         },
     }
+}
+
+/// Whether the trace of a run is written over a file that is read for it.
+fn traces_over<F: Folder>(folder: &F, run: RunRequest<'_>) -> bool
+    ensures { IfSome (F.same folder.now) (λ same. result ≡ traces_over same run.entry) }
+{
+    let over_image = are_same(folder, run.trace, Some(run.image));
+    let over_input = are_same(folder, run.trace, run.input);
+    let over_policy = are_same(folder, run.trace, run.policy);
+    let over_labels = are_same(folder, run.trace, run.symbols);
+    (over_image || over_input) || (over_policy || over_labels)
 }
 
 /// Whether a file that a command writes is another of its own, under whichever names.
@@ -36,28 +47,7 @@ pub fn overwrites<F: Folder>(folder: &F, plan: Plan<'_>) -> bool
             text || labels || image
         }
         Plan::Image { flat, output, .. } => folder.is_same(output, flat),
-        Plan::Run {
-            image,
-            input,
-            trace,
-            policy,
-            symbols,
-            ..
-        }
-        | Plan::Audit {
-            image,
-            input,
-            trace,
-            policy,
-            symbols,
-            ..
-        } => {
-            let over_image = are_same(folder, trace, Some(image));
-            let over_input = are_same(folder, trace, input);
-            let over_policy = are_same(folder, trace, policy);
-            let over_labels = are_same(folder, trace, symbols);
-            (over_image || over_input) || (over_policy || over_labels)
-        }
+        Plan::Run { request, .. } | Plan::Audit(request) => traces_over(folder, request),
         _ => false,
     }
 }

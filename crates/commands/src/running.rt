@@ -1,21 +1,22 @@
 //! The command `run`, and the run without a command.
 
-ghost use Rattle.std.specs.Prelude.{◌≡◌, ◌≤◌, List, [], ◌∷◌, IfOk, IfSome, OnOk, is_some, string_bytes};
+ghost use Rattle.std.specs.Prelude.{◌≡◌, List, [], ◌∷◌, IfOk, IfSome, OnOk, None, false, is_some, string_bytes};
 ghost use Rattle.std.specs.Io.Buffered.{line_writer_contents, writer_contents};
 ghost use Rattle.std.specs.Io.KnownBytes.{Keeps};
 ghost use Rattle.hart.specs.Opening.{opening};
-ghost use Rattle.machine.specs.Run.{run_after, end_of};
-ghost use Rattle.schedules.specs.Schedule.{IsRunnable, IsPlaceOf, events_before, steps_in};
+ghost use Rattle.schedules.specs.Schedule.{IsPlaceOf, IsRunnable, steps_in};
 ghost use Rattle.sim_run.specs.Trace.{lines_past, trace_text};
 ghost use Rattle.symbols.specs.Symbols.{Symbol};
-ghost use Rattle.commands.specs.Files.{Closes, Gains, IsNew, begun, bytes_of, whole};
-ghost use Rattle.commands.specs.Running.{HasEnded, IsTyped, Meets, Runs, RunsFile, RunsFirst, RunsTyped, Traces};
-ghost use Rattle.commands.specs.Running.{events_of, is_told, place_lines, stop_at, stops, trace_of};
+ghost use Rattle.commands.specs.Files.{Closes, Gains, IsNew, begun, changed, whole};
+ghost use Rattle.commands.specs.Loading.{IsReady, events_to, run_of, state_after};
+ghost use Rattle.commands.specs.Running.{HasEnded, HasRun, Runs, RunsFreely, Sends, Traces};
+ghost use Rattle.commands.specs.Running.{events_of, first_run, is_told, place_lines, stop_at, stops, trace_of};
 
 use crate::fault::ProgramFault;
-use crate::files::{Folder, make_file, read_beginning, read_image, table_of};
+use crate::files::{Folder, make_file};
+use crate::loading::LoadedRun;
 use crate::writing::{UntilFailure, Writing};
-use command_line::Why;
+use command_line::{RunRequest, Why};
 use image::{DeviceFailed, Image};
 use machine::{End, Machine};
 use schedules::Schedule;
@@ -40,6 +41,22 @@ const FIRST: [u8; 20] = [
     0x23, 0xb0, 0x05, 0x00,
 ];
 
+/// The run of the first image: its five steps.
+const FIRST_RUN: RunRequest<'static> = RunRequest {
+    image: "",
+    steps: 5,
+    times: 1,
+    gap: 1000,
+    tick: 100,
+    input: None,
+    quiet: false,
+    trace: None,
+    trace_from: 1,
+    trace_last: None,
+    policy: None,
+    symbols: None,
+};
+
 /// The program's machine: over capabilities as 128-bit words.
 pub type ProgramMachine = Machine<WordCap>;
 
@@ -50,13 +67,15 @@ pub struct Ended {
     pub place: String,
 }
 
-/// Which lines of a trace are kept.
-#[derive(Clone, Copy, Debug, PartialEq, Eq)]
-pub struct Kept {
-    /// The number of the first step that has one.
-    pub from: u64,
-    /// How many of the last of those are kept, where not all are.
-    pub last: Option<u64>,
+/// What a run leaves: its machine, how far it came, and its output.
+type Left<O> = (ProgramMachine, Ran, O);
+
+/// The lines of a trace: the file that they go to, how many of a run's first steps have none there, and before which step it ends.
+#[derive(Clone, Copy)]
+struct Lines<'a> {
+    name: &'a str,
+    skipped: u64,
+    stop: Option<u64>,
 }
 
 /// Which trap a run stops before, where one is to be explained.
@@ -77,54 +96,49 @@ fn is_told(end: End, quiet: bool) -> bool
     !quiet && !matches!(end, End::Halted(0))
 }
 
-/// The lines that say where a run of an image on a schedule ended, which left this machine: before the step of a number, where one is
-/// given.
+/// The lines that say where a run ended, which left this machine: before the step of a number, where one is given.
 fn place(
     alloc: Global,
-    image: &Image,
-    table: &Symbols,
-    schedule: Schedule,
-    input: &[u8],
+    run: &LoadedRun<'_>,
     stop: Option<u64>,
     machine: &ProgramMachine,
-    steps: u64,
+    ran: Ran,
 ) -> Result<String, AllocError>
-    requires range { IsRunnable schedule }
-    requires state { machine.now ≡ run_after (events_before stop schedule input.now (opening image.now)) (opening image.now) }
-    requires steps { steps ≡ steps_in (events_before stop schedule input.now (opening image.now)) }
-    ensures { IfOk result (λ text. string_bytes text ≡ place_lines table.now (is_some stop)
-        (events_before stop schedule input.now (opening image.now)) (opening image.now)) }
+    requires range { IsRunnable run.now.schedule }
+    requires ran { HasRun (run_of run.now) (events_to stop (run_of run.now)) machine.now ran }
+    ensures { IfOk result (λ text. string_bytes text
+        ≡ place_lines (run_of run.now) (is_some stop) (events_to stop (run_of run.now))) }
 {
+    let table = &run.table;
     match stop {
-        Some(_) => stopped_lines(alloc, table, machine, steps),
-        None => ending_lines(alloc, table, image, schedule, input, machine, steps),
+        Some(_) => stopped_lines(alloc, table, machine, ran.steps),
+        None => ending_lines(
+            alloc,
+            table,
+            &run.image,
+            run.schedule,
+            &run.input,
+            machine,
+            ran.steps,
+        ),
     }
 }
 
-/// How a run of an image on a schedule ended, which left this machine, and where.
+/// How a run ended, which left this machine, and where.
 fn ending<'a>(
     alloc: Global,
-    image: &Image,
-    table: &Symbols,
-    schedule: Schedule,
-    input: &[u8],
+    run: &LoadedRun<'_>,
     stop: Option<u64>,
-    quiet: bool,
     machine: &ProgramMachine,
     ran: Ran,
 ) -> Result<Ended, ProgramFault<'a>>
-    requires range { IsRunnable schedule }
-    requires state { machine.now ≡ run_after (events_before stop schedule input.now (opening image.now)) (opening image.now) }
-    requires end { ran.end ≡ end_of machine.now }
-    requires steps { ran.steps ≡ steps_in (events_before stop schedule input.now (opening image.now)) }
-    ensures { IfOk result
-        (HasEnded table.now quiet (is_some stop) (events_before stop schedule input.now (opening image.now)) (opening image.now)) }
+    requires range { IsRunnable run.now.schedule }
+    requires ran { HasRun (run_of run.now) (events_to stop (run_of run.now)) machine.now ran }
+    ensures { IfOk result (HasEnded (run_of run.now) run.now.request.quiet (is_some stop) (events_to stop (run_of run.now))) }
 {
     let end = ran.end;
-    if is_told(end, quiet) {
-        match place(
-            alloc, image, table, schedule, input, stop, machine, ran.steps,
-        ) {
+    if is_told(end, run.request.quiet) {
+        match place(alloc, run, stop, machine, ran) {
             Ok(place) => Ok(Ended { end, place }),
             Err(_) => Err(ProgramFault::Memory),
         }
@@ -160,29 +174,23 @@ fn whole_lines<'a, O: Write + Drop>(
 }
 
 /// Runs a machine from its image, up to before the step of a number, where one is given; writes to `output` what it sends, a line at a
-/// time, and hands it back.
+/// time.
 fn run_machine<'a, O: Write + Drop>(
     alloc: Global,
-    image: &Image,
-    table: &Symbols,
-    schedule: Schedule,
-    input: &[u8],
+    run: &LoadedRun<'_>,
     stop: Option<u64>,
-    quiet: bool,
     output: O,
-) -> Result<(Ended, O), ProgramFault<'a>>
-    requires range { IsRunnable schedule }
-    requires stop { IfSome stop (IsPlaceOf schedule) }
-    ensures { IfOk result (λ done. Meets table.now (is_some stop) (events_before stop schedule input.now (opening image.now)) quiet
-        image.now done.0 (O.contents output) (O.contents done.1)) }
+) -> Result<Left<O>, ProgramFault<'a>>
+    requires range { IsRunnable run.now.schedule }
+    requires stop { IfSome stop (IsPlaceOf run.now.schedule) }
+    ensures ran { IfOk result (λ left. HasRun (run_of run.now) (events_to stop (run_of run.now)) left.0 left.1) }
+    ensures sent { IfOk result (λ left. Sends (run_of run.now) (events_to stop (run_of run.now)) (O.contents output) (O.contents left.2)) }
 {
-    let mut machine: ProgramMachine = Machine::new(alloc, image)?;
+    let mut machine: ProgramMachine = Machine::new(alloc, &run.image)?;
     let mut sink = Writing::new(by_lines(alloc, output)?);
-    let ran = run_before(&mut machine, schedule, input, stop, &mut sink)?;
-    let ended = ending(
-        alloc, image, table, schedule, input, stop, quiet, &machine, ran,
-    )?;
-    Ok((ended, whole_lines(sink.into_inner())?))
+    let ran = run_before(&mut machine, run.schedule, &run.input, stop, &mut sink)?;
+    let output = whole_lines(sink.into_inner())?;
+    Ok((machine, ran, output))
 }
 
 /// A new file of this name, or the one that there is, emptied, that is written in blocks.
@@ -222,56 +230,47 @@ fn close_trace<'a, F: Folder>(
     }
 }
 
-/// Runs a machine from its image, up to before the step of a number, where one is given; writes to `output` what it sends, and to the
-/// file `trace`, which is made first, a line for each step past the first `skipped`; and hands the output back.
+/// Runs a machine from its image; writes to `output` what it sends, and to a file, which is made first, the lines of its trace.
 fn trace_machine<'a, F: Folder, O: Write + Drop>(
     alloc: Global,
     folder: &mut F,
-    image: &Image,
-    table: &Symbols,
-    schedule: Schedule,
-    input: &[u8],
-    stop: Option<u64>,
-    quiet: bool,
-    trace: &'a str,
-    skipped: u64,
+    run: &LoadedRun<'_>,
+    trace: Lines<'a>,
     output: O,
-) -> Result<(Ended, O), ProgramFault<'a>>
-    requires range { IsRunnable schedule }
-    requires stop { IfSome stop (IsPlaceOf schedule) }
-    ensures ok { IfOk result (λ done. Meets table.now (is_some stop) (events_before stop schedule input.now (opening image.now)) quiet
-        image.now done.0 (O.contents output) (O.contents done.1)) }
-    ensures files { OnOk result (Gains (F.files folder.old) (F.files folder.new) (whole trace.entry.now
-        (lines_past table.now skipped 0 (events_before stop schedule input.now (opening image.now)) (opening image.now)))) }
+) -> Result<Left<O>, ProgramFault<'a>>
+    requires range { IsRunnable run.now.schedule }
+    requires stop { IfSome trace.stop (IsPlaceOf run.now.schedule) }
+    ensures ran { IfOk result (λ left. HasRun (run_of run.now) (events_to trace.entry.stop (run_of run.now)) left.0 left.1) }
+    ensures sent { IfOk result (λ left.
+        Sends (run_of run.now) (events_to trace.entry.stop (run_of run.now)) (O.contents output) (O.contents left.2)) }
+    ensures files { OnOk result (Gains (F.files folder.old) (F.files folder.new) (whole trace.entry.name.now (lines_past run.now.table
+        trace.entry.skipped 0 (events_to trace.entry.stop (run_of run.now)) (opening run.now.image)))) }
 {
-    let mut machine: ProgramMachine = Machine::new(alloc, image)?;
-    let mut lines = Writing::new(make_trace(alloc, folder, trace)?);
+    let mut machine: ProgramMachine = Machine::new(alloc, &run.image)?;
+    let mut lines = Writing::new(make_trace(alloc, folder, trace.name)?);
     let mut sink = Writing::new(output);
     match run_traced_before(
         &mut machine,
-        schedule,
-        input,
-        stop,
-        skipped,
-        table,
+        run.schedule,
+        &run.input,
+        trace.stop,
+        trace.skipped,
+        &run.table,
         &mut sink,
         &mut lines,
     ) {
         Ok(ran) => {
-            close_trace(folder, trace, lines.into_inner())?;
-            let ended = ending(
-                alloc, image, table, schedule, input, stop, quiet, &machine, ran,
-            )?;
-            Ok((ended, sink.into_inner()))
+            close_trace(folder, trace.name, lines.into_inner())?;
+            Ok((machine, ran, sink.into_inner()))
         }
         Err(TraceFault::Output) => {
             // The lines up to there are written, if they can be.
-            let _ = close_trace(folder, trace, lines.into_inner());
+            let _ = close_trace(folder, trace.name, lines.into_inner());
             Err(ProgramFault::Write(DeviceFailed))
         }
         Err(TraceFault::Trace) => {
             drop(lines.into_inner().into_parts());
-            Err(ProgramFault::CutShort(trace))
+            Err(ProgramFault::CutShort(trace.name))
         }
     }
 }
@@ -280,183 +279,108 @@ fn trace_machine<'a, F: Folder, O: Write + Drop>(
 /// machine of its own.
 fn skipped<'a>(
     alloc: Global,
-    image: &Image,
-    schedule: Schedule,
-    input: &[u8],
+    run: &LoadedRun<'_>,
     stop: Option<u64>,
-    kept: Kept,
 ) -> Result<u64, ProgramFault<'a>>
-    requires range { IsRunnable schedule }
-    requires stop { IfSome stop (IsPlaceOf schedule) }
-    ensures { IfOk result (λ skipped. (table : List Symbol)
-        → trace_text table kept.from kept.last (events_before stop schedule input.now (opening image.now)) (opening image.now)
-        ≡ lines_past table skipped 0 (events_before stop schedule input.now (opening image.now)) (opening image.now)) }
+    requires range { IsRunnable run.now.schedule }
+    requires stop { IfSome stop (IsPlaceOf run.now.schedule) }
+    ensures { IfOk result (λ skipped. trace_of run.now.request (run_of run.now) (events_to stop (run_of run.now))
+        ≡ lines_past run.now.table skipped 0 (events_to stop (run_of run.now)) (opening run.now.image)) }
 {
-    match kept.last {
-        None => Ok(kept.from.saturating_sub(1)),
+    let from = run.request.trace_from;
+    match run.request.trace_last {
+        None => Ok(from.saturating_sub(1)),
         Some(last) => {
-            let mut machine: ProgramMachine = Machine::new(alloc, image)?;
-            let steps = count_steps(&mut machine, schedule, input, stop);
-            Ok(lines_skipped(kept.from, last, steps))
+            let mut machine: ProgramMachine = Machine::new(alloc, &run.image)?;
+            let steps = count_steps(&mut machine, run.schedule, &run.input, stop);
+            Ok(lines_skipped(from, last, steps))
         }
     }
 }
 
-/// Runs an image with these bytes on its console, up to before the step of a number, where one is given; and writes the lines that are
-/// kept of its steps to the file `trace`, where one is named.
+/// Runs an image up to before the step of a number, where one is given; and writes the lines that are kept of its steps to a file, where
+/// one is named.
 pub fn run_image<'a, F: Folder, O: Write + Drop>(
     alloc: Global,
     folder: &mut F,
-    image: &Image,
-    table: &Symbols,
-    schedule: Schedule,
-    input: &[u8],
+    run: &LoadedRun<'a>,
     stop: Option<u64>,
-    quiet: bool,
-    trace: Option<&'a str>,
-    kept: Kept,
     output: O,
-) -> Result<(Ended, O), ProgramFault<'a>>
-    requires range { IsRunnable schedule }
-    requires stop { IfSome stop (IsPlaceOf schedule) }
-    ensures ok { IfOk result (λ done. Meets table.now (is_some stop) (events_before stop schedule input.now (opening image.now)) quiet
-        image.now done.0 (O.contents output) (O.contents done.1)) }
-    ensures files { OnOk result (Traces trace.entry
-        (trace_text table.now kept.from kept.last (events_before stop schedule input.now (opening image.now)) (opening image.now))
-        (F.files folder.old) (F.files folder.new)) }
+) -> Result<Left<O>, ProgramFault<'a>>
+    requires range { IsRunnable run.now.schedule }
+    requires stop { IfSome stop (IsPlaceOf run.now.schedule) }
+    ensures ran { IfOk result (λ left. HasRun (run_of run.now) (events_to stop (run_of run.now)) left.0 left.1) }
+    ensures sent { IfOk result (λ left. Sends (run_of run.now) (events_to stop (run_of run.now)) (O.contents output) (O.contents left.2)) }
+    ensures files { OnOk result (Traces run.now.request.trace
+        (trace_of run.now.request (run_of run.now) (events_to stop (run_of run.now))) (F.files folder.old) (F.files folder.new)) }
 {
-    match trace {
+    match run.request.trace {
         Some(name) => {
-            let skipped = skipped(alloc, image, schedule, input, stop, kept)?;
-            trace_machine(
-                alloc, folder, image, table, schedule, input, stop, quiet, name, skipped, output,
-            )
+            let skipped = skipped(alloc, run, stop)?;
+            let trace = Lines {
+                name,
+                skipped,
+                stop,
+            };
+            trace_machine(alloc, folder, run, trace, output)
         }
-        None => run_machine(alloc, image, table, schedule, input, stop, quiet, output),
+        None => run_machine(alloc, run, stop, output),
     }
 }
 
-/// The number of the step that a run of an image is to stop before, where it is to stop at a trap and meets one: the run is done for it
-/// step by step on a machine of its own.
+/// The number of the step that a run is to stop before, where it is to stop at a trap and meets one: the run is done for it step by step on
+/// a machine of its own.
 fn stop_of<'a>(
     alloc: Global,
-    image: &Image,
+    run: &LoadedRun<'_>,
     at: Option<StopAt>,
-    schedule: Schedule,
-    input: &[u8],
 ) -> Result<Option<u64>, ProgramFault<'a>>
-    requires { IsRunnable schedule }
-    ensures stops { IfOk result (λ stop. is_some stop ≡ stops at schedule input.now image.now) }
-    ensures events { IfOk result (λ stop. events_before stop schedule input.now (opening image.now)
-        ≡ events_of at schedule input.now image.now) }
-    ensures place { IfOk result (λ stop. IfSome stop (IsPlaceOf schedule)) }
+    requires { IsRunnable run.now.schedule }
+    ensures stops { IfOk result (λ stop. is_some stop ≡ stops at (run_of run.now)) }
+    ensures events { IfOk result (λ stop. events_to stop (run_of run.now) ≡ events_of at (run_of run.now)) }
+    ensures place { IfOk result (λ stop. IfSome stop (IsPlaceOf run.now.schedule)) }
 {
     match at {
         None => Ok(None),
         Some(at) => {
-            let mut machine: ProgramMachine = Machine::new(alloc, image)?;
-            Ok(find_stop(&mut machine, at, schedule, input))
+            let mut machine: ProgramMachine = Machine::new(alloc, &run.image)?;
+            Ok(find_stop(&mut machine, at, run.schedule, &run.input))
         }
     }
 }
 
-/// Runs an image with these bytes on its console, up to before the trap that it is to stop at; and writes the lines that are kept of its
-/// steps to the file `trace`, where one is named.
-fn run_to_stop<'a, F: Folder, O: Write + Drop>(
+/// Runs an image with the bytes of its input on its console. It ends before the trap that it is to stop `at`, if any. The lines that are
+/// kept of its trace are written to a file, where one is named, in blocks of 64 KiB. A run that is quiet doesn't say where it ended. Hands
+/// the output back.
+pub fn run_freely<'a, F: Folder, O: Write + Drop>(
     alloc: Global,
     folder: &mut F,
-    image: &Image,
-    table: &Symbols,
+    run: &LoadedRun<'a>,
     at: Option<StopAt>,
-    schedule: Schedule,
-    input: &[u8],
-    quiet: bool,
-    trace: Option<&'a str>,
-    kept: Kept,
     output: O,
 ) -> Result<(Ended, O), ProgramFault<'a>>
-    requires { IsRunnable schedule }
-    ensures ok { IfOk result (λ done. Runs table.now at schedule input.now quiet image.now done.0 (O.contents output) (O.contents done.1)) }
-    ensures files { OnOk result
-        (Traces trace.entry (trace_of table.now at schedule input.now kept image.now) (F.files folder.old) (F.files folder.new)) }
+    requires { IsRunnable run.now.schedule }
+    ensures { IfOk result (λ done. RunsFreely run.now.request at (run_of run.now) done.0
+        (changed (O.contents output) (O.contents done.1) (F.files folder.old) (F.files folder.new))) }
 {
-    let stop = stop_of(alloc, image, at, schedule, input)?;
-    run_image(
-        alloc, folder, image, table, schedule, input, stop, quiet, trace, kept, output,
-    )
+    let stop = stop_of(alloc, run, at)?;
+    let (machine, ran, output) = run_image(alloc, folder, run, stop, output)?;
+    let ended = ending(alloc, run, stop, &machine, ran)?;
+    Ok((ended, output))
 }
 
-/// The bytes of the file `input` that a run by a schedule has room for, or none where no file is named.
-pub fn typed<'a, F: Folder>(
+/// Runs an image whole, without a trace, and says how it ended and where. Hands the output back.
+pub fn run_whole<'a, O: Write + Drop>(
     alloc: Global,
-    folder: &F,
-    schedule: Schedule,
-    input: Option<&'a str>,
-) -> Result<Vec<u8>, ProgramFault<'a>>
-    requires some_step { 1 ≤ schedule.steps }
-    requires range { IsRunnable schedule }
-    ensures { IfOk result (λ typed. IsTyped schedule input.entry (F.files folder.now) typed.items) }
-{
-    match input {
-        Some(file) => read_beginning(alloc, folder, file, schedule.most_bytes()),
-        None => Ok(Vec::new(alloc)),
-    }
-}
-
-/// Runs an image as `run_file` does, with these labels.
-fn run_typed<'a, F: Folder, O: Write + Drop>(
-    alloc: Global,
-    folder: &mut F,
-    image: &Image,
-    table: &Symbols,
-    at: Option<StopAt>,
-    schedule: Schedule,
-    input: Option<&'a str>,
-    quiet: bool,
-    trace: Option<&'a str>,
-    kept: Kept,
+    run: &LoadedRun<'_>,
     output: O,
 ) -> Result<(Ended, O), ProgramFault<'a>>
-    requires some_step { 1 ≤ schedule.steps }
-    requires range { IsRunnable schedule }
-    ensures { IfOk result (λ done. RunsTyped table.now at schedule input.entry quiet image.now trace.entry kept (F.files folder.old)
-        (F.files folder.new) done.0 (O.contents output) (O.contents done.1)) }
+    requires { IsRunnable run.now.schedule }
+    ensures { IfOk result (λ done. Runs (run_of run.now) None run.now.request.quiet done.0 (O.contents output) (O.contents done.1)) }
 {
-    let bytes = typed(alloc, folder, schedule, input)?;
-    run_to_stop(
-        alloc, folder, image, table, at, schedule, &bytes, quiet, trace, kept, output,
-    )
-}
-
-/// Runs the image of a file, with the bytes of the file `input` on its console: no more of them are read than the schedule has room for.
-/// It ends before the trap that it is to stop `at`, if any. Where a file `trace` is named, the lines that are `kept` of its steps are
-/// written to it, in blocks of 64 KiB. Where a file `symbols` is named, its labels stand after the addresses in what is told. A run that
-/// is `quiet` doesn't say where it ended. Hands the output back.
-pub fn run_file<'a, F: Folder, O: Write + Drop>(
-    alloc: Global,
-    folder: &mut F,
-    name: &'a str,
-    symbols: Option<&'a str>,
-    at: Option<StopAt>,
-    schedule: Schedule,
-    input: Option<&'a str>,
-    quiet: bool,
-    trace: Option<&'a str>,
-    kept: Kept,
-    output: O,
-) -> Result<(Ended, O), ProgramFault<'a>>
-    requires some_step { 1 ≤ schedule.steps }
-    requires range { IsRunnable schedule }
-    ensures { IfOk result (λ done. IfSome (bytes_of name.entry.now (F.files folder.old)) (λ bytes.
-        RunsFile symbols.entry at schedule input.entry quiet bytes trace.entry kept (F.files folder.old) (F.files folder.new) done.0
-        (O.contents output) (O.contents done.1))) }
-{
-    let image = read_image(alloc, folder, name)?;
-    let table = table_of(alloc, folder, symbols)?;
-    let done = run_typed(
-        alloc, folder, &image, &table, at, schedule, input, quiet, trace, kept, output,
-    )?;
-    Ok(done)
+    let (machine, ran, output) = run_machine(alloc, run, None, output)?;
+    let ended = ending(alloc, run, None, &machine, ran)?;
+    Ok((ended, output))
 }
 
 /// Runs the first image for its five steps: it sends `A` and halts with 0.
@@ -464,7 +388,7 @@ pub fn run_first<'a, O: Write + Drop>(
     alloc: Global,
     output: O,
 ) -> Result<(Ended, O), ProgramFault<'a>>
-    ensures { IfOk result (λ done. RunsFirst done.0 (O.contents output) (O.contents done.1)) }
+    ensures { IfOk result (λ done. Runs first_run None false done.0 (O.contents output) (O.contents done.1)) }
 {
     let image = Image::build(alloc, 1, ENTRY, 0, &[(ENTRY, &FIRST)])?;
     let schedule = Schedule {
@@ -472,6 +396,13 @@ pub fn run_first<'a, O: Write + Drop>(
         gap: 1000,
         tick: 100,
     };
-    let table = Symbols::new(alloc);
-    run_machine(alloc, &image, &table, schedule, &[], None, false, output)
+    let run = LoadedRun {
+        request: FIRST_RUN,
+        schedule,
+        image,
+        table: Symbols::new(alloc),
+        rules: None,
+        input: Vec::new(alloc),
+    };
+    run_whole(alloc, &run, output)
 }

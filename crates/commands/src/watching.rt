@@ -1,70 +1,24 @@
-//! The command `run` with a policy.
+//! Runs that a policy watches.
 
-ghost use Rattle.std.specs.Prelude.{◌≡◌, ◌≤◌, ◌<◌, ◌-◌, [], List, length, get_or, IfOk, IfSome, IfErr, IsUtf8, OnOk, Ok};
-ghost use Rattle.std.specs.Prelude.{string_bytes, vec_len};
-ghost use Rattle.hart.specs.Opening.{opening};
-ghost use Rattle.machine.specs.Run.{run_after, run_sent, end_of};
-ghost use Rattle.policy.specs.Terms.{Terms};
-ghost use Rattle.policy.specs.Watch.{IsRefused};
+ghost use Rattle.std.specs.Prelude.{◌≡◌, ◌≤◌, ◌<◌, [], true, false, length, IfOk, IsUtf8, string_bytes, vec_len};
+ghost use Rattle.policy_text.specs.Policy.{line_text};
 ghost use Rattle.reach.specs.Reach.{members_in};
-ghost use Rattle.policy_runs.specs.Keeping.{StepsKeepToEach};
-ghost use Rattle.policy_text.specs.Policy.{line_text, policy_of};
-ghost use Rattle.policy_text.specs.Seen.{seen};
 ghost use Rattle.schedules.specs.Schedule.{IsRunnable};
-ghost use Rattle.schedules.specs.Schedule.{IsPlaceOf};
-ghost use Rattle.schedules.specs.Schedule.{events_before};
-ghost use Rattle.commands.specs.Files.{IsOfSystem, bytes_of};
-ghost use Rattle.commands.specs.Watching.{IsPolicyFault, IsPolicyOf, IsTextFault, TellsStop, WatchesFile, IsStopOf, IsWatchedRun};
+ghost use Rattle.commands.specs.Files.{changed};
+ghost use Rattle.commands.specs.Loading.{AreNumbered, IsReady, run_of};
+ghost use Rattle.commands.specs.Watching.{IsStopOf, IsWatchedRun, RunsBy, TellsRefused};
 
 use crate::fault::ProgramFault;
-use crate::files::{Folder, read_beginning, read_image, table_of};
-use crate::running::{Ended, Kept, ProgramMachine, run_image, typed};
+use crate::files::Folder;
+use crate::loading::{LoadedRun, Rules};
+use crate::running::{Ended, ProgramMachine, run_freely, run_image};
 use breach_texts::{RuleLine, stopped_lines};
-use image::Image;
 use machine::Machine;
 use policy_runs::{Breach, find_breach};
-use policy_text::{Policy, PolicyTextFault, line_text, read_policy};
-use schedules::Schedule;
+use policy_text::line_text;
+use sim_run::StopAt;
 use std::alloc::Global;
 use std::io::Write;
-use symbols::Symbols;
-
-/// How many bytes the text of a policy has at most: 1 MiB.
-const MOST_TEXT: usize = 0x10_0000;
-
-/// The text of a policy's file.
-pub fn read_text<'a, F: Folder>(
-    alloc: Global,
-    folder: &F,
-    name: &'a str,
-) -> Result<Vec<u8>, ProgramFault<'a>>
-    ensures ok { IfOk result (λ text. IfSome (bytes_of name.entry.now (F.files folder.now)) (λ bytes. text.items ≡ bytes)) }
-    ensures err { IfErr result (IsTextFault name.entry.now (F.files folder.now)) }
-{
-    let text = read_beginning(alloc, folder, name, MOST_TEXT as u64 + 1)?;
-    if text.len() > MOST_TEXT {
-        return Err(ProgramFault::LongPolicy(name));
-    }
-    Ok(text)
-}
-
-/// The policy that the text of a file says.
-pub fn policy_of<'a>(
-    alloc: Global,
-    name: &'a str,
-    text: &[u8],
-    table: &Symbols,
-) -> Result<Policy, ProgramFault<'a>>
-    ensures said { IfOk result (IsPolicyOf text.now table.now) }
-    ensures paired { IfOk result (λ policy. vec_len policy.rules ≡ vec_len policy.lines) }
-    ensures err { IfErr result (IsPolicyFault name.entry.now text.now table.now) }
-{
-    match read_policy(alloc, text, table) {
-        Ok(policy) => Ok(policy),
-        Err(PolicyTextFault::Line { line, code }) => Err(ProgramFault::Policy(name, line, code)),
-        Err(PolicyTextFault::Memory) => Err(ProgramFault::Memory),
-    }
-}
 
 /// A line of a policy's text, by its number, as far as it is UTF-8.
 pub fn rule_line(text: &[u8], number: u64) -> RuleLine<'_>
@@ -77,43 +31,29 @@ pub fn rule_line(text: &[u8], number: u64) -> RuleLine<'_>
     }
 }
 
-/// What a run is watched by: a policy, its text, and the labels that it may name.
-#[derive(Clone, Copy)]
-struct Watch<'w> {
-    text: &'w [u8],
-    table: &'w Symbols,
-    policy: &'w Policy,
-}
-
-/// The lines that say where a policy stopped a run, empty where they are left out.
+/// The lines that say where a policy stopped a run, none where it is quiet.
 fn stop_lines<'a>(
     alloc: Global,
-    watch: &Watch<'_>,
+    run: &LoadedRun<'_>,
+    rules: &Rules,
     machine: &ProgramMachine,
     breach: Breach,
-    quiet: bool,
 ) -> Result<String, ProgramFault<'a>>
     requires place { 1 ≤ breach.number }
-    requires rule { breach.refused.rule < vec_len watch.now.policy.now.lines }
+    requires rule { breach.refused.rule < vec_len rules.now.policy.lines }
     requires member { breach.refused.member < length (members_in machine.now) }
-    ensures { IfOk result (λ text. (force : List Terms) → IsRefused force breach.refused machine.now
-        → TellsStop quiet watch.now.text.now watch.now.table.now watch.now.policy.now force breach.number machine.now
-        (string_bytes text)) }
+    ensures quiet { run.now.request.quiet ≡ true → IfOk result (λ text. string_bytes text ≡ []) }
+    ensures told { run.now.request.quiet ≡ false → IfOk result (λ text.
+        TellsRefused rules.now run.now.table breach.refused breach.number machine.now (string_bytes text)) }
 {
-    if quiet {
+    if run.request.quiet {
         return Ok(String::new(alloc));
     }
     let refused = breach.refused;
-    let number = watch.policy.lines[refused.rule];
-    let rule = rule_line(watch.text, number);
-    match stopped_lines(
-        alloc,
-        machine,
-        watch.table,
-        rule,
-        refused,
-        breach.number - 1,
-    ) {
+    let number = rules.policy.lines[refused.rule];
+    let rule = rule_line(&rules.text, number);
+    let steps = breach.number - 1;
+    match stopped_lines(alloc, machine, &run.table, rule, refused, steps) {
         Ok(text) => Ok(text),
         Err(_) => Err(ProgramFault::Memory),
     }
@@ -126,119 +66,74 @@ struct Stop {
     lines: String,
 }
 
-/// Where a policy stops the run of an image, if it does: the run is done for it on a machine of its own.
+/// Where a policy stops a run, if it does: the run is done for it on a machine of its own.
 fn stop_of<'a>(
     alloc: Global,
-    image: &Image,
-    watch: &Watch<'_>,
-    schedule: Schedule,
-    input: &[u8],
-    quiet: bool,
+    run: &LoadedRun<'_>,
+    rules: &Rules,
 ) -> Result<Option<Stop>, ProgramFault<'a>>
-    requires paired { vec_len watch.now.policy.now.rules ≡ vec_len watch.now.policy.now.lines }
-    requires range { IsRunnable schedule }
-    ensures { IfOk result
-        (IsStopOf watch.now.text.now watch.now.table.now watch.now.policy.now schedule input.now quiet image.now) }
+    requires numbered { AreNumbered rules.now }
+    requires range { IsRunnable run.now.schedule }
+    ensures { IfOk result (IsStopOf rules.now (run_of run.now) run.now.request.quiet) }
 {
-    let mut machine: ProgramMachine = Machine::new(alloc, image)?;
-    match find_breach(alloc, &mut machine, &watch.policy.rules, schedule, input) {
+    let mut machine: ProgramMachine = Machine::new(alloc, &run.image)?;
+    match find_breach(
+        alloc,
+        &mut machine,
+        &rules.policy.rules,
+        run.schedule,
+        &run.input,
+    ) {
         Ok(Some(breach)) => Ok(Some(Stop {
             number: breach.number,
-            lines: stop_lines(alloc, watch, &machine, breach, quiet)?,
+            lines: stop_lines(alloc, run, rules, &machine, breach)?,
         })),
         Ok(None) => Ok(None),
         Err(_) => Err(ProgramFault::Memory),
     }
 }
 
-/// Runs an image on a schedule, watched by a policy, and writes the lines that are kept of its steps to the file `trace`, where one is
-/// named.
+/// Runs an image, watched by a policy: it ends before the first step at which a reachable capability breaks a rule about the code there.
+/// Hands the output back.
 fn run_watched<'a, F: Folder, O: Write + Drop>(
     alloc: Global,
     folder: &mut F,
-    image: &Image,
-    watch: &Watch<'_>,
-    schedule: Schedule,
-    input: &[u8],
-    quiet: bool,
-    trace: Option<&'a str>,
-    kept: Kept,
+    run: &LoadedRun<'a>,
+    rules: &Rules,
     output: O,
 ) -> Result<(Ended, O), ProgramFault<'a>>
-    requires paired { vec_len watch.now.policy.now.rules ≡ vec_len watch.now.policy.now.lines }
-    requires range { IsRunnable schedule }
-    ensures { IfOk result (λ done. IsWatchedRun watch.now.text.now watch.now.table.now watch.now.policy.now schedule input.now quiet
-        image.now trace.entry kept (F.files folder.old) (F.files folder.new) done.0 (O.contents output) (O.contents done.1)) }
+    requires numbered { AreNumbered rules.now }
+    requires range { IsRunnable run.now.schedule }
+    ensures { IfOk result (λ done. IsWatchedRun rules.now run.now.request (run_of run.now) done.0
+        (changed (O.contents output) (O.contents done.1) (F.files folder.old) (F.files folder.new))) }
 {
-    match stop_of(alloc, image, watch, schedule, input, quiet)? {
+    match stop_of(alloc, run, rules)? {
         Some(stop) => {
             let number = Some(stop.number);
-            let (ended, output) = run_image(
-                alloc,
-                folder,
-                image,
-                watch.table,
-                schedule,
-                input,
-                number,
-                true,
-                trace,
-                kept,
-                output,
-            )?;
-            let end = ended.end;
+            let (_, ran, output) = run_image(alloc, folder, run, number, output)?;
+            let end = ran.end;
             let place = stop.lines;
             Ok((Ended { end, place }, output))
         }
-        None => run_image(
-            alloc,
-            folder,
-            image,
-            watch.table,
-            schedule,
-            input,
-            None,
-            quiet,
-            trace,
-            kept,
-            output,
-        ),
+        None => run_freely(alloc, folder, run, None, output),
     }
 }
 
-/// Runs the image of a file as `run_file` does, watched by the policy of the file `policy`, which may name labels of the file `symbols`.
-/// It ends before the first step at which a reachable capability breaks a rule about the code there. Hands the output back.
-pub fn watch_file<'a, F: Folder, O: Write + Drop>(
+/// Runs an image, watched by the rules of its policy, if it has one; else it ends before the trap that it is to stop `at`, if any. Hands
+/// the output back.
+pub fn run_loaded<'a, F: Folder, O: Write + Drop>(
     alloc: Global,
     folder: &mut F,
-    name: &'a str,
-    policy: &'a str,
-    symbols: Option<&'a str>,
-    schedule: Schedule,
-    input: Option<&'a str>,
-    quiet: bool,
-    trace: Option<&'a str>,
-    kept: Kept,
+    run: &LoadedRun<'a>,
+    at: Option<StopAt>,
     output: O,
 ) -> Result<(Ended, O), ProgramFault<'a>>
-    requires some_step { 1 ≤ schedule.steps }
-    requires range { IsRunnable schedule }
-    ensures { IfOk result (λ done. IfSome (bytes_of name.entry.now (F.files folder.old)) (λ bytes.
-        WatchesFile policy.entry.now symbols.entry schedule input.entry quiet bytes trace.entry kept (F.files folder.old)
-        (F.files folder.new) done.0 (O.contents output) (O.contents done.1))) }
+    requires { IsReady run.now }
+    ensures { IfOk result (λ done. RunsBy run.now.rules run.now.request at (run_of run.now) done.0
+        (changed (O.contents output) (O.contents done.1) (F.files folder.old) (F.files folder.new))) }
 {
-    let image = read_image(alloc, folder, name)?;
-    let table = table_of(alloc, folder, symbols)?;
-    let text = read_text(alloc, folder, policy)?;
-    let rules = policy_of(alloc, policy, &text, &table)?;
-    let bytes = typed(alloc, folder, schedule, input)?;
-    let watch = Watch {
-        text: &text,
-        table: &table,
-        policy: &rules,
-    };
-    let done = run_watched(
-        alloc, folder, &image, &watch, schedule, &bytes, quiet, trace, kept, output,
-    )?;
-    Ok(done)
+    match &run.rules {
+        None => run_freely(alloc, folder, run, at, output),
+        Some(rules) => run_watched(alloc, folder, run, rules, output),
+    }
 }

@@ -109,6 +109,10 @@ impl<W: Write> Sink for Writing<W> {
         Err(DeviceFailed)
     }
 
+    fn settle(&mut self) {
+        let _ = self.writer.flush();
+    }
+
     fn failures(&self) -> u64 {
         self.failures
     }

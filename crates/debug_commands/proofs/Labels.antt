@@ -7,8 +7,7 @@ use Rattle.std.proofs.lemmas.Bool.Decides.{nat_tests}
 use Rattle.asm_lines.specs.declared.fault.LineFault.TheVariants.{A2}
 use Rattle.asm_lines.specs.Text.{begins_name, is_name}
 use Rattle.asm_lines.specs.Number.{number_of}
-use Rattle.symbols.specs.Symbols.{Symbol, address_of, is_label}
-use Rattle.debug_commands.specs.Command.{address_in}
+use Rattle.symbols.specs.Symbols.{Symbol, address_in, address_of, is_label}
 
 pub or_none : (n : Option ℕ) → option_or n None ≡ n
 or_none None = refl

@@ -1,3 +1,2 @@
-mod Cut
 mod Labels
 mod Specials

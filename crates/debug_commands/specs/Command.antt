@@ -1,54 +1,33 @@
 -- The commands of a session: a line each, with its operands and their limits, and what it gives or shows.
-use Rattle.std.specs.Prelude.{ℕ, ◌-◌, ◌%◌, ◌^◌, Bool, not, ◌&&◌, ◌||◌, ◌==◌, nat_lt, if◌then◌else◌, ℤ, pos, List, [], ◌∷◌, ◌++◌, length}
-use Rattle.std.specs.Prelude.{filter, Option, Some, None, Result, Ok, Err, codes}
-use Rattle.std.specs.Option.{option_or}
-use Rattle.std.specs.List.{slice_split, prefix_len, flat_map}
+use Rattle.std.specs.Prelude.{ℕ, ◌-◌, ◌%◌, ◌^◌, Bool, not, ◌&&◌, ◌||◌, ◌==◌, nat_lt, if◌then◌else◌, List, [], ◌∷◌, ◌++◌, length}
+use Rattle.std.specs.Prelude.{Option, Some, None, Result, Ok, Err, codes}
+use Rattle.std.specs.List.{prefix_len, flat_map}
 use Rattle.asm_names.specs.Registers.{register_named}
 use Rattle.asm_names.specs.SpecialNames.{scr_named}
-use Rattle.asm_lines.specs.declared.fault.LineFault.{LineFault}
-use Rattle.asm_lines.specs.Text.{is_blank}
 use Rattle.asm_lines.specs.Statement.{is_word}
-use Rattle.asm_lines.specs.Number.{number_of}
-use Rattle.asm_lines.specs.Operand.{ranged, wrapped}
-use Rattle.symbols.specs.Symbols.{Symbol, address_of}
+use Rattle.asm_lines.specs.Words.{words_of, number_between, read_number}
+use Rattle.symbols.specs.Symbols.{Symbol, address_in}
 use Rattle.debug_commands.specs.declared.fault.DebugFault.{DebugFault}
 use Rattle.debug_commands.specs.declared.fault.DebugFault.TheVariants.{B1, B2, B3, B4}
 use Rattle.debug_commands.specs.declared.command.Command.{Command}
 use Rattle.debug_commands.specs.declared.command.Command.TheVariants.{Gives, Shows, Recalls, Back, Sets, Quit}
 use Rattle.debug_commands.specs.declared.command.Events.TheVariants.{Steps, Ticks, Byte, Until, Go, Changed}
-use Rattle.debug_commands.specs.declared.command.Horizon.{Horizon}
-use Rattle.debug_commands.specs.declared.command.Horizon.TheVariants.{Stretch, Turn}
-use Rattle.debug_commands.specs.declared.command.Place.{Place}
-use Rattle.debug_commands.specs.declared.command.Place.TheVariants as holder
+use Rattle.reach.specs.declared.may.Horizon.{Horizon}
+use Rattle.reach.specs.declared.may.Horizon.TheVariants.{Stretch, Turn}
+use Rattle.origins.specs.declared.place.Place.{Place}
+use Rattle.origins.specs.declared.place.Place.TheVariants as holder
 use Rattle.debug_commands.specs.declared.command.Recall.TheVariants.{Ago, Origin, Lost}
 use Rattle.debug_commands.specs.declared.command.SetStops.TheVariants.{Add, Clear}
 use Rattle.debug_commands.specs.declared.command.Stop.{Stop}
 use Rattle.debug_commands.specs.declared.command.Stop.TheVariants.{Address, Trap}
 use Rattle.debug_commands.specs.declared.command.View.TheVariants as view
-use Rattle.debug_commands.specs.declared.command.May.{May as Question}
-use Rattle.debug_commands.specs.declared.command.May.TheVariants.{Store, Load, Execute, Learn, Send, Halt, System, Timer, Hold}
+use Rattle.reach.specs.declared.may.May.{May as Question}
+use Rattle.reach.specs.declared.may.May.TheVariants.{Store, Load, Execute, Learn, Keep, Send, Halt, System, Timer, Hold}
 
 -- the address at which a command stops, if it stops at one
 abbrev pub stop_address : Stop → Option ℕ
 stop_address (Address address) = Some address
 stop_address Trap = None
-
--- the words of a line: what stands between spaces, tabs and carriage returns
-abbrev pub words_of : List ℕ → List (List ℕ)
-words_of line = filter (λ word. not (length word == 0)) (slice_split is_blank line)
-
--- a number between two, both included, in the assembler's form
-abbrev pub number_between : ℕ → ℕ → List ℕ → Result ℤ LineFault
-number_between low high text = ranged (pos low) (pos high) (number_of text)
-
--- a number that was read
-abbrev pub read_number : Result ℤ LineFault → Option ℕ
-read_number (Ok n) = Some (wrapped n)
-read_number (Err fault) = None
-
--- an address: a number of 64 bits, and where the text is not a number, the first address of the label of that name
-abbrev pub address_in : List Symbol → List ℕ → Option ℕ
-address_in symbols text = option_or (read_number (number_between 0 (2 ^ 64 - 1) text)) (address_of symbols text)
 
 -- what holds a capability: a register or a special capability register by its name, or else the granule at an address, a multiple of 16
 abbrev pub granule_at : ℕ → Option Place
@@ -141,12 +120,20 @@ bytes_and_horizon symbols high (a ∷ []) = Err B2
 bytes_and_horizon symbols high (a ∷ n ∷ words) =
     until (both (address_in symbols a) (read_number (number_between 1 high n))) (horizon_of words)
 
+-- how far an answer is to hold alone, about all bytes from 0 on, or else what is read otherwise
+abbrev pub all_or : ℕ → Result Horizon DebugFault → Result ((ℕ × ℕ) × Horizon) DebugFault → Result ((ℕ × ℕ) × Horizon) DebugFault
+all_or high (Ok horizon) otherwise = Ok ((0, high), horizon)
+all_or high (Err fault) otherwise = otherwise
+
+abbrev pub some_bytes_and_horizon : List Symbol → ℕ → List (List ℕ) → Result ((ℕ × ℕ) × Horizon) DebugFault
+some_bytes_and_horizon symbols high words = all_or high (horizon_of words) (bytes_and_horizon symbols high words)
+
 -- ---- the table
 
 -- how operands are written: none; a number of these limits; an address that is such a multiple and a number from 1 on; an address; a
 -- register's name; what holds a capability, alone and with a number from 1 on. And the command of what they say. Or a word of a table of
--- its own, and then that word's operands. A question's operands, nothing, a number or an address and a number, end with how far its
--- answer is to hold.
+-- its own, and then that word's operands. A question's operands, nothing, a number, an address and a number, or these two or nothing, end
+-- with how far its answer is to hold.
 pub data Operands : Type 0 where
   nothing : Command → Operands
   number : ℕ → ℕ → (ℕ → Command) → Operands
@@ -159,6 +146,7 @@ pub data Operands : Type 0 where
   question : Question → Operands
   question_of_number : ℕ → ℕ → (ℕ → Question) → Operands
   question_of_bytes : ℕ → (ℕ → ℕ → Question) → Operands
+  question_of_some_bytes : ℕ → (ℕ → ℕ → Question) → Operands
 
 -- a command's name, its operands as `help` shows them, and how they are written
 pub record Line : Type 0 where
@@ -193,6 +181,8 @@ said_by symbols (question_of_number low high make) words =
     made (λ said. Shows (view.May (make said.0) said.1)) (number_and_horizon low high words)
 said_by symbols (question_of_bytes high make) words =
     made (λ said. Shows (view.May (make said.0.0 said.0.1) said.1)) (bytes_and_horizon symbols high words)
+said_by symbols (question_of_some_bytes high make) words =
+    made (λ said. Shows (view.May (make said.0.0 said.0.1) said.1)) (some_bytes_and_horizon symbols high words)
 
 -- the command of the line that has the name, or a fault
 abbrev pub command_among : DebugFault → List Symbol → List Line → List ℕ → List (List ℕ) → Result Command DebugFault
@@ -219,6 +209,7 @@ questions =
     ∷ line (codes "load") [] (question_of_bytes (2 ^ 64 - 1) Load)
     ∷ line (codes "execute") [] (question_of_bytes (2 ^ 64 - 1) Execute)
     ∷ line (codes "learn") [] (question_of_bytes (2 ^ 64 - 1) Learn)
+    ∷ line (codes "keep") [] (question_of_some_bytes (2 ^ 64 - 1) Keep)
     ∷ line (codes "send") [] (question Send)
     ∷ line (codes "halt") [] (question Halt)
     ∷ line (codes "system") [] (question System)
@@ -270,7 +261,8 @@ of_states =
     ∷ line (codes "why") [] (nothing (Shows view.Why))
     ∷ line (codes "reach") (codes " [members|dot|doors]") (a_verb reach_of)
     ∷ line (codes "may")
-    (codes " store|load|execute|learn ADDR LEN [through doors]\nmay send|halt|system|timer [through doors]\nmay hold TYPE [through doors]")
+    (codes " store|load|execute|learn ADDR LEN [through doors]\nmay keep [ADDR LEN] [through doors]\n"
+    ++ codes "may send|halt|system|timer [through doors]\nmay hold TYPE [through doors]")
     (a_verb may_of)
     ∷ line (codes "help") (codes " [B1|B2|B3|B4]") (a_verb help_on)
     ∷ line (codes "quit") [] (nothing Quit)

@@ -1,22 +1,14 @@
 -- The limits of a command's operands.
-use Rattle.std.specs.Prelude.{◌≡◌, ◌%◌, ◌<◌, ◌≤◌, ⊤, IsTrue}
-use Rattle.base.specs.Registers.{is_scr}
+use Rattle.std.specs.Prelude.{◌≡◌, ◌%◌, ◌<◌, ◌≤◌, ⊤}
 use Rattle.debug_commands.specs.declared.command.Command.{Command}
 use Rattle.debug_commands.specs.declared.command.Command.TheVariants.{Gives, Shows, Recalls, Back, Sets, Quit}
 use Rattle.debug_commands.specs.declared.command.Events.{Events}
 use Rattle.debug_commands.specs.declared.command.Events.TheVariants.{Steps, Ticks, Byte, Until, Go, Changed}
-use Rattle.debug_commands.specs.declared.command.Place.{Place}
-use Rattle.debug_commands.specs.declared.command.Place.TheVariants.{Register as General, Special, Granule}
+use Rattle.origins.specs.Places.{IsHolder}
 use Rattle.debug_commands.specs.declared.command.Recall.{Recall}
 use Rattle.debug_commands.specs.declared.command.Recall.TheVariants.{Ago, Origin, Lost}
 use Rattle.debug_commands.specs.declared.command.View.{View}
 use Rattle.debug_commands.specs.declared.command.View.TheVariants.{Register, Memory, Words}
-
--- there is such a register, or the granule begins at a multiple of 16
-abbrev pub IsHolder : Place → Type 0
-IsHolder (General n) = n < 32
-IsHolder (Special n) = IsTrue (is_scr n)
-IsHolder (Granule address) = address % 16 ≡ 0
 
 abbrev pub AreWithinLimits : Events → Type 0
 AreWithinLimits (Steps n) = n ≤ 1000000

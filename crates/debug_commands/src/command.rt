@@ -3,6 +3,8 @@ ghost use Rattle.std.specs.Prelude.{◌≡◌};
 ghost use Rattle.debug_commands.specs.Command.{stop_address};
 
 use crate::fault::DebugFault;
+use origins::Place;
+use reach::{Horizon, May};
 
 /// Where steps that a command gives stop.
 #[derive(Clone, Copy)]
@@ -23,17 +25,6 @@ impl Stop {
             Stop::Trap => None,
         }
     }
-}
-
-/// A place that holds a capability or a number.
-#[derive(Clone, Copy, Debug)]
-pub enum Place {
-    /// A general register, by its number: 0 to 31.
-    Register(u8),
-    /// A special capability register, by its number.
-    Special(u8),
-    /// A granule of memory, by its address, a multiple of 16. It may lie outside RAM.
-    Granule(u64),
 }
 
 /// The events that a command gives.
@@ -60,38 +51,6 @@ pub enum SetStops {
     Add(Stop),
     /// None is left.
     Clear,
-}
-
-/// What is asked of the code that runs from here on.
-#[derive(Clone, Copy)]
-pub enum May {
-    /// Whether it may store to some of so many bytes from an address.
-    Store { address: u64, count: u64 },
-    /// Whether it may load some of them.
-    Load { address: u64, count: u64 },
-    /// Whether it may execute some of them.
-    Execute { address: u64, count: u64 },
-    /// Whether it may learn anything of them.
-    Learn { address: u64, count: u64 },
-    /// Whether it may send a byte on the console.
-    Send,
-    /// Whether it may halt the machine.
-    Halt,
-    /// Whether it may use the system registers.
-    System,
-    /// Whether it may set the timer.
-    Timer,
-    /// Whether it holds a capability that is sealed with this type, 0 to 262143.
-    Hold(u64),
-}
-
-/// How far an answer about the code that runs from here on holds.
-#[derive(Clone, Copy)]
-pub enum Horizon {
-    /// Up to the next trap, unsealing or sealed jump.
-    Stretch,
-    /// Up to the next trap or unsealing: through sealed jumps, too.
-    Turn,
 }
 
 /// What a command shows.

@@ -1,7 +1,7 @@
 //! What an address of a command is, with labels and without.
 ghost use Rattle.std.specs.Prelude.{◌≡◌, ◌-◌, ◌^◌, ℕ, [], List, Some, true};
-ghost use Rattle.symbols.specs.Symbols.{Symbol, address_of, is_label};
-ghost use Rattle.debug_commands.specs.Command.{address_in, number_between, read_number};
+ghost use Rattle.asm_lines.specs.Words.{number_between, read_number};
+ghost use Rattle.symbols.specs.Symbols.{Symbol, address_in, address_of, is_label};
 
 /// A number is itself, whatever the labels are; without labels an address is a number and nothing else; and the text of a label is no
 /// number, so that it stands for that label's address.

@@ -6,9 +6,7 @@ mod fault;
 pub mod laws;
 mod operands;
 mod table;
-mod words;
 
-pub use command::{Command, Events, Horizon, May, Place, Recall, SetStops, Stop, View};
+pub use command::{Command, Events, Recall, SetStops, Stop, View};
 pub use fault::DebugFault;
 pub use table::{command_of, help_text};
-pub use words::split_word;

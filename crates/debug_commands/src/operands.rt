@@ -1,39 +1,18 @@
 //! Operands of commands as they are written.
 ghost use Rattle.std.specs.Prelude.{◌≡◌, ◌≤◌, ◌<◌, ◌%◌, ◌^◌, IfOk, IfSome};
 ghost use Rattle.debug_commands.specs.Command as spec;
-ghost use Rattle.debug_commands.specs.Command.{words_of, number_between, read_number};
-ghost use Rattle.debug_commands.specs.Limits.{IsHolder};
+ghost use Rattle.asm_lines.specs.Words.{words_of};
+ghost use Rattle.origins.specs.Places.{IsHolder};
 
-use crate::command::{Horizon, Place};
 use crate::fault::DebugFault;
-use crate::words::split_word;
-use asm_lines::natural;
+use asm_lines::{number_between, split_word};
 use asm_names::{register_named, scr_named};
+use origins::Place;
+use reach::Horizon;
 use symbols::Symbols;
 
 /// The bytes of a granule.
 const CAPABILITY_BYTES: u64 = 16;
-
-/// A number of `low` to `high`.
-fn number(text: &[u8], low: u64, high: u64) -> Option<u64>
-    ensures value { result ≡ read_number (number_between low high text.now) }
-    ensures bound { IfSome result (λ n. n ≤ high) }
-{
-    match natural(text, high) {
-        Ok(number) if number >= low => Some(number),
-        _ => None,
-    }
-}
-
-/// An address: a number of 64 bits, or else the address of a label.
-fn address_in(symbols: &Symbols, text: &[u8]) -> Option<u64>
-    ensures { result ≡ spec.address_in symbols.now text.now }
-{
-    match number(text, 0, u64::MAX) {
-        Some(number) => Some(number),
-        None => symbols.address_of(text),
-    }
-}
 
 /// The only operand, a number of `low` to `high`, or B2.
 pub(crate) fn one_number(operands: &[u8], low: u64, high: u64) -> Result<u64, DebugFault>
@@ -46,7 +25,7 @@ pub(crate) fn one_number(operands: &[u8], low: u64, high: u64) -> Result<u64, De
     if split_word(rest).is_some() {
         return Err(DebugFault::B2);
     }
-    number(word, low, high).ok_or(DebugFault::B2)
+    number_between(word, low, high).ok_or(DebugFault::B2)
 }
 
 /// The only operand, an address, or B2.
@@ -59,7 +38,7 @@ pub(crate) fn one_address(symbols: &Symbols, operands: &[u8]) -> Result<u64, Deb
     if split_word(rest).is_some() {
         return Err(DebugFault::B2);
     }
-    address_in(symbols, word).ok_or(DebugFault::B2)
+    symbols.address_in(word).ok_or(DebugFault::B2)
 }
 
 /// The only two operands, an address that is a multiple of `multiple` and a number of 1 to `high`, or B2.
@@ -83,10 +62,10 @@ pub(crate) fn address_and_number(
     if split_word(rest).is_some() {
         return Err(DebugFault::B2);
     }
-    let Some(address) = address_in(symbols, place) else {
+    let Some(address) = symbols.address_in(place) else {
         return Err(DebugFault::B2);
     };
-    match number(count, 1, high) {
+    match number_between(count, 1, high) {
         Some(count) if address % multiple == 0 => Ok((address, count)),
         _ => Err(DebugFault::B2),
     }
@@ -129,7 +108,7 @@ fn holder_in(symbols: &Symbols, text: &[u8]) -> Option<Place>
     if let Some(number) = scr_named(text) {
         return Some(Place::Special(number));
     }
-    granule_at(address_in(symbols, text)?)
+    granule_at(symbols.address_in(text)?)
 }
 
 /// The only operand, what holds a capability, or B2.
@@ -165,7 +144,7 @@ pub(crate) fn holder_and_number(
     if split_word(rest).is_some() {
         return Err(DebugFault::B2);
     }
-    match (holder_in(symbols, place), number(count, 1, high)) {
+    match (holder_in(symbols, place), number_between(count, 1, high)) {
         (Some(place), Some(count)) => Ok((place, count)),
         _ => Err(DebugFault::B2),
     }
@@ -201,7 +180,7 @@ pub(crate) fn number_and_horizon(
     let Some((word, rest)) = split_word(operands) else {
         return Err(DebugFault::B2);
     };
-    match number(word, low, high) {
+    match number_between(word, low, high) {
         Some(number) => Ok((number, horizon(rest)?)),
         None => Err(DebugFault::B2),
     }
@@ -221,8 +200,22 @@ pub(crate) fn bytes_and_horizon(
     let Some((count, rest)) = split_word(rest) else {
         return Err(DebugFault::B2);
     };
-    match (address_in(symbols, place), number(count, 1, high)) {
+    match (symbols.address_in(place), number_between(count, 1, high)) {
         (Some(address), Some(count)) => Ok(((address, count), horizon(rest)?)),
         _ => Err(DebugFault::B2),
+    }
+}
+
+/// The same, or how far an answer is to hold alone: then it is about the first `high` bytes that there are.
+pub(crate) fn some_bytes_and_horizon(
+    symbols: &Symbols,
+    operands: &[u8],
+    high: u64,
+) -> Result<((u64, u64), Horizon), DebugFault>
+    ensures { result ≡ spec.some_bytes_and_horizon symbols.now high (words_of operands.now) }
+{
+    match horizon(operands) {
+        Ok(until) => Ok(((0, high), until)),
+        Err(_) => bytes_and_horizon(symbols, operands, high),
     }
 }

@@ -1,18 +1,19 @@
 //! The table of the commands, and what is read off it: what `help` answers, and the command that a line writes.
 ghost use Rattle.std.specs.Prelude.{◌≡◌, IfOk};
-ghost use Rattle.debug_commands.specs.Command.{command_among, of_states, words_of};
+ghost use Rattle.asm_lines.specs.Words.{words_of};
+ghost use Rattle.debug_commands.specs.Command.{command_among, of_states};
 ghost use Rattle.debug_commands.specs.declared.fault.DebugFault.TheVariants.{B1};
 ghost use Rattle.debug_commands.specs.Command as spec;
 ghost use Rattle.debug_commands.specs.Limits.{IsWithinLimits};
 
-use crate::command::{Command, Events, Horizon, May, Recall, SetStops, Stop, View};
+use crate::command::{Command, Events, Recall, SetStops, Stop, View};
 use crate::fault::DebugFault;
 use crate::operands::{
     address_and_number, bytes_and_horizon, holder_and_number, horizon, number_and_horizon,
-    one_address, one_holder, one_number, one_register,
+    one_address, one_holder, one_number, one_register, some_bytes_and_horizon,
 };
-use crate::words::split_word;
-use asm_lines::{Class, run_length};
+use asm_lines::{Class, run_length, split_word};
+use reach::{Horizon, May};
 use symbols::Symbols;
 
 /// The most bytes that a line has.
@@ -71,6 +72,7 @@ macro_rules! of_states {
             "why" "" (nothing) n => Command::Shows(View::Why);
             "reach" " [members|dot|doors]" (verb reach_of) n => ();
             "may" " store|load|execute|learn ADDR LEN [through doors]\n\
+                may keep [ADDR LEN] [through doors]\n\
                 may send|halt|system|timer [through doors]\n\
                 may hold TYPE [through doors]"
                 (verb may_of) n => ();
@@ -100,6 +102,7 @@ macro_rules! questions {
             "load" "" (question_of_bytes MOST_ASKED) p => May::Load { address: p.0, count: p.1 };
             "execute" "" (question_of_bytes MOST_ASKED) p => May::Execute { address: p.0, count: p.1 };
             "learn" "" (question_of_bytes MOST_ASKED) p => May::Learn { address: p.0, count: p.1 };
+            "keep" "" (question_of_some_bytes MOST_ASKED) p => May::Keep { address: p.0, count: p.1 };
             "send" "" (question) n => May::Send;
             "halt" "" (question) n => May::Halt;
             "system" "" (question) n => May::System;
@@ -181,6 +184,10 @@ macro_rules! made_of {
     }};
     ((question_of_bytes $high:tt) $said:ident $made:expr, $symbols:ident $operands:ident) => {{
         let ($said, until) = bytes_and_horizon($symbols, $operands, $high)?;
+        Ok(Command::Shows(View::May($made, until)))
+    }};
+    ((question_of_some_bytes $high:tt) $said:ident $made:expr, $symbols:ident $operands:ident) => {{
+        let ($said, until) = some_bytes_and_horizon($symbols, $operands, $high)?;
         Ok(Command::Shows(View::May($made, until)))
     }};
     ((nothing) $said:ident $made:expr, $symbols:ident $operands:ident) => { alone($operands, $made) };

@@ -2,10 +2,11 @@
 use Rattle.std.proofs.Common.{◌≡◌, Bool, true, false, not, refl, sym, subst}
 use Rattle.std.specs.Prelude.{Some}
 use Rattle.std.proofs.lemmas.Bool.{true≢false}
-use Rattle.debug_commands.specs.Limits.{IsHolder, IsRecalledWithinLimits}
+use Rattle.debug_commands.specs.Limits.{IsRecalledWithinLimits}
+use Rattle.origins.specs.Places.{IsHolder}
 use Rattle.debug_commands.specs.declared.command.Command.TheVariants.{Recalls}
-use Rattle.debug_commands.specs.declared.command.Place.{Place}
-use Rattle.debug_commands.specs.declared.command.Place.TheVariants as place
+use Rattle.origins.specs.declared.place.Place.{Place}
+use Rattle.origins.specs.declared.place.Place.TheVariants as place
 use Rattle.debug_commands.specs.declared.command.Recall.{Recall}
 use Rattle.debug_commands.specs.declared.command.Recall.TheVariants.{Ago, Origin, Lost}
 use Rattle.hart.specs.Opening.{opening}

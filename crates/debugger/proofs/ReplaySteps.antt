@@ -2,7 +2,7 @@
 use Rattle.std.proofs.Common.{◌≡◌, ℕ, zero, suc, ◌+◌, ◌-◌, ◌<◌, ◌==◌, Bool, true, false, ◌||◌, List, [], ◌∷◌, ◌++◌, length}
 use Rattle.std.proofs.Common.{refl, sym, ap, ◌∙◌}
 use Rattle.std.proofs.Common.{append-nil, length-append, arith}
-use Rattle.std.specs.Prelude.{Option, Some, None, if◌then◌else◌, map, option_to_list}
+use Rattle.std.specs.Prelude.{Option, Some, None, if◌then◌else◌, is_some, map, option_to_list}
 use Rattle.steps.specs.declared.event.Event.{Event}
 use Rattle.steps.specs.declared.event.Event.TheVariants.{Step, Tick, Byte}
 use Rattle.steps.specs.State.{State}
@@ -53,6 +53,19 @@ second-is-false true b c h = absurd (cc)
 not-none : (n : ℕ) → (n == 0) ≡ false → 0 < n
 not-none zero h = absurd (cc)
 not-none (suc n) h = omega arith
+
+third-is-false : (a b c : Bool) → a || (b || c) ≡ false → c ≡ false
+third-is-false false false c h = h
+third-is-false false true c h = absurd (cc)
+third-is-false true b c h = absurd (cc)
+
+-- it isn't halted
+pub running : (o p : Option ℕ) (b : Bool) → o ≡ p → b ≡ is_some o → b ≡ false → p ≡ None
+running None p b same is off = sym same
+running (Some n) p b same is off = cc
+
+pub runs-on : (r : ReplayState) (room : ℕ) (s : State) → is_at_end (Some r) room s ≡ false → s.devices.halted ≡ None
+runs-on r room s h = running s.devices.halted s.devices.halted false refl (sym (third-is-false _ (room == 0) _ h)) refl
 
 pub room-left : (r : ReplayState) (room : ℕ) (s : State) → is_at_end (Some r) room s ≡ false → 0 < room
 room-left r room s h = not-none room (second-is-false _ (room == 0) _ h)

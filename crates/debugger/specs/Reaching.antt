@@ -2,9 +2,9 @@
 use Rattle.std.specs.Prelude.{ℕ, List, []}
 use Rattle.symbols.specs.Symbols.{Symbol}
 use Rattle.steps.specs.State.{State}
-use Rattle.debug_commands.specs.declared.command.Horizon.{Horizon}
-use Rattle.debug_commands.specs.declared.command.Horizon.TheVariants.{Stretch, Turn}
-use Rattle.debug_commands.specs.declared.command.May.{May}
+use Rattle.reach.specs.declared.may.Horizon.{Horizon}
+use Rattle.reach.specs.declared.may.Horizon.TheVariants.{Stretch, Turn}
+use Rattle.reach.specs.declared.may.May.{May}
 use Rattle.doors.specs.ThroughOrder.{doors_in, members_through}
 use Rattle.reach.specs.Reach.{members_in}
 use Rattle.reach_texts.specs.Asked.{first_that}

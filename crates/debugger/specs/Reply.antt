@@ -31,8 +31,8 @@ use Rattle.debug_commands.specs.declared.command.Command.{Command}
 use Rattle.debug_commands.specs.declared.command.Command.TheVariants.{Gives, Shows, Recalls, Back, Sets, Quit}
 use Rattle.debug_commands.specs.declared.command.Events.{Events}
 use Rattle.debug_commands.specs.declared.command.Events.TheVariants.{Steps, Ticks, Byte, Until, Go, Changed}
-use Rattle.debug_commands.specs.declared.command.Place.{Place}
-use Rattle.debug_commands.specs.declared.command.Place.TheVariants.{Granule}
+use Rattle.origins.specs.declared.place.Place.{Place}
+use Rattle.origins.specs.declared.place.Place.TheVariants.{Granule}
 use Rattle.debug_commands.specs.declared.command.Recall.{Recall}
 use Rattle.debug_commands.specs.declared.command.Recall.TheVariants.{Ago, Origin, Lost}
 use Rattle.debug_commands.specs.declared.command.SetStops.{SetStops}

@@ -11,7 +11,7 @@ use Rattle.machine.specs.Run.{run_after}
 use Rattle.schedules.specs.Schedule.{is_halted}
 use Rattle.debug_commands.specs.declared.command.Stop.{Stop}
 use Rattle.debug_commands.specs.declared.command.Stop.TheVariants.{Address, Trap}
-use Rattle.debug_commands.specs.declared.command.Place.{Place}
+use Rattle.origins.specs.declared.place.Place.{Place}
 use Rattle.cap_bounds.specs.CapValue.{CapValue}
 use Rattle.cap_rights.specs.Derivations.{equal_exact}
 use Rattle.origins.specs.Places.{held}

@@ -8,9 +8,8 @@ ghost use Rattle.debugger.specs.Stepping.{holds, holds_on, is_done, steps_holdin
 
 use cap_bounds::CapRep;
 use cap_rights::equal_exact;
-use debug_commands::Place;
 use machine::{Event, Machine, emit};
-use origins::held;
+use origins::{Place, held};
 use past::Replay;
 
 /// Whether all steps of a schedule, if there is one, were given.

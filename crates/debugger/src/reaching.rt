@@ -3,10 +3,9 @@ ghost use Rattle.std.specs.Prelude.{◌≡◌, ◌++◌, OnOk, string_bytes};
 ghost use Rattle.debugger.specs.Reaching.{graph_reply, may_reply, members_reply, reach_reply};
 
 use cap_bounds::CapRep;
-use debug_commands::{Horizon, May};
 use doors::closure_through_doors;
 use hart::Hart;
-use reach::Reach;
+use reach::{Horizon, May, Reach};
 use reach_texts::{first_that, put_answer, put_graph, put_members, put_summary};
 use std::alloc::{AllocError, Global};
 use symbols::Symbols;

@@ -9,3 +9,5 @@ mod Invoking
 mod Rounds
 mod Ordered
 mod Searched
+mod Lending
+mod Found

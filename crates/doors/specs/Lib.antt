@@ -3,6 +3,7 @@ pub mod Doors
 pub mod Turn
 pub mod Sets
 pub mod Worlds
+pub mod Lent
 pub mod Closed
 pub mod Roots
 pub mod Through

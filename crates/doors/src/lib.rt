@@ -9,6 +9,7 @@
 #![tactic(auto)]
 
 pub mod laws;
+pub mod lent;
 mod opening;
 mod set;
 mod start;

@@ -1,36 +1,17 @@
 //! Which key opens a sealed capability.
-ghost use Rattle.std.specs.Prelude.{◌≡◌, ◌↔◌, IsTrue};
-ghost use Rattle.cap_bounds.specs.CapValue.{is_sealed};
-ghost use Rattle.cap_rights.specs.Rights.{OpensType};
+ghost use Rattle.std.specs.Prelude.{◌↔◌, IsTrue};
 ghost use Rattle.doors.specs.Closed.{IsPair, IsOpenedBy};
 
 use base::otype;
 use cap_bounds::CapRep;
 use cap_checks::check_invoke;
-use cap_rights::{Permission, permits};
-
-/// Whether a capability has a seal.
-pub(crate) fn is_sealed<C: CapRep>(cap: C) -> bool
-    ensures { result ≡ is_sealed (C.value cap) }
-{
-    cap.otype() != otype::UNSEALED
-}
+use cap_rights::{Permission, is_sealed, opens_type, permits};
 
 /// Whether CInvoke accepts the two as code and data. The registers that hold them are named by a fault alone, so any two serve.
 fn is_pair<C: CapRep>(code: C, datum: C) -> bool
     ensures { IsTrue result ↔ IsPair (C.value code) (C.value datum) }
 {
     check_invoke(code, 0, datum, 0).is_ok()
-}
-
-/// Whether values may be sealed with the type through a capability.
-fn opens_type<C: CapRep>(cap: C, otype: u32) -> bool
-    ensures { IsTrue result ↔ OpensType (C.value cap) otype }
-{
-    !is_sealed(cap)
-        && permits(cap, Permission::Seal)
-        && cap.base() <= u64::from(otype)
-        && u128::from(otype) < cap.top()
 }
 
 /// Whether a sealed jump may open a capability for code that holds it and the key: any key a sentry, one of a pair the other, and a key

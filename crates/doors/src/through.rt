@@ -7,10 +7,10 @@ ghost use Rattle.reached.specs.Order.{seen_member, seen_members};
 ghost use Rattle.doors.specs.Through.{AreReachableThroughDoors, AreLinkedThroughDoors};
 ghost use Rattle.doors.specs.ThroughOrder.{is_open_at, open_doors, door_of, round, doors_in, members_through};
 
-use crate::opening::{is_sealed, opens};
+use crate::opening::opens;
 use crate::start::{roots, specials};
 use cap_bounds::CapRep;
-use cap_rights::opened;
+use cap_rights::{is_sealed, opened};
 use hart::Hart;
 use reached::{Member, Place, closure};
 use std::alloc::{AllocError, Global};

@@ -14,6 +14,7 @@ use Rattle.isa_rows.specs.Kind.{kind_of}
 use Rattle.isa_rows.specs.Decoded.{insn_of}
 use Rattle.steps.specs.State.{State}
 use Rattle.symbols.specs.Symbols.{Symbol}
+use Rattle.steps.specs.FetchedLaws.{FetchesWord, FetchFaults}
 use Rattle.steps.specs.Step.{asked, fetch_asked, fetch, word_unless}
 use Rattle.explain.specs.Asked.{all_conditions, stages_of, stages_unless, word_stages}
 use Rattle.explain.specs.WhyText.{condition_line, failed_line, false_line}
@@ -31,32 +32,35 @@ fetched : (f : Option Fault) (s : State) (word : ℕ) → word_unless f s ≡ Ok
 fetched None s word e = refl
 fetched (Some fault) s word e = cc
 
-none-is : {T : Type 0} (o : Option T) → is_some o ≡ false → o ≡ None
-none-is None e = refl
-none-is (Some x) e = cc
-
 -- a word that is an instruction
-pub failed-insn : (symbols : List Symbol) (word : ℕ) (s : State) (insn : Insn) → insn_of word ≡ Some insn
-    → false_line symbols s (asked (kind_of insn.row) word insn s)
-    ≡ false_line symbols s (all_conditions (word_stages (insn_of word) word s))
-failed-insn symbols word s insn some = rw some (ap (false_line symbols s) (sym (append-nil (asked (kind_of insn.row) word insn s))))
+pub failed-insn : (symbols : List Symbol) (word : ℕ) (s : State) (o : Option Insn) (insn : Insn) → o ≡ Some insn
+    → false_line symbols s (asked (kind_of insn.row) word insn s) ≡ false_line symbols s (all_conditions (word_stages o word s))
+failed-insn symbols word s o insn some = rw some (ap (false_line symbols s) (sym (append-nil (asked (kind_of insn.row) word insn s))))
 
 -- and a word of no row
-pub failed-none : (symbols : List Symbol) (word : ℕ) (s : State) → insn_of word ≡ None
-    → condition_line symbols s (asks (Instruction word) false) ≡ false_line symbols s (all_conditions (word_stages (insn_of word) word s))
-failed-none symbols word s none = rw none refl
+pub failed-none : (symbols : List Symbol) (word : ℕ) (s : State) (o : Option Insn) → o ≡ None
+    → condition_line symbols s (asks (Instruction word) false) ≡ false_line symbols s (all_conditions (word_stages o word s))
+failed-none symbols word s o none = rw none refl
 
-module _ (symbols : List Symbol) (s : State) (running : is_some (pending s.csrs (interrupts_of s.devices)) ≡ false) where
-  pub failed-word : (word : ℕ) → fetch s ≡ Ok word
-      → false_line symbols s (all_conditions (word_stages (insn_of word) word s)) ≡ failed_line symbols s
+module _ (symbols : List Symbol) (s : State) where
+  pub failed-word : (word : ℕ) (insn : Option Insn) → FetchesWord (pending s.csrs (interrupts_of s.devices)) (fetch s) word insn
+      → false_line symbols s (all_conditions (word_stages insn word s)) ≡ failed_line symbols s
   unfolding failed_line stages_of
-  failed-word word is =
-      rw (none-is (pending s.csrs (interrupts_of s.devices)) running, is)
+  failed-word word insn found =
+      rw (found.uninterrupted, found.fetched, found.decoded)
       (sym (all-hold symbols s (fetch_asked s) (all_conditions (word_stages (insn_of word) word s))
-      (fetched (first_false (fetch_asked s)) s word is)))
+      (fetched (first_false (fetch_asked s)) s word found.fetched)))
 
-  pub failed-fetch : (fault : Fault) → fetch s ≡ Err fault → false_line symbols s (fetch_asked s) ≡ failed_line symbols s
+  pub failed-fetch : FetchFaults (pending s.csrs (interrupts_of s.devices)) (fetch s)
+      → false_line symbols s (fetch_asked s) ≡ failed_line symbols s
   unfolding failed_line stages_of
-  failed-fetch fault is =
-      rw (none-is (pending s.csrs (interrupts_of s.devices)) running, is)
-      (ap (false_line symbols s) (sym (append-nil (fetch_asked s))))
+  failed-fetch faults =
+      rw (faults.uninterrupted, faults.fetched) (ap (false_line symbols s) (sym (append-nil (fetch_asked s))))
+
+  pub failed-none-at : is_some (pending s.csrs (interrupts_of s.devices)) ≡ true → [] ≡ failed_line symbols s
+  unfolding failed_line stages_of
+  failed-none-at interrupted = none-at (pending s.csrs (interrupts_of s.devices)) interrupted
+    where
+      none-at : (p : Option Interrupt) → is_some p ≡ true → [] ≡ false_line symbols s (all_conditions (stages_unless p s))
+      none-at (Some i) is = refl
+      none-at None is = cc

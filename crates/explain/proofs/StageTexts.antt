@@ -15,12 +15,14 @@ use Rattle.symbols.specs.Symbols.{Symbol}
 use Rattle.symbols.specs.Labels.{labelled}
 use Rattle.devices.specs.Devices.{interrupts_of}
 use Rattle.special_regs.specs.Interrupts.{pending}
+use Rattle.special_regs.specs.declared.interrupts.Interrupt.{Interrupt}
 use Rattle.isa_rows.specs.declared.operands.Insn.{Insn}
 use Rattle.isa_rows.specs.Kind.{kind_of}
 use Rattle.isa_rows.specs.Decoded.{insn_of}
 use Rattle.steps.specs.State.{State, pc_of}
+use Rattle.steps.specs.FetchedLaws.{FetchesWord, FetchFaults}
 use Rattle.steps.specs.Step.{asked, fetch_asked, fetch}
-use Rattle.explain.specs.Asked.{decoding, word_stages, stages_of}
+use Rattle.explain.specs.Asked.{decoding, word_stages, stages_of, stages_unless}
 use Rattle.explain.specs.WhyText.{place_text, stage_text, stages_text, capability_line, capability_lines}
 
 module _ {T : Type 0} (text_of : T → List ℕ) (old : List ℕ) (first : T) where
@@ -50,47 +52,50 @@ lines-other (Right n cause) right word cs s = absurd (right n cause refl)
 lines-other (Instruction n) right word cs s = absurd (word n refl)
 lines-other _ right word cs s = refl
 
-none-is : {T : Type 0} (o : Option T) → is_some o ≡ false → o ≡ None
-none-is None e = refl
-none-is (Some x) e = cc
+abbrev pub pending_is_some : State → Bool
+pending_is_some s = is_some (pending s.csrs (interrupts_of s.devices))
 
 module _ (symbols : List Symbol) (word : ℕ) (s : State) (old between new : List ℕ) (found : Option Insn) (holds : Bool)
-    (same : found ≡ insn_of word) (is : holds ≡ is_some found) (first : between ≡ old ++ stage_text symbols s (decoding holds word)) where
+    (is : holds ≡ is_some found) (first : between ≡ old ++ stage_text symbols s (decoding holds word)) where
   pub shown-insn : (insn : Insn) (conditions : List Condition) → found ≡ Some insn
       → conditions ≡ asked (kind_of insn.row) word insn s → new ≡ between ++ stage_text symbols s conditions
-      → new ≡ old ++ flat_map (stage_text symbols s) (word_stages (insn_of word) word s)
+      → new ≡ old ++ flat_map (stage_text symbols s) (word_stages found word s)
   shown-insn insn conditions some lists last =
-      let here : insn_of word ≡ Some insn = sym same ∙ some in
-      rw here
+      rw some
       (two_texts (stage_text symbols s) old (decoding true word) between new (asked (kind_of insn.row) word insn s)
       (first ∙ ap (λ b. old ++ stage_text symbols s (decoding b word)) (is ∙ ap is_some some))
       (last ∙ ap (λ l. between ++ stage_text symbols s l) lists))
 
-  pub shown-word : found ≡ None → new ≡ between ++ [] → new ≡ old ++ flat_map (stage_text symbols s) (word_stages (insn_of word) word s)
+  pub shown-word : found ≡ None → new ≡ between ++ [] → new ≡ old ++ flat_map (stage_text symbols s) (word_stages found word s)
   shown-word none last =
-      let here : insn_of word ≡ None = sym same ∙ none in
-      rw here
+      rw none
       (one_text (stage_text symbols s) old (decoding false word) new
       (last ∙ append-nil between ∙ first ∙ ap (λ b. old ++ stage_text symbols s (decoding b word)) (is ∙ ap is_some none)))
 
-module _ (symbols : List Symbol) (s : State) (old between new : List ℕ) (conditions : List Condition)
-    (running : is_some (pending s.csrs (interrupts_of s.devices)) ≡ false)
-    (lists : conditions ≡ fetch_asked s) (first : between ≡ old ++ stage_text symbols s conditions) where
-  fetch-shown : between ≡ old ++ stage_text symbols s (fetch_asked s)
-  fetch-shown = first ∙ ap (λ l. old ++ stage_text symbols s l) lists
-
-  pub stages-shown : (word : ℕ) → fetch s ≡ Ok word → new ≡ between ++ flat_map (stage_text symbols s) (word_stages (insn_of word) word s)
-      → new ≡ old ++ stages_text symbols s
+module _ (symbols : List Symbol) (s : State) (old new : List ℕ) where
+  pub stages-shown : (between : List ℕ) (word : ℕ) (insn : Option Insn)
+      → FetchesWord (pending s.csrs (interrupts_of s.devices)) (fetch s) word insn
+      → between ≡ old ++ stage_text symbols s (fetch_asked s)
+      → new ≡ between ++ flat_map (stage_text symbols s) (word_stages insn word s) → new ≡ old ++ stages_text symbols s
   unfolding stages_text stages_of
-  stages-shown word fetched last =
-      rw (none-is (pending s.csrs (interrupts_of s.devices)) running, fetched)
-      (text_more (stage_text symbols s) old (fetch_asked s) between new (word_stages (insn_of word) word s) fetch-shown last)
+  stages-shown between word insn found first last =
+      rw (found.uninterrupted, found.fetched)
+      (text_more (stage_text symbols s) old (fetch_asked s) between new (word_stages (insn_of word) word s) first
+      (last ∙ ap (λ o. between ++ flat_map (stage_text symbols s) (word_stages o word s)) found.decoded))
 
-  pub fetch-alone : (fault : Fault) → fetch s ≡ Err fault → new ≡ between ++ [] → new ≡ old ++ stages_text symbols s
+  pub fetch-alone : FetchFaults (pending s.csrs (interrupts_of s.devices)) (fetch s)
+      → new ≡ old ++ stage_text symbols s (fetch_asked s) → new ≡ old ++ stages_text symbols s
   unfolding stages_text stages_of
-  fetch-alone fault refused last =
-      rw (none-is (pending s.csrs (interrupts_of s.devices)) running, refused)
-      (one_text (stage_text symbols s) old (fetch_asked s) new (last ∙ append-nil between ∙ fetch-shown))
+  fetch-alone faults last =
+      rw (faults.uninterrupted, faults.fetched) (one_text (stage_text symbols s) old (fetch_asked s) new last)
+
+  pub none-shown : pending_is_some s ≡ true → new ≡ old → new ≡ old ++ stages_text symbols s
+  unfolding stages_text stages_of
+  none-shown interrupted same = same ∙ none-at (pending s.csrs (interrupts_of s.devices)) interrupted
+    where
+      none-at : (p : Option Interrupt) → is_some p ≡ true → old ≡ old ++ flat_map (stage_text symbols s) (stages_unless p s)
+      none-at (Some i) is = sym (append-nil old)
+      none-at None is = cc
 
 pub other-place : (symbols : List Symbol) (invokes : Bool) (last : Question) (s : State)
     → ((otherwise : Cause) (address size : ℕ) → last ≡ Multiple otherwise address size → ⊥)

@@ -6,6 +6,7 @@ pub mod TraceLine
 pub mod WordLine
 pub mod Asked
 pub mod WhyText
+pub mod StandingText
 -- Laws
 pub mod AskedLaws
 -- How long names are

@@ -1,20 +1,19 @@
 //! Lines of words at addresses, and of traces, with labels where there is a table of symbols.
 ghost use Rattle.std.specs.Prelude.{◌≡◌, ◌++◌, OnOk, string_bytes};
 ghost use Rattle.std.specs.Option.{option_copied};
-ghost use Rattle.steps.specs.Applying.{meant, IsPlanned};
-ghost use Rattle.steps.specs.Step.{step_effect};
+ghost use Rattle.steps.specs.Applying.{IsPlanned};
+ghost use Rattle.steps.specs.Step.{step_fetched};
 ghost use Rattle.symbols.specs.Labels.{table_of};
 ghost use Rattle.explain.specs.TraceLine as spec;
 ghost use Rattle.explain.specs.WordLine.{labelled_word};
 
 use crate::effect::effect_text;
 use arrayvec::ArrayString;
-use base::interrupt;
 use cap_bounds::CapRep;
 use disassembler::disassemble;
 use hart::{Hart, Planned};
 use std::alloc::AllocError;
-use steps::Effect;
+use steps::Fetched;
 use symbols::{Symbols, labelled};
 use texts::Piece::Text;
 use texts::{append, pieces, text};
@@ -55,49 +54,36 @@ fn given(symbols: &Symbols) -> Option<&Symbols>
     }
 }
 
-/// Whether an effect is an interrupt that is taken.
-fn is_interrupt<C: CapRep>(effect: &Effect<C>) -> bool
-    ensures { result ≡ spec.is_interrupt (meant C.value effect.now) }
+/// The word that a step fetches and its text in a mode, or `-`.
+fn word_part(mode: bool, fetched: Fetched) -> ArrayString<80>
+    ensures { result.bytes ≡ spec.word_part mode fetched }
 {
-    match effect {
-        Effect::Trap(fault) => fault.mcause >= interrupt::CAUSE,
-        _ => false,
-    }
-}
-
-/// The word that the next step does, and its text.
-#[tactic(auto, unfolding(crate::specs::TraceLine::step_word))]
-fn step_word<C: CapRep>(hart: &Hart<C>, effect: &Effect<C>) -> ArrayString<80>
-    requires { meant C.value effect.now ≡ step_effect hart.now }
-    ensures { result.bytes ≡ spec.step_word hart.now }
-{
-    if is_interrupt(effect) {
-        return text(&[Text("-")]);
-    }
-    match hart.fetch() {
-        Ok(word) => {
-            let shown = disassemble(word, hart.scrs().pcc().flag());
-            text(&pieces![Hexadecimal(8, u128::from(word)) " " Text(shown.as_str())])
+    match fetched {
+        Fetched::Word(word, _) => {
+            let words = disassemble(word, mode);
+            text(&pieces![Hexadecimal(8, u128::from(word)) " " Text(words.as_str())])
         }
-        Err(_) => text(&[Text("-")]),
+        Fetched::Interrupt | Fetched::Fault => text(&[Text("-")]),
     }
 }
 
 /// The line of a trace for the next step, which was planned, of a machine that is not halted, with the step's number: PCC's address, the
 /// word of the instruction there and its text in PCC's mode, and what the step comes to; after an address stands its label. Where nothing
 /// is fetched, as where an interrupt is taken, `-` stands for the word. It takes no memory, and changes nothing.
+#[tactic(auto, unfolding(crate::specs::TraceLine::step_word))]
 pub fn trace_line<C: CapRep>(
     symbols: &Symbols,
     number: u64,
     hart: &Hart<C>,
     planned: &Planned<C>,
 ) -> Line
-    requires { IsPlanned C.value planned.now.effect hart.now }
+    requires planned { IsPlanned C.value planned.now.effect hart.now }
+    requires fetched { planned.now.fetched ≡ step_fetched hart.now }
     ensures { result.bytes ≡ spec.trace_line symbols.now number hart.now }
 {
     let table = given(symbols);
     let place = labelled(table, hart.scrs().pcc().address());
-    let word = step_word(hart, &planned.effect);
+    let word = word_part(hart.scrs().pcc().flag(), planned.fetched);
     let effect = effect_text(table, &planned.effect);
     text(&pieces![
         Decimal(number) " " Text(place.as_str()) " " Text(word.as_str()) ": " Text(effect.as_str())

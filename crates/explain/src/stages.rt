@@ -1,9 +1,8 @@
 //! The stages of the next step as lines of text, and the condition of them that fails.
-ghost use Rattle.std.specs.Prelude.{◌≡◌, ◌++◌, OnOk, flat_map, is_some, string_bytes};
-ghost use Rattle.devices.specs.Devices.{interrupts_of};
-ghost use Rattle.special_regs.specs.Interrupts as interrupts;
-ghost use Rattle.isa_rows.specs.Decoded.{insn_of};
+ghost use Rattle.std.specs.Prelude.{◌≡◌, ◌++◌, IfSome, OnOk, flat_map, string_bytes};
+ghost use Rattle.steps.specs.Looks.{HasRegisters};
 ghost use Rattle.steps.specs.State.{pc_of};
+ghost use Rattle.steps.specs.Step.{fetch_asked, step_fetched};
 ghost use Rattle.explain.specs.Asked.{all_conditions, word_stages};
 ghost use Rattle.explain.specs.WhyText as spec;
 ghost use Rattle.explain.specs.WhyText.{ram_name, moved_name, sized_place, place_text};
@@ -16,9 +15,9 @@ use base::{Cause, PCC_REGISTER, Size};
 use cap_bounds::CapRep;
 use cap_checks::{Condition, Question};
 use hart::Hart;
-use isa_table::decode;
-use special_regs::pending;
+use isa_rows::Insn;
 use std::alloc::AllocError;
+use steps::Fetched;
 use symbols::Symbols;
 use texts::Piece::Text;
 use texts::append;
@@ -170,17 +169,18 @@ fn append_stage<C: CapRep>(
     }
 }
 
-/// Appends the decoding of a word, and what it asks as an instruction, to a text.
+/// Appends the decoding of a word, and what it asks as this instruction, if it is one, to a text.
 fn append_word<C: CapRep>(
     text: &mut String,
     symbols: &Symbols,
     hart: &Hart<C>,
     word: u32,
+    found: Option<Insn>,
 ) -> Result<(), AllocError>
+    requires registers { IfSome found HasRegisters }
     ensures { OnOk result (string_bytes text.new
-        ≡ string_bytes text.old ++ flat_map (stage_text symbols.now hart.now) (word_stages (insn_of word) word hart.now)) }
+        ≡ string_bytes text.old ++ flat_map (stage_text symbols.now hart.now) (word_stages found word hart.now)) }
 {
-    let found = decode(word);
     let number = u64::from(word);
     let question = Question::Instruction { word: number };
     let holds = found.is_some();
@@ -194,30 +194,36 @@ fn append_word<C: CapRep>(
     }
 }
 
-/// Whether an interrupt is taken in place of the next instruction.
-fn is_interrupted<C: CapRep>(hart: &Hart<C>) -> bool
-    ensures { result ≡ is_some (interrupts.pending hart.now.csrs (interrupts_of hart.now.devices)) }
+/// Appends what the fetch asks to a text.
+fn append_fetch<C: CapRep>(
+    text: &mut String,
+    symbols: &Symbols,
+    hart: &Hart<C>,
+) -> Result<(), AllocError>
+    ensures { OnOk result (string_bytes text.new ≡ string_bytes text.old ++ stage_text symbols.now hart.now (fetch_asked hart.now)) }
 {
-    pending(hart.csrs(), hart.devices().interrupts()).is_some()
+    let asked = hart.fetch_asked(*text.allocator())?;
+    append_stage(text, symbols, hart, &asked)
 }
 
-/// Appends the stages of the next step to a text; there are none where an interrupt is taken.
+/// Appends the stages of the next step, which fetches so, to a text; there are none where an interrupt is taken.
 #[tactic(auto, unfolding(crate::specs::Asked::stages_of, crate::specs::WhyText::stages_text))]
 pub(crate) fn append_stages<C: CapRep>(
     text: &mut String,
     symbols: &Symbols,
     hart: &Hart<C>,
+    fetched: Fetched,
 ) -> Result<(), AllocError>
+    requires { fetched ≡ step_fetched hart.now }
     ensures { OnOk result (string_bytes text.new ≡ string_bytes text.old ++ stages_text symbols.now hart.now) }
 {
-    if is_interrupted(hart) {
-        return Ok(());
-    }
-    let asked = hart.fetch_asked(*text.allocator())?;
-    append_stage(text, symbols, hart, &asked)?;
-    match hart.fetch() {
-        Ok(word) => append_word(text, symbols, hart, word),
-        Err(_) => Ok(()),
+    match fetched {
+        Fetched::Interrupt => Ok(()),
+        Fetched::Fault => append_fetch(text, symbols, hart),
+        Fetched::Word(word, insn) => {
+            append_fetch(text, symbols, hart)?;
+            append_word(text, symbols, hart, word, insn)
+        }
     }
 }
 
@@ -242,17 +248,19 @@ fn append_false<C: CapRep>(
     }
 }
 
-/// Appends the line of the condition that fails of a word that was fetched to a text, where one does.
+/// Appends the line of the condition that fails of a word that was fetched, and is this instruction, to a text, where one does.
 fn append_word_failed<C: CapRep>(
     text: &mut String,
     symbols: &Symbols,
     hart: &Hart<C>,
     word: u32,
+    insn: Option<Insn>,
 ) -> Result<(), AllocError>
+    requires registers { IfSome insn HasRegisters }
     ensures { OnOk result (string_bytes text.new
-        ≡ string_bytes text.old ++ spec.false_line symbols.now hart.now (all_conditions (word_stages (insn_of word) word hart.now))) }
+        ≡ string_bytes text.old ++ spec.false_line symbols.now hart.now (all_conditions (word_stages insn word hart.now))) }
 {
-    match decode(word) {
+    match insn {
         Some(insn) => {
             let asked = hart.asked(*text.allocator(), word, insn)?;
             append_false(text, symbols, hart, &asked)
@@ -267,7 +275,7 @@ fn append_word_failed<C: CapRep>(
     }
 }
 
-/// Appends the line of the condition that fails at the next step of a machine that is not halted to a text: what it asks, of which
+/// Appends the line of the condition that fails at the next step, which fetches so, of a machine that is not halted: what it asks, of which
 /// register, and the numbers, addresses with their labels. Where none fails, as at an interrupt or an ECALL, it appends nothing.
 ///
 /// # Errors
@@ -278,17 +286,17 @@ pub fn put_failed<C: CapRep>(
     text: &mut String,
     symbols: &Symbols,
     hart: &Hart<C>,
+    fetched: Fetched,
 ) -> Result<(), AllocError>
+    requires { fetched ≡ step_fetched hart.now }
     ensures { OnOk result (string_bytes text.new ≡ string_bytes text.old ++ spec.failed_line symbols.now hart.now) }
 {
-    if is_interrupted(hart) {
-        return Ok(());
-    }
-    match hart.fetch() {
-        Ok(word) => append_word_failed(text, symbols, hart, word),
-        Err(_) => {
+    match fetched {
+        Fetched::Interrupt => Ok(()),
+        Fetched::Fault => {
             let asked = hart.fetch_asked(*text.allocator())?;
             append_false(text, symbols, hart, &asked)
         }
+        Fetched::Word(word, insn) => append_word_failed(text, symbols, hart, word, insn),
     }
 }

@@ -53,8 +53,9 @@ fn append_running<C: CapRep>(
     ensures { OnOk result (string_bytes text.new ≡ string_bytes text.old ++ running_text symbols.now hart.now) }
 {
     append_instruction(text, symbols, hart)?;
-    append_stages(text, symbols, hart)?;
-    let effect = effect_text(Some(symbols), &hart.next().effect);
+    let planned = hart.next();
+    append_stages(text, symbols, hart, planned.fetched)?;
+    let effect = effect_text(Some(symbols), &planned.effect);
     append(text, &[Text("effect: "), Text(effect.as_str()), Text("\n")])
 }
 

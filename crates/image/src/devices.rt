@@ -2,7 +2,7 @@
 
 ghost use Rattle.std.specs.Prelude.{◌≡◌, ℕ, ◌-◌, ◌^◌, ◌<◌, List, Option, None, OnOk, OnErr};
 ghost use Rattle.std.specs.Io.{ReadsAtMost, WritesAtMost};
-ghost use Rattle.std.specs.Io.KnownBytes.{Appends, ReadConsumes, WriteAppends};
+ghost use Rattle.std.specs.Io.KnownBytes.{Appends, Keeps, ReadConsumes, WriteAppends};
 ghost use Rattle.image.specs.Devices.{Counts, TakesSome, AppendsBeginning};
 
 /// A device's own call failed.
@@ -48,6 +48,12 @@ pub trait Sink {
         ensures bytes { WriteAppends (held self.old) (held self.new) result bytes.now }
         ensures some { TakesSome result bytes.now }
         ensures count { Counts (failed self.old) (failed self.new) result };
+
+    /// Hands on what it keeps back, so that others see it. Where that fails, a later write tells.
+    fn settle(&mut self)
+        ensures held { Keeps (held self.old) (held self.new) }
+        ensures count { failed self.new ≡ failed self.old }
+    {}
 
     /// How often a call of it has failed.
     fn failures(&self) -> u64

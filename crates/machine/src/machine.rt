@@ -11,6 +11,7 @@ ghost use Rattle.steps.specs.State.{HoldsCapabilities};
 ghost use Rattle.steps.specs.IsState.{IsState};
 ghost use Rattle.steps.specs.Applying.{IsPlanned};
 ghost use Rattle.steps.specs.Event.{after, sent};
+ghost use Rattle.steps.specs.Step.{step_fetched};
 ghost use Rattle.steps.specs.declared.event.Event.TheVariants.{Step};
 ghost use Rattle.hart.specs.Opening.{opening};
 ghost use Rattle.machine.specs.Run.{run_after, run_sent, end_of};
@@ -83,7 +84,8 @@ impl<C: CapRep> Machine<C> {
     /// Plans the next step. Nothing is changed.
     #[inline]
     pub fn next(&self) -> Planned<C>
-        ensures { IsPlanned C.value result.effect self.now }
+        ensures effect { IsPlanned C.value result.effect self.now }
+        ensures fetched { result.fetched ≡ step_fetched self.now }
     {
         self.hart.next()
     }

@@ -1,7 +1,7 @@
 -- As many links suffice as there are events, and one more.
 use Rattle.std.proofs.Common.{◌≡◌, ℕ, zero, suc, ◌<◌, List, ◌++◌, refl, sym, ap, ◌∙◌, arith}
 use Rattle.std.specs.Prelude.{Option, None, Some, IfSome}
-use Rattle.debug_commands.specs.declared.command.Place.{Place}
+use Rattle.origins.specs.declared.place.Place.{Place}
 use Rattle.hart.specs.Opening.{opening}
 use Rattle.origins.specs.Making.{source}
 use Rattle.origins.specs.Places.{IsThere}

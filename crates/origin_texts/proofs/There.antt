@@ -2,9 +2,9 @@
 use Rattle.std.proofs.lemmas.Bool.{cond_both}
 use Rattle.std.specs.Prelude.{◌==◌}
 use Rattle.cap_bounds.specs.CapValue.{value_address}
-use Rattle.debug_commands.specs.Limits.{IsHolder}
-use Rattle.debug_commands.specs.declared.command.Place.{Place}
-use Rattle.debug_commands.specs.declared.command.Place.TheVariants as place
+use Rattle.origins.specs.Places.{IsHolder}
+use Rattle.origins.specs.declared.place.Place.{Place}
+use Rattle.origins.specs.declared.place.Place.TheVariants as place
 use Rattle.steps.specs.State.{State}
 use Rattle.origins.specs.Kept.{AreThere}
 use Rattle.origins.specs.Places.{IsThere, held}

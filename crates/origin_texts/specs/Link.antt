@@ -3,8 +3,8 @@ use Rattle.std.specs.Prelude.{ℕ, ◌+◌, Bool, true, false, ◌&&◌, ◌==�
 use Rattle.asm_names.specs.Registers.{register_name}
 use Rattle.asm_names.specs.SpecialNames.{scr_name}
 use Rattle.cap_bounds.specs.CapValue.{CapValue, is_tagged, is_sealed, value_base, value_top, value_perms}
-use Rattle.debug_commands.specs.declared.command.Place.{Place}
-use Rattle.debug_commands.specs.declared.command.Place.TheVariants.{Register, Special, Granule}
+use Rattle.origins.specs.declared.place.Place.{Place}
+use Rattle.origins.specs.declared.place.Place.TheVariants.{Register, Special, Granule}
 use Rattle.disassembler.specs.Shown.{name_or}
 use Rattle.explain.specs.ValueText.{value_line}
 use Rattle.steps.specs.Event.{after}

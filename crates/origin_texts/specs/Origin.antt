@@ -1,7 +1,7 @@
 -- Where a value came from, and where a tag was lost: links over a session's past, the newest first.
 use Rattle.cap_bounds.specs.CapValue.{is_tagged}
 use Rattle.std.specs.Prelude.{ℕ, zero, suc, if◌then◌else◌, List, [], ◌∷◌, ◌++◌, take, Option, Some, None, codes}
-use Rattle.debug_commands.specs.declared.command.Place.{Place}
+use Rattle.origins.specs.declared.place.Place.{Place}
 use Rattle.hart.specs.Opening.{opening}
 use Rattle.steps.specs.State.{State}
 use Rattle.origins.specs.Making.{source}

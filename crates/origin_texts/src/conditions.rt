@@ -2,17 +2,16 @@
 ghost use Rattle.std.specs.Prelude.{◌≡◌, ◌++◌, OnOk, string_bytes};
 ghost use Rattle.explain.specs.WhyText.{mark};
 ghost use Rattle.origin_texts.specs.Conditions.{condition_line, condition_lines, permission_text, question_text};
-ghost use Rattle.debug_commands.specs.Limits.{IsHolder};
+ghost use Rattle.origins.specs.Places.{IsHolder};
 ghost use Rattle.origin_texts.specs.Asked.{AreAskedThere, IsAskedThere};
 ghost use Rattle.origin_texts.specs.Link.{place_text};
 
 use crate::place::place_text;
 use cap_bounds::CapRep;
 use cap_rights::Permission;
-use debug_commands::Place;
 use explain::put_bounds;
 use machine::Machine;
-use origins::{TagCondition, TagQuestion, held};
+use origins::{Place, TagCondition, TagQuestion, held};
 use std::alloc::AllocError;
 use symbols::{Symbols, labelled};
 use texts::Piece::{Decimal, Text};

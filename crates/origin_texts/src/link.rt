@@ -1,6 +1,5 @@
 //! One link of a derivation, as a line.
 ghost use Rattle.std.specs.Prelude.{◌≡◌, ◌<◌, ◌≤◌, ◌-◌, ◌^◌, ◌++◌, length, IsTrue, OnOk, string_bytes, IfSome};
-ghost use Rattle.cap_bounds.specs.CapValue.{is_sealed};
 ghost use Rattle.texts.specs.Piece.{text_of, width_of, are_narrow};
 ghost use Rattle.steps.specs.Applying.{IsPlanned};
 ghost use Rattle.origins.specs.Making.{source};
@@ -10,22 +9,14 @@ ghost use Rattle.origin_texts.specs.Link.{kept_notes, link_text, notes, opening_
 use crate::place::place_text;
 use arrayvec::ArrayString;
 use cap_bounds::CapRep;
-use cap_rights::OType;
-use debug_commands::Place;
+use cap_rights::is_sealed;
 use explain::{trace_line, value_text};
 use machine::{Machine, Planned};
-use origins::{Found, Making, held};
+use origins::{Found, Making, Place, held};
 use std::alloc::AllocError;
 use symbols::Symbols;
 use texts::Piece::{self, Text};
 use texts::{append, fill, text};
-
-/// Whether a value has another type than what is unsealed.
-fn is_sealed<C: CapRep>(value: C) -> bool
-    ensures { result ≡ is_sealed (C.value value) }
-{
-    value.otype() != OType::UNSEALED.number()
-}
 
 /// A note, unless what it speaks of is the same.
 fn unless(same: bool, note: &'static str) -> &'static str

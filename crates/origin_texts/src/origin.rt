@@ -3,7 +3,7 @@
 //! A session's past is gone through on machines of this crate's own, whatever the session's represents capabilities by: their states are
 //! the same.
 ghost use Rattle.std.specs.Prelude.{◌≡◌, ◌++◌, ◌≤◌, ◌<◌, ◌-◌, ◌^◌, ℕ, List, OnOk, IfOk, IfSome, option_copied, string_bytes};
-ghost use Rattle.debug_commands.specs.declared.command.Place.{Place};
+ghost use Rattle.origins.specs.declared.place.Place.{Place};
 ghost use Rattle.hart.specs.Opening.{opening};
 ghost use Rattle.origins.specs.Kept.{AreThere};
 ghost use Rattle.origins.specs.Places.{IsThere};
@@ -16,9 +16,8 @@ use crate::conditions::append_conditions;
 use crate::link::{append_link, append_opening};
 use crate::place::place_text;
 use cap_bounds::CapRep;
-use debug_commands::Place;
 use machine::Machine;
-use origins::{Found, Sought, held, tag_asked};
+use origins::{Found, Place, Sought, held, tag_asked};
 use past::{Past, Replay};
 use std::alloc::{AllocError, Global};
 use symbols::Symbols;

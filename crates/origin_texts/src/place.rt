@@ -1,11 +1,11 @@
 //! The names of places.
 ghost use Rattle.std.specs.Prelude.{◌≡◌, ◌≤◌};
 ghost use Rattle.arrayvec.specs.ArrayString.{array_string_len};
-ghost use Rattle.debug_commands.specs.Limits.{IsHolder};
+ghost use Rattle.origins.specs.Places.{IsHolder};
 ghost use Rattle.origin_texts.specs.Link.{place_text};
 
 use asm_names::{register_name, scr_name};
-use debug_commands::Place;
+use origins::Place;
 use symbols::{Labelled, Symbols, labelled};
 use texts::Piece::Text;
 use texts::text;

@@ -1,8 +1,8 @@
 -- What a place holds after an event, and after events none of which writes it.
 use Rattle.std.proofs.Common.{ℕ, ◌<◌, eqb, List, [], ◌∷◌, Option, Some, None, refl, sym, subst}
 use Rattle.cap_bounds.specs.CapValue.{CapValue}
-use Rattle.debug_commands.specs.declared.command.Place.{Place}
-use Rattle.debug_commands.specs.declared.command.Place.TheVariants as place
+use Rattle.origins.specs.declared.place.Place.{Place}
+use Rattle.origins.specs.declared.place.Place.TheVariants as place
 use Rattle.devices.specs.Devices.{Devices}
 use Rattle.base.specs.declared.fault.Fault.{Fault}
 use Rattle.base.specs.declared.registers.scr.TheConstants.{PCC}
@@ -16,14 +16,14 @@ use Rattle.steps.specs.Event.{after}
 use Rattle.steps.specs.EventLaws.{IsState-after, step_effect-sound}
 use Rattle.steps.specs.IsState.{IsState}
 use Rattle.steps.specs.State.{State}
-use Rattle.steps.specs.Step.{fetch, step_effect, stepped, stepped_unless}
+use Rattle.steps.specs.Step.{insn_fetched, step_effect, step_fetched, stepped, stepped_unless}
 use Rattle.steps.specs.declared.effect.Effect.{Effect}
 use Rattle.steps.specs.declared.effect.Effect.TheVariants.{Trap, Nothing, Write, Unseal, Store, StoreCapability, DeviceLoad, DeviceStore}
 use Rattle.steps.specs.declared.effect.Effect.TheVariants.{Jump, Link, Enter, Special, Csr, Return}
 use Rattle.steps.specs.declared.event.Event.{Event}
 use Rattle.steps.specs.declared.event.Event.TheVariants.{Step, Tick, Byte}
-use Rattle.origins.specs.Kept.{IsKept}
-use Rattle.origins.specs.Made.{decoded, if_written, insn_made, made_at, made_by, made_by_insn, made_unless, register_making, step_made}
+use Rattle.origins.specs.Kept.{HoldsTheSame}
+use Rattle.origins.specs.Made.{if_written, insn_made, made_at, made_by, made_by_insn, made_unless, register_making, step_made}
 use Rattle.origins.specs.Made.{trap_made}
 use Rattle.origins.specs.Made.{written_register}
 use Rattle.origins.specs.Places.{IsThere, held}
@@ -40,7 +40,7 @@ use Rattle.origins.proofs.Steps.{IsDone, IsStep, trapped, done, step-effect}
 use Rattle.origins.proofs.Becomes.{IsNoTrap, IsWritten, both-written, is-kept}
 
 module _ (s : State) where
-  kept-devices : (p : Place) (d : Devices) → IsKept p s (record s { devices = d })
+  kept-devices : (p : Place) (d : Devices) → HoldsTheSame p s (record s { devices = d })
   unfolding held
   kept-devices (place.Special n) d = but-refl (eqb n PCC) _
   kept-devices (place.Register n) d = refl
@@ -65,7 +65,7 @@ module _ (s : State) where
         granule-written s insn address there (register_making (kind_of insn.row) insn s) e carries sound
 
     done-written : (p : Place) → IsThere p s → (e : Effect CapValue) → IsSoundEffect e s → (insn : Insn) → IsDone insn e s → IsNoTrap e
-        → IsWritten p s (applied e s) (made_by_insn p e (decoded (fetch s)) s)
+        → IsWritten p s (applied e s) (made_by_insn p e (insn_fetched (step_fetched s)) s)
     done-written p there e sound insn it plain =
         subst (λ o. IsWritten p s (applied e s) (made_by_insn p e o s)) (sym it.is_decoded)
         (insn-written p there e sound insn
@@ -80,7 +80,8 @@ module _ (s : State) where
 
     -- an effect that is no trap is an instruction's
     by-written : (p : Place) → IsThere p s → (e : Effect CapValue)
-        → (IsNoTrap e → IsWritten p s (applied e s) (made_by_insn p e (decoded (fetch s)) s)) → IsWritten p s (applied e s) (made_by p e s)
+        → (IsNoTrap e → IsWritten p s (applied e s) (made_by_insn p e (insn_fetched (step_fetched s)) s))
+        → IsWritten p s (applied e s) (made_by p e s)
     by-written p there (Trap f) other = trap-written p there f
     by-written p there Nothing other = other tt
     by-written p there (Write w) other = other tt
@@ -114,7 +115,7 @@ module _ (s : State) where
 -- ---- runs
 
 pub none-writes : (events : List Event) (p : Place) (s : State) → IsState s → AreEvents events → IsThere p s → NoneDoes Written p events s
-    → IsKept p s (run_after events s)
+    → HoldsTheSame p s (run_after events s)
 none-writes [] p s is are there none = kept-refl p s
 none-writes (e ∷ es) p s is are there none =
     kept-trans p s (after e s) (run_after es (after e s)) (is-kept p s (after e s) (made_at p e s) (event-written s is p there e) none.0)

@@ -9,7 +9,7 @@ use Rattle.cap_bounds.specs.SetAddress.{at_address}
 use Rattle.cap_checks.specs.FirstFault.{jump_target}
 use Rattle.cap_insns.specs.CapabilityRows.{row_value}
 use Rattle.cap_rights.specs.Opened.{opened}
-use Rattle.debug_commands.specs.declared.command.Place.TheVariants as place
+use Rattle.origins.specs.declared.place.Place.TheVariants as place
 use Rattle.special_regs.specs.Scrs.{scr_value}
 use Rattle.tagged_memory.specs.Memory.{is_in_ram}
 use Rattle.isa_rows.specs.Kind.{kind_of}

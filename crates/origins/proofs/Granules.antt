@@ -9,7 +9,7 @@ use Rattle.base.specs.Size.{bytes_of}
 use Rattle.cap_bounds.specs.CapValue.{CapValue, IsSound, is_tagged, value_of, word_of}
 use Rattle.cap_bounds.specs.RecordLaws.{value_of-word_of}
 use Rattle.cap_bounds.specs.SoundLaws.{word_of-below}
-use Rattle.debug_commands.specs.declared.command.Place.TheVariants as place
+use Rattle.origins.specs.declared.place.Place.TheVariants as place
 use Rattle.tagged_memory.specs.AccessLaws.{aligned-place_fault, in_ram-place_fault}
 use Rattle.tagged_memory.specs.Memory.{Memory, bytes_at, capability_written, data_written, has_tag, is_in_ram, place_fault, touches}
 use Rattle.tagged_memory.specs.Memory.{word_at}

@@ -2,10 +2,10 @@
 use Rattle.std.proofs.Common.{Bool, true, false, eqb, refl, ◌∙◌}
 use Rattle.base.specs.declared.registers.scr.TheConstants.{PCC}
 use Rattle.cap_bounds.specs.CapValue.{CapValue}
-use Rattle.debug_commands.specs.declared.command.Place.{Place}
-use Rattle.debug_commands.specs.declared.command.Place.TheVariants as place
+use Rattle.origins.specs.declared.place.Place.{Place}
+use Rattle.origins.specs.declared.place.Place.TheVariants as place
 use Rattle.steps.specs.State.{State}
-use Rattle.origins.specs.Kept.{IsKept, IsKeptBut, MovesAtMost}
+use Rattle.origins.specs.Kept.{HoldsTheSame, IsKeptBut, MovesAtMost}
 use Rattle.origins.specs.Places.{held}
 
 pub moves-refl : (v : CapValue) → MovesAtMost v v
@@ -37,12 +37,12 @@ but-trans : (b : Bool) (u v w : CapValue) → IsKeptBut b u v → IsKeptBut b v 
 but-trans true u v w one other = moves-trans u v w one other
 but-trans false u v w one other = other ∙ one
 
-pub kept-refl : (p : Place) (s : State) → IsKept p s s
+pub kept-refl : (p : Place) (s : State) → HoldsTheSame p s s
 kept-refl (place.Special n) s = but-refl (eqb n PCC) (held (place.Special n) s)
 kept-refl (place.Register n) s = refl
 kept-refl (place.Granule address) s = refl
 
-pub kept-trans : (p : Place) (r s t : State) → IsKept p r s → IsKept p s t → IsKept p r t
+pub kept-trans : (p : Place) (r s t : State) → HoldsTheSame p r s → HoldsTheSame p s t → HoldsTheSame p r t
 kept-trans (place.Special n) r s t one other = but-trans (eqb n PCC) _ _ _ one other
 kept-trans (place.Register n) r s t one other = other ∙ one
 kept-trans (place.Granule address) r s t one other = other ∙ one

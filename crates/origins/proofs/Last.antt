@@ -1,7 +1,7 @@
 -- What a search finds, from any event on.
 use Rattle.std.proofs.Common.{◌≡◌, ℕ, suc, ◌+◌, List, [], ◌∷◌, ◌++◌, length, Option, Some, None, ◌⊎◌, inl, inr, refl, ap, sym, subst, ◌∙◌}
 use Rattle.std.proofs.Common.{arith}
-use Rattle.debug_commands.specs.declared.command.Place.{Place}
+use Rattle.origins.specs.declared.place.Place.{Place}
 use Rattle.steps.specs.Event.{after}
 use Rattle.steps.specs.State.{State}
 use Rattle.steps.specs.declared.event.Event.{Event}

@@ -1,7 +1,7 @@
 -- A step at which the tag goes.
 use Rattle.std.proofs.Common.{◌≡◌, Bool, true, false, not, ◌&&◌, Option, Some, None, refl, ap, ◌∙◌, if◌then◌else◌}
 use Rattle.cap_bounds.specs.CapValue.{is_tagged}
-use Rattle.debug_commands.specs.declared.command.Place.{Place}
+use Rattle.origins.specs.declared.place.Place.{Place}
 use Rattle.steps.specs.Event.{after}
 use Rattle.steps.specs.State.{State}
 use Rattle.steps.specs.declared.event.Event.{Event}

@@ -14,7 +14,7 @@ use Rattle.steps.specs.declared.effect.SpecialWrite.{SpecialWrite}
 use Rattle.steps.specs.declared.effect.Effect.TheVariants.{Trap, Nothing, Write, Unseal, Store, StoreCapability, DeviceLoad, DeviceStore}
 use Rattle.steps.specs.declared.effect.Effect.TheVariants.{Jump, Link, Enter, Special, Csr, Return}
 use Rattle.base.specs.declared.registers.scr.TheConstants.{PCC}
-use Rattle.debug_commands.specs.declared.command.Place.TheVariants as place
+use Rattle.origins.specs.declared.place.Place.TheVariants as place
 use Rattle.origins.specs.Made.{other_made, pcc_made, pcc_moved, insn_made, made_by_insn}
 use Rattle.origins.specs.Parts.{by_insn}
 use Rattle.origins.specs.declared.making.Making.{Making}

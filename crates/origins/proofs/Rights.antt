@@ -26,8 +26,8 @@ use Rattle.cap_rights.specs.declared.permission.Permission.TheVariants.{LoadCapa
 use Rattle.cap_rights.specs.Rights.{IsInRightsOf}
 use Rattle.cap_rights.specs.RightsLaws.{IsInRightsOf-refl, IsInRightsOf-trans}
 use Rattle.cap_rights.specs.Within.{IsWithin}
-use Rattle.debug_commands.specs.declared.command.Place.{Place}
-use Rattle.debug_commands.specs.declared.command.Place.TheVariants as place
+use Rattle.origins.specs.declared.place.Place.{Place}
+use Rattle.origins.specs.declared.place.Place.TheVariants as place
 use Rattle.tagged_memory.specs.Memory.{has_tag, word_at}
 use Rattle.special_regs.specs.Scrs.{scr_value}
 use Rattle.special_regs.specs.SoundLaws.{IsSound-scr_value}

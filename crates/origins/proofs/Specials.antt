@@ -11,7 +11,7 @@ use Rattle.base.specs.declared.registers.scr.TheConstants.{PCC}
 use Rattle.cap_bounds.specs.CapValue.{CapValue, Cap, Data, is_sealed, is_tagged, value_address}
 use Rattle.cap_bounds.specs.Record.{window_holds}
 use Rattle.cap_bounds.specs.SetAddress.{at_address, data_at}
-use Rattle.debug_commands.specs.declared.command.Place.TheVariants as place
+use Rattle.origins.specs.declared.place.Place.TheVariants as place
 use Rattle.special_regs.specs.Mtvec.{mtvec_of}
 use Rattle.special_regs.specs.Scrs.{Scrs, scr_value}
 use Rattle.special_regs.specs.Traps.{aligned, placed_at, sentry_opened}
@@ -26,7 +26,7 @@ use Rattle.steps.specs.declared.effect.Effect.{Effect}
 use Rattle.steps.specs.declared.effect.SpecialWrite.{SpecialWrite}
 use Rattle.steps.specs.declared.effect.Effect.TheVariants.{Trap, Nothing, Write, Unseal, Store, StoreCapability, DeviceLoad, DeviceStore}
 use Rattle.steps.specs.declared.effect.Effect.TheVariants.{Jump, Link, Enter, Special, Csr, Return}
-use Rattle.origins.specs.Kept.{IsKept, IsKeptBut, MovesAtMost}
+use Rattle.origins.specs.Kept.{HoldsTheSame, IsKeptBut, MovesAtMost}
 use Rattle.origins.specs.Made.{special_made, other_made, pcc_made, pcc_moved, trap_made}
 use Rattle.origins.specs.Making.{IsMade}
 use Rattle.origins.specs.Places.{held, pcc, mtcc, mepcc}
@@ -114,7 +114,7 @@ module _ (s : State) where
       rw swapped refl
 
   untouched : (n : ℕ) → eqb n PCC ≡ false → (later : State) (v : CapValue) → later.scrs ≡ record s.scrs { pcc = v }
-      → IsKept (place.Special n) s later
+      → HoldsTheSame (place.Special n) s later
   unfolding held
   untouched n other later v same =
       subst (λ b. IsKeptBut b (held (place.Special n) s) (held (place.Special n) later)) (sym other)

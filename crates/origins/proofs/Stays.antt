@@ -4,8 +4,8 @@ use Rattle.byteorder.specs.Endian.{little_bytes}
 use Rattle.byteorder.specs.Numbers.{length-bytes_low_first}
 use Rattle.base.specs.Size.{bytes_of}
 use Rattle.cap_bounds.specs.CapValue.{CapValue, is_tagged, word_of}
-use Rattle.debug_commands.specs.declared.command.Place.{Place}
-use Rattle.debug_commands.specs.declared.command.Place.TheVariants as place
+use Rattle.origins.specs.declared.place.Place.{Place}
+use Rattle.origins.specs.declared.place.Place.TheVariants as place
 use Rattle.tagged_memory.specs.AccessLaws.{in_ram-place_fault}
 use Rattle.tagged_memory.specs.Memory.{Memory, is_in_ram}
 use Rattle.tagged_memory.specs.MemoryLaws.{length-data_written, length-capability_written}

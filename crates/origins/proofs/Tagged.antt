@@ -18,7 +18,7 @@ use Rattle.cap_rights.specs.ObjectType.{greatest_sealing_type}
 use Rattle.cap_rights.specs.Opened.{opened, with_type}
 use Rattle.cap_rights.specs.Permission.{permits}
 use Rattle.cap_rights.specs.declared.permission.Permission.TheVariants.{Execute, Seal, Unseal}
-use Rattle.debug_commands.specs.declared.command.Place.{Place}
+use Rattle.origins.specs.declared.place.Place.{Place}
 use Rattle.steps.specs.State.{State}
 use Rattle.special_regs.specs.Traps.{is_sentry, placed_at, sentry_opened}
 use Rattle.origins.specs.Making.{IsMade}

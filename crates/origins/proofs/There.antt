@@ -14,8 +14,8 @@ use Rattle.cap_bounds.specs.SetAddress.{at_address}
 use Rattle.cap_checks.specs.FaultLaws.{access_fault-aligned}
 use Rattle.cap_checks.specs.Question.{first_false}
 use Rattle.cap_checks.specs.declared.access.Access.TheVariants as access
-use Rattle.debug_commands.specs.declared.command.Place.{Place}
-use Rattle.debug_commands.specs.declared.command.Place.TheVariants as place
+use Rattle.origins.specs.declared.place.Place.{Place}
+use Rattle.origins.specs.declared.place.Place.TheVariants as place
 use Rattle.special_regs.specs.Refusals.{scr_checks}
 use Rattle.tagged_memory.specs.Memory.{touches}
 use Rattle.isa_rows.specs.Kind.{kind_of}
@@ -30,7 +30,7 @@ use Rattle.steps.specs.Accesses.{through_rs1}
 use Rattle.steps.specs.Looks.{in_capability_mode, next_of}
 use Rattle.steps.specs.MemoryRows.{place_of, authority_of, authority_number_of, capability_at}
 use Rattle.steps.specs.State.{State}
-use Rattle.steps.specs.Step.{asked, fetch, step_effect}
+use Rattle.steps.specs.Step.{asked, insn_fetched, step_effect, step_fetched}
 use Rattle.steps.specs.declared.effect.Effect.{Effect}
 use Rattle.steps.specs.declared.effect.Effect.TheVariants.{Trap, Nothing, Write, Unseal, Store, StoreCapability, DeviceLoad, DeviceStore}
 use Rattle.steps.specs.declared.effect.Effect.TheVariants.{Jump, Link, Enter, Special, Csr, Return}
@@ -38,7 +38,7 @@ use Rattle.steps.specs.declared.event.Event.{Event}
 use Rattle.steps.specs.declared.event.Event.TheVariants.{Step, Tick, Byte}
 use Rattle.origins.specs.Kept.{AreThere}
 use Rattle.origins.specs.Made.{register_making, row_making, link_making, authority_place, insn_made, trap_made, step_made}
-use Rattle.origins.specs.Made.{if_written, pcc_moved, view_made, made_at, made_by, made_by_insn, made_unless, written_register, decoded}
+use Rattle.origins.specs.Made.{if_written, pcc_moved, view_made, made_at, made_by, made_by_insn, made_unless, written_register}
 use Rattle.origins.specs.Places.{IsThere, ddc}
 use Rattle.origins.specs.declared.making.Making.{Making}
 use Rattle.origins.specs.declared.making.Making.TheVariants.{Number, Linked, Moved}
@@ -194,7 +194,7 @@ module _ (s : State) where
 
   -- an effect that is no trap is an instruction's
   by-there : (p : Place) (e : Effect CapValue) → ((f : Fault) → AreAllThere (trap_made p f s))
-      → AreAllThere (made_by_insn p e (decoded (fetch s)) s) → AreAllThere (made_by p e s)
+      → AreAllThere (made_by_insn p e (insn_fetched (step_fetched s)) s) → AreAllThere (made_by p e s)
   by-there p (Trap f) trap other = trap f
   by-there p Nothing trap other = other
   by-there p (Write w) trap other = other

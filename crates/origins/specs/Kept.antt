@@ -2,8 +2,8 @@
 use Rattle.std.specs.Prelude.{◌≡◌, ◌==◌, Bool, true, false}
 use Rattle.base.specs.declared.registers.scr.TheConstants.{PCC}
 use Rattle.cap_bounds.specs.CapValue.{CapValue, is_tagged, value_base, value_top, value_perms, value_flag, value_otype}
-use Rattle.debug_commands.specs.declared.command.Place.{Place}
-use Rattle.debug_commands.specs.declared.command.Place.TheVariants.{Special}
+use Rattle.origins.specs.declared.place.Place.{Place}
+use Rattle.origins.specs.declared.place.Place.TheVariants.{Special}
 use Rattle.steps.specs.State.{State}
 use Rattle.origins.specs.Places.{IsThere, held}
 use Rattle.origins.specs.Making.{source}
@@ -29,9 +29,9 @@ IsKeptBut true v w = MovesAtMost v w
 IsKeptBut false v w = w ≡ v
 
 -- It holds what it held; of PCC the address may be another.
-abbrev pub IsKept : Place → State → State → Type 0
-IsKept (Special n) s later = IsKeptBut (n == PCC) (held (Special n) s) (held (Special n) later)
-IsKept place s later = held place later ≡ held place s
+abbrev pub HoldsTheSame : Place → State → State → Type 0
+HoldsTheSame (Special n) s later = IsKeptBut (n == PCC) (held (Special n) s) (held (Special n) later)
+HoldsTheSame place s later = held place later ≡ held place s
 
 -- ---- the places that a value is made of
 

@@ -1,5 +1,5 @@
 -- What a step writes at a place: the effect says whether and where, the row how it is made (UCAM-CL-TR-987, ISA reference).
-use Rattle.std.specs.Prelude.{ℕ, ◌+◌, ◌*◌, ◌/◌, ◌%◌, ◌^◌, not, ◌&&◌, ◌==◌, if◌then◌else◌, Option, Some, None, Result, Ok, Err}
+use Rattle.std.specs.Prelude.{ℕ, ◌+◌, ◌*◌, ◌/◌, ◌%◌, ◌^◌, not, ◌&&◌, ◌==◌, if◌then◌else◌, Option, Some, None}
 use Rattle.base.specs.Size.{bytes_of}
 use Rattle.base.specs.declared.fault.Fault.{Fault}
 use Rattle.base.specs.declared.registers.csr.TheConstants.{MTVEC, MEPC}
@@ -8,9 +8,8 @@ use Rattle.cap_bounds.specs.CapValue.{CapValue, is_tagged, value_address, value_
 use Rattle.cap_bounds.specs.SetAddress.{at_address}
 use Rattle.cap_insns.specs.CapabilityRows.{sum}
 use Rattle.cap_rights.specs.Perms.{perms_in_view}
-use Rattle.debug_commands.specs.declared.command.Place.{Place}
-use Rattle.debug_commands.specs.declared.command.Place.TheVariants as place
-use Rattle.isa_rows.specs.Decoded.{insn_of}
+use Rattle.origins.specs.declared.place.Place.{Place}
+use Rattle.origins.specs.declared.place.Place.TheVariants as place
 use Rattle.isa_rows.specs.Kind.{kind_of}
 use Rattle.isa_rows.specs.declared.kinds.Kind.{Kind}
 use Rattle.isa_rows.specs.declared.kinds.Kind.TheVariants as kind
@@ -22,7 +21,7 @@ use Rattle.steps.specs.Accesses.{through_rs1}
 use Rattle.steps.specs.Looks.{in_capability_mode, next_of, number_in}
 use Rattle.steps.specs.MemoryRows.{place_of}
 use Rattle.steps.specs.State.{State, pc_of}
-use Rattle.steps.specs.Step.{fetch, step_effect}
+use Rattle.steps.specs.Step.{insn_fetched, step_effect, step_fetched}
 use Rattle.steps.specs.declared.effect.Effect.{Effect}
 use Rattle.steps.specs.declared.effect.Effect.TheVariants.{Trap, Write, Unseal, Store, StoreCapability, DeviceLoad}
 use Rattle.steps.specs.declared.effect.Effect.TheVariants.{Jump, Link, Enter, Special, Csr, Return}
@@ -160,18 +159,13 @@ trap_made (place.Special n) fault s =
     else (if n == MEPCC then Some (Copied pcc) else None)
 trap_made other fault s = None
 
--- the instruction at PCC, where one is fetched
-abbrev pub decoded : Result ℕ Fault → Option Insn
-decoded (Ok word) = insn_of word
-decoded (Err fault) = None
-
 abbrev pub made_by_insn : Place → Effect CapValue → Option Insn → State → Option Making
 made_by_insn place effect (Some insn) s = insn_made place effect insn s
 made_by_insn place effect None s = None
 
 abbrev pub made_by : Place → Effect CapValue → State → Option Making
 made_by place (Trap fault) s = trap_made place fault s
-made_by place effect s = made_by_insn place effect (decoded (fetch s)) s
+made_by place effect s = made_by_insn place effect (insn_fetched (step_fetched s)) s
 
 -- How the next step makes what it writes at a place; none where it writes nothing there. A machine that is halted writes nothing.
 abbrev pub made_unless : Option ℕ → Place → State → Option Making

@@ -10,8 +10,8 @@ use Rattle.cap_rights.specs.Opened.{opened}
 use Rattle.cap_rights.specs.Permission.{permits}
 use Rattle.cap_rights.specs.Rights.{IsInRightsOf}
 use Rattle.cap_rights.specs.declared.permission.Permission.TheVariants.{LoadCapability}
-use Rattle.debug_commands.specs.declared.command.Place.{Place}
-use Rattle.debug_commands.specs.declared.command.Place.TheVariants.{Granule}
+use Rattle.origins.specs.declared.place.Place.{Place}
+use Rattle.origins.specs.declared.place.Place.TheVariants.{Granule}
 use Rattle.steps.specs.State.{State}
 use Rattle.special_regs.specs.Traps.{placed_at, sentry_opened}
 use Rattle.tagged_memory.specs.Memory.{has_tag, word_at}

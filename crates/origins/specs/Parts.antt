@@ -1,7 +1,7 @@
 -- What a step writes at a place, by the parts in which the code finds it.
 use Rattle.std.specs.Prelude.{Bool, false, ◌||◌, Option, Some, None}
 use Rattle.cap_bounds.specs.CapValue.{is_tagged}
-use Rattle.debug_commands.specs.declared.command.Place.{Place}
+use Rattle.origins.specs.declared.place.Place.{Place}
 use Rattle.steps.specs.State.{State}
 use Rattle.isa_rows.specs.declared.operands.Insn.{Insn}
 use Rattle.origins.specs.Making.{source}

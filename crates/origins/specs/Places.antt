@@ -1,15 +1,21 @@
 -- What a state holds at a place: in a register, in a special capability register, in a granule of RAM.
-use Rattle.std.specs.Prelude.{◌≡◌, true}
+use Rattle.std.specs.Prelude.{◌≡◌, ◌%◌, ◌<◌, true, IsTrue}
 use Rattle.std.specs.Option.{unwrap_or}
 use Rattle.base.specs.declared.registers.scr.TheConstants.{PCC, DDC, MTCC, MEPCC}
 use Rattle.cap_bounds.specs.CapValue.{CapValue, value_of}
-use Rattle.debug_commands.specs.Limits.{IsHolder}
-use Rattle.debug_commands.specs.declared.command.Place.{Place}
-use Rattle.debug_commands.specs.declared.command.Place.TheVariants.{Register, Special, Granule}
+use Rattle.base.specs.Registers.{is_scr}
+use Rattle.origins.specs.declared.place.Place.{Place}
+use Rattle.origins.specs.declared.place.Place.TheVariants.{Register, Special, Granule}
 use Rattle.tagged_memory.specs.Memory.{has_tag, is_in_ram, word_at}
 use Rattle.special_regs.specs.Scrs.{scr_value}
 use Rattle.registers.specs.Registers.{null, register}
 use Rattle.steps.specs.State.{State}
+
+-- there is such a register, or the granule begins at a multiple of 16
+abbrev pub IsHolder : Place → Type 0
+IsHolder (Register n) = n < 32
+IsHolder (Special n) = IsTrue (is_scr n)
+IsHolder (Granule address) = address % 16 ≡ 0
 
 -- what a place holds
 unfoldable pub held : Place → State → CapValue

@@ -1,7 +1,7 @@
 -- What is sought in a history of events: the last that wrote a place, and the last at which the tag there went.
 use Rattle.std.specs.Prelude.{◌≡◌, ℕ, suc, Bool, not, ◌&&◌, ◌||◌, if◌then◌else◌, List, [], ◌∷◌, ◌++◌, length, Option, Some, None}
 use Rattle.cap_bounds.specs.CapValue.{is_tagged}
-use Rattle.debug_commands.specs.declared.command.Place.{Place}
+use Rattle.origins.specs.declared.place.Place.{Place}
 use Rattle.steps.specs.Event.{after}
 use Rattle.steps.specs.State.{State}
 use Rattle.steps.specs.declared.event.Event.{Event}

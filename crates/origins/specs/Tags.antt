@@ -7,8 +7,8 @@ use Rattle.cap_checks.specs.FirstFault.{holds}
 use Rattle.cap_rights.specs.ObjectType.{greatest_sealing_type}
 use Rattle.cap_rights.specs.Permission.{permits}
 use Rattle.cap_rights.specs.declared.permission.Permission.TheVariants.{Execute, LoadCapability, Seal, Unseal}
-use Rattle.debug_commands.specs.declared.command.Place.{Place}
-use Rattle.debug_commands.specs.declared.command.Place.TheVariants.{Granule}
+use Rattle.origins.specs.declared.place.Place.{Place}
+use Rattle.origins.specs.declared.place.Place.TheVariants.{Granule}
 use Rattle.steps.specs.State.{State}
 use Rattle.special_regs.specs.Traps.{is_sentry}
 use Rattle.tagged_memory.specs.Memory.{has_tag}

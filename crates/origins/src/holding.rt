@@ -1,13 +1,13 @@
 //! What a place holds, and whether there is such a place.
 ghost use Rattle.std.specs.Prelude.{◌≡◌, ◌↔◌, IsTrue};
 ghost use Rattle.cap_bounds.specs.CapValue.{IsSound};
-ghost use Rattle.debug_commands.specs.Limits.{IsHolder};
+ghost use Rattle.origins.specs.Places.{IsHolder};
 ghost use Rattle.steps.specs.IsState.{IsState};
 ghost use Rattle.origins.specs.Places.{IsThere};
 ghost use Rattle.origins.specs.Places as spec;
 
+use crate::place::Place;
 use cap_bounds::CapRep;
-use debug_commands::Place;
 use machine::Machine;
 
 /// What a granule of RAM holds.

@@ -5,11 +5,11 @@ ghost use Rattle.cap_bounds.specs.CapValue.{CapValue, is_tagged};
 ghost use Rattle.steps.specs.Event.{after};
 ghost use Rattle.steps.specs.State.{State};
 ghost use Rattle.steps.specs.declared.event.Event.{Event};
-ghost use Rattle.debug_commands.specs.declared.command.Place.{Place};
+ghost use Rattle.origins.specs.declared.place.Place.{Place};
 ghost use Rattle.steps.specs.IsState.{IsState};
 ghost use Rattle.machine.specs.Run.{run_after};
 ghost use Rattle.machine.specs.Stretch.{AreEvents};
-ghost use Rattle.origins.specs.Kept.{AreThere, IsKept};
+ghost use Rattle.origins.specs.Kept.{AreThere, HoldsTheSame};
 ghost use Rattle.origins.specs.Made.{made_at};
 ghost use Rattle.origins.specs.Making.{IsMade, IsWithinSource, source};
 ghost use Rattle.origins.specs.Places.{IsThere, held};
@@ -43,7 +43,7 @@ pub fn steps_write_what_is_made()
     ensures made { (place : Place) (event : Event) (s : State) (making : Making) → IsState s → IsThere place s
         → made_at place event s ≡ Some making → IsMade making s (held place (after event s)) }
     ensures kept { (place : Place) (event : Event) (s : State) → IsState s → IsThere place s
-        → made_at place event s ≡ None → IsKept place s (after event s) }
+        → made_at place event s ≡ None → HoldsTheSame place s (after event s) }
     ensures there { (place : Place) (event : Event) (s : State) → IsState s → IsThere place s → IsThere place (after event s) }
     ensures sources { (place : Place) (event : Event) (s : State) (making : Making) → IsState s
         → made_at place event s ≡ Some making → AreThere making s }
@@ -52,5 +52,5 @@ pub fn steps_write_what_is_made()
 /// A place that no event of a run writes holds at its end what it held; of PCC the address may be another.
 pub fn nothing_between_writes_it()
     ensures { (events : List Event) (place : Place) (s : State) → IsState s → AreEvents events → IsThere place s
-        → NoneDoes Sought.Written place events s → IsKept place s (run_after events s) }
+        → NoneDoes Sought.Written place events s → HoldsTheSame place s (run_after events s) }
 {}

@@ -4,6 +4,7 @@
 mod holding;
 pub mod laws;
 mod making;
+mod place;
 mod rows;
 mod search;
 mod tag_question;
@@ -12,6 +13,7 @@ mod written;
 
 pub use holding::{held, is_there};
 pub use making::Making;
+pub use place::Place;
 pub use search::{Found, Search, Sought};
 pub use tag_question::{TagCondition, TagQuestion};
 pub use tags::tag_asked;

@@ -2,8 +2,8 @@
 ghost use Rattle.std.specs.Prelude.{◌≡◌};
 ghost use Rattle.origins.specs.Making as spec;
 
+use crate::place::Place;
 use base::scr;
-use debug_commands::Place;
 
 /// How a step makes the value that it writes at a place. `from` is its source, as it stands before the step.
 #[derive(Clone, Copy, Debug)]

@@ -1,32 +1,18 @@
 //! How an instruction makes what it writes into its register.
-ghost use Rattle.std.specs.Prelude.{◌≡◌, ◌<◌, IfSome};
+ghost use Rattle.std.specs.Prelude.{◌≡◌, ◌<◌};
 ghost use Rattle.steps.specs.Looks.{HasRegisters, number_in, in_capability_mode, next_of};
 ghost use Rattle.cap_rights.specs.Perms.{perms_in_view};
-ghost use Rattle.steps.specs.Accesses.{through_rs1};
 ghost use Rattle.steps.specs.MemoryRows.{place_of};
-ghost use Rattle.steps.specs.Step.{fetch};
 ghost use Rattle.isa_rows.specs.Kind.{kind_of};
 ghost use Rattle.origins.specs.Made as spec;
 
 use crate::making::Making;
+use crate::place::Place;
 use base::scr;
 use cap_bounds::CapRep;
 use cap_rights::Perms;
-use debug_commands::Place;
-use hart::Hart;
-use isa_rows::{Insn, Kind, Row, Through};
-use isa_table::decode;
-
-/// The instruction at PCC, where one is fetched.
-pub(crate) fn instruction<C: CapRep>(hart: &Hart<C>) -> Option<Insn>
-    ensures value { result ≡ spec.decoded (fetch hart.now) }
-    ensures registers { IfSome result HasRegisters }
-{
-    match hart.fetch() {
-        Ok(word) => decode(word),
-        Err(_) => None,
-    }
-}
+use hart::{Hart, through_rs1};
+use isa_rows::{Insn, Kind, Row};
 
 /// The number in a register.
 fn number<C: CapRep>(hart: &Hart<C>, n: u8) -> u64
@@ -174,26 +160,11 @@ fn auipc_making<C: CapRep>(hart: &Hart<C>, insn: Insn) -> Making
     }
 }
 
-/// Whether the authority of an access is the capability in rs1, or else the default data capability.
-#[tactic(auto, unfolding(steps::specs::Accesses::through_rs1))]
-fn is_through_rs1(row: Row, capability_mode: bool) -> bool
-    ensures { result ≡ through_rs1 row capability_mode }
-{
-    match row.transfer() {
-        Some(transfer) => match transfer.through {
-            Through::ByMode => capability_mode,
-            Through::Ddc => false,
-            Through::Rs1 => true,
-        },
-        None => false,
-    }
-}
-
 /// What holds the authority of an access.
 fn authority_place<C: CapRep>(hart: &Hart<C>, insn: Insn) -> Place
     ensures { result ≡ spec.authority_place insn hart.now }
 {
-    if is_through_rs1(insn.row, is_capability_mode(hart)) {
+    if through_rs1(insn.row, is_capability_mode(hart)) {
         Place::Register(insn.rs1)
     } else {
         Place::Special(scr::DDC)

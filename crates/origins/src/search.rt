@@ -13,9 +13,9 @@ ghost use Rattle.origins.specs.Search as spec;
 
 use crate::holding::held;
 use crate::making::Making;
+use crate::place::Place;
 use crate::written::step_made;
 use cap_bounds::CapRep;
-use debug_commands::Place;
 use machine::{Event, Machine, Planned};
 
 /// What is sought of a place.

@@ -1,5 +1,5 @@
+use crate::place::Place;
 use cap_rights::Permission;
-use debug_commands::Place;
 
 /// What the tag of a value that a step makes hangs on.
 #[derive(Clone, Copy, Debug)]

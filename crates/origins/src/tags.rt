@@ -1,6 +1,6 @@
 //! What the tag of a value that a step makes hangs on.
 ghost use Rattle.std.specs.Prelude.{◌≡◌, ◌||◌, ◌==◌, not, nat_le, IfOk, [], ◌∷◌};
-ghost use Rattle.cap_bounds.specs.CapValue.{is_sealed, is_tagged, value_address};
+ghost use Rattle.cap_bounds.specs.CapValue.{is_tagged, value_address};
 ghost use Rattle.cap_checks.specs.FirstFault as checks;
 ghost use Rattle.cap_rights.specs.Permission.{permits};
 ghost use Rattle.cap_rights.specs.ObjectType.{greatest_sealing_type};
@@ -12,11 +12,11 @@ ghost use Rattle.origins.specs.Tags as spec;
 
 use crate::holding::held;
 use crate::making::Making;
+use crate::place::Place;
 use crate::tag_question::{TagCondition, TagQuestion};
 use base::{otype, scr};
 use cap_bounds::{CapRep, is_exact};
-use cap_rights::{Permission, opened, permits};
-use debug_commands::Place;
+use cap_rights::{Permission, is_sealed, opened, permits};
 use machine::Machine;
 use std::alloc::{AllocError, Global};
 
@@ -28,13 +28,6 @@ fn if_so(question: TagQuestion, holds: bool) -> TagCondition
     ensures { result ≡ spec.if_so question holds }
 {
     TagCondition { question, holds }
-}
-
-/// Whether the value has a seal.
-fn is_sealed<C: CapRep>(c: C) -> bool
-    ensures { result ≡ is_sealed (C.value c) }
-{
-    c.otype() != otype::UNSEALED
 }
 
 /// Whether the value is a tagged sentry.

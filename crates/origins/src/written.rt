@@ -1,12 +1,11 @@
-//! What a step writes at a place: the effect says whether and where, and only then the instruction is decoded.
+//! What a step writes at a place: the effect says whether and where, and the instruction of what.
 ghost use Rattle.std.specs.Prelude.{◌≡◌, ◌*◌, ◌/◌, ◌&&◌, not, if◌then◌else◌, ◌==◌, IfSome, Some, None};
 ghost use Rattle.base.specs.Size.{bytes_of};
 ghost use Rattle.cap_bounds.specs.CapValue.{is_tagged, value_address};
 ghost use Rattle.cap_bounds.specs.SetAddress.{at_address};
 ghost use Rattle.steps.specs.Applying.{meant, IsPlanned};
-ghost use Rattle.steps.specs.Step.{fetch};
-ghost use Rattle.special_regs.specs.Mtvec as mtvec;
-ghost use Rattle.special_regs.specs.Traps as traps;
+ghost use Rattle.steps.specs.Looks.{HasRegisters};
+ghost use Rattle.steps.specs.Step.{insn_fetched, step_fetched};
 ghost use Rattle.origins.specs.Kept.{AreThere};
 ghost use Rattle.origins.specs.Made as spec;
 ghost use Rattle.origins.specs.Parts.{by_insn};
@@ -14,12 +13,14 @@ ghost use Rattle.origins.specs.Places.{IsThere, mepcc};
 ghost use Rattle.tagged_memory.specs.Memory as memory;
 
 use crate::making::Making;
-use crate::rows::{instruction, next_address, register_making};
+use crate::place::Place;
+use crate::rows::{next_address, register_making};
 use base::{Fault, csr, scr};
 use cap_bounds::CapRep;
-use debug_commands::Place;
 use hart::Hart;
+use isa_rows::Insn;
 use machine::{Machine, Planned};
+use special_regs::{entry_address, mtvec_of};
 use steps::Effect;
 
 // ---- registers
@@ -42,13 +43,19 @@ fn written_register<C: CapRep>(effect: &Effect<C>) -> Option<u8>
 
 /// What an effect that is no trap writes into a register. A write to register 0 is lost.
 #[tactic(auto, unfolding(crate::specs::Made::insn_made))]
-fn register_made<C: CapRep>(hart: &Hart<C>, effect: &Effect<C>, n: u8) -> Option<Making>
-    ensures { result ≡ spec.made_by_insn (Place.Register n) (meant C.value effect.now) (spec.decoded (fetch hart.now)) hart.now }
+fn register_made<C: CapRep>(
+    hart: &Hart<C>,
+    effect: &Effect<C>,
+    insn: Option<Insn>,
+    n: u8,
+) -> Option<Making>
+    requires { IfSome insn HasRegisters }
+    ensures { result ≡ spec.made_by_insn (Place.Register n) (meant C.value effect.now) insn hart.now }
 {
     match written_register(effect) {
         Some(rd) => {
             if n == rd && n != 0 {
-                let insn = instruction(hart)?;
+                let insn = insn?;
                 Some(register_making(hart, insn))
             } else {
                 None
@@ -68,11 +75,11 @@ fn loses_tag<C: CapRep>(c: C, address: u64) -> bool
 }
 
 /// PCC where only its address moves: a write of it where the address leaves its window, so that it loses its tag.
-fn pcc_moved<C: CapRep>(hart: &Hart<C>, address: u64) -> Option<Making>
-    ensures { result ≡ by_insn (spec.decoded (fetch hart.now)) (λ insn. spec.pcc_moved address hart.now) }
+fn pcc_moved<C: CapRep>(hart: &Hart<C>, insn: Option<Insn>, address: u64) -> Option<Making>
+    ensures { result ≡ by_insn insn (λ insn. spec.pcc_moved address hart.now) }
 {
     if loses_tag(hart.scrs().pcc(), address) {
-        instruction(hart)?;
+        insn?;
         Some(Making::Moved {
             from: Place::Special(scr::PCC),
             address,
@@ -83,10 +90,10 @@ fn pcc_moved<C: CapRep>(hart: &Hart<C>, address: u64) -> Option<Making>
 }
 
 /// PCC after a jump to a capability.
-fn pcc_entered<C: CapRep>(hart: &Hart<C>, target: u64) -> Option<Making>
-    ensures { result ≡ by_insn (spec.decoded (fetch hart.now)) (λ insn. Some (Making.Entered (Place.Register insn.rs1) target)) }
+fn pcc_entered(insn: Option<Insn>, target: u64) -> Option<Making>
+    ensures { result ≡ by_insn insn (λ insn. Some (Making.Entered (Place.Register insn.rs1) target)) }
 {
-    let insn = instruction(hart)?;
+    let insn = insn?;
     Some(Making::Entered {
         from: Place::Register(insn.rs1),
         address: target,
@@ -94,11 +101,11 @@ fn pcc_entered<C: CapRep>(hart: &Hart<C>, target: u64) -> Option<Making>
 }
 
 /// PCC after a return.
-fn pcc_returned<C: CapRep>(hart: &Hart<C>) -> Option<Making>
+fn pcc_returned<C: CapRep>(hart: &Hart<C>, insn: Option<Insn>) -> Option<Making>
     ensures { result
-        ≡ by_insn (spec.decoded (fetch hart.now)) (λ insn. Some (Making.Resumed mepcc (value_address hart.now.scrs.mepcc / 4 * 4))) }
+        ≡ by_insn insn (λ insn. Some (Making.Resumed mepcc (value_address hart.now.scrs.mepcc / 4 * 4))) }
 {
-    instruction(hart)?;
+    insn?;
     Some(Making::Resumed {
         from: Place::Special(scr::MEPCC),
         address: hart.scrs().mepcc().address() / 4 * 4,
@@ -106,38 +113,30 @@ fn pcc_returned<C: CapRep>(hart: &Hart<C>) -> Option<Making>
 }
 
 /// What an effect that is no trap makes of PCC.
-fn pcc_made<C: CapRep>(hart: &Hart<C>, effect: &Effect<C>) -> Option<Making>
-    ensures { result ≡ by_insn (spec.decoded (fetch hart.now)) (λ insn. spec.pcc_made (meant C.value effect.now) insn hart.now) }
+fn pcc_made<C: CapRep>(hart: &Hart<C>, effect: &Effect<C>, insn: Option<Insn>) -> Option<Making>
+    ensures { result ≡ by_insn insn (λ insn. spec.pcc_made (meant C.value effect.now) insn hart.now) }
 {
     match effect {
-        Effect::Enter(enter) => pcc_entered(hart, enter.target),
-        Effect::Return { .. } => pcc_returned(hart),
-        Effect::Jump(target) => pcc_moved(hart, *target),
-        Effect::Link(link) => pcc_moved(hart, link.target),
-        _ => pcc_moved(hart, next_address(hart)),
+        Effect::Enter(enter) => pcc_entered(insn, enter.target),
+        Effect::Return { .. } => pcc_returned(hart, insn),
+        Effect::Jump(target) => pcc_moved(hart, insn, *target),
+        Effect::Link(link) => pcc_moved(hart, insn, link.target),
+        _ => pcc_moved(hart, insn, next_address(hart)),
     }
 }
 
-/// What mtvec keeps of a number: the low two bits are 1 where they were, else 0.
-#[tactic(auto, unfolding(special_regs::specs::Mtvec::mtvec_of))]
-fn mtvec_of(n: u64) -> u64
-    ensures { result ≡ mtvec.mtvec_of n }
-{
-    if n % 4 == 1 { n } else { n / 4 * 4 }
-}
-
 /// What a write of a control and status register makes of a special register: mtvec and mepc are views of MTCC and MEPCC.
-fn view_made<C: CapRep>(hart: &Hart<C>, n: u8, number: u16, value: u64) -> Option<Making>
-    ensures { result ≡ by_insn (spec.decoded (fetch hart.now)) (λ insn. spec.view_made n number value) }
+fn view_made(insn: Option<Insn>, n: u8, number: u16, value: u64) -> Option<Making>
+    ensures { result ≡ by_insn insn (λ insn. spec.view_made n number value) }
 {
     if n == scr::MTCC && number == csr::MTVEC {
-        instruction(hart)?;
+        insn?;
         Some(Making::Moved {
             from: Place::Special(scr::MTCC),
             address: mtvec_of(value),
         })
     } else if n == scr::MEPCC && number == csr::MEPC {
-        instruction(hart)?;
+        insn?;
         Some(Making::Moved {
             from: Place::Special(scr::MEPCC),
             address: value / 4 * 4,
@@ -148,12 +147,12 @@ fn view_made<C: CapRep>(hart: &Hart<C>, n: u8, number: u16, value: u64) -> Optio
 }
 
 /// What an exchange of special register `number` makes of special register `n`.
-fn exchanged<C: CapRep>(hart: &Hart<C>, n: u8, number: u8) -> Option<Making>
+fn exchanged(insn: Option<Insn>, n: u8, number: u8) -> Option<Making>
     ensures { result
-        ≡ by_insn (spec.decoded (fetch hart.now)) (λ insn. if n == number then Some (Making.Copied (Place.Register insn.rs1)) else None) }
+        ≡ by_insn insn (λ insn. if n == number then Some (Making.Copied (Place.Register insn.rs1)) else None) }
 {
     if n == number {
-        let insn = instruction(hart)?;
+        let insn = insn?;
         Some(Making::Copied(Place::Register(insn.rs1)))
     } else {
         None
@@ -161,25 +160,30 @@ fn exchanged<C: CapRep>(hart: &Hart<C>, n: u8, number: u8) -> Option<Making>
 }
 
 /// What an effect that is no trap makes of another special register than PCC.
-fn other_made<C: CapRep>(hart: &Hart<C>, effect: &Effect<C>, n: u8) -> Option<Making>
-    ensures { result ≡ by_insn (spec.decoded (fetch hart.now)) (λ insn. spec.other_made n (meant C.value effect.now) insn) }
+fn other_made<C: CapRep>(effect: &Effect<C>, insn: Option<Insn>, n: u8) -> Option<Making>
+    ensures { result ≡ by_insn insn (λ insn. spec.other_made n (meant C.value effect.now) insn) }
 {
     match effect {
-        Effect::Special(write) => exchanged(hart, n, write.number),
-        Effect::Csr(write) => view_made(hart, n, write.number, write.value),
+        Effect::Special(write) => exchanged(insn, n, write.number),
+        Effect::Csr(write) => view_made(insn, n, write.number, write.value),
         _ => None,
     }
 }
 
 /// What an effect that is no trap makes of a special register.
 #[tactic(auto, unfolding(crate::specs::Made::insn_made))]
-fn special_made<C: CapRep>(hart: &Hart<C>, effect: &Effect<C>, n: u8) -> Option<Making>
-    ensures { result ≡ spec.made_by_insn (Place.Special n) (meant C.value effect.now) (spec.decoded (fetch hart.now)) hart.now }
+fn special_made<C: CapRep>(
+    hart: &Hart<C>,
+    effect: &Effect<C>,
+    insn: Option<Insn>,
+    n: u8,
+) -> Option<Making>
+    ensures { result ≡ spec.made_by_insn (Place.Special n) (meant C.value effect.now) insn hart.now }
 {
     if n == scr::PCC {
-        pcc_made(hart, effect)
+        pcc_made(hart, effect, insn)
     } else {
-        other_made(hart, effect, n)
+        other_made(effect, insn, n)
     }
 }
 
@@ -195,11 +199,11 @@ fn touches(address: u64, size: u64, granule: u64) -> bool
 }
 
 /// A number where bytes are stored in a granule.
-fn stored<C: CapRep>(hart: &Hart<C>, touched: bool) -> Option<Making>
-    ensures { result ≡ by_insn (spec.decoded (fetch hart.now)) (λ insn. if touched then Some Making.Number else None) }
+fn stored(insn: Option<Insn>, touched: bool) -> Option<Making>
+    ensures { result ≡ by_insn insn (λ insn. if touched then Some Making.Number else None) }
 {
     if touched {
-        instruction(hart)?;
+        insn?;
         Some(Making::Number)
     } else {
         None
@@ -207,12 +211,12 @@ fn stored<C: CapRep>(hart: &Hart<C>, touched: bool) -> Option<Making>
 }
 
 /// A copy of rs2 where a capability is stored in a granule.
-fn capability_stored<C: CapRep>(hart: &Hart<C>, here: bool) -> Option<Making>
+fn capability_stored(insn: Option<Insn>, here: bool) -> Option<Making>
     ensures { result
-        ≡ by_insn (spec.decoded (fetch hart.now)) (λ insn. if here then Some (Making.Copied (Place.Register insn.rs2)) else None) }
+        ≡ by_insn insn (λ insn. if here then Some (Making.Copied (Place.Register insn.rs2)) else None) }
 {
     if here {
-        let insn = instruction(hart)?;
+        let insn = insn?;
         Some(Making::Copied(Place::Register(insn.rs2)))
     } else {
         None
@@ -221,43 +225,24 @@ fn capability_stored<C: CapRep>(hart: &Hart<C>, here: bool) -> Option<Making>
 
 /// What an effect that is no trap writes into a granule.
 #[tactic(auto, unfolding(crate::specs::Made::insn_made))]
-fn granule_made<C: CapRep>(hart: &Hart<C>, effect: &Effect<C>, address: u64) -> Option<Making>
-    ensures { result ≡ spec.made_by_insn (Place.Granule address) (meant C.value effect.now) (spec.decoded (fetch hart.now)) hart.now }
+fn granule_made<C: CapRep>(
+    hart: &Hart<C>,
+    effect: &Effect<C>,
+    insn: Option<Insn>,
+    address: u64,
+) -> Option<Making>
+    ensures { result ≡ spec.made_by_insn (Place.Granule address) (meant C.value effect.now) insn hart.now }
 {
     match effect {
         Effect::Store(store) => {
-            stored(hart, touches(store.address, store.size.bytes(), address))
+            stored(insn, touches(store.address, store.size.bytes(), address))
         }
-        Effect::StoreCapability(store) => capability_stored(hart, address == store.address),
+        Effect::StoreCapability(store) => capability_stored(insn, address == store.address),
         _ => None,
     }
 }
 
 // ---- traps
-
-/// The number of an interrupt, which its cause holds below bit 63; 0 for an exception.
-fn vector_of(fault: Fault) -> u64
-    ensures { result ≡ traps.vector_of fault }
-{
-    if fault.mcause >> 63 == 1 {
-        fault.mcause % (1 << 63)
-    } else {
-        0
-    }
-}
-
-/// The address at which a trap begins: mtvec's base, and for a vectored interrupt four bytes a number after it.
-#[tactic(auto, unfolding(special_regs::specs::Traps::entry_address))]
-fn entry_address(fault: Fault, mtvec: u64) -> u64
-    ensures { result ≡ traps.entry_address fault mtvec }
-{
-    let base = mtvec / 4 * 4;
-    if mtvec % 4 == 1 {
-        base.wrapping_add(vector_of(fault).wrapping_mul(4))
-    } else {
-        base
-    }
-}
 
 /// What a trap writes at a place: MEPCC is PCC, and PCC where MTCC says.
 #[tactic(auto, unfolding(crate::specs::Made::trap_made))]
@@ -274,21 +259,28 @@ fn trap_made<C: CapRep>(hart: &Hart<C>, fault: Fault, place: Place) -> Option<Ma
     }
 }
 
-/// What an effect writes at a place.
-fn made_by<C: CapRep>(hart: &Hart<C>, effect: &Effect<C>, place: Place) -> Option<Making>
+/// What an effect writes at a place, of this instruction where it is no trap.
+fn made_by<C: CapRep>(
+    hart: &Hart<C>,
+    effect: &Effect<C>,
+    insn: Option<Insn>,
+    place: Place,
+) -> Option<Making>
+    requires registers { IfSome insn HasRegisters }
+    requires insn { insn ≡ insn_fetched (step_fetched hart.now) }
     ensures { result ≡ spec.made_by place (meant C.value effect.now) hart.now }
 {
     match (effect, place) {
         (Effect::Trap(fault), _) => trap_made(hart, *fault, place),
-        (_, Place::Register(n)) => register_made(hart, effect, n),
-        (_, Place::Special(n)) => special_made(hart, effect, n),
-        (_, Place::Granule(address)) => granule_made(hart, effect, address),
+        (_, Place::Register(n)) => register_made(hart, effect, insn, n),
+        (_, Place::Special(n)) => special_made(hart, effect, insn, n),
+        (_, Place::Granule(address)) => granule_made(hart, effect, insn, address),
     }
 }
 
 /// How the next step makes what it writes at a place; none where it writes nothing there. It is planned of this state.
 ///
-/// It takes no memory, and decodes the instruction only where the effect writes the place.
+/// It takes no memory.
 #[tactic(auto, unfolding(crate::specs::Made::step_made))]
 pub fn step_made<C: CapRep>(
     machine: &Machine<C>,
@@ -296,6 +288,7 @@ pub fn step_made<C: CapRep>(
     place: Place,
 ) -> Option<Making>
     requires planned { IsPlanned C.value planned.now.effect machine.now }
+    requires fetched { planned.now.fetched ≡ step_fetched machine.now }
     requires there { IsThere place machine.now }
     ensures value { result ≡ spec.step_made place machine.now }
     ensures there { IfSome result (λ making. AreThere making machine.now) }
@@ -303,5 +296,10 @@ pub fn step_made<C: CapRep>(
     if machine.halted().is_some() {
         return None;
     }
-    made_by(machine.hart(), &planned.effect, place)
+    made_by(
+        machine.hart(),
+        &planned.effect,
+        planned.fetched.insn(),
+        place,
+    )
 }

@@ -14,10 +14,9 @@ use crate::player::Player;
 use crate::replay::Replay;
 use crate::seeking::last_of;
 use cap_bounds::CapRep;
-use debug_commands::Place;
 use image::Image;
 use machine::{Machine, MachineFault};
-use origins::{Found, Sought};
+use origins::{Found, Place, Sought};
 use std::alloc::{AllocError, Global};
 use std::marker::Model;
 

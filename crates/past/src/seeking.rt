@@ -14,9 +14,8 @@ use crate::giving::next_of;
 use crate::player::Player;
 use crate::replay::Replay;
 use cap_bounds::CapRep;
-use debug_commands::Place;
 use machine::Machine;
-use origins::{Found, Search, Sought};
+use origins::{Found, Place, Search, Sought};
 
 /// Meets so many events of a command.
 fn meet_some<C: CapRep>(

@@ -13,7 +13,8 @@ use Rattle.cap_bounds.specs.CapValue.{CapValue, is_sealed, value_base, value_top
 use Rattle.cap_rights.specs.declared.permission.Permission.{Permission}
 use Rattle.cap_rights.specs.declared.permission.Permission.TheVariants as permission
 use Rattle.cap_rights.specs.Permission.{permits}
-use Rattle.cap_rights.specs.Rights.{OpensSystem, OpensStore}
+use Rattle.cap_rights.specs.Opens.{allows, opens_store, opens_system}
+use Rattle.cap_rights.specs.OpensLaws.{allows-parts, allows-from, opens_store-means, opens_system-means}
 use Rattle.devices.specs.Devices.{halt, timer_compare, transmit}
 use Rattle.reach.specs.declared.range.Range.{Range}
 use Rattle.reach.specs.Ranges.{IsInOne}
@@ -24,8 +25,7 @@ use Rattle.policy.specs.declared.rule.Ban.TheVariants.{Store, Load, Execute, Tra
 use Rattle.policy.specs.Cover.{HasGap}
 use Rattle.policy.specs.Rule.{Lets, OpensOutside, OpensSealing, IsSealedBeyond, Breaks}
 use Rattle.policy.specs.Watch.{IsAbout}
-use Rattle.policy.specs.Tests.{breaks, is_about, is_in_one, is_sealed_beyond, leaves_out, lets}
-use Rattle.policy.specs.Tests.{opens_outside, opens_sealing, opens_store, opens_system}
+use Rattle.policy.specs.Tests.{breaks, is_about, is_in_one, is_sealed_beyond, leaves_out, opens_outside, opens_sealing}
 
 -- two tests of one fact
 pub same_test : (a b : Bool) {P : Type 0} → ((a ≡ true) ↔ P) → ((b ≡ true) ↔ P) → a ≡ b
@@ -102,18 +102,16 @@ out-gap (r ∷ rs) from to a low high outside = elim (cases_lt a r.from) [
 -- ---- capabilities
 
 module _ (c : CapValue) where
-  is-let : (p : Permission) → (lets p c ≡ true) ↔ Lets p c
+  is-let : (p : Permission) → (allows p c ≡ true) ↔ Lets p c
   is-let p = (
-    λ is.
-        let both = and_parts (not (is_sealed c)) (permits c p) is in
-        record { unsealed = not-true (is_sealed c) both.0; permitted = both.1 },
-    λ let_it. and_from (not (is_sealed c)) (permits c p) (not_from_false (is_sealed c) let_it.unsealed) let_it.permitted,
+    λ is. let both = allows-parts c p is in record { unsealed = both.0; permitted = both.1 },
+    λ let_it. allows-from c p let_it.unsealed let_it.permitted,
   )
 
   is-outside : (p : Permission) (ranges : List Range) → (opens_outside p ranges c ≡ true) ↔ OpensOutside p ranges c
   is-outside p ranges = (
     λ is.
-        let both = and_parts (lets p c) (leaves_out ranges (max (value_base c) ram_base) (value_top c)) is in
+        let both = and_parts (allows p c) (leaves_out ranges (max (value_base c) ram_base) (value_top c)) is in
         let gap = gap-out ranges (max (value_base c) ram_base) (value_top c) both.1 in
         let low = gap.low in
         record {
@@ -127,46 +125,16 @@ module _ (c : CapValue) where
     λ opens.
         let base = opens.base in
         let ram = opens.in_ram in
-        and_from (lets p c) (leaves_out ranges (max (value_base c) ram_base) (value_top c)) ((is-let p).1 opens.lets)
+        and_from (allows p c) (leaves_out ranges (max (value_base c) ram_base) (value_top c)) ((is-let p).1 opens.lets)
         (out-gap ranges (max (value_base c) ram_base) (value_top c) opens.byte (omega arith) opens.top opens.outside),
-  )
-
-  pub is-store : (a : ℕ) → (opens_store a c ≡ true) ↔ OpensStore c a
-  is-store a = (
-    λ is.
-        let both = and_parts (lets permission.Store c) (nat_le (value_base c) a && nat_lt a (value_top c)) is in
-        let bounds = and_parts (nat_le (value_base c) a) (nat_lt a (value_top c)) both.1 in
-        let let_it = (is-let permission.Store).0 both.0 in
-        record {
-          unsealed = let_it.unsealed;
-          stores = let_it.permitted;
-          base = leb-true (value_base c) a bounds.0;
-          top = ltb-true a (value_top c) bounds.1;
-        },
-    λ opens.
-        and_from (lets permission.Store c) (nat_le (value_base c) a && nat_lt a (value_top c))
-        ((is-let permission.Store).1 (record { unsealed = opens.unsealed; permitted = opens.stores }))
-        (and_from (nat_le (value_base c) a) (nat_lt a (value_top c)) (le-leb (value_base c) a opens.base)
-        (lt-ltb a (value_top c) opens.top)),
-  )
-
-  pub is-system : (opens_system c ≡ true) ↔ OpensSystem c
-  is-system = (
-    λ is.
-        let both = and_parts (lets permission.Execute c) (permits c permission.AccessSystemRegisters) is in
-        let let_it = (is-let permission.Execute).0 both.0 in
-        record { unsealed = let_it.unsealed; executes = let_it.permitted; system = both.1 },
-    λ opens.
-        and_from (lets permission.Execute c) (permits c permission.AccessSystemRegisters)
-        ((is-let permission.Execute).1 (record { unsealed = opens.unsealed; permitted = opens.executes })) opens.system,
   )
 
   permitted-by : (opens_sealing c ≡ true) → OpensSealing c
   permitted-by is =
       let end = min (value_top c) FIRST_RESERVED in
-      let both = and_parts (lets permission.Seal c || lets permission.Unseal c) (nat_lt (value_base c) end) is in
+      let both = and_parts (allows permission.Seal c || allows permission.Unseal c) (nat_lt (value_base c) end) is in
       let below = ltb-true (value_base c) end both.1 in
-      elim (or_cases (lets permission.Seal c) (lets permission.Unseal c) both.0) [
+      elim (or_cases (allows permission.Seal c) (allows permission.Unseal c) both.0) [
         | inl seals ↦
             let let_it = (is-let permission.Seal).0 seals in
             record {
@@ -196,13 +164,13 @@ module _ (c : CapValue) where
         let base = opens.base in
         let top = opens.top in
         let free = leb-false FIRST_RESERVED opens.otype opens.unreserved in
-        and_from (lets permission.Seal c || lets permission.Unseal c) (nat_lt (value_base c) (min (value_top c) FIRST_RESERVED))
+        and_from (allows permission.Seal c || allows permission.Unseal c) (nat_lt (value_base c) (min (value_top c) FIRST_RESERVED))
         (elim opens.permitted [
           | inl seals ↦
-              or_left (lets permission.Seal c) (lets permission.Unseal c)
+              or_left (allows permission.Seal c) (allows permission.Unseal c)
               ((is-let permission.Seal).1 (record { unsealed = opens.unsealed; permitted = seals }))
           | inr unseals ↦
-              or_right (lets permission.Seal c) (lets permission.Unseal c)
+              or_right (allows permission.Seal c) (allows permission.Unseal c)
               ((is-let permission.Unseal).1 (record { unsealed = opens.unsealed; permitted = unseals }))
         ])
         (lt-ltb (value_base c) (min (value_top c) FIRST_RESERVED) (omega arith)),
@@ -261,10 +229,10 @@ module _ (c : CapValue) where
     is-break Store = is-outside permission.Store rule.store
     is-break Load = is-outside permission.Load rule.load
     is-break Execute = is-outside permission.Execute rule.execute
-    is-break Transmit = is-banned rule.transmit (opens_store transmit c) (is-store transmit)
-    is-break Halt = is-banned rule.halt (opens_store halt c) (is-store halt)
-    is-break Timer = is-banned rule.timer (opens_store timer_compare c) (is-store timer_compare)
-    is-break System = is-banned rule.system (opens_system c) is-system
+    is-break Transmit = is-banned rule.transmit (opens_store transmit c) (opens_store-means c transmit)
+    is-break Halt = is-banned rule.halt (opens_store halt c) (opens_store-means c halt)
+    is-break Timer = is-banned rule.timer (opens_store timer_compare c) (opens_store-means c timer_compare)
+    is-break System = is-banned rule.system (opens_system c) (opens_system-means c)
     is-break Seal = is-banned rule.seal (opens_sealing c) is-sealing
     is-break Types = no-type rule.types
 

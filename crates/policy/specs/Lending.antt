@@ -14,7 +14,8 @@ use Rattle.steps.specs.Step.{step_effect}
 use Rattle.reach.specs.declared.right.Right.TheVariants as right
 use Rattle.reach.specs.Ranges.{ranges_of}
 use Rattle.policy.specs.Terms.{Terms}
-use Rattle.policy.specs.Tests.{is_about, opens_store, opens_system}
+use Rattle.cap_rights.specs.Opens.{opens_store, opens_system}
+use Rattle.policy.specs.Tests.{is_about}
 use Rattle.policy.specs.Opened.{opens_types, types_with}
 use Rattle.policy.specs.Watch.{values_in}
 

@@ -7,7 +7,7 @@ use Rattle.base.specs.Ram.{ram_base}
 use Rattle.cap_bounds.specs.CapValue.{CapValue, is_sealed, value_base, value_top, value_otype}
 use Rattle.cap_rights.specs.declared.permission.Permission.{Permission}
 use Rattle.cap_rights.specs.declared.permission.Permission.TheVariants as permission
-use Rattle.cap_rights.specs.Permission.{permits}
+use Rattle.cap_rights.specs.Opens.{allows, opens_store, opens_system}
 use Rattle.devices.specs.Devices.{halt, timer_compare, transmit}
 use Rattle.reach.specs.declared.range.Range.{Range}
 use Rattle.policy.specs.declared.rule.Ban.{Ban}
@@ -23,26 +23,14 @@ abbrev pub leaves_out : List Range → ℕ → ℕ → Bool
 leaves_out [] from to = nat_lt from to
 leaves_out (range ∷ ranges) from to = leaves_out ranges from (min to range.from) || leaves_out ranges (max from range.to) to
 
--- unsealed, with the permission
-abbrev pub lets : Permission → CapValue → Bool
-lets permission c = not (is_sealed c) && permits c permission
-
 -- it lets code do so with a byte of RAM that lies in none of the ranges
 abbrev pub opens_outside : Permission → List Range → CapValue → Bool
-opens_outside permission ranges c = lets permission c && leaves_out ranges (max (value_base c) ram_base) (value_top c)
-
--- a byte may be stored at an address through it
-abbrev pub opens_store : ℕ → CapValue → Bool
-opens_store a c = lets permission.Store c && (nat_le (value_base c) a && nat_lt a (value_top c))
-
--- code that jumps there may use the system registers
-abbrev pub opens_system : CapValue → Bool
-opens_system c = lets permission.Execute c && permits c permission.AccessSystemRegisters
+opens_outside permission ranges c = allows permission c && leaves_out ranges (max (value_base c) ram_base) (value_top c)
 
 -- values may be sealed or unsealed through it, with an object type that is not reserved
 abbrev pub opens_sealing : CapValue → Bool
 opens_sealing c =
-    (lets permission.Seal c || lets permission.Unseal c) && nat_lt (value_base c) (min (value_top c) FIRST_RESERVED)
+    (allows permission.Seal c || allows permission.Unseal c) && nat_lt (value_base c) (min (value_top c) FIRST_RESERVED)
 
 -- sealed, with an object type that is not reserved, and not one of these
 abbrev pub is_sealed_beyond : List ℕ → CapValue → Bool

@@ -1,46 +1,24 @@
 //! The first member that breaks a rule.
 ghost use Rattle.std.specs.Prelude.{◌≡◌, ◌↔◌, ℕ, true, List, Contains, MatchOption, option_map, IfNone, IfSome, IsTrue};
 ghost use Rattle.std.specs.List.{HoldsAt};
-ghost use Rattle.cap_rights.specs.Rights.{OpensSystem, OpensStore};
 ghost use Rattle.reached.specs.Links.{values};
 ghost use Rattle.reach.specs.First.{IsFirst, HoldsOfNone};
 ghost use Rattle.policy.specs.Terms.{terms};
-ghost use Rattle.policy.specs.Rule.{Lets, OpensOutside, OpensSealing, IsSealedBeyond, Breaks, IsFirstBan, BreaksRule};
+ghost use Rattle.policy.specs.Rule.{OpensOutside, OpensSealing, IsSealedBeyond, Breaks, IsFirstBan, BreaksRule};
 
 use crate::cover::covers;
 use crate::rule::{Ban, Rule};
 use base::{otype, ram};
 use cap_bounds::CapRep;
-use cap_rights::{OType, Permission, permits};
+use cap_rights::{Permission, allows, opens_store, opens_system};
 use reach::{HALT, Range, Reach, TIMER_COMPARE, TRANSMIT};
-
-/// Whether a capability is unsealed and has a permission.
-fn lets<C: CapRep>(c: C, permission: Permission) -> bool
-    ensures { IsTrue result ↔ Lets permission (C.value c) }
-{
-    c.otype() == OType::UNSEALED.number() && permits(c, permission)
-}
 
 /// Whether it lets code use a byte of RAM that lies in none of the ranges.
 fn opens_outside<C: CapRep>(c: C, permission: Permission, ranges: &[Range]) -> bool
     ensures { IsTrue result ↔ OpensOutside permission ranges.now (C.value c) }
 {
     let from = c.base().max(ram::BASE);
-    lets(c, permission) && !covers(ranges, u128::from(from), c.top())
-}
-
-/// Whether a byte may be stored at an address through it.
-fn opens_store<C: CapRep>(c: C, address: u64) -> bool
-    ensures { IsTrue result ↔ OpensStore (C.value c) address }
-{
-    lets(c, Permission::Store) && c.base() <= address && u128::from(address) < c.top()
-}
-
-/// Whether code that jumps there may use the system registers.
-fn opens_system<C: CapRep>(c: C) -> bool
-    ensures { IsTrue result ↔ OpensSystem (C.value c) }
-{
-    lets(c, Permission::Execute) && permits(c, Permission::AccessSystemRegisters)
+    allows(c, permission) && !covers(ranges, u128::from(from), c.top())
 }
 
 /// Whether values may be sealed or unsealed through it.
@@ -48,7 +26,7 @@ fn opens_sealing<C: CapRep>(c: C) -> bool
     ensures { IsTrue result ↔ OpensSealing (C.value c) }
 {
     let base = c.base();
-    (lets(c, Permission::Seal) || lets(c, Permission::Unseal))
+    (allows(c, Permission::Seal) || allows(c, Permission::Unseal))
         && base < u64::from(otype::FIRST_RESERVED)
         && u128::from(base) < c.top()
 }

@@ -5,7 +5,7 @@ ghost use Rattle.base.specs.declared.otype.TheConstants.{FIRST_RESERVED};
 ghost use Rattle.devices.specs.Devices.{halt, timer_compare, transmit};
 ghost use Rattle.reached.specs.Links.{values};
 ghost use Rattle.reach.specs.declared.right.Right.TheVariants.{Seal, Unseal};
-ghost use Rattle.policy.specs.Tests.{opens_store, opens_system};
+ghost use Rattle.cap_rights.specs.Opens.{opens_store, opens_system};
 ghost use Rattle.policy.specs.Opened.{opens_types};
 
 use base::otype;

@@ -12,7 +12,7 @@ use Rattle.reach.specs.declared.right.Right.{Right}
 use Rattle.reach.specs.declared.right.Right.TheVariants.{Store, Load, Execute, Seal, Unseal}
 use Rattle.reach.specs.Ranges.{bounds_of, ranges_of}
 use Rattle.policy.specs.Watch.{values_in}
-use Rattle.policy.specs.Tests.{opens_store, opens_system}
+use Rattle.cap_rights.specs.Opens.{opens_store, opens_system}
 use Rattle.policy.specs.Opened.{opens_types, types_with}
 use Rattle.policy_audit.specs.Told.{told}
 

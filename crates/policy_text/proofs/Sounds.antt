@@ -11,7 +11,7 @@ use Rattle.asm_lines.specs.Operand.{ranged}
 use Rattle.asm_lines.specs.Statement.{is_word}
 use Rattle.asm_lines.specs.Text.{pieces_between}
 use Rattle.symbols.specs.Symbols.{Symbol, lines_of}
-use Rattle.debug_commands.specs.Command.{words_of, read_number}
+use Rattle.asm_lines.specs.Words.{words_of, read_number}
 use Rattle.reach.specs.declared.range.Range.{Range}
 use Rattle.policy_text.specs.declared.fault.PolicyCode.{PolicyCode}
 use Rattle.policy_text.specs.declared.fault.PolicyCode.TheVariants.{P1, P2, P4, P5, P6, P8}

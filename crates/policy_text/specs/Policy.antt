@@ -7,7 +7,8 @@ use Rattle.std.specs.List.{before_first}
 use Rattle.asm_lines.specs.Text.{is_digit, is_name, is_dot, pieces_between, trimmed}
 use Rattle.asm_lines.specs.Statement.{is_word}
 use Rattle.symbols.specs.Symbols.{Symbol, lines_of}
-use Rattle.debug_commands.specs.Command.{words_of, number_between, read_number, address_in}
+use Rattle.asm_lines.specs.Words.{words_of, number_between, read_number}
+use Rattle.symbols.specs.Symbols.{address_in}
 use Rattle.reach.specs.declared.range.Range.{Range}
 use Rattle.policy.specs.Terms.{Terms}
 use Rattle.policy_text.specs.declared.fault.PolicyCode.{PolicyCode}

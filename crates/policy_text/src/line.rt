@@ -1,7 +1,7 @@
 //! What a line says.
 ghost use Rattle.std.specs.Prelude.{◌≡◌, option_map, unwrap_or, IfOk};
 ghost use Rattle.std.specs.Result.{result_map_both};
-ghost use Rattle.debug_commands.specs.Command.{words_of};
+ghost use Rattle.asm_lines.specs.Words.{words_of};
 ghost use Rattle.policy_text.specs.Policy.{everywhere, said, after_when, code_of, rule_of, name_of, new_name, definition_of};
 ghost use Rattle.policy_text.specs.Policy.{rule_line, line_of};
 ghost use Rattle.policy.specs.Terms.{terms};
@@ -11,8 +11,7 @@ use crate::cut::cut_at;
 use crate::fault::{Fault, PolicyCode};
 use crate::parts::{Parts, is_end, read_parts};
 use crate::ranges::{END, Named, defined, ranges_or};
-use asm_lines::{is_dot, is_name, is_word};
-use debug_commands::split_word;
+use asm_lines::{is_dot, is_name, is_word, split_word};
 use policy::Rule;
 use reach::Range;
 use std::alloc::{AllocError, Global};

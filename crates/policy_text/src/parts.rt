@@ -1,7 +1,7 @@
 //! The parts of a rule as they are written.
 ghost use Rattle.std.specs.Prelude.{◌≡◌, ◌==◌, length};
 ghost use Rattle.asm_lines.specs.Text.{pieces_between};
-ghost use Rattle.debug_commands.specs.Command.{words_of};
+ghost use Rattle.asm_lines.specs.Words.{words_of};
 ghost use Rattle.policy_text.specs.Policy.{within_of, answer_of, caller_of, numbers_of, types_of, no_parts, has_part, with_part, part_read};
 ghost use Rattle.policy_text.specs.Policy.{parts_read};
 ghost use Rattle.policy_text.specs.Seen.{Gives, Leaves, seen_names, seen_parts};
@@ -9,8 +9,7 @@ ghost use Rattle.policy_text.specs.Seen.{Gives, Leaves, seen_names, seen_parts};
 use crate::fault::{Fault, PolicyCode};
 use crate::part::{Part, part_named};
 use crate::ranges::{Named, number, ranges_or};
-use asm_lines::{is_word, split_piece};
-use debug_commands::split_word;
+use asm_lines::{is_word, split_piece, split_word};
 use reach::Range;
 use std::alloc::Global;
 use symbols::Symbols;

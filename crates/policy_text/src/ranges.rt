@@ -1,14 +1,13 @@
 //! Ranges as they are written.
 ghost use Rattle.std.specs.Prelude.{◌≡◌, ◌≤◌, ◌^◌, option_map, IfOk};
-ghost use Rattle.debug_commands.specs.Command.{words_of, address_in};
+ghost use Rattle.asm_lines.specs.Words.{words_of};
 ghost use Rattle.policy_text.specs.Policy.{number_up_to, address_or_code, end_of, to_of, filled, range_of, defined, ranges_in, ranges_of};
 ghost use Rattle.policy_text.specs.Policy.{ranges_or};
 ghost use Rattle.policy_text.specs.Seen.{Gives, Adds, seen_names};
 
 use crate::cut::cut_at_dots;
 use crate::fault::{Fault, PolicyCode};
-use asm_lines::natural;
-use debug_commands::split_word;
+use asm_lines::{natural, split_word};
 use reach::Range;
 use std::alloc::Global;
 use symbols::Symbols;
@@ -33,21 +32,11 @@ pub(crate) fn number(word: &[u8], most: u64) -> Result<u64, PolicyCode>
     }
 }
 
-/// An address: a number of 64 bits, or else the address of a label.
-fn address_in(symbols: &Symbols, word: &[u8]) -> Option<u64>
-    ensures { result ≡ address_in symbols.now word.now }
-{
-    match natural(word, u64::MAX) {
-        Ok(number) => Some(number),
-        Err(_) => symbols.address_of(word),
-    }
-}
-
 /// An address, or else P4 where the word begins as a number does, and P2 where it does not.
 fn address(symbols: &Symbols, word: &[u8]) -> Result<u64, PolicyCode>
     ensures { result ≡ address_or_code symbols.now word.now }
 {
-    match address_in(symbols, word) {
+    match symbols.address_in(word) {
         Some(address) => Ok(address),
         None if word.first().is_some_and(u8::is_ascii_digit) => Err(PolicyCode::P4),
         None => Err(PolicyCode::P2),

@@ -5,3 +5,4 @@ pub mod Meaning
 pub mod Unsealing
 pub mod Determined
 pub mod Putting
+pub mod Keeping

@@ -1,8 +1,9 @@
 -- What a capability opens: bytes to a right, object types to sealing and unsealing (UCAM-CL-TR-987, capability permissions).
-use Rattle.std.specs.Prelude.{◌≡◌, ℕ, ◌+◌, ◌<◌, ◌≤◌, true, false}
+use Rattle.std.specs.Prelude.{◌≡◌, ℕ, ◌+◌, ◌%◌, ◌<◌, ◌≤◌, true, false}
 use Rattle.cap_bounds.specs.CapValue.{CapValue, is_sealed, value_base, value_top, value_otype}
 use Rattle.cap_rights.specs.declared.permission.Permission.TheVariants as permission
 use Rattle.cap_rights.specs.Permission.{permits}
+use Rattle.cap_rights.specs.Rights.{OpensKeeping}
 use Rattle.reach.specs.declared.right.Right.{Right}
 use Rattle.reach.specs.declared.right.Right.TheVariants.{Store, Load, Execute, Capabilities, Seal, Unseal}
 
@@ -32,6 +33,24 @@ pub record OpensSome (right : Right) (c : CapValue) (address size : ℕ) : Type 
   pub low : address ≤ byte
   pub high : byte < address + size
   pub opens : Opens right c byte
+
+-- unsealed, with the permissions to store capabilities, those without Global too
+pub record StoresLocals (c : CapValue) : Type 0 where
+  pub unsealed : is_sealed c ≡ false
+  pub stores : permits c permission.Store ≡ true
+  pub capabilities : permits c permission.StoreCapability ≡ true
+  pub locals : permits c permission.StoreLocalCapability ≡ true
+
+-- what is lent without Global may be kept through it in a granule that has one of the `size` bytes from an address on
+pub record KeepsSome (c : CapValue) (address size : ℕ) : Type 0 where
+  pub granule : ℕ
+  pub byte : ℕ
+  pub aligned : granule % 16 ≡ 0
+  pub from : granule ≤ byte
+  pub to : byte < granule + 16
+  pub low : address ≤ byte
+  pub high : byte < address + size
+  pub opens : OpensKeeping c granule
 
 -- unsealed, with Unseal, and the object type lies in its bounds: values with the type may be unsealed
 pub record OpensUnsealing (c : CapValue) (otype : ℕ) : Type 0 where

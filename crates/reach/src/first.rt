@@ -3,7 +3,7 @@ ghost use Rattle.std.specs.Prelude.{IfNone, IfSome};
 ghost use Rattle.cap_rights.specs.Rights.{OpensSystem, OpensType};
 ghost use Rattle.reached.specs.Links.{values};
 ghost use Rattle.reach.specs.First.{IsFirst, HoldsOfNone};
-ghost use Rattle.reach.specs.Opens.{OpensSome, OpensUnsealing, IsSealedAs};
+ghost use Rattle.reach.specs.Opens.{OpensSome, KeepsSome, OpensUnsealing, IsSealedAs};
 ghost use Rattle.reach.specs.Questions.{Answers};
 
 use crate::question::{Question, answers};
@@ -64,6 +64,17 @@ impl<C: CapRep> Reach<C> {
             self.members(),
             &Question::Opens(Right::Execute, address, length),
         )
+    }
+
+    /// The first member through which what is lent without Global may be kept in a granule with one of the `length` bytes from an address,
+    /// or `None` where there is none.
+    ///
+    /// Bytes are numbered without an end: past address 2^64 - 1 they go on.
+    pub fn first_keep(&self, address: u64, length: u64) -> Option<usize>
+        ensures some { IfSome result (IsFirst (λ v. KeepsSome v address length) (values C.value self.now)) }
+        ensures none { IfNone result (HoldsOfNone (λ v. KeepsSome v address length) (values C.value self.now)) }
+    {
+        first(self.members(), &Question::Keeps(address, length))
     }
 
     /// The first member that opens the system registers: unsealed, with Execute and Access_System_Registers.

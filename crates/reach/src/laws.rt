@@ -9,6 +9,7 @@ ghost use Rattle.cap_rights.specs.Rights.{OpensSystem, OpensGranule, OpensStore,
 ghost use Rattle.tagged_memory.specs.Memory.{has_tag};
 ghost use Rattle.devices.specs.Devices.{halt, mtimecmp, timer_compare, timer, transmit, status, control_register};
 ghost use Rattle.steps.specs.declared.event.Event.{Event};
+ghost use Rattle.steps.specs.Event.{after};
 ghost use Rattle.steps.specs.State.{State};
 ghost use Rattle.authority.specs.Authority.{IsWritable, HasSystem, SameScrs, SameCsrs};
 ghost use Rattle.authority.specs.Reachable.{IsReachable};
@@ -18,13 +19,14 @@ ghost use Rattle.machine.specs.Stretch.{ArePlain, IsPlainRun, IsTwin};
 ghost use Rattle.reach.specs.declared.range.Range.{Range};
 ghost use Rattle.reach.specs.declared.right.Right.{Right};
 ghost use Rattle.reach.specs.declared.right.Right.TheVariants.{Store, Load, Execute, Capabilities, Seal, Unseal};
-ghost use Rattle.reach.specs.Differs.{KeepsBytes, DiffersWithin};
+ghost use Rattle.reach.specs.Differs.{KeepsBytes, KeepsNoLoan, DiffersWithin};
 ghost use Rattle.reach.specs.First.{HoldsOfNone};
-ghost use Rattle.reach.specs.Opens.{Opens, OpensSome, OpensUnsealing, IsSealedAs};
+ghost use Rattle.reach.specs.Opens.{Opens, OpensSome, KeepsSome, OpensUnsealing, IsSealedAs};
 ghost use Rattle.reach.specs.Ranges.{IsInOne, IsOpen, AreApart};
 ghost use Rattle.reach.specs.Reach.{AreReachable, IsWithinOne};
 
 use crate::device_answers::{CONTROL, HALT, STATUS, TIMER, TIMER_COMPARE, TRANSMIT};
+use doors::lent::plain_runs_keep_nothing_lent;
 use machine::laws::{plain_runs_are_the_same_in_both_worlds, plain_runs_keep_authority};
 
 /// The constants of the devices' registers are the places of the map.
@@ -86,6 +88,19 @@ pub fn what_no_member_reads_is_not_learned()
         → DiffersWithin s t address size → ArePlain events t × IsTwin events s t }
 {
     plain_runs_are_the_same_in_both_worlds();
+}
+
+/// Where no member may keep what is lent without Global, it isn't kept over any plain run, nor at the event after it, whatever that comes
+/// to.
+pub fn what_no_member_may_keep_is_not_kept()
+    ensures run { (events : List Event) (s : State) (vs : List CapValue) (address size : ℕ) → AreReachable s vs → IsPlainRun events s
+        → HoldsOfNone (λ v. KeepsSome v address size) vs
+        → KeepsNoLoan (IsReachable s) s.memory (run_after events s).memory address size }
+    ensures ending { (events : List Event) (s : State) (e : Event) (vs : List CapValue) (address size : ℕ) → AreReachable s vs
+        → IsPlainRun events s → HoldsOfNone (λ v. KeepsSome v address size) vs
+        → KeepsNoLoan (IsReachable s) s.memory (after e (run_after events s)).memory address size }
+{
+    plain_runs_keep_nothing_lent();
 }
 
 /// What is reachable after any plain run is within the rights of a member. With a type that no member is sealed with and none may seal

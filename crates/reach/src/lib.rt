@@ -4,6 +4,7 @@
 mod device_answers;
 mod first;
 pub mod laws;
+mod may;
 mod question;
 mod range;
 mod reach;
@@ -12,8 +13,9 @@ mod sealed;
 mod spans;
 
 pub use device_answers::{CONTROL, HALT, STATUS, TIMER, TIMER_COMPARE, TRANSMIT};
+pub use may::{Horizon, May};
+pub use question::has_granule;
 pub use range::Range;
 pub use reach::Reach;
 pub use right::Right;
-pub use sealed::is_sealed;
 pub use spans::ranges;

@@ -4,16 +4,9 @@ ghost use Rattle.cap_bounds.specs.CapValue.{is_sealed};
 
 use crate::reach::Reach;
 use cap_bounds::CapRep;
-use cap_rights::OType;
+use cap_rights::is_sealed;
 use reached::Member;
 use std::alloc::{AllocError, Global};
-
-/// Whether a member is sealed: then it opens nothing by itself.
-pub fn is_sealed<C: CapRep>(member: &Member<C>) -> bool
-    ensures { result ≡ is_sealed (C.value member.now.cap) }
-{
-    member.cap.otype() != OType::UNSEALED.number()
-}
 
 impl<C: CapRep> Reach<C> {
     /// The sealed members, in their order.
@@ -24,7 +17,7 @@ impl<C: CapRep> Reach<C> {
     {
         let mut found = Vec::new(alloc);
         for member in self.members() {
-            if !is_sealed(member) {
+            if !is_sealed(member.cap) {
                 continue;
             }
             found.push(*member)?;

@@ -10,15 +10,18 @@ use Rattle.cap_bounds.specs.CapValue.{CapValue, is_sealed, value_base, value_top
 use Rattle.cap_rights.specs.declared.permission.Permission.{Permission}
 use Rattle.cap_rights.specs.declared.permission.Permission.TheVariants as permission
 use Rattle.cap_rights.specs.Permission.{permits}
+use Rattle.cap_rights.specs.Opens.{opens_system}
+use Rattle.cap_rights.specs.OpensLaws.{opens_system-means}
 use Rattle.cap_rights.specs.Rights.{OpensStore, OpensSystem}
-use Rattle.debug_commands.specs.declared.command.May.{May}
-use Rattle.debug_commands.specs.declared.command.May.TheVariants.{Store, Learn, System}
+use Rattle.reach.specs.declared.may.May.{May}
+use Rattle.reach.specs.declared.may.May.TheVariants.{Store, Learn, Keep, System}
 use Rattle.reach.specs.declared.right.Right.TheVariants as right
 use Rattle.reach.specs.First.{HoldsOfNone}
-use Rattle.reach.specs.Opens.{OpensSome}
+use Rattle.reach.specs.Opens.{OpensSome, KeepsSome}
+use Rattle.reach.proofs.Keeping.{keeps-back}
 use Rattle.reached.specs.declared.member.Place.TheVariants.{Granule}
 use Rattle.reached.specs.Order.{Found}
-use Rattle.reach_texts.specs.Asked.{opens, opens_the_system, lets, first_that, values_of}
+use Rattle.reach_texts.specs.Asked.{opens, keeps, lets, first_that, values_of}
 
 not_inside : (n l : ℕ) (b : Bool) → nat_lt n l ≡ b → (if b then Some n else None) ≡ None → l ≤ n
 not_inside n l true e h = absurd (grind (arith, h))
@@ -61,8 +64,17 @@ executes_some a n c o =
 stores_one : (a : ℕ) (c : CapValue) → OpensStore c a → opens permission.Store a 1 c ≡ true
 stores_one a c o = opens_byte permission.Store a 1 a c o.unsealed o.stores o.base o.top (omega arith) (omega arith)
 
-system : (c : CapValue) → OpensSystem c → opens_the_system c ≡ true
-system c o = rw (o.unsealed, o.executes, o.system) refl
+keeps_some : (a n : ℕ) (c : CapValue) → KeepsSome c a n → keeps a n c ≡ true
+keeps_some a n c o =
+    rw (
+      o.opens.store.unsealed,
+      o.opens.store.stores,
+      o.opens.store.capabilities,
+      o.opens.locals,
+    ) (keeps-back c a n o)
+
+system : (c : CapValue) → OpensSystem c → opens_system c ≡ true
+system c = (opens_system-means c).1
 
 neither-left : (a b : Bool) → (a || b) ≡ false → a ≡ false
 neither-left false b h = refl
@@ -83,6 +95,9 @@ module _ (xs : List Found) where
 
   pub no_system : first_that System xs ≡ None → HoldsOfNone OpensSystem (values_of xs)
   no_system refused v there o = false≢true (sym (none_lets System xs refused v there) ∙ system v o)
+
+  pub no_keep : (a n : ℕ) → first_that (Keep a n) xs ≡ None → HoldsOfNone (λ v. KeepsSome v a n) (values_of xs)
+  no_keep a n refused v there o = false≢true (sym (none_lets (Keep a n) xs refused v there) ∙ keeps_some a n v o)
 
   pub no_load : (a n : ℕ) → first_that (Learn a n) xs ≡ None → HoldsOfNone (λ v. OpensSome right.Load v a n) (values_of xs)
   no_load a n refused v there o =

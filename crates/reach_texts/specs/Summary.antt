@@ -5,10 +5,10 @@ use Rattle.std.specs.List.{count_by, flat_map}
 use Rattle.base.specs.declared.otype.TheConstants.{FIRST_RESERVED}
 use Rattle.cap_bounds.specs.CapValue.{is_sealed}
 use Rattle.devices.specs.Devices.{halt, timer_compare, timer, transmit, receive, status, control_register}
-use Rattle.debug_commands.specs.declared.command.Horizon.{Horizon}
-use Rattle.debug_commands.specs.declared.command.Horizon.TheVariants.{Stretch, Turn}
-use Rattle.debug_commands.specs.declared.command.May.{May}
-use Rattle.debug_commands.specs.declared.command.May.TheVariants.{Load, Store, System}
+use Rattle.reach.specs.declared.may.Horizon.{Horizon}
+use Rattle.reach.specs.declared.may.Horizon.TheVariants.{Stretch, Turn}
+use Rattle.reach.specs.declared.may.May.{May}
+use Rattle.reach.specs.declared.may.May.TheVariants.{Load, Store, System}
 use Rattle.texts.specs.Hex.{hex_of}
 use Rattle.symbols.specs.Symbols.{Symbol}
 use Rattle.symbols.specs.Labels.{labelled}

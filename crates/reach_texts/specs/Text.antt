@@ -10,8 +10,8 @@ use Rattle.asm_names.specs.TrapNames.{register_at_fault}
 use Rattle.explain.specs.ValueText.{shown_value}
 use Rattle.symbols.specs.Symbols.{Symbol}
 use Rattle.symbols.specs.Labels.{labelled}
-use Rattle.debug_commands.specs.declared.command.Horizon.{Horizon}
-use Rattle.debug_commands.specs.declared.command.Horizon.TheVariants.{Stretch, Turn}
+use Rattle.reach.specs.declared.may.Horizon.{Horizon}
+use Rattle.reach.specs.declared.may.Horizon.TheVariants.{Stretch, Turn}
 use Rattle.doors.specs.declared.through.Door.{Door}
 use Rattle.reached.specs.declared.member.Place.{Place}
 use Rattle.reached.specs.declared.member.Place.TheVariants.{Root, Special, Granule}

@@ -7,9 +7,9 @@ ghost use Rattle.reach_texts.specs.Text.{answer_text, chain_text, held_text, no_
 use crate::places::{PlaceText, place_through};
 use bounds_text::permission_letters;
 use cap_bounds::CapRep;
-use debug_commands::Horizon;
 use doors::Door;
 use explain::value_text;
+use reach::Horizon;
 use reached::{Member, chain};
 use std::alloc::{AllocError, Global};
 use symbols::Symbols;

@@ -1,21 +1,13 @@
 //! What may be asked of the code that runs from here on.
-ghost use Rattle.std.specs.Prelude.{◌≡◌, ◌+◌, ◌<◌, ◌&&◌, IfSome, length, max, min, nat_le, nat_lt};
-ghost use Rattle.cap_bounds.specs.CapValue.{is_sealed, value_base, value_top};
+ghost use Rattle.std.specs.Prelude.{◌≡◌, ◌+◌, ◌<◌, IfSome, length, max, min, nat_lt};
+ghost use Rattle.cap_bounds.specs.CapValue.{value_base, value_top};
 ghost use Rattle.reached.specs.Order.{seen_members};
-ghost use Rattle.reach_texts.specs.Asked.{first_that, is_sealed_as, lets, may_seal_as, opens, opens_the_system};
+ghost use Rattle.reach_texts.specs.Asked.{first_that, is_sealed_as, keeps, lets, may_seal_as, opens, stores_locals};
 
 use cap_bounds::CapRep;
-use cap_rights::{OType, Permission, permits};
-use debug_commands::May;
-use reach::{HALT, TIMER_COMPARE, TRANSMIT};
+use cap_rights::{OType, Permission, address_in_bounds, allows, is_sealed, opens_system, permits};
+use reach::{HALT, May, TIMER_COMPARE, TRANSMIT, has_granule};
 use reached::Member;
-
-/// Whether a capability is sealed.
-pub(crate) fn is_sealed<C: CapRep>(cap: C) -> bool
-    ensures { result ≡ is_sealed (C.value cap) }
-{
-    cap.otype() != OType::UNSEALED.number()
-}
 
 /// Whether one of the `count` bytes from an address on lies in the bounds.
 fn meets<C: CapRep>(cap: C, address: u64, count: u64) -> bool
@@ -30,16 +22,23 @@ fn meets<C: CapRep>(cap: C, address: u64, count: u64) -> bool
 fn opens<C: CapRep>(cap: C, permission: Permission, address: u64, count: u64) -> bool
     ensures { result ≡ opens permission address count (C.value cap) }
 {
-    !is_sealed(cap) && permits(cap, permission) && meets(cap, address, count)
+    allows(cap, permission) && meets(cap, address, count)
 }
 
-/// Whether code that jumps there may use the system registers.
-fn opens_the_system<C: CapRep>(cap: C) -> bool
-    ensures { result ≡ opens_the_system (C.value cap) }
+/// Whether capabilities without Global may be stored through a capability.
+fn stores_locals<C: CapRep>(cap: C) -> bool
+    ensures { result ≡ stores_locals (C.value cap) }
 {
-    !is_sealed(cap)
-        && permits(cap, Permission::Execute)
-        && permits(cap, Permission::AccessSystemRegisters)
+    allows(cap, Permission::Store)
+        && (permits(cap, Permission::StoreCapability)
+            && permits(cap, Permission::StoreLocalCapability))
+}
+
+/// Whether what is lent may be kept through a capability in a granule with one of the `count` bytes from an address on.
+fn keeps<C: CapRep>(cap: C, address: u64, count: u64) -> bool
+    ensures { result ≡ keeps address count (C.value cap) }
+{
+    stores_locals(cap) && has_granule(cap, address, count)
 }
 
 /// Whether a capability is sealed with a type.
@@ -47,13 +46,6 @@ fn is_sealed_as<C: CapRep>(cap: C, otype: u64) -> bool
     ensures { result ≡ is_sealed_as otype (C.value cap) }
 {
     is_sealed(cap) && u64::from(cap.otype()) == otype
-}
-
-/// Whether an object type lies in the bounds.
-fn spans<C: CapRep>(cap: C, otype: u64) -> bool
-    ensures { result ≡ (nat_le (value_base (C.value cap)) otype && nat_lt otype (value_top (C.value cap))) }
-{
-    cap.base() <= otype && u128::from(otype) < cap.top()
 }
 
 /// Whether values may be sealed with a type through a capability; of sentries code makes its own.
@@ -66,7 +58,7 @@ fn may_seal_as<C: CapRep>(cap: C, otype: u64) -> bool
     if otype == u64::from(OType::SENTRY.number()) {
         permits(cap, Permission::Execute)
     } else {
-        permits(cap, Permission::Seal) && spans(cap, otype)
+        permits(cap, Permission::Seal) && address_in_bounds(cap, otype)
     }
 }
 
@@ -82,9 +74,10 @@ fn lets<C: CapRep>(cap: C, may: May) -> bool
             opens(cap, Permission::Load, address, count)
                 || opens(cap, Permission::Execute, address, count)
         }
+        May::Keep { address, count } => keeps(cap, address, count),
         May::Send => opens(cap, Permission::Store, TRANSMIT, 1),
         May::Halt => opens(cap, Permission::Store, HALT, 1),
-        May::System => opens_the_system(cap),
+        May::System => opens_system(cap),
         May::Timer => opens(cap, Permission::Store, TIMER_COMPARE, 1),
         May::Hold(otype) => is_sealed_as(cap, otype) || may_seal_as(cap, otype),
     }

@@ -3,11 +3,11 @@ ghost use Rattle.std.specs.Prelude.{◌≡◌, ◌++◌, OnOk, string_bytes};
 ghost use Rattle.reached.specs.Order.{seen_member, seen_members};
 ghost use Rattle.reach_texts.specs.Summary.{count_line, count_of, door_count, is_of};
 
-use crate::asked::is_sealed;
 use crate::places::STATE_ROOTS;
 use arrayvec::ArrayString;
 use cap_bounds::CapRep;
-use debug_commands::Horizon;
+use cap_rights::is_sealed;
+use reach::Horizon;
 use reached::{Member, Place};
 use std::alloc::AllocError;
 use texts::Piece::{Decimal, Text};

@@ -3,12 +3,12 @@ ghost use Rattle.std.specs.Prelude.{◌≡◌, ◌++◌, OnOk, string_bytes};
 ghost use Rattle.reached.specs.Order.{seen_member, seen_members};
 ghost use Rattle.reach_texts.specs.Text.{begin_text, graph_text, link_lines, node_end};
 
-use crate::asked::is_sealed;
 use crate::members::{Said, append_each};
 use crate::places::place_name;
 use arrayvec::ArrayString;
 use bounds_text::permission_letters;
 use cap_bounds::CapRep;
+use cap_rights::is_sealed;
 use reached::{Member, Place};
 use std::alloc::AllocError;
 use symbols::Symbols;

@@ -4,12 +4,12 @@ ghost use Rattle.reached.specs.Order.{seen_member, seen_members};
 ghost use Rattle.reach_texts.specs.Summary.{said_of};
 ghost use Rattle.reach_texts.specs.Text.{from_text, member_line, members_text, numbered};
 
-use crate::asked::is_sealed;
 use crate::graph::append_links;
 use crate::places::place_name;
 use arrayvec::ArrayString;
 use bounds_text::permission_letters;
 use cap_bounds::CapRep;
+use cap_rights::is_sealed;
 use explain::value_text;
 use reached::{Member, Place};
 use std::alloc::AllocError;

@@ -11,6 +11,6 @@ mod system;
 mod way;
 
 pub use member::{Member, Place};
-pub use opens::{opens_capabilities, opens_system};
+pub use opens::opens_capabilities;
 pub use search::closure;
 pub use way::chain;

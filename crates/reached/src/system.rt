@@ -8,8 +8,8 @@ ghost use Rattle.reached.specs.Order.{among, seen_members, tagged_from};
 ghost use Rattle.reached.specs.Findings.{IsSystemFound};
 
 use crate::member::{Member, Place};
-use crate::opens::opens_system;
 use cap_bounds::CapRep;
+use cap_rights::opens_system;
 use std::alloc::AllocError;
 
 /// The place of this number among the roots or the special registers.

@@ -31,8 +31,11 @@ byte_before schedule input step =
     if (step - 1) % schedule.gap == 0 then slice_get input ((step - 1) / schedule.gap) else None
 
 -- A tick comes after each step whose number is a multiple of the tick; at 0 there is none.
+abbrev pub ticks_after : ℕ → ℕ → Bool
+ticks_after tick step = not (tick == 0) && step % tick == 0
+
 unfoldable pub is_tick_after : Schedule → ℕ → Bool
-is_tick_after schedule step = not (schedule.tick == 0) && step % schedule.tick == 0
+is_tick_after schedule step = ticks_after schedule.tick step
 
 -- a step, with the byte before it and the tick after it
 abbrev pub around : Option ℕ → Bool → List Event

@@ -1,11 +1,10 @@
 //! A watch that writes what a machine sends.
 
 ghost use Rattle.std.proofs.Common.{◌∙◌};
-ghost use Rattle.std.specs.Prelude.{◌≡◌, ◌<◌, ◌-◌, ◌^◌, false, IsOk, OnErr, OnOk, option_to_list, is_some, refl, true};
+ghost use Rattle.std.specs.Prelude.{◌≡◌, ◌<◌, ◌-◌, ◌^◌, false, IfOk, None, OnErr, OnOk, option_to_list, is_some, refl, true};
 ghost use Rattle.std.specs.Io.KnownBytes.{Appends, Keeps};
 ghost use Rattle.image.specs.Devices.{Counts};
-ghost use Rattle.schedules.specs.declared.pace.Speed.TheVariants.{Any};
-ghost use Rattle.schedules.specs.Output.{FellShort, Wrote};
+ghost use Rattle.schedules.specs.Output.{output_pace, FellShort, IsPatient, Wrote};
 ghost use Rattle.schedules.specs.OutputLaws.{fell_later, wrote_more, wrote_none};
 
 use crate::pace::{Pace, Speed};
@@ -15,10 +14,15 @@ use hart::Planned;
 use image::{DeviceFailed, Sink};
 use machine::Machine;
 
-/// Writes each byte that a machine sends at once.
+/// How many steps after a byte the sink hands on what it keeps back, where no other byte comes before.
+const PATIENCE: u64 = 1_000_000;
+
+/// Writes each byte that a machine sends at once. A million steps after the last byte the sink hands on what it keeps back.
 #[derive(Drop)]
 pub struct Output<'a, W: Sink> {
     sink: &'a mut W,
+    /// How many steps were done since the last byte, where what the sink keeps back was not handed on since.
+    since: Option<u64>,
 }
 
 impl<'a, W: Sink> Output<'a, W> {
@@ -26,25 +30,62 @@ impl<'a, W: Sink> Output<'a, W> {
     pub fn new(sink: &'a mut W) -> Self
         ensures same_reference { result.sink.ghost_name ≡ sink.entry.ghost_name }
         ensures value { result.sink.now ≡ sink.old }
+        ensures since { result.since ≡ None }
     {
-        Output { sink }
+        Output { sink, since: None }
     }
 }
 
-/// Writes the byte that a step sent, if it sent one.
-fn write_sent<W: Sink>(byte: Option<u8>, sink: &mut W) -> Result<(), DeviceFailed>
+/// Lets the sink hand on what it keeps back, where so many steps more make it long since the last byte. Answers how many there were since
+/// it, if it is not handed on.
+fn settle<W: Sink>(since: Option<u64>, steps: u64, sink: &mut W) -> Option<u64>
+    ensures held { Keeps (W.held sink.old) (W.held sink.new) }
+    ensures failed { W.failed sink.new ≡ W.failed sink.old }
+    ensures patient { IsPatient result }
+{
+    let since = since?.saturating_add(steps);
+    if since < PATIENCE {
+        Some(since)
+    } else {
+        sink.settle();
+        None
+    }
+}
+
+/// Writes the byte that the last of so many steps sent, if it sent one. Answers how many steps were done since the last byte, if what the
+/// sink keeps back was not handed on since.
+fn write_sent<W: Sink>(
+    byte: Option<u8>,
+    since: Option<u64>,
+    steps: u64,
+    sink: &mut W,
+) -> Result<Option<u64>, DeviceFailed>
     requires { W.failed sink.old < 2 ^ 64 - 1 }
     ensures ok { OnOk result (Appends (W.held sink.old) (W.held sink.new) (option_to_list byte)) }
     ensures err { OnErr result (Keeps (W.held sink.old) (W.held sink.new)) }
     ensures unwritten { OnErr result (is_some byte ≡ true) }
     ensures count { Counts (W.failed sink.old) (W.failed sink.new) result }
+    ensures patient { IfOk result IsPatient }
 {
     match byte {
-        None => Ok(()),
+        None => Ok(settle(since, steps, sink)),
         Some(byte) => {
             sink.write(&[byte])?;
-            Ok(())
+            Ok(Some(0))
         }
+    }
+}
+
+/// Steps at once, up to where the sink is to hand on what it keeps back.
+fn output_pace(since: Option<u64>) -> Pace
+    ensures { result ≡ output_pace since }
+{
+    match since {
+        None => Pace::of(Speed::Any),
+        Some(since) => Pace {
+            speed: Speed::Any,
+            most: PATIENCE.saturating_sub(since),
+        },
     }
 }
 
@@ -61,9 +102,9 @@ impl<C: CapRep, W: Sink> Watch<Machine<C>> for Output<'_, W> {
 
     ghost Asked = { λ s a b. b ≡ a };
 
-    ghost IsReady = { λ w. W.failed w.sink.now < 2 ^ 64 - 1 };
+    ghost IsReady = { λ w. (W.failed w.sink.now < 2 ^ 64 - 1) × IsPatient w.since };
 
-    ghost pace_of = { λ _. record { speed = Any; most = 18446744073709551615 } };
+    ghost pace_of = { λ w. output_pace w.since };
 
     ghost stops_at = { λ _ _. false };
 
@@ -76,7 +117,7 @@ impl<C: CapRep, W: Sink> Watch<Machine<C>> for Output<'_, W> {
     ghost bars_later = { λ fault xs ys s u v w first later. later };
 
     fn pace(&self) -> Pace {
-        Pace::of(Speed::Any)
+        output_pace(self.since)
     }
 
     fn stops(&self, _machine: &Machine<C>, _planned: &Planned<C>) -> bool {
@@ -91,7 +132,13 @@ impl<C: CapRep, W: Sink> Watch<Machine<C>> for Output<'_, W> {
         steps: u64,
         sent: Option<u8>,
     ) -> Result<(), DeviceFailed> {
-        write_sent(sent, self.sink)
+        match write_sent(sent, self.since, steps, self.sink) {
+            Ok(since) => {
+                self.since = since;
+                Ok(())
+            }
+            Err(fault) => Err(fault),
+        }
     }
 
     fn before(&mut self, _machine: &Machine<C>, _planned: &Planned<C>) -> Result<(), DeviceFailed> {
@@ -99,6 +146,12 @@ impl<C: CapRep, W: Sink> Watch<Machine<C>> for Output<'_, W> {
     }
 
     fn after(&mut self, _machine: &Machine<C>, sent: Option<u8>) -> Result<(), DeviceFailed> {
-        write_sent(sent, self.sink)
+        match write_sent(sent, self.since, 1, self.sink) {
+            Ok(since) => {
+                self.since = since;
+                Ok(())
+            }
+            Err(fault) => Err(fault),
+        }
     }
 }

@@ -3,6 +3,7 @@
 ghost use Rattle.std.specs.Prelude.{◌≡◌, is_some};
 ghost use Rattle.steps.specs.State.{State};
 ghost use Rattle.steps.specs.Applying.{IsPlanned};
+ghost use Rattle.steps.specs.Step.{step_fetched};
 
 use cap_bounds::CapRep;
 use hart::Planned;
@@ -30,7 +31,7 @@ impl<C: CapRep> Seen for Machine<C> {
 
     ghost state = { λ m. m };
 
-    ghost is_plan = { λ planned s. IsPlanned C.value planned.effect s };
+    ghost is_plan = { λ planned s. IsPlanned C.value planned.effect s × (planned.fetched ≡ step_fetched s) };
 
     fn is_halted(&self) -> bool {
         self.halted().is_some()

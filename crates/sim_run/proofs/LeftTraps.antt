@@ -19,7 +19,7 @@ use Rattle.steps.specs.Effect.{applied}
 use Rattle.steps.specs.Event.{after, outcome}
 use Rattle.steps.specs.Outcome.{Plain, Unseal, SealedJump, is_trap, outcome_of, step_outcome, step_outcome_unless}
 use Rattle.steps.specs.State.{State, pc_of}
-use Rattle.steps.specs.Step.{fetch, step_effect, stepped, stepped_unless}
+use Rattle.steps.specs.Step.{step_effect, step_fetched, stepped, stepped_unless}
 use Rattle.machine.specs.Run.{run_after}
 use Rattle.explain.specs.WhyText.{failed_line}
 use Rattle.steps.specs.Steps.{GoesBy}
@@ -127,10 +127,10 @@ module _ (s : State) (running : is_halted s ≡ false) where
 -- ---- the trap that is left, as it is told
 
 pub told-more : (symbols : List Symbol) (n : ℕ) (text : List ℕ) (number : ℕ) (s : State) (found : Option Trapped)
-    → IsTold symbols (Some n) text found → (m : ℕ) → m ≡ n + unfetched_in (fetch s)
+    → IsTold symbols (Some n) text found → (m : ℕ) → m ≡ n + unfetched_in (step_fetched s)
     → IsTold symbols (Some m) text (Some (first_of number s found))
 told-more symbols n text number s None told m is = absurd told
-told-more symbols n text number s (Some first) told m is = (is ∙ ap (λ k. k + unfetched_in (fetch s)) told.0, told.1)
+told-more symbols n text number s (Some first) told m is = (is ∙ ap (λ k. k + unfetched_in (step_fetched s)) told.0, told.1)
 
 pub told-first : (symbols : List Symbol) (number : ℕ) (s : State) (found : Option Trapped) (old new : List ℕ)
     → IsTold symbols None old found → new ≡ first_trap symbols number s → IsTold symbols (Some 0) new (Some (first_of number s found))

@@ -7,6 +7,7 @@ use Rattle.steps.specs.Event.{after}
 use Rattle.steps.specs.State.{State, pc_of}
 use Rattle.symbols.specs.Symbols.{Symbol}
 use Rattle.symbols.specs.Labels.{labelled}
+use Rattle.explain.specs.StandingText.{standing_text}
 use Rattle.explain.specs.TrapText.{trap_text}
 use Rattle.explain.specs.WhyText.{failed_line}
 use Rattle.sim_run.specs.Unhandled.{Trapped}
@@ -43,4 +44,4 @@ trap_lines symbols None s = last_trap symbols s ++ codes "\n"
 -- how many steps were done, where PCC is, and the trap that matters
 abbrev pub ending_lines : List Symbol → ℕ → Option Trapped → State → List ℕ
 ending_lines symbols steps found s =
-    codes "cherisim: steps " ++ decimal steps ++ codes ", pcc " ++ labelled symbols (pc_of s) ++ trap_lines symbols found s
+    standing_text symbols steps s ++ trap_lines symbols found s

@@ -1,16 +1,16 @@
 -- Where a run ends that is to show why a step traps: before the first step that is such a trap.
 use Rattle.std.specs.Prelude.{ℕ, ◌+◌, ◌==◌, ◌&&◌, ◌||◌, Bool, if◌then◌else◌, List, [], ◌∷◌, ◌++◌, is_err}
-use Rattle.std.specs.Prelude.{Option, Some, None, codes, decimal}
+use Rattle.std.specs.Prelude.{Option, Some, None, codes}
 use Rattle.base.specs.declared.cause.Cause.TheVariants as cause
 use Rattle.base.specs.Fault.{number_of}
 use Rattle.steps.specs.declared.event.Event.{Event}
 use Rattle.steps.specs.declared.event.Event.TheVariants.{Step, Tick, Byte}
 use Rattle.steps.specs.Event.{after, outcome}
 use Rattle.steps.specs.Outcome.{is_trap}
-use Rattle.steps.specs.State.{State, pc_of}
+use Rattle.steps.specs.State.{State}
 use Rattle.steps.specs.Step.{fetch}
 use Rattle.symbols.specs.Symbols.{Symbol}
-use Rattle.symbols.specs.Labels.{labelled}
+use Rattle.explain.specs.StandingText.{standing_text}
 use Rattle.explain.specs.WhyText.{why_text}
 use Rattle.sim_run.specs.declared.stopping.StopAt.{StopAt}
 use Rattle.sim_run.specs.declared.stopping.StopAt.TheVariants.{Unfetched, Violation}
@@ -56,4 +56,4 @@ stop_met (Some at) events s = first_stop at 0 events s
 -- how many steps were done, where PCC is, and what the next step will do, and why; after an address stands its label
 unfoldable pub stopped_lines : List Symbol → ℕ → State → List ℕ
 stopped_lines symbols steps s =
-    codes "cherisim: steps " ++ decimal steps ++ codes ", pcc " ++ labelled symbols (pc_of s) ++ codes "\n" ++ why_text symbols s
+    standing_text symbols steps s ++ codes "\n" ++ why_text symbols s

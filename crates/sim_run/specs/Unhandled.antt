@@ -1,13 +1,14 @@
 -- The trap that nothing handled: the first since the last step that was no trap. Where a program has no handler, each step after its
 -- first trap is a trap again, of the fetch at the entry.
-use Rattle.std.specs.Prelude.{ℕ, ◌+◌, if◌then◌else◌, List, [], ◌∷◌, Option, Some, None, Result, Ok, Err}
-use Rattle.base.specs.declared.fault.Fault.{Fault}
+use Rattle.std.specs.Prelude.{ℕ, ◌+◌, if◌then◌else◌, List, [], ◌∷◌, Option, Some, None}
 use Rattle.steps.specs.declared.event.Event.{Event}
 use Rattle.steps.specs.declared.event.Event.TheVariants.{Step, Tick, Byte}
 use Rattle.steps.specs.Event.{after, outcome}
 use Rattle.steps.specs.Outcome.{is_trap}
 use Rattle.steps.specs.State.{State}
-use Rattle.steps.specs.Step.{fetch}
+use Rattle.steps.specs.declared.fetched.Fetched.{Fetched}
+use Rattle.steps.specs.declared.fetched.Fetched.TheVariants.{Fault}
+use Rattle.steps.specs.Step.{step_fetched}
 
 -- a trap: the number of its step, counted from 1, the state before it, and how many later steps were traps of the fetch
 pub record Trapped : Type 0 where
@@ -15,15 +16,15 @@ pub record Trapped : Type 0 where
   pub before : State
   pub unfetched : ℕ
 
--- 1 where the instruction can't be fetched
-abbrev pub unfetched_in : Result ℕ Fault → ℕ
-unfetched_in (Ok word) = 0
-unfetched_in (Err fault) = 1
+-- 1 where the fetch faults
+abbrev pub unfetched_in : Fetched → ℕ
+unfetched_in Fault = 1
+unfetched_in _ = 0
 
 -- one trap more: the first stays
 abbrev pub first_of : ℕ → State → Option Trapped → Trapped
 first_of number s None = record { number = number; before = s; unfetched = 0 }
-first_of number s (Some first) = record first { unfetched = first.unfetched + unfetched_in (fetch s) }
+first_of number s (Some first) = record first { unfetched = first.unfetched + unfetched_in (step_fetched s) }
 
 -- one step more: one that is no trap has handled all before it
 abbrev pub after_step : ℕ → State → Option Trapped → Option Trapped

@@ -3,7 +3,7 @@
 ghost use Rattle.std.specs.Prelude.{◌≡◌, ◌++◌, OnOk, IfOk, Option, codes, decimal, false, string_bytes};
 ghost use Rattle.cap_bounds.specs.CapValue.{value_address};
 ghost use Rattle.steps.specs.State.{pc_of};
-ghost use Rattle.steps.specs.Step.{step_effect};
+ghost use Rattle.steps.specs.Step.{step_effect, step_fetched};
 ghost use Rattle.steps.specs.declared.effect.Effect.TheVariants.{Trap};
 ghost use Rattle.symbols.specs.Labels.{labelled};
 ghost use Rattle.explain.specs.WhyText.{failed_line};
@@ -19,11 +19,12 @@ use crate::unhandled::trap_left;
 use arrayvec::ArrayString;
 use base::{Fault, csr, scr};
 use cap_bounds::CapRep;
-use explain::{put_failed, trap_text};
+use explain::{put_failed, put_standing, trap_text};
 use image::Image;
 use machine::{End, Machine};
 use schedules::Schedule;
 use std::alloc::{AllocError, Global};
+use steps::Fetched;
 use symbols::{Symbols, labelled};
 use texts::Piece::{Decimal, Text};
 use texts::{append, text};
@@ -148,14 +149,16 @@ pub(crate) fn append_first_trap<C: CapRep>(
     symbols: &Symbols,
     machine: &Machine<C>,
     number: u64,
+    fetched: Fetched,
     fault: Fault,
 ) -> Result<(), AllocError>
+    requires fetched { fetched ≡ step_fetched machine.now }
     requires running { is_halted machine.now ≡ false }
     requires traps { step_effect machine.now ≡ Trap fault }
     ensures { OnOk result (string_bytes text.new ≡ string_bytes text.old ++ first_trap symbols.now number machine.now) }
 {
     append_trap(text, symbols, fault, pc(machine), number)?;
-    put_failed(text, symbols, machine.hart())
+    put_failed(text, symbols, machine.hart(), fetched)
 }
 
 /// Appends how many steps since the first trap were traps of the fetch to a text.
@@ -172,28 +175,6 @@ fn append_since(text: &mut String, count: u64) -> Result<(), AllocError>
             Text("  later traps at an entry that can't be fetched: "),
             Decimal(count),
             Text("\n"),
-        ],
-    )
-}
-
-/// Appends how many steps were done and where PCC is to a text; after its address stands its label.
-pub fn put_place<C: CapRep>(
-    text: &mut String,
-    symbols: &Symbols,
-    machine: &Machine<C>,
-    steps: u64,
-) -> Result<(), AllocError>
-    ensures { OnOk result (string_bytes text.new ≡ string_bytes text.old
-        ++ (codes "cherisim: steps " ++ decimal steps ++ codes ", pcc " ++ labelled symbols.now (pc_of machine.now))) }
-{
-    let place = labelled(Some(symbols), pc(machine));
-    append(
-        text,
-        &[
-            Text("cherisim: steps "),
-            Decimal(steps),
-            Text(", pcc "),
-            Text(place.as_str()),
         ],
     )
 }
@@ -245,7 +226,7 @@ pub fn ending_lines<C: CapRep>(
 {
     let left = trap_left(alloc, symbols, image, schedule, input, machine)?;
     let mut text = String::new(alloc);
-    put_place(&mut text, symbols, machine, steps)?;
+    put_standing(&mut text, symbols, machine.hart(), steps)?;
     append_trap_lines(&mut text, symbols, machine, left.unfetched, &left.text)?;
     Ok(text)
 }

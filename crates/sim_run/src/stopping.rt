@@ -14,12 +14,11 @@ ghost use Rattle.sim_run.specs.Stopping.{events_met, is_asked, is_stop, is_viola
 ghost use Rattle.sim_run.specs.Stopped.{PassesStops};
 ghost use Rattle.sim_run.specs.StoppedLaws.{passes_more};
 
-use crate::ending::put_place;
 use crate::unhandled::trap_in;
 use base::{Cause, Fault, Size};
 use cap_bounds::CapRep;
 use cap_checks::check_fetch;
-use explain::put_why;
+use explain::{put_standing, put_why};
 use hart::Planned;
 use machine::Machine;
 use schedules::{How, Pace, Schedule, Speed, Walking, Watch, walk_whole};
@@ -192,7 +191,7 @@ pub fn stopped_lines<C: CapRep>(
     ensures { IfOk result (λ text. string_bytes text ≡ stopped_lines symbols.now steps machine.now) }
 {
     let mut text = String::new(alloc);
-    put_place(&mut text, symbols, machine, steps)?;
+    put_standing(&mut text, symbols, machine.hart(), steps)?;
     append(&mut text, &[Text("\n")])?;
     put_why(&mut text, symbols, machine.hart())?;
     Ok(text)

@@ -5,6 +5,7 @@ ghost use Rattle.std.specs.Prelude.{◌≡◌, ◌<◌, ◌+◌, ◌-◌, ◌^�
 ghost use Rattle.std.specs.Io.KnownBytes.{Appends};
 ghost use Rattle.image.specs.Devices.{AppendsBeginning, Counts};
 ghost use Rattle.steps.specs.Applying.{IsPlanned};
+ghost use Rattle.steps.specs.Step.{step_fetched};
 ghost use Rattle.steps.specs.declared.event.Event.TheVariants.{Step};
 ghost use Rattle.machine.specs.Run.{run_after, run_sent, end_of};
 ghost use Rattle.explain.specs.TraceLine.{trace_line as trace_line_of};
@@ -71,6 +72,7 @@ fn write_line<C: CapRep, T: Sink>(
     planned: &Planned<C>,
 ) -> Result<(), DeviceFailed>
     requires planned { IsPlanned C.value planned.now.effect machine.now }
+    requires fetched { planned.now.fetched ≡ step_fetched machine.now }
     requires ready { T.failed trace.old < 2 ^ 64 - 1 }
     ensures ok { before < 2 ^ 64 - 1 → OnOk result (Appends (T.held trace.old) (T.held trace.new)
         (lines_past symbols.now (skipped - before) before (Step ∷ []) machine.now)) }

@@ -8,7 +8,7 @@ ghost use Rattle.special_regs.specs.Traps.{entry_address};
 ghost use Rattle.steps.specs.Applying.{meant, IsPlanned};
 ghost use Rattle.hart.specs.Opening.{opening};
 ghost use Rattle.steps.specs.State.{State};
-ghost use Rattle.steps.specs.Step.{fetch, step_effect};
+ghost use Rattle.steps.specs.Step.{step_effect, step_fetched};
 ghost use Rattle.steps.specs.declared.effect.Effect.TheVariants.{Trap};
 ghost use Rattle.steps.specs.declared.event.Event.{Event};
 ghost use Rattle.steps.specs.declared.event.Event.TheVariants.{Step};
@@ -26,7 +26,7 @@ use image::Image;
 use machine::Machine;
 use schedules::{How, Pace, Schedule, Speed, Walking, Watch, walk_whole};
 use std::alloc::{AllocError, Global};
-use steps::Effect;
+use steps::{Effect, Fetched};
 use symbols::Symbols;
 
 /// The fault of a step that traps.
@@ -39,23 +39,24 @@ pub(crate) fn trap_in<C: CapRep>(planned: &Planned<C>) -> Option<Fault>
     }
 }
 
-/// 1 where the instruction at PCC can't be fetched, else 0.
-fn unfetched_in<C: CapRep>(machine: &Machine<C>) -> u64
-    ensures value { result ≡ unfetched_in (fetch machine.now) }
+/// 1 where the fetch faults, else 0.
+fn unfetched_in(fetched: Fetched) -> u64
+    ensures value { result ≡ unfetched_in fetched }
     ensures few { result ≤ 1 }
 {
-    match machine.hart().fetch() {
-        Ok(_) => 0,
-        Err(_) => 1,
+    match fetched {
+        Fetched::Fault => 1,
+        Fetched::Interrupt | Fetched::Word(..) => 0,
     }
 }
 
-/// Counts the trap of the step of this number, which is planned: the first becomes `text`, and of the others those of the fetch are
+/// Counts the trap of the step of this number, which fetches so: the first becomes `text`, and of the others those of the fetch are
 /// counted.
 fn count_trap<C: CapRep>(
     symbols: &Symbols,
     machine: &Machine<C>,
     number: u64,
+    fetched: Fetched,
     fault: Fault,
     unfetched: Option<u64>,
     text: &mut String,
@@ -63,16 +64,17 @@ fn count_trap<C: CapRep>(
     requires few { IfSome unfetched (λ n. n < number) }
     requires some { 0 < number }
     requires running { is_halted machine.now ≡ false }
+    requires fetched { fetched ≡ step_fetched machine.now }
     requires traps { step_effect machine.now ≡ Trap fault }
     ensures told { IfOk result (λ n. (found : Option Trapped) → IsTold symbols.now unfetched (string_bytes text.old) found
         → IsTold symbols.now (Some n) (string_bytes text.new) (Some (first_of number machine.now found))) }
     ensures few { IfOk result (λ n. n ≤ number) }
 {
     match unfetched {
-        Some(count) => Ok(count + unfetched_in(machine)),
+        Some(count) => Ok(count + unfetched_in(fetched)),
         None => {
             text.clear();
-            append_first_trap(text, symbols, machine, number, fault)?;
+            append_first_trap(text, symbols, machine, number, fetched, fault)?;
             Ok(0)
         }
     }
@@ -89,6 +91,7 @@ fn look<C: CapRep>(
     text: &mut String,
 ) -> Result<Option<u64>, AllocError>
     requires planned { IsPlanned C.value planned.now.effect machine.now }
+    requires fetched { planned.now.fetched ≡ step_fetched machine.now }
     requires few { IfSome unfetched (λ n. n < number) }
     requires some { 0 < number }
     requires running { is_halted machine.now ≡ false }
@@ -98,7 +101,8 @@ fn look<C: CapRep>(
 {
     match trap_in(planned) {
         Some(fault) => {
-            let count = count_trap(symbols, machine, number, fault, unfetched, text)?;
+            let fetched = planned.fetched;
+            let count = count_trap(symbols, machine, number, fetched, fault, unfetched, text)?;
             Ok(Some(count))
         }
         None => Ok(None),

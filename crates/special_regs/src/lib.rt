@@ -19,9 +19,10 @@ pub use access::{
 };
 pub use csrs::Csrs;
 pub use interrupts::{Interrupt, pending};
+pub use mtvec::mtvec_of;
 pub use parts::{csr_value, set_csr};
 pub use reads::{held_csr, read_csr};
 pub use refusal::SpecialFault;
 pub use scrs::Scrs;
-pub use traps::{check_return, enter_trap, leave_trap, return_from_trap, target};
+pub use traps::{check_return, enter_trap, entry_address, leave_trap, return_from_trap, target};
 pub use writes::{special_rw, write_csr};

@@ -10,7 +10,7 @@ pub(crate) fn is_vectored(address: u64) -> bool
 
 /// Returns what mtvec reads of an address, and keeps of a number: the low two bits are 1 where they were, else 0.
 #[tactic(auto, unfolding(crate::specs::Mtvec::mtvec_of))]
-pub(crate) fn mtvec_of(n: u64) -> u64
+pub fn mtvec_of(n: u64) -> u64
     ensures { result ≡ spec.mtvec_of n }
 {
     if is_vectored(n) { n } else { n / 4 * 4 }

@@ -59,7 +59,7 @@ fn vector_of(fault: Fault) -> u64
 
 /// Returns the address at which a trap begins: mtvec's base, and for a vectored interrupt four bytes a number after it.
 #[tactic(auto, unfolding(crate::specs::Traps::entry_address))]
-fn entry_address(fault: Fault, mtvec: u64) -> u64
+pub fn entry_address(fault: Fault, mtvec: u64) -> u64
     ensures { result ≡ spec.entry_address fault mtvec }
 {
     let base = mtvec / 4 * 4;

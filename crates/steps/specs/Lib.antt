@@ -20,6 +20,7 @@ pub mod AskedLaws
 pub mod AppliedLaws
 pub mod PlannedLaws
 pub mod EventLaws
+pub mod FetchedLaws
 -- Inner words
 pub mod Applying
 pub mod RowEffects

@@ -4,6 +4,7 @@
 mod effect;
 mod ends;
 mod event;
+mod fetched;
 mod run;
 
 pub use effect::{
@@ -11,4 +12,5 @@ pub use effect::{
 };
 pub use ends::Why;
 pub use event::{Event, Out};
-pub use run::{Advance, At, Hop, Leads, Ran, Run};
+pub use fetched::Fetched;
+pub use run::{Advance, At, Hop, Leads, Progress, Run};

@@ -1,12 +1,14 @@
 -- Tables of symbols: names and the addresses that they stand for, one a line, and what is looked up in them.
 use Rattle.std.specs.Prelude.{◌≡◌, ℕ, ◌<◌, ◌^◌, Bool, not, ◌&&◌, ◌||◌, ◌==◌, nat_le, nat_eq, if◌then◌else◌, List, [], ◌∷◌, ◌++◌, length}
 use Rattle.std.specs.Prelude.{take}
-use Rattle.std.specs.Prelude.{drop, ◌+◌, true, nat_lt, slice_index, Option, Some, None, codes}
+use Rattle.std.specs.Prelude.{drop, ◌+◌, ◌-◌, true, nat_lt, slice_index, Option, Some, None, codes}
 use Rattle.std.specs.List.{prefix_len, starts_with, flat_map}
 use Rattle.std.specs.Char.{digit_value}
+use Rattle.std.specs.Option.{option_or}
 use Rattle.std.specs.Cmp.Lexicographic.{pointwise}
 use Rattle.std.specs.Str.Parse.{digits_value}
 use Rattle.asm_lines.specs.Text.{is_name, is_dot}
+use Rattle.asm_lines.specs.Words.{number_between, read_number}
 use Rattle.texts.specs.Hex.{hex_of}
 
 -- A name and its address.
@@ -96,6 +98,10 @@ name_at (s ∷ ss) address = if s.address == address then Some s.name else name_
 abbrev pub address_of : List Symbol → List ℕ → Option ℕ
 address_of [] name = None
 address_of (s ∷ ss) name = if pointwise nat_eq s.name name then Some s.address else address_of ss name
+
+-- an address as it is written: a number of 64 bits, and where the text is not a number, the first address of the label of that name
+abbrev pub address_in : List Symbol → List ℕ → Option ℕ
+address_in symbols text = option_or (read_number (number_between 0 (2 ^ 64 - 1) text)) (address_of symbols text)
 
 -- the symbol at an address or nearest below it; of several at one address the first
 abbrev pub is_not_below : Symbol → Option Symbol → Bool

@@ -6,10 +6,11 @@ ghost use Rattle.std.proofs.Props.{props};
 ghost use Rattle.symbols.specs.declared.table.SymbolsFault.TheVariants.{Memory};
 ghost use Rattle.symbols.specs.Places.{IsPlacing, later_of, names_from, names_left};
 ghost use Rattle.symbols.specs.Reads.{IsFaultOf, Tells};
-ghost use Rattle.symbols.specs.Symbols.{address_of, faulty_line, name_at, names_at, nearest, symbols_in, symbols_of};
+ghost use Rattle.symbols.specs.Symbols.{address_in, address_of, faulty_line, name_at, names_at, nearest, symbols_in, symbols_of};
 
 use crate::lines::{address, ended_line, is_line, is_symbol, name, split_line};
 use crate::symbol::Symbol;
+use asm_lines::number_between;
 use std::alloc::{AllocError, Global};
 use std::collections::BTreeMap;
 use std::marker::Model;
@@ -190,6 +191,16 @@ impl Symbols {
             }
         }
         None
+    }
+
+    /// An address as it is written: a number of 64 bits, or else the first address of the label of that name.
+    pub fn address_in(&self, text: &[u8]) -> Option<u64>
+        ensures { result ≡ address_in self.now text.now }
+    {
+        match number_between(text, 0, u64::MAX) {
+            Some(number) => Some(number),
+            None => self.address_of(text),
+        }
     }
 
     /// The symbol at an address or nearest below it; of several at one address the first.

@@ -7,6 +7,7 @@ use Rattle.base.specs.Size.{bytes_of}
 use Rattle.cap_bounds.specs.CapValue.{CapValue, value_of, value_address, value_flag}
 use Rattle.tagged_memory.specs.Memory.{is_in_ram, number_at, word_at, has_tag}
 use Rattle.devices.specs.Devices.{effect_of, byte_sent, written, interrupts_of}
+use Rattle.special_regs.specs.Interrupts.{pending}
 use Rattle.special_regs.specs.Csrs.{bits_at}
 use Rattle.special_regs.specs.CsrValues.{csr_value}
 use Rattle.special_regs.specs.Mtvec.{mtvec_of}
@@ -27,7 +28,7 @@ use Rattle.steps.specs.IsState.{IsState}
 use Rattle.steps.specs.State.{State, pc_of}
 use Rattle.steps.specs.Step.{fetch_asked, step_effect, stepped, step_sent}
 use Rattle.explain.specs.EffectText.{trap_entry, register_text, shown_special, shown_csr, shown_size, return_part}
-use Rattle.explain.specs.TraceLine.{is_interrupt, step_word, trace_line}
+use Rattle.explain.specs.TraceLine.{step_word, trace_line}
 use Rattle.explain.specs.ValueText.{shown_value}
 use Rattle.text_laws.specs.Says.{held}
 use Rattle.explain.specs.WhyText.{instruction_text, stages_text, why_text}
@@ -116,7 +117,7 @@ ShowsTheWord =
     is_in_ram s.memory (value_address s.scrs.pcc) 4 ≡ true
     → instruction_text symbols s ≡ labelled symbols (value_address s.scrs.pcc) ++ codes " " ++ word_shown s ++ codes "\n"
     )
-    × (is_interrupt (step_effect s) ≡ false → first_false (fetch_asked s) ≡ None → step_word s ≡ word_shown s)
+    × (pending s.csrs (interrupts_of s.devices) ≡ None → first_false (fetch_asked s) ≡ None → step_word s ≡ word_shown s)
 
 -- ---- control and status registers
 

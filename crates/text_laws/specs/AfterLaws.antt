@@ -50,7 +50,7 @@ use Rattle.steps.specs.Effect.{applied, sent_by}
 use Rattle.steps.specs.EventLaws.{step_effect-sound}
 use Rattle.steps.specs.IsState.{IsState}
 use Rattle.steps.specs.State.{State, pc_of}
-use Rattle.steps.specs.Step.{word_unless, step_effect, stepped_unless, stepped, step_sent_unless, step_sent}
+use Rattle.steps.specs.Step.{fetched_by, word_unless, step_effect, stepped_unless, stepped, step_sent_unless, step_sent}
 use Rattle.explain.specs.EffectText.{register_text, value_part, written_or, written_first, jump_part, effect_text}
 use Rattle.explain.specs.EffectText.{shown_size, shown_special, shown_csr, return_part}
 use Rattle.explain.specs.TraceLine.{word_part, step_word}
@@ -387,7 +387,7 @@ pub shows-the_word : ShowsTheWord
 unfolding instruction_text step_word
 shows-the_word symbols s = (
   λ inside. rw inside (word-line (labelled symbols (pc_of s)) (hex_of 8 (word_here s)) (shown_word (value_flag s.scrs.pcc) (word_here s))),
-  λ instruction fetched. rw instruction (ap (λ f. word_part (value_flag s.scrs.pcc) (word_unless f s)) fetched),
+  λ uninterrupted fetched. rw uninterrupted (ap (λ f. word_part (value_flag s.scrs.pcc) (fetched_by None (word_unless f s))) fetched),
 )
 
 -- a step's effect that is this one

@@ -73,7 +73,7 @@ behind = behind_door data-held code-held data-opened
 -- ---- its registers
 
 -- what is true of registers and of a value is true of them with the value in one of them
-with-one : (P : CapValue → Type 0) (rs : List CapValue) (n : ℕ) (v : CapValue) → P v → ((k : ℕ) → P (register rs k)) → (k : ℕ)
+pub with-one : (P : CapValue → Type 0) (rs : List CapValue) (n : ℕ) (v : CapValue) → P v → ((k : ℕ) → P (register rs k)) → (k : ℕ)
     → P (register (set rs n v) k)
 with-one P [] n v here each k = each k
 with-one P (r ∷ rs) zero v here each zero = here

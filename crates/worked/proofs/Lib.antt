@@ -2,3 +2,4 @@ pub mod Counting
 pub mod Confining
 pub mod Ruled
 pub mod Invoking
+pub mod Lending

@@ -1,3 +1,4 @@
 -- What to read
 pub mod Counter
 pub mod Pair
+pub mod Loan

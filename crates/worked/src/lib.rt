@@ -1,6 +1,7 @@
-//! Worked states: what meets the premises of the laws on authority, two worlds, reach, doors, turns and policies, and what they say of it.
-//! Each function's contract is a law, and its body calls the laws that it stands on.
+//! Worked states: what meets the premises of the laws on authority, two worlds, reach, doors, turns, loans and policies, and what they
+//! say of it. Each function's contract is a law, and its body calls the laws that it stands on.
 #![tactic(auto)]
 
 pub mod counter;
+pub mod loan;
 pub mod pair;

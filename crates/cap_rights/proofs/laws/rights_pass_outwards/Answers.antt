@@ -1,5 +1,6 @@
 use Rattle.cap_rights.specs.RightsLaws.{IsInRightsOf-refl, IsInRightsOf-trans, OpensSystem-outer, OpensGranule-outer}
 use Rattle.cap_rights.specs.RightsLaws.{OpensStore-outer, OpensByte-outer, OpensType-outer}
+use Rattle.cap_rights.specs.RightsLaws.{permits-in_rights, OpensCapabilityStore-outer, OpensKeeping-outer}
 use Rattle.cap_rights.proofs.laws.rights_pass_outwards.Goals as goal
 
 pub returns-clause-itself : goal.returns-clause-itself
@@ -16,6 +17,15 @@ returns-clause-granule c = OpensGranule-outer
 
 pub returns-clause-store : goal.returns-clause-store
 returns-clause-store c = OpensStore-outer
+
+pub returns-clause-permission : goal.returns-clause-permission
+returns-clause-permission c = permits-in_rights
+
+pub returns-clause-capability_store : goal.returns-clause-capability_store
+returns-clause-capability_store c = OpensCapabilityStore-outer
+
+pub returns-clause-keeping : goal.returns-clause-keeping
+returns-clause-keeping c = OpensKeeping-outer
 
 pub returns-clause-byte : goal.returns-clause-byte
 returns-clause-byte c = OpensByte-outer

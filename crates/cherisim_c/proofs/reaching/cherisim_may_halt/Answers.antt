@@ -1,4 +1,4 @@
-use Rattle.debug_commands.specs.declared.command.May.TheVariants.{Halt}
+use Rattle.reach.specs.declared.may.May.TheVariants.{Halt}
 use Rattle.reach.specs.Reach.{members_in}
 use Rattle.cherisim_c.proofs.Reaches.{refused}
 use Rattle.cherisim_c.proofs.reaching.cherisim_may_halt.Goals as goal

@@ -1,4 +1,4 @@
-use Rattle.debug_commands.specs.declared.command.May.TheVariants.{Send}
+use Rattle.reach.specs.declared.may.May.TheVariants.{Send}
 use Rattle.reach.specs.Reach.{members_in}
 use Rattle.cherisim_c.proofs.Reaches.{refused}
 use Rattle.cherisim_c.proofs.reaching.cherisim_may_send.Goals as goal

@@ -1,7 +1,8 @@
 use Rattle.std.proofs.Common.{◌≡◌, ◌+◌, ◌-◌, ◌++◌, length, take, None, sym, ap, ap₂, ◌∙◌, subst, refl, arith}
 use Rattle.std.specs.Prelude.{option_to_list}
 use Rattle.machine.specs.Run.{run_after, run_sent}
-use Rattle.cherisim_c.specs.Running.{stop_at, steps_in}
+use Rattle.schedules.specs.Schedule.{steps_in}
+use Rattle.cherisim_c.specs.Running.{stop_at}
 use Rattle.cherisim_c.specs.Walks.{GoesOnFrom}
 use Rattle.cherisim_c.proofs.Runs.{some-left, still-running, some-room, nothing, none-left, append-none, at-most-one}
 use Rattle.cherisim_c.proofs.Runs.{loop-state, loop-sent, loop-steps}

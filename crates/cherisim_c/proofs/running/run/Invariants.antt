@@ -1,6 +1,7 @@
 use Rattle.std.proofs.Common.{◌≡◌, ◌+◌, ◌-◌, ◌≤◌, ◌++◌, length, take}
 use Rattle.machine.specs.Run.{run_after, run_sent}
-use Rattle.cherisim_c.specs.Running.{stop_at, run_events, steps_in}
+use Rattle.schedules.specs.Schedule.{steps_in}
+use Rattle.cherisim_c.specs.Running.{stop_at, run_events}
 use Rattle.cherisim_c.proofs.Runs.{left_over}
 use Rattle.cherisim_c.proofs.running.run.Given as goal
 

@@ -6,12 +6,12 @@ use Rattle.commands.proofs.carrying.carry_out.Goals as goal
 pub returns-in_ok-ended-in-Run : goal.returns-in_ok-ended-in-Run
 returns-in_ok-ended-in-Run g c =
     let run = c.in_ok-ended-in-Run in
-    rw c.in-Run.is (run.ended, refl, rw c.schedule_of-schedule.ensures.value at (rw c.stop_at-at.ensures at run.ensures))
+    rw c.in-Run.is (run.ended, refl, (rw c.stop_at.ensures at run.ensures))
 
 pub returns-in_ok-count-in-Audit : goal.returns-in_ok-count-in-Audit
 returns-in_ok-count-in-Audit g c =
     let audit = c.in_ok-count-in-Audit in
-    rw c.in-Audit.is (audit.count, refl, rw c.schedule_of.ensures.value at audit.ensures)
+    rw c.in-Audit.is (audit.count, refl, audit.ensures)
 
 pub debug_file-requires : goal.debug_file-requires
 debug_file-requires g c =

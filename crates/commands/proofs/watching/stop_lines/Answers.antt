@@ -5,21 +5,21 @@ use Rattle.policy_text.specs.Policy.{line_text}
 use Rattle.commands.proofs.Policies.{same-element}
 use Rattle.commands.proofs.watching.stop_lines.Goals as goal
 
-pub returns-in-Ok : goal.returns-in-Ok
-returns-in-Ok c = λ force is.
-    let policy = c.args.watch.now.policy.now in
-    let text = c.args.watch.now.text.now in
+pub returns-in-Ok-clause-told : goal.returns-in-Ok-clause-told
+returns-in-Ok-clause-told c = λ _.
+    let policy = c.args.rules.now.policy in
     let refused = c.args.breach.refused in
     let rule = c.rule_line-rule.result.text.now in
     let inside = subst (λ n. refused.rule < n) policy.lines.ok.0 c.requires.rule in
     let number : c.index-number.result.now ≡ get_or policy.lines.items refused.rule 1 =
     c.index-number.ensures ∙ same-element policy.lines.items refused.rule c.index-number.result.now 1 inside in
-    rw c.if-quiet.false (
-      refused,
+    let by_number = subst (λ n. IsUtf8 (line_text c.deref.result.now n) → rule ≡ line_text c.deref.result.now n) number
+    c.rule_line-rule.ensures.text in (
       rule,
-      is,
-      subst (λ n. IsUtf8 (line_text text n) → rule ≡ line_text text n) number c.rule_line-rule.ensures.text,
+      subst (λ t. IsUtf8 (line_text t (get_or policy.lines.items refused.rule 1))
+          → rule ≡ line_text t (get_or policy.lines.items refused.rule 1))
+          c.deref.ensures.value by_number,
       c.in-Ok.ensures
-          ∙ ap (λ n. stopped_lines c.args.watch.now.table.now n rule refused (c.args.breach.number - 1) c.args.machine.now)
+          ∙ ap (λ n. stopped_lines c.args.run.now.table n rule refused (c.args.breach.number - 1) c.args.machine.now)
           (c.rule_line-rule.ensures.number ∙ number),
     )

@@ -12,14 +12,14 @@ use Rattle.commands.proofs.watching.stop_of.Goals as goal
 
 pub stop_lines-requires-clause-rule : goal.stop_lines-requires-clause-rule
 stop_lines-requires-clause-rule c =
-    let policy = c.args.watch.now.policy.now in
+    let policy = c.args.rules.now.policy in
     let rules = c.deref.result.now in
     let s = c.in_ok-machine.machine in
     let x = c.in-Ok-Some.breach in
-    let events = events_before (Some x.number) c.args.schedule c.args.input.now s in
+    let events = events_before (Some x.number) c.args.run.now.schedule c.deref-2.result.now s in
     let whole : length (in_force (terms_of rules) events s) ≡ policy.lines.len =
     sym (in_force-length (terms_of rules) (terms_of rules) events s refl) ∙ length-map rules terms
-    ∙ ap length c.deref.ensures.value ∙ sym policy.rules.ok.0 ∙ c.requires.paired in
+    ∙ ap length c.deref.ensures.value ∙ sym policy.rules.ok.0 ∙ c.requires.numbered in
     let refused : IsRefused (in_force (terms_of rules) events s) x.refused c.find_breach.new.machine =
     rw c.in-Ok-Some.field-0-is at c.in-Ok-Some.ensures.refused in
     subst (λ n. x.refused.rule < n) whole refused.first.inside
@@ -30,7 +30,7 @@ stop_lines-requires-clause-member c =
     let s = c.in_ok-machine.machine in
     let x = c.in-Ok-Some.breach in
     let later = c.find_breach.new.machine in
-    let events = events_before (Some x.number) c.args.schedule c.args.input.now s in
+    let events = events_before (Some x.number) c.args.run.now.schedule c.deref-2.result.now s in
     let refused : IsRefused (in_force (terms_of rules) events s) x.refused later =
     rw c.in-Ok-Some.field-0-is at c.in-Ok-Some.ensures.refused in
     let first = refused.first in

@@ -7,8 +7,14 @@ use Rattle.machine.specs.Run.{run_after, run_sent}
 use Rattle.schedules.proofs.Events.{run_sent-brought}
 use Rattle.debugger.specs.Stepping.{is_any_stop, is_at_end, steps_while}
 use Rattle.past.specs.Replay.{byte_due, replayed}
-use Rattle.debugger.proofs.ReplaySteps.{at-end, none-left, room-left, stops, state-goes-on, bytes-go-on, replay-goes-on, count-goes-on}
+use Rattle.debugger.proofs.ReplaySteps.{at-end, none-left, room-left, runs-on, stops, state-goes-on, bytes-go-on, replay-goes-on, count-goes-on}
 use Rattle.debugger.proofs.stepping.steps_replayed.Goals as goal
+
+pub is_any_stop-requires : goal.is_any_stop-requires
+is_any_stop-requires g c =
+    let l = c.loop-left in
+    let more : is_at_end (Some l.replay) l.room l.machine ≡ false = sym c.is_at_end.ensures ∙ c.if-not-is_at_end.true in
+    (search rules, (c.next-planned.ensures.effect, c.bring-count.ensures.halted ∙ runs-on l.replay l.room l.machine more))
 
 pub returns-then-is_any_stop-clause-state : goal.returns-then-is_any_stop-clause-state
 returns-then-is_any_stop-clause-state g c =

@@ -1,8 +1,6 @@
-use Rattle.std.proofs.Common.{◌≡◌, ◌^◌, ◌<◌, ◌++◌, ap, sym, ◌∙◌, append-nil, arith}
+use Rattle.std.proofs.Common.{◌≡◌, ◌++◌, ap, ◌∙◌, append-nil, sym, refl}
 use Rattle.std.specs.Prelude.{string_bytes}
 use Rattle.std.proofs.lemmas.Result.{on_ok_weaker}
-use Rattle.isa_rows.specs.Decoded.{insn_of}
-use Rattle.isa_rows.specs.DecodedLaws.{insn_of-answered}
 use Rattle.explain.specs.Asked.{decoding}
 use Rattle.explain.specs.WhyText.{stage_text}
 use Rattle.explain.proofs.StageTexts.{shown-insn, shown-word}
@@ -10,12 +8,9 @@ use Rattle.explain.proofs.stages.append_word.Goals as goal
 
 pub returns-in_ok-asked-in-Some : goal.returns-in_ok-asked-in-Some
 returns-in_ok-asked-in-Some g c =
-    let fits : c.args.word < 2 ^ 32 = omega arith in
-    let same : c.decode-found.result ≡ insn_of c.args.word =
-    insn_of-answered c.args.word c.decode-found.result fits c.decode-found.ensures.found c.decode-found.ensures.only in
     on_ok_weaker c.append_stage-in-Some.result
-    (shown-insn c.args.symbols.now c.args.word c.args.hart.now (string_bytes c.args.text.now) _ _ _
-    c.is_some-holds.result same c.is_some-holds.ensures
+    (shown-insn c.args.symbols.now c.args.word c.args.hart.now (string_bytes c.args.text.now) _ _ c.args.found
+    c.is_some-holds.result c.is_some-holds.ensures
     (c.in_ok-append_stage.ensures
     ∙ ap (λ w. string_bytes c.args.text.now ++ stage_text c.args.symbols.now c.args.hart.now (decoding c.is_some-holds.result w))
     c.from-number.ensures)
@@ -24,11 +19,8 @@ returns-in_ok-asked-in-Some g c =
 
 pub returns-in-None : goal.returns-in-None
 returns-in-None g c =
-    let fits : c.args.word < 2 ^ 32 = omega arith in
-    let same : c.decode-found.result ≡ insn_of c.args.word =
-    insn_of-answered c.args.word c.decode-found.result fits c.decode-found.ensures.found c.decode-found.ensures.only in
-    shown-word c.args.symbols.now c.args.word c.args.hart.now (string_bytes c.args.text.now) _ _ _
-    c.is_some-holds.result same c.is_some-holds.ensures
+    shown-word c.args.symbols.now c.args.word c.args.hart.now (string_bytes c.args.text.now) _ _ c.args.found
+    c.is_some-holds.result c.is_some-holds.ensures
     (c.in_ok-append_stage.ensures
     ∙ ap (λ w. string_bytes c.args.text.now ++ stage_text c.args.symbols.now c.args.hart.now (decoding c.is_some-holds.result w))
     c.from-number.ensures)

@@ -1,11 +1,19 @@
-use Rattle.std.proofs.Common.{◌≡◌, ap, sym, subst, ◌∙◌}
+use Rattle.std.proofs.Common.{◌≡◌, ap, sym, subst, ◌∙◌, rules}
 use Rattle.std.specs.Prelude.{IfSome}
-use Rattle.steps.specs.Step.{step_effect}
+use Rattle.steps.specs.FetchedLaws.{registers_fetched}
+use Rattle.steps.specs.Looks.{HasRegisters}
+use Rattle.steps.specs.Step.{insn_fetched, step_effect, step_fetched}
 use Rattle.origins.specs.Kept.{AreThere}
 use Rattle.origins.specs.Made.{made_by}
 use Rattle.origins.proofs.Steps.{step-effect}
 use Rattle.origins.proofs.There.{effect-there}
 use Rattle.origins.proofs.written.step_made.Goals as goal
+
+pub made_by-requires : goal.made_by-requires
+made_by-requires g c =
+    let same : c.insn.result ≡ insn_fetched (step_fetched c.hart.result.now) =
+    c.insn.ensures ∙ ap insn_fetched c.requires.fetched ∙ ap (λ t. insn_fetched (step_fetched t)) (sym c.hart.ensures.value) in
+    (search rules, (subst (λ o. IfSome o HasRegisters) (sym same) (registers_fetched _ _), same))
 
 pub returns-clause-there : goal.returns-clause-there
 returns-clause-there g c =

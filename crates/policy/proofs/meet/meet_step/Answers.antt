@@ -11,4 +11,4 @@ returns-clause-certified g c =
     let s = c.args.machine.now in
     subst (λ t. AreCertified rules now t.memory) (sym c.apply-out.ensures.state)
     (certified-those rules c.args.certified.now now s c.hart.ensures.state
-    (subst (KeepsThose rules c.args.certified.now now) c.next-planned.ensures.0 c.keep_certificates.ensures) c.requires.certified)
+    (subst (KeepsThose rules c.args.certified.now now) c.next-planned.ensures.effect.0 c.keep_certificates.ensures) c.requires.certified)

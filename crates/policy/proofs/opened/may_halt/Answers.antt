@@ -2,13 +2,13 @@ use Rattle.std.proofs.Common.{◌∙◌}
 use Rattle.cap_rights.specs.Rights.{OpensStore}
 use Rattle.devices.specs.Devices.{halt}
 use Rattle.reached.specs.Links.{values}
-use Rattle.policy.specs.Tests.{opens_store}
+use Rattle.cap_rights.specs.Opens.{opens_store}
 use Rattle.policy.proofs.Opening.{any_first}
-use Rattle.policy.proofs.Tests.{is-store}
+use Rattle.cap_rights.specs.OpensLaws.{opens_store-means}
 use Rattle.policy.proofs.opened.may_halt.Goals as goal
 
 pub returns : goal.returns
 returns g c =
     c.is_some.ensures
-    ∙ any_first (λ v. OpensStore v halt) (opens_store halt) (λ v. is-store v halt)
+    ∙ any_first (λ v. OpensStore v halt) (opens_store halt) (λ v. opens_store-means v halt)
     (values g.C.CapRep.value c.args.reach.now) c.may_halt.result c.may_halt.ensures.some c.may_halt.ensures.none

@@ -1,5 +1,5 @@
 use Rattle.std.proofs.Common.{◌≡◌, length}
-use Rattle.debug_commands.specs.Command.{words_of}
+use Rattle.asm_lines.specs.Words.{words_of}
 use Rattle.policy_text.specs.Policy.{numbers_of}
 use Rattle.policy_text.proofs.Going.{onto}
 use Rattle.policy_text.proofs.parts.numbers.Given as goal

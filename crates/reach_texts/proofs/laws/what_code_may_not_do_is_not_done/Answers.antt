@@ -1,5 +1,5 @@
 use Rattle.std.proofs.Common.{refl}
-use Rattle.debug_commands.specs.declared.command.May.TheVariants.{Send, Halt, Timer}
+use Rattle.reach.specs.declared.may.May.TheVariants.{Send, Halt, Timer}
 use Rattle.devices.specs.Devices.{halt, timer_compare, transmit}
 use Rattle.reach_texts.specs.Asked.{values_of}
 use Rattle.reach_texts.proofs.Refused.{no_store, no_store_at, no_system}
