@@ -13,7 +13,7 @@ import zipfile
 
 HERE = os.path.dirname(os.path.abspath(__file__))
 LIBRARY = os.path.join(HERE, "..", "c", "build", "libcherisim.so")
-FILES = ["cherisim/__init__.py", "cherisim/_faults.py", "cherisim/_library.py", "cherisim/_reach.py", "cherisim/py.typed"]
+FILES = [*sorted(f"cherisim/{name}" for name in os.listdir(os.path.join(HERE, "cherisim")) if name.endswith(".py")), "cherisim/py.typed"]
 SOURCES = [*FILES, "backend.py", "pyproject.toml"]
 
 

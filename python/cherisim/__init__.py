@@ -16,314 +16,29 @@ The library is found by the environment's CHERISIM_LIB, else beside this module,
 from __future__ import annotations
 
 import enum
-import operator
-from ctypes import byref, c_bool, c_size_t, c_uint32, c_uint64, create_string_buffer, pointer
+from ctypes import byref, c_size_t, c_uint32, c_uint64, create_string_buffer, pointer
 from threading import get_ident
-from typing import Any, Dict, Generic, Iterator, List, NamedTuple, Optional, Tuple, TypeVar, Union, overload
+from typing import Any, Iterator, NamedTuple, Optional, Tuple, Union
 
 from . import _library as c
-from ._faults import CherisimError, Closed, ImageFault, OutOfMemory, OutOfRange, TextFault, WrongThread, in_range, refusal
-from ._library import lib
+from ._caps import Cap, Insn, Perms, decode, disassemble, encode, execute
+from ._faults import (CherisimError, Closed, ImageFault, OutOfMemory, OutOfRange, SymbolsFault, TextFault, WrongThread, in_range,
+                      refusal)
+from ._html import machine_html
+from ._library import NULL_UPPER, SENTRY, UNSEALED, lib
 from ._reach import Answer, Questions, Reach, ReachMember
+from ._symbols import Symbols, labels_of
+from ._views import (_SHOWN, CSRS, PAGE, RAM, REGISTERS, SCRS, Memory, Registers, SpecialRegisters, StatusRegisters, _value)
 
 __version__ = "0.1.0"
 __all__ = ["Answer", "CSRS", "Cap", "CherisimError", "Closed", "Console", "ImageFault", "Insn", "Machine", "Memory", "NULL_UPPER",
            "OutOfMemory", "OutOfRange", "PAGE", "Perms", "RAM", "REGISTERS", "Ran", "Reach", "ReachMember", "Registers", "SCRS", "SENTRY",
-           "SpecialRegisters", "StatusRegisters", "Stop", "TextFault", "Timer", "UNSEALED", "WrongThread", "decode", "disassemble",
-           "encode", "execute"]
+           "SpecialRegisters", "StatusRegisters", "Stop", "Symbols", "SymbolsFault", "TextFault", "Timer", "UNSEALED", "WrongThread",
+           "decode", "disassemble", "encode", "execute"]
 
-RAM = 0x80000000
-"""Where RAM begins."""
-PAGE = 4096
-"""The bytes of a page."""
-UNSEALED, SENTRY = 0x3FFFF, 0x3FFFE
-"""The object types of what is not sealed, and of a sentry."""
-NULL_UPPER = 0x1FFFFC018004
-"""The upper half of null, and so of each number in a register."""
-
-_NAMES = ("zero ra sp gp tp t0 t1 t2 s0 s1 a0 a1 a2 a3 a4 a5 a6 a7 s2 s3 s4 s5 s6 s7 s8 s9 s10 s11 t3 t4 t5 t6").split()
-_SHOWN = ("cnull", *("c" + name for name in _NAMES[1:]))
-REGISTERS: Dict[str, int] = {
-    **{name: number for number, name in enumerate(_NAMES)}, **{name: number for number, name in enumerate(_SHOWN)},
-    **{f"{letter}{number}": number for letter in "xc" for number in range(32)}, "fp": 8, "cfp": 8}
-"""The names of the general registers, each with its number."""
-SCRS: Dict[str, int] = {"pcc": 0, "ddc": 1, "mtcc": 28, "mtdc": 29, "mscratchc": 30, "mepcc": 31}
-"""The names of the special capability registers."""
-CSRS: Dict[str, int] = {
-    "mstatus": 0x300, "misa": 0x301, "mie": 0x304, "mtvec": 0x305, "mscratch": 0x340, "mepc": 0x341, "mcause": 0x342, "mtval": 0x343,
-    "mip": 0x344, "mcycle": 0xB00, "minstret": 0xB02, "mvendorid": 0xF11, "marchid": 0xF12, "mimpid": 0xF13, "mhartid": 0xF14}
-"""The names of the control and status registers."""
-
-_ALL = (1 << 64) - 1
-_ROOT_UPPER = 0xFFFF << 48 | NULL_UPPER
 _PLACES = ((*_SHOWN, *tuple(SCRS)[:2]), tuple(SCRS)[2:])  # where members are found: registers, and special registers
 _ROOM = {"sent": 65536, "why": 4096, "reach": 64}  # the room of a buffer, which a call may need more than once
-_BUFFER, _FULL = 2, 67
-
-
-# ---- capabilities
-
-class Perms(enum.IntFlag):
-    """Permissions, by their bits in a capability and in `.cap`."""
-
-    Global = 1 << 0
-    Execute = 1 << 1
-    Load = 1 << 2
-    Store = 1 << 3
-    Load_Capability = 1 << 4
-    Store_Capability = 1 << 5
-    Store_Local_Capability = 1 << 6
-    Seal = 1 << 7
-    CInvoke = 1 << 8
-    Unseal = 1 << 9
-    Access_System_Registers = 1 << 10
-    Set_CID = 1 << 11
-    User_0 = 1 << 12
-    User_1 = 1 << 13
-    User_2 = 1 << 14
-    User_3 = 1 << 15
-
-
-class Cap:
-    """A capability, where `tag` is set, or 128 bits of data. It is a value and never changes: what derives another gives a new one.
-
-    What its word says (base, top, perms ..) can be asked of data too. A tag that is asked for is given where the word may have one.
-    """
-
-    __slots__ = ("address", "upper", "tag")
-    address: int
-    upper: int
-    tag: bool
-
-    def __init__(self, address: int = 0, upper: int = NULL_UPPER, tag: bool = False) -> None:
-        address, upper = address & _ALL, upper & _ALL
-        tag = bool(tag) and lib.cheri_is_well_formed(c.Word(address, upper))
-        for name, value in (("address", address), ("upper", upper), ("tag", tag)):
-            object.__setattr__(self, name, value)
-
-    def __setattr__(self, name: str, value: object) -> None:
-        raise AttributeError(f"a Cap doesn't change: make one with another {name}")
-
-    @classmethod
-    def _of(cls, value: c.Cap) -> Cap:
-        cap = cls.__new__(cls)
-        object.__setattr__(cap, "address", value.address)
-        object.__setattr__(cap, "upper", value.upper)
-        object.__setattr__(cap, "tag", value.tag)
-        return cap
-
-    @classmethod
-    def root(cls, address: int = 0) -> Cap:
-        """The capability to all addresses with all permissions, at this address."""
-        return cls(address, _ROOT_UPPER, True)
-
-    @classmethod
-    def make(cls, base: int, top: int, *, address: Optional[int] = None, perms: int = 0xFFFF, otype: int = UNSEALED,
-             flag: bool = False) -> Cap:
-        """The capability with these bounds and fields; its address is its base where none is given.
-
-        Raises OutOfRange where no word has them: bounds that would be rounded, or an address too far from them.
-        """
-        address, cap = base if address is None else address, c.Cap()
-        for what, number, bits in (("base", base, 64), ("top", top, 65), ("address", address, 64), ("perms", perms, 16),
-                                   ("otype", otype, 18)):
-            in_range(what, number, bits)
-        if not lib.cheri_compress(byref(c.Fields(base, top & _ALL, top >> 64, address, otype, perms, flag)), byref(cap)):
-            raise OutOfRange(f"no capability has base {base:#x}, top {top:#x}, address {address:#x}, perms {perms:#x}, otype {otype:#x}")
-        return cls._of(cap)
-
-    @classmethod
-    def from_memory(cls, memory: bytes, tag: bool = False) -> Cap:
-        """The value of 16 bytes in memory, the lowest first."""
-        if len(memory) != 16:
-            raise ValueError("a capability has 16 bytes")
-        word = lib.cheri_from_memory(bytes(memory))
-        return cls(word.address, word.upper, tag)
-
-    @property
-    def memory(self) -> bytes:
-        """Its 16 bytes in memory, the lowest first."""
-        room = create_string_buffer(16)
-        lib.cheri_to_memory(self._word, room)
-        return room.raw
-
-    @property
-    def _word(self) -> c.Word:
-        return c.Word(self.address, self.upper)
-
-    @property
-    def _c(self) -> c.Cap:
-        return c.Cap(self.address, self.upper, self.tag)
-
-    @property
-    def base(self) -> int:
-        """The first address of its bounds."""
-        return lib.cheri_base(self._word)
-
-    @property
-    def top(self) -> int:
-        """The address after the last of its bounds: of 65 bits."""
-        top = lib.cheri_top(self._word)
-        return top.high << 64 | top.low
-
-    @property
-    def length(self) -> int:
-        """How many addresses lie in its bounds, modulo 2^65: of root 2^64, of which CGetLen gives one less."""
-        return (self.top - self.base) % (1 << 65)
-
-    @property
-    def offset(self) -> int:
-        """Its address less its base, modulo 2^64."""
-        return (self.address - self.base) & _ALL
-
-    @property
-    def perms(self) -> Perms:
-        """Its permissions as a set of bits."""
-        return Perms(lib.cheri_perms(self._word))
-
-    @property
-    def permissions(self) -> Tuple[str, ...]:
-        """The names of its permissions, in the order of their bits."""
-        perms = self.perms
-        return tuple(str(it.name) for it in Perms if it in perms)
-
-    @property
-    def otype(self) -> int:
-        """Its object type."""
-        return lib.cheri_otype(self._word)
-
-    @property
-    def flag(self) -> bool:
-        """Its flag: of PCC, whether the machine is in capability mode."""
-        return lib.cheri_flag(self._word)
-
-    @property
-    def sealed(self) -> bool:
-        """Whether it is sealed: by a type or as a sentry."""
-        return self.otype != UNSEALED
-
-    def in_bounds(self, address: Optional[int] = None, size: int = 1) -> bool:
-        """Whether so many bytes from an address on (its own, where none is given) lie in its bounds."""
-        address = self.address if address is None else address
-        return self.base <= address and address + size <= self.top
-
-    def is_representable(self, address: int) -> bool:
-        """Whether its bounds stay with this address in place of its own."""
-        return 0 <= address <= _ALL and lib.cheri_is_representable(self._word, address)
-
-    def set_address(self, address: int) -> Cap:
-        """It at another address, as CSetAddr gives it: tagged where it is unsealed and its bounds stay."""
-        return self._of(lib.cheri_set_address(self._c, address & _ALL))
-
-    def set_bounds(self, length: int) -> Tuple[Cap, bool]:
-        """It with the bounds of so many bytes from its address on, rounded out, as CSetBounds gives it, and whether nothing was rounded.
-
-        Of a range that ends above 2^64, which no capability has, nothing may be rounded either: the result is not tagged.
-        """
-        in_range("length", length, 64)
-        exact = c_bool()
-        return self._of(lib.cheri_set_bounds(self._c, length, byref(exact))), exact.value
-
-    def and_perms(self, perms: int) -> Cap:
-        """It with those of its permissions that are among these, as CAndPerm gives it."""
-        return self._gives(0x0D, Cap(_as_cgetperm(perms)))
-
-    def set_flag(self, flag: bool) -> Cap:
-        """It with this flag, as CSetFlags gives it."""
-        return self._gives(0x0E, Cap(int(flag)))
-
-    def seal(self, authority: Cap) -> Cap:
-        """It sealed with the type that is the authority's address, as CSeal gives it."""
-        return self._gives(0x0B, authority)
-
-    def unseal(self, authority: Cap) -> Cap:
-        """It unsealed by an authority whose address is its type, as CUnseal gives it."""
-        return self._gives(0x0C, authority)
-
-    def seal_entry(self) -> Cap:
-        """It as a sentry, as CSealEntry gives it."""
-        return self._gives(0x7F, Cap(), rs2=0x11)
-
-    def clear_tag(self) -> Cap:
-        """Its bits as data."""
-        return Cap(self.address, self.upper)
-
-    def contains(self, other: Cap) -> bool:
-        """Whether the tags are equal, and bounds and permissions of the other lie in its own, as CTestSubset gives it."""
-        return self._gives(0x20, other).address == 1
-
-    def _gives(self, funct7: int, other: Cap, rs2: int = 12) -> Cap:
-        """What the instruction with this funct7 gives of it in register 11 and the other in 12."""
-        value = execute(funct7 << 25 | rs2 << 20 | 11 << 15 | 10 << 7 | 0x5B, self, other)
-        assert value is not None
-        return value
-
-    def __eq__(self, other: object) -> bool:
-        if not isinstance(other, Cap):
-            return NotImplemented
-        return self.address == other.address and self.upper == other.upper and self.tag == other.tag
-
-    def __hash__(self) -> int:
-        return hash((self.address, self.upper, self.tag))
-
-    def __reduce__(self) -> Tuple[Any, ...]:
-        return Cap, (self.address, self.upper, self.tag)
-
-    def __str__(self) -> str:
-        """As the debugger shows it."""
-        return (f"v:{self.tag:d} a:{self.address:016x} b:{self.base:016x} t:{self.top:017x} p:{_as_cgetperm(self.perms):05x} "
-                f"f:{self.flag:d} o:{self.otype:05x}")
-
-    def __repr__(self) -> str:
-        return f"Cap({self})"
-
-
-def _as_cgetperm(perms: int) -> int:
-    """Permissions as CGetPerm gives them: the user permissions at bits 15 to 18."""
-    return perms & 0xFFF | (perms >> 12 & 0xF) << 15
-
-
-def execute(word: int, cs1: Cap, cs2: Cap = Cap(), ddc: Cap = Cap()) -> Optional[Cap]:
-    """What an instruction over capabilities gives that touches neither memory nor special registers, with these values in its registers.
-
-    None of any other word; CTestSubset alone looks at DDC.
-    """
-    in_range("word", word, 32)
-    value = c.Cap()
-    return Cap._of(value) if lib.cheri_execute(word, cs1._c, cs2._c, ddc._c, byref(value)) else None
-
-
-class Insn(NamedTuple):
-    """An instruction: its row's place in the table of instructions, registers, and the immediate modulo 2^64. What a row has not is 0."""
-
-    row: int
-    rd: int = 0
-    rs1: int = 0
-    rs2: int = 0
-    imm: int = 0
-
-
-def decode(word: int) -> Optional[Insn]:
-    """The instruction that a word is, or None."""
-    in_range("word", word, 32)
-    insn = c.Insn()
-    return Insn(insn.row, insn.rd, insn.rs1, insn.rs2, insn.imm) if lib.cheri_decode(word, byref(insn)) else None
-
-
-def encode(insn: Insn) -> Optional[int]:
-    """The word of an instruction, or None where its operands don't fit."""
-    for name, number, bits in zip(Insn._fields, insn, (16, 8, 8, 8, 64)):
-        in_range(name, number, bits)
-    word = c_uint32()
-    return word.value if lib.cheri_encode(byref(c.Insn(insn.imm, insn.row, insn.rd, insn.rs1, insn.rs2)), byref(word)) else None
-
-
-def disassemble(word: int, capability_mode: bool = False) -> str:
-    """The text of an instruction word in a mode."""
-    in_range("word", word, 32)
-    room = create_string_buffer(64)
-    length = lib.cherisim_disassemble(word, capability_mode, room)
-    return room.raw[:length].decode("ascii")
+_BUFFER, _FULL = c.CONSTANTS["BUFFER"], c.CONSTANTS["FULL"]
 
 
 # ---- what a run answers, and what devices hold
@@ -369,151 +84,6 @@ class Console(NamedTuple):
     control: bool
 
 
-# ---- views of a machine
-
-_V = TypeVar("_V", Cap, int)
-
-
-def _index(given: Union[str, int], names: Dict[str, int], most: int) -> int:
-    """The number of a register that is named or numbered."""
-    if isinstance(given, str):
-        if given in names:
-            return names[given]
-        raise OutOfRange(f"no register {given!r}")
-    number = operator.index(given)
-    if not 0 <= number <= most:
-        raise OutOfRange(f"no register {number}")
-    return number
-
-
-def _value(given: Union[Cap, int]) -> c.Cap:
-    """A value as C takes it: a number, modulo 2^64, is null with that address."""
-    return given._c if isinstance(given, Cap) else c.Cap(operator.index(given) & _ALL, NULL_UPPER, False)
-
-
-class _Bank(Generic[_V]):
-    """Registers of a machine, by name or number. Going through them gives their names."""
-
-    __slots__ = ("_machine",)
-    _shown: Tuple[str, ...] = ()
-
-    def __init__(self, machine: Machine) -> None:
-        self._machine = machine
-
-    def __getitem__(self, name: Union[str, int]) -> _V:
-        raise NotImplementedError
-
-    def __iter__(self) -> Iterator[str]:
-        return iter(self._shown)
-
-    def __len__(self) -> int:
-        return len(self._shown)
-
-    def values(self) -> List[_V]:
-        """What they hold, in the order of their numbers."""
-        return [self[name] for name in self._shown]
-
-    def items(self) -> List[Tuple[str, _V]]:
-        """Their names, as the debugger shows them, with what they hold."""
-        return list(zip(self._shown, self.values()))
-
-
-class Registers(_Bank[Cap]):
-    """The general registers, by any of their names. One takes a capability or a number; what is put into register 0 is lost."""
-
-    __slots__ = ()
-    _shown = _SHOWN
-
-    def __getitem__(self, name: Union[str, int]) -> Cap:
-        value = c.Cap()
-        self._machine._do(lib.cherisim_reg, _index(name, REGISTERS, 31), byref(value))
-        return Cap._of(value)
-
-    def __setitem__(self, name: Union[str, int], value: Union[Cap, int]) -> None:
-        self._machine._do(lib.cherisim_set_reg, _index(name, REGISTERS, 31), _value(value))
-
-    def values(self) -> List[Cap]:
-        """What they hold, in the order of their numbers."""
-        room = (c.Cap * 32)()
-        self._machine._do(lib.cherisim_all_regs, room)
-        return [Cap._of(value) for value in room]
-
-
-class SpecialRegisters(_Bank[Cap]):
-    """The special capability registers. PCC takes an address that is a multiple of 4."""
-
-    __slots__ = ()
-    _shown = tuple(SCRS)
-
-    def __getitem__(self, name: Union[str, int]) -> Cap:
-        value = c.Cap()
-        self._machine._do(lib.cherisim_scr, _index(name, SCRS, 31), byref(value))
-        return Cap._of(value)
-
-    def __setitem__(self, name: Union[str, int], value: Union[Cap, int]) -> None:
-        self._machine._do(lib.cherisim_set_scr, _index(name, SCRS, 31), _value(value))
-
-
-class StatusRegisters(_Bank[int]):
-    """The control and status registers. A write keeps what CSRRW would; one that is only read stays as it is."""
-
-    __slots__ = ()
-    _shown = tuple(CSRS)
-
-    def __getitem__(self, name: Union[str, int]) -> int:
-        value = c_uint64()
-        self._machine._do(lib.cherisim_csr, _index(name, CSRS, 0xFFF), byref(value))
-        return value.value
-
-    def __setitem__(self, name: Union[str, int], value: int) -> None:
-        self._machine._do(lib.cherisim_set_csr, _index(name, CSRS, 0xFFF), operator.index(value) & _ALL)
-
-
-class Memory:
-    """RAM by addresses: `mem[a]` is a byte and `mem[a:b]` the bytes from a on and below b. What is written loses its granules' tags."""
-
-    __slots__ = ("_machine",)
-
-    def __init__(self, machine: Machine) -> None:
-        self._machine = machine
-
-    def __len__(self) -> int:
-        return self._machine.pages * PAGE
-
-    def _span(self, where: slice) -> Tuple[int, int]:
-        if where.step not in (None, 1):
-            raise ValueError("bytes of memory stand one after the other")
-        begin = RAM if where.start is None else operator.index(where.start)
-        end = RAM + len(self) if where.stop is None else operator.index(where.stop)
-        if not 0 <= begin <= end <= 1 << 64:
-            raise OutOfRange(f"no addresses from {begin:#x} to {end:#x}")
-        return begin, end - begin
-
-    @overload
-    def __getitem__(self, where: int) -> int: ...
-    @overload
-    def __getitem__(self, where: slice) -> bytes: ...
-
-    def __getitem__(self, where: Union[int, slice]) -> Union[int, bytes]:
-        if not isinstance(where, slice):
-            return self[where:where + 1][0]
-        begin, length = self._span(where)
-        if begin < RAM or begin + length > RAM + len(self):
-            raise OutOfRange(f"not in RAM: {length} bytes from {begin:#x}")
-        room = create_string_buffer(max(length, 1))
-        self._machine._do(lib.cherisim_read, begin, room, length)
-        return room.raw[:length]
-
-    def __setitem__(self, where: Union[int, slice], value: Union[int, bytes]) -> None:
-        if not isinstance(where, slice):
-            where, value = slice(where, where + 1), bytes([operator.index(value)])  # type: ignore[arg-type]
-        data = bytes(memoryview(value))  # type: ignore[arg-type]
-        begin, length = self._span(where)
-        if len(data) != length:
-            raise ValueError(f"{len(data)} bytes don't fit {length} bytes of memory")
-        self._machine._do(lib.cherisim_write, begin, data, length)
-
-
 def _member(number: int, member: c.Member) -> ReachMember:
     """A member of a reach as C gives it."""
     where = _PLACES[member.kind][member.place] if member.kind < len(_PLACES) else member.place
@@ -529,7 +99,9 @@ class Machine(Questions):
         Machine(text=Path("hello.s").read_text())
         Machine.flat(words, entry=0x80000000)
 
-    Raises ImageFault, TextFault or OutOfMemory. It is freed with the object, or by close(), or after a `with`.
+    `symbols` is a table of labels, or its text; a machine of a text has those of the text. A label can stand where an address can.
+
+    Raises ImageFault, TextFault, SymbolsFault or OutOfMemory. It is freed with the object, or by close(), or after a `with`.
     """
 
     sent: bytearray
@@ -537,21 +109,25 @@ class Machine(Questions):
     _handle: c.Handle
     _at: Any
     _thread: int
+    _symbols: Union[None, Symbols, bytes]
 
     def __new__(cls, *_given: object, **_named: object) -> Machine:
         machine = super().__new__(cls)
         machine._handle = c.Handle()
         machine._at = pointer(machine._handle)
         machine._thread = get_ident()
-        machine.sent = bytearray()
+        machine.sent, machine._symbols = bytearray(), None
         return machine
 
-    def __init__(self, image: Optional[bytes] = None, *, text: Union[str, bytes, None] = None) -> None:
+    def __init__(self, image: Optional[bytes] = None, *, text: Union[str, bytes, None] = None,
+                 symbols: Union[None, Symbols, str] = None) -> None:
         if (image is None) == (text is None):
             raise TypeError("a machine is made of an image or of a text")
+        self._symbols = Symbols.read(symbols) if isinstance(symbols, str) else symbols
         line, status = c_uint64(), 0
         if text is not None:
             data = text.encode() if isinstance(text, str) else bytes(text)
+            self._symbols = data if symbols is None else self._symbols
             status = lib.cherisim_assemble(data, len(data), self._at, byref(line))
         elif image is not None:
             data = bytes(memoryview(image))
@@ -560,7 +136,8 @@ class Machine(Questions):
             raise refusal(status, "Machine", line.value)
 
     @classmethod
-    def flat(cls, data: bytes, address: int = RAM, entry: Optional[int] = None, pages: int = 1, capability_mode: bool = False) -> Machine:
+    def flat(cls, data: bytes, address: int = RAM, entry: Optional[int] = None, pages: int = 1, capability_mode: bool = False,
+             symbols: Union[None, Symbols, str] = None) -> Machine:
         """The machine of these bytes at an address, which is also where it begins where no entry is given."""
         machine, data, entry = cls.__new__(cls), bytes(memoryview(data)), address if entry is None else entry
         for what, number, bits in (("address", address, 64), ("entry", entry, 64), ("number of pages", pages, 32)):
@@ -568,13 +145,14 @@ class Machine(Questions):
         status = lib.cherisim_new_flat(data, len(data), address, entry, pages, capability_mode, machine._at)
         if status:
             raise refusal(status, "Machine.flat")
+        machine._symbols = Symbols.read(symbols) if isinstance(symbols, str) else symbols
         return machine
 
     def copy(self) -> Machine:
         """A machine in the same state, with the same bytes sent; from here on the two share nothing."""
         other = type(self).__new__(type(self))
         self._do(lib.cherisim_copy, other._at)
-        other.sent[:] = self.sent
+        other.sent[:], other._symbols = self.sent, self._symbols
         return other
 
     __copy__ = copy
@@ -638,39 +216,45 @@ class Machine(Questions):
         A byte of the input comes just before each step with a number 1 + i * gap, and a tick after each step whose number is a
         multiple of `tick` (0: none). Steps are counted anew in each call. Nothing comes after the step that halts the machine.
 
-        With an address as `until` the run stops before a step whose PCC has it; with "trap" before a step that traps, unseals a
-        capability, or jumps through a seal: what it leaves is the state before that step.
+        With an address or a label as `until` the run stops before a step whose PCC has it; with "trap" before a step that traps, unseals a
+        capability, or jumps through a seal: what it leaves is the state before that step. (A label of that name is `symbols["trap"]`.) With
+        Stop.TRAP, Stop.UNSEAL or Stop.SEALED_JUMP it stops before a step of that kind alone, of which it looks at each end of a stretch.
         """
         if gap < 1:
             raise OutOfRange(f"no gap {gap}")
         in_range("number of steps", steps, 64)
         in_range("tick", tick, 64)
         asked = c.Asked(tick=tick)
-        if isinstance(until, str):
-            if until != "trap":
-                raise ValueError('until takes an address or "trap"')
+        wanted = until if isinstance(until, Stop) else None
+        if wanted is not None and wanted < Stop.TRAP:
+            raise ValueError(f"no step is a {wanted!r}")
+        if until == "trap" or wanted is not None:
             asked.at_end = True
         elif until is not None:
-            in_range("address", until, 64)
-            asked.address, asked.at_address = until, True
+            asked.address, asked.at_address = self.address_of(until), True
         began, done = len(self.sent), 0
         for byte, mark in zip(bytes(memoryview(input)), range(0, steps, gap)):
-            done, stop = self._run_to(asked, done, mark)
+            done, stop = self._run_to(asked, done, mark, wanted)
             if done < mark or self.halted is not None:
                 break
             self.receive(bytes([byte]))
-        done, stop = self._run_to(asked, done, steps)
+        done, stop = self._run_to(asked, done, steps, wanted)
         return Ran(done, bytes(self.sent[began:]), stop, self.halted)
 
-    def _run_to(self, asked: c.Asked, done: int, mark: int) -> Tuple[int, Stop]:
-        """Runs from a number of steps to another, and answers where it came to, and why it stopped."""
+    def _run_to(self, asked: c.Asked, done: int, mark: int, wanted: Optional[Stop] = None) -> Tuple[int, Stop]:
+        """Runs from a number of steps to another, and answers where it came to, and why it stopped; of ends of a stretch for this reason
+        alone, where one is wanted."""
         ran, room = c.Ran(), create_string_buffer(max(1, min(mark - done, _ROOM["sent"])))
         while True:
             asked.steps, asked.before = mark - done, done
             self._do(lib.cherisim_run, byref(asked), room, len(room), byref(ran))
             self.sent += room[:ran.sent]
             done += ran.steps
-            if ran.stop != _BUFFER:
+            if ran.stop >= Stop.TRAP and wanted is not None and ran.stop != wanted:
+                asked.at_end = False
+                done, _ = self._run_to(asked, done, done + 1)
+                asked.at_end = True
+            elif ran.stop != _BUFFER:
                 return done, Stop(ran.stop)
 
     # ---- what it holds
@@ -705,23 +289,35 @@ class Machine(Questions):
         self.scrs["pcc"] = self.scrs["pcc"].set_address(address)
 
     @property
+    def symbols(self) -> Symbols:
+        """The labels: those that were given, or those of the text that the machine was made of."""
+        if isinstance(self._symbols, bytes):
+            self._symbols = labels_of(self._symbols.decode("ascii"))
+        return Symbols() if self._symbols is None else self._symbols
+
+    def address_of(self, where: Union[int, str]) -> int:
+        """An address as it is, or that of a label. Raises OutOfRange where there is none."""
+        if isinstance(where, str):
+            return self.symbols[where]
+        in_range("address", where, 64)
+        return where
+
+    @property
     def pages(self) -> int:
         """How many pages of 4096 bytes RAM has."""
         value = c_uint32()
         self._do(lib.cherisim_pages, byref(value))
         return value.value
 
-    def cap_at(self, address: int) -> Cap:
+    def cap_at(self, address: Union[int, str]) -> Cap:
         """The granule of 16 bytes at a multiple of 16."""
-        in_range("address", address, 64)
         value = c.Cap()
-        self._do(lib.cherisim_read_cap, address, byref(value))
+        self._do(lib.cherisim_read_cap, self.address_of(address), byref(value))
         return Cap._of(value)
 
-    def set_cap(self, address: int, value: Union[Cap, int]) -> None:
+    def set_cap(self, address: Union[int, str], value: Union[Cap, int]) -> None:
         """Puts a value and its tag into the granule at a multiple of 16."""
-        in_range("address", address, 64)
-        self._do(lib.cherisim_write_cap, address, _value(value))
+        self._do(lib.cherisim_write_cap, self.address_of(address), _value(value))
 
     def tags(self) -> Iterator[int]:
         """The addresses of the tagged granules of RAM, in ascending order."""
@@ -786,6 +382,9 @@ class Machine(Questions):
         if status:
             raise refusal(status, "cherisim_reach")
         return Reach(_member(number, room[number]) for number in range(count.value))
+
+    def _repr_html_(self) -> str:
+        return machine_html(self)
 
     def __repr__(self) -> str:
         state = "closed" if not self._handle.at else "on another thread" if get_ident() != self._thread else (

@@ -24,6 +24,14 @@ class TextFault(CherisimError):
         super().__init__(f"line {line}: {self.code} {_TEXT_FAULTS.get(status - 32, 'fault')}")
 
 
+class SymbolsFault(CherisimError):
+    """A line of a table of labels, counted from 1, has no address and label."""
+
+    def __init__(self, line: int) -> None:
+        self.line = line
+        super().__init__(f"line {line}: no address and label")
+
+
 class OutOfMemory(CherisimError):
     """The host has no memory left; what was asked changes nothing."""
 

@@ -6,6 +6,7 @@ from typing import TYPE_CHECKING, Any, Iterable, List, NamedTuple, Optional, Seq
 
 from . import _library as c
 from ._faults import in_range
+from ._html import reach_html
 from ._library import lib
 
 if TYPE_CHECKING:
@@ -66,6 +67,9 @@ class Reach(Sequence[ReachMember]):
     def __hash__(self) -> int:
         return hash(self._members)
 
+    def _repr_html_(self) -> str:
+        return reach_html(self)
+
     def __repr__(self) -> str:
         return f"<Reach of {len(self)} members>"
 
@@ -73,7 +77,7 @@ class Reach(Sequence[ReachMember]):
 class Questions:
     """Whether the code of a machine may do something, whatever its instructions are, up to the next trap, unsealing or sealed jump.
 
-    None is *no*. Bytes are given by an address and a length of 1 to 2^64 - 1; OutOfRange is raised for others.
+    None is *no*. Bytes are given by an address or a label and a length of 1 to 2^64 - 1; OutOfRange is raised for others.
     """
 
     __slots__ = ()
@@ -92,26 +96,33 @@ class Questions:
         reach = self.reach()
         return Answer(answer.member, tuple(reach[number] for number in reach.chain(answer.member)))
 
-    def _may_some(self, call: Any, address: int, length: int) -> Optional[Answer]:
-        in_range("address", address, 64)
-        in_range("length", length, 64, least=1)
-        return self._may(call, address, length)
+    def address_of(self, where: Union[int, str]) -> int:
+        raise NotImplementedError
 
-    def may_store(self, address: int, length: int) -> Optional[Answer]:
+    def _may_some(self, call: Any, where: Union[int, str], length: int) -> Optional[Answer]:
+        in_range("length", length, 64, least=1)
+        return self._may(call, self.address_of(where), length)
+
+    def may_store(self, address: Union[int, str], length: int) -> Optional[Answer]:
         """Whether the code may store to some of these bytes. If not, it is proved that those of RAM stay."""
         return self._may_some(lib.cherisim_may_store, address, length)
 
-    def may_load(self, address: int, length: int) -> Optional[Answer]:
+    def may_load(self, address: Union[int, str], length: int) -> Optional[Answer]:
         """Whether the code may load some of these bytes. If not, no member lets it."""
         return self._may_some(lib.cherisim_may_load, address, length)
 
-    def may_execute(self, address: int, length: int) -> Optional[Answer]:
+    def may_execute(self, address: Union[int, str], length: int) -> Optional[Answer]:
         """Whether the code may execute some of these bytes. If not, no member lets it."""
         return self._may_some(lib.cherisim_may_execute, address, length)
 
-    def may_learn(self, address: int, length: int) -> Optional[Answer]:
+    def may_learn(self, address: Union[int, str], length: int) -> Optional[Answer]:
         """Whether the code may load or execute some of these bytes. If not, it is proved that it does the same whatever they are."""
         return self._may_some(lib.cherisim_may_learn, address, length)
+
+    def may_keep(self, address: int = 0, length: int = (1 << 64) - 1) -> Optional[Answer]:
+        """Whether the code may keep what is lent without Global in a granule with some of these bytes, or anywhere. If not, it is proved
+        that none of these granules comes to hold it."""
+        return self._may_some(lib.cherisim_may_keep, address, length)
 
     def may_send(self) -> Optional[Answer]:
         """Whether the code may send a byte on the console. If not, it is proved that it sends none."""

@@ -1,8 +1,10 @@
 """What the tests share: where things are, and images by the grammar of docs/ASSEMBLY.md."""
 import os
 import re
+import shutil
 import struct
 import sys
+import unittest
 
 TOP = os.path.abspath(os.path.join(os.path.dirname(os.path.abspath(__file__)), "..", ".."))
 PROGRAM = os.environ.get("CHERISIM_PROGRAM") or os.path.join(TOP, "crates", "cherisim", "out", "cherisim")
@@ -13,6 +15,18 @@ sys.path += [os.path.join(TOP, "python", "examples"), os.path.join(TOP, "tools")
 RAM, PAGE = 0x80000000, 4096
 # lui a1, 0x10000; addi a0, zero, 65; sb a0, 0(a1); lui a1, 0x100; sd zero, 0(a1): sends A, and halts with 0
 FIRST = struct.pack("<5I", 0x100005B7, 0x04100513, 0x00A58023, 0x001005B7, 0x0005B023)
+
+
+MISSING = set()  # the programs of which a line said that they are not installed
+
+
+def needs(*programs):
+    """Skips a test where one of these programs isn't installed; a line says so, once."""
+    missing = [it for it in programs if not shutil.which(it)]
+    for it in set(missing) - MISSING:
+        print(f"skipped: {it} is not installed", flush=True)
+    MISSING.update(missing)
+    return unittest.skipIf(missing, f"not installed: {', '.join(missing)}")
 
 
 def has_program():

@@ -7,7 +7,7 @@ import threading
 import unittest
 from unittest import mock
 
-from support import FIRST, PAGE, RAM, image
+from support import FIRST, PAGE, RAM, image, read
 import cherisim
 from cherisim import (CSRS, REGISTERS, SCRS, Cap, CherisimError, Closed, Console, ImageFault, Machine, OutOfRange, Perms, Stop, TextFault,
                       Timer, WrongThread, decode)
@@ -133,7 +133,25 @@ class Runs(unittest.TestCase):
         for wrong in ({"gap": 0}, {"tick": -1}, {"until": -1}, {"until": 1 << 64}):
             self.assertRaises(OutOfRange, machine.run, 5, **wrong)
         self.assertRaises(OutOfRange, machine.run, 1 << 64)
-        self.assertRaises(ValueError, machine.run, 5, until="end")
+        self.assertRaises(OutOfRange, machine.run, 5, until="end")
+
+    def test_stops_of_a_kind(self):
+        """Up to a step of one kind, by a search over single steps."""
+        text = read("examples", "compartments.s")
+        plain, ends = Machine(text=text), []
+        while plain.halted is None:
+            ends.append(plain.next_ends)
+            plain.step()
+        for kind in (Stop.TRAP, Stop.SEALED_JUMP, Stop.UNSEAL):
+            machine, at = Machine(text=text), 0
+            while machine.halted is None:
+                ran = machine.run(100000, until=kind)
+                at += ran.steps
+                self.assertEqual(ran.stop, kind if machine.halted is None else Stop.HALTED)
+                self.assertEqual(at, ends.index(kind, at) if kind in ends[at:] else len(ends))
+                at += machine.run(1).steps
+            self.assertEqual(at, len(ends))
+        self.assertRaises(ValueError, plain.run, 1, until=Stop.HALTED)
 
     def test_many_bytes(self):
         machine = Machine(text="lui a1, 0x10000\nlui a0, 64\nloop: sb a0, 0(a1)\naddi a0, a0, -1\nbne a0, zero, loop\n"

@@ -52,7 +52,7 @@ class AgainstTheModel(unittest.TestCase):
     def test_answers(self):
         for steps, machine in compartments():
             found, seen = model.members(state(machine)), 0
-            asked = [*((what, *room) for what in ("store", "load", "execute", "learn") for room in ROOMS),
+            asked = [*((what, *room) for what in ("store", "load", "execute", "learn", "keep") for room in ROOMS),
                      *((what,) for what in ("send", "halt", "system", "timer")),
                      *(("hold", otype) for otype in (0, 1, 2, 3, SENTRY, UNSEALED))]
             for what, *given in asked:
@@ -76,7 +76,7 @@ class Worked(unittest.TestCase):
         self.assertEqual((reach[0].value.base, reach[0].value.top, reach[1].value.otype), (0x80006000, 0x80007000, 2))
         self.assertEqual((reach[-1].number, reach[-1].from_, reach.chain(-1)), (5, None, [5]))
         self.assertEqual([machine.may_store(0x80004000, 4096), machine.may_learn(0x80004000, 4096), machine.may_send(),
-                          machine.may_halt(), machine.may_system(), machine.may_timer(), machine.may_hold(3)], [None] * 7)
+                          machine.may_halt(), machine.may_system(), machine.may_timer(), machine.may_hold(3), machine.may_keep()], [None] * 8)
         self.assertEqual(machine.may_hold(2), (1, (reach[1],)))
         self.assertEqual((machine.may_store(0x80006000, 8).member, machine.may_execute(0x80005000, 4).member), (0, 5))
 
@@ -84,6 +84,7 @@ class Worked(unittest.TestCase):
         answer = self.at(196).may_send()
         self.assertEqual([member.where for member in answer.way], ["pcc", "mtdc", 0x80002000])
         self.assertEqual((answer.way[-1].number, answer.way[-1].value.base), (answer.member, 0x10000000))
+        self.assertIn(self.at(196).may_keep().way[-1].value.base, (0x80002040, 0x80002260))
 
     def test_a_program_that_gives_up_root(self):
         machine = Machine(text="nop\n")
@@ -114,7 +115,7 @@ class Forms(unittest.TestCase):
 
     def test_operands_out_of_range(self):
         machine = Machine(text="nop\n")
-        for call in (machine.may_store, machine.may_load, machine.may_execute, machine.may_learn):
+        for call in (machine.may_store, machine.may_load, machine.may_execute, machine.may_learn, machine.may_keep):
             for given in ((-1, 1), (1 << 64, 1), (0, 0), (0, -1), (0, 1 << 64)):
                 self.assertRaises(OutOfRange, call, *given)
         for otype in (-1, 1 << 18):

@@ -18,7 +18,9 @@ import support
 import fuzz
 import property as holds
 import rvfi
-from cherisim import REGISTERS, Cap, Machine
+from cherisim import REGISTERS, Cap, Machine, Stop
+from cherisim._calls import CONSTANTS
+from cherisim.records import operands
 
 
 def said(call, *given):
@@ -83,7 +85,7 @@ class Records(unittest.TestCase):
                                ("csrrwi a0, mstatus, 8", (0, 0, 10)), ("cspecialrw ca0, ddc, ca1", (11, 0, 10)), ("mret", (0, 0, 0)),
                                ("fence zero, a0, 255", (0, 0, 0)), ("sc.cap ca2, (ca3)", (13, 12, 0)), ("csub a0, ca1, ca2", (11, 12, 10)),
                                ("cjalr cra, 0(ca0)", (10, 0, 1)), (".word 0x00000000", (0, 0, 0)), ("lui a0, 0x10", (0, 0, 10))):
-            self.assertEqual((text, rvfi.operands(text)), (text, expected))
+            self.assertEqual((text, operands(text)), (text, expected))
 
     def test_written(self):
         name = os.path.join(support.TOP, "examples", "hello.s")
@@ -148,6 +150,14 @@ class Page(unittest.TestCase):
         finally:
             os.chdir(before)
         self.assertEqual(printed, ["b'hello, world\\n' 67 0\n", ""])
+
+
+class Headers(unittest.TestCase):
+    def test_made(self):
+        """What crosses to C is what the headers say, and so are the numbers of Stop."""
+        status, out = said(runpy.run_path(os.path.join(support.TOP, "python", "headers.py"))["main"], ["--check"])
+        self.assertEqual(status, 0, out)
+        self.assertEqual({name: Stop[name].value for name in Stop.__members__}, {name: CONSTANTS[name] for name in Stop.__members__})
 
 
 class Installed(unittest.TestCase):

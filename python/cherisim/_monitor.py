@@ -1,0 +1,200 @@
+"""The commands of the debugger that look at a machine, over the library: what GDB's `monitor` answers."""
+from __future__ import annotations
+
+from typing import Callable, Dict, Iterable, Iterator, List, Optional, Tuple
+
+from . import (CSRS, PAGE, RAM, REGISTERS, SCRS, Cap, CherisimError, Machine, OutOfRange, Perms, Reach, ReachMember,
+               SENTRY, UNSEALED, disassemble)
+from ._html import letters
+from ._symbols import Symbols
+
+_NO = "no, until the next trap, unsealing or sealed jump\n"
+_MOVES = ("step", "tick", "byte", "until", "trap", "go", "changed", "back")
+_NOT_IN_C = ("origin", "lost", "doors", "dot")
+_BANKS = ("regs", "scr", "csr", "caps")
+_QUESTIONS = {"store": 2, "load": 2, "execute": 2, "learn": 2, "send": 0, "halt": 0, "system": 0, "timer": 0, "hold": 1}
+
+_RESERVED = 0x3FFFC  # the first object type that nothing seals with
+_RIGHTS = (("load", Perms.Load), ("load capabilities", Perms.Load | Perms.Load_Capability), ("store", Perms.Store),
+           ("execute", Perms.Execute), ("seal", Perms.Seal), ("unseal", Perms.Unseal))
+_DEVICES = (("halt", 0x100000), ("mtimecmp", 0x2004000), ("mtime", 0x200BFF8), ("transmit", 0x10000000), ("receive", 0x10000008),
+            ("status", 0x10000010), ("control", 0x10000018))
+
+HELP = """why                     what the next step will do, and why
+regs, scr, csr          general, special capability, control and status registers
+reg R                   a general register as a capability
+caps                    the capabilities in RAM
+mem ADDR LEN            bytes of RAM, at most 4096
+dis ADDR N              words of RAM as instructions, at most 1024
+reach, reach members    what the code that runs can come to hold, in sum and each
+may store ADDR LEN      whether it may store there; load, execute and learn likewise
+may send                whether it may send a byte; halt, system and timer likewise
+may hold TYPE           whether a member is sealed with an object type, or may seal with it
+ago                     how many steps were done
+stops                   breakpoints and watchpoints
+stop HOW                before which traps a run stops: unhandled, trap or never
+"""
+
+
+class Fault(Exception):
+    """A command is refused: B1 no such command, B2 its operands, B3 a byte outside RAM."""
+
+
+def _has(cap: Cap, needs: Perms) -> bool:
+    """Whether a member of a reach has rights, which what is sealed has not."""
+    return not cap.sealed and needs & cap.perms == needs
+
+
+def _merged(ranges: Iterable[Tuple[int, int]]) -> Iterator[Tuple[int, int]]:
+    """Ranges that lie apart, in ascending order, with the same addresses as these."""
+    last: Optional[Tuple[int, int]] = None
+    for begin, end in sorted(it for it in ranges if it[0] < it[1]):
+        if last and begin <= last[1]:
+            last = last[0], max(last[1], end)
+            continue
+        if last:
+            yield last
+        last = begin, end
+    if last:
+        yield last
+
+
+class Monitor:
+    """Answers commands about a machine, with labels where a table has them."""
+
+    def __init__(self, machine: Callable[[], Machine], symbols: Symbols) -> None:
+        self._machine, self._symbols = machine, symbols
+        self._answers: Dict[str, Callable[..., str]] = {"reg": self._reg, "mem": self._mem, "dis": self._dis, "reach": self._reach,
+                                                        "may": self._may, "why": self._why, "help": lambda: HELP}
+
+    def answer(self, line: str) -> str:
+        """The reply to a command; a refusal changes nothing."""
+        word, *given = line.split() or [""]
+        if word in _MOVES:
+            return "GDB's own commands move the machine\n"
+        if word in _NOT_IN_C or given[-1:] and given[-1] in _NOT_IN_C:
+            return "the library has no such question: ask it of `cherisim debug`\n"
+        if word in _BANKS:
+            return self._bank(word) if not given else "fault B2\n"
+        try:
+            return self._answers[word](*given) if word in self._answers else "fault B1\n"
+        except Fault as fault:
+            return f"fault {fault}\n"
+        except (TypeError, ValueError, CherisimError):
+            return "fault B2\n"
+
+    def _number(self, word: str) -> int:
+        return self._symbols[word] if word in self._symbols else int(word, 16 if word[:2] == "0x" else 10)
+
+    def _bank(self, word: str) -> str:
+        m = self._machine()
+        rows: List[Tuple[str, object]] = []
+        if word == "caps":
+            rows = [(self._symbols.shown(at), m.cap_at(at)) for at in m.tags()]
+        elif word == "csr":
+            rows = [(name, f"{m.csrs[name]:016x}") for name in CSRS]
+        else:
+            rows = [*(m.regs if word == "regs" else m.scrs).items()]
+        return "".join(f"{name} {value}\n" for name, value in rows)
+
+    def _reg(self, name: str) -> str:
+        if name not in REGISTERS:
+            raise Fault("B2")
+        regs = self._machine().regs
+        return f"{list(regs)[REGISTERS[name]]} {regs[name]}\n"
+
+    def _mem(self, address: str, length: str) -> str:
+        begin, count = self._number(address), int(length, 0)
+        if not 1 <= count <= 4096:
+            raise Fault("B2")
+        try:
+            data = self._machine().mem[begin:begin + count]
+        except OutOfRange:
+            raise Fault("B3") from None
+        return "".join(f"{begin + n:016x}: {data[n:n + 16].hex(' ')}\n" for n in range(0, count, 16))
+
+    def _dis(self, address: str, words: str) -> str:
+        begin, count, m = self._number(address), int(words, 0), self._machine()
+        if not 1 <= count <= 1024 or begin % 4:
+            raise Fault("B2")
+        if not RAM <= begin <= begin + 4 * count <= RAM + m.pages * PAGE:
+            raise Fault("B3")
+        data, mode = m.mem[begin:begin + 4 * count], m.scrs["pcc"].flag
+        text = ""
+        for n in range(0, 4 * count, 4):
+            word = int.from_bytes(data[n:n + 4], "little")
+            text += f"{self._symbols.shown(begin + n)} {word:08x} {disassemble(word, mode)}\n"
+        return text
+
+    def _why(self) -> str:
+        return self._machine().why()
+
+    # ---- reach
+
+    def _place(self, member: ReachMember) -> str:
+        return member.where if isinstance(member.where, str) else self._symbols.shown(member.where)
+
+    def _shown(self, value: Cap) -> str:
+        return f"{letters(value.perms)} {value}"
+
+    def _member(self, it: ReachMember) -> str:
+        return f"{it.number} {self._place(it)}{'' if it.from_ is None else f' from {it.from_}'} {self._shown(it.value)}\n"
+
+    def _reach(self, what: str = "") -> str:
+        if what not in ("", "members"):
+            raise Fault("B2")
+        reach = self._machine().reach()
+        if what:
+            return "".join(map(self._member, reach))
+        kinds = [0 if it.from_ is None else 1 if it.where in SCRS else 2 for it in reach]
+        text = (f"members {len(reach)}: registers {kinds.count(0)}, special registers {kinds.count(1)}, memory {kinds.count(2)}, "
+                f"sealed {sum(it.value.sealed for it in reach)}\n")
+        text += "".join(self._ranges(name, needs, reach) for name, needs in _RIGHTS[:4])
+        devices = ((name, self._opens(reach, at, Perms.Load), self._opens(reach, at, Perms.Store)) for name, at in _DEVICES)
+        lines = "".join(f"device {name} {'R' if loads else '-'}{'W' if stores else '-'}\n" for name, loads, stores in devices
+                        if loads or stores)
+        system = any(_has(it.value, Perms.Execute | Perms.Access_System_Registers) for it in reach)
+        text += (lines or "device none\n") + f"system registers {'yes' if system else 'no'}\n"
+        text += "".join(self._ranges(name, needs, reach) for name, needs in _RIGHTS[4:])
+        return text + "".join(self._member(it) for it in reach if it.value.sealed)
+
+    @staticmethod
+    def _opens(reach: Reach, address: int, right: Perms) -> bool:
+        return any(_has(it.value, right) and it.value.in_bounds(address) for it in reach)
+
+    def _ranges(self, name: str, needs: Perms, reach: Reach) -> str:
+        """What members open to a right, a line for each range; of types those that can be sealed with."""
+        text = ""
+        for begin, end in _merged((it.value.base, it.value.top) for it in reach if _has(it.value, needs)):
+            if name.endswith("seal"):
+                text += f"{name} {begin:05x} to {min(end, _RESERVED):05x}\n" if begin < _RESERVED else ""
+            else:
+                text += f"{name} {self._symbols.shown(begin)} to {end:017x}\n"
+        return text or f"{name} none\n"
+
+    def _may(self, what: str, *given: str) -> str:
+        if _QUESTIONS.get(what) != len(given):
+            raise Fault("B2")
+        numbers = [self._number(word) for word in given]
+        answer = getattr(self._machine(), f"may_{what}")(*numbers)
+        if answer is None:
+            return _NO
+        way = " -> ".join(self._place(member) for member in answer.way)
+        return f"yes: {way} {self._shown(answer.way[-1].value)}\n"
+
+
+def entry_is_fetched(machine: Machine) -> bool:
+    """Whether the first instruction of the trap handler can be fetched: of an exception, whose entry is MTCC's address with its low two
+    bits cleared."""
+    mtcc = machine.scrs["mtcc"]
+    entry = mtcc.address & ~3
+    opened = mtcc if mtcc.otype != SENTRY else mtcc.clear_tag()
+    there = entry == mtcc.address or opened.is_representable(entry)
+    return (mtcc.tag and there and mtcc.otype in (SENTRY, UNSEALED) and Perms.Execute in mtcc.perms and mtcc.in_bounds(entry, 4)
+            and RAM <= entry and entry + 4 <= RAM + machine.pages * PAGE)
+
+
+def next_cause(machine: Machine) -> Optional[int]:
+    """What mcause becomes at the next step, where that is a trap or an interrupt."""
+    effect = machine.why().rstrip("\n").rpartition("mcause ")
+    return int(effect[2][:16], 16) if effect[1] else None

@@ -1,0 +1,212 @@
+"""A machine with its past: steps have numbers, and any of them can be gone back to, since a run is a function of where it begins and of
+what comes."""
+from __future__ import annotations
+
+from ctypes import byref, create_string_buffer
+from typing import Dict, NamedTuple, Optional, Sequence, Tuple
+
+from . import Machine, OutOfRange, Stop
+from . import _library as c
+from ._library import lib
+
+_EVERY = 5_000_000  # steps between two states that are kept
+_KEPT, _BYTES = 32, 1 << 28  # states that are kept at most, and bytes of RAM in them: then every second one goes
+_SPAN = 2000        # steps that are looked at first for the last stop; then ever more
+_FAR = 1 << 62
+
+Range = Tuple[int, int]
+"""Bytes of RAM: the address of the first, and how many."""
+
+
+class Schedule(NamedTuple):
+    """What comes beside the steps: byte i of the input just before step 1 + i * gap, and a tick after each step whose number is a multiple
+    of `tick` (0: none)."""
+
+    input: bytes = b""
+    gap: int = 1000
+    tick: int = 0
+
+
+class Replay:
+    """A machine after `n` steps of its run, each with what comes beside it; the byte that comes before step n + 1 has come."""
+
+    machine: Machine
+    n: int
+
+    def __init__(self, machine: Machine, schedule: Schedule = Schedule()) -> None:
+        if schedule.gap < 1:
+            raise OutOfRange(f"no gap {schedule.gap}")
+        self.machine, self.schedule, self.n = machine, schedule, 0
+        self._bring()
+        self._opening = machine.copy()
+        self._kept: Optional[Dict[int, Machine]] = {0: self._opening}
+        self._most = max(2, min(_KEPT, _BYTES // len(machine.mem)))
+
+    def fork(self) -> Replay:
+        """The same of a copy of the machine; it has no past."""
+        other = Replay.__new__(Replay)
+        other.machine, other.schedule, other.n, other._kept = self.machine.copy(), self.schedule, self.n, None
+        return other
+
+    # ---- forwards
+
+    def _bring(self) -> None:
+        at, apart = divmod(self.n, self.schedule.gap)
+        if not apart and at < len(self.schedule.input) and self.machine.halted is None:
+            self.machine.receive(self.schedule.input[at:at + 1])
+
+    def _next(self) -> int:
+        """Up to which step the machine may run at once: up to the next byte of the input or the next state to keep."""
+        gap, byte = self.schedule.gap, self.n // self.schedule.gap + 1
+        kept = (self.n // _EVERY + 1) * _EVERY if self._kept is not None else _FAR
+        return min(byte * gap if byte < len(self.schedule.input) else _FAR, kept)
+
+    def run(self, most: int, until: Optional[int] = None, ends: bool = False) -> Stop:
+        """Runs so many steps at most, and answers why it stopped: before a step whose PCC has the address, or where `ends` is set before
+        one that ends a stretch."""
+        asked, end = c.Asked(tick=self.schedule.tick, at_end=ends), self.n + most
+        if not most:
+            return Stop.STEPS
+        if until is not None:
+            asked.address, asked.at_address = until, True
+        while True:
+            mark = min(end, self._next())
+            self.n, stop = self.machine._run_to(asked, self.n, mark)
+            if self.n < mark or self.machine.halted is not None:
+                return stop
+            self._bring()
+            if self._kept is not None and not self.n % _EVERY:
+                self.keep()
+            if self.n == end:
+                return stop
+
+    def run_to(self, most: int, stops: Sequence[int], ends: bool = False) -> Stop:
+        """The same of several addresses. A run of the library looks for one: the others are tried on copies, each up to the nearest so far.
+        """
+        for address in stops[1:]:
+            other = self.fork()
+            other.run(most, address, ends)
+            most = min(most, other.n - self.n)
+        return self.run(most, stops[0] if stops else None, ends)
+
+    def step(self) -> None:
+        """One step."""
+        self.run(1)
+
+    # ---- backwards
+
+    def keep(self) -> None:
+        """Keeps the state as it is, to come back to."""
+        if self._kept is None or self.n in self._kept:
+            return
+        self._kept[self.n] = self.machine.copy()
+        if len(self._kept) > self._most:
+            for n in sorted(self._kept)[1::2]:
+                del self._kept[n]
+
+    @property
+    def begin(self) -> int:
+        """The first step number that can be gone back to."""
+        return min(self._kept) if self._kept else self.n
+
+    def go_to(self, n: int) -> None:
+        """To after step n, forwards or backwards; back to `begin` at most."""
+        assert self._kept is not None
+        near = max(mark for mark in self._kept if mark <= n)
+        if not near <= self.n <= n:
+            self.machine, self.n = self._kept[near].copy(), near
+        if self.n < n:
+            self.run(n - self.n)
+
+    def forget(self) -> None:
+        """What was before can't be gone back to: after a write, which is no event."""
+        self._kept = {self.n: self.machine.copy()}
+
+    def restart(self) -> None:
+        """To the opening state."""
+        self.machine, self.n = self._opening.copy(), 0
+        self._kept = {0: self._opening}
+
+    # ---- stops
+
+    def read(self, where: Range) -> Optional[bytes]:
+        """Bytes of RAM, or None where some lie outside."""
+        try:
+            return self.machine.mem[where[0]:where[0] + where[1]]
+        except OutOfRange:
+            return None
+
+    def run_watched(self, most: int, stops: Sequence[int], watched: Sequence[Range]) -> Optional[Range]:
+        """Runs at least one step, and so many at most, up to one that changes watched bytes, whose range is the answer, or that comes to a
+        stop or the halt. The library has no run up to a change: each step is looked at."""
+        held, end = [self.read(it) for it in watched], self.n + most
+        while True:
+            self.step()
+            changed = next((it for it, old in zip(watched, held) if self.read(it) != old), None)
+            if changed or self.n == end or self.machine.halted is not None or self.machine.pc in stops:
+                return changed
+            quick = min(end, self._next() - 1) - self.n
+            if quick > 0:
+                changed, stands = self._quickly(quick, stops, list(zip(watched, held)))
+                if changed or stands or self.n == end:
+                    return changed
+
+    def _quickly(self, most: int, stops: Sequence[int], watched: Sequence[Tuple[Range, Optional[bytes]]]) -> Tuple[Optional[Range], bool]:
+        """The same of steps before which no byte comes, by the library's own calls: the range that changed, and whether it stands at a stop
+        or halted."""
+        machine, at, byte, ran, pcc = self.machine, self.machine._at, create_string_buffer(1), c.Ran(), c.Cap()
+        asked = c.Asked(steps=1, tick=self.schedule.tick)
+        if len(stops) == 1:
+            asked.address, asked.at_address = stops[0], True
+        given = byref(asked), byte, 1, byref(ran)
+        rooms = [(it, old, create_string_buffer(it[1])) for it, old in watched]
+        for _ in range(most):
+            asked.before = self.n
+            machine._do(lib.cherisim_run, *given)
+            if not ran.steps:
+                return None, True
+            self.n += 1
+            if ran.sent:
+                machine.sent += byte.raw
+            for where, old, room in rooms:
+                lib.cherisim_read(at, where[0], room, where[1])
+                if room.raw != old:
+                    return where, False
+            if len(stops) > 1:
+                machine._do(lib.cherisim_scr, 0, byref(pcc))
+                if pcc.address in stops:
+                    return None, True
+        return None, False
+
+    def _last_in(self, begin: int, end: int, stops: Sequence[int], watched: Sequence[Range]) -> Optional[Tuple[int, Optional[Range]]]:
+        """The last place from `begin` on and before `end` that stands at a stop, or whose step changes watched bytes, with their range."""
+        self.go_to(begin)
+        last: Optional[Tuple[int, Optional[Range]]] = (begin, None) if self.machine.pc in stops else None
+        while self.n < end and self.machine.halted is None:
+            changed: Optional[Range] = None
+            if watched:
+                changed = self.run_watched(end - self.n, stops, watched)
+            else:
+                self.step()
+                if self.n < end and self.machine.pc not in stops:
+                    self.run_to(end - self.n, stops)
+            if changed:
+                last = self.n - 1, changed
+            if self.n < end and self.machine.pc in stops:
+                last = self.n, None
+        return last
+
+    def back_to(self, stops: Sequence[int], watched: Sequence[Range]) -> Optional[Tuple[int, Optional[Range]]]:
+        """Goes back to the last place before this one that stands at a stop, or whose step changes watched bytes, and answers it; else to
+        the beginning of the past, and None."""
+        assert self._kept is not None
+        end, span = self.n, _SPAN
+        while end > self.begin:
+            begin = max(self.begin, end - span)
+            last = self._last_in(begin, end, stops, watched)
+            if last:
+                self.go_to(last[0])
+                return last
+            end, span = begin, min(8 * span, _EVERY)
+        self.go_to(self.begin)
+        return None
