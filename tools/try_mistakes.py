@@ -16,7 +16,8 @@ together.
 
 That a proof doesn't fit any more is no proof that none would. A mistake is told as *refused* where that is shown: its law is a closed
 computation that comes out otherwise (a line `refuted by: NUMBERS`), or NAME.worked stands beside it, definitions with a worked state in
-which the law is false under the mistaken definition: `Law`, what is refuted, and `refuted : State → Law → ⊥`, which is proved in the copy.
+which the law is false under the mistaken definition: `Law`, what is refuted, and `refuted : Law → ⊥`, or `State → Law → ⊥` where it is a
+state of the machine; it is proved in the copy.
 Of the others it is said that the law's proof doesn't hold.
 
 It stands on the libraries in crates/*/out/rlib, as the gate or `rt lib` leaves them. It ends with 1 where a mistake is not refused so.
@@ -123,9 +124,11 @@ def with_worked_state(room, crate, laws, path):
     moved(path, os.path.join(room, "specs", "Worked.antt"), crate, laws, [])
     appended(os.path.join(room, "specs", "Lib.antt"), "pub mod Worked\n")
     appended(os.path.join(room, "src", "lib.rt"), "pub mod worked;\n")
+    with open(path, encoding="utf-8") as file:
+        state = "refuted : (s : State)" in file.read() or "refuted : State" in file.read()
     with open(os.path.join(room, "src", "worked.rt"), "w", encoding="utf-8") as file:
-        file.write(f"ghost use Rattle.steps.specs.State.{{State}};\nghost use Rattle.{crate}.specs.Worked.{{Law}};\n\n"
-                   "pub fn law_is_false()\n    ensures { State → Law → ⊥ }\n{}\n")
+        file.write(("ghost use Rattle.steps.specs.State.{State};\n" if state else "") + f"ghost use Rattle.{crate}.specs.Worked.{{Law}};\n\n"
+                   f"pub fn law_is_false()\n    ensures {{ {'State → ' if state else ''}Law → ⊥ }}\n{{}}\n")
     with open(os.path.join(room, "proofs", "worked", "law_is_false", "Answers.antt"), "w", encoding="utf-8") as file:
         file.write(f"use Rattle.{crate}.specs.Worked.{{refuted}}\nuse Rattle.{crate}.proofs.worked.law_is_false.Goals as goal\n\n"
                    "pub returns : goal.returns\nreturns c = refuted\n")
@@ -155,7 +158,7 @@ def tried(mistake, known):
     """Tries a mistake: what is left unproved, and whether that is what it says."""
     with tempfile.TemporaryDirectory(prefix="mistake-") as room:
         copied(mistake.crate, room)
-        functions = with_laws(room, mistake.crate, mistake.over) if mistake.over else []
+        functions = with_laws(room, mistake.crate, mistake.over) if mistake.over else [mistake.law] * bool(mistake.worked)
         faults = mistake.made_in(room)
         if faults:
             return faults, False

@@ -6,14 +6,14 @@ What is written is what the model of a machine meets (cases/running.py, cases/wa
 
 from cases.callers import BY_PAIR, BY_SENTRY, LENT, SENTRY, by_caller, calling, rule
 from cases.encoded import image_of
-from cases.policed import CALL, FIRST, HALTS, WHOLE, Watch, inside, program, sealed
+from cases.policed import CALL, FIRST, HALTS, KEEPS, WHOLE, Watch, inside, program, sealed
 from cases.program_lines import BAD, FILE, TRACE, case
 from cases.quoting import quoted
 from cases.running import Running
 from cases.watched import GAP, TICK, audited, entered
 from model import policy
 from model.devices import TIMER_COMPARE, TRANSMIT
-from model.rights import ACCESS_SYSTEM_REGISTERS, EXECUTE, GREATEST_SEALING_TYPE, LOAD, LOAD_CAPABILITY, SEAL, STORE, UNSEAL
+from model.rights import ACCESS_SYSTEM_REGISTERS, EXECUTE, GREATEST_SEALING_TYPE, LOAD, LOAD_CAPABILITY, SEAL, STORE, STORE_LOCAL, UNSEAL
 
 
 class Audit(Watch):
@@ -60,7 +60,7 @@ def parts():
         yield finds(FIRST, WHOLE + f"{name} no\n", 1, named=False)
     yield finds(program(HALTS, ("cs0", "data", 16, STORE), before=sealed("cs0", 7)), inside("types 6 8"), 1)
     yield "# all of them at one step, in the order of parts; and those of several rules, in their order"
-    yield finds(FIRST, WHOLE + ", ".join(f"{name} no" for name in reversed(policy.PARTS[:-1])) + "\n", 8, named=False)
+    yield finds(FIRST, WHOLE + ", ".join(f"{name} no" for name in reversed(policy.PARTS[:-1])) + "\n", 9, named=False)
     two = program(HALTS, ("cs0", "1", 2, SEAL), ("cs1", "data", 16, STORE), ("cs2", "data", 8, STORE | LOAD))
     yield finds(two, inside("seal no", "load no", "store within data..+8") + "# again\n\t" + inside("store no", "seal no"), 5)
     yield "# of each part the first that breaks it, with what leads to it"
@@ -135,6 +135,8 @@ def entries():
                          ("cs6", "0", 16, LOAD), before=sealed("cs6", 3)), 2)
     yield enters(program(HALTS, ("cs0", "data", 0x100, LOAD | LOAD_CAPABILITY),
                          data=[".cap 0x80000300, 16, 8, 0", ".cap 0x80000308, 0x100, 4, 0"]), 2)
+    yield "# where what is lent may be kept"
+    yield enters(program(HALTS, ("cs0", "data", 32, KEEPS), ("cs1", "0x80000320", 16, KEEPS), ("cs2", "code", 16, KEEPS ^ STORE_LOCAL)), 2)
     yield "# types: each once and in ascending order, those of sentries left out"
     types = program(HALTS, *((f"cs{number}", "data", 16, STORE) for number in range(3)), ("cs3", "code", 16, CALL),
                     before=[*sealed("cs0", 9), *sealed("cs1", 0), *sealed("cs2", 9), "csealentry cs3, cs3"])

@@ -7,7 +7,7 @@ What is told of a run is what the model of a machine meets (cases/running.py, ca
 from cases.policed import CALL, CODE, DATA, HALTS, TABLE, goes, program, sealed, stops
 from model.devices import RAM, TIMER_COMPARE, TRANSMIT
 from model.rights import (ACCESS_SYSTEM_REGISTERS, CINVOKE, EXECUTE, GLOBAL, GREATEST_SEALING_TYPE, LOAD, LOAD_CAPABILITY, SEAL, STORE,
-                          STORE_CAPABILITY, UNSEAL)
+                          STORE_CAPABILITY, STORE_LOCAL, UNSEAL)
 
 # Where the code that is called stands, its own data, and another piece of code.
 CALLEE, OWN, OTHER = CODE + 0x80, DATA + 0x20, RAM + 0x400
@@ -75,6 +75,13 @@ def lends():
     yield "# PCC of the call too"
     pcc = calling(("cs3", "code", 0x80, CALL), before=KEPT, code=("cmove cra, cnull", BY_PAIR), callee=(HALT,))
     yield from only_lent(pcc, "execute within callee..+0x80")
+
+
+def lends_keeping():
+    keeps = GLOBAL | STORE | STORE_CAPABILITY | STORE_LOCAL
+    yield "# where it may keep what is lent"
+    yield from only_lent(calling(("cs2", "data", 16, keeps), callee=("csc cnull, 0(cs2)", HALT)), "keep within own..+32")
+    yield stops(calling(LENT, by=(PAIR[0], ("cs1", "own", 32, FRAME | CINVOKE | STORE_LOCAL)), callee=(HALT,)), by_caller("keep no"))
 
 
 def lends_not():
@@ -191,6 +198,6 @@ def rules():
 
 def files():
     lines = ["# a command line, files and streams => the status, what is opened and made, sent, told, and what stands in the file made"]
-    for part in (lends, lends_not, no_calls, keeps, rules):
+    for part in (lends, lends_keeping, lends_not, no_calls, keeps, rules):
         lines += part()
     yield "callers.txt", lines

@@ -12,7 +12,7 @@ from cases.watched import GAP, TICK, ran
 from model import policy
 from model.devices import HALT, RAM, TIMER_COMPARE, TRANSMIT
 from model.rights import (ACCESS_SYSTEM_REGISTERS, CINVOKE, EXECUTE, GLOBAL, GREATEST_SEALING_TYPE, LOAD, LOAD_CAPABILITY, SEAL, STORE,
-                          UNSEAL)
+                          STORE_CAPABILITY, STORE_LOCAL, UNSEAL)
 
 # ---- programs
 
@@ -183,6 +183,30 @@ def ranges():
     yield stops(chain, f"when pc in {CODE}..+4: transmit no\n", named=False)
 
 
+# A capability through which what is lent may be kept.
+KEEPS = STORE | STORE_CAPABILITY | STORE_LOCAL
+
+
+def keeps():
+    def holds(*cap, before=()):
+        return program(HALTS, ("cs0", *cap), before=before)
+    yield "# what is lent may be kept in granules that lie wholly in the bounds, by three permissions"
+    for first, length, given in (("data", 32, "no"), ("data", 32, "within data..+16"), ("data", 32, "within data..+31"),
+                                 ("data", 32, "within 0x80000301..+31"), ("0x80000301", 31, "no"), ("0x80000308", 32, "within data..+16")):
+        yield stops(holds(first, length, KEEPS), inside(f"keep {given}"))
+    for first, length, given in (("data", 32, "within data..+32"), ("data", 32, "within data..+16 0x80000310..+16"),
+                                 ("0x80000301", 31, "within 0x80000310..+16"), ("0x80000301", 30, "no"), ("data", 15, "no"),
+                                 ("0x80000308", 16, "no"), ("0x7ffffff0", 16, "no")):
+        yield goes(holds(first, length, KEEPS), inside(f"keep {given}"))
+    for missing in (STORE, STORE_CAPABILITY, STORE_LOCAL):
+        yield goes(holds("data", 32, (KEEPS | GLOBAL | LOAD | LOAD_CAPABILITY) ^ missing), inside("keep no"))
+    yield goes(holds("data", 32, KEEPS, before=sealed("cs0", 7)), inside("keep no"))
+    yield goes(holds("data", 32, KEEPS), inside("load no", "seal no", "types none"))
+    yield "# after the part for stores, which such a capability breaks too, and before that for sending"
+    yield stops(holds("data", 32, KEEPS), inside("keep no", "store no"))
+    yield stops(program(HALTS, ("cs0", "0x10000000", 0x71000000, KEEPS)), inside("transmit no", "keep no"))
+
+
 def devices():
     yield "# a device's first byte, by Store"
     for name, address in (("transmit", TRANSMIT), ("halt", HALT), ("timer", TIMER_COMPARE)):
@@ -327,11 +351,13 @@ FAULTY = {
            (1, "when pc in 0..1: store no,"), (1, "when pc in 0..1: , store no"), (1, "when pc in 0..1: Store no"),
            (1, "when pc in 0..1: caller"), (2, "or = 0..1\nwhen pc in or: or caller, Or caller"), (1, "when pc in 0..1: or caller,")],
     "P7": [(1, "when pc in 0..1: store no, store no"), (1, "when pc in 0..1: halt no, load no, halt yes"),
-           (1, "when pc in 0..1: types 1, seal no, types none"), (1, "when pc in 0..1: or caller, or caller"),
+           (1, "when pc in 0..1: types 1, seal no, types none"), (1, "when pc in 0..1: keep no, keep within 0..1"),
+           (1, "when pc in 0..1: or caller, or caller"),
            (3, "# or caller\n\nwhen pc in 0..1: or caller, halt no, or # caller")],
     "P8": [(1, "when pc in 0..1: store"), (1, "when pc in 0..1: load within"), (1, "when pc in 0..1: halt"),
            (1, "when pc in 0..1: seal maybe"), (1, "when pc in 0..1: execute yes"), (1, "when pc in 0..1: transmit no no"),
            (1, "when pc in 0..1: types"), (1, "when pc in 0..1: store no within 0..1"), (1, "when pc in 0..1: timer within 0..1"),
+           (1, "when pc in 0..1: keep"), (1, "when pc in 0..1: keep yes"), (1, "when pc in 0..1: load no, keep within"),
            (1, "when pc in 0..1: or"), (2, "A = 0..1\nwhen pc in A: halt no, or callers, or caller"),
            (1, "when pc in 0..1: or caller caller, or"), (1, "when pc in 0..1: or # caller"), (1, "when pc in 0..1: store no or caller"),
            (2, "caller = 0..1\nwhen pc in 0..1: or within caller")],
@@ -374,6 +400,6 @@ def files_and_words():
 
 def files():
     lines = ["# a command line, files and streams => the status, what is opened and made, sent, told, and what stands in the file made"]
-    for part in (first_image, which, ranges, devices, system, seals, moves, outside, forms, faulty, files_and_words):
+    for part in (first_image, which, ranges, keeps, devices, system, seals, moves, outside, forms, faulty, files_and_words):
         lines += part()
     yield "policies.txt", lines

@@ -314,37 +314,37 @@ def failing():
     yield case("dis none", ["errors 9"], 3, "open none", told="cherisim:")
 
 
-def read_so_far():
-    """Texts and tables that are read up to their first faulty line, each with the call that fails after it."""
-    foreign, long = "nop\\n\\x7f\\nnop\\n", f"nop\\n{' ' * 256}\\nnop\\n"
-    yield "# a text is read up to a line that its bytes alone make the first faulty one: the call after it, which fails, isn't made"
-    for call, text, told in ((5, foreign, "A8 byte not ASCII: 0x7f at column 1"), (261, long, "A9 line too long: 256 bytes")):
-        yield case("asm a.s out.img", [f'a.s {call} "{text}"'], 3, "open a.s", told=faulty_line(2, told))
-        yield case("asm a.s out.img", [f'a.s {call - 1} "{text}"'], 3, "open a.s", told="cherisim: read failed\n  a.s: Broken pipe\n")
-    yield "# where a line before it has a fault that a later label may mend, it is read to its end"
+def read_whole():
+    """Texts and tables that are read to their end before they are looked at, and those that are too long."""
+    yield "# a text is read to its end before it is looked at: a call that fails is told, and no line of it"
     blanks = " " * 300
-    for number, text, told in ((2, "j x\\n\\x7f\\nx: nop\\n", "A8 byte not ASCII: 0x7f at column 1"),
-                                (2, f"j x\\n{blanks}\\nx: nop\\n", "A9 line too long: 300 bytes"),
-                                (2, f"nop\\n{blanks}", "A9 line too long: 300 bytes"),
-                                (2, f"nop\\n{blanks}\\x7f\\xff\\n", "A8 byte not ASCII: 0x7f at column 301"),
-                                (2, f"nop\\nx\\x01{blanks}\\n\\x7f", "A8 byte not ASCII: 0x01 at column 2")):
+    for call, text in ((5, "nop\\n\\x7f\\nnop\\n"), (261, f"nop\\n{' ' * 256}\\nnop\\n"), (5, "j x\\n\\x7f\\nx: nop\\n")):
+        yield case("asm a.s out.img", [f'a.s {call} "{text}"'], 3, "open a.s", told="cherisim: read failed\n  a.s: Broken pipe\n")
+    yield "# its first faulty line is told, where its bytes alone make it one too"
+    for number, text, told in ((2, "nop\\n\\x7f\\nnop\\n", "A8 byte not ASCII: 0x7f at column 1"),
+                               (2, f"nop\\n{' ' * 256}\\nnop\\n", "A9 line too long: 256 bytes"),
+                               (2, "j x\\n\\x7f\\nx: nop\\n", "A8 byte not ASCII: 0x7f at column 1"),
+                               (2, f"j x\\n{blanks}\\nx: nop\\n", "A9 line too long: 300 bytes"),
+                               (2, f"nop\\n{blanks}", "A9 line too long: 300 bytes"),
+                               (2, f"nop\\n{blanks}\\x7f\\xff\\n", "A8 byte not ASCII: 0x7f at column 301"),
+                               (2, f"nop\\nx\\x01{blanks}\\n\\x7f", "A8 byte not ASCII: 0x01 at column 2")):
         yield case("asm a.s out.img", [f'a.s "{text}"'], 3, "open a.s", told=faulty_line(number, told))
     for fault, lines, rest in ((UNKNOWN, ["j «x»"], "\\x7f\\nnop\\n"), (NO_MNEMONIC, ["«frob»"], "\\x7f\\nnop\\n"),
                                (UNKNOWN, ["j «x»"], f"{blanks}\\nnop\\n")):
         yield case("asm a.s out.img", [text_of(lines)[:-1] + f'{rest}"'], 3, "open a.s", told=underlined(fault, lines, ""))
-    yield case("asm a.s out.img", ['a.s 5 "j x\\n\\x7f\\nx: nop\\n"'], 3, "open a.s", told="cherisim: read failed\n  a.s: Broken pipe\n")
-    yield "# a table is read up to its first faulty line, of which 19 bytes or its line feed have come"
+    yield "# so is a table"
     for call, text, line in ((21, "0000000080000000 x\\nx\\n0000000080000000 y\\n", 2), (19, "start 0000000080000000\\n", 1)):
-        yield case("dis first.img --symbols t", [FILE, f't {call} "{text}"'], 3, "open first.img, open t",
+        yield case("dis first.img --symbols t", [FILE, f't "{text}"'], 3, "open first.img, open t",
                    told=f"cherisim: line {line}: no address and label\n  t:{line}\n")
-        yield case("dis first.img --symbols t", [FILE, f't {call - 1} "{text}"'], 3, "open first.img, open t",
+        yield case("dis first.img --symbols t", [FILE, f't {call} "{text}"'], 3, "open first.img, open t",
                    told="cherisim: read failed\n  t: Broken pipe\n")
-    yield "# so what has no end ends at once"
-    yield case("asm /dev/zero out.img", [], 3, "open /dev/zero",
-               told="cherisim: line 1: A8 byte not ASCII\n  /dev/zero:1: 0x00 at column 1\n")
-    for command in ("dis", "debug"):
-        yield case(f"{command} first.img --symbols /dev/zero", [FILE], 3, "open first.img, open /dev/zero",
-                   told="cherisim: line 1: no address and label\n  /dev/zero:1\n")
+    yield "# what has no end is too long; of what is typed no more is read than can come"
+    long = "cherisim: text too long\n  /dev/zero: more than 256 MiB\n"
+    yield case("asm /dev/zero out.img", [], 3, "open /dev/zero", told=long)
+    for words in ("dis first.img --symbols", "debug first.img --symbols", "debug first.img --input",
+                  "run first.img 100000000 --times 3 --gap 1 --input"):
+        yield case(f"{words} /dev/zero", [FILE], 3, "open first.img, open /dev/zero", told=long)
+    yield case("run first.img 5 --gap 1 --input /dev/zero", [FILE], 0, "open first.img, open /dev/zero", b"A")
 
 
 # The words of each code, and of the faults without one; files are `a.s`, and a text's fault is that of its line 7.
@@ -379,6 +379,6 @@ def fault_texts():
 def files():
     lines = ["# a command line, files and streams => the status, what is opened and made, sent, told, and what stands in the file made"]
     lines += [*ends(), *ended_otherwise(), *not_begun(), *traces(), *labelled_runs(), *runs_without_table(), *images(), *named(), *headed(),
-              *faults(), *failing(), *read_so_far()]
+              *faults(), *failing(), *read_whole()]
     yield "commands.txt", lines
     yield "told.txt", fault_texts()

@@ -7,9 +7,9 @@ capability that is reachable in it breaks a part of the rule. By the part `or ca
 import re
 from typing import NamedTuple, Optional
 
-from model.capabilities import base, has, is_unsealed, otype, top
+from model.capabilities import base, has, is_unsealed, otype, perms, top
 from model.devices import HALT, RAM, TIMER_COMPARE, TRANSMIT
-from model.reach import BYTES, opened, opens_bytes, opens_system
+from model.reach import KEEPING, opened, opens_bytes, opens_system
 from model.rights import EXECUTE, GREATEST_SEALING_TYPE, LOAD, SEAL, STORE, UNSEAL
 from model.words import ONES, SPACE
 
@@ -19,8 +19,8 @@ BLANKS = " \t\r"
 NAME = re.compile(r"[A-Za-z_.][\w.]*", re.ASCII)
 NUMBER = re.compile(r"0x[0-9A-Fa-f]+|[0-9]+")
 
-# The parts that give ranges of RAM, those that say yes or no, and all of them in their order.
-OF_BYTES = {"store": STORE, "load": LOAD, "execute": EXECUTE}
+# The parts that give ranges of RAM, with the permissions that they are about, those that say yes or no, and all of them in their order.
+OF_BYTES = {"store": STORE, "load": LOAD, "execute": EXECUTE, "keep": KEEPING}
 OF_DEVICES = {"transmit": TRANSMIT, "halt": HALT, "timer": TIMER_COMPARE}
 PARTS = (*OF_BYTES, *OF_DEVICES, "system", "seal", "types")
 # The part that allows code what its caller could do.
@@ -154,10 +154,21 @@ def lies_within(spans, first, end):
     return first >= end
 
 
+def opens(value, name):
+    """Whether it is unsealed, with the permissions that a part is about."""
+    return is_unsealed(value) and perms(value) & OF_BYTES[name] == OF_BYTES[name]
+
+
+def bytes_of(value, name):
+    """The first byte of RAM in its bounds that a part is about, and the one after the last: to keep takes whole granules of 16."""
+    first, end = max(base(value), RAM), top(value)
+    return (-(-first // 16) * 16, end // 16 * 16) if name == "keep" else (first, end)
+
+
 def breaks(value, name, allowed):
     """Whether a capability breaks a part that allows so much."""
     if name in OF_BYTES:
-        return is_unsealed(value) and has(value, OF_BYTES[name]) and not lies_within(allowed, max(base(value), RAM), top(value))
+        return opens(value, name) and not lies_within(allowed, *bytes_of(value, name))
     if name == "types":
         return otype(value) <= GREATEST_SEALING_TYPE and otype(value) not in allowed
     if allowed:
@@ -178,9 +189,9 @@ def is_called(rule, before, after):
 
 def opened_by(found, name):
     """What members open of what a part is about, as a part allows it: the bounds to a right, object types, or whether one does at all."""
-    opening = [value for value, *_ in found if breaks(value, name, [])]
     if name in OF_BYTES:
-        return [(base(value), top(value)) for value in opening]
+        return [(base(value), top(value)) for value, *_ in found if opens(value, name)]
+    opening = [value for value, *_ in found if breaks(value, name, [])]
     return [otype(value) for value in opening] if name == "types" else bool(opening)
 
 
@@ -245,7 +256,7 @@ def entry(code, found):
     """The rule for a range of code that forbids all but what members open."""
     def said(name):
         if name in OF_BYTES:
-            spans = opened(found, BYTES[name])
+            spans = opened(found, OF_BYTES[name])
             return " ".join(["within", *(range_text(*span) for span in spans)]) if spans else "no"
         if name == "types":
             return " ".join(map(str, sorted(set(opened_by(found, name))))) or "none"

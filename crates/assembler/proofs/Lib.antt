@@ -13,4 +13,3 @@ pub mod SectionLemmas
 pub mod BuildLemmas
 pub mod PieceLemmas
 pub mod WorthLemmas
-pub mod BeginningLemmas

@@ -3,7 +3,7 @@ use Rattle.std.specs.Prelude.{ℕ, List, [], ◌++◌, codes, decimal}
 use Rattle.steps.specs.State.{State}
 use Rattle.symbols.specs.Symbols.{Symbol}
 use Rattle.policy.specs.declared.rule.Ban.{Ban}
-use Rattle.policy.specs.declared.rule.Ban.TheVariants.{Store, Load, Execute, Transmit, Halt, Timer, System, Seal, Types}
+use Rattle.policy.specs.declared.rule.Ban.TheVariants.{Store, Load, Execute, Keep, Transmit, Halt, Timer, System, Seal, Types}
 use Rattle.policy.specs.declared.refused.Refused.{Refused}
 use Rattle.explain.specs.StandingText.{standing_text}
 use Rattle.reach.specs.Reach.{members_in}
@@ -15,6 +15,7 @@ abbrev pub ban_word : Ban → List ℕ
 ban_word Store = codes "store"
 ban_word Load = codes "load"
 ban_word Execute = codes "execute"
+ban_word Keep = codes "keep"
 ban_word Transmit = codes "transmit"
 ban_word Halt = codes "halt"
 ban_word Timer = codes "timer"
@@ -33,6 +34,6 @@ breach_text symbols members number rule ban member =
     rule_lines number rule ban ++ held_text symbols [] members (chain_of members member) member ++ codes "\n"
 
 -- how many steps were done, and where PCC is; then what breaks the rule
-unfoldable pub stopped_lines : List Symbol → ℕ → List ℕ → Refused → ℕ → State → List ℕ
-stopped_lines symbols number rule refused steps s =
+unfoldable pub refused_lines : List Symbol → ℕ → List ℕ → Refused → ℕ → State → List ℕ
+refused_lines symbols number rule refused steps s =
     standing_text symbols steps s ++ codes "\ncherisim: " ++ breach_text symbols (members_in s) number rule refused.ban refused.member

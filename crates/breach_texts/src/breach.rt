@@ -30,6 +30,7 @@ fn ban_word(ban: Ban) -> &'static str
         Ban::Store => "store",
         Ban::Load => "load",
         Ban::Execute => "execute",
+        Ban::Keep => "keep",
         Ban::Transmit => "transmit",
         Ban::Halt => "halt",
         Ban::Timer => "timer",

@@ -5,4 +5,4 @@ mod breach;
 mod stopped;
 
 pub use breach::{RuleLine, put_breach};
-pub use stopped::stopped_lines;
+pub use stopped::refused_lines;

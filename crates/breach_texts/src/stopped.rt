@@ -1,7 +1,7 @@
 //! The lines that tell where a rule stopped a run.
 ghost use Rattle.std.specs.Prelude.{◌≡◌, ◌<◌, length, IfOk, string_bytes};
 ghost use Rattle.reach.specs.Reach.{members_in};
-ghost use Rattle.breach_texts.specs.Text.{stopped_lines};
+ghost use Rattle.breach_texts.specs.Text.{refused_lines};
 
 use crate::breach::{RuleLine, put_breach};
 use cap_bounds::CapRep;
@@ -20,8 +20,8 @@ use texts::append;
 /// # Errors
 ///
 /// Out of memory.
-#[tactic(auto, unfolding(crate::specs::Text::stopped_lines))]
-pub fn stopped_lines<C: CapRep>(
+#[tactic(auto, unfolding(crate::specs::Text::refused_lines))]
+pub fn refused_lines<C: CapRep>(
     alloc: Global,
     machine: &Machine<C>,
     symbols: &Symbols,
@@ -31,7 +31,7 @@ pub fn stopped_lines<C: CapRep>(
 ) -> Result<String, AllocError>
     requires { refused.member < length (members_in machine.now) }
     ensures { IfOk result (λ text. string_bytes text
-        ≡ stopped_lines symbols.now rule.entry.number rule.entry.text.now refused steps machine.now) }
+        ≡ refused_lines symbols.now rule.entry.number rule.entry.text.now refused steps machine.now) }
 {
     let reach = Reach::of(alloc, machine.hart())?;
     let mut text = String::new(alloc);

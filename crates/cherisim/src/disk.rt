@@ -1,6 +1,6 @@
 //! The host's files.
 
-use commands::Folder;
+use program::Folder;
 use std::fs::{self, File};
 use std::io;
 use std::os::unix::fs::MetadataExt;

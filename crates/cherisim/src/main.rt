@@ -3,8 +3,8 @@
 
 mod disk;
 
-use commands::{ProgramFault, refuse, status_of, tell_fault};
 use disk::Disk;
+use program::{ProgramFault, refuse, status_of, tell_fault};
 use std::process::ExitCode;
 use std::{env, io};
 

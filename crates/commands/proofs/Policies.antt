@@ -1,5 +1,5 @@
--- Texts of policies that are read, and the lines of their rules.
-use Rattle.std.proofs.Common.{◌≡◌, ℕ, zero, suc, ◌<◌, ◌≤◌, List, [], ◌∷◌, ◌++◌, length, take, get_or, refl, sym, ap, arith}
+-- Texts that are read up to a limit; and the lines of policies' rules.
+use Rattle.std.proofs.Common.{◌≡◌, ℕ, zero, suc, ◌+◌, ◌<◌, ◌≤◌, List, [], ◌∷◌, ◌++◌, length, take, get_or, refl, sym, ap, subst, arith}
 use Rattle.std.specs.Prelude.{Option, Some, None, IfSome}
 use Rattle.std.specs.List.{HoldsAt}
 use Rattle.cap_bounds.specs.CapValue.{CapValue}
@@ -25,10 +25,15 @@ take-nil zero = refl
 take-nil (suc n) = refl
 
 -- what is shorter than what was asked for is all of it
-pub all-taken : (most : ℕ) (bytes : List ℕ) → length (take (suc most) bytes) ≤ most → take (suc most) bytes ≡ bytes
+all-taken : (most : ℕ) (bytes : List ℕ) → length (take (suc most) bytes) ≤ most → take (suc most) bytes ≡ bytes
 all-taken most [] short = take-nil (suc most)
 all-taken zero (b ∷ bs) short = absurd (omega (arith, short))
 all-taken (suc most) (b ∷ bs) short = ap (λ t. b ∷ t) (all-taken most bs (omega (arith, short)))
+
+pub all-read : (most : ℕ) (bytes : List ℕ) → length (take (most + 1) bytes) ≤ most → take (most + 1) bytes ≡ bytes
+all-read most bytes =
+    let next : suc most ≡ most + 1 = omega arith in
+    subst (λ n. length (take n bytes) ≤ most → take n bytes ≡ bytes) next (all-taken most bytes)
 
 pub taken-short : (most : ℕ) (bytes : List ℕ) → length (take most bytes) ≤ length bytes
 taken-short zero bytes = omega arith

@@ -47,3 +47,8 @@ pub typed-take : (schedule : Schedule) (m : ℕ) (known : Option (List ℕ)) (ty
     → IfSome known (λ input. (s : State) → scheduled schedule typed s ≡ scheduled schedule input s)
 typed-take schedule m None typed gap unused part = tt
 typed-take schedule m (Some input) typed gap unused part = λ s. rw part (scheduled-take schedule m input gap unused s)
+
+pub typed-all : (schedule : Schedule) (known : Option (List ℕ)) (typed : List ℕ) → IfSome known (λ input. typed ≡ input)
+    → IfSome known (λ input. (s : State) → scheduled schedule typed s ≡ scheduled schedule input s)
+typed-all schedule None typed all = tt
+typed-all schedule (Some input) typed all = λ s. ap (λ bytes. scheduled schedule bytes s) all

@@ -1,5 +1,5 @@
 -- What `asm` writes of a text, and how it tells its fault.
-use Rattle.std.specs.Prelude.{◌≡◌, ◌⊎◌, ℕ, ◌+◌, ◌/◌, ◌==◌, Bool, if◌then◌else◌, List, [], ◌∷◌, ◌++◌, map, length}
+use Rattle.std.specs.Prelude.{◌≡◌, ◌⊎◌, ℕ, ◌+◌, ◌/◌, ◌<◌, ◌==◌, Bool, if◌then◌else◌, List, [], ◌∷◌, ◌++◌, map, length}
 use Rattle.std.specs.Prelude.{decimal, Option, Some, None}
 use Rattle.std.specs.Borrow.{Bor}
 use Rattle.image.specs.Grammar.{spelling}
@@ -11,7 +11,7 @@ use Rattle.assembler.specs.Text.{text_fault, text_image}
 use Rattle.fault_details.specs.Detail.{detail_of, line_at}
 use Rattle.symbols.specs.Symbols.{Symbol, symbol, table_text}
 use Rattle.commands.specs.declared.fault.ProgramFault.{ProgramFault}
-use Rattle.commands.specs.declared.fault.ProgramFault.TheVariants.{Asm}
+use Rattle.commands.specs.declared.fault.ProgramFault.TheVariants.{Asm, LongText}
 use Rattle.commands.specs.Files.{Text, File, Gains, whole, IsOfSystem}
 
 -- labels and their values, as a table has them
@@ -50,8 +50,9 @@ abbrev pub IsAsmFault : Text → List ℕ → AsmFault → ProgramFault → Type
 IsAsmFault input text found (Asm name fault read) = (name.now ≡ input) × (fault ≡ found) × IsRead input text fault read.items
 IsAsmFault input text found other = ⊥
 
--- A fault of the text is its first, unless there was no memory, and no file is written; any other is the system's.
-abbrev pub IsTextFault : Text → List ℕ → Option (List File) → Option (List File) → ProgramFault → Type 0
-IsTextFault input text old new (Asm name fault read) =
+-- A fault of the text is its first, unless there was no memory, or that it is too long, and no file is written; any other is the system's.
+abbrev pub IsAssemblyFault : Text → List ℕ → Option (List File) → Option (List File) → ProgramFault → Type 0
+IsAssemblyFault input text old new (Asm name fault read) =
     (name.now ≡ input) × IsFaultOf (text_fault text) fault × IsRead input text fault read.items × (new ≡ old)
-IsTextFault input text old new other = IsOfSystem other
+IsAssemblyFault input text old new (LongText name) = (name.now ≡ input) × (0x1000_0000 < length text) × (new ≡ old)
+IsAssemblyFault input text old new other = IsOfSystem other

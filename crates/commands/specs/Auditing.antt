@@ -33,11 +33,11 @@ Audits rules run audited =
     × (audited.count ≡ length (audit_findings (terms_in rules) (events_to None run) (opening run.image)))
 
 -- Without a policy its entries are told.
-abbrev pub Lists : Run → Audited → Type 0
-Lists run audited = (string_bytes audited.text ≡ entries_text (events_to None run) (opening run.image)) × (audited.count ≡ 0)
+abbrev pub ListsEntries : Run → Audited → Type 0
+ListsEntries run audited = (string_bytes audited.text ≡ entries_text (events_to None run) (opening run.image)) × (audited.count ≡ 0)
 
 abbrev pub AuditsBy : Option Rules → Run → Audited → Type 0
-AuditsBy None run audited = Lists run audited
+AuditsBy None run audited = ListsEntries run audited
 AuditsBy (Some rules) run audited = Audits rules run audited
 
 -- what is told, unless nothing is to be

@@ -1,5 +1,5 @@
 -- The files of a folder: what became of them, in order.
-use Rattle.std.specs.Prelude.{◌≡◌, ◌⊎◌, ℕ, List, [], ◌∷◌, ◌++◌, bytes_eq, if◌then◌else◌, Option, Some, None, Err, IfSome, ⊤}
+use Rattle.std.specs.Prelude.{◌≡◌, ◌⊎◌, ℕ, ◌<◌, List, length, [], ◌∷◌, ◌++◌, bytes_eq, if◌then◌else◌, Option, Some, None, Err, IfSome, ⊤}
 use Rattle.std.specs.Borrow.{Bor}
 use Rattle.std.specs.Io.KnownBytes.{Keeps}
 use Rattle.image.specs.Grammar.{reading}
@@ -82,11 +82,17 @@ IsImageFault image files (program.File name fault) =
     (name.now ≡ image) × IfSome (bytes_of image files) (λ bytes. IsOfBytes fault → reading bytes ≡ Err fault)
 IsImageFault image files other = IsOfSystem other
 
--- a fault of a file that is to be a table of symbols: its first invalid line, or the system's
+-- a fault of a file that is to hold a text: more than 256 MiB, or the system's
+abbrev pub IsTextFault : Text → Option (List File) → ProgramFault → Type 0
+IsTextFault text files (program.LongText name) =
+    (name.now ≡ text) × IfSome (bytes_of text files) (λ bytes. 0x1000_0000 < length bytes)
+IsTextFault text files other = IsOfSystem other
+
+-- a fault of a file that is to be a table of symbols: its first invalid line, or that of a text
 abbrev pub IsTableFault : Text → Option (List File) → ProgramFault → Type 0
 IsTableFault table files (program.Symbols name number) =
     (name.now ≡ table) × IfSome (bytes_of table files) (λ text. faulty_line text ≡ Some number)
-IsTableFault table files other = IsOfSystem other
+IsTableFault table files other = IsTextFault table files other
 
 -- a fault of an image, or of the table that is named beside it
 abbrev pub IsSourceFault : Text → Option (Bor Text) → Option (List File) → ProgramFault → Type 0

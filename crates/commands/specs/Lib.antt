@@ -6,10 +6,6 @@ pub mod Bounding
 pub mod Listing
 pub mod Loading
 pub mod Running
-pub mod Debugging
 pub mod Watching
 pub mod Auditing
 pub mod Overwriting
-pub mod Carrying
--- Inner words
-pub mod Beginnings

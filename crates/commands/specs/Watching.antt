@@ -1,7 +1,7 @@
 -- What a run does that is watched by a policy, and where it ends.
 use Rattle.std.specs.Prelude.{◌≡◌, ℕ, ◌-◌, ◌<◌, Bool, true, false, List, [], length, Option, Some, None, Err, IfSome, get_or}
 use Rattle.std.specs.Prelude.{string_bytes, IsUtf8, ⊤}
-use Rattle.breach_texts.specs.Text.{stopped_lines}
+use Rattle.breach_texts.specs.Text.{refused_lines}
 use Rattle.command_line.specs.declared.plans.RunRequest.{RunRequest}
 use Rattle.hart.specs.Opening.{opening}
 use Rattle.machine.specs.Run.{end_of}
@@ -27,10 +27,10 @@ use Rattle.commands.specs.Loading.{IsLoaded, Run, events_to, run_of, state_after
 use Rattle.commands.specs.Running.{RunsFreely, Sends, Traces, place_of, trace_of}
 
 -- a fault of a file that is to hold a policy: a text that is too long, or the system's
-abbrev pub IsTextFault : Text → Option (List File) → ProgramFault → Type 0
-IsTextFault policy files (program.LongPolicy name) =
+abbrev pub IsPolicyTextFault : Text → Option (List File) → ProgramFault → Type 0
+IsPolicyTextFault policy files (program.LongPolicy name) =
     (name.now ≡ policy) × IfSome (bytes_of policy files) (λ text. 0x10_0000 < length text)
-IsTextFault policy files other = IsOfSystem other
+IsPolicyTextFault policy files other = IsOfSystem other
 
 -- a fault of a text that is to be a policy: its first faulty line and what is wrong with it, or no memory
 abbrev pub IsPolicyFault : Text → Text → List Symbol → ProgramFault → Type 0
@@ -47,7 +47,7 @@ abbrev pub TellsRefused : Rules → List Symbol → Refused → ℕ → State �
 TellsRefused rules table x number s told =
     (rule : List ℕ)
     × (IsUtf8 (line_text rules.text.items (line_number rules x.rule)) → rule ≡ line_text rules.text.items (line_number rules x.rule))
-    × (told ≡ stopped_lines table (line_number rules x.rule) rule x (number - 1) s)
+    × (told ≡ refused_lines table (line_number rules x.rule) rule x (number - 1) s)
 
 -- the state before the step of a number, and the terms in force there
 abbrev pub state_before : ℕ → Run → State
@@ -72,11 +72,11 @@ pub record IsStop (rules : Rules) (run : Run) (quiet : Bool) (number : ℕ) (lin
   pub told : TellsStop quiet rules run number lines
 
 -- It doesn't: each step of the run keeps to each rule about the code.
-abbrev pub IsKept : Rules → Run → Type 0
-IsKept rules run = StepsKeepToEach (terms_in rules) (events_to None run) (opening run.image)
+abbrev pub KeepsToEnd : Rules → Run → Type 0
+KeepsToEnd rules run = StepsKeepToEach (terms_in rules) (events_to None run) (opening run.image)
 
 abbrev pub IsStopOf : Rules → Run → Bool → Option Stop → Type 0
-IsStopOf rules run quiet None = IsKept rules run
+IsStopOf rules run quiet None = KeepsToEnd rules run
 IsStopOf rules run quiet (Some stop) = IsStop rules run quiet stop.number (string_bytes stop.lines)
 
 -- what is sent is written, the lines of the trace that are kept are written, if a file is named, and the run ends as its machine does
@@ -91,7 +91,7 @@ pub data IsWatchedRun (rules : Rules) (request : RunRequest) (run : Run) (ended 
       (number : ℕ) → IsStop rules run request.quiet number (string_bytes ended.place)
       → Ends request run (events_to (Some number) run) ended change → IsWatchedRun rules request run ended change
   whole :
-      IsKept rules run → string_bytes ended.place ≡ place_of run request.quiet false (events_to None run)
+      KeepsToEnd rules run → string_bytes ended.place ≡ place_of run request.quiet false (events_to None run)
       → Ends request run (events_to None run) ended change → IsWatchedRun rules request run ended change
 
 -- A run is watched by the rules of a policy, if there is one; else it ends before the trap that it is to stop at.

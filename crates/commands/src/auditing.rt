@@ -4,7 +4,7 @@ ghost use Rattle.std.specs.Prelude.{◌≡◌, IfOk, OnOk, None, string_bytes};
 ghost use Rattle.std.specs.Io.KnownBytes.{Appends};
 ghost use Rattle.command_line.specs.CommandLine.{AreInRange};
 ghost use Rattle.schedules.specs.Schedule.{IsRunnable};
-ghost use Rattle.commands.specs.Auditing.{AreLinesOf, Audits, AuditsBy, AuditsLoaded, AuditsRun, Lists, told_unless};
+ghost use Rattle.commands.specs.Auditing.{AreLinesOf, Audits, AuditsBy, AuditsLoaded, AuditsRun, ListsEntries, told_unless};
 ghost use Rattle.commands.specs.Files.{changed};
 ghost use Rattle.commands.specs.Loading.{events_to, run_of};
 ghost use Rattle.commands.specs.Running.{Traces, trace_of};
@@ -70,10 +70,10 @@ fn audit_policy<'a>(
     Ok(Audited { text, count })
 }
 
-/// Lists what the code in each range that a run enters can do, as rules.
+/// ListsEntries what the code in each range that a run enters can do, as rules.
 fn list_entries<'a>(alloc: Global, run: &LoadedRun<'_>) -> Result<Audited, ProgramFault<'a>>
     requires { IsRunnable run.now.schedule }
-    ensures { IfOk result (Lists (run_of run.now)) }
+    ensures { IfOk result (ListsEntries (run_of run.now)) }
 {
     let mut machine: ProgramMachine = Machine::new(alloc, &run.image)?;
     let mut text = String::new(alloc);

@@ -5,7 +5,6 @@ ghost use Rattle.commands.specs.Files.{IsOfSystem};
 ghost use Rattle.commands.specs.declared.fault.ProgramFault.TheVariants as program;
 
 use assembler::{AsmCode, AsmFault};
-use debugger::TalkFault;
 use image::{DeviceFailed, ImageFault};
 use machine::MachineFault;
 use policy_text::PolicyCode;
@@ -30,6 +29,9 @@ pub enum ProgramFault<'a> {
     /// The words of the command line could not be read.
     #[error("read failed")]
     Words,
+    /// What is typed could not be read.
+    #[error("read failed")]
+    Input,
     /// A byte could not be written.
     #[error("write failed")]
     Write(#[from] DeviceFailed),
@@ -48,6 +50,9 @@ pub enum ProgramFault<'a> {
     /// The text of a policy has more than 1 MiB.
     #[error("P9 policy too long\n  {0}")]
     LongPolicy(&'a str),
+    /// A text, a table of symbols or what is typed has more than 256 MiB.
+    #[error("text too long\n  {0}: more than 256 MiB")]
+    LongText(&'a str),
     /// A file could not be written to its end.
     #[error("L10 device failed\n  {0}: the file is cut short")]
     CutShort(&'a str),
@@ -60,9 +65,6 @@ pub enum ProgramFault<'a> {
     /// No machine could be made.
     #[error("{}", machine_text(.0))]
     Machine(#[from] MachineFault),
-    /// A conversation with the debugger was cut short.
-    #[error("{}", talk_text(.0))]
-    Talk(#[from] TalkFault),
 }
 
 impl From<AllocError> for ProgramFault<'_> {
@@ -164,15 +166,6 @@ fn machine_text(fault: &MachineFault) -> &'static str {
     match fault {
         MachineFault::M2 => "M2 no memory",
         MachineFault::M5 => "M5 no memory",
-    }
-}
-
-/// The words of a fault of a conversation, which has no code.
-fn talk_text(fault: &TalkFault) -> &'static str {
-    match fault {
-        TalkFault::Read => "read failed",
-        TalkFault::Write => "write failed",
-        TalkFault::Memory => "no memory",
     }
 }
 

@@ -1,12 +1,9 @@
 //! What the program reads from files and writes to them.
 
-ghost use Rattle.std.specs.Prelude.{◌≡◌, ◌<◌, ℕ, List, [], ◌∷◌, ◌++◌, Option, None, IfOk, IfErr, OnOk, IfSome, IsFalse, length, take};
-ghost use Rattle.std.specs.Io.{StartsWith};
-ghost use Rattle.std.specs.Io.KnownBytes.{Consumes, IsAtEnd};
+ghost use Rattle.std.specs.Prelude.{◌≡◌, ◌<◌, List, [], ◌∷◌, Option, None, IfOk, IfErr, IfNone, OnOk, IfSome, length, take};
 ghost use Rattle.image.specs.Grammar.{spelling, reading};
 ghost use Rattle.symbols.specs.Symbols.{faulty_line, symbols_of};
-ghost use Rattle.commands.specs.Beginnings.{IsLineFault};
-ghost use Rattle.commands.specs.Files.{File, begun, ended, whole, Gains, IsNew, IsOfSystem, IsImageFault, IsTable, IsTableFault, bytes_of};
+ghost use Rattle.commands.specs.Files.{File, begun, ended, whole, Gains, IsNew, IsOfSystem, IsImageFault, IsTable, IsTableFault, IsTextFault, bytes_of};
 ghost use Rattle.commands.specs.Overwriting.{Sameness};
 
 use crate::fault::{ProgramFault, opening_fault, reading_fault};
@@ -14,15 +11,11 @@ use crate::writing::Writing;
 use image::{FromRead, Image, write_all};
 use std::alloc::Global;
 use std::io;
-use std::io::{ErrorKind, Read, Write};
-use symbols::{Beginning, Symbols, SymbolsFault, look_at_beginning, read_symbols};
+use std::io::{Read, Write};
+use symbols::{Symbols, SymbolsFault, read_symbols};
 
-/// How many bytes of a text are asked for at once.
-const BLOCK: usize = 0x1_0000;
-
-/// A line of a table that has come so far is looked at with each block; of a longer one as many bytes more have to come as it is longer,
-/// so that no line is looked at too often.
-const LONG_LINE: usize = 1024;
+/// How many bytes a text has at most: 256 MiB.
+pub const MOST_TEXT: u32 = 0x1000_0000;
 
 /// The files that a program reaches by their names.
 pub trait Folder {
@@ -57,22 +50,6 @@ pub trait Folder {
         ensures { Gains (files self.old) (files self.new) (ended name.now (Self.Made.contents file) ∷ []) };
 }
 
-/// What is left of a file, after what was read of it.
-pub fn read_onto<'a, R: Read + Drop>(
-    mut file: R,
-    text: &mut Vec<u8>,
-    name: &'a str,
-) -> Result<(), ProgramFault<'a>>
-    ensures ok { OnOk result ((whole : Option (List ℕ)) → Consumes whole (R.remaining file) text.old.items
-        → IfSome whole (λ bytes. text.new.items ≡ bytes)) }
-    ensures err { IfErr result IsOfSystem }
-{
-    match file.read_to_end(text) {
-        Ok(_) => Ok(()),
-        Err(error) => Err(reading_fault(name, &error)),
-    }
-}
-
 /// What is left of a file.
 fn read_rest<'a, R: Read + Drop>(
     alloc: Global,
@@ -87,59 +64,6 @@ fn read_rest<'a, R: Read + Drop>(
         Ok(_) => Ok(bytes),
         Err(error) => Err(reading_fault(name, &error)),
     }
-}
-
-/// Room for a block of a text.
-pub fn block_room<'a>(alloc: Global) -> Result<Vec<u8>, ProgramFault<'a>>
-    ensures ok { IfOk result (λ block. 0 < length block.items) }
-    ensures err { IfErr result IsOfSystem }
-{
-    match vec![in alloc; 0u8; BLOCK] {
-        Ok(block) => Ok(block),
-        Err(_) => Err(ProgramFault::Memory),
-    }
-}
-
-/// Appends the bytes that a block was read with: whether there were some.
-fn append_block<'a>(text: &mut Vec<u8>, bytes: &[u8]) -> Result<bool, ProgramFault<'a>>
-    ensures text { OnOk result (text.new.items ≡ text.old.items ++ bytes.now) }
-    ensures grown { StartsWith text.new.items text.old.items }
-    ensures end { IfOk result (λ more. IsFalse more → length bytes.now ≡ 0) }
-    ensures err { IfErr result IsOfSystem }
-{
-    match text.extend_from_slice(bytes) {
-        Ok(()) => Ok(!bytes.is_empty()),
-        Err(_) => Err(ProgramFault::Memory),
-    }
-}
-
-/// Reads the next bytes of a file, at most as many as a block has, and appends them to those that were read before: whether there were
-/// some, or the file is at its end.
-pub fn read_block<'a, R: Read>(
-    file: &mut R,
-    block: &mut [u8],
-    text: &mut Vec<u8>,
-    name: &'a str,
-) -> Result<bool, ProgramFault<'a>>
-    requires { 0 < length block.old }
-    ensures read { OnOk result ((whole : Option (List ℕ)) → Consumes whole (R.remaining file.old) text.old.items
-        → Consumes whole (R.remaining file.new) text.new.items) }
-    ensures grown { StartsWith text.new.items text.old.items }
-    ensures room { length block.new ≡ length block.old }
-    ensures end { IfOk result (λ more. IsFalse more → IsAtEnd (R.remaining file.new)) }
-    ensures err { IfErr result IsOfSystem }
-{
-    for _ in 0..u64::MAX {
-        match file.read(block) {
-            Ok(count) => return append_block(text, &block[..count]),
-            Err(error) => {
-                if error.kind() != ErrorKind::Interrupted {
-                    return Err(reading_fault(name, &error));
-                }
-            }
-        }
-    }
-    Err(ProgramFault::Read(name, ErrorKind::Interrupted))
 }
 
 /// A file that is opened for reading.
@@ -167,17 +91,39 @@ pub fn read_beginning<'a, F: Folder>(
     read_rest(alloc, file.take(most), name)
 }
 
-/// All bytes of a file.
-pub fn read_file<'a, F: Folder>(
+/// All bytes of a file that has at most so many; `None` where it has more.
+pub fn read_at_most<'a, F: Folder>(
+    alloc: Global,
+    folder: &F,
+    name: &'a str,
+    most: u32,
+) -> Result<Option<Vec<u8>>, ProgramFault<'a>>
+    ensures all { IfOk result (λ read. IfSome read (λ text. IfSome (bytes_of name.entry.now (F.files folder.now))
+        (λ bytes. text.items ≡ bytes))) }
+    ensures more { IfOk result (λ read. IfNone read (IfSome (bytes_of name.entry.now (F.files folder.now)) (λ bytes.
+        most < length bytes))) }
+    ensures err { IfErr result IsOfSystem }
+{
+    let read = read_beginning(alloc, folder, name, u64::from(most) + 1)?;
+    if read.len() > most as usize {
+        return Ok(None);
+    }
+    Ok(Some(read))
+}
+
+/// All bytes of a text. One of more than 256 MiB is refused before anything of it is looked at.
+pub fn read_text<'a, F: Folder>(
     alloc: Global,
     folder: &F,
     name: &'a str,
 ) -> Result<Vec<u8>, ProgramFault<'a>>
-    ensures ok { IfOk result (λ read. IfSome (bytes_of name.entry.now (F.files folder.now)) (λ bytes. read.items ≡ bytes)) }
-    ensures err { IfErr result IsOfSystem }
+    ensures ok { IfOk result (λ text. IfSome (bytes_of name.entry.now (F.files folder.now)) (λ bytes. text.items ≡ bytes)) }
+    ensures err { IfErr result (IsTextFault name.entry.now (F.files folder.now)) }
 {
-    let file = open_file(folder, name)?;
-    read_rest(alloc, file, name)
+    match read_at_most(alloc, folder, name, MOST_TEXT)? {
+        Some(text) => Ok(text),
+        None => Err(ProgramFault::LongText(name)),
+    }
 }
 
 /// A new file of this name, or the one that there is, emptied.
@@ -247,42 +193,7 @@ pub fn read_image<'a, F: Folder>(
     }
 }
 
-/// All bytes of a table of symbols; or its first faulty line, at the block in which that comes.
-fn read_lines<'a, R: Read + Drop>(
-    alloc: Global,
-    mut file: R,
-    name: &'a str,
-) -> Result<Vec<u8>, ProgramFault<'a>>
-    ensures ok { IfOk result (λ text. IfSome (R.remaining file) (λ bytes. text.items ≡ bytes)) }
-    ensures err { IfErr result (IsLineFault name.entry.now (R.remaining file)) }
-{
-    let mut block = block_room(alloc)?;
-    let mut text = Vec::new(alloc);
-    let mut number: u64 = 1;
-    let mut start = 0;
-    let mut due = 0;
-    for _ in 0..u64::MAX {
-        if !read_block(&mut file, &mut block, &mut text, name)? {
-            return Ok(text);
-        }
-        if text.len() < due {
-            continue;
-        }
-        match look_at_beginning(&text[start..], number) {
-            Beginning::Faulty(line) => return Err(ProgramFault::Symbols(name, line)),
-            Beginning::Sound(next, at) => {
-                number = next;
-                start += at;
-            }
-        }
-        due = text
-            .len()
-            .saturating_add((text.len() - start).saturating_sub(LONG_LINE));
-    }
-    Err(ProgramFault::Read(name, ErrorKind::Other))
-}
-
-/// The table of symbols of a file. A faulty line ends the reading.
+/// The table of symbols of a file.
 pub fn read_table<'a, F: Folder>(
     alloc: Global,
     folder: &F,
@@ -292,8 +203,7 @@ pub fn read_table<'a, F: Folder>(
     ensures symbols { IfOk result (λ table. IfSome (bytes_of name.entry.now (F.files folder.now)) (λ text. table ≡ symbols_of text)) }
     ensures err { IfErr result (IsTableFault name.entry.now (F.files folder.now)) }
 {
-    let file = open_file(folder, name)?;
-    let text = read_lines(alloc, file, name)?;
+    let text = read_text(alloc, folder, name)?;
     match read_symbols(alloc, &text) {
         Ok(table) => Ok(table),
         Err(SymbolsFault::Line(number)) => Err(ProgramFault::Symbols(name, number)),

@@ -1,11 +1,9 @@
-//! What the program does with the words of its command line, over any files and streams.
+//! What the commands of the program do, over any files and streams; all but `debug`.
 #![tactic(auto)]
 
 mod assembling;
 mod auditing;
 mod bounding;
-mod carrying;
-mod debugging;
 mod fault;
 mod files;
 mod imaging;
@@ -16,6 +14,15 @@ mod running;
 mod watching;
 mod writing;
 
-pub use carrying::{Answer, FAULT, refuse, status_of, tell_fault};
+pub use assembling::assemble_file;
+pub use auditing::audit_file;
+pub use bounding::{show_bounds, show_word};
 pub use fault::ProgramFault;
-pub use files::Folder;
+pub use files::{Folder, read_image, read_text, table_of};
+pub use imaging::image_file;
+pub use listing::list_file;
+pub use loading::{LoadedRun, load};
+pub use overwriting::overwrites;
+pub use running::{Ended, ProgramMachine, run_first, stop_at};
+pub use watching::run_loaded;
+pub use writing::Writing;

@@ -7,10 +7,12 @@ ghost use Rattle.policy_text.specs.Seen.{seen};
 ghost use Rattle.schedules.specs.Schedule.{IsRunnable};
 ghost use Rattle.commands.specs.Files.{IsOfSystem, bytes_of};
 ghost use Rattle.commands.specs.Loading.{AreNumbered, AreRules, IsLoaded, IsPolicyOf, IsReady, IsTyped, schedule_of};
-ghost use Rattle.commands.specs.Watching.{IsPolicyFault, IsTextFault};
+ghost use Rattle.commands.specs.Watching.{IsPolicyFault, IsPolicyTextFault};
 
 use crate::fault::ProgramFault;
-use crate::files::{Folder, read_beginning, read_image, table_of};
+use crate::files::{
+    Folder, MOST_TEXT, read_at_most, read_beginning, read_image, read_text, table_of,
+};
 use command_line::RunRequest;
 use image::Image;
 use policy_text::{Policy, PolicyTextFault, read_policy};
@@ -19,7 +21,7 @@ use std::alloc::Global;
 use symbols::Symbols;
 
 /// How many bytes the text of a policy has at most: 1 MiB.
-const MOST_TEXT: usize = 0x10_0000;
+const MOST_POLICY: u32 = 0x10_0000;
 
 /// A policy, and the text that says it.
 #[derive(Drop)]
@@ -53,19 +55,18 @@ fn schedule_of(request: RunRequest<'_>) -> Schedule
 }
 
 /// The text of a policy's file.
-fn read_text<'a, F: Folder>(
+fn policy_bytes<'a, F: Folder>(
     alloc: Global,
     folder: &F,
     name: &'a str,
 ) -> Result<Vec<u8>, ProgramFault<'a>>
     ensures ok { IfOk result (λ text. IfSome (bytes_of name.entry.now (F.files folder.now)) (λ bytes. text.items ≡ bytes)) }
-    ensures err { IfErr result (IsTextFault name.entry.now (F.files folder.now)) }
+    ensures err { IfErr result (IsPolicyTextFault name.entry.now (F.files folder.now)) }
 {
-    let text = read_beginning(alloc, folder, name, MOST_TEXT as u64 + 1)?;
-    if text.len() > MOST_TEXT {
-        return Err(ProgramFault::LongPolicy(name));
+    match read_at_most(alloc, folder, name, MOST_POLICY)? {
+        Some(text) => Ok(text),
+        None => Err(ProgramFault::LongPolicy(name)),
     }
-    Ok(text)
 }
 
 /// The policy that the text of a file says.
@@ -98,7 +99,7 @@ fn rules_of<'a, F: Folder>(
 {
     match policy {
         Some(name) => {
-            let text = read_text(alloc, folder, name)?;
+            let text = policy_bytes(alloc, folder, name)?;
             let policy = policy_of(alloc, name, &text, table)?;
             Ok(Some(Rules { text, policy }))
         }
@@ -106,7 +107,8 @@ fn rules_of<'a, F: Folder>(
     }
 }
 
-/// The bytes of the file `input` that a run by a schedule has room for, or none where no file is named.
+/// The bytes of the file `input` that a run by a schedule has room for, or none where no file is named. Where there is room for more than
+/// 256 MiB, a file that has more is refused.
 fn typed<'a, F: Folder>(
     alloc: Global,
     folder: &F,
@@ -117,8 +119,10 @@ fn typed<'a, F: Folder>(
     requires range { IsRunnable schedule }
     ensures { IfOk result (λ typed. IsTyped schedule input.entry (F.files folder.now) typed.items) }
 {
+    let most = schedule.most_bytes();
     match input {
-        Some(file) => read_beginning(alloc, folder, file, schedule.most_bytes()),
+        Some(file) if most <= u64::from(MOST_TEXT) => read_beginning(alloc, folder, file, most),
+        Some(file) => read_text(alloc, folder, file),
         None => Ok(Vec::new(alloc)),
     }
 }

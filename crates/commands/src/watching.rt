@@ -12,7 +12,7 @@ use crate::fault::ProgramFault;
 use crate::files::Folder;
 use crate::loading::{LoadedRun, Rules};
 use crate::running::{Ended, ProgramMachine, run_freely, run_image};
-use breach_texts::{RuleLine, stopped_lines};
+use breach_texts::{RuleLine, refused_lines};
 use machine::Machine;
 use policy_runs::{Breach, find_breach};
 use policy_text::line_text;
@@ -53,7 +53,7 @@ fn stop_lines<'a>(
     let number = rules.policy.lines[refused.rule];
     let rule = rule_line(&rules.text, number);
     let steps = breach.number - 1;
-    match stopped_lines(alloc, machine, &run.table, rule, refused, steps) {
+    match refused_lines(alloc, machine, &run.table, rule, refused, steps) {
         Ok(text) => Ok(text),
         Err(_) => Err(ProgramFault::Memory),
     }

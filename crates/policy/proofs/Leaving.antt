@@ -1,9 +1,11 @@
 -- What an event leaves as it is: memory and devices where they are not writable, whatever the event is, and the system registers where
 -- they are not open, unless it traps.
-use Rattle.std.proofs.Common.{◌≡◌, ℕ, ◌≤◌, Option, None, Some, false, refl, arith}
+use Rattle.std.proofs.Common.{◌≡◌, ℕ, ◌+◌, ◌%◌, ◌<◌, ◌≤◌, Option, None, Some, true, false, refl, inl, inr, ◌⊎◌, arith}
 use Rattle.std.specs.Prelude.{◌≢◌}
 use Rattle.base.specs.Ram.{ram_base}
 use Rattle.cap_bounds.specs.CapValue.{CapValue}
+use Rattle.cap_rights.specs.Permission.{permits}
+use Rattle.cap_rights.specs.declared.permission.Permission.TheVariants.{Global}
 use Rattle.devices.specs.Devices.{halt, timer_compare, transmit}
 use Rattle.steps.specs.declared.effect.Effect.{Effect}
 use Rattle.steps.specs.declared.effect.Effect.TheVariants as effect
@@ -21,6 +23,9 @@ use Rattle.authority.specs.Authority.{Not, IsWritable, HasSystem, LeavesMemory, 
 use Rattle.authority.specs.Derives.{Derives}
 use Rattle.authority.specs.GroundedLaws.{LeavesAlone-refl}
 use Rattle.authority.specs.LeftLaws.{effect-leaves}
+use Rattle.authority.specs.Lent.{before, given, lent, IsGivenBy}
+use Rattle.authority.specs.LentLaws.{event-kept}
+use Rattle.authority.specs.Reachable.{IsHeldAt, IsReachable}
 use Rattle.authority.specs.RowLaws.{system-used}
 use Rattle.authority.specs.StepLaws.{step_effect-derives, event-leaves, event-silent}
 use Rattle.reach.specs.Ranges.{IsInOne}
@@ -128,6 +133,28 @@ module _ (s : State) where
     no_system : rule.system ≡ false → Not (HasSystem s)
     no_system banned = λ has. holds has.source has.reachable (record { ban = ban.System; breaks = (banned, has.opens) })
 
+    not_kept : (e : Event) → IsState s → (granule a : ℕ) (v : CapValue) → granule % 16 ≡ 0 → ram_base ≤ granule → granule ≤ a
+        → a < granule + 16 → (IsInOne rule.keep a → ⊥) → IsHeldAt (after e s).memory granule v
+        → IsHeldAt s.memory granule v ⊎ ((permits v Global ≡ true) × IsGivenBy (IsReachable s) v)
+    not_kept e is granule a v aligned low from to outside here = elim (event-kept s is e granule v here) [
+      | before held ↦ inl held
+      | given global by c member opens ↦ inr (global, by)
+      | lent local c member opens ↦
+          absurd (holds c member (record {
+            ban = ban.Keep;
+            breaks = record {
+              granule = granule;
+              byte = a;
+              aligned = aligned;
+              in_ram = low;
+              from = from;
+              to = to;
+              outside = outside;
+              opens = opens;
+            };
+          }))
+    ]
+
     pub leaves-by : (e : Event) → IsState s → LeavesBy rule e s
     leaves-by e is =
         let places = places-after is e in
@@ -135,6 +162,7 @@ module _ (s : State) where
           bytes = λ a low outside. places.memory.bytes a low (not_stored a low outside);
           tags = λ granule low outside. places.memory.tags granule
               (λ a from below. not_stored a (omega arith) (outside a from below));
+          kept = not_kept e is;
           silent = λ banned. event-silent s is e (not_sent banned);
           halt = λ banned. places.devices.halt (not_halted banned);
           timer = λ banned. places.devices.kept 0 (not_set banned);

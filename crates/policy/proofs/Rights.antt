@@ -1,6 +1,6 @@
 -- What breaks a rule is broken by whatever has its rights; so a rule that holds goes on holding over plain events, unless new seals may
 -- break it.
-use Rattle.std.proofs.Common.{◌≡◌, ℕ, true, false, List, Option, None, Some, arith, subst, inl, inr, ◌⊎◌}
+use Rattle.std.proofs.Common.{◌≡◌, ℕ, true, false, List, Option, None, Some, refl, arith, subst, inl, inr, ◌⊎◌}
 use Rattle.std.proofs.lemmas.Bool.{true≢false}
 use Rattle.std.specs.Prelude.{MatchOption, IsNone}
 use Rattle.base.specs.ObjectType.{is_reserved}
@@ -9,7 +9,7 @@ use Rattle.cap_rights.specs.declared.permission.Permission.{Permission}
 use Rattle.cap_rights.specs.declared.permission.Permission.TheVariants as permission
 use Rattle.cap_rights.specs.Permission.{permits}
 use Rattle.cap_rights.specs.Rights.{IsInRightsOf}
-use Rattle.cap_rights.specs.RightsLaws.{permits-outer, unsealed-outer, OpensStore-outer, OpensSystem-outer}
+use Rattle.cap_rights.specs.RightsLaws.{permits-outer, unsealed-outer, OpensStore-outer, OpensKeeping-outer, OpensSystem-outer}
 use Rattle.cap_rights.specs.Within.{IsWithin}
 use Rattle.devices.specs.Devices.{halt, timer_compare, transmit}
 use Rattle.steps.specs.declared.event.Event.{Event}
@@ -24,7 +24,7 @@ use Rattle.reach.specs.declared.range.Range.{Range}
 use Rattle.policy.specs.Terms.{Terms}
 use Rattle.policy.specs.declared.rule.Ban.{Ban}
 use Rattle.policy.specs.declared.rule.Ban.TheVariants as ban
-use Rattle.policy.specs.Rule.{Lets, OpensOutside, OpensSealing, IsSealedBeyond, Breaks, BreaksRule}
+use Rattle.policy.specs.Rule.{Lets, OpensOutside, KeepsOutside, OpensSealing, IsSealedBeyond, Breaks, BreaksRule}
 use Rattle.policy.specs.Watch.{Holds}
 use Rattle.policy.specs.Known.{IsLasting}
 
@@ -50,6 +50,18 @@ module _ (v c : CapValue) (within : IsInRightsOf v c) where
         top = omega arith;
       }
 
+  keeping-outer : (ranges : List Range) → KeepsOutside ranges v → KeepsOutside ranges c
+  keeping-outer ranges keeps = record {
+    granule = keeps.granule;
+    byte = keeps.byte;
+    aligned = keeps.aligned;
+    in_ram = keeps.in_ram;
+    from = keeps.from;
+    to = keeps.to;
+    outside = keeps.outside;
+    opens = OpensKeeping-outer v c keeps.granule within keeps.opens;
+  }
+
   permitted-outer : IsWithin v c → (permits v permission.Seal ≡ true) ⊎ (permits v permission.Unseal ≡ true)
       → (permits c permission.Seal ≡ true) ⊎ (permits c permission.Unseal ≡ true)
   permitted-outer inside (inl seals) = inl (permits-outer v c permission.Seal inside seals)
@@ -70,6 +82,19 @@ module _ (v c : CapValue) (within : IsInRightsOf v c) where
         base = omega arith;
         top = omega arith;
       }
+
+  -- the capability breaks each part of a rule that the value breaks, but that of types
+  pub breaks-outer : (rule : Terms) (part : Ban) → Breaks rule part v → Breaks rule part c ⊎ (part ≡ ban.Types)
+  breaks-outer rule ban.Store broken = inl (outside-outer permission.Store rule.store broken)
+  breaks-outer rule ban.Load broken = inl (outside-outer permission.Load rule.load broken)
+  breaks-outer rule ban.Execute broken = inl (outside-outer permission.Execute rule.execute broken)
+  breaks-outer rule ban.Keep broken = inl (keeping-outer rule.keep broken)
+  breaks-outer rule ban.Transmit broken = inl (broken.0, OpensStore-outer v c transmit within broken.1)
+  breaks-outer rule ban.Halt broken = inl (broken.0, OpensStore-outer v c halt within broken.1)
+  breaks-outer rule ban.Timer broken = inl (broken.0, OpensStore-outer v c timer_compare within broken.1)
+  breaks-outer rule ban.System broken = inl (broken.0, OpensSystem-outer v c within broken.1)
+  breaks-outer rule ban.Seal broken = inl (broken.0, sealing-outer broken.1)
+  breaks-outer rule ban.Types broken = inr refl
 
 -- ---- seals
 
@@ -114,23 +139,11 @@ module _ (rule : Terms) (s : State) (holds : Holds rule s) where
     of_source part broken = holds earned.covered.source earned.covered.reachable (record { ban = part; breaks = broken })
 
     keeps-each : (part : Ban) → IsLasting rule → Breaks rule part v → ⊥
-    keeps-each ban.Store lasting broken =
-        of_source ban.Store (outside-outer v earned.covered.source earned.covered.within permission.Store rule.store broken)
-    keeps-each ban.Load lasting broken =
-        of_source ban.Load (outside-outer v earned.covered.source earned.covered.within permission.Load rule.load broken)
-    keeps-each ban.Execute lasting broken =
-        of_source ban.Execute (outside-outer v earned.covered.source earned.covered.within permission.Execute rule.execute broken)
-    keeps-each ban.Transmit lasting broken =
-        of_source ban.Transmit (broken.0, OpensStore-outer v earned.covered.source transmit earned.covered.within broken.1)
-    keeps-each ban.Halt lasting broken =
-        of_source ban.Halt (broken.0, OpensStore-outer v earned.covered.source halt earned.covered.within broken.1)
-    keeps-each ban.Timer lasting broken =
-        of_source ban.Timer (broken.0, OpensStore-outer v earned.covered.source timer_compare earned.covered.within broken.1)
-    keeps-each ban.System lasting broken =
-        of_source ban.System (broken.0, OpensSystem-outer v earned.covered.source earned.covered.within broken.1)
-    keeps-each ban.Seal lasting broken =
-        of_source ban.Seal (broken.0, sealing-outer v earned.covered.source earned.covered.within broken.1)
-    keeps-each ban.Types lasting broken = keeps-types v lasting earned broken
+    keeps-each part lasting broken =
+        elim (breaks-outer v earned.covered.source earned.covered.within rule part broken) [
+          | inl outer ↦ of_source part outer
+          | inr is ↦ keeps-types v lasting earned (subst (λ other. Breaks rule other v) is broken)
+        ]
 
   -- what is grounded where a lasting rule holds keeps the rule
   pub keeps-grounded : IsLasting rule → (v : CapValue) → IsGrounded s v → BreaksRule rule v → ⊥

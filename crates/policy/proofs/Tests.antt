@@ -1,7 +1,8 @@
 -- The tests mean what policies say.
-use Rattle.std.proofs.Common.{◌≡◌, ℕ, ◌<◌, ◌≤◌, List, [], ◌∷◌, Option, None, Some, sym, ◌∙◌, inl, inr, arith, zero, suc}
+use Rattle.std.proofs.Common.{◌≡◌, ℕ, ◌+◌, ◌*◌, ◌/◌, ◌%◌, ◌<◌, ◌≤◌, List, [], ◌∷◌, Option, None, Some, sym, ◌∙◌, inl, inr, arith, zero, suc}
 use Rattle.std.proofs.lemmas.Bool.{and_from, and_parts, or_cases, or_left, or_right, not-true, not_from_false, cases_lt, cases_Bool}
 use Rattle.std.proofs.lemmas.Bool.{iff_false}
+use Rattle.std.proofs.lemmas.Bool.Decides.{nat_tests}
 use Rattle.std.proofs.lemmas.Bool.{ltb-true, leb-true, leb-false, lt-ltb, le-leb, lt-leb, eqb-true, eq-eqb, true≢false, false≢true}
 use Rattle.std.specs.List.{list_any}
 use Rattle.std.specs.Prelude.{◌↔◌, ◌&&◌, ◌||◌, ◌==◌, not, nat_le, nat_lt, min, max, Bool, true, false, Contains, MatchOption}
@@ -17,15 +18,16 @@ use Rattle.cap_rights.specs.Opens.{allows, opens_store, opens_system}
 use Rattle.cap_rights.specs.OpensLaws.{allows-parts, allows-from, opens_store-means, opens_system-means}
 use Rattle.devices.specs.Devices.{halt, timer_compare, transmit}
 use Rattle.reach.specs.declared.range.Range.{Range}
+use Rattle.reach.specs.Opens.{StoresLocals}
 use Rattle.reach.specs.Ranges.{IsInOne}
 use Rattle.reach.proofs.Determined.{head-in, rest-in, in-cases, none-in}
 use Rattle.policy.specs.Terms.{Terms}
 use Rattle.policy.specs.declared.rule.Ban.{Ban}
-use Rattle.policy.specs.declared.rule.Ban.TheVariants.{Store, Load, Execute, Transmit, Halt, Timer, System, Seal, Types}
+use Rattle.policy.specs.declared.rule.Ban.TheVariants.{Store, Load, Execute, Keep, Transmit, Halt, Timer, System, Seal, Types}
 use Rattle.policy.specs.Cover.{HasGap}
-use Rattle.policy.specs.Rule.{Lets, OpensOutside, OpensSealing, IsSealedBeyond, Breaks}
+use Rattle.policy.specs.Rule.{Lets, OpensOutside, KeepsOutside, OpensSealing, IsSealedBeyond, Breaks}
 use Rattle.policy.specs.Watch.{IsAbout}
-use Rattle.policy.specs.Tests.{breaks, is_about, is_in_one, is_sealed_beyond, leaves_out, opens_outside, opens_sealing}
+use Rattle.policy.specs.Tests.{breaks, is_about, is_in_one, is_sealed_beyond, keeps_outside, leaves_out, opens_outside, opens_sealing}
 
 -- two tests of one fact
 pub same_test : (a b : Bool) {P : Type 0} → ((a ≡ true) ↔ P) → ((b ≡ true) ↔ P) → a ≡ b
@@ -99,6 +101,30 @@ out-gap (r ∷ rs) from to a low high outside = elim (cases_lt a r.from) [
   ]
 ]
 
+-- ---- granules
+
+-- the first granule that begins at an address or above it, and the end of the last that ends at one or below
+abbrev pub granules_from : ℕ → ℕ
+granules_from base = (base + 15) / 16 * 16
+
+abbrev pub granules_to : ℕ → ℕ
+granules_to top = top / 16 * 16
+
+granule-of : (a : ℕ) → (a / 16 * 16 % 16 ≡ 0) × ((a / 16 * 16 ≤ a) × (a < a / 16 * 16 + 16))
+granule-of a = (grind arith, (grind arith, grind arith))
+
+granule-begins : (base a : ℕ) → granules_from base ≤ a → base ≤ a / 16 * 16
+granule-begins base a low = grind arith
+
+granule-ends : (top a : ℕ) → a < granules_to top → a / 16 * 16 + 16 ≤ top
+granule-ends top a high = grind arith
+
+from-granule : (base granule : ℕ) → granule % 16 ≡ 0 → base ≤ granule → granules_from base ≤ granule
+from-granule base granule aligned low = grind arith
+
+to-granule : (top granule : ℕ) → granule % 16 ≡ 0 → granule + 16 ≤ top → granule + 16 ≤ granules_to top
+to-granule top granule aligned high = grind arith
+
 -- ---- capabilities
 
 module _ (c : CapValue) where
@@ -128,6 +154,83 @@ module _ (c : CapValue) where
         and_from (allows p c) (leaves_out ranges (max (value_base c) ram_base) (value_top c)) ((is-let p).1 opens.lets)
         (out-gap ranges (max (value_base c) ram_base) (value_top c) opens.byte (omega arith) opens.top opens.outside),
   )
+
+  abbrev pub first : ℕ
+  first = granules_from (max (value_base c) ram_base)
+
+  abbrev pub end : ℕ
+  end = granules_to (value_top c)
+
+  -- a byte that is left out lies in a granule of the bounds
+  pub gap-keeps : (ranges : List Range) → HasGap ranges first end → StoresLocals c → KeepsOutside ranges c
+  gap-keeps ranges gap stores =
+      let granule = granule-of gap.address in
+      let begins = granule-begins (max (value_base c) ram_base) gap.address gap.low in
+      record {
+        granule = gap.address / 16 * 16;
+        byte = gap.address;
+        aligned = granule.0;
+        in_ram = omega arith;
+        from = granule.1.0;
+        to = granule.1.1;
+        outside = gap.outside;
+        opens = record {
+          store = record {
+            unsealed = stores.unsealed;
+            stores = stores.stores;
+            capabilities = stores.capabilities;
+            base = omega arith;
+            top = granule-ends (value_top c) gap.address gap.high;
+          };
+          locals = stores.locals;
+        };
+      }
+
+  -- and where none is left out there is none
+  pub keeps-stores : (ranges : List Range) → KeepsOutside ranges c → StoresLocals c
+  keeps-stores ranges keeps = record {
+    unsealed = keeps.opens.store.unsealed;
+    stores = keeps.opens.store.stores;
+    capabilities = keeps.opens.store.capabilities;
+    locals = keeps.opens.locals;
+  }
+
+  pub none-keeps : (ranges : List Range) → ((a : ℕ) → first ≤ a → a < end → IsInOne ranges a) → KeepsOutside ranges c → ⊥
+  none-keeps ranges all keeps =
+      let base = keeps.opens.store.base in
+      let ram = keeps.in_ram in
+      let from = keeps.from in
+      let to = keeps.to in
+      let low = from-granule (max (value_base c) ram_base) keeps.granule keeps.aligned (omega arith) in
+      let high = to-granule (value_top c) keeps.granule keeps.aligned keeps.opens.store.top in
+      keeps.outside (all keeps.byte (omega arith) (omega arith))
+
+  keeps-by : (ranges : List Range) → keeps_outside ranges c ≡ true → KeepsOutside ranges c
+  keeps-by ranges is =
+      let stores = and_parts (allows permission.Store c) _ is in
+      let capabilities = and_parts (permits c permission.StoreCapability) _ stores.1 in
+      let locals = and_parts (permits c permission.StoreLocalCapability) (leaves_out ranges first end) capabilities.1 in
+      let let_it = (is-let permission.Store).0 stores.0 in
+      gap-keeps ranges (gap-out ranges first end locals.1) (record {
+        unsealed = let_it.unsealed;
+        stores = let_it.permitted;
+        capabilities = capabilities.0;
+        locals = locals.0;
+      })
+
+  by-keeps : (ranges : List Range) → KeepsOutside ranges c → keeps_outside ranges c ≡ true
+  by-keeps ranges keeps =
+      let base = keeps.opens.store.base in
+      let ram = keeps.in_ram in
+      let from = keeps.from in
+      let to = keeps.to in
+      let low = from-granule (max (value_base c) ram_base) keeps.granule keeps.aligned (omega arith) in
+      let high = to-granule (value_top c) keeps.granule keeps.aligned keeps.opens.store.top in
+      and_from (allows permission.Store c) _
+      ((is-let permission.Store).1 (record { unsealed = keeps.opens.store.unsealed; permitted = keeps.opens.store.stores }))
+      (and_from (permits c permission.StoreCapability) _ keeps.opens.store.capabilities
+      (and_from (permits c permission.StoreLocalCapability) (leaves_out ranges first end) keeps.opens.locals
+      (out-gap ranges first end keeps.byte (omega arith) (omega arith) keeps.outside)))
 
   permitted-by : (opens_sealing c ≡ true) → OpensSealing c
   permitted-by is =
@@ -229,6 +332,7 @@ module _ (c : CapValue) where
     is-break Store = is-outside permission.Store rule.store
     is-break Load = is-outside permission.Load rule.load
     is-break Execute = is-outside permission.Execute rule.execute
+    is-break Keep = (keeps-by rule.keep, by-keeps rule.keep)
     is-break Transmit = is-banned rule.transmit (opens_store transmit c) (opens_store-means c transmit)
     is-break Halt = is-banned rule.halt (opens_store halt c) (opens_store-means c halt)
     is-break Timer = is-banned rule.timer (opens_store timer_compare c) (opens_store-means c timer_compare)

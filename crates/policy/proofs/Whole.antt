@@ -1,15 +1,20 @@
 -- What a rule guards over each event of a run, it guards over the run.
-use Rattle.std.proofs.Common.{◌≡◌, ℕ, ◌+◌, ◌-◌, ◌<◌, ◌≤◌, zero, suc, false, List, [], ◌∷◌, ◌++◌, length, get_or, take, refl, sym, ap, ◌∙◌}
-use Rattle.std.proofs.Common.{subst, arith}
+use Rattle.std.proofs.Common.{◌≡◌, ℕ, ◌+◌, ◌-◌, ◌%◌, ◌<◌, ◌≤◌, zero, suc, false, List, [], ◌∷◌, ◌++◌, length, get_or, take, refl, sym, ap, ◌∙◌}
+use Rattle.std.proofs.Common.{subst, inl, inr, arith}
+use Rattle.std.proofs.lemmas.Bool.{true≢false}
 use Rattle.std.proofs.lemmas.List.{take_more}
 use Rattle.std.specs.Prelude.{Contains, option_to_list}
 use Rattle.base.specs.Ram.{ram_base}
+use Rattle.cap_bounds.specs.CapValue.{CapValue}
+use Rattle.cap_rights.specs.Permission.{permits}
+use Rattle.cap_rights.specs.declared.permission.Permission.TheVariants.{Global}
 use Rattle.tagged_memory.specs.Memory.{has_tag}
 use Rattle.devices.specs.Devices.{mtimecmp}
 use Rattle.steps.specs.declared.event.Event.{Event}
 use Rattle.steps.specs.declared.event.Event.TheVariants.{Step}
 use Rattle.steps.specs.Event.{after, sent}
 use Rattle.steps.specs.State.{State, pc_of}
+use Rattle.authority.specs.Reachable.{IsHeldAt}
 use Rattle.machine.specs.Run.{run_after, run_sent}
 use Rattle.reach.specs.Ranges.{IsInOne}
 use Rattle.policy.specs.Terms.{Terms}
@@ -112,6 +117,16 @@ module _ (rules : List Terms) (rule : Terms) (events : List Event) (there : Cont
         ap (λ x. has_tag x.memory granule) (state-more n (inside n g) s)
         ∙ (last n g).leaves.tags granule low outside ∙ tags n (fewer n g) granule low outside
 
+    kept : (done : ℕ) → Guards done → (granule a : ℕ) (v : CapValue) → granule % 16 ≡ 0 → ram_base ≤ granule → granule ≤ a
+        → a < granule + 16 → (IsInOne rule.keep a → ⊥) → permits v Global ≡ false → IsHeldAt (state s done).memory granule v
+        → IsHeldAt s.memory granule v
+    kept zero g granule a v aligned low from to outside local here = here
+    kept (suc n) g granule a v aligned low from to outside local here = elim ((last n g).leaves.kept granule a v aligned low from to outside
+        (subst (λ x. IsHeldAt x.memory granule v) (state-more n (inside n g) s) here)) [
+          | inl held ↦ kept n (fewer n g) granule a v aligned low from to outside local held
+          | inr global ↦ absurd (true≢false (sym global.0 ∙ local))
+        ]
+
     system : (done : ℕ) → Guards done → rule.system ≡ false → NoneTraps events done s → SameSystem s (state s done)
     system zero g banned none = (
       record { mtcc = refl; mtdc = refl; mscratchc = refl; mepcc = refl },
@@ -166,6 +181,10 @@ module _ (rules : List Terms) (rule : Terms) (events : List Event) (there : Cont
           → ((a : ℕ) → granule ≤ a → a < granule + 16 → IsInOne rule.store a → ⊥)
           → has_tag (state s done).memory granule ≡ has_tag s.memory granule
       tags-stay = tags done guards
+
+      pub nothing-kept : (granule a : ℕ) (v : CapValue) → granule % 16 ≡ 0 → ram_base ≤ granule → granule ≤ a → a < granule + 16
+          → (IsInOne rule.keep a → ⊥) → permits v Global ≡ false → IsHeldAt (state s done).memory granule v → IsHeldAt s.memory granule v
+      nothing-kept = kept done guards
 
       pub system-stays : rule.system ≡ false → NoneTraps events done s → SameSystem s (state s done)
       system-stays = system done guards

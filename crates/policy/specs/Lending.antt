@@ -26,6 +26,7 @@ lent said vs =
       store = said.store ++ ranges_of right.Store vs;
       load = said.load ++ ranges_of right.Load vs;
       execute = said.execute ++ ranges_of right.Execute vs;
+      keep = said.keep ++ ranges_of right.Keep vs;
       transmit = said.transmit || list_any (opens_store transmit) vs;
       halt = said.halt || list_any (opens_store halt) vs;
       timer = said.timer || list_any (opens_store timer_compare) vs;

@@ -1,17 +1,17 @@
 -- When a capability breaks a rule.
-use Rattle.std.specs.Prelude.{◌≡◌, ℕ, ◌<◌, ◌≤◌, true, false, List, Contains, MatchOption, ◌⊎◌}
+use Rattle.std.specs.Prelude.{◌≡◌, ℕ, ◌+◌, ◌%◌, ◌<◌, ◌≤◌, true, false, List, Contains, MatchOption, ◌⊎◌}
 use Rattle.base.specs.ObjectType.{is_reserved}
 use Rattle.base.specs.Ram.{ram_base}
 use Rattle.cap_bounds.specs.CapValue.{CapValue, is_sealed, value_base, value_top, value_otype}
 use Rattle.cap_rights.specs.declared.permission.Permission.{Permission}
 use Rattle.cap_rights.specs.declared.permission.Permission.TheVariants as permission
 use Rattle.cap_rights.specs.Permission.{permits}
-use Rattle.cap_rights.specs.Rights.{OpensSystem, OpensStore}
+use Rattle.cap_rights.specs.Rights.{OpensKeeping, OpensSystem, OpensStore}
 use Rattle.devices.specs.Devices.{halt, timer_compare, transmit}
 use Rattle.reach.specs.declared.range.Range.{Range}
 use Rattle.reach.specs.Ranges.{IsInOne}
 use Rattle.policy.specs.declared.rule.Ban.{Ban}
-use Rattle.policy.specs.declared.rule.Ban.TheVariants.{Store, Load, Execute, Transmit, Halt, Timer, System, Seal, Types}
+use Rattle.policy.specs.declared.rule.Ban.TheVariants.{Store, Load, Execute, Keep, Transmit, Halt, Timer, System, Seal, Types}
 use Rattle.policy.specs.Terms.{Terms}
 
 -- unsealed, with the permission
@@ -27,6 +27,17 @@ pub record OpensOutside (permission : Permission) (ranges : List Range) (c : Cap
   pub lets : Lets permission c
   pub base : value_base c ≤ byte
   pub top : byte < value_top c
+
+-- it lets code keep what is lent without Global in a granule of RAM that doesn't lie wholly in the ranges
+pub record KeepsOutside (ranges : List Range) (c : CapValue) : Type 0 where
+  pub granule : ℕ
+  pub byte : ℕ
+  pub aligned : granule % 16 ≡ 0
+  pub in_ram : ram_base ≤ granule
+  pub from : granule ≤ byte
+  pub to : byte < granule + 16
+  pub outside : IsInOne ranges byte → ⊥
+  pub opens : OpensKeeping c granule
 
 -- unsealed, with Seal or Unseal, and an object type that is not reserved lies in its bounds: values may be sealed with it, or unsealed
 pub record OpensSealing (c : CapValue) : Type 0 where
@@ -48,6 +59,7 @@ abbrev pub Breaks : Terms → Ban → CapValue → Type 0
 Breaks rule Store c = OpensOutside permission.Store rule.store c
 Breaks rule Load c = OpensOutside permission.Load rule.load c
 Breaks rule Execute c = OpensOutside permission.Execute rule.execute c
+Breaks rule Keep c = KeepsOutside rule.keep c
 Breaks rule Transmit c = (rule.transmit ≡ false) × OpensStore c transmit
 Breaks rule Halt c = (rule.halt ≡ false) × OpensStore c halt
 Breaks rule Timer c = (rule.timer ≡ false) × OpensStore c timer_compare
@@ -60,12 +72,13 @@ abbrev pub place_of : Ban → ℕ
 place_of Store = 0
 place_of Load = 1
 place_of Execute = 2
-place_of Transmit = 3
-place_of Halt = 4
-place_of Timer = 5
-place_of System = 6
-place_of Seal = 7
-place_of Types = 8
+place_of Keep = 3
+place_of Transmit = 4
+place_of Halt = 5
+place_of Timer = 6
+place_of System = 7
+place_of Seal = 8
+place_of Types = 9
 
 -- it is the first part that the capability breaks
 pub record IsFirstBan (rule : Terms) (c : CapValue) (ban : Ban) : Type 0 where

@@ -1,5 +1,5 @@
 -- Tests for what breaks a rule, and for the code that it is about. (That they are what policies mean by it is a law of its own.)
-use Rattle.std.specs.Prelude.{ℕ, Bool, false, not, ◌&&◌, ◌||◌, ◌==◌, nat_le, nat_lt, min, max, List, [], ◌∷◌, option_map, unwrap_or}
+use Rattle.std.specs.Prelude.{ℕ, ◌+◌, ◌*◌, ◌/◌, Bool, false, not, ◌&&◌, ◌||◌, ◌==◌, nat_le, nat_lt, min, max, List, [], ◌∷◌, option_map, unwrap_or}
 use Rattle.std.specs.List.{list_any}
 use Rattle.base.specs.declared.otype.TheConstants.{FIRST_RESERVED}
 use Rattle.base.specs.ObjectType.{is_reserved}
@@ -7,11 +7,12 @@ use Rattle.base.specs.Ram.{ram_base}
 use Rattle.cap_bounds.specs.CapValue.{CapValue, is_sealed, value_base, value_top, value_otype}
 use Rattle.cap_rights.specs.declared.permission.Permission.{Permission}
 use Rattle.cap_rights.specs.declared.permission.Permission.TheVariants as permission
+use Rattle.cap_rights.specs.Permission.{permits}
 use Rattle.cap_rights.specs.Opens.{allows, opens_store, opens_system}
 use Rattle.devices.specs.Devices.{halt, timer_compare, transmit}
 use Rattle.reach.specs.declared.range.Range.{Range}
 use Rattle.policy.specs.declared.rule.Ban.{Ban}
-use Rattle.policy.specs.declared.rule.Ban.TheVariants.{Store, Load, Execute, Transmit, Halt, Timer, System, Seal, Types}
+use Rattle.policy.specs.declared.rule.Ban.TheVariants.{Store, Load, Execute, Keep, Transmit, Halt, Timer, System, Seal, Types}
 use Rattle.policy.specs.Terms.{Terms}
 
 -- whether an address lies in one of the ranges
@@ -27,6 +28,14 @@ leaves_out (range ∷ ranges) from to = leaves_out ranges from (min to range.fro
 abbrev pub opens_outside : Permission → List Range → CapValue → Bool
 opens_outside permission ranges c = allows permission c && leaves_out ranges (max (value_base c) ram_base) (value_top c)
 
+-- it lets code keep what is lent in a granule of RAM that doesn't lie wholly in the ranges: of the granules in its bounds a byte is left out
+abbrev pub keeps_outside : List Range → CapValue → Bool
+keeps_outside ranges c =
+    allows permission.Store c
+    && (permits c permission.StoreCapability
+    && (permits c permission.StoreLocalCapability
+    && leaves_out ranges ((max (value_base c) ram_base + 15) / 16 * 16) (value_top c / 16 * 16)))
+
 -- values may be sealed or unsealed through it, with an object type that is not reserved
 abbrev pub opens_sealing : CapValue → Bool
 opens_sealing c =
@@ -41,6 +50,7 @@ unfoldable pub breaks : Terms → Ban → CapValue → Bool
 breaks rule Store c = opens_outside permission.Store rule.store c
 breaks rule Load c = opens_outside permission.Load rule.load c
 breaks rule Execute c = opens_outside permission.Execute rule.execute c
+breaks rule Keep c = keeps_outside rule.keep c
 breaks rule Transmit c = not rule.transmit && opens_store transmit c
 breaks rule Halt c = not rule.halt && opens_store halt c
 breaks rule Timer c = not rule.timer && opens_store timer_compare c

@@ -1,9 +1,11 @@
 -- What rules watch: what an event leaves as it is and what code learns at it while a rule is about the code, and where a run is refused.
-use Rattle.std.specs.Prelude.{◌≡◌, ℕ, ◌+◌, ◌-◌, ◌<◌, ◌≤◌, ◌≢◌, ◌++◌, false, List, length, take, map, None, Contains}
+use Rattle.std.specs.Prelude.{◌≡◌, ℕ, ◌+◌, ◌-◌, ◌%◌, ◌<◌, ◌≤◌, ◌≢◌, ◌++◌, true, false, List, length, take, map, None, Contains}
 use Rattle.std.specs.Prelude.{slice_index, ◌⊎◌}
 use Rattle.std.specs.List.{HoldsAt}
 use Rattle.base.specs.Ram.{ram_base}
 use Rattle.cap_bounds.specs.CapValue.{CapValue}
+use Rattle.cap_rights.specs.Permission.{permits}
+use Rattle.cap_rights.specs.declared.permission.Permission.TheVariants.{Global}
 use Rattle.tagged_memory.specs.Memory.{has_tag}
 use Rattle.devices.specs.Devices.{mtimecmp}
 use Rattle.steps.specs.declared.event.Event.{Event}
@@ -11,7 +13,8 @@ use Rattle.steps.specs.Event.{after, outcome, sent}
 use Rattle.steps.specs.Outcome.{Plain, Trap}
 use Rattle.steps.specs.State.{State, pc_of}
 use Rattle.authority.specs.Authority.{SameScrs, SameCsrs}
-use Rattle.authority.specs.Reachable.{IsReachable}
+use Rattle.authority.specs.Lent.{IsGivenBy}
+use Rattle.authority.specs.Reachable.{IsHeldAt, IsReachable}
 use Rattle.authority.specs.Worlds.{Agree}
 use Rattle.machine.specs.Run.{run_after, run_sent}
 use Rattle.reach.specs.First.{IsFirst, HoldsOfNone}
@@ -36,7 +39,8 @@ HoldEach rules s = (rule : Terms) → Contains rules rule → IsAbout rule (pc_o
 -- ---- an event
 
 -- What an event leaves as it is by a rule: the bytes of RAM outside the ranges for stores, and the tags of granules that lie outside
--- them; and, as the rule says no to each, nothing is sent, the machine is not halted, the timer's interrupt is not set, and the system
+-- them; what is lent without Global is kept in no granule that doesn't lie wholly in the ranges for it: such a granule holds later what it
+-- held, or no tag, or a Global value that was given with Global; and, as the rule says no to each, nothing is sent, the machine is not halted, the timer's interrupt is not set, and the system
 -- registers stay unless the event traps.
 pub record LeavesBy (rule : Terms) (e : Event) (s : State) : Type 0 where
   pub bytes :
@@ -45,6 +49,10 @@ pub record LeavesBy (rule : Terms) (e : Event) (s : State) : Type 0 where
   pub tags :
       (granule : ℕ) → ram_base ≤ granule → ((a : ℕ) → granule ≤ a → a < granule + 16 → IsInOne rule.store a → ⊥)
       → has_tag (after e s).memory granule ≡ has_tag s.memory granule
+  pub kept :
+      (granule a : ℕ) (v : CapValue) → granule % 16 ≡ 0 → ram_base ≤ granule → granule ≤ a → a < granule + 16
+      → (IsInOne rule.keep a → ⊥) → IsHeldAt (after e s).memory granule v
+      → IsHeldAt s.memory granule v ⊎ ((permits v Global ≡ true) × IsGivenBy (IsReachable s) v)
   pub silent : rule.transmit ≡ false → sent e s ≡ None
   pub halt : rule.halt ≡ false → (after e s).devices.halted ≡ s.devices.halted
   pub timer : rule.timer ≡ false → mtimecmp (after e s).devices ≡ mtimecmp s.devices

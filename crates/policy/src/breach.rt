@@ -4,14 +4,14 @@ ghost use Rattle.std.specs.List.{HoldsAt};
 ghost use Rattle.reached.specs.Links.{values};
 ghost use Rattle.reach.specs.First.{IsFirst, HoldsOfNone};
 ghost use Rattle.policy.specs.Terms.{terms};
-ghost use Rattle.policy.specs.Rule.{OpensOutside, OpensSealing, IsSealedBeyond, Breaks, IsFirstBan, BreaksRule};
+ghost use Rattle.policy.specs.Rule.{OpensOutside, KeepsOutside, OpensSealing, IsSealedBeyond, Breaks, IsFirstBan, BreaksRule};
 
 use crate::cover::covers;
 use crate::rule::{Ban, Rule};
 use base::{otype, ram};
 use cap_bounds::CapRep;
 use cap_rights::{Permission, allows, opens_store, opens_system};
-use reach::{HALT, Range, Reach, TIMER_COMPARE, TRANSMIT};
+use reach::{HALT, Range, Reach, TIMER_COMPARE, TRANSMIT, stores_locals};
 
 /// Whether it lets code use a byte of RAM that lies in none of the ranges.
 fn opens_outside<C: CapRep>(c: C, permission: Permission, ranges: &[Range]) -> bool
@@ -19,6 +19,15 @@ fn opens_outside<C: CapRep>(c: C, permission: Permission, ranges: &[Range]) -> b
 {
     let from = c.base().max(ram::BASE);
     allows(c, permission) && !covers(ranges, u128::from(from), c.top())
+}
+
+/// Whether what is lent may be kept through it in a granule of RAM with a byte that lies in none of the ranges.
+fn keeps_outside<C: CapRep>(c: C, ranges: &[Range]) -> bool
+    ensures { IsTrue result ↔ KeepsOutside ranges.now (C.value c) }
+{
+    let from = (u128::from(c.base().max(ram::BASE)) + 15) / 16 * 16;
+    let to = c.top() / 16 * 16;
+    stores_locals(c) && !covers(ranges, from, to)
 }
 
 /// Whether values may be sealed or unsealed through it.
@@ -56,6 +65,7 @@ pub fn breaks<C: CapRep>(c: C, rule: &Rule, ban: Ban) -> bool
         Ban::Store => opens_outside(c, Permission::Store, &rule.store),
         Ban::Load => opens_outside(c, Permission::Load, &rule.load),
         Ban::Execute => opens_outside(c, Permission::Execute, &rule.execute),
+        Ban::Keep => keeps_outside(c, &rule.keep),
         Ban::Transmit => !rule.transmit && opens_store(c, TRANSMIT),
         Ban::Halt => !rule.halt && opens_store(c, HALT),
         Ban::Timer => !rule.timer && opens_store(c, TIMER_COMPARE),
@@ -66,10 +76,11 @@ pub fn breaks<C: CapRep>(c: C, rule: &Rule, ban: Ban) -> bool
 }
 
 /// The parts of a rule, in their order.
-const BANS: [Ban; 9] = [
+const BANS: [Ban; 10] = [
     Ban::Store,
     Ban::Load,
     Ban::Execute,
+    Ban::Keep,
     Ban::Transmit,
     Ban::Halt,
     Ban::Timer,

@@ -1,12 +1,15 @@
 //! What a policy means for whole runs: the contract is a law over the definitions alone, and the body is empty.
-ghost use Rattle.std.specs.Prelude.{◌≡◌, ◌↔◌, true, ℕ, ◌+◌, ◌-◌, ◌<◌, ◌≤◌, false, List, [], length, take, Contains, slice_index};
+ghost use Rattle.std.specs.Prelude.{◌≡◌, ◌↔◌, true, ℕ, ◌+◌, ◌-◌, ◌%◌, ◌<◌, ◌≤◌, false, List, [], length, take, Contains, slice_index};
 ghost use Rattle.base.specs.Ram.{ram_base};
 ghost use Rattle.cap_bounds.specs.CapValue.{CapValue};
+ghost use Rattle.cap_rights.specs.Permission.{permits};
+ghost use Rattle.cap_rights.specs.declared.permission.Permission.TheVariants.{Global};
 ghost use Rattle.tagged_memory.specs.Memory.{has_tag};
 ghost use Rattle.devices.specs.Devices.{mtimecmp};
 ghost use Rattle.steps.specs.declared.event.Event.{Event};
 ghost use Rattle.steps.specs.State.{State};
 ghost use Rattle.authority.specs.Authority.{SameScrs, SameCsrs};
+ghost use Rattle.authority.specs.Reachable.{IsHeldAt};
 ghost use Rattle.machine.specs.Run.{run_after, run_sent};
 ghost use Rattle.reach.specs.Ranges.{IsInOne};
 ghost use Rattle.policy.specs.Terms.{Terms};
@@ -17,7 +20,8 @@ ghost use Rattle.policy.specs.Watch.{DiffersOutside, IsAbout};
 ghost use Rattle.policy.specs.Run.{KeepToEach, IsAboutEach, NoneTraps};
 
 /// Over the events of a watched run that a rule is about, traps, unsealings and sealed jumps among them: the bytes and tags of RAM outside
-/// its ranges for stores stay; nothing is sent, the machine is not halted and the timer's interrupt is not set where it says no, and
+/// its ranges for stores stay; a granule that doesn't lie wholly in its ranges for keeping comes to hold nothing without Global that it
+/// didn't hold; nothing is sent, the machine is not halted and the timer's interrupt is not set where it says no, and
 /// without a trap the system registers stay; and from a state that differs only outside its ranges for loads and fetches the same bytes
 /// are sent, and the state at the end differs only there.
 pub fn runs_keep_to_a_rule()
@@ -29,6 +33,10 @@ pub fn runs_keep_to_a_rule()
         → KeepToEach rules events done s → Contains rules rule → IsAboutEach rule events done s → (granule : ℕ) → ram_base ≤ granule
         → ((a : ℕ) → granule ≤ a → a < granule + 16 → IsInOne rule.store a → ⊥)
         → has_tag (run_after (take done events) s).memory granule ≡ has_tag s.memory granule }
+    ensures kept { (rules : List Terms) (rule : Terms) (events : List Event) (done : ℕ) (s : State) → done ≤ length events
+        → KeepToEach rules events done s → Contains rules rule → IsAboutEach rule events done s → (granule a : ℕ) (v : CapValue)
+        → granule % 16 ≡ 0 → ram_base ≤ granule → granule ≤ a → a < granule + 16 → (IsInOne rule.keep a → ⊥)
+        → permits v Global ≡ false → IsHeldAt (run_after (take done events) s).memory granule v → IsHeldAt s.memory granule v }
     ensures silent { (rules : List Terms) (rule : Terms) (events : List Event) (done : ℕ) (s : State) → done ≤ length events
         → KeepToEach rules events done s → Contains rules rule → IsAboutEach rule events done s → rule.transmit ≡ false
         → run_sent (take done events) s ≡ [] }

@@ -2,8 +2,8 @@ use reach::Range;
 
 /// What the code in some ranges may do: what the capabilities that it can come to hold may open.
 ///
-/// The ranges are of addresses. Those of `store`, `load` and `execute` are about RAM, that is about every address from `0x8000_0000` on: a
-/// capability whose bounds go on past the memory of the machine opens what lies there too.
+/// The ranges are of addresses. Those of `store`, `load`, `execute` and `keep` are about RAM, that is about every address from `0x8000_0000`
+/// on: a capability whose bounds go on past the memory of the machine opens what lies there too.
 #[derive(Debug, Drop)]
 pub struct Rule {
     /// The code: the rule is about a state whose program counter lies in one of these ranges.
@@ -14,6 +14,8 @@ pub struct Rule {
     pub load: Vec<Range>,
     /// The bytes of RAM that may be fetched as code.
     pub execute: Vec<Range>,
+    /// The bytes of RAM in whose granules what is lent without Global may be kept: a granule counts if all its 16 bytes are among them.
+    pub keep: Vec<Range>,
     /// Whether bytes may be sent.
     pub transmit: bool,
     /// Whether the machine may be halted.
@@ -39,6 +41,8 @@ pub enum Ban {
     Load,
     /// A byte of RAM that lies in none of the ranges for fetches may be fetched as code.
     Execute,
+    /// What is lent without Global may be kept in a granule of RAM with a byte that lies in none of the ranges for it.
+    Keep,
     /// Bytes may be sent.
     Transmit,
     /// The machine may be halted.

@@ -9,7 +9,7 @@ use Rattle.steps.specs.declared.event.Event.{Event}
 use Rattle.steps.specs.State.{State}
 use Rattle.reach.specs.declared.range.Range.{Range}
 use Rattle.reach.specs.declared.right.Right.{Right}
-use Rattle.reach.specs.declared.right.Right.TheVariants.{Store, Load, Execute, Seal, Unseal}
+use Rattle.reach.specs.declared.right.Right.TheVariants.{Store, Load, Execute, Keep, Seal, Unseal}
 use Rattle.reach.specs.Ranges.{bounds_of, ranges_of}
 use Rattle.policy.specs.Watch.{values_in}
 use Rattle.cap_rights.specs.Opens.{opens_store, opens_system}
@@ -72,6 +72,7 @@ code_part code = codes "when pc in " ++ range_text code ++ codes ": "
 unfoldable pub ranges_part : List CapValue → List ℕ
 ranges_part vs =
     bytes_part (codes "store") Store vs ++ bytes_part (codes ", load") Load vs ++ bytes_part (codes ", execute") Execute vs
+    ++ bytes_part (codes ", keep") Keep vs
 
 unfoldable pub entry_line : Range → List CapValue → List ℕ
 entry_line code vs = code_part code ++ ranges_part vs ++ rights_part vs ++ types_part vs ++ codes "\n"

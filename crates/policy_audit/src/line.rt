@@ -52,7 +52,8 @@ fn append_ranges<C: CapRep>(
 {
     append_bytes(text, alloc, "store", reach, Right::Store)?;
     append_bytes(text, alloc, ", load", reach, Right::Load)?;
-    append_bytes(text, alloc, ", execute", reach, Right::Execute)
+    append_bytes(text, alloc, ", execute", reach, Right::Execute)?;
+    append_bytes(text, alloc, ", keep", reach, Right::Keep)
 }
 
 fn yes_or_no(yes: bool) -> &'static str

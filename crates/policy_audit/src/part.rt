@@ -12,10 +12,11 @@ use policy::{Ban, Rule};
 use reached::Member;
 
 /// The parts of a rule, in their order.
-pub(crate) const PARTS: [Ban; 9] = [
+pub(crate) const PARTS: [Ban; 10] = [
     Ban::Store,
     Ban::Load,
     Ban::Execute,
+    Ban::Keep,
     Ban::Transmit,
     Ban::Halt,
     Ban::Timer,
@@ -32,12 +33,13 @@ fn place_of(ban: Ban) -> u8
         Ban::Store => 0,
         Ban::Load => 1,
         Ban::Execute => 2,
-        Ban::Transmit => 3,
-        Ban::Halt => 4,
-        Ban::Timer => 5,
-        Ban::System => 6,
-        Ban::Seal => 7,
-        Ban::Types => 8,
+        Ban::Keep => 3,
+        Ban::Transmit => 4,
+        Ban::Halt => 5,
+        Ban::Timer => 6,
+        Ban::System => 7,
+        Ban::Seal => 8,
+        Ban::Types => 9,
     }
 }
 

@@ -16,7 +16,7 @@ use Rattle.reach.specs.declared.range.Range.{Range}
 use Rattle.policy_text.specs.declared.fault.PolicyCode.{PolicyCode}
 use Rattle.policy_text.specs.declared.fault.PolicyCode.TheVariants.{P1, P2, P4, P5, P6, P8}
 use Rattle.policy_text.specs.declared.part.Part.{Part}
-use Rattle.policy_text.specs.declared.part.Part.TheVariants.{Store, Load, Execute, Transmit, Halt, Timer, System, Seal, Types, OrCaller}
+use Rattle.policy_text.specs.declared.part.Part.TheVariants.{Store, Load, Execute, Keep, Transmit, Halt, Timer, System, Seal, Types, OrCaller}
 use Rattle.policy.specs.Terms.{Terms}
 use Rattle.policy_text.specs.Policy.{Definition, Parts, Line, Read, nothing, definition, rule}
 use Rattle.policy_text.specs.Policy.{◌>>=◌, uncommented, cut_at, cut_at_dots}
@@ -165,6 +165,7 @@ record ArePartsSound (parts : Parts) : Type 0 where
   store : IfSome parts.store AreFilled
   load : IfSome parts.load AreFilled
   execute : IfSome parts.execute AreFilled
+  keep : IfSome parts.keep AreFilled
   types : IfSome parts.types AreTypes
 
 or_everywhere : (o : Option (List Range)) → IfSome o AreFilled → AreFilled (unwrap_or o everywhere)
@@ -179,6 +180,7 @@ said_is code parts g s =
       store = or_everywhere parts.store s.store;
       load = or_everywhere parts.load s.load;
       execute = or_everywhere parts.execute s.execute;
+      keep = or_everywhere parts.keep s.keep;
       types = s.types;
     }
 
@@ -191,43 +193,47 @@ module _ (symbols : List Symbol) (ds : List Definition) (g : AreGood ds) where
   with_is p s words Store q h =
       let k = bind_ok (within_of symbols ds words) (λ said. Ok (record p { store = Some said })) q h in
       subst ArePartsSound (ok_inside (record p { store = Some k.0 }) q k.2)
-      (record { store = within_is symbols ds g words k.0 k.1; load = s.load; execute = s.execute; types = s.types })
+      (record { store = within_is symbols ds g words k.0 k.1; load = s.load; execute = s.execute; keep = s.keep; types = s.types })
   with_is p s words Load q h =
       let k = bind_ok (within_of symbols ds words) (λ said. Ok (record p { load = Some said })) q h in
       subst ArePartsSound (ok_inside (record p { load = Some k.0 }) q k.2)
-      (record { store = s.store; load = within_is symbols ds g words k.0 k.1; execute = s.execute; types = s.types })
+      (record { store = s.store; load = within_is symbols ds g words k.0 k.1; execute = s.execute; keep = s.keep; types = s.types })
   with_is p s words Execute q h =
       let k = bind_ok (within_of symbols ds words) (λ said. Ok (record p { execute = Some said })) q h in
       subst ArePartsSound (ok_inside (record p { execute = Some k.0 }) q k.2)
-      (record { store = s.store; load = s.load; execute = within_is symbols ds g words k.0 k.1; types = s.types })
+      (record { store = s.store; load = s.load; execute = within_is symbols ds g words k.0 k.1; keep = s.keep; types = s.types })
+  with_is p s words Keep q h =
+      let k = bind_ok (within_of symbols ds words) (λ said. Ok (record p { keep = Some said })) q h in
+      subst ArePartsSound (ok_inside (record p { keep = Some k.0 }) q k.2)
+      (record { store = s.store; load = s.load; execute = s.execute; keep = within_is symbols ds g words k.0 k.1; types = s.types })
   with_is p s words Transmit q h =
       let k = bind_ok (answer_of words) (λ said. Ok (record p { transmit = Some said })) q h in
       subst ArePartsSound (ok_inside (record p { transmit = Some k.0 }) q k.2)
-      (record { store = s.store; load = s.load; execute = s.execute; types = s.types })
+      (record { store = s.store; load = s.load; execute = s.execute; keep = s.keep; types = s.types })
   with_is p s words Halt q h =
       let k = bind_ok (answer_of words) (λ said. Ok (record p { halt = Some said })) q h in
       subst ArePartsSound (ok_inside (record p { halt = Some k.0 }) q k.2)
-      (record { store = s.store; load = s.load; execute = s.execute; types = s.types })
+      (record { store = s.store; load = s.load; execute = s.execute; keep = s.keep; types = s.types })
   with_is p s words Timer q h =
       let k = bind_ok (answer_of words) (λ said. Ok (record p { timer = Some said })) q h in
       subst ArePartsSound (ok_inside (record p { timer = Some k.0 }) q k.2)
-      (record { store = s.store; load = s.load; execute = s.execute; types = s.types })
+      (record { store = s.store; load = s.load; execute = s.execute; keep = s.keep; types = s.types })
   with_is p s words System q h =
       let k = bind_ok (answer_of words) (λ said. Ok (record p { system = Some said })) q h in
       subst ArePartsSound (ok_inside (record p { system = Some k.0 }) q k.2)
-      (record { store = s.store; load = s.load; execute = s.execute; types = s.types })
+      (record { store = s.store; load = s.load; execute = s.execute; keep = s.keep; types = s.types })
   with_is p s words Seal q h =
       let k = bind_ok (answer_of words) (λ said. Ok (record p { seal = Some said })) q h in
       subst ArePartsSound (ok_inside (record p { seal = Some k.0 }) q k.2)
-      (record { store = s.store; load = s.load; execute = s.execute; types = s.types })
+      (record { store = s.store; load = s.load; execute = s.execute; keep = s.keep; types = s.types })
   with_is p s words Types q h =
       let k = bind_ok (types_of words) (λ said. Ok (record p { types = Some said })) q h in
       subst ArePartsSound (ok_inside (record p { types = Some k.0 }) q k.2)
-      (record { store = s.store; load = s.load; execute = s.execute; types = types_is words k.0 k.1 })
+      (record { store = s.store; load = s.load; execute = s.execute; keep = s.keep; types = types_is words k.0 k.1 })
   with_is p s words OrCaller q h =
       let k = bind_ok (caller_of words) (λ said. Ok (record p { or_caller = said })) q h in
       subst ArePartsSound (ok_inside (record p { or_caller = k.0 }) q k.2)
-      (record { store = s.store; load = s.load; execute = s.execute; types = s.types })
+      (record { store = s.store; load = s.load; execute = s.execute; keep = s.keep; types = s.types })
 
   part_is : (p : Parts) (s : ArePartsSound p) (words : List (List ℕ)) (q : Parts) → part_read symbols ds p words ≡ Ok q → ArePartsSound q
   part_is p s [] q h = cc
@@ -250,7 +256,7 @@ module _ (symbols : List Symbol) (ds : List Definition) (g : AreGood ds) where
       let read = parts_read symbols ds no_parts (pieces_between after) in
       let code = bind_ok (code_of symbols ds (words_of before)) (λ code. read >>= λ parts. Ok (said code parts)) r h in
       let parts = bind_ok read (λ parts. Ok (said code.0 parts)) r code.2 in
-      let none : ArePartsSound no_parts = record { store = tt; load = tt; execute = tt; types = tt } in
+      let none : ArePartsSound no_parts = record { store = tt; load = tt; execute = tt; keep = tt; types = tt } in
       subst IsSound (ok_inside (said code.0 parts.0) r parts.2)
       (said_is code.0 parts.0 (code_is (after_when (words_of before)) code.0 code.1)
       (parts_is no_parts none (pieces_between after) parts.0 parts.1))

@@ -14,7 +14,7 @@ use Rattle.policy.specs.Terms.{Terms}
 use Rattle.policy_text.specs.declared.fault.PolicyCode.{PolicyCode}
 use Rattle.policy_text.specs.declared.fault.PolicyCode.TheVariants.{P1, P2, P3, P4, P5, P6, P7, P8}
 use Rattle.policy_text.specs.declared.part.Part.{Part}
-use Rattle.policy_text.specs.declared.part.Part.TheVariants.{Store, Load, Execute, Transmit, Halt, Timer, System, Seal, Types, OrCaller}
+use Rattle.policy_text.specs.declared.part.Part.TheVariants.{Store, Load, Execute, Keep, Transmit, Halt, Timer, System, Seal, Types, OrCaller}
 
 -- a name and the ranges that it stands for
 pub record Definition : Type 0 where
@@ -113,6 +113,7 @@ part_names =
     (codes "store", Store)
     ∷ (codes "load", Load)
     ∷ (codes "execute", Execute)
+    ∷ (codes "keep", Keep)
     ∷ (codes "transmit", Transmit)
     ∷ (codes "halt", Halt)
     ∷ (codes "timer", Timer)
@@ -134,6 +135,7 @@ pub record Parts : Type 0 where
   pub store : Option (List Range)
   pub load : Option (List Range)
   pub execute : Option (List Range)
+  pub keep : Option (List Range)
   pub transmit : Option Bool
   pub halt : Option Bool
   pub timer : Option Bool
@@ -148,6 +150,7 @@ no_parts =
       store = None;
       load = None;
       execute = None;
+      keep = None;
       transmit = None;
       halt = None;
       timer = None;
@@ -161,6 +164,7 @@ abbrev pub has_part : Parts → Part → Bool
 has_part parts Store = is_some parts.store
 has_part parts Load = is_some parts.load
 has_part parts Execute = is_some parts.execute
+has_part parts Keep = is_some parts.keep
 has_part parts Transmit = is_some parts.transmit
 has_part parts Halt = is_some parts.halt
 has_part parts Timer = is_some parts.timer
@@ -207,6 +211,7 @@ with_part symbols definitions parts words Store = within_of symbols definitions 
 with_part symbols definitions parts words Load = within_of symbols definitions words >>= λ said. Ok (record parts { load = Some said })
 with_part symbols definitions parts words Execute =
     within_of symbols definitions words >>= λ said. Ok (record parts { execute = Some said })
+with_part symbols definitions parts words Keep = within_of symbols definitions words >>= λ said. Ok (record parts { keep = Some said })
 with_part symbols definitions parts words Transmit = answer_of words >>= λ said. Ok (record parts { transmit = Some said })
 with_part symbols definitions parts words Halt = answer_of words >>= λ said. Ok (record parts { halt = Some said })
 with_part symbols definitions parts words Timer = answer_of words >>= λ said. Ok (record parts { timer = Some said })
@@ -243,6 +248,7 @@ said code parts =
       store = unwrap_or parts.store everywhere;
       load = unwrap_or parts.load everywhere;
       execute = unwrap_or parts.execute everywhere;
+      keep = unwrap_or parts.keep everywhere;
       transmit = unwrap_or parts.transmit true;
       halt = unwrap_or parts.halt true;
       timer = unwrap_or parts.timer true;

@@ -44,6 +44,7 @@ seen_parts p =
       store = option_map (λ ranges. ranges.items) p.store;
       load = option_map (λ ranges. ranges.items) p.load;
       execute = option_map (λ ranges. ranges.items) p.execute;
+      keep = option_map (λ ranges. ranges.items) p.keep;
       transmit = p.transmit;
       halt = p.halt;
       timer = p.timer;

@@ -15,4 +15,5 @@ pub record IsSound (rule : Terms) : Type 0 where
   pub store : AreFilled rule.store
   pub load : AreFilled rule.load
   pub execute : AreFilled rule.execute
+  pub keep : AreFilled rule.keep
   pub types : IfSome rule.types (AllByRecursion (λ t. t ≤ 0x3FFFB))

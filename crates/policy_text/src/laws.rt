@@ -19,7 +19,7 @@ pub fn worked_policy()
     ensures { policy_of (symbol 0x80001000 (codes "vault") ∷ [])
         (codes "ram = 0x80000000..+0x100 vault..+16 # areas\n"
         ++ codes "\n"
-        ++ codes "when pc in ram: store within ram 0..4, load no, transmit no, types 4 5\n"
+        ++ codes "when pc in ram: store within ram 0..4, load no, keep within vault..+32, transmit no, types 4 5\n"
         ++ codes "when pc in vault..0x80002000: system no, or caller, seal yes, types none")
         ≡ Ok ((
           3,
@@ -28,6 +28,7 @@ pub fn worked_policy()
             store = range 0x80000000 0x80000100 ∷ range 0x80001000 0x80001010 ∷ range 0 4 ∷ [];
             load = [];
             execute = everywhere;
+            keep = range 0x80001000 0x80001020 ∷ [];
             transmit = false;
             halt = true;
             timer = true;
@@ -43,6 +44,7 @@ pub fn worked_policy()
             store = everywhere;
             load = everywhere;
             execute = everywhere;
+            keep = everywhere;
             transmit = true;
             halt = true;
             timer = true;

@@ -73,6 +73,7 @@ fn made(alloc: Global, code: Vec<Range>, parts: Parts) -> Result<Rule, AllocErro
         store: or_everywhere(alloc, parts.store)?,
         load: or_everywhere(alloc, parts.load)?,
         execute: or_everywhere(alloc, parts.execute)?,
+        keep: or_everywhere(alloc, parts.keep)?,
         transmit: parts.transmit.unwrap_or(true),
         halt: parts.halt.unwrap_or(true),
         timer: parts.timer.unwrap_or(true),

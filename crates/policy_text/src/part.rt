@@ -10,6 +10,7 @@ pub(crate) enum Part {
     Store,
     Load,
     Execute,
+    Keep,
     Transmit,
     Halt,
     Timer,
@@ -30,6 +31,8 @@ pub(crate) fn part_named(word: &[u8]) -> Option<Part>
         Some(Part::Load)
     } else if is_word(word, "execute") {
         Some(Part::Execute)
+    } else if is_word(word, "keep") {
+        Some(Part::Keep)
     } else if is_word(word, "transmit") {
         Some(Part::Transmit)
     } else if is_word(word, "halt") {

@@ -2,11 +2,11 @@
 use Rattle.std.proofs.Common.{ℕ, ◌+◌, ◌<◌, ◌≤◌, List, ap, inl, inr, ◌⊎◌, arith}
 use Rattle.std.proofs.lemmas.Bool.{cases_lt}
 use Rattle.cap_bounds.specs.CapValue.{CapValue}
-use Rattle.cap_rights.specs.Rights.{OpensSystem, OpensGranule, OpensStore, OpensByte, OpensType}
+use Rattle.cap_rights.specs.Rights.{OpensSystem, OpensGranule, OpensKeeping, OpensStore, OpensByte, OpensType}
 use Rattle.steps.specs.State.{State}
 use Rattle.authority.specs.Authority.{IsWritable, HasSystem}
 use Rattle.authority.specs.Worlds.{IsReadable, Agree}
-use Rattle.reach.specs.declared.right.Right.TheVariants.{Store, Load, Execute, Capabilities, Seal, Unseal}
+use Rattle.reach.specs.declared.right.Right.TheVariants.{Store, Load, Execute, Capabilities, Keep, Seal, Unseal}
 use Rattle.reach.specs.Differs.{DiffersWithin}
 use Rattle.reach.specs.First.{HoldsOfNone}
 use Rattle.reach.specs.Opens.{Opens, OpensSome, OpensUnsealing}
@@ -56,6 +56,16 @@ granule-opens c g opens a low high =
     let top = opens.top in
     record {
       allows = record { unsealed = opens.unsealed; permitted = (opens.loads, opens.capabilities) };
+      base = omega arith;
+      top = omega arith;
+    }
+
+pub keeping-opens : (c : CapValue) (g : ℕ) → OpensKeeping c g → (a : ℕ) → g ≤ a → a < g + 16 → Opens Keep c a
+keeping-opens c g opens a low high =
+    let base = opens.store.base in
+    let top = opens.store.top in
+    record {
+      allows = record { unsealed = opens.store.unsealed; permitted = (opens.store.stores, opens.store.capabilities, opens.locals) };
       base = omega arith;
       top = omega arith;
     }

@@ -6,7 +6,7 @@ use Rattle.std.specs.Prelude.{◌↔◌, Bool, true, false, not, ◌&&◌, nat_l
 use Rattle.cap_bounds.specs.CapValue.{CapValue, is_sealed, value_base, value_top}
 use Rattle.reach.specs.declared.range.Range.{Range}
 use Rattle.reach.specs.declared.right.Right.{Right}
-use Rattle.reach.specs.declared.right.Right.TheVariants.{Store, Load, Execute, Capabilities, Seal, Unseal}
+use Rattle.reach.specs.declared.right.Right.TheVariants.{Store, Load, Execute, Capabilities, Keep, Seal, Unseal}
 use Rattle.reach.specs.Opens.{Permits, Opens}
 use Rattle.reach.specs.Ranges.{IsIn, IsInOne, IsOpen, AreFilled, AreApart, joined, put_range, permits_right}
 use Rattle.reach.specs.Ranges.{opens_any, bounds_of, ranges_of}
@@ -152,6 +152,7 @@ permits-test Store c h = h
 permits-test Load c h = h
 permits-test Execute c h = h
 permits-test Capabilities c h = (both-left _ _ h, both-right _ _ h)
+permits-test Keep c h = (both-left _ _ h, both-left _ _ (both-right _ _ h), both-right _ _ (both-right _ _ h))
 permits-test Seal c h = h
 permits-test Unseal c h = h
 
@@ -160,6 +161,7 @@ test-permits Store c h = h
 test-permits Load c h = h
 test-permits Execute c h = h
 test-permits Capabilities c h = rw (h.0, h.1) refl
+test-permits Keep c h = rw (h.0, h.1, h.2) refl
 test-permits Seal c h = h
 test-permits Unseal c h = h
 

@@ -5,7 +5,7 @@ use Rattle.cap_rights.specs.declared.permission.Permission.TheVariants as permis
 use Rattle.cap_rights.specs.Permission.{permits}
 use Rattle.cap_rights.specs.Rights.{OpensKeeping}
 use Rattle.reach.specs.declared.right.Right.{Right}
-use Rattle.reach.specs.declared.right.Right.TheVariants.{Store, Load, Execute, Capabilities, Seal, Unseal}
+use Rattle.reach.specs.declared.right.Right.TheVariants.{Store, Load, Execute, Capabilities, Keep, Seal, Unseal}
 
 -- the permissions that a right asks for
 abbrev pub Permits : Right → CapValue → Type 0
@@ -13,6 +13,9 @@ Permits Store c = permits c permission.Store ≡ true
 Permits Load c = permits c permission.Load ≡ true
 Permits Execute c = permits c permission.Execute ≡ true
 Permits Capabilities c = (permits c permission.Load ≡ true) × (permits c permission.LoadCapability ≡ true)
+Permits Keep c =
+    (permits c permission.Store ≡ true) × (permits c permission.StoreCapability ≡ true)
+    × (permits c permission.StoreLocalCapability ≡ true)
 Permits Seal c = permits c permission.Seal ≡ true
 Permits Unseal c = permits c permission.Unseal ≡ true
 

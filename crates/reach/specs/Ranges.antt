@@ -6,7 +6,7 @@ use Rattle.cap_rights.specs.declared.permission.Permission.TheVariants as permis
 use Rattle.cap_rights.specs.Permission.{permits}
 use Rattle.reach.specs.declared.range.Range.{Range}
 use Rattle.reach.specs.declared.right.Right.{Right}
-use Rattle.reach.specs.declared.right.Right.TheVariants.{Store, Load, Execute, Capabilities, Seal, Unseal}
+use Rattle.reach.specs.declared.right.Right.TheVariants.{Store, Load, Execute, Capabilities, Keep, Seal, Unseal}
 use Rattle.reach.specs.Opens.{Opens}
 
 -- the number lies in the range
@@ -53,6 +53,8 @@ permits_right Store c = permits c permission.Store
 permits_right Load c = permits c permission.Load
 permits_right Execute c = permits c permission.Execute
 permits_right Capabilities c = permits c permission.Load && permits c permission.LoadCapability
+permits_right Keep c =
+    permits c permission.Store && (permits c permission.StoreCapability && permits c permission.StoreLocalCapability)
 permits_right Seal c = permits c permission.Seal
 permits_right Unseal c = permits c permission.Unseal
 

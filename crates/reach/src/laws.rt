@@ -5,7 +5,7 @@ ghost use Rattle.std.specs.Prelude.{◌≡◌, ◌≢◌, ◌↔◌, ◌⊎◌, 
 ghost use Rattle.base.specs.ObjectType.{sentry_type};
 ghost use Rattle.cap_bounds.specs.CapValue.{CapValue, is_tagged, value_otype};
 ghost use Rattle.cap_rights.specs.Derivations.{unseal};
-ghost use Rattle.cap_rights.specs.Rights.{OpensSystem, OpensGranule, OpensStore, OpensByte, OpensType};
+ghost use Rattle.cap_rights.specs.Rights.{OpensSystem, OpensGranule, OpensKeeping, OpensStore, OpensByte, OpensType};
 ghost use Rattle.tagged_memory.specs.Memory.{has_tag};
 ghost use Rattle.devices.specs.Devices.{halt, mtimecmp, timer_compare, timer, transmit, status, control_register};
 ghost use Rattle.steps.specs.declared.event.Event.{Event};
@@ -18,7 +18,7 @@ ghost use Rattle.machine.specs.Run.{run_after, run_sent};
 ghost use Rattle.machine.specs.Stretch.{ArePlain, IsPlainRun, IsTwin};
 ghost use Rattle.reach.specs.declared.range.Range.{Range};
 ghost use Rattle.reach.specs.declared.right.Right.{Right};
-ghost use Rattle.reach.specs.declared.right.Right.TheVariants.{Store, Load, Execute, Capabilities, Seal, Unseal};
+ghost use Rattle.reach.specs.declared.right.Right.TheVariants.{Store, Load, Execute, Capabilities, Keep, Seal, Unseal};
 ghost use Rattle.reach.specs.Differs.{KeepsBytes, KeepsNoLoan, DiffersWithin};
 ghost use Rattle.reach.specs.First.{HoldsOfNone};
 ghost use Rattle.reach.specs.Opens.{Opens, OpensSome, KeepsSome, OpensUnsealing, IsSealedAs};
@@ -45,6 +45,7 @@ pub fn rights_open_their_bytes()
     ensures store { (c : CapValue) (a : ℕ) → Opens Store c a ↔ OpensStore c a }
     ensures byte { (c : CapValue) (a : ℕ) → OpensByte c a ↔ (Opens Load c a ⊎ Opens Execute c a) }
     ensures granule { (c : CapValue) (g : ℕ) → OpensGranule c g → (a : ℕ) → g ≤ a → a < g + 16 → Opens Capabilities c a }
+    ensures keep { (c : CapValue) (g : ℕ) → OpensKeeping c g → (a : ℕ) → g ≤ a → a < g + 16 → Opens Keep c a }
     ensures seal { (c : CapValue) (otype : ℕ) → Opens Seal c otype ↔ OpensType c otype }
     ensures unseal { (c : CapValue) (otype : ℕ) → Opens Unseal c otype ↔ OpensUnsealing c otype }
 {}

@@ -14,7 +14,7 @@ mod spans;
 
 pub use device_answers::{CONTROL, HALT, STATUS, TIMER, TIMER_COMPARE, TRANSMIT};
 pub use may::{Horizon, May};
-pub use question::has_granule;
+pub use question::{has_granule, stores_locals};
 pub use range::Range;
 pub use reach::Reach;
 pub use right::Right;

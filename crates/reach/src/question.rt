@@ -39,6 +39,11 @@ fn permits_right<C: CapRep>(c: C, right: Right) -> bool
         Right::Capabilities => {
             permits(c, Permission::Load) && permits(c, Permission::LoadCapability)
         }
+        Right::Keep => {
+            permits(c, Permission::Store)
+                && permits(c, Permission::StoreCapability)
+                && permits(c, Permission::StoreLocalCapability)
+        }
         Right::Seal => permits(c, Permission::Seal),
         Right::Unseal => permits(c, Permission::Unseal),
     }
@@ -61,7 +66,7 @@ fn opens_some<C: CapRep>(c: C, right: Right, address: u64, length: u64) -> bool
 }
 
 /// Whether capabilities without Global may be stored through it.
-fn stores_locals<C: CapRep>(c: C) -> bool
+pub fn stores_locals<C: CapRep>(c: C) -> bool
     ensures { IsTrue result ↔ StoresLocals (C.value c) }
 {
     allows_permission(c, Permission::Store)

@@ -9,6 +9,8 @@ pub enum Right {
     Execute,
     /// Capabilities are loaded with their tags.
     Capabilities,
+    /// Capabilities are stored, those without Global too: what is lent is kept.
+    Keep,
     /// Values are sealed with the object type.
     Seal,
     /// Values that are sealed with the object type are unsealed.

@@ -79,6 +79,7 @@ right_name right.Load = codes "load"
 right_name right.Capabilities = codes "load capabilities"
 right_name right.Store = codes "store"
 right_name right.Execute = codes "execute"
+right_name right.Keep = codes "keep"
 right_name right.Seal = codes "seal"
 right_name right.Unseal = codes "unseal"
 

@@ -34,6 +34,7 @@ fn right_name(right: Right) -> ArrayString<17>
         Right::Capabilities => "load capabilities",
         Right::Store => "store",
         Right::Execute => "execute",
+        Right::Keep => "keep",
         Right::Seal => "seal",
         Right::Unseal => "unseal",
     })])

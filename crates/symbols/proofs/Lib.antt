@@ -1,4 +1,3 @@
-mod BeginningLemmas
 mod LabelTexts
 mod LaterLemmas
 mod LineLemmas

@@ -9,4 +9,4 @@ mod table;
 pub use labels::{Label, Labelled, labelled};
 pub use lines::{split_line, table_text};
 pub use symbol::{Symbol, is_label};
-pub use table::{Beginning, Names, Symbols, SymbolsFault, look_at_beginning, read_symbols};
+pub use table::{Names, Symbols, SymbolsFault, read_symbols};

@@ -1,14 +1,14 @@
-//! A table of symbols: reading one or its beginning, and looking up in it.
-ghost use Rattle.std.specs.Prelude.{◌≡◌, ◌-◌, ◌<◌, ◌≤◌, ◌^◌, [], ◌∷◌, ◌++◌, None, Some, IfOk};
+//! A table of symbols: reading one, and looking up in it.
+ghost use Rattle.std.specs.Prelude.{◌≡◌, ◌-◌, ◌<◌, ◌≤◌, [], ◌∷◌, ◌++◌, None, Some, IfOk};
 ghost use Rattle.std.specs.Prelude.{IfErr, IfNone, IfSome, OnOk, length, option_map, slice_get};
 ghost use Rattle.std.specs.Option.{option_copied};
 ghost use Rattle.std.proofs.Props.{props};
 ghost use Rattle.symbols.specs.declared.table.SymbolsFault.TheVariants.{Memory};
 ghost use Rattle.symbols.specs.Places.{IsPlacing, later_of, names_from, names_left};
-ghost use Rattle.symbols.specs.Reads.{IsFaultOf, Tells};
+ghost use Rattle.symbols.specs.Reads.{IsFaultOf};
 ghost use Rattle.symbols.specs.Symbols.{address_in, address_of, faulty_line, name_at, names_at, nearest, symbols_in, symbols_of};
 
-use crate::lines::{address, ended_line, is_line, is_symbol, name, split_line};
+use crate::lines::{address, is_line, is_symbol, name, split_line};
 use crate::symbol::Symbol;
 use asm_lines::number_between;
 use std::alloc::{AllocError, Global};
@@ -242,34 +242,4 @@ impl<'a> Names<'a> {
         self.left = next;
         Some(symbol.name())
     }
-}
-
-/// What a beginning of a table says of its lines, whatever follows.
-#[derive(Clone, Copy, Debug, PartialEq, Eq)]
-pub enum Beginning {
-    /// The first line that is not one of a table.
-    Faulty(u64),
-    /// Each line that has ended is one of a table: the number of the line that has not, and the byte at which it begins.
-    Sound(u64, usize),
-}
-
-/// Looks at the lines of a beginning of a table, of which the first has this number. What follows a sound one can be looked at from
-/// its last line on.
-pub fn look_at_beginning(text: &[u8], number: u64) -> Beginning
-    requires { number ≤ 2 ^ 63 }
-    ensures { Tells number text.now result }
-{
-    let mut next = number;
-    let mut rest = text;
-    while let Some((line, after)) = ended_line(rest) {
-        if !is_line(line) {
-            return Beginning::Faulty(next);
-        }
-        next += 1;
-        rest = after;
-    }
-    if rest.len() >= 19 && !is_line(rest) {
-        return Beginning::Faulty(next);
-    }
-    Beginning::Sound(next, text.len() - rest.len())
 }

@@ -25,7 +25,7 @@ use Rattle.reach.specs.Opens.{IsSealedAs, OpensSome, OpensUnsealing}
 use Rattle.reach.specs.Reach.{AreReachable}
 use Rattle.worked.specs.Counter.{code, code_capability, counter, data_capability, two_capabilities}
 
-nulls : (n k : ℕ) → is_tagged (register (replicate n null) k) ≡ false
+pub nulls : (n k : ℕ) → is_tagged (register (replicate n null) k) ≡ false
 nulls zero k = refl
 nulls (suc n) zero = refl
 nulls (suc n) (suc k) = nulls n k

@@ -3,3 +3,4 @@ pub mod Confining
 pub mod Ruled
 pub mod Invoking
 pub mod Lending
+pub mod Enclosing

@@ -43,6 +43,7 @@ unfolding breaks permits
 code-keeps ban.Store = refl
 code-keeps ban.Load = refl
 code-keeps ban.Execute = refl
+code-keeps ban.Keep = refl
 code-keeps ban.Transmit = refl
 code-keeps ban.Halt = refl
 code-keeps ban.Timer = refl
@@ -55,6 +56,7 @@ unfolding breaks permits
 data-keeps ban.Store = refl
 data-keeps ban.Load = refl
 data-keeps ban.Execute = refl
+data-keeps ban.Keep = refl
 data-keeps ban.Transmit = refl
 data-keeps ban.Halt = refl
 data-keeps ban.Timer = refl
@@ -62,7 +64,7 @@ data-keeps ban.System = refl
 data-keeps ban.Seal = refl
 data-keeps ban.Types = refl
 
-none-breaks : (v : CapValue) → (v ≡ code_capability) ⊎ (v ≡ data_capability) → BreaksRule counter_rule v → ⊥
+pub none-breaks : (v : CapValue) → (v ≡ code_capability) ⊎ (v ≡ data_capability) → BreaksRule counter_rule v → ⊥
 none-breaks v (inl same) broken =
     let it : BreaksRule counter_rule code_capability = subst (BreaksRule counter_rule) same broken in
     both_ways _ (code-keeps it.ban) ((is-break code_capability counter_rule it.ban).1 it.breaks)
@@ -96,7 +98,7 @@ in-force (Step ∷ es) s = in-force es (after Step s)
 in-force (Tick ∷ es) s = in-force es (after Tick s)
 in-force (Byte b ∷ es) s = in-force es (after (Byte b) s)
 
-alone : (rule : Terms) (k : ℕ) → k < 1 → slice_index_or (counter_rule ∷ []) k rule ≡ rule → counter_rule ≡ rule
+pub alone : (rule : Terms) (k : ℕ) → k < 1 → slice_index_or (counter_rule ∷ []) k rule ≡ rule → counter_rule ≡ rule
 alone rule zero inside same = same
 alone rule (suc k) inside same = absurd (omega arith)
 

@@ -56,13 +56,14 @@ code_range = record { from = 0x8000_0000; to = 0x8000_0100 }
 abbrev pub data_range : Range
 data_range = record { from = 0x8000_0100; to = 0x8000_0200 }
 
--- a rule for its code: to store in its data, to load there and in its code, to fetch its code, and nothing more
+-- a rule for its code: to store in its data, to load there and in its code, to fetch its code, and nothing more; nothing lent is kept
 abbrev pub counter_rule : Terms
 counter_rule = record {
   code = code_range ∷ [];
   store = data_range ∷ [];
   load = code_range ∷ data_range ∷ [];
   execute = code_range ∷ [];
+  keep = [];
   transmit = false;
   halt = false;
   timer = false;

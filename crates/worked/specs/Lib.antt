@@ -2,3 +2,4 @@
 pub mod Counter
 pub mod Pair
 pub mod Loan
+pub mod Enclosure

@@ -7,8 +7,9 @@ from model.capabilities import ONE, capability, seal
 from model.devices import HALT, RAM, TIMER_COMPARE, TRANSMIT
 from model.policy import (PARTS, Breach, breaches, breaks, entry, first_breach, is_called, lent, lies_within, listed, range_text, read,
                           refused, stopped, terms_after)
-from model.reach import ROOT, Member
-from model.rights import ACCESS_SYSTEM_REGISTERS, ALL, EXECUTE, GREATEST_SEALING_TYPE, LOAD, SEAL, STORE, UNSEAL
+from model.reach import KEEPING, ROOT, Member
+from model.rights import (ACCESS_SYSTEM_REGISTERS, ALL, EXECUTE, GREATEST_SEALING_TYPE, LOAD, SEAL, STORE, STORE_CAPABILITY, STORE_LOCAL,
+                          UNSEAL)
 from model.tests.begun import root
 from model.words import ONES, SPACE
 
@@ -93,6 +94,18 @@ class Parts(unittest.TestCase):
                 self.assertFalse(breaks(bounds(first, end, ALL ^ perms), name, allowed))
             self.assertFalse(breaks(seal(bounds(RAM, RAM + 8, perms), root(7)), name, []))
 
+    def test_what_is_lent_is_kept_in_whole_granules_by_three_permissions(self):
+        for first, end, allowed, broken in ((RAM, RAM + 16, [], True), (RAM, RAM + 15, [], False), (RAM + 1, RAM + 31, [], False),
+                                            (RAM + 1, RAM + 32, [], True), (RAM - 16, RAM, [], False), (RAM - 1, RAM + 16, [], True),
+                                            (RAM, RAM + 16, [(RAM, RAM + 16)], False), (RAM, RAM + 16, [(RAM, RAM + 15)], True),
+                                            (RAM, RAM + 31, [(RAM, RAM + 16)], False), (RAM + 1, RAM + 48, [(RAM + 16, RAM + 48)], False),
+                                            (RAM, RAM + 32, [(RAM, RAM + 8), (RAM + 8, RAM + 32)], False),
+                                            (RAM, RAM + 32, [(RAM + 16, RAM + 32)], True)):
+            self.assertEqual(breaks(bounds(first, end, KEEPING), "keep", allowed), broken)
+            self.assertFalse(breaks(seal(bounds(first, end, KEEPING), root(7)), "keep", []))
+        for one in (STORE, STORE_CAPABILITY, STORE_LOCAL):
+            self.assertFalse(breaks(bounds(RAM, RAM + 16, ALL ^ one), "keep", []))
+
     def test_a_device_counts_by_its_first_byte(self):
         for name, place in (("transmit", TRANSMIT), ("halt", HALT), ("timer", TIMER_COMPARE)):
             for first, end, perms, broken in ((place, place + 1, STORE, True), (place + 1, place + 8, STORE, False),
@@ -162,9 +175,11 @@ class Calls(unittest.TestCase):
                          [True, True, True, False, False, False])
 
     def test_ranges_by_right_of_what_is_unsealed(self):
-        given = bounds(RAM, RAM + 8, STORE), bounds(RAM + 4, RAM + 32, LOAD | EXECUTE), seal(bounds(RAM, RAM + 64, ALL), root(7))
-        self.assertEqual(self.allowed("store no, load within 5..6, execute no", *given),
-                         {"store": [(RAM, RAM + 8)], "load": [(5, 6), (RAM + 4, RAM + 32)], "execute": [(RAM + 4, RAM + 32)]})
+        given = (bounds(RAM, RAM + 8, STORE), bounds(RAM + 4, RAM + 32, LOAD | EXECUTE), seal(bounds(RAM, RAM + 64, ALL), root(7)),
+                 bounds(RAM + 16, RAM + 40, KEEPING))
+        self.assertEqual(self.allowed("store no, load within 5..6, execute no, keep no", *given),
+                         {"store": [(RAM, RAM + 8), (RAM + 16, RAM + 40)], "load": [(5, 6), (RAM + 4, RAM + 32)],
+                          "execute": [(RAM + 4, RAM + 32)], "keep": [(RAM + 16, RAM + 40)]})
 
     def test_what_opens_it_allows_all_of_a_part_that_says_no(self):
         most = GREATEST_SEALING_TYPE
@@ -217,13 +232,13 @@ class Entries(unittest.TestCase):
 
     def test_a_rule_allows_what_is_reachable_and_no_more(self):
         nothing = entry((16, 32), [])
-        self.assertEqual(nothing, "when pc in 0x0000000000000010..0x0000000000000020: store no, load no, execute no, transmit no, halt no, "
-                         "timer no, system no, seal no, types none\n")
-        found = members(bounds(HALT, HALT + 1, STORE), bounds(8, 16, LOAD | SEAL), bounds(16, 24, LOAD), seal(root(0), root(9)),
+        self.assertEqual(nothing, "when pc in 0x0000000000000010..0x0000000000000020: store no, load no, execute no, keep no, "
+                         "transmit no, halt no, timer no, system no, seal no, types none\n")
+        found = members(bounds(HALT, HALT + 1, KEEPING), bounds(8, 16, LOAD | SEAL), bounds(16, 24, LOAD), seal(root(0), root(9)),
                         seal(root(0), root(4)), seal(root(0), root(9)))
         text = entry((16, 32), found)
         self.assertEqual(text.partition(": ")[2], (
             "store within 0x0000000000100000..0x0000000000100001, load within 0x0000000000000008..0x0000000000000018, execute no, "
-            "transmit no, halt yes, timer no, system no, seal yes, types 4 9\n"))
+            "keep within 0x0000000000100000..0x0000000000100001, transmit no, halt yes, timer no, system no, seal yes, types 4 9\n"))
         rules, fault = read(text, {})
         self.assertEqual((fault, breaches(rules, 16, found)), (None, []))

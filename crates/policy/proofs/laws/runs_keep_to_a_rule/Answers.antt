@@ -1,4 +1,4 @@
-use Rattle.policy.proofs.Whole.{bytes-stay, tags-stay, system-stays, nothing-sent, halted-stays, compare-stays, sends-same, ends-same}
+use Rattle.policy.proofs.Whole.{bytes-stay, tags-stay, nothing-kept, system-stays, nothing-sent, halted-stays, compare-stays, sends-same, ends-same}
 use Rattle.policy.proofs.laws.runs_keep_to_a_rule.Goals as goal
 
 pub returns-clause-bytes : goal.returns-clause-bytes
@@ -6,6 +6,9 @@ returns-clause-bytes c = λ rules rule events done s some keep there about. byte
 
 pub returns-clause-tags : goal.returns-clause-tags
 returns-clause-tags c = λ rules rule events done s some keep there about. tags-stay rules rule events there s done some keep about
+
+pub returns-clause-kept : goal.returns-clause-kept
+returns-clause-kept c = λ rules rule events done s some keep there about. nothing-kept rules rule events there s done some keep about
 
 pub returns-clause-system : goal.returns-clause-system
 returns-clause-system c = λ rules rule events done s some keep there about. system-stays rules rule events there s done some keep about

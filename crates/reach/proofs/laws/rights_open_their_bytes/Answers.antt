@@ -1,4 +1,4 @@
-use Rattle.reach.proofs.Meaning.{store-opens, opens-store, byte-opens, opens-byte, granule-opens, opens-type, type-opens}
+use Rattle.reach.proofs.Meaning.{store-opens, opens-store, byte-opens, opens-byte, granule-opens, keeping-opens, opens-type, type-opens}
 use Rattle.reach.proofs.Meaning.{opens-unsealing, unsealing-opens}
 use Rattle.reach.proofs.laws.rights_open_their_bytes.Goals as goal
 
@@ -10,6 +10,9 @@ returns-clause-byte c = λ v a. (byte-opens v a, opens-byte v a)
 
 pub returns-clause-granule : goal.returns-clause-granule
 returns-clause-granule c = granule-opens
+
+pub returns-clause-keep : goal.returns-clause-keep
+returns-clause-keep c = keeping-opens
 
 pub returns-clause-seal : goal.returns-clause-seal
 returns-clause-seal c = λ v otype. (opens-type v otype, type-opens v otype)

@@ -1,0 +1,6 @@
+mod Runs
+mod Entering
+mod Looked
+mod Unsealing
+mod Held
+mod Enclosing

@@ -1,0 +1,3 @@
+-- What to read
+pub mod Kept
+pub mod Enclosed

@@ -1,0 +1,2 @@
+pub mod Debugged
+pub mod Gap

@@ -1,0 +1,78 @@
+-- The status of a command line that was carried out, and what then holds of its files.
+use Rattle.std.specs.Prelude.{◌≡◌, ◌==◌, ℕ, List, Option, None, IfSome, Bool, true, false, bytes_eq, codes, [], ◌∷◌}
+use Rattle.std.specs.Prelude.{if◌then◌else◌}
+use Rattle.std.specs.Io.KnownBytes.{Appends}
+use Rattle.bounds_text.specs.WordText.{word_of_halves}
+use Rattle.command_line.specs.CommandLine.{IsPlanOf, IsSound, IsTaken, NoPlanFits, found_in}
+use Rattle.command_line.specs.declared.plans.Plan.{Plan}
+use Rattle.command_line.specs.declared.plans.Plan.TheVariants.{Asm, Image, Run, Audit, Dis, Debug, Bounds, Word, First}
+use Rattle.sim_run.specs.Verdict.{status_of}
+use Rattle.program.specs.declared.carrying.Done.{Done}
+use Rattle.program.specs.declared.carrying.Done.TheVariants as done
+use Rattle.commands.specs.declared.running.Ended.{Ended}
+use Rattle.commands.specs.Assembling.{Assembles}
+use Rattle.commands.specs.Auditing.{AuditsRun}
+use Rattle.commands.specs.Bounding.{WritesWord, bounds_answer}
+use Rattle.program.specs.Debugging.{DebugsFile}
+use Rattle.commands.specs.Files.{File, Text, Change, bytes_of}
+use Rattle.commands.specs.Imaging.{MakesImage}
+use Rattle.commands.specs.Listing.{ListsFile}
+use Rattle.commands.specs.Overwriting.{Overwrites, Sameness}
+use Rattle.commands.specs.Running.{Runs, first_run, stop_at}
+use Rattle.commands.specs.Watching.{RunsFile}
+
+-- 0 for what was done, and of a run what its end comes to; of an audit 1 where something is broken
+abbrev pub status_of_done : Done → ℕ
+status_of_done done.All = 0
+status_of_done (done.Run ended) = status_of ended.end
+status_of_done (done.Audit count) = if count == 0 then 0 else 1
+
+-- A plan was carried out wholly, with this status: what an output holds then that held something before, where that is known, and what
+-- became of files, where they are known; what was typed is what the input had left.
+abbrev pub HasStatus : Plan → Option (List ℕ) → Change → ℕ → Type 0
+HasStatus (Asm input output symbols quiet) typed change status =
+    (status ≡ 0) × (change.out ≡ change.sent)
+    × IfSome (bytes_of input.now change.old) (λ text. Assembles output.now symbols text change.old change.new)
+HasStatus (Image flat output layout quiet) typed change status =
+    (status ≡ 0) × (change.out ≡ change.sent)
+    × IfSome (bytes_of flat.now change.old) (λ bytes. MakesImage layout output.now bytes change.old change.new)
+HasStatus (Run request why) typed change status =
+    (ended : Ended) × (status ≡ status_of ended.end) × RunsFile request (stop_at why) ended change
+HasStatus (Audit request) typed change status =
+    (count : ℕ) × (status ≡ (if count == 0 then 0 else 1)) × AuditsRun request count change
+HasStatus (Dis image symbols header quiet) typed change status =
+    (status ≡ 0) × IfSome (bytes_of image.now change.old) (λ bytes. ListsFile header change.old bytes symbols change.sent change.out)
+HasStatus (Debug image symbols input gap tick quiet) typed change status =
+    (status ≡ 0)
+    × IfSome (bytes_of image.now change.old)
+    (λ bytes. DebugsFile change.old bytes symbols input gap tick typed change.sent change.out)
+HasStatus (Bounds base length address) typed change status =
+    (status ≡ 0) × Appends change.sent change.out (bounds_answer base length address)
+HasStatus (Word high low memory) typed change status =
+    (status ≡ 0) × WritesWord (word_of_halves high low memory) change.sent change.out
+HasStatus First typed change status =
+    (ended : Ended) × (status ≡ status_of ended.end) × Runs first_run None false ended change.sent change.out
+
+-- the program's name, and --version alone
+abbrev pub asks_version : List Text → Bool
+asks_version (name ∷ word ∷ []) = bytes_eq word (codes "--version")
+asks_version words = false
+
+abbrev pub version_line : List ℕ
+version_line = codes "cherisim 0.1.0\n"
+
+-- The words are a plan, which writes no file over another of its own where it is known which names lead to one file, and was carried
+-- out with this status.
+abbrev pub IsCarriedOut : List Text → Option Sameness → Option (List ℕ) → Change → ℕ → Type 0
+IsCarriedOut words same typed change status =
+    (plan : Plan) × IsTaken words × IsPlanOf (found_in words) plan × IsSound plan × Overwrites same plan false
+    × HasStatus plan typed change status
+
+-- The words are a plan that would write a file over another of its own, and no file is written.
+abbrev pub IsSpared : List Text → Option Sameness → Option (List File) → Option (List File) → Type 0
+IsSpared words same old new =
+    (plan : Plan) × IsTaken words × IsPlanOf (found_in words) plan × Overwrites same plan true × (new ≡ old)
+
+-- Clap doesn't take the words, or nothing that it finds in them is a sound plan.
+abbrev pub IsRefused : List Text → Type 0
+IsRefused words = IsTaken words → (NoPlanFits (found_in words) → ⊥) → ⊥

@@ -1,0 +1,3 @@
+-- What to read
+pub mod Debugging
+pub mod Carrying

@@ -1,0 +1,355 @@
+//! A command line carried out, and the status that it ends with.
+
+ghost use Rattle.command_line.specs.CommandLine.{AreInRange, IsSound};
+ghost use Rattle.std.specs.Prelude.{◌≡◌, ◌≤◌, ◌⊎◌, Some, false, true, map, IfOk};
+ghost use Rattle.std.specs.Io.KnownBytes.{Appends};
+ghost use Rattle.sim_run.specs.Verdict.{status_of as status_of_run};
+ghost use Rattle.program.specs.Carrying.{HasStatus, IsCarriedOut, IsSpared, IsRefused, asks_version, status_of_done, version_line};
+ghost use Rattle.commands.specs.Files.{changed};
+ghost use Rattle.commands.specs.Overwriting.{Overwrites};
+ghost use Rattle.commands.specs.Watching.{RunsFile};
+
+use crate::debugging::debug_file;
+use command_line::{Plan, PlanFault, RunRequest, plan};
+use commands::{
+    Ended, Folder, ProgramFault, assemble_file, audit_file, image_file, list_file, load,
+    overwrites, run_first, run_loaded, show_bounds, show_word, stop_at,
+};
+use image::DeviceFailed;
+use sim_run::{StopAt, verdict};
+use std::alloc::Global;
+use std::io::{Read, Write};
+
+/// The status of a command line that was refused, or asks for help.
+const REFUSED: u8 = 2;
+
+/// The status of another fault.
+pub const FAULT: u8 = 3;
+
+/// What is told of a command that would write a file over another of its own.
+const SAME_FILE: &str = "error: a file that is written cannot be another file of the command\n";
+
+/// What `--version` writes.
+const VERSION: &str = "cherisim 0.1.0\n";
+
+/// What became of a command that was carried out.
+#[derive(Debug, Drop)]
+enum Done {
+    /// All of it.
+    All,
+    /// A run that ended so.
+    Run(Ended),
+    /// An audit that found so many parts of rules that are broken.
+    Audit(usize),
+}
+
+/// What a command line ends with.
+#[derive(Debug, Drop)]
+pub struct Answer<O> {
+    /// The status.
+    pub status: u8,
+    /// The output, where all that was to be written to it is written.
+    pub output: Option<O>,
+}
+
+/// Tells how a run ended, and where; and answers the status.
+fn tell_end<E: Write>(errors: &mut E, ended: &Ended) -> u8
+    ensures { result ≡ status_of_run ended.now.end }
+{
+    let (status, line) = verdict(ended.end);
+    if status != 0 && writeln!(errors, "{line}").is_ok() {
+        let _ = errors.write_all(ended.place.as_bytes());
+    }
+    status
+}
+
+/// Tells a fault, and answers the status.
+pub fn tell_fault<E: Write>(errors: &mut E, fault: &ProgramFault<'_>) -> u8
+    ensures { result ≡ 3 }
+{
+    let _ = writeln!(errors, "cherisim: {fault}");
+    FAULT
+}
+
+/// Tells a fault by its text alone, which is the first line of what is told of it, and answers the status.
+fn tell_text<E: Write>(alloc: Global, errors: &mut E, fault: &ProgramFault<'_>) -> u8
+    ensures { result ≡ 3 }
+{
+    let Ok(told) = format!(in alloc; "{fault}") else {
+        return tell_fault(errors, fault);
+    };
+    let text = told.split('\n').next().unwrap_or("");
+    let _ = writeln!(errors, "cherisim: {text}");
+    FAULT
+}
+
+/// Whether a plan leaves out what is told besides.
+fn is_quiet(plan: Plan<'_>) -> bool {
+    match plan {
+        Plan::Asm { quiet, .. }
+        | Plan::Image { quiet, .. }
+        | Plan::Dis { quiet, .. }
+        | Plan::Debug { quiet, .. } => quiet,
+        Plan::Run { request, .. } | Plan::Audit(request) => request.quiet,
+        Plan::Bounds { .. } | Plan::Word { .. } | Plan::First => false,
+    }
+}
+
+/// Runs the image of a file as it is asked for. It ends before the trap that it is to stop `at`, if any. Hands the output back.
+fn run_file<'a, F: Folder, O: Write + Drop>(
+    alloc: Global,
+    folder: &mut F,
+    request: RunRequest<'a>,
+    at: Option<StopAt>,
+    output: O,
+) -> Result<(Ended, O), ProgramFault<'a>>
+    requires { AreInRange request }
+    ensures { IfOk result (λ done. RunsFile request.entry at done.0
+        (changed (O.contents output) (O.contents done.1) (F.files folder.old) (F.files folder.new))) }
+{
+    match load(alloc, folder, request) {
+        Ok(run) => run_loaded(alloc, folder, &run, at, output),
+        Err(fault) => Err(fault),
+    }
+}
+
+/// Does what the plan says, and hands the output back.
+fn carry_out<'a, F: Folder, I: Read + Drop, O: Write + Drop>(
+    alloc: Global,
+    folder: &mut F,
+    input: I,
+    output: O,
+    plan: Plan<'a>,
+) -> Result<(Done, O), ProgramFault<'a>>
+    requires { IsSound plan }
+    ensures { IfOk result (λ done. HasStatus plan.entry (I.remaining input)
+        (changed (O.contents output) (O.contents done.1) (F.files folder.old) (F.files folder.new)) (status_of_done done.0)) }
+{
+    match plan {
+        Plan::First => {
+            let (ended, output) = run_first(alloc, output)?;
+            Ok((Done::Run(ended), output))
+        }
+        Plan::Run { request, why } => {
+            let (ended, output) = run_file(alloc, folder, request, stop_at(why), output)?;
+            Ok((Done::Run(ended), output))
+        }
+        Plan::Audit(request) => {
+            let (count, output) = audit_file(alloc, folder, request, output)?;
+            Ok((Done::Audit(count), output))
+        }
+        Plan::Asm {
+            input: text,
+            output: made,
+            symbols,
+            ..
+        } => {
+            assemble_file(alloc, folder, text, made, symbols)?;
+            Ok((Done::All, output))
+        }
+        Plan::Image {
+            flat,
+            output: made,
+            layout,
+            ..
+        } => {
+            image_file(alloc, folder, flat, made, layout)?;
+            Ok((Done::All, output))
+        }
+        Plan::Dis {
+            image,
+            symbols,
+            header,
+            ..
+        } => {
+            let output = list_file(alloc, folder, image, symbols, header, output)?;
+            Ok((Done::All, output))
+        }
+        Plan::Debug {
+            image,
+            symbols,
+            input: typed,
+            gap,
+            tick,
+            ..
+        } => {
+            let output = debug_file(
+                alloc, folder, image, symbols, typed, gap, tick, input, output,
+            )?;
+            Ok((Done::All, output))
+        }
+        Plan::Bounds {
+            base,
+            length,
+            address,
+        } => {
+            let output = show_bounds(base, length, address, output)?;
+            Ok((Done::All, output))
+        }
+        Plan::Word { high, low, memory } => {
+            let output = show_word(high, low, memory, output)?;
+            Ok((Done::All, output))
+        }
+    }
+}
+
+/// Tells what became of a command that was carried out, and answers the status.
+fn tell_done<E: Write>(errors: &mut E, done: &Done) -> u8
+    ensures { result ≡ status_of_done done.now }
+{
+    match done {
+        Done::All | Done::Audit(0) => 0,
+        Done::Run(ended) => tell_end(errors, ended),
+        Done::Audit(_) => 1,
+    }
+}
+
+/// Does what the plan says, and answers the status and the output.
+fn carry<'a, F: Folder, I: Read + Drop, O: Write + Drop, E: Write>(
+    alloc: Global,
+    folder: &mut F,
+    input: I,
+    output: O,
+    errors: &mut E,
+    plan: Plan<'a>,
+) -> Answer<O>
+    requires { IsSound plan }
+    ensures done { result.status ≤ 1 → (out : O) × (result.output ≡ Some out)
+        × HasStatus plan.entry (I.remaining input)
+        (changed (O.contents output) (O.contents out) (F.files folder.old) (F.files folder.new)) result.status }
+    ensures otherwise { (result.status ≤ 1) ⊎ (result.status ≡ 3) }
+{
+    match carry_out(alloc, folder, input, output, plan) {
+        Ok((done, output)) => Answer {
+            status: tell_done(errors, &done),
+            output: Some(output),
+        },
+        Err(fault) => {
+            let status = if is_quiet(plan) {
+                tell_text(alloc, errors, &fault)
+            } else {
+                tell_fault(errors, &fault)
+            };
+            Answer {
+                status,
+                output: None,
+            }
+        }
+    }
+}
+
+/// Does what the plan says, unless a file would be written over another of the command, and answers the status and the output.
+fn carry_apart<'a, F: Folder, I: Read + Drop, O: Write + Drop, E: Write>(
+    alloc: Global,
+    folder: &mut F,
+    input: I,
+    output: O,
+    errors: &mut E,
+    plan: Plan<'a>,
+) -> Answer<O>
+    requires { IsSound plan }
+    ensures done { result.status ≤ 1 → (out : O) × (result.output ≡ Some out)
+        × HasStatus plan.entry (I.remaining input)
+        (changed (O.contents output) (O.contents out) (F.files folder.old) (F.files folder.new)) result.status }
+    ensures apart { result.status ≤ 1 → Overwrites (F.same folder.old) plan.entry false }
+    ensures refused { result.status ≡ 2
+        → Overwrites (F.same folder.old) plan.entry true × (F.files folder.new ≡ F.files folder.old) }
+    ensures most { result.status ≤ 3 }
+{
+    if overwrites(folder, plan) {
+        return Answer {
+            status: refuse(errors, SAME_FILE),
+            output: None,
+        };
+    }
+    carry(alloc, folder, input, output, errors, plan)
+}
+
+/// Whether the words ask for the version alone.
+fn asks_version(words: &[&str]) -> bool
+    ensures { result ≡ asks_version (map (λ word. word.now) words.entry.now) }
+{
+    words.len() == 2 && words[1] == "--version"
+}
+
+/// Writes a text that was asked for, and answers this status where it could be written.
+fn show<O: Write + Drop, E: Write>(
+    mut output: O,
+    errors: &mut E,
+    text: &str,
+    status: u8,
+) -> Answer<O>
+    ensures status { (result.status ≡ status) ⊎ (result.status ≡ 3) }
+    ensures written { (result.status ≡ 3 → ⊥) → (out : O) × (result.output ≡ Some out)
+        × Appends (O.contents output) (O.contents out) text.now }
+{
+    match output.write_all(text.as_bytes()) {
+        Ok(()) => Answer {
+            status,
+            output: Some(output),
+        },
+        Err(_) => Answer {
+            status: tell_fault(errors, &ProgramFault::Write(DeviceFailed)),
+            output: None,
+        },
+    }
+}
+
+/// Tells why a command line is refused, and answers the status.
+pub fn refuse<E: Write>(errors: &mut E, text: &str) -> u8
+    ensures { result ≡ 2 }
+{
+    let _ = errors.write_all(text.as_bytes());
+    REFUSED
+}
+
+/// Tells why the words are no plan, or gives the help that they ask for, and answers the status.
+fn tell_no_plan<O: Write + Drop, E: Write>(output: O, errors: &mut E, fault: PlanFault) -> Answer<O>
+    ensures memory { fault ≡ PlanFault.Memory → result.status ≡ 3 }
+    ensures otherwise { (result.status ≡ 2) ⊎ (result.status ≡ 3) }
+{
+    let status = match fault {
+        PlanFault::Memory => tell_fault(errors, &ProgramFault::Memory),
+        PlanFault::Help(text) => return show(output, errors, &text, REFUSED),
+        PlanFault::Refused(text) => refuse(errors, &text),
+    };
+    Answer {
+        status,
+        output: None,
+    }
+}
+
+/// Reads the words of a command line, the program's name first, and does what they ask: with files in `folder`, what is typed
+/// from `input`, what is sent, listed, answered or helped with to `output`, and what is told of refusals, faults and ends to `errors`.
+///
+/// Answers the status: 0 for what was done, the version shown among it, and of a run where the machine halted with 0; 1 for a run
+/// that ended otherwise; 2 for a command line that was refused or asks for help, and where a file would be written over another of the
+/// command; 3 for another fault. At 0 and 1 the output comes with it, which has grown by exactly what was asked for.
+pub fn status_of<F: Folder, I: Read + Drop, O: Write + Drop, E: Write>(
+    alloc: Global,
+    folder: &mut F,
+    input: I,
+    output: O,
+    errors: &mut E,
+    words: &[&str],
+) -> Answer<O>
+    ensures version { asks_version (map (λ word. word.now) words.entry.now) ≡ true
+        → ((result.status ≡ 0) × (out : O) × (result.output ≡ Some out) × Appends (O.contents output) (O.contents out) version_line)
+        ⊎ (result.status ≡ 3) }
+    // At 0 and 1 a plan that the words are was carried out wholly.
+    ensures done { asks_version (map (λ word. word.now) words.entry.now) ≡ false → result.status ≤ 1
+        → (out : O) × (result.output ≡ Some out) × IsCarriedOut (map (λ word. word.now) words.entry.now) (F.same folder.old)
+        (I.remaining input) (changed (O.contents output) (O.contents out) (F.files folder.old) (F.files folder.new)) result.status }
+    // At 2 clap doesn't take the words, or finds no sound plan in them, or a file would be written over another of the command.
+    ensures refused { result.status ≡ 2 → IsRefused (map (λ word. word.now) words.entry.now)
+        ⊎ IsSpared (map (λ word. word.now) words.entry.now) (F.same folder.old) (F.files folder.old) (F.files folder.new) }
+    ensures most { result.status ≤ 3 }
+{
+    if asks_version(words) {
+        return show(output, errors, VERSION, 0);
+    }
+    match plan(alloc, words) {
+        Ok(plan) => carry_apart(alloc, folder, input, output, errors, plan),
+        Err(fault) => tell_no_plan(output, errors, fault),
+    }
+}
