@@ -3,7 +3,7 @@
  * A machine is held by a handle. Each function below has a contract that the library's code is proved to meet; it stands here in words.
  * Every call is total and returns. All but cherisim_free, cherisim_version and cherisim_disassemble answer a status; what such a call
  * writes it writes whole, or not at all where the status isn't CHERISIM_OK, but for the line of a faulty text, and the length or the
- * count that cherisim_why or cherisim_reach would have needed.
+ * count that a call with a buffer would have needed.
  *
  * What C owes: a pointer points to what its type says and to nothing else that the call is given, and none is null, be its length 0; a
  * handle begins as CHERISIM_NONE and is never copied; it is used by one call at a time, and by the thread that made it; a tagged
@@ -26,11 +26,13 @@ typedef struct { void *at; } cherisim_t;
 /* A capability, or 128 bits of data. */
 typedef cheri_cap_t cherisim_cap_t;
 
-/* What a call answers: 1 to 15 are the faults L1 to L15 of an image, 33 to 43 the faults A1 to A11 of a text; but that there is no memory
- * for it (L11, A10) is CHERISIM_NO_MEMORY, and 10 never comes, because bytes in memory can't fail to be read (L10). */
+/* What a call answers: 1 to 15 are the faults L1 to L15 of an image, 33 to 43 the faults A1 to A11 of a text, 49 to 56
+ * the faults P1 to P8 of a policy; but that there is no memory for it (L11, A10) is CHERISIM_NO_MEMORY, and 10 never comes, because bytes
+ * in memory can't fail to be read (L10). */
 typedef uint32_t cherisim_status;
 enum {
     CHERISIM_OK = 0,
+    CHERISIM_LABELS = 57,     /* a line of a table of labels has no address and label */
     CHERISIM_NO_MEMORY = 64,  /* out of memory */
     CHERISIM_NO_MACHINE = 65, /* the handle has none */
     CHERISIM_RANGE = 66,      /* no such register, an address outside RAM or not aligned, a value that can't stand there */
@@ -62,6 +64,12 @@ void cherisim_free(cherisim_t *machine);
 typedef struct { bool sends; uint8_t byte; } cherisim_sent_t;
 /* One step: an interrupt that pends, an instruction, or a trap. A halted machine ignores it. */
 cherisim_status cherisim_step(cherisim_t *machine, cherisim_sent_t *sent);
+/* What steps did: how many were done, and the byte that the last of them sent, if it sent one. */
+typedef struct { uint64_t steps; cherisim_sent_t sent; } cherisim_stepped_t;
+/* Steps while RAM has these bytes from an address on, which is looked at before each: so many at most, and up to one that sends a byte or
+ * halts the machine. No tick comes between them. Where RAM has others there, or ends before, no step is done. */
+cherisim_status cherisim_step_while(cherisim_t *machine, uint64_t most, uint64_t address, const uint8_t *bytes, size_t length,
+                                    cherisim_stepped_t *stepped);
 /* The timer ticks. */
 cherisim_status cherisim_tick(cherisim_t *machine);
 /* A byte comes on the console's line. */
@@ -138,6 +146,9 @@ cherisim_status cherisim_next_ends(cherisim_t *machine, uint32_t *why);
 /* What the next step will do, and why, as the debugger's command `why` shows it: *length bytes of text, no 0 after them. Where the
  * buffer is too short, CHERISIM_FULL, and *length is what it takes. */
 cherisim_status cherisim_why(cherisim_t *machine, uint8_t *text, size_t room, size_t *length);
+/* The line of a trace for the next step (docs/TRACE.md), as that of step `number`, with its line feed: *length bytes of text, no 0 after
+ * them; of a halted machine none. Where the buffer is too short, CHERISIM_FULL, and *length is what it takes. */
+cherisim_status cherisim_trace(cherisim_t *machine, uint64_t number, uint8_t *text, size_t room, size_t *length);
 /* The text of an instruction word, as cheri_disassemble() gives it: how many bytes of `text` it has, at most 64. */
 size_t cherisim_disassemble(uint32_t word, bool capability_mode, char text[64]);
 
@@ -181,6 +192,68 @@ cherisim_status cherisim_may_system(cherisim_t *machine, cherisim_answer_t *answ
 cherisim_status cherisim_may_timer(cherisim_t *machine, cherisim_answer_t *answer);
 /* Is a member sealed with this object type (below 2^18), or may seal with it? (Of sentries any code may.) If not, no member allows it. */
 cherisim_status cherisim_may_hold(cherisim_t *machine, uint32_t otype, cherisim_answer_t *answer);
+
+/* ---- the same through doors, up to the next trap or unsealing: sealed jumps are gone through */
+
+/* All members, with what doors lead to: what door n leads to, the sealed capability without its seal, is found in register 34 + n. Where
+ * there is no room for all, CHERISIM_FULL, and *count is how many there are. */
+cherisim_status cherisim_reach_through_doors(cherisim_t *machine, cherisim_member_t *members, size_t room, size_t *count);
+/* A door: where the sealed capability and its key were found, as members are. A sentry, which needs none, is its own key; else CInvoke
+ * takes both, or the key seals a partner for CInvoke. */
+typedef struct { uint64_t sealed, key; uint32_t sealed_kind, key_kind; } cherisim_door_t;
+/* All doors, *count of them at the beginning of `doors`, in the order in which they are opened: a register from 34 on in which one was
+ * found is behind an earlier door. Where there is no room for all, CHERISIM_FULL, and *count is how many there are. */
+cherisim_status cherisim_doors(cherisim_t *machine, cherisim_door_t *doors, size_t room, size_t *count);
+
+/* What may be asked: what cherisim_may_store, .. _hold ask. */
+enum {
+    CHERISIM_MAY_STORE = 0,
+    CHERISIM_MAY_LOAD = 1,
+    CHERISIM_MAY_EXECUTE = 2,
+    CHERISIM_MAY_LEARN = 3,
+    CHERISIM_MAY_KEEP = 4,
+    CHERISIM_MAY_SEND = 5,
+    CHERISIM_MAY_HALT = 6,
+    CHERISIM_MAY_SYSTEM = 7,
+    CHERISIM_MAY_TIMER = 8,
+    CHERISIM_MAY_HOLD = 9
+};
+/* A question: its kind, the bytes or the object type that it is about, and whether doors are gone through. */
+typedef struct { uint64_t address, length; uint32_t kind, otype; bool doors; } cherisim_question_t;
+/* May the code do so? If not, what the function of that name says holds up to the next trap, unsealing or sealed jump, or through doors up
+ * to the next trap or unsealing. CHERISIM_RANGE for another kind. */
+cherisim_status cherisim_may(cherisim_t *machine, const cherisim_question_t *question, cherisim_answer_t *answer);
+
+/* ---- policies (docs/POLICY.md): rules about what code in some ranges can come to hold */
+
+/* A run from the machine's state on: so many steps at most (10^14 or fewer), a byte of the input just before each step with a number
+ * 1 + i * gap (1 to 10^6), and a tick after each step whose number is a multiple of `tick` (10^6 or less; 0: none). Nothing comes after
+ * the step that halts the machine. */
+typedef struct { uint64_t steps, gap, tick; } cherisim_timetable_t;
+/* The parts of a rule. */
+enum {
+    CHERISIM_RULE_STORE = 0,
+    CHERISIM_RULE_LOAD = 1,
+    CHERISIM_RULE_EXECUTE = 2,
+    CHERISIM_RULE_TRANSMIT = 3,
+    CHERISIM_RULE_HALT = 4,
+    CHERISIM_RULE_TIMER = 5,
+    CHERISIM_RULE_SYSTEM = 6,
+    CHERISIM_RULE_SEAL = 7,
+    CHERISIM_RULE_TYPES = 8,
+    CHERISIM_RULE_KEEP = 9
+};
+/* Where a policy stops a run, if one is found: the number of the step that is not done; the line of the rule that is broken there; which
+ * member of the reach of the state before that step breaks it; and which part. Else 0 each. */
+typedef struct { uint64_t step, line, member; uint32_t part; bool found; } cherisim_breach_t;
+/* Where a policy stops a run, as `cherisim run --policy` does: the first step before which a reachable capability breaks a rule about the
+ * code. Each step before it keeps to the rules, as it is proved of them; a halted machine does no step. The machine stays as it is: the run
+ * is done on a copy. `labels` is the text of a table of labels, as `asm --symbols` writes it. CHERISIM_RANGE for a timetable out of its
+ * ranges. Where a line of a text is faulty, 48 + n for the fault Pn of a policy, and CHERISIM_LABELS for a line that is no label's; *line
+ * is its number, and 0 for other refusals but CHERISIM_NO_MACHINE. */
+cherisim_status cherisim_watch(cherisim_t *machine, const uint8_t *policy, size_t policy_length,
+                               const uint8_t *labels, size_t labels_length, const cherisim_timetable_t *timetable,
+                               const uint8_t *input, size_t input_length, cherisim_breach_t *breach, uint64_t *line);
 
 #ifdef __cplusplus
 }

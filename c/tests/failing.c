@@ -35,6 +35,7 @@ static const uint8_t image[] = "CHERIIMG" "\2\0\0\0" "\1\0\0\0" "\0\0\0\x80\0\0\
                                "\1\0\0\0" "\x10\0\0\x80\0\0\0\0" "\0\0\0\x80\0\0\0\0" "\x40\0\0\0\0\0\0\0" "\xff\xff\0\0" "\0\0\0\0";
 static const char *text = ".pages 3\n.mode 1\nfirst: nop\nsecond: j first\n.org 0x80001000\ntable: .cap second, 16, 65535, 0\n"
                           ".dword table\n.org 0x80000100\nthird: .zero 100\n.ascii \"and so on\"\n";
+static const uint8_t nothing_typed[1];
 static cherisim_t source;
 
 static cherisim_status call_new(cherisim_t *m) { return cherisim_new(image, sizeof image - 1, m); }
@@ -62,6 +63,40 @@ static cherisim_status call_may(cherisim_t *m) {
     cherisim_answer_t answer = {99, false};
     cherisim_status status = cherisim_may_store(m, RAM, 1, &answer);
     ROW(answer.member == (status ? 99 : 0) && answer.may == !status);
+    return status;
+}
+
+static cherisim_status call_through_doors(cherisim_t *m) {
+    cherisim_member_t members[64] = {{.place = 0xee}};
+    size_t count = 99;
+    cherisim_status status = cherisim_reach_through_doors(m, members, COUNT_OF(members), &count);
+    if (status) ROW(count == 99 && members[0].place == 0xee);
+    return status;
+}
+static cherisim_status call_doors(cherisim_t *m) {
+    cherisim_door_t doors[64] = {{.sealed = 0xee}};
+    size_t count = 99;
+    cherisim_status status = cherisim_doors(m, doors, COUNT_OF(doors), &count);
+    if (status) ROW(count == 99 && doors[0].sealed == 0xee);
+    return status;
+}
+static cherisim_status call_may_through_doors(cherisim_t *m) {
+    cherisim_question_t question = {RAM, 1, CHERISIM_MAY_STORE, 0, true};
+    cherisim_answer_t answer = {99, false};
+    cherisim_status status = cherisim_may(m, &question, &answer);
+    ROW(answer.member == (status ? 99 : 0) && answer.may == !status);
+    return status;
+}
+static cherisim_status call_watch(cherisim_t *m) {
+    static const char *policy = "code = start..+8 0x80001000..+16\nwhen pc in code: store no, types none, or caller\n";
+    static const char *labels = "0000000080000000 start\n";
+    cherisim_timetable_t timetable = {100, 1000, 0};
+    cherisim_breach_t breach = {99, 99, 99, 99, false};
+    uint64_t line = 99;
+    cherisim_status status = cherisim_watch(m, (const uint8_t *)policy, strlen(policy), (const uint8_t *)labels, strlen(labels), &timetable,
+                                            nothing_typed, 0, &breach, &line);
+    ROW(breach.found == !status && breach.step == (status ? 99 : 1) && breach.line == (status ? 99 : 2) && line == (status ? 0 : 99));
+    ROW(status || (breach.member == 0 && breach.part == CHERISIM_RULE_STORE));
     return status;
 }
 
@@ -93,7 +128,8 @@ static void takes_none(void) {
     cherisim_t m = CHERISIM_NONE;
     cherisim_asked_t asked = {1000, 7, 0, 0, false, false};
     cherisim_ran_t ran;
-    uint8_t bytes[64] = {0};
+    uint8_t bytes[64] = {0}, line[1024];
+    size_t length;
     cherisim_cap_t values[32];
     of_text(&m, "loop: addi a0, a0, 1\nsc.ddc ca1, (a2)\nebreak\n");
     DONE(cherisim_set_reg(&m, 12, number(RAM + 64)));
@@ -109,6 +145,7 @@ static void takes_none(void) {
     DONE(cherisim_all_regs(&m, values));
     steps(&m, 9);
     ROW(ran.steps == 1000 && same(&m, &m) && ends(&m) < 4);
+    DONE(cherisim_trace(&m, 1, line, sizeof line, &length));
     ROW(cherisim_new(image, 5, &m) == 1);
     left = -1;
     cherisim_free(&m);
@@ -119,7 +156,9 @@ int main(void) {
     steps(&source, 1);
     const struct { const char *name; cherisim_status (*call)(cherisim_t *); bool makes; } calls[] = {
         {"new", call_new, true}, {"new_flat", call_new_flat, true}, {"assemble", call_assemble, true}, {"copy", call_copy, true},
-        {"why", call_why, false}, {"reach", call_reach, false}, {"may_store", call_may, false}};
+        {"why", call_why, false}, {"reach", call_reach, false}, {"may_store", call_may, false},
+        {"reach_through_doors", call_through_doors, false}, {"doors", call_doors, false}, {"may", call_may_through_doors, false},
+        {"watch", call_watch, false}};
     for (size_t i = 0; i < COUNT_OF(calls); i += 1) {
         if (calls[i].makes) each_fails(calls[i].name, calls[i].call, false);
         each_fails(calls[i].name, calls[i].call, true);

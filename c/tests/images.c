@@ -260,6 +260,8 @@ static void asked_without_machine(void) {
     size_t length = 19, count = 20;
     cherisim_member_t member = {root_at(7), 21, 22, 23};
     cherisim_answer_t answer = {24, true};
+    cherisim_door_t door = {25, 26, 27, 28};
+    cherisim_question_t question = {RAM, 1, CHERISIM_MAY_STORE, 0, true}, unknown = {0, 0, 10, 0, false};
     ROW(cherisim_reg(&m, 1, &cap) == none && cherisim_all_regs(&m, values) == none && cherisim_scr(&m, PCC, &cap) == none);
     ROW(cherisim_csr(&m, MIE, &n) == none && cherisim_pages(&m, &pages) == none && cherisim_read(&m, RAM, bytes, 4) == none);
     ROW(cherisim_read_cap(&m, RAM, &cap) == none && cherisim_next_tagged(&m, 0, &n) == none && cherisim_halted(&m, &halt) == none);
@@ -269,6 +271,9 @@ static void asked_without_machine(void) {
     ROW(cherisim_may_execute(&m, RAM, 1, &answer) == none && cherisim_may_learn(&m, RAM, 1, &answer) == none);
     ROW(cherisim_may_send(&m, &answer) == none && cherisim_may_halt(&m, &answer) == none && cherisim_may_system(&m, &answer) == none);
     ROW(cherisim_may_timer(&m, &answer) == none && cherisim_may_hold(&m, 1, &answer) == none && answer.member == 24 && answer.may);
+    ROW(cherisim_reach_through_doors(&m, &member, 1, &count) == none && cherisim_doors(&m, &door, 1, &count) == none);
+    ROW(cherisim_may(&m, &question, &answer) == none && cherisim_may(&m, &unknown, &answer) == none && answer.member == 24 && answer.may);
+    ROW(door.sealed == 25 && door.key == 26 && door.sealed_kind == 27 && door.key_kind == 28);
     ROW(equal(member.value, root_at(7)) && member.place == 21 && member.from == 22 && member.kind == 23 && count == 20);
     ROW(equal(cap, root_at(5)) && equal(values[0], root_at(6)) && halt.halted && halt.number == 11 && time.mtime == 12);
     ROW(time.mtimecmp == 13 && held.waiting == 14 && held.overrun && held.control && bytes[0] == 15 && n == 16 && pages == 17);

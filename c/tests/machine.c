@@ -434,6 +434,55 @@ static void system_traps(void) {
     cherisim_free(&m);
 }
 
+/* ---- steps while RAM has some bytes, against single steps with a look before each */
+
+static void watched_bytes(cherisim_t *m, uint64_t most, uint64_t address, size_t length) {
+    cherisim_t single = CHERISIM_NONE;
+    cherisim_stepped_t stepped = {99, {true, 9}};
+    cherisim_sent_t sent = {false, 0};
+    uint8_t held[64], now[64];
+    uint64_t done = 0;
+    DONE(cherisim_copy(m, &single));
+    DONE(cherisim_read(m, address, held, length));
+    DONE(cherisim_step_while(m, most, address, held, length, &stepped));
+    for (; done < most && !sent.sends && !halted(&single).halted; done += 1) {
+        DONE(cherisim_read(&single, address, now, length));
+        if (memcmp(held, now, length)) break;
+        DONE(cherisim_step(&single, &sent));
+    }
+    ROW(stepped.steps == done && stepped.sent.sends == sent.sends && stepped.sent.byte == sent.byte && same(m, &single));
+    cherisim_free(&single);
+}
+
+static void steps_while(void) {
+    static const char *text = "lui a1, 0x10000\nla a2, table\nlui a0, 64\nloop: addi a0, a0, -1\nandi a3, a0, 63\nsrli a4, a0, 6\n"
+                              "add a5, a2, a3\nsb a4, 0(a5)\nbne a3, zero, loop\nsb a4, 0(a1)\nbne a0, zero, loop\n"
+                              "lui a1, 0x100\nsd a0, 0(a1)\n"
+                              ".org 0x80000100\ntable: .zero 64\n";
+    static const size_t lengths[] = {1, 4, 8, 16, 64};
+    cherisim_t m = CHERISIM_NONE;
+    cherisim_stepped_t stepped = {99, {true, 9}};
+    uint8_t held[8] = {0};
+    ROW(cherisim_step_while(&m, 1, RAM, held, 8, &stepped) == CHERISIM_NO_MACHINE && stepped.steps == 99 && stepped.sent.byte == 9);
+    for (size_t i = 0; i < COUNT_OF(lengths); i += 1) {
+        of_text(&m, text);
+        for (int n = 0; n < 40; n += 1) watched_bytes(&m, n % 3 ? 100 : UINT64_MAX, RAM + 0x100 + (i == 0 ? 5 : 0), lengths[i]);
+    }
+    of_text(&m, "loop: j loop\n");
+    watched_bytes(&m, 12345, RAM, 64);
+    watched_bytes(&m, 0, RAM, 64);
+    watched_bytes(&m, 77, RAM + PAGE, 0);
+    DONE(cherisim_step_while(&m, 5, RAM + 8, (const uint8_t *)"x", 1, &stepped));
+    ROW(stepped.steps == 0 && !stepped.sent.sends);
+    DONE(cherisim_step_while(&m, 5, RAM + PAGE - 4, held, 8, &stepped));
+    ROW(stepped.steps == 0 && !stepped.sent.sends);
+    of_text(&m, "lui a1, 0x100\nli a0, 7\nsd a0, 0(a1)\n");
+    watched_bytes(&m, 100, RAM, 8);
+    ROW(halted(&m).halted);
+    watched_bytes(&m, 100, RAM, 8);
+    cherisim_free(&m);
+}
+
 /* ---- texts */
 
 static void why(cherisim_t *m, const char *expected) {
@@ -511,6 +560,7 @@ int main(void) {
     written_capabilities();
     jump_traps();
     system_traps();
+    steps_while();
     shown_texts();
     printf("%lu rows, %lu wrong\n", tried, wrong);
     return wrong != 0;

@@ -18,26 +18,27 @@ from __future__ import annotations
 import enum
 from ctypes import byref, c_size_t, c_uint32, c_uint64, create_string_buffer, pointer
 from threading import get_ident
-from typing import Any, Iterator, NamedTuple, Optional, Tuple, Union
+from typing import Any, Collection, Iterator, List, NamedTuple, Optional, Sequence, Tuple, Union
 
 from . import _library as c
 from ._caps import Cap, Insn, Perms, decode, disassemble, encode, execute
-from ._faults import (CherisimError, Closed, ImageFault, OutOfMemory, OutOfRange, SymbolsFault, TextFault, WrongThread, in_range,
-                      refusal)
+from ._faults import (CherisimError, Closed, ImageFault, OutOfMemory, OutOfRange, PolicyFault, SymbolsFault, TextFault, WrongThread,
+                      in_range, refusal)
 from ._html import machine_html
 from ._library import NULL_UPPER, SENTRY, UNSEALED, lib
-from ._reach import Answer, Questions, Reach, ReachMember
+from ._policy import _ORDER, _PARTS, Breach, Policy, Watched
+from ._reach import Answer, Door, Questions, Reach, ReachMember
 from ._symbols import Symbols, labels_of
 from ._views import (_SHOWN, CSRS, PAGE, RAM, REGISTERS, SCRS, Memory, Registers, SpecialRegisters, StatusRegisters, _value)
 
 __version__ = "0.1.0"
-__all__ = ["Answer", "CSRS", "Cap", "CherisimError", "Closed", "Console", "ImageFault", "Insn", "Machine", "Memory", "NULL_UPPER",
-           "OutOfMemory", "OutOfRange", "PAGE", "Perms", "RAM", "REGISTERS", "Ran", "Reach", "ReachMember", "Registers", "SCRS", "SENTRY",
-           "SpecialRegisters", "StatusRegisters", "Stop", "Symbols", "SymbolsFault", "TextFault", "Timer", "UNSEALED", "WrongThread",
-           "decode", "disassemble", "encode", "execute"]
+__all__ = ["Answer", "Breach", "CSRS", "Cap", "CherisimError", "Closed", "Console", "Door", "ImageFault", "Insn", "Machine", "Memory",
+           "NULL_UPPER", "OutOfMemory", "OutOfRange", "PAGE", "Perms", "Policy", "PolicyFault", "RAM", "REGISTERS", "Ran", "Reach",
+           "ReachMember", "Registers", "SCRS", "SENTRY", "SpecialRegisters", "StatusRegisters", "Stop", "Symbols", "SymbolsFault",
+           "TextFault", "Timer", "UNSEALED", "Watched", "WrongThread", "decode", "disassemble", "encode", "execute"]
 
 _PLACES = ((*_SHOWN, *tuple(SCRS)[:2]), tuple(SCRS)[2:])  # where members are found: registers, and special registers
-_ROOM = {"sent": 65536, "why": 4096, "reach": 64}  # the room of a buffer, which a call may need more than once
+_ROOM = {"sent": 65536, "text": 4096, "reach": 64}  # the room of a buffer, which a call may need more than once
 _BUFFER, _FULL = c.CONSTANTS["BUFFER"], c.CONSTANTS["FULL"]
 
 
@@ -58,6 +59,9 @@ class Stop(enum.IntEnum):
     """The next step unseals a capability."""
     SEALED_JUMP = 6
     """The next step is a CInvoke, or a jump or a return through a sentry."""
+
+
+_ENDS = frozenset((Stop.TRAP, Stop.UNSEAL, Stop.SEALED_JUMP))  # what ends a stretch
 
 
 class Ran(NamedTuple):
@@ -84,10 +88,17 @@ class Console(NamedTuple):
     control: bool
 
 
-def _member(number: int, member: c.Member) -> ReachMember:
-    """A member of a reach as C gives it."""
-    where = _PLACES[member.kind][member.place] if member.kind < len(_PLACES) else member.place
-    return ReachMember(number, Cap._of(member.value), where, member.from_ if member.kind else None)
+def _reach_of(members: Sequence[c.Member], doors: Sequence[c.Door] = ()) -> Reach:
+    """A reach, of what C gives."""
+    numbers = {(member.kind, member.place): number for number, member in enumerate(members)}
+    opened = [Door(numbers[it.sealed_kind, it.sealed], numbers[it.key_kind, it.key]) for it in doors]
+    registers = (*_PLACES[0], *opened)
+
+    def where(member: c.Member) -> Union[str, int, Door]:
+        return (registers, _PLACES[1])[member.kind][member.place] if member.kind < len(_PLACES) else member.place
+
+    return Reach(ReachMember(number, Cap._of(member.value), where(member), member.from_ if member.kind else None)
+                 for number, member in enumerate(members))
 
 
 # ---- machines
@@ -210,7 +221,8 @@ class Machine(Questions):
         for byte in bytes(memoryview(data)):
             self._do(lib.cherisim_receive, byte)
 
-    def run(self, steps: int, until: Union[None, str, int] = None, *, tick: int = 0, input: bytes = b"", gap: int = 1000) -> Ran:
+    def run(self, steps: int, until: Union[None, str, int, Collection[Stop]] = None, *, tick: int = 0, input: bytes = b"",
+            gap: int = 1000) -> Ran:
         """Runs so many steps at most, as `cherisim run` does, and answers what was done.
 
         A byte of the input comes just before each step with a number 1 + i * gap, and a tick after each step whose number is a
@@ -218,20 +230,21 @@ class Machine(Questions):
 
         With an address or a label as `until` the run stops before a step whose PCC has it; with "trap" before a step that traps, unseals a
         capability, or jumps through a seal: what it leaves is the state before that step. (A label of that name is `symbols["trap"]`.) With
-        Stop.TRAP, Stop.UNSEAL or Stop.SEALED_JUMP it stops before a step of that kind alone, of which it looks at each end of a stretch.
+        Stop.TRAP, Stop.UNSEAL or Stop.SEALED_JUMP, or a tuple of these, it stops before a step of such a kind alone, and looks at each end
+        of a stretch for it.
         """
         if gap < 1:
             raise OutOfRange(f"no gap {gap}")
         in_range("number of steps", steps, 64)
         in_range("tick", tick, 64)
         asked = c.Asked(tick=tick)
-        wanted = until if isinstance(until, Stop) else None
-        if wanted is not None and wanted < Stop.TRAP:
-            raise ValueError(f"no step is a {wanted!r}")
-        if until == "trap" or wanted is not None:
-            asked.at_end = True
-        elif until is not None:
+        wanted: Collection[Stop] = _ENDS if until == "trap" else {until} if isinstance(until, Stop) else ()
+        if isinstance(until, (str, int)) and not wanted:
             asked.address, asked.at_address = self.address_of(until), True
+        elif until is not None:
+            wanted, asked.at_end = wanted or {*until}, True
+            if not _ENDS.issuperset(wanted):
+                raise ValueError(f"no step is one of {until!r}")
         began, done = len(self.sent), 0
         for byte, mark in zip(bytes(memoryview(input)), range(0, steps, gap)):
             done, stop = self._run_to(asked, done, mark, wanted)
@@ -241,16 +254,84 @@ class Machine(Questions):
         done, stop = self._run_to(asked, done, steps, wanted)
         return Ran(done, bytes(self.sent[began:]), stop, self.halted)
 
-    def _run_to(self, asked: c.Asked, done: int, mark: int, wanted: Optional[Stop] = None) -> Tuple[int, Stop]:
-        """Runs from a number of steps to another, and answers where it came to, and why it stopped; of ends of a stretch for this reason
-        alone, where one is wanted."""
+    def run_turn(self, steps: int, *, tick: int = 0, input: bytes = b"", gap: int = 1000) -> Ran:
+        """The same up to the first step that traps or unseals a capability: through sealed jumps, up to where answers with `doors` hold."""
+        return self.run(steps, (Stop.TRAP, Stop.UNSEAL), tick=tick, input=input, gap=gap)
+
+    def trace(self, steps: int, *, tick: int = 0, input: bytes = b"", gap: int = 1000) -> str:
+        """Runs so many steps at most, and answers a line for each, as `cherisim run --trace` writes it (docs/TRACE.md)."""
+        if gap < 1:
+            raise OutOfRange(f"no gap {gap}")
+        in_range("number of steps", steps, 64)
+        in_range("tick", tick, 64)
+        lines, asked, data = [], c.Asked(tick=tick), bytes(memoryview(input))
+        for done in range(steps):
+            if self.halted is not None:
+                break
+            if done % gap == 0 and done // gap < len(data):
+                self.receive(data[done // gap:done // gap + 1])
+            lines.append(self._text(lib.cherisim_trace, c_uint64(done + 1)))
+            self._run_to(asked, done, done + 1)
+        return "".join(lines)
+
+    def watch(self, policy: Union[Policy, str], steps: int, *, tick: int = 0, input: bytes = b"", gap: int = 1000) -> Watched:
+        """Runs so many steps at most, as `cherisim run --policy` does: up to the first before which a reachable capability breaks a rule
+        about the code. Up to there, it is proved, the rules are kept. A text as the policy may name the machine's labels."""
+        policy, timetable, data = self._policed(policy, steps, tick, gap), c.Timetable(steps, gap, tick), bytes(memoryview(input))
+        found = self._breach(policy, timetable, data)
+        ran = self.run(found.step - 1 if found.found else steps, tick=tick, input=data, gap=gap)
+        if not found.found:
+            return Watched(ran, None)
+        if ran.steps % gap == 0 and ran.steps // gap < len(data):
+            self.receive(data[ran.steps // gap:ran.steps // gap + 1])
+        return Watched(ran, self._shown_breach(found))
+
+    def audit(self, policy: Union[Policy, str], steps: int, *, tick: int = 0, input: bytes = b"", gap: int = 1000) -> List[Breach]:
+        """Each part of a rule that is broken in a run, with the first step before which it is, as `cherisim audit` tells them. The machine
+        stays as it is. The run is done for each part of a rule."""
+        from ._replay import Replay, Schedule  # which is made of this module, too
+        policy, timetable, data = self._policed(policy, steps, tick, gap), c.Timetable(steps, gap, tick), bytes(memoryview(input))
+        self._breach(policy, timetable, data)
+        every = [self._breach(part, timetable, data) for part in policy._single()]
+        found = sorted((it for it in every if it.found), key=lambda it: (it.step, it.line, _ORDER.index(_PARTS[it.part])))
+        told, run = [], Replay(self.copy(), Schedule(data, gap, tick))
+        for it in found:
+            run.go_to(it.step - 1)
+            told.append(run.machine._shown_breach(it))
+        return told
+
+    def _policed(self, policy: Union[Policy, str], steps: int, tick: int, gap: int) -> Policy:
+        """A policy that is given as itself or as a text, where the numbers of a run are in range."""
+        for what, number in (("number of steps", steps), ("tick", tick), ("gap", gap)):
+            in_range(what, number, 64)
+        return policy if isinstance(policy, Policy) else Policy.read(policy, self.symbols)
+
+    def _shown_breach(self, found: c.Breach) -> Breach:
+        """A breach, of the state before its step."""
+        reach = self.reach()
+        way = tuple(reach[number] for number in reach.chain(found.member))
+        return Breach(found.step, found.line, _PARTS[found.part], way[-1], way)
+
+    def _breach(self, policy: Policy, timetable: c.Timetable, data: bytes) -> c.Breach:
+        """Where a policy stops a run, as C gives it."""
+        found, line = c.Breach(), c_uint64()
+        self._own()
+        status = lib.cherisim_watch(self._at, policy.text, len(policy.text), policy.labels, len(policy.labels), byref(timetable), data,
+                                    len(data), byref(found), byref(line))
+        if status:
+            raise refusal(status, "cherisim_watch", line.value)
+        return found
+
+    def _run_to(self, asked: c.Asked, done: int, mark: int, wanted: Collection[Stop] = _ENDS) -> Tuple[int, Stop]:
+        """Runs from a number of steps to another, and answers where it came to, and why it stopped: of ends of a stretch at those that are
+        wanted alone."""
         ran, room = c.Ran(), create_string_buffer(max(1, min(mark - done, _ROOM["sent"])))
         while True:
             asked.steps, asked.before = mark - done, done
             self._do(lib.cherisim_run, byref(asked), room, len(room), byref(ran))
             self.sent += room[:ran.sent]
             done += ran.steps
-            if ran.stop >= Stop.TRAP and wanted is not None and ran.stop != wanted:
+            if ran.stop in _ENDS and ran.stop not in wanted:
                 asked.at_end = False
                 done, _ = self._run_to(asked, done, done + 1)
                 asked.at_end = True
@@ -359,29 +440,41 @@ class Machine(Questions):
         self._do(lib.cherisim_next_ends, byref(why))
         return Stop(why.value) if why.value else None
 
-    def why(self) -> str:
-        """What the next step will do, and why, as the debugger's command `why` shows it."""
-        room, length = create_string_buffer(_ROOM["why"]), c_size_t()
+    def _text(self, call: Any, *given: Any) -> str:
+        """The text of a call that takes a buffer, its room, and where it puts the length, which is what the text takes where it is too
+        long."""
+        room, length = create_string_buffer(_ROOM["text"]), c_size_t()
         self._own()
-        status = lib.cherisim_why(self._at, room, len(room), byref(length))
+        status = call(self._at, *given, room, len(room), byref(length))
         if status == _FULL:
             room = create_string_buffer(length.value)
-            status = lib.cherisim_why(self._at, room, len(room), byref(length))
+            status = call(self._at, *given, room, len(room), byref(length))
         if status:
-            raise refusal(status, "cherisim_why")
+            raise refusal(status, call.__name__)
         return room.raw[:length.value].decode("ascii")
 
-    def reach(self) -> Reach:
-        """What the code that runs from here on can come to hold, whatever its instructions are, up to the next trap, unsealing or sealed
-        jump: the members of docs/AUTHORITY.md's *reachable*, as the debugger's command `reach members` shows them."""
+    def why(self) -> str:
+        """What the next step will do, and why, as the debugger's command `why` shows it."""
+        return self._text(lib.cherisim_why)
+
+    def _all(self, call: Any, kind: Any) -> Any:
+        """What a call puts into a buffer of these structures, whose count it gives where there is no room for all."""
         count, status = c_size_t(_ROOM["reach"]), _FULL
         self._own()
         while status == _FULL:
-            room = (c.Member * count.value)()
-            status = lib.cherisim_reach(self._at, room, len(room), byref(count))
+            room = (kind * count.value)()
+            status = call(self._at, room, len(room), byref(count))
         if status:
-            raise refusal(status, "cherisim_reach")
-        return Reach(_member(number, room[number]) for number in range(count.value))
+            raise refusal(status, call.__name__)
+        return room[:count.value]
+
+    def reach(self, doors: bool = False) -> Reach:
+        """What the code that runs from here on can come to hold, whatever its instructions are, up to the next trap, unsealing or sealed
+        jump: the members of docs/AUTHORITY.md's *reachable*, as the debugger's command `reach members` shows them. With `doors`, what it
+        can come to hold through sealed jumps up to the next trap or unsealing."""
+        if doors:
+            return _reach_of(self._all(lib.cherisim_reach_through_doors, c.Member), self._all(lib.cherisim_doors, c.Door))
+        return _reach_of(self._all(lib.cherisim_reach, c.Member))
 
     def _repr_html_(self) -> str:
         return machine_html(self)

@@ -33,6 +33,10 @@ class Sent(ctypes.Structure):
     _fields_ = [("sends", c_bool), ("byte", c_uint8)]
 
 
+class Stepped(ctypes.Structure):
+    _fields_ = [("steps", c_uint64), ("sent", Sent)]
+
+
 class Asked(ctypes.Structure):
     _fields_ = [("steps", c_uint64), ("tick", c_uint64), ("before", c_uint64), ("address", c_uint64), ("at_address", c_bool),
                 ("at_end", c_bool)]
@@ -62,8 +66,25 @@ class Answer(ctypes.Structure):
     _fields_ = [("member", c_uint64), ("may", c_bool)]
 
 
+class Door(ctypes.Structure):
+    _fields_ = [("sealed", c_uint64), ("key", c_uint64), ("sealed_kind", c_uint32), ("key_kind", c_uint32)]
+
+
+class Question(ctypes.Structure):
+    _fields_ = [("address", c_uint64), ("length", c_uint64), ("kind", c_uint32), ("otype", c_uint32), ("doors", c_bool)]
+
+
+class Timetable(ctypes.Structure):
+    _fields_ = [("steps", c_uint64), ("gap", c_uint64), ("tick", c_uint64)]
+
+
+class Breach(ctypes.Structure):
+    _fields_ = [("step", c_uint64), ("line", c_uint64), ("member", c_uint64), ("part", c_uint32), ("found", c_bool)]
+
+
 CONSTANTS: Dict[str, int] = {
     "OK": 0,
+    "LABELS": 57,
     "NO_MEMORY": 64,
     "NO_MACHINE": 65,
     "RANGE": 66,
@@ -78,6 +99,26 @@ CONSTANTS: Dict[str, int] = {
     "IN_REGISTER": 0,
     "IN_SPECIAL": 1,
     "IN_MEMORY": 2,
+    "MAY_STORE": 0,
+    "MAY_LOAD": 1,
+    "MAY_EXECUTE": 2,
+    "MAY_LEARN": 3,
+    "MAY_KEEP": 4,
+    "MAY_SEND": 5,
+    "MAY_HALT": 6,
+    "MAY_SYSTEM": 7,
+    "MAY_TIMER": 8,
+    "MAY_HOLD": 9,
+    "RULE_STORE": 0,
+    "RULE_LOAD": 1,
+    "RULE_EXECUTE": 2,
+    "RULE_TRANSMIT": 3,
+    "RULE_HALT": 4,
+    "RULE_TIMER": 5,
+    "RULE_SYSTEM": 6,
+    "RULE_SEAL": 7,
+    "RULE_TYPES": 8,
+    "RULE_KEEP": 9,
 }
 CALLS: Dict[str, Tuple[Any, ...]] = {  # what each answers, and what it is given
     "cheri_cap": (Cap, Word, c_bool),
@@ -108,6 +149,7 @@ CALLS: Dict[str, Tuple[Any, ...]] = {  # what each answers, and what it is given
     "cherisim_copy": (c_uint32, POINTER(Handle), POINTER(Handle)),
     "cherisim_free": (None, POINTER(Handle)),
     "cherisim_step": (c_uint32, POINTER(Handle), POINTER(Sent)),
+    "cherisim_step_while": (c_uint32, POINTER(Handle), c_uint64, c_uint64, c_char_p, c_size_t, POINTER(Stepped)),
     "cherisim_tick": (c_uint32, POINTER(Handle)),
     "cherisim_receive": (c_uint32, POINTER(Handle), c_uint8),
     "cherisim_run": (c_uint32, POINTER(Handle), POINTER(Asked), c_char_p, c_size_t, POINTER(Ran)),
@@ -129,6 +171,7 @@ CALLS: Dict[str, Tuple[Any, ...]] = {  # what each answers, and what it is given
     "cherisim_write_cap": (c_uint32, POINTER(Handle), c_uint64, Cap),
     "cherisim_next_ends": (c_uint32, POINTER(Handle), POINTER(c_uint32)),
     "cherisim_why": (c_uint32, POINTER(Handle), c_char_p, c_size_t, POINTER(c_size_t)),
+    "cherisim_trace": (c_uint32, POINTER(Handle), c_uint64, c_char_p, c_size_t, POINTER(c_size_t)),
     "cherisim_disassemble": (c_size_t, c_uint32, c_bool, c_char_p),
     "cherisim_reach": (c_uint32, POINTER(Handle), POINTER(Member), c_size_t, POINTER(c_size_t)),
     "cherisim_may_store": (c_uint32, POINTER(Handle), c_uint64, c_uint64, POINTER(Answer)),
@@ -141,4 +184,9 @@ CALLS: Dict[str, Tuple[Any, ...]] = {  # what each answers, and what it is given
     "cherisim_may_system": (c_uint32, POINTER(Handle), POINTER(Answer)),
     "cherisim_may_timer": (c_uint32, POINTER(Handle), POINTER(Answer)),
     "cherisim_may_hold": (c_uint32, POINTER(Handle), c_uint32, POINTER(Answer)),
+    "cherisim_reach_through_doors": (c_uint32, POINTER(Handle), POINTER(Member), c_size_t, POINTER(c_size_t)),
+    "cherisim_doors": (c_uint32, POINTER(Handle), POINTER(Door), c_size_t, POINTER(c_size_t)),
+    "cherisim_may": (c_uint32, POINTER(Handle), POINTER(Question), POINTER(Answer)),
+    "cherisim_watch": (c_uint32, POINTER(Handle), c_char_p, c_size_t, c_char_p, c_size_t, POINTER(Timetable), c_char_p, c_size_t,
+                       POINTER(Breach), POINTER(c_uint64)),
 }

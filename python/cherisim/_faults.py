@@ -1,6 +1,8 @@
 """What the library or the module refuses, as exceptions."""
 from __future__ import annotations
 
+from ._calls import CONSTANTS
+
 
 class CherisimError(Exception):
     """What the library or this module refuses. `status` is the library's number for it, 0 where the module refuses."""
@@ -30,6 +32,14 @@ class SymbolsFault(CherisimError):
     def __init__(self, line: int) -> None:
         self.line = line
         super().__init__(f"line {line}: no address and label")
+
+
+class PolicyFault(CherisimError):
+    """A policy's text has a fault: `code` is P1 to P8, and `line` is counted from 1."""
+
+    def __init__(self, status: int, line: int) -> None:
+        self.status, self.code, self.line = status, f"P{status - 48}", line
+        super().__init__(f"line {line}: {self.code} {_POLICY_FAULTS.get(status - 48, 'fault')}")
 
 
 class OutOfMemory(CherisimError):
@@ -62,6 +72,10 @@ _TEXT_FAULTS = {
     1: "unknown mnemonic", 2: "operands", 3: "immediate out of range", 4: "label twice", 5: "label unknown", 6: "target out of range",
     7: "place", 8: "byte not ASCII", 9: "line too long", 10: "no memory", 11: "capability not exact"}
 
+_POLICY_FAULTS = {
+    1: "neither a definition nor a rule", 2: "name unknown", 3: "name twice", 4: "number", 5: "range empty", 6: "part unknown",
+    7: "part twice", 8: "part malformed"}
+
 
 def in_range(what: str, number: int, bits: int, least: int = 0) -> None:
     """ctypes cuts a number that is too long for C: it is refused here."""
@@ -75,6 +89,10 @@ def refusal(status: int, call: str, line: int = 0) -> CherisimError:
         return ImageFault(status)
     if 33 <= status <= 43:
         return TextFault(status, line)
+    if 49 <= status <= 56:
+        return PolicyFault(status, line)
+    if status == CONSTANTS["LABELS"]:
+        return SymbolsFault(line)
     for kind in (OutOfMemory, Closed, OutOfRange):
         if kind.status == status:
             return kind(f"{call}: {(kind.__doc__ or '').splitlines()[0]}")

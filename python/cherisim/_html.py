@@ -71,6 +71,6 @@ def reach_html(reach: Reach) -> str:
     """The members of a reach."""
     rows = []
     for it in reach:
-        where = it.where if isinstance(it.where, str) else f"{it.where:#x}"
+        where = it.where if isinstance(it.where, str) else f"{it.where:#x}" if isinstance(it.where, int) else f"behind {it.where.sealed}"
         rows.append((str(it.number), where, "" if it.from_ is None else str(it.from_), *_fields(it.value), line_of(it.value)))
     return _table(("member", "where", "from", *_HEADS), rows)

@@ -4,7 +4,8 @@ from __future__ import annotations
 import ctypes
 import os
 
-from ._calls import (CALLS, CONSTANTS, Answer, Asked, Cap, Console, Fields, Halted, Handle, Insn, Member, Number, Ran, Sent, Timer, Word)
+from ._calls import (CALLS, CONSTANTS, Answer, Asked, Breach, Cap, Console, Door, Fields, Halted, Handle, Insn, Member, Number, Question,
+                     Ran, Sent, Stepped, Timer, Timetable, Word)
 
 UNSEALED, SENTRY = 0x3FFFF, 0x3FFFE
 """The object types of what is not sealed, and of a sentry."""

@@ -3,16 +3,17 @@ from __future__ import annotations
 
 from typing import Callable, Dict, Iterable, Iterator, List, Optional, Tuple
 
-from . import (CSRS, PAGE, RAM, REGISTERS, SCRS, Cap, CherisimError, Machine, OutOfRange, Perms, Reach, ReachMember,
-               SENTRY, UNSEALED, disassemble)
+from . import (CSRS, PAGE, RAM, REGISTERS, SCRS, SENTRY, UNSEALED, Cap, CherisimError, Door, Machine, OutOfRange, Perms, Reach, ReachMember,
+               disassemble)
 from ._html import letters
 from ._symbols import Symbols
 
-_NO = "no, until the next trap, unsealing or sealed jump\n"
+_NO = {False: "no, until the next trap, unsealing or sealed jump\n", True: "no, until the next trap or unsealing\n"}  # through doors
 _MOVES = ("step", "tick", "byte", "until", "trap", "go", "changed", "back")
-_NOT_IN_C = ("origin", "lost", "doors", "dot")
+_NOT_IN_C = ("origin", "lost", "dot")
 _BANKS = ("regs", "scr", "csr", "caps")
-_QUESTIONS = {"store": 2, "load": 2, "execute": 2, "learn": 2, "send": 0, "halt": 0, "system": 0, "timer": 0, "hold": 1}
+_QUESTIONS = {"store": (2,), "load": (2,), "execute": (2,), "learn": (2,), "keep": (0, 2), "send": (0,), "halt": (0,), "system": (0,),
+              "timer": (0,), "hold": (1,)}  # how many operands each has
 
 _RESERVED = 0x3FFFC  # the first object type that nothing seals with
 _RIGHTS = (("load", Perms.Load), ("load capabilities", Perms.Load | Perms.Load_Capability), ("store", Perms.Store),
@@ -26,10 +27,11 @@ reg R                   a general register as a capability
 caps                    the capabilities in RAM
 mem ADDR LEN            bytes of RAM, at most 4096
 dis ADDR N              words of RAM as instructions, at most 1024
-reach, reach members    what the code that runs can come to hold, in sum and each
-may store ADDR LEN      whether it may store there; load, execute and learn likewise
+reach, reach members    what the code that runs can come to hold, in sum and each; reach doors: through doors, too
+may store ADDR LEN      whether it may store there; load, execute, learn and keep likewise
 may send                whether it may send a byte; halt, system and timer likewise
 may hold TYPE           whether a member is sealed with an object type, or may seal with it
+.. through doors        the same with all that sealed jumps lead to
 ago                     how many steps were done
 stops                   breakpoints and watchpoints
 stop HOW                before which traps a run stops: unhandled, trap or never
@@ -132,7 +134,11 @@ class Monitor:
     # ---- reach
 
     def _place(self, member: ReachMember) -> str:
-        return member.where if isinstance(member.where, str) else self._symbols.shown(member.where)
+        return member.where if isinstance(member.where, str) else self._symbols.shown(member.where) if isinstance(member.where, int) else ""
+
+    def _place_in(self, reach: Reach, member: ReachMember) -> str:
+        """The place of a member, or the door that leads to it."""
+        return f"behind {self._place(reach[member.where.sealed])}" if isinstance(member.where, Door) else self._place(member)
 
     def _shown(self, value: Cap) -> str:
         return f"{letters(value.perms)} {value}"
@@ -141,14 +147,16 @@ class Monitor:
         return f"{it.number} {self._place(it)}{'' if it.from_ is None else f' from {it.from_}'} {self._shown(it.value)}\n"
 
     def _reach(self, what: str = "") -> str:
-        if what not in ("", "members"):
+        if what not in ("", "members", "doors"):
             raise Fault("B2")
-        reach = self._machine().reach()
-        if what:
+        reach = self._machine().reach(doors=what == "doors")
+        if what == "members":
             return "".join(map(self._member, reach))
-        kinds = [0 if it.from_ is None else 1 if it.where in SCRS else 2 for it in reach]
-        text = (f"members {len(reach)}: registers {kinds.count(0)}, special registers {kinds.count(1)}, memory {kinds.count(2)}, "
-                f"sealed {sum(it.value.sealed for it in reach)}\n")
+        kinds = ["door" if isinstance(it.where, Door) else "register" if it.from_ is None else "special" if it.where in SCRS else "memory"
+                 for it in reach]
+        opened = f", behind doors {kinds.count('door')}" if what else ""
+        text = (f"members {len(reach)}: registers {kinds.count('register')}, special registers {kinds.count('special')}, "
+                f"memory {kinds.count('memory')}{opened}, sealed {sum(it.value.sealed for it in reach)}\n")
         text += "".join(self._ranges(name, needs, reach) for name, needs in _RIGHTS[:4])
         devices = ((name, self._opens(reach, at, Perms.Load), self._opens(reach, at, Perms.Store)) for name, at in _DEVICES)
         lines = "".join(f"device {name} {'R' if loads else '-'}{'W' if stores else '-'}\n" for name, loads, stores in devices
@@ -173,13 +181,16 @@ class Monitor:
         return text or f"{name} none\n"
 
     def _may(self, what: str, *given: str) -> str:
-        if _QUESTIONS.get(what) != len(given):
+        doors = given[-2:] == ("through", "doors")
+        given = given[:-2] if doors else given
+        if len(given) not in _QUESTIONS.get(what, ()):
             raise Fault("B2")
-        numbers = [self._number(word) for word in given]
-        answer = getattr(self._machine(), f"may_{what}")(*numbers)
+        machine, numbers = self._machine(), [self._number(word) for word in given]
+        answer = getattr(machine, f"may_{what}")(*numbers, doors=doors)
         if answer is None:
-            return _NO
-        way = " -> ".join(self._place(member) for member in answer.way)
+            return _NO[doors]
+        reach = machine.reach(doors)
+        way = " -> ".join(self._place_in(reach, member) for member in answer.way)
         return f"yes: {way} {self._shown(answer.way[-1].value)}\n"
 
 

@@ -2,7 +2,7 @@
 what comes."""
 from __future__ import annotations
 
-from ctypes import byref, create_string_buffer
+from ctypes import byref
 from typing import Dict, NamedTuple, Optional, Sequence, Tuple
 
 from . import Machine, OutOfRange, Stop
@@ -138,45 +138,51 @@ class Replay:
 
     def run_watched(self, most: int, stops: Sequence[int], watched: Sequence[Range]) -> Optional[Range]:
         """Runs at least one step, and so many at most, up to one that changes watched bytes, whose range is the answer, or that comes to a
-        stop or the halt. The library has no run up to a change: each step is looked at."""
-        held, end = [self.read(it) for it in watched], self.n + most
+        stop or the halt."""
+        held, end = [(it, self.read(it)) for it in watched], self.n + most
         while True:
             self.step()
-            changed = next((it for it, old in zip(watched, held) if self.read(it) != old), None)
+            changed = self._changed(held)
             if changed or self.n == end or self.machine.halted is not None or self.machine.pc in stops:
                 return changed
             quick = min(end, self._next() - 1) - self.n
             if quick > 0:
-                changed, stands = self._quickly(quick, stops, list(zip(watched, held)))
-                if changed or stands or self.n == end:
+                changed = self._quickly(quick, stops, held)
+                if changed or self.n == end or self.machine.halted is not None or self.machine.pc in stops:
                     return changed
 
-    def _quickly(self, most: int, stops: Sequence[int], watched: Sequence[Tuple[Range, Optional[bytes]]]) -> Tuple[Optional[Range], bool]:
-        """The same of steps before which no byte comes, by the library's own calls: the range that changed, and whether it stands at a stop
-        or halted."""
-        machine, at, byte, ran, pcc = self.machine, self.machine._at, create_string_buffer(1), c.Ran(), c.Cap()
-        asked = c.Asked(steps=1, tick=self.schedule.tick)
-        if len(stops) == 1:
-            asked.address, asked.at_address = stops[0], True
-        given = byref(asked), byte, 1, byref(ran)
-        rooms = [(it, old, create_string_buffer(it[1])) for it, old in watched]
-        for _ in range(most):
-            asked.before = self.n
-            machine._do(lib.cherisim_run, *given)
-            if not ran.steps:
-                return None, True
-            self.n += 1
-            if ran.sent:
-                machine.sent += byte.raw
-            for where, old, room in rooms:
-                lib.cherisim_read(at, where[0], room, where[1])
-                if room.raw != old:
-                    return where, False
-            if len(stops) > 1:
-                machine._do(lib.cherisim_scr, 0, byref(pcc))
-                if pcc.address in stops:
-                    return None, True
-        return None, False
+    def _changed(self, held: Sequence[Tuple[Range, Optional[bytes]]]) -> Optional[Range]:
+        """The first of some ranges whose bytes are others than these."""
+        return next((it for it, old in held if self.read(it) != old), None)
+
+    def _quickly(self, most: int, stops: Sequence[int], held: Sequence[Tuple[Range, Optional[bytes]]]) -> Optional[Range]:
+        """The same of steps before which no byte comes. The library stops for one reason: the others are tried on copies, each up to the
+        nearest so far."""
+        if stops:
+            other = self.fork()
+            other.run_to(most, stops)
+            most = other.n - self.n
+        for it, old in held[1:]:
+            other = self.fork()
+            other._run_while(most, it, old or b"")
+            most = other.n - self.n
+        for it, old in held[:1]:
+            self._run_while(most, it, old or b"")
+        return self._changed(held)
+
+    def _run_while(self, most: int, where: Range, held: bytes) -> None:
+        """Runs so many steps at most, before which no byte comes, while RAM has these bytes."""
+        machine, stepped, end, tick = self.machine, c.Stepped(), self.n + most, self.schedule.tick
+        while self.n < end:
+            mark = min(end, (self.n // tick + 1) * tick) if tick else end
+            machine._do(lib.cherisim_step_while, mark - self.n, where[0], held, len(held), byref(stepped))
+            if not stepped.steps:
+                return
+            self.n += stepped.steps
+            if stepped.sent.sends:
+                machine.sent.append(stepped.sent.byte)
+            if tick and self.n % tick == 0 and machine.halted is None:
+                machine.tick()
 
     def _last_in(self, begin: int, end: int, stops: Sequence[int], watched: Sequence[Range]) -> Optional[Tuple[int, Optional[Range]]]:
         """The last place from `begin` on and before `end` that stands at a stop, or whose step changes watched bytes, with their range."""

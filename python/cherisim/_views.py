@@ -3,7 +3,7 @@ from __future__ import annotations
 
 import operator
 from ctypes import byref, c_uint64, create_string_buffer
-from typing import TYPE_CHECKING, Dict, Generic, Iterator, List, Tuple, TypeVar, Union, overload
+from typing import TYPE_CHECKING, Any, Dict, Generic, Iterator, List, Tuple, TypeVar, Union, overload
 
 from . import _library as c
 from ._caps import _ALL, Cap
@@ -78,19 +78,28 @@ class _Bank(Generic[_V]):
         return list(zip(self._shown, self.values()))
 
 
-class Registers(_Bank[Cap]):
-    """The general registers, by any of their names. One takes a capability or a number; what is put into register 0 is lost."""
+class _Caps(_Bank[Cap]):
+    """A bank of capabilities, which the library reads and writes by their numbers, 0 to 31."""
 
     __slots__ = ()
-    _shown = _SHOWN
+    _numbers: Dict[str, int]
+    _reads: Any
+    _writes: Any
 
     def __getitem__(self, name: Union[str, int]) -> Cap:
         value = c.Cap()
-        self._machine._do(lib.cherisim_reg, _index(name, REGISTERS, 31), byref(value))
+        self._machine._do(self._reads, _index(name, self._numbers, 31), byref(value))
         return Cap._of(value)
 
     def __setitem__(self, name: Union[str, int], value: Union[Cap, int]) -> None:
-        self._machine._do(lib.cherisim_set_reg, _index(name, REGISTERS, 31), _value(value))
+        self._machine._do(self._writes, _index(name, self._numbers, 31), _value(value))
+
+
+class Registers(_Caps):
+    """The general registers, by any of their names. One takes a capability or a number; what is put into register 0 is lost."""
+
+    __slots__ = ()
+    _shown, _numbers, _reads, _writes = _SHOWN, REGISTERS, lib.cherisim_reg, lib.cherisim_set_reg
 
     def values(self) -> List[Cap]:
         """What they hold, in the order of their numbers."""
@@ -99,19 +108,11 @@ class Registers(_Bank[Cap]):
         return [Cap._of(value) for value in room]
 
 
-class SpecialRegisters(_Bank[Cap]):
+class SpecialRegisters(_Caps):
     """The special capability registers. PCC takes an address that is a multiple of 4."""
 
     __slots__ = ()
-    _shown = tuple(SCRS)
-
-    def __getitem__(self, name: Union[str, int]) -> Cap:
-        value = c.Cap()
-        self._machine._do(lib.cherisim_scr, _index(name, SCRS, 31), byref(value))
-        return Cap._of(value)
-
-    def __setitem__(self, name: Union[str, int], value: Union[Cap, int]) -> None:
-        self._machine._do(lib.cherisim_set_scr, _index(name, SCRS, 31), _value(value))
+    _shown, _numbers, _reads, _writes = tuple(SCRS), SCRS, lib.cherisim_scr, lib.cherisim_set_scr
 
 
 class StatusRegisters(_Bank[int]):

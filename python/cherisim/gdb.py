@@ -29,7 +29,8 @@ HALTS = ("exit", "stay")
 _SIGNALS = {0: 0x0A, 1: 0x0B, 2: 0x04, 3: 0x05, 4: 0x0A, 5: 0x0B, 6: 0x0A, 7: 0x0B, 28: 0x0B}  # of each cause of a trap that stops
 _SUPPORTED = (f"PacketSize={BOUND:x};QStartNoAckMode+;qXfer:features:read+;qXfer:memory-map:read+;swbreak+;hwbreak+;vContSupported+;"
               "ReverseStep+;ReverseContinue+")
-_FIRST, _MOST, _EACH = 100_000, 20_000_000, 50_000  # steps between two looks at the line: at first, at most, where each is looked at
+_FIRST, _MOST = 100_000, 20_000_000     # steps between two looks at the line: at first, and at most
+_WATCHED, _EACH = 1_000_000, 50_000     # at most where bytes are watched, and where each step is looked at
 _SHOWN = 4096    # bytes of text in one packet
 _READ = 8192     # bytes that `m` answers at most
 _FIXED = {"vCont?": "vCont;c;C;s;S;r", "qC": "QC1", "qfThreadInfo": "m1", "qsThreadInfo": "l"}
@@ -355,11 +356,14 @@ class Bridge:
         """At least one step, and on to a stop."""
         if self.machine.halted is not None:
             return self._standing() or "T05"
-        stop, size = self._one(), _FIRST
+        stop, size, careful = self._one(), _FIRST, self.asked.stop == "trap"
         while not stop:
             if self.wire.interrupted():
                 return "T02"
-            stop = self._on_watched(_EACH) if self.watches else self._on_careful(size) if self.asked.stop == "trap" else self._on(size)
+            if self.watches:
+                stop = self._on_watched(_EACH if careful else min(size, _WATCHED))
+            else:
+                stop = self._on_careful(size) if careful else self._on(size)
             self._show()
             stop, size = stop or self._standing(), min(2 * size, _MOST)
         return stop

@@ -252,12 +252,10 @@ class Monitored(unittest.TestCase):
                 ran = machine.run(int(most), machine.symbols[label])
                 self.assertEqual(told[at], f"events {ran.steps} out - pc {machine.symbols.shown(machine.pc)} running\n")
                 at += 1
-            elif not line.endswith("doors") and line != "quit":
+            elif line != "quit":
                 answer, = self.said(machine, line)
                 self.assertEqual(answer, "".join(told[at:at + answer.count("\n")]), line)
                 at += answer.count("\n")
-            else:
-                at += line != "quit"
         self.assertEqual(at, len(told))
 
     def test_looks(self):
@@ -266,7 +264,7 @@ class Monitored(unittest.TestCase):
         elsewhere = "the library has no such question: ask it of `cherisim debug`\n"
         self.assertEqual(self.said(machine, "reg ca0", "mem 0x80000100 9", "mem start 4", "dis loop 2", "ago", "step 1", "go", "stops",
                                    "origin ca0", "nonsense", "reg 5", "mem 0 1", "mem 0x80000000 0", "dis 0x80000002 1", "caps", "may send",
-                                   "may sing", "reach doors", "stop", "stop never", ""),
+                                   "may sing", "reach dot", "stop", "stop never", ""),
                          ["ca0 v:0 a:0000000000000003 b:0000000000000000 t:10000000000000000 p:00000 f:0 o:3ffff\n",
                           "0000000080000100: 03 00 00 00 00 00 00 00 00\n", "0000000080000000: 17 06 00 00\n",
                           "0000000080000008 <loop> 10a63023 sd a0, 256(a2)\n000000008000000c <loop+4> fff50513 addi a0, a0, -1\n", "0\n",

@@ -2,12 +2,15 @@
 import copy
 import doctest
 import gc
+import os
 import random
+import subprocess
+import tempfile
 import threading
 import unittest
 from unittest import mock
 
-from support import FIRST, PAGE, RAM, image, read
+from support import FIRST, NO_PROGRAM, PAGE, PROGRAM, RAM, has_program, image, read
 import cherisim
 from cherisim import (CSRS, REGISTERS, SCRS, Cap, CherisimError, Closed, Console, ImageFault, Machine, OutOfRange, Perms, Stop, TextFault,
                       Timer, WrongThread, decode)
@@ -152,6 +155,26 @@ class Runs(unittest.TestCase):
                 at += machine.run(1).steps
             self.assertEqual(at, len(ends))
         self.assertRaises(ValueError, plain.run, 1, until=Stop.HALTED)
+        self.assertRaises(ValueError, plain.run, 1, until=(Stop.TRAP, Stop.STEPS))
+
+    def test_turns(self):
+        """Through sealed jumps, up to the first step that traps or unseals."""
+        machine, single = (Machine(text=read("examples", "compartments.s")) for _ in "ab")
+        while machine.halted is None:
+            ran, done, ends = machine.run_turn(100000, tick=7), 0, []
+            while single.halted is None and single.next_ends not in (Stop.TRAP, Stop.UNSEAL):
+                ends.append(single.next_ends)
+                single.step()
+                done += 1
+                if done % 7 == 0 and single.halted is None:
+                    single.tick()
+            self.assertEqual((ran.steps, ran.stop), (done, Stop.HALTED if machine.halted is not None else single.next_ends))
+            machine.step()
+            single.step()
+        self.assertEqual((machine.sent, everything(machine)), (single.sent, everything(single)))
+        machine = Machine(text=".mode 1\ncjalr cnull, 0(ca0)\nnop\nebreak\n")
+        machine.regs["ca0"] = machine.scrs["pcc"].set_address(RAM + 4).seal_entry()
+        self.assertEqual((machine.copy().run(9, "trap")[::2], machine.run_turn(9)[::2]), ((0, Stop.SEALED_JUMP), (2, Stop.TRAP)))
 
     def test_many_bytes(self):
         machine = Machine(text="lui a1, 0x10000\nlui a0, 64\nloop: sb a0, 0(a1)\naddi a0, a0, -1\nbne a0, zero, loop\n"
@@ -338,8 +361,36 @@ class Texts(unittest.TestCase):
         self.assertEqual(lines[-1], "effect: trap CHERI exception, length violation at ca0, mcause 000000000000001c, "
                                     "mtval 0000000000000141")
         self.assertEqual((len(lines), lines[2]), (17, "  pcc " + str(Cap.root(RAM + 0x30)) + " GXRWcCLsiuSd"))
-        with mock.patch.dict(cherisim._ROOM, why=8):
+        with mock.patch.dict(cherisim._ROOM, text=8):
             self.assertEqual(machine.why().splitlines(), lines)
+
+    def test_trace(self):
+        """Lines of docs/TRACE.md, and all of a run against the program's."""
+        lines = Machine(text=read("examples", "hello.s")).trace(1000).splitlines()
+        page = read("docs", "TRACE.md").decode().split("```console\n")[1].split("```")[0].splitlines()
+        self.assertEqual((lines[13:17], len(lines)), (page[-4:], 67))
+        machine = Machine(text="nop\nebreak\n")
+        self.assertEqual(machine.trace(0), "")
+        self.assertEqual(machine.trace(2).count("\n"), 2)
+        machine = Machine(text=ECHO)
+        self.assertEqual(machine.trace(40, input=b"ab", gap=20, tick=3).count("\n"), 40)
+        self.assertEqual(machine.time.mtime, 13)
+        self.assertRaises(OutOfRange, machine.trace, 1, gap=0)
+
+    @unittest.skipUnless(has_program(), NO_PROGRAM)
+    def test_trace_of_the_program(self):
+        with tempfile.TemporaryDirectory() as folder:
+            for name, given in (("hello", {}), ("timer", {"tick": 9}), ("echo", {"input": b"ab\n", "gap": 50}), ("sealed", {})):
+                text, paths = read("examples", f"{name}.s"), [os.path.join(folder, it) for it in ("t.s", "t.img", "t.trace", "t.in")]
+                for path, data in ((paths[0], text), (paths[3], given.get("input", b""))):
+                    with open(path, "wb") as file:
+                        file.write(data)
+                numbers = [str(given.get(name, other)) for name, other in (("tick", 0), ("gap", 1000))]
+                options = ["--trace", paths[2], "--tick", numbers[0], "--gap", numbers[1], "--input", paths[3]]
+                subprocess.run([PROGRAM, "asm", *paths[:2]], check=True, stdout=subprocess.DEVNULL)
+                subprocess.run([PROGRAM, "run", paths[1], "500", *options], check=False, capture_output=True)
+                with open(paths[2], encoding="ascii") as file:
+                    self.assertEqual(Machine(text=text).trace(500, **given), file.read(), name)
 
     def test_the_modules_own_example(self):
         self.assertEqual(doctest.testmod(cherisim).failed, 0)

@@ -5,7 +5,7 @@ from unittest import mock
 
 from support import read
 import cherisim
-from cherisim import REGISTERS, SENTRY, UNSEALED, Cap, Closed, Machine, OutOfRange, Perms, Reach, ReachMember
+from cherisim import REGISTERS, SENTRY, UNSEALED, Cap, Closed, Door, Machine, OutOfRange, Perms, Reach, ReachMember
 from model import reach as model
 
 # The steps of the compartments after which they are looked at, and how many members there are: as the machine begins, where A and B run
@@ -35,9 +35,9 @@ def state(machine):
                        frozenset(machine.tags()))
 
 
-def named(machine, found):
+def named(machine, found, doors=()):
     """The model's members as the module gives them."""
-    names = {model.ROOT: [*machine.regs, "pcc", "ddc"], model.SPECIAL: SPECIALS}
+    names = {model.ROOT: [*machine.regs, "pcc", "ddc"], model.SPECIAL: SPECIALS, model.DOOR: doors}
     return [ReachMember(number, Cap(value[1], value[0], value[2]), names[kind][n] if kind in names else n, source)
             for number, (value, (kind, n), source) in enumerate(found)]
 
@@ -49,19 +49,39 @@ class AgainstTheModel(unittest.TestCase):
             self.assertEqual((len(reach), list(reach)), (MEMBERS[steps], named(machine, found)), steps)
             self.assertEqual([reach.chain(n) for n in range(len(reach))], [model.chain(found, n) for n in range(len(found))])
 
+    def test_doors(self):
+        """Each door has a key that opens it, the first but where it is its own."""
+        most = 0
+        for steps, machine in compartments():
+            (found, places), reach = model.through_doors(state(machine)), machine.reach(doors=True)
+            numbers, doors = {member.place: number for number, member in enumerate(found)}, []
+            for place in places:
+                sealed = found[numbers[place]].value
+                keys = [n for n, member in enumerate(found) if model.is_key(member.value, sealed)]
+                doors.append(Door(numbers[place], numbers[place] if numbers[place] in keys else keys[0]))
+            self.assertEqual(list(reach), named(machine, found, doors), steps)
+            self.assertEqual([reach.chain(n) for n in range(len(reach))], [model.chain(found, n) for n in range(len(found))])
+            most = max(most, len(doors))
+        self.assertGreater(most, 3)
+
     def test_answers(self):
         for steps, machine in compartments():
-            found, seen = model.members(state(machine)), 0
-            asked = [*((what, *room) for what in ("store", "load", "execute", "learn", "keep") for room in ROOMS),
-                     *((what,) for what in ("send", "halt", "system", "timer")),
-                     *(("hold", otype) for otype in (0, 1, 2, 3, SENTRY, UNSEALED))]
-            for what, *given in asked:
-                first, answer = model.first(found, what, *given), getattr(machine, f"may_{what}")(*given)
-                self.assertEqual(None if answer is None else answer.member, first, (steps, what, given))
-                if answer:
-                    seen += 1
-                    self.assertEqual([member.number for member in answer.way], model.chain(found, first))
-            self.assertTrue(0 < seen)
+            self.answers(steps, machine, model.members(state(machine)), False)
+            self.answers(steps, machine, model.through_doors(state(machine))[0], True)
+
+    def answers(self, steps, machine, found, doors):
+        """Each question, of these members."""
+        seen = 0
+        asked = [*((what, *room) for what in ("store", "load", "execute", "learn", "keep") for room in ROOMS),
+                 *((what,) for what in ("send", "halt", "system", "timer")),
+                 *(("hold", otype) for otype in (0, 1, 2, 3, SENTRY, UNSEALED))]
+        for what, *given in asked:
+            first, answer = model.first(found, what, *given), getattr(machine, f"may_{what}")(*given, doors=doors)
+            self.assertEqual(None if answer is None else answer.member, first, (steps, what, given, doors))
+            if answer:
+                seen += 1
+                self.assertEqual([member.number for member in answer.way], model.chain(found, first))
+        self.assertTrue(0 < seen)
 
 
 class Worked(unittest.TestCase):
@@ -79,6 +99,15 @@ class Worked(unittest.TestCase):
                           machine.may_halt(), machine.may_system(), machine.may_timer(), machine.may_hold(3), machine.may_keep()], [None] * 8)
         self.assertEqual(machine.may_hold(2), (1, (reach[1],)))
         self.assertEqual((machine.may_store(0x80006000, 8).member, machine.may_execute(0x80005000, 4).member), (0, 5))
+
+    def test_a_compartment_through_doors(self):
+        """docs/REACH.md: A comes to B's data by B's door, and to no device."""
+        machine = self.at(181)
+        reach, answer = machine.reach(doors=True), machine.may_store(0x80004000, 4096, doors=True)
+        self.assertEqual((answer.way[0].where, answer.way), (Door(2, 1), (reach[answer.member],)))
+        self.assertEqual((reach[2].where, answer.way[0].value.base, answer.way[0].value.sealed), ("cs1", 0x80004000, False))
+        self.assertEqual([machine.may_send(doors=True), machine.may_keep(doors=True)], [None, None])
+        self.assertIn("behind 2", reach._repr_html_())
 
     def test_the_kernel(self):
         answer = self.at(196).may_send()
@@ -112,6 +141,7 @@ class Forms(unittest.TestCase):
         for rooms in (0, 1, 3, 4):
             with mock.patch.dict(cherisim._ROOM, reach=rooms):
                 self.assertEqual(len(Machine(text="nop\n").reach()), 4)
+                self.assertEqual(len(Machine(text="nop\n").reach(doors=True)), 4)
 
     def test_operands_out_of_range(self):
         machine = Machine(text="nop\n")

@@ -1,4 +1,6 @@
 pub mod RamBytes
 pub mod Reaches
 pub mod Runs
+pub mod StepsWhile
+pub mod Stopping
 pub mod Values

@@ -1,5 +1,6 @@
 -- A run in two parts: steps that are done in one call with the tick after them, and what is left.
-use Rattle.std.proofs.Common.{◌≡◌, ℕ, zero, suc, ◌+◌, ◌-◌, ◌/◌, ◌%◌, ◌<◌, ◌≤◌, Bool, true, false, List, [], ◌∷◌, ◌++◌, length, replicate}
+use Rattle.std.proofs.Common.{◌≡◌, ℕ, zero, suc, ◌+◌, ◌-◌, ◌/◌, ◌%◌, ◌<◌, ◌≤◌, Bool, true, false}
+use Rattle.std.proofs.Common.{List, [], ◌∷◌, ◌++◌, length, replicate}
 use Rattle.std.proofs.Common.{refl, sym, ap, ap₂, ◌∙◌, append_assoc, arith}
 use Rattle.std.specs.Prelude.{Option, None, Some, IfSome, is_some, option_to_list, not, ◌==◌, ◌&&◌, if◌then◌else◌}
 use Rattle.std.specs.Bool.{then_some}
@@ -43,11 +44,13 @@ steps_in-steps (suc n) = ap suc (steps_in-steps n)
 
 steps_in-tick : (a : Asked) (number : ℕ) (s : State) → steps_in (tick_after a number s) ≡ 0
 steps_in-tick a number s =
-    cond_both (ticks_after a.tick number && not (is_some s.devices.halted)) (Tick ∷ []) [] (λ es. steps_in es ≡ 0) (λ _. refl) (λ _. refl)
+    cond_both (ticks_after a.tick number && not (is_some s.devices.halted)) (Tick ∷ []) [] (λ es. steps_in es ≡ 0)
+    (λ _. refl) (λ _. refl)
 
 run_sent-tick : (a : Asked) (number : ℕ) (s t : State) → run_sent (tick_after a number s) t ≡ []
 run_sent-tick a number s t =
-    cond_both (ticks_after a.tick number && not (is_some s.devices.halted)) (Tick ∷ []) [] (λ es. run_sent es t ≡ []) (λ _. refl) (λ _. refl)
+    cond_both (ticks_after a.tick number && not (is_some s.devices.halted)) (Tick ∷ []) [] (λ es. run_sent es t ≡ [])
+    (λ _. refl) (λ _. refl)
 
 pub append-none : (xs : List ℕ) → xs ++ [] ≡ xs
 append-none [] = refl
@@ -106,7 +109,8 @@ nothing None none test is = refl
 nothing (Some why) true test is = absurd (cc)
 nothing (Some why) false test is = absurd (cc)
 
-no-reason : (done halted full there : Bool) (end : Option ℕ) → done ≡ false → halted ≡ false → full ≡ false → there ≡ false → end ≡ None
+no-reason : (done halted full there : Bool) (end : Option ℕ)
+    → done ≡ false → halted ≡ false → full ≡ false → there ≡ false → end ≡ None
     → (if done then Some 0 else (if halted then Some 1 else (if full then Some 2 else (if there then Some 3 else end)))) ≡ None
 no-reason done halted full there end more running space elsewhere on = rw (more, running, space, elsewhere) on
 
@@ -136,7 +140,8 @@ goes-by a s by = record { running = by.running; elsewhere = not-there a.at_addre
     not-there true pc other = apart pc a.address other
     not-there false pc other = refl
 
-pub silent-before : (count : ℕ) (s : State) → run_sent (replicate count Step) s ≡ [] → run_sent (replicate (count - 1) Step) s ≡ []
+pub silent-before : (count : ℕ) (s : State)
+    → run_sent (replicate count Step) s ≡ [] → run_sent (replicate (count - 1) Step) s ≡ []
 silent-before zero s silent = refl
 silent-before (suc n) s silent = let less : suc n - 1 ≡ n = omega arith in rw less (shorter n s silent)
   where
@@ -243,7 +248,8 @@ walked a (suc k) before (suc left) room s few none go on =
 
 module _ (a : Asked) (k before left room : ℕ) (byte : Option ℕ) (s u t : State) (few : suc k ≤ left) (none : NoTicks a before (suc k))
     (go : stop_at a left room s ≡ None) (on : WalksOn a (suc k) s) (there : u ≡ run_after (replicate (suc k) Step) s)
-    (bytes : run_sent (replicate (suc k) Step) s ≡ option_to_list byte) (passed : t ≡ run_after (tick_after a (before + suc k) u) u) where
+    (bytes : run_sent (replicate (suc k) Step) s ≡ option_to_list byte)
+    (passed : t ≡ run_after (tick_after a (before + suc k) u) u) where
   abbrev rest : List Event
   rest = run_from a (before + suc k) (left - suc k) (room - length (option_to_list byte)) t
 

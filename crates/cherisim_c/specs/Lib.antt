@@ -2,7 +2,10 @@
 pub mod Status
 pub mod Made
 pub mod Running
+pub mod Stepping
 pub mod Reaching
+pub mod Questions
+pub mod Policies
 -- Inner words
 pub mod Handle
 pub mod Walks

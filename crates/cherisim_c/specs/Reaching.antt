@@ -2,10 +2,12 @@
 use Rattle.std.specs.Prelude.{ℕ, true, false, Option, None, Some}
 use Rattle.cap_bounds.specs.CapValue.{CapValue}
 use Rattle.c_types.specs.Words.{capability_of}
+use Rattle.doors.specs.declared.through.Door.{Door as FoundDoor}
 use Rattle.reached.specs.declared.member.Place.{Place}
 use Rattle.reached.specs.declared.member.Place.TheVariants.{Root, Special, Granule}
 use Rattle.reached.specs.Order.{Found}
 use Rattle.cherisim_c.specs.declared.types.Answer.{Answer}
+use Rattle.cherisim_c.specs.declared.types.Door.{Door}
 use Rattle.cherisim_c.specs.declared.types.Member.{Member}
 
 -- what a member for C says
@@ -33,6 +35,11 @@ number_of (Granule address) = address
 -- what C gets of a member
 abbrev pub c_member : Found → Shown
 c_member x = record { value = x.value; place = number_of x.place; from = x.from; kind = kind_of x.place }
+
+-- what C gets of a door
+abbrev pub c_door : FoundDoor → Door
+c_door d =
+    record { sealed = number_of d.sealed; key = number_of d.key; sealed_kind = kind_of d.sealed; key_kind = kind_of d.key }
 
 -- what C gets where this member is the first that lets code do something, or none does
 abbrev pub answer_of : Option ℕ → Answer

@@ -8,6 +8,7 @@ use Rattle.steps.specs.declared.ends.Why.TheVariants.{Trap, Unseal, SealedJump}
 use Rattle.steps.specs.Ends.{why_of}
 use Rattle.steps.specs.Event.{after, sent, outcome}
 use Rattle.steps.specs.State.{State, pc_of}
+use Rattle.explain.specs.TraceLine.{trace_line}
 use Rattle.machine.specs.Run.{run_after}
 use Rattle.schedules.specs.Schedule.{ticks_after}
 use Rattle.cherisim_c.specs.declared.types.Asked.{Asked}
@@ -67,3 +68,7 @@ sent_of (Some byte) = record { sends = true; byte = byte }
 abbrev pub halted_of : Option ℕ → Halted
 halted_of None = record { halted = false; number = 0 }
 halted_of (Some number) = record { halted = true; number = number }
+
+-- the line of a trace for the next step, with its number; a halted machine has none
+abbrev pub step_line : ℕ → State → List ℕ
+step_line number s = if is_some s.devices.halted then [] else trace_line [] number s

@@ -7,13 +7,13 @@ ghost use Rattle.steps.specs.declared.event.Event.TheVariants.{Step};
 ghost use Rattle.steps.specs.Ends.{why_of};
 ghost use Rattle.steps.specs.Event.{outcome};
 ghost use Rattle.cherisim_c.specs.Status.{no_machine, no_memory, full};
-ghost use Rattle.cherisim_c.specs.Running.{end_code, code_or_zero};
+ghost use Rattle.cherisim_c.specs.Running.{end_code, code_or_zero, step_line};
 
 use crate::handle::Handle;
 use crate::running::code_of_end;
 use crate::status::{FULL, NO_MACHINE, NO_MEMORY, OK};
 use disassembler::disassemble;
-use explain::put_why;
+use explain::{Line, put_why, trace_line};
 use machine::{Event, Machine};
 use std::alloc::{AllocError, Global};
 use symbols::Symbols;
@@ -89,6 +89,47 @@ pub extern "C" fn cherisim_why(
                 }
                 Err(_) => NO_MEMORY,
             }
+        }
+        None => NO_MACHINE,
+    }
+}
+
+/// The line of a trace for the next step, as the step of a number; of a halted machine it is empty.
+fn line_of(alloc: Global, machine: &Machine<WordCap>, number: u64) -> Line
+    ensures { result.bytes ≡ step_line number machine.now }
+{
+    if machine.halted().is_some() {
+        Line::new()
+    } else {
+        let planned = machine.next();
+        trace_line(&Symbols::new(alloc), number, machine.hart(), &planned)
+    }
+}
+
+/// The line of a trace for the next step, as the step of a number: so many bytes at the beginning of `text`. Where it is too short, its
+/// length is what it takes. Of a halted machine it is empty.
+#[unsafe(no_mangle)]
+pub extern "C" fn cherisim_trace(
+    alloc: Global,
+    machine: &mut Handle,
+    number: u64,
+    text: &mut [u8],
+    size: &mut u64,
+) -> u32
+    ensures state { machine.new.machine ≡ machine.old.machine }
+    ensures closed { machine.old.machine ≡ None → (result ≡ no_machine) × (text.new ≡ text.old) × (size.new ≡ size.old) }
+    ensures ok { IfSome machine.old.machine (λ s. result ≡ 0
+        → (size.new ≡ length (step_line number s)) × (take size.new text.new ≡ step_line number s)) }
+    ensures full { IfSome machine.old.machine (λ s. result ≡ full
+        → (size.new ≡ length (step_line number s)) × (length text.old < size.new) × (text.new ≡ text.old)) }
+    ensures only { IfSome machine.old.machine (λ s. (result ≡ 0) ⊎ (result ≡ full)) }
+{
+    match machine.take(alloc) {
+        Some(held) => {
+            let line = line_of(alloc, &held, number);
+            machine.put(held);
+            *size = line.len() as u64;
+            copy(line.as_str(), text)
         }
         None => NO_MACHINE,
     }

@@ -1,6 +1,7 @@
 //! The machine for C, by a handle.
 #![tactic(auto)]
 
+mod answers;
 mod asking;
 mod bytes;
 mod events;
@@ -9,10 +10,17 @@ mod life;
 mod machine_registers;
 mod memory;
 mod peripherals;
+mod policies;
 mod reaching;
+mod refusal;
 mod running;
 mod status;
+mod stepping;
+mod through;
 mod types;
 
 pub use handle::Handle;
-pub use types::{Answer, Asked, Console, Halted, Member, Ran, Sent, Timer};
+pub use types::{
+    Answer, Asked, Breach, Console, Door, Halted, Member, Question, Ran, Sent, Stepped, Timer,
+    Timetable,
+};

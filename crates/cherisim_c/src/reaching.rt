@@ -17,6 +17,7 @@ ghost use Rattle.word_cap.specs.WordCap.{word_value};
 ghost use Rattle.cherisim_c.specs.Reaching.{answer_of, c_member, kind_of, number_of, shown_member};
 ghost use Rattle.cherisim_c.specs.Status.{no_machine, no_memory, full};
 
+use crate::answers::ask;
 use crate::handle::Handle;
 use crate::status::{FULL, NO_MACHINE, NO_MEMORY, OK};
 use crate::types::{Answer, Member};
@@ -24,17 +25,12 @@ use c_types::outside;
 use cap_bounds::CapRep;
 use machine::Machine;
 use reach::{May, Reach};
-use reach_texts::first_that;
-use reach_texts::laws::{
-    what_code_may_not_do_is_not_done, what_code_may_not_keep_is_not_kept,
-    what_code_may_not_learn_is_not_learned,
-};
 use reached::{Member as Found, Place};
 use std::alloc::{AllocError, Global};
 use word_cap::WordCap;
 
 /// What a place is in, as C gets it.
-fn kind_of(place: Place) -> u32
+pub(crate) fn kind_of(place: Place) -> u32
     ensures { result ≡ kind_of place }
 {
     match place {
@@ -45,7 +41,7 @@ fn kind_of(place: Place) -> u32
 }
 
 /// The number of a register or the address of a granule.
-fn number_of(place: Place) -> u64
+pub(crate) fn number_of(place: Place) -> u64
     ensures { result ≡ number_of place }
 {
     match place {
@@ -78,7 +74,7 @@ fn fill<C: CapRep>(found: &[Found<C>], members: &mut [Member])
 }
 
 /// Copies members to where there is room for them all.
-fn copy<C: CapRep>(found: &[Found<C>], members: &mut [Member]) -> u32
+pub(crate) fn copy<C: CapRep>(found: &[Found<C>], members: &mut [Member]) -> u32
     ensures ok { length found.now ≤ length members.old → (result ≡ 0)
         × (map shown_member (take (length found.now) members.new) ≡ map c_member (seen_members C.value found.now)) }
     ensures full { length members.old < length found.now → (result ≡ full) × (members.new ≡ members.old) }
@@ -92,7 +88,10 @@ fn copy<C: CapRep>(found: &[Found<C>], members: &mut [Member]) -> u32
 }
 
 /// The reach of a machine's state.
-fn reach_of(alloc: Global, machine: &Machine<WordCap>) -> Result<Reach<WordCap>, AllocError>
+pub(crate) fn reach_of(
+    alloc: Global,
+    machine: &Machine<WordCap>,
+) -> Result<Reach<WordCap>, AllocError>
     ensures members { IfOk result (λ reach. seen_members word_value reach ≡ members_in machine.now) }
     ensures reachable { IfOk result (λ reach. AreReachable machine.now (values_of (members_in machine.now))) }
 {
@@ -154,56 +153,6 @@ pub extern "C" fn cherisim_reach(
     }
 }
 
-/// The number of a member, if there is one, as an answer.
-fn answer_of(first: Option<usize>) -> Answer
-    ensures { result ≡ answer_of first }
-{
-    match first {
-        Some(number) => Answer {
-            member: number as u64,
-            may: true,
-        },
-        None => Answer {
-            member: 0,
-            may: false,
-        },
-    }
-}
-
-/// Whether the code of a machine may do something.
-fn asked(alloc: Global, machine: &Machine<WordCap>, may: May) -> Result<Answer, AllocError>
-    ensures answer { IfOk result (λ answer. answer ≡ answer_of (first_that may (members_in machine.now))) }
-    ensures reachable { IfOk result (λ answer. AreReachable machine.now (values_of (members_in machine.now))) }
-{
-    let reach = reach_of(alloc, machine)?;
-    Ok(answer_of(first_that(reach.members(), may)))
-}
-
-/// Whether the code of the machine that a handle has may do something.
-fn ask(alloc: Global, machine: &mut Handle, may: May, answer: &mut Answer) -> u32
-    ensures state { machine.new.machine ≡ machine.old.machine }
-    ensures closed { machine.old.machine ≡ None → result ≡ no_machine }
-    ensures ok { IfSome machine.old.machine (λ s. result ≡ 0 → answer.new ≡ answer_of (first_that may (members_in s))) }
-    ensures reachable { IfSome machine.old.machine (λ s. result ≡ 0 → AreReachable s (values_of (members_in s))) }
-    ensures same { 1 ≤ result → answer.new ≡ answer.old }
-    ensures only { IfSome machine.old.machine (λ s. (result ≡ 0) ⊎ (result ≡ no_memory)) }
-{
-    match machine.take(alloc) {
-        Some(held) => {
-            let told = asked(alloc, &held, may);
-            machine.put(held);
-            match told {
-                Ok(told) => {
-                    *answer = told;
-                    OK
-                }
-                Err(_) => NO_MEMORY,
-            }
-        }
-        None => NO_MACHINE,
-    }
-}
-
 /// Whether the code may store to some of `count` bytes from an address on. Where not, a plain run leaves them as they are.
 #[unsafe(no_mangle)]
 pub extern "C" fn cherisim_may_store(
@@ -222,7 +171,6 @@ pub extern "C" fn cherisim_may_store(
     ensures same { 1 ≤ result → answer.new ≡ answer.old }
     ensures only { IfSome machine.old.machine (λ s. (result ≡ 0) ⊎ (result ≡ no_memory)) }
 {
-    what_code_may_not_do_is_not_done();
     ask(alloc, machine, May::Store { address, count }, answer)
 }
 
@@ -282,7 +230,6 @@ pub extern "C" fn cherisim_may_learn(
     ensures same { 1 ≤ result → answer.new ≡ answer.old }
     ensures only { IfSome machine.old.machine (λ s. (result ≡ 0) ⊎ (result ≡ no_memory)) }
 {
-    what_code_may_not_learn_is_not_learned();
     ask(alloc, machine, May::Learn { address, count }, answer)
 }
 
@@ -305,7 +252,6 @@ pub extern "C" fn cherisim_may_keep(
     ensures same { 1 ≤ result → answer.new ≡ answer.old }
     ensures only { IfSome machine.old.machine (λ s. (result ≡ 0) ⊎ (result ≡ no_memory)) }
 {
-    what_code_may_not_keep_is_not_kept();
     ask(alloc, machine, May::Keep { address, count }, answer)
 }
 
@@ -320,7 +266,6 @@ pub extern "C" fn cherisim_may_send(alloc: Global, machine: &mut Handle, answer:
     ensures same { 1 ≤ result → answer.new ≡ answer.old }
     ensures only { IfSome machine.old.machine (λ s. (result ≡ 0) ⊎ (result ≡ no_memory)) }
 {
-    what_code_may_not_do_is_not_done();
     ask(alloc, machine, May::Send, answer)
 }
 
@@ -335,7 +280,6 @@ pub extern "C" fn cherisim_may_halt(alloc: Global, machine: &mut Handle, answer:
     ensures same { 1 ≤ result → answer.new ≡ answer.old }
     ensures only { IfSome machine.old.machine (λ s. (result ≡ 0) ⊎ (result ≡ no_memory)) }
 {
-    what_code_may_not_do_is_not_done();
     ask(alloc, machine, May::Halt, answer)
 }
 
@@ -354,7 +298,6 @@ pub extern "C" fn cherisim_may_system(
     ensures same { 1 ≤ result → answer.new ≡ answer.old }
     ensures only { IfSome machine.old.machine (λ s. (result ≡ 0) ⊎ (result ≡ no_memory)) }
 {
-    what_code_may_not_do_is_not_done();
     ask(alloc, machine, May::System, answer)
 }
 
@@ -373,7 +316,6 @@ pub extern "C" fn cherisim_may_timer(
     ensures same { 1 ≤ result → answer.new ≡ answer.old }
     ensures only { IfSome machine.old.machine (λ s. (result ≡ 0) ⊎ (result ≡ no_memory)) }
 {
-    what_code_may_not_do_is_not_done();
     ask(alloc, machine, May::Timer, answer)
 }
 

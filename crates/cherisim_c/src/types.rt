@@ -98,3 +98,72 @@ pub struct Answer {
     /// Whether one does.
     pub may: bool,
 }
+
+/// What is asked of the code that runs from here on.
+#[repr(C)]
+#[derive(Clone, Copy)]
+pub struct Question {
+    /// The address of the first byte that is asked of.
+    pub address: u64,
+    /// How many bytes are asked of.
+    pub count: u64,
+    /// What is asked: to store (0), load (1), execute (2), learn (3) or keep (4) some of the bytes, to send (5), to halt (6), to use the
+    /// system registers (7), to set the timer (8), or to hold the object type (9).
+    pub kind: u32,
+    /// The object type that is asked of.
+    pub otype: u32,
+    /// Whether sealed jumps are gone through, up to the next trap or unsealing.
+    pub doors: bool,
+}
+
+/// A door, by the places of two members.
+#[repr(C)]
+#[derive(Clone, Copy)]
+pub struct Door {
+    /// The place of the sealed capability.
+    pub sealed: u64,
+    /// The place of the key that opens it: of a sentry its own.
+    pub key: u64,
+    /// What the sealed capability was found in.
+    pub sealed_kind: u32,
+    /// What the key was found in.
+    pub key_kind: u32,
+}
+
+/// When a run ends, and when bytes and ticks come.
+#[repr(C)]
+#[derive(Clone, Copy)]
+pub struct Timetable {
+    /// The most steps, at most 10^14.
+    pub steps: u64,
+    /// Steps from one byte of the input to the next, 1 to 1000000. The first byte comes before the first step.
+    pub gap: u64,
+    /// Steps from one tick of the timer to the next, at most 1000000; at 0 there is none.
+    pub tick: u64,
+}
+
+/// Where a policy stops a run, and why.
+#[repr(C)]
+#[derive(Clone, Copy)]
+pub struct Breach {
+    /// The number of the step that is not done, counted from 1, or 0.
+    pub step: u64,
+    /// The line of the rule that is broken, counted from 1, or 0.
+    pub line: u64,
+    /// The number of the reachable capability that breaks it, or 0.
+    pub member: u64,
+    /// The part of the rule: store (0), load (1), execute (2), transmit (3), halt (4), timer (5), system (6), seal (7) or types (8).
+    pub part: u32,
+    /// Whether the policy stops the run.
+    pub found: bool,
+}
+
+/// What steps did.
+#[repr(C)]
+#[derive(Clone, Copy)]
+pub struct Stepped {
+    /// How many were done.
+    pub steps: u64,
+    /// The byte that the last of them sent, if it sent one.
+    pub sent: Sent,
+}

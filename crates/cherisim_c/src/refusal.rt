@@ -1,0 +1,75 @@
+//! Why a question by a policy is refused.
+
+ghost use Rattle.std.specs.Prelude.{◌≡◌};
+ghost use Rattle.cherisim_c.specs.declared.refusal.Refusal.TheVariants as refusal;
+ghost use Rattle.cherisim_c.specs.Policies.{policy_status, refusal_line, refusal_status};
+
+use crate::status::{NO_MEMORY, RANGE};
+use policy_text::PolicyCode;
+use std::alloc::AllocError;
+
+/// The status of a table of labels with a faulty line.
+const LABELS: u32 = 57;
+
+/// Why a question by a policy is refused.
+#[derive(Clone, Copy)]
+pub(crate) enum Refusal {
+    /// The schedule is out of range.
+    Schedule,
+    /// The first faulty line of the table of labels.
+    Labels(u64),
+    /// The first faulty line of the policy, and what is wrong with it.
+    Text(u64, PolicyCode),
+    /// Out of memory.
+    Memory,
+}
+
+impl From<AllocError> for Refusal {
+    ghost from_gives = { λ _ e. e ≡ refusal.Memory };
+
+    fn from(_: AllocError) -> Refusal {
+        Refusal::Memory
+    }
+}
+
+/// The status of a fault of a policy.
+fn status_of_policy(code: PolicyCode) -> u32
+    ensures { result ≡ policy_status code }
+{
+    match code {
+        PolicyCode::P1 => 49,
+        PolicyCode::P2 => 50,
+        PolicyCode::P3 => 51,
+        PolicyCode::P4 => 52,
+        PolicyCode::P5 => 53,
+        PolicyCode::P6 => 54,
+        PolicyCode::P7 => 55,
+        PolicyCode::P8 => 56,
+    }
+}
+
+impl Refusal {
+    /// The status.
+    pub(crate) fn status(self) -> u32
+        ensures { result ≡ refusal_status self }
+    {
+        match self {
+            Refusal::Schedule => RANGE,
+            Refusal::Labels(_) => LABELS,
+            Refusal::Text(_, code) => status_of_policy(code),
+            Refusal::Memory => NO_MEMORY,
+        }
+    }
+
+    /// The number of the faulty line, or 0.
+    pub(crate) fn line(self) -> u64
+        ensures { result ≡ refusal_line self }
+    {
+        match self {
+            Refusal::Labels(line) => line,
+            Refusal::Text(line, _) => line,
+            Refusal::Schedule => 0,
+            Refusal::Memory => 0,
+        }
+    }
+}
