@@ -125,9 +125,10 @@ def with_worked_state(room, crate, laws, path):
     appended(os.path.join(room, "specs", "Lib.antt"), "pub mod Worked\n")
     appended(os.path.join(room, "src", "lib.rt"), "pub mod worked;\n")
     with open(path, encoding="utf-8") as file:
-        state = "refuted : (s : State)" in file.read() or "refuted : State" in file.read()
+        state = re.search(r"^pub refuted : (\(s : State\)|State) →", file.read(), re.M)
     with open(os.path.join(room, "src", "worked.rt"), "w", encoding="utf-8") as file:
-        file.write(("ghost use Rattle.steps.specs.State.{State};\n" if state else "") + f"ghost use Rattle.{crate}.specs.Worked.{{Law}};\n\n"
+        file.write(("ghost use Rattle.steps.specs.State.{State};\n" if state else "")
+                   + f"ghost use Rattle.{crate}.specs.Worked.{{Law}};\n\n"
                    f"pub fn law_is_false()\n    ensures {{ {'State → ' if state else ''}Law → ⊥ }}\n{{}}\n")
     with open(os.path.join(room, "proofs", "worked", "law_is_false", "Answers.antt"), "w", encoding="utf-8") as file:
         file.write(f"use Rattle.{crate}.specs.Worked.{{refuted}}\nuse Rattle.{crate}.proofs.worked.law_is_false.Goals as goal\n\n"

@@ -77,6 +77,7 @@ static void parts(void) {
         {"when pc in 0x80000000..+4: store no", 1, 1, CHERISIM_RULE_STORE},
         {"\nwhen pc in 0x80000004..+4: load no", 2, 2, CHERISIM_RULE_LOAD},
         {"when pc in 0x80000008..+4: execute no", 3, 1, CHERISIM_RULE_EXECUTE},
+        {"when pc in 0x80000008..+4: keep within 0..0x80000000 0x80000010..0xffffffffffffffff", 3, 1, CHERISIM_RULE_KEEP},
         {"# no\n#\nwhen pc in 0x8000000c..+4: transmit no", 4, 3, CHERISIM_RULE_TRANSMIT},
         {"when pc in 0x80000010..+4: halt no", 5, 1, CHERISIM_RULE_HALT},
         {"when pc in 0x80000010..+4: timer no", 5, 1, CHERISIM_RULE_TIMER},

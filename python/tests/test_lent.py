@@ -1,16 +1,18 @@
 """Random programs that are lent something without Global: what they leave in registers and RAM is what a model of the machine leaves that
-shares nothing with it (tools/cases/running.py), and of the loan nothing is kept but where a capability with Store_Local_Capability lies."""
+shares nothing with it (tools/cases/running.py), and of the loan nothing is kept but where a capability with Store_Local_Capability lies.
+And the compartments: when the kernel has cleared the registers, nothing of a loan is reachable."""
 import copy
 import unittest
 from random import Random
 
 import support
-from cherisim import Machine
+from cherisim import Machine, Perms, Stop
 
 from cases.policed import CALL, DATA, HALTS, program
 from cases.running import Running
 from model import reach
 from model.capabilities import has, perms
+from trying.kernel import kernel_and_pieces
 from model.rights import GLOBAL, LOAD, LOAD_CAPABILITY, STORE, STORE_CAPABILITY, STORE_LOCAL
 
 COUNT, STATEMENTS, MOST = 1500, 12, 80
@@ -96,6 +98,24 @@ class Lent(unittest.TestCase):
                 self.assertTrue(any(reach.keeps(member, place, 16) for member in members), f"{place:x}")
             elif before.get(place) != value:
                 self.assertTrue(any(has(member, GLOBAL) and perms(value) & ~perms(member) == 0 for member in members), f"{place:x}")
+
+    def test_what_a_lends_b_is_cleared_when_the_kernel_returns(self):
+        kernel, pieces = kernel_and_pieces()
+        names = ("b-start", "b-keeper", "a-start", "a-lend", "a-not-global", "a-call", "a-lent")
+        machine = Machine(text="".join([kernel, *(pieces[name] for name in names)]))
+
+        def lent():
+            return [member.value for member in machine.reach(doors=True) if not member.value.perms & Perms.Global]
+        self.assertEqual(machine.run(1000, until="b_door").stop, Stop.ADDRESS)
+        loan, = lent()
+        self.assertEqual((loan.base, loan.length), (machine.symbols["a_data"], 8))
+        # B's store of it traps; what goes on at last is B, whose code begins on a page of its own.
+        self.assertEqual(machine.run(10, until=Stop.TRAP).stop, Stop.TRAP)
+        trapped = machine.copy()
+        trapped.step()
+        self.assertIn(loan, trapped.regs.values())
+        self.assertEqual(machine.run(10000, until="b_code").stop, Stop.ADDRESS)
+        self.assertEqual(lent(), [])
 
 
 if __name__ == "__main__":

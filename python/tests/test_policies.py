@@ -49,7 +49,7 @@ class Cases(unittest.TestCase):
         self.assertGreater(stopped, 6)
 
     def test_parts(self):
-        for part in ("store", "load", "execute", "transmit", "halt", "timer", "system", "seal"):
+        for part in ("store", "load", "execute", "keep", "transmit", "halt", "timer", "system", "seal"):
             machine = Machine(text=FIRST)
             ran, breach = machine.watch(f"\nwhen pc in {RAM + 8:#x}..+4: {part} no", 1000)
             self.assertEqual((ran, breach[:3]), ((2, b"", Stop.STEPS, None), (3, 2, part)))
