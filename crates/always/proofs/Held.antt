@@ -9,7 +9,8 @@ use Rattle.cap_bounds.specs.SoundLaws.{word_of-below}
 use Rattle.tagged_memory.specs.AccessLaws.{in_ram-place_fault, aligned-place_fault}
 use Rattle.tagged_memory.specs.Memory.{Memory, IsMemory, has_tag, word_at, is_in_ram, place_fault, data_written, capability_written}
 use Rattle.tagged_memory.specs.MemoryLaws.{in_ram, tagged-before_data_written, word_at-data_written, has_tag-capability_written_here}
-use Rattle.tagged_memory.specs.MemoryLaws.{has_tag-capability_written_other, word_at-capability_written_here, word_at-capability_written_other}
+use Rattle.tagged_memory.specs.MemoryLaws.{has_tag-capability_written_other}
+use Rattle.tagged_memory.specs.MemoryLaws.{word_at-capability_written_here, word_at-capability_written_other}
 use Rattle.authority.specs.Authority.{Not}
 use Rattle.authority.specs.Reachable.{IsHeldAt}
 use Rattle.authority.specs.SameBytesLaws.{word_at-same}

@@ -218,7 +218,8 @@ module _ (P : CapValue → Type 0) (none : (c : CapValue) (otype : ℕ) → P c 
       let key = register s.registers by.key in
       let is : IsKey key (value_otype held) = unseal-key held key (subst (λ x. is_tagged x ≡ true) by.value tagged) in
       let covered = (bounds.roots key is.tagged (in_register by.key refl)).covered in
-      none covered.source (value_otype held) covered.member (OpensUnsealing-outer key covered.source (value_otype held) covered.within is.opens)
+      none covered.source (value_otype held) covered.member
+      (OpensUnsealing-outer key covered.source (value_otype held) covered.within is.opens)
 
   tagged-unsealed : (v : CapValue) → IsUnsealed s v → (tagged : Bool) → is_tagged v ≡ tagged → cond tagged Unseal Plain ≡ Unseal → ⊥
   tagged-unsealed v by true same is = unsealed-never v by same

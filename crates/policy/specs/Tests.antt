@@ -1,5 +1,6 @@
 -- Tests for what breaks a rule, and for the code that it is about. (That they are what policies mean by it is a law of its own.)
-use Rattle.std.specs.Prelude.{ℕ, ◌+◌, ◌*◌, ◌/◌, Bool, false, not, ◌&&◌, ◌||◌, ◌==◌, nat_le, nat_lt, min, max, List, [], ◌∷◌, option_map, unwrap_or}
+use Rattle.std.specs.Prelude.{ℕ, ◌+◌, ◌*◌, ◌/◌, Bool, false, not, ◌&&◌, ◌||◌, ◌==◌, nat_le, nat_lt, min, max}
+use Rattle.std.specs.Prelude.{List, [], ◌∷◌, option_map, unwrap_or}
 use Rattle.std.specs.List.{list_any}
 use Rattle.base.specs.declared.otype.TheConstants.{FIRST_RESERVED}
 use Rattle.base.specs.ObjectType.{is_reserved}
@@ -28,7 +29,8 @@ leaves_out (range ∷ ranges) from to = leaves_out ranges from (min to range.fro
 abbrev pub opens_outside : Permission → List Range → CapValue → Bool
 opens_outside permission ranges c = allows permission c && leaves_out ranges (max (value_base c) ram_base) (value_top c)
 
--- it lets code keep what is lent in a granule of RAM that doesn't lie wholly in the ranges: of the granules in its bounds a byte is left out
+-- it lets code keep what is lent in a granule of RAM that doesn't lie wholly in the ranges: of the granules in its bounds a byte is left
+-- out
 abbrev pub keeps_outside : List Range → CapValue → Bool
 keeps_outside ranges c =
     allows permission.Store c

@@ -40,8 +40,8 @@ HoldEach rules s = (rule : Terms) → Contains rules rule → IsAbout rule (pc_o
 
 -- What an event leaves as it is by a rule: the bytes of RAM outside the ranges for stores, and the tags of granules that lie outside
 -- them; what is lent without Global is kept in no granule that doesn't lie wholly in the ranges for it: such a granule holds later what it
--- held, or no tag, or a Global value that was given with Global; and, as the rule says no to each, nothing is sent, the machine is not halted, the timer's interrupt is not set, and the system
--- registers stay unless the event traps.
+-- held, or no tag, or a Global value that was given with Global; and, as the rule says no to each, nothing is sent, the machine is not
+-- halted, the timer's interrupt is not set, and the system registers stay unless the event traps.
 pub record LeavesBy (rule : Terms) (e : Event) (s : State) : Type 0 where
   pub bytes :
       (a : ℕ) → ram_base ≤ a → (IsInOne rule.store a → ⊥)

@@ -2,8 +2,8 @@ use reach::Range;
 
 /// What the code in some ranges may do: what the capabilities that it can come to hold may open.
 ///
-/// The ranges are of addresses. Those of `store`, `load`, `execute` and `keep` are about RAM, that is about every address from `0x8000_0000`
-/// on: a capability whose bounds go on past the memory of the machine opens what lies there too.
+/// The ranges are of addresses. Those of `store`, `load`, `execute` and `keep` are about RAM, that is about every address from
+/// `0x8000_0000` on: a capability whose bounds go on past the memory of the machine opens what lies there too.
 #[derive(Debug, Drop)]
 pub struct Rule {
     /// The code: the rule is about a state whose program counter lies in one of these ranges.

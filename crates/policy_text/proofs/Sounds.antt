@@ -16,7 +16,8 @@ use Rattle.reach.specs.declared.range.Range.{Range}
 use Rattle.policy_text.specs.declared.fault.PolicyCode.{PolicyCode}
 use Rattle.policy_text.specs.declared.fault.PolicyCode.TheVariants.{P1, P2, P4, P5, P6, P8}
 use Rattle.policy_text.specs.declared.part.Part.{Part}
-use Rattle.policy_text.specs.declared.part.Part.TheVariants.{Store, Load, Execute, Keep, Transmit, Halt, Timer, System, Seal, Types, OrCaller}
+use Rattle.policy_text.specs.declared.part.Part.TheVariants.{Store, Load, Execute, Keep, Transmit, Halt, Timer, System}
+use Rattle.policy_text.specs.declared.part.Part.TheVariants.{Seal, Types, OrCaller}
 use Rattle.policy.specs.Terms.{Terms}
 use Rattle.policy_text.specs.Policy.{Definition, Parts, Line, Read, nothing, definition, rule}
 use Rattle.policy_text.specs.Policy.{◌>>=◌, uncommented, cut_at, cut_at_dots}

@@ -14,7 +14,8 @@ use Rattle.policy.specs.Terms.{Terms}
 use Rattle.policy_text.specs.declared.fault.PolicyCode.{PolicyCode}
 use Rattle.policy_text.specs.declared.fault.PolicyCode.TheVariants.{P1, P2, P3, P4, P5, P6, P7, P8}
 use Rattle.policy_text.specs.declared.part.Part.{Part}
-use Rattle.policy_text.specs.declared.part.Part.TheVariants.{Store, Load, Execute, Keep, Transmit, Halt, Timer, System, Seal, Types, OrCaller}
+use Rattle.policy_text.specs.declared.part.Part.TheVariants.{Store, Load, Execute, Keep, Transmit, Halt, Timer, System}
+use Rattle.policy_text.specs.declared.part.Part.TheVariants.{Seal, Types, OrCaller}
 
 -- a name and the ranges that it stands for
 pub record Definition : Type 0 where

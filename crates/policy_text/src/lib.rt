@@ -4,8 +4,8 @@
 //!
 //! - RANGES are words, each a name that an earlier line defines, `FROM..TO` or `FROM..+LENGTH`. FROM and TO, which is not in the range,
 //!   are numbers or labels.
-//! - A PART is `store`, `load`, `execute` or `keep` with `within RANGES` or `no`; `transmit`, `halt`, `timer`, `system` or `seal` with `yes` or
-//!   `no`; or `types` with object types or `none`. A part that a rule has not forbids nothing.
+//! - A PART is `store`, `load`, `execute` or `keep` with `within RANGES` or `no`; `transmit`, `halt`, `timer`, `system` or `seal` with
+//!   `yes` or `no`; or `types` with object types or `none`. A part that a rule has not forbids nothing.
 #![tactic(auto)]
 
 mod cut;

@@ -21,8 +21,8 @@ impl CapSet for TheTwo {
     ghost has = { λ s. IsOneOfTheTwo };
 }
 
-/// The counter with its trap entry in its own code is enclosed in its two capabilities. So over every run, of any steps, ticks and bytes and
-/// whatever its code is made to be, the secret stays, and the counter's rule is kept at each event.
+/// The counter with its trap entry in its own code is enclosed in its two capabilities. So over every run, of any steps, ticks and bytes
+/// and whatever its code is made to be, the secret stays, and the counter's rule is kept at each event.
 pub fn the_enclosed_counter_keeps_its_rule_for_ever()
     ensures encloses { Encloses IsOneOfTheTwo }
     ensures enclosed { (secret : ℕ) → IsEnclosedBy IsOneOfTheTwo (enclosed_counter secret) }

@@ -1,4 +1,5 @@
-use Rattle.policy.proofs.Whole.{bytes-stay, tags-stay, nothing-kept, system-stays, nothing-sent, halted-stays, compare-stays, sends-same, ends-same}
+use Rattle.policy.proofs.Whole.{bytes-stay, tags-stay, nothing-kept, system-stays, nothing-sent}
+use Rattle.policy.proofs.Whole.{halted-stays, compare-stays, sends-same, ends-same}
 use Rattle.policy.proofs.laws.runs_keep_to_a_rule.Goals as goal
 
 pub returns-clause-bytes : goal.returns-clause-bytes
