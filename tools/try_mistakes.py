@@ -10,9 +10,8 @@ lines `says: WHAT`, `crate: NAME`, `refused by: MODULE::NAME`, and then `file: P
 each old text once in its file. It is made in a copy of the crate, which is checked over the libraries below it; what the check leaves
 unproved is told, and the law that the mistake names has to be among it.
 
-With a line `over: LAWS` the laws of that crate are what is checked: its definitions, proofs and laws are put into the copy, and no function
-of the mistaken crate is checked beside them, so that the code need not follow. Without it the mistake stands in definition and code
-together.
+The law alone is checked, and no function beside it, so that the code need not follow the definition. With a line `over: LAWS` it is a law
+of that crate: its definitions, proofs and laws are put into the copy, and all its laws are checked.
 
 That a proof doesn't fit any more is no proof that none would. A mistake is told as *refused* where that is shown: its law is a closed
 computation that comes out otherwise (a line `refuted by: NUMBERS`), or NAME.worked stands beside it, definitions with a worked state in
@@ -159,7 +158,7 @@ def tried(mistake, known):
     """Tries a mistake: what is left unproved, and whether that is what it says."""
     with tempfile.TemporaryDirectory(prefix="mistake-") as room:
         copied(mistake.crate, room)
-        functions = with_laws(room, mistake.crate, mistake.over) if mistake.over else [mistake.law] * bool(mistake.worked)
+        functions = with_laws(room, mistake.crate, mistake.over) if mistake.over else [mistake.law]
         faults = mistake.made_in(room)
         if faults:
             return faults, False

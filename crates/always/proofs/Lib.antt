@@ -1,6 +1,5 @@
 mod Runs
 mod Entering
 mod Looked
-mod Unsealing
 mod Held
 mod Enclosing

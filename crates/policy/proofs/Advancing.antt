@@ -1,82 +1,38 @@
 -- Steps one after the other, each of them plain, by code of which a lasting rule holds: the rule goes on holding, the code stays where the
 -- rule lets it be fetched, and certificates are kept.
-use Rattle.std.proofs.Common.{◌≡◌, ℕ, zero, suc, ◌<◌, ◌≤◌, Bool, true, false, Option, None, Some, Ok, Err, List, length, get_or}
-use Rattle.std.proofs.Common.{cond, replicate, refl, sym, ◌∙◌, subst, arith, inl, inr}
+use Rattle.std.proofs.Common.{◌≡◌, ℕ, zero, suc, ◌<◌, ◌≤◌, Bool, true, false, Option, None, List, length, get_or}
+use Rattle.std.proofs.Common.{replicate, sym, ◌∙◌, subst, arith, inl, inr}
 use Rattle.std.proofs.lemmas.List.Elements.{Contains-get_or}
 use Rattle.std.specs.List.{Contains, HoldsAt}
-use Rattle.base.specs.declared.fault.Fault.{Fault}
-use Rattle.base.specs.declared.cause.Cause.TheVariants as cause
-use Rattle.base.specs.Fault.{fault}
 use Rattle.base.specs.Ram.{ram_base}
 use Rattle.cap_bounds.specs.CapValue.{CapValue}
-use Rattle.cap_checks.specs.FirstFault.{fetch_fault}
 use Rattle.tagged_memory.specs.AccessLaws.{in_ram-place_fault}
-use Rattle.tagged_memory.specs.Memory.{is_in_ram, number_at}
 use Rattle.tagged_memory.specs.MemoryLaws.{in_ram}
-use Rattle.devices.specs.Devices.{interrupts_of}
-use Rattle.special_regs.specs.Interrupts.{pending}
-use Rattle.special_regs.specs.declared.interrupts.Interrupt.{Interrupt}
 use Rattle.steps.specs.declared.effect.Effect.{Effect}
 use Rattle.steps.specs.declared.effect.Effect.TheVariants as effect
 use Rattle.steps.specs.declared.event.Event.TheVariants.{Step}
 use Rattle.steps.specs.AppliedLaws.{IsSoundEffect}
-use Rattle.steps.specs.AskedLaws.{fetch-fetched}
 use Rattle.steps.specs.EventLaws.{step_effect-sound, IsState-after}
 use Rattle.steps.specs.IsState.{IsState}
-use Rattle.steps.specs.Outcome.{Plain, outcome_of, step_outcome_unless, step_outcome}
-use Rattle.steps.specs.RowEffects.{fetched}
 use Rattle.steps.specs.State.{State, pc_of}
-use Rattle.steps.specs.Step.{fetched_effect, decided, step_effect}
+use Rattle.steps.specs.Step.{step_effect}
 use Rattle.steps.specs.Steps.{steps_after, GoesBy}
-use Rattle.authority.specs.Reachable.{from_root, in_pcc}
 use Rattle.authority.specs.Authority.{IsWritable}
 use Rattle.authority.specs.Grounded.{IsGrounded}
 use Rattle.authority.specs.Derives.{Derives}
-use Rattle.authority.specs.RowLaws.{IsFetched, fetched-pcc}
 use Rattle.authority.specs.StepLaws.{step_effect-derives}
 use Rattle.machine.specs.Run.{run_after}
 use Rattle.machine.proofs.Steps.{run_after-steps}
 use Rattle.reach.specs.Ranges.{IsInOne}
 use Rattle.policy.specs.Terms.{Terms}
-use Rattle.policy.specs.declared.rule.Ban.TheVariants as ban
-use Rattle.policy.specs.Watch.{IsAbout, Holds, HoldEach}
+use Rattle.policy.specs.Watch.{Applies, Holds, HoldEach, fetched_at}
 use Rattle.policy.specs.Cover.{ShareNone}
-use Rattle.policy.specs.Known.{IsLasting, WasAbout, AreKnown, IsCertified, AreCertified, Puts, KeepsCertificate, StaysAway, OutOfReach}
+use Rattle.policy.specs.Known.{IsLasting, Applied, AreKnown, IsCertified, AreCertified, Puts, KeepsCertificate, StaysAway, OutOfReach}
 use Rattle.policy.proofs.Certificates.{certified-step}
 use Rattle.policy.proofs.Covers.{in_or_out}
+use Rattle.policy.proofs.Fetching.{about-fetched, executes, in-execute, plain-fetched}
 use Rattle.policy.proofs.Leaving.{not_stored}
 use Rattle.policy.proofs.Rights.{keeps-grounded, holds-after}
-
--- ---- where a plain step was fetched
-
--- PCC passes the checks of the fetch, and the instruction lies in RAM
-abbrev IsFetchedInRam : State → Type 0
-IsFetchedInRam s = IsFetched s × (ram_base ≤ pc_of s)
-
-module _ (s : State) where
-  in-ram : (inside : Bool) → is_in_ram s.memory (pc_of s) 4 ≡ inside
-      → outcome_of (fetched_effect
-      (cond inside (Ok (number_at s.memory (pc_of s) 4)) (Err (fault cause.FetchAccess (pc_of s)))) s) ≡ Plain
-      → ram_base ≤ pc_of s
-  unfolding outcome_of
-  in-ram true same plain = (in_ram s.memory (pc_of s) 4 same).0
-  in-ram false same plain = cc
-
-  plain-fetched : (f : Option Fault) → fetch_fault s.scrs.pcc ≡ f → outcome_of (fetched_effect (fetched f s) s) ≡ Plain → IsFetchedInRam s
-  unfolding outcome_of fetched
-  plain-fetched (Some f) same plain = cc
-  plain-fetched None same plain = (fetched-pcc s same, in-ram (is_in_ram s.memory (pc_of s) 4) refl plain)
-
-  plain-decided : (o : Option Interrupt) → outcome_of (decided o s) ≡ Plain → IsFetchedInRam s
-  unfolding outcome_of
-  plain-decided (Some interrupt) plain = cc
-  plain-decided None plain =
-      plain-fetched (fetch_fault s.scrs.pcc) refl (subst (λ r. outcome_of (fetched_effect r s) ≡ Plain) (fetch-fetched s) plain)
-
-  plain-step : s.devices.halted ≡ None → step_outcome s ≡ Plain → IsFetchedInRam s
-  unfolding step_effect step_outcome
-  plain-step running plain =
-      plain-decided (pending s.csrs (interrupts_of s.devices)) (subst (λ h. step_outcome_unless h s ≡ Plain) running plain)
 
 -- ---- what a step puts into granules
 
@@ -104,26 +60,6 @@ module _ (rule : Terms) (s : State) (is : IsState s) (holds : Holds rule s) wher
       elim (in_or_out rule.store granule) [
         | inl stored ↦ absurd (apart granule one stored)
         | inr outside ↦ absurd (not_stored s rule holds granule place.0 outside place.1)
-      ]
-
-  -- its code is fetched where the rule says
-  fetched-in : IsFetchedInRam s → IsInOne rule.execute (pc_of s)
-  fetched-in both =
-      let fetch = both.0 in
-      let top = fetch.top in
-      elim (in_or_out rule.execute (pc_of s)) [
-        | inl one ↦ one
-        | inr outside ↦ absurd (holds s.scrs.pcc (from_root fetch.tagged (in_pcc refl)) (record {
-          ban = ban.Execute;
-          breaks = record {
-            byte = pc_of s;
-            in_ram = both.1;
-            outside = outside;
-            lets = record { unsealed = fetch.unsealed; permitted = fetch.executes };
-            base = fetch.base;
-            top = omega arith;
-          };
-        }))
       ]
 
 -- ---- steps
@@ -155,25 +91,28 @@ module _ (s : State) (is : IsState s) (n : ℕ) (goes : (k : ℕ) → k < n → 
 
     fetched-at : (k : ℕ) → k < n → IsInOne rule.execute (pc_of (steps_after k s))
     fetched-at k below =
+        let t = steps_after k s in
         let by = goes k below in
-        fetched-in rule (steps_after k s) (is-at k) (holds-at k (omega arith)) (plain-step (steps_after k s) by.running by.plain)
+        in-execute rule t (executes rule t (holds-at k (omega arith))) (plain-fetched t by.running by.plain) (pc_of t) (omega arith)
+        (omega arith)
 
-  module _ (rules : List Terms) (hold : HoldEach rules s) (pc : ℕ) (same_pc : pc ≡ pc_of s) (guard : Terms) (there : Contains rules guard)
-      (was : WasAbout (Some pc) guard) where
-    holds-was : (rule : Terms) → Contains rules rule → WasAbout (Some pc) rule → Holds rule s
-    holds-was rule one about = hold rule one (subst (IsAbout rule) same_pc about.1)
+  module _ (rules : List Terms) (hold : HoldEach rules s) (at : Option ℕ) (same_at : at ≡ fetched_at s) (guard : Terms)
+      (there : Contains rules guard) (was : Applied at guard) where
+    holds-was : (rule : Terms) → Contains rules rule → Applied at rule → Holds rule s
+    holds-was rule one about = hold rule one (subst (Applies rule) same_at about.1)
 
-    known-at : AreKnown rules (Some pc) (steps_after n s)
+    known-at : AreKnown rules at (steps_after n s)
     known-at = λ rule one about. holds-at rule about.0 (holds-was rule one about) n (omega arith)
 
-    hold-at : ((rule : Terms) → Contains rules rule → StaysAway pc guard rule) → (k : ℕ) → k < n → HoldEach rules (steps_after k s)
+    hold-at : ((rule : Terms) → Contains rules rule → StaysAway at guard rule) → (k : ℕ) → k < n → HoldEach rules (steps_after k s)
     hold-at away k below = λ rule one about. elim (away rule one) [
       | inl also ↦ holds-at rule also.0 (holds-was rule one also) k (omega arith)
-      | inr apart ↦ absurd (apart (pc_of (steps_after k s)) about (fetched-at guard was.0 (holds-was guard there was) k below))
+      | inr apart ↦ absurd (apart (pc_of (steps_after k s)) (about-fetched rule (steps_after k s) about)
+          (fetched-at guard was.0 (holds-was guard there was) k below))
     ]
 
     certified-at : (certified : List Bool) → AreCertified rules certified s.memory
-        → ((k : ℕ) → k < length rules → get_or certified k false ≡ true → HoldsAt (OutOfReach pc guard) rules k)
+        → ((k : ℕ) → k < length rules → get_or certified k false ≡ true → HoldsAt (OutOfReach at guard) rules k)
         → AreCertified rules certified (steps_after n s).memory
     certified-at certified are out = λ k below marked d. elim (out k below marked d) [
       | inl also ↦ own-at (get_or rules k d) also.0 (holds-was (get_or rules k d) (Contains-get_or rules k d below) also)
@@ -187,23 +126,23 @@ module _ (s : State) (is : IsState s) (n : ℕ) (goes : (k : ℕ) → k < n → 
   goes-at : (k : ℕ) → k < n → GoesBy None (steps_after k s)
   goes-at k below = subst (GoesBy None) (run_after-steps k s) (goes k below)
 
-  module _ (rules : List Terms) (hold : HoldEach rules s) (pc : ℕ) (same_pc : pc ≡ pc_of s) (guard : Terms) (there : Contains rules guard)
-      (was : WasAbout (Some pc) guard) where
-    pub known-run : (later : State) → later ≡ run_after (replicate n Step) s → AreKnown rules (Some pc) later
+  module _ (rules : List Terms) (hold : HoldEach rules s) (at : Option ℕ) (same_at : at ≡ fetched_at s) (guard : Terms)
+      (there : Contains rules guard) (was : Applied at guard) where
+    pub known-run : (later : State) → later ≡ run_after (replicate n Step) s → AreKnown rules at later
     known-run later ends =
-        subst (AreKnown rules (Some pc)) (sym (run_after-steps n s) ∙ sym ends)
-        (known-at s is n goes-at rules hold pc same_pc guard there was)
+        subst (AreKnown rules at) (sym (run_after-steps n s) ∙ sym ends)
+        (known-at s is n goes-at rules hold at same_at guard there was)
 
-    pub hold-run : ((rule : Terms) → Contains rules rule → StaysAway pc guard rule) → (k : ℕ) → k < n
+    pub hold-run : ((rule : Terms) → Contains rules rule → StaysAway at guard rule) → (k : ℕ) → k < n
         → HoldEach rules (run_after (replicate k Step) s)
     hold-run away k below =
-        subst (HoldEach rules) (sym (run_after-steps k s)) (hold-at s is n goes-at rules hold pc same_pc guard there was away k below)
+        subst (HoldEach rules) (sym (run_after-steps k s)) (hold-at s is n goes-at rules hold at same_at guard there was away k below)
 
     pub certified-run : (later : State) → later ≡ run_after (replicate n Step) s → (certified now : List Bool)
         → AreCertified rules certified s.memory
         → ((k : ℕ) → k < length rules → get_or now k false ≡ true
-        → (get_or certified k false ≡ true) × HoldsAt (OutOfReach pc guard) rules k) → AreCertified rules now later.memory
+        → (get_or certified k false ≡ true) × HoldsAt (OutOfReach at guard) rules k) → AreCertified rules now later.memory
     certified-run later ends certified now are kept =
         subst (λ t. AreCertified rules now t.memory) (sym (run_after-steps n s) ∙ sym ends)
-        (certified-at s is n goes-at rules hold pc same_pc guard there was now
+        (certified-at s is n goes-at rules hold at same_at guard there was now
         (λ k below marked. are k below (kept k below marked).0) (λ k below marked. (kept k below marked).1))

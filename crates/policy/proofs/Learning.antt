@@ -25,6 +25,8 @@ use Rattle.policy.specs.Terms.{Terms}
 use Rattle.policy.specs.declared.rule.Ban.TheVariants as ban
 use Rattle.policy.specs.Watch.{Holds, HoldEach, DiffersOutside, LearnsBy, KeepsTo, KeepsToEach}
 use Rattle.policy.proofs.Covers.{in_or_out}
+use Rattle.policy.proofs.Fetching.{runs-by}
+use Rattle.policy.proofs.Sealing.{seals-by}
 use Rattle.policy.proofs.Leaving.{leaves-by}
 use Rattle.policy.proofs.Memories.{AreSameWhere, same-number, same-value}
 
@@ -158,7 +160,13 @@ module _ (rule : Terms) where
     }
 
     pub keeps-to : (e : Event) → IsState s → KeepsTo rule e s
-    keeps-to e is = record { holds = holds; leaves = leaves-by s rule holds e is; learns = learns-by e is }
+    keeps-to e is = record {
+      holds = holds;
+      leaves = leaves-by s rule holds e is;
+      learns = learns-by e is;
+      runs = runs-by rule s holds e is;
+      seals = seals-by rule s holds e is;
+    }
 
 -- ---- the rules about the code
 

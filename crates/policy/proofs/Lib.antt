@@ -3,6 +3,9 @@ pub mod Bans
 pub mod Rights
 pub mod Passing
 pub mod Leaving
+pub mod Unsealing
+pub mod Fetching
+pub mod Sealing
 pub mod Memories
 pub mod Granules
 pub mod Certificates

@@ -1,5 +1,5 @@
 -- An event that is no step changes nothing of what a watcher knows.
-use Rattle.std.proofs.Common.{◌≡◌, ℕ, Option, None, Some, List, refl, sym, subst}
+use Rattle.std.proofs.Common.{◌≡◌, ℕ, Option, List, refl, sym, subst}
 use Rattle.steps.specs.declared.event.Event.{Event}
 use Rattle.steps.specs.declared.event.Event.TheVariants.{Step, Tick, Byte}
 use Rattle.steps.specs.Event.{after, outcome}
@@ -23,8 +23,7 @@ memory-passed (Byte b) s other = refl
 
 known-passed : (rules : List Terms) (known : Option ℕ) (s : State) (e : Event) → IsState s → outcome e s ≡ Plain → AreKnown rules known s
     → AreKnown rules known (after e s)
-known-passed rules None s e is plain knows = λ rule there was. absurd was
-known-passed rules (Some pc) s e is plain knows = λ rule there was. holds-after rule s e is plain was.0 (knows rule there was)
+known-passed rules known s e is plain knows = λ rule there was. holds-after rule s e is plain was.0 (knows rule there was)
 
 pub passed : (w : Watcher) (s next : State) (e : Event) → IsState s → (e ≡ Step → ⊥) → next ≡ after e s → Knows w s → Knows w next
 passed w s next e is other met knows = subst (Knows w) (sym met) (record {

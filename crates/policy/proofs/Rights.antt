@@ -8,7 +8,7 @@ use Rattle.cap_bounds.specs.CapValue.{CapValue, is_sealed, value_otype}
 use Rattle.cap_rights.specs.declared.permission.Permission.{Permission}
 use Rattle.cap_rights.specs.declared.permission.Permission.TheVariants as permission
 use Rattle.cap_rights.specs.Permission.{permits}
-use Rattle.cap_rights.specs.Rights.{IsInRightsOf}
+use Rattle.cap_rights.specs.Rights.{IsInRightsOf, OpensType}
 use Rattle.cap_rights.specs.RightsLaws.{permits-outer, unsealed-outer, OpensStore-outer, OpensKeeping-outer, OpensSystem-outer}
 use Rattle.cap_rights.specs.Within.{IsWithin}
 use Rattle.devices.specs.Devices.{halt, timer_compare, transmit}
@@ -19,6 +19,7 @@ use Rattle.steps.specs.Outcome.{Plain}
 use Rattle.steps.specs.State.{State}
 use Rattle.authority.specs.Authority.{IsSealAllowed, held, sentry, sealed_by}
 use Rattle.authority.specs.Grounded.{IsGrounded}
+use Rattle.authority.specs.Reachable.{IsReachable}
 use Rattle.authority.specs.StepLaws.{event-grows_not}
 use Rattle.reach.specs.declared.range.Range.{Range}
 use Rattle.policy.specs.Terms.{Terms}
@@ -98,6 +99,9 @@ module _ (v c : CapValue) (within : IsInRightsOf v c) where
 
 -- ---- seals
 
+execute-types : ban.Execute ≡ ban.Types → ⊥
+execute-types is = cc
+
 pub beyond-sealed : (v : CapValue) (o : Option (List ℕ)) → MatchOption o ⊥ (λ types. IsSealedBeyond types v)
     → (is_sealed v ≡ true) × (is_reserved (value_otype v) ≡ false)
 beyond-sealed v None broken = absurd broken
@@ -108,25 +112,29 @@ no-types v None none broken = broken
 no-types v (Some types) none broken = true≢false none
 
 module _ (rule : Terms) (s : State) (holds : Holds rule s) where
+  -- an authority that may seal with an object type that is not reserved
+  pub seal-breaks : (v c : CapValue) → rule.seal ≡ false → is_reserved (value_otype v) ≡ false → IsReachable s c
+      → OpensType c (value_otype v) → ⊥
+  seal-breaks v c none free reachable opens = holds c reachable (record {
+    ban = ban.Seal;
+    breaks = (
+      none,
+      record {
+        otype = value_otype v;
+        unreserved = free;
+        unsealed = opens.unsealed;
+        permitted = inl opens.seals;
+        base = opens.base;
+        top = opens.top;
+      },
+    );
+  })
+
   -- a seal that is allowed in code that may not seal
   allowed-seal : (v : CapValue) → rule.seal ≡ false → is_reserved (value_otype v) ≡ false → Breaks rule ban.Types v → IsSealAllowed s v → ⊥
   allowed-seal v none free broken (held reachable) = holds v reachable (record { ban = ban.Types; breaks = broken })
   allowed-seal v none free broken (sentry same) = true≢false (subst (λ o. is_reserved o ≡ false) same free)
-  allowed-seal v none free broken (sealed_by c reachable opens) =
-      holds c reachable (record {
-        ban = ban.Seal;
-        breaks = (
-          none,
-          record {
-            otype = value_otype v;
-            unreserved = free;
-            unsealed = opens.unsealed;
-            permitted = inl opens.seals;
-            base = opens.base;
-            top = opens.top;
-          },
-        );
-      })
+  allowed-seal v none free broken (sealed_by c reachable opens) = seal-breaks v c none free reachable opens
 
   keeps-types : (v : CapValue) → IsLasting rule → IsGrounded s v → Breaks rule ban.Types v → ⊥
   keeps-types v (inl none) earned broken =
@@ -144,6 +152,14 @@ module _ (rule : Terms) (s : State) (holds : Holds rule s) where
           | inl outer ↦ of_source part outer
           | inr is ↦ keeps-types v lasting earned (subst (λ other. Breaks rule other v) is broken)
         ]
+
+  -- what is grounded opens no fetch that the rule doesn't
+  pub keeps-execute : (v : CapValue) → IsGrounded s v → Breaks rule ban.Execute v → ⊥
+  keeps-execute v earned broken =
+      elim (breaks-outer v earned.covered.source earned.covered.within rule ban.Execute broken) [
+        | inl outer ↦ of_source v earned ban.Execute outer
+        | inr is ↦ absurd (execute-types is)
+      ]
 
   -- what is grounded where a lasting rule holds keeps the rule
   pub keeps-grounded : IsLasting rule → (v : CapValue) → IsGrounded s v → BreaksRule rule v → ⊥

@@ -2,7 +2,7 @@
 use Rattle.std.proofs.Common.{◌≡◌, ℕ, zero, suc, ◌<◌, ◌≤◌, List, [], ◌∷◌, ◌+◌, drop, length, get_or, refl, ap, arith}
 use Rattle.std.proofs.lemmas.List.{drop_all, length-map}
 use Rattle.policy.specs.declared.rule.Rule.{Rule}
-use Rattle.policy.specs.Terms.{Terms, terms, terms_of}
+use Rattle.policy.specs.Terms.{terms, terms_of}
 
 pub termed-below : (rules : List Rule) (k : ℕ) → k < length rules → k < length (terms_of rules)
 termed-below rules k below = omega (arith, below, length-map rules terms)

@@ -2,7 +2,6 @@
 use Rattle.std.proofs.Common.{◌≡◌, ℕ, ◌+◌, ◌*◌, ◌/◌, ◌%◌, ◌<◌, ◌≤◌, List, [], ◌∷◌, Option, None, Some, sym, ◌∙◌, inl, inr, arith, zero, suc}
 use Rattle.std.proofs.lemmas.Bool.{and_from, and_parts, or_cases, or_left, or_right, not-true, not_from_false, cases_lt, cases_Bool}
 use Rattle.std.proofs.lemmas.Bool.{iff_false}
-use Rattle.std.proofs.lemmas.Bool.Decides.{nat_tests}
 use Rattle.std.proofs.lemmas.Bool.{ltb-true, leb-true, leb-false, lt-ltb, le-leb, lt-leb, eqb-true, eq-eqb, true≢false, false≢true}
 use Rattle.std.specs.List.{list_any}
 use Rattle.std.specs.Prelude.{◌↔◌, ◌&&◌, ◌||◌, ◌==◌, not, nat_le, nat_lt, min, max, Bool, true, false, Contains, MatchOption}
@@ -26,8 +25,9 @@ use Rattle.policy.specs.declared.rule.Ban.{Ban}
 use Rattle.policy.specs.declared.rule.Ban.TheVariants.{Store, Load, Execute, Keep, Transmit, Halt, Timer, System, Seal, Types}
 use Rattle.policy.specs.Cover.{HasGap}
 use Rattle.policy.specs.Rule.{Lets, OpensOutside, KeepsOutside, OpensSealing, IsSealedBeyond, Breaks}
-use Rattle.policy.specs.Watch.{IsAbout}
-use Rattle.policy.specs.Tests.{breaks, is_about, is_in_one, is_sealed_beyond, keeps_outside, leaves_out, opens_outside, opens_sealing}
+use Rattle.policy.specs.Watch.{Applies, IsAbout}
+use Rattle.policy.specs.Tests.{applies, breaks, is_about, is_in_one, is_sealed_beyond, keeps_outside, leaves_out, opens_outside}
+use Rattle.policy.specs.Tests.{opens_sealing}
 
 -- two tests of one fact
 pub same_test : (a b : Bool) {P : Type 0} → ((a ≡ true) ↔ P) → ((b ≡ true) ↔ P) → a ≡ b
@@ -279,14 +279,14 @@ module _ (c : CapValue) where
         (lt-ltb (value_base c) (min (value_top c) FIRST_RESERVED) (omega arith)),
   )
 
-  any-there : (types : List ℕ) (otype : ℕ) → list_any (λ t. t == otype) types ≡ true → Contains types otype
+  pub any-there : (types : List ℕ) (otype : ℕ) → list_any (λ t. t == otype) types ≡ true → Contains types otype
   any-there [] otype is = absurd (false≢true is)
   any-there (t ∷ ts) otype is = elim (or_cases (t == otype) (list_any (λ t. t == otype) ts) is) [
     | inl here ↦ (0, omega arith, eqb-true t otype here)
     | inr there ↦ let at = any-there ts otype there in (suc at.0, omega (arith, at.1), at.2)
   ]
 
-  there-any : (types : List ℕ) (otype k : ℕ) → k < length types → get_or types k otype ≡ otype → list_any (λ t. t == otype) types ≡ true
+  pub there-any : (types : List ℕ) (otype k : ℕ) → k < length types → get_or types k otype ≡ otype → list_any (λ t. t == otype) types ≡ true
   there-any [] otype k below at = absurd (omega arith)
   there-any (t ∷ ts) otype zero below at = or_left (t == otype) (list_any (λ t. t == otype) ts) (eq-eqb t otype at)
   there-any (t ∷ ts) otype (suc k) below at =
@@ -343,3 +343,8 @@ module _ (c : CapValue) where
 pub about-it : (rule : Terms) (pc : ℕ) → (is_about rule pc ≡ true) ↔ IsAbout rule pc
 unfolding is_about
 about-it rule pc = (one-in rule.code pc, in-one rule.code pc)
+
+pub applies-it : (rule : Terms) (at : Option ℕ) → (applies rule at ≡ true) ↔ Applies rule at
+unfolding applies
+applies-it rule None = (λ no. absurd (false≢true no), λ no. absurd no)
+applies-it rule (Some pc) = about-it rule pc

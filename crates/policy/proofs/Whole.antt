@@ -1,26 +1,29 @@
 -- What a rule guards over each event of a run, it guards over the run.
-use Rattle.std.proofs.Common.{◌≡◌, ℕ, ◌+◌, ◌-◌, ◌%◌, ◌<◌, ◌≤◌, zero, suc, false, List, [], ◌∷◌, ◌++◌, length, get_or, take, refl}
+use Rattle.std.proofs.Common.{◌≡◌, ℕ, ◌+◌, ◌-◌, ◌%◌, ◌<◌, ◌≤◌, zero, suc, true, false, List, [], ◌∷◌, ◌++◌, length, get_or, take, refl}
 use Rattle.std.proofs.Common.{sym, ap, ◌∙◌, subst, inl, inr, arith}
 use Rattle.std.proofs.lemmas.Bool.{true≢false}
-use Rattle.std.proofs.lemmas.List.{take_more}
-use Rattle.std.specs.Prelude.{Contains, option_to_list}
+use Rattle.std.proofs.lemmas.List.{get_or_default, take_more}
+use Rattle.std.specs.Prelude.{◌≢◌, Contains, Some, option_to_list}
+use Rattle.base.specs.ObjectType.{is_reserved}
 use Rattle.base.specs.Ram.{ram_base}
-use Rattle.cap_bounds.specs.CapValue.{CapValue}
+use Rattle.cap_bounds.specs.CapValue.{CapValue, is_sealed, value_otype}
 use Rattle.cap_rights.specs.Permission.{permits}
 use Rattle.cap_rights.specs.declared.permission.Permission.TheVariants.{Global}
 use Rattle.tagged_memory.specs.Memory.{has_tag}
 use Rattle.devices.specs.Devices.{mtimecmp}
 use Rattle.steps.specs.declared.event.Event.{Event}
 use Rattle.steps.specs.declared.event.Event.TheVariants.{Step}
-use Rattle.steps.specs.Event.{after, sent}
+use Rattle.steps.specs.Event.{after, outcome, sent}
+use Rattle.steps.specs.Outcome.{Unseal}
 use Rattle.steps.specs.State.{State, pc_of}
-use Rattle.authority.specs.Reachable.{IsHeldAt}
+use Rattle.authority.specs.Reachable.{IsHeldAt, IsReachable}
 use Rattle.machine.specs.Run.{run_after, run_sent}
 use Rattle.reach.specs.Ranges.{IsInOne}
 use Rattle.policy.specs.Terms.{Terms}
 use Rattle.policy.specs.Lending.{in_force, in_force_after}
-use Rattle.policy.specs.Watch.{KeepsTo, DiffersOutside}
-use Rattle.policy.specs.Run.{KeepToEach, IsAboutEach, NoneTraps}
+use Rattle.policy.specs.Watch.{AllowsType, KeepsTo, DiffersOutside, fetched_at}
+use Rattle.policy.specs.Run.{KeepToEach, AppliesToEach, NoneTraps, NoneUnseals}
+use Rattle.policy.proofs.Fetching.{about-fetched}
 use Rattle.policy.proofs.Forced.{in_force-append, stays-in-force}
 use Rattle.policy.proofs.Leaving.{SameSystem}
 use Rattle.policy.proofs.Tests.{about-it}
@@ -62,11 +65,11 @@ module _ (rules : List Terms) (rule : Terms) (events : List Event) (there : Cont
     sent-more s = ap (λ es. run_sent es s) more ∙ run_sent-append (take n events) (at n) s
 
   module _ (s : State) where
-    -- the rule is about the code before each event, and each keeps to it
+    -- the rule applies before each event, and each keeps to it
     record Guards (done : ℕ) : Type 0 where
       some : done ≤ length events
       keep : KeepToEach rules events done s
-      about : IsAboutEach rule events done s
+      about : AppliesToEach rule events done s
 
     fewer : (n : ℕ) → Guards (suc n) → Guards n
     fewer n g =
@@ -90,7 +93,7 @@ module _ (rules : List Terms) (rule : Terms) (events : List Event) (there : Cont
         let next : in_force rules (take (suc n) events) s ≡ in_force_after rules now (at n) (state s n) =
         ap (λ es. in_force rules es s) (more n (inside n g)) ∙ in_force-append rules rules (take n events) (at n) s in
         let kept = stays-in-force (at n) rules now there.0 rule (state s n) there.1 there.2 before.0 before.1
-        ((about-it rule (pc_of (state s n))).1 (g.about n (omega arith))) in
+        ((about-it rule (pc_of (state s n))).1 (about-fetched rule (state s n) (g.about n (omega arith)))) in
         (kept.0 ∙ ap length (sym next), ap (λ ts. get_or ts there.0 rule) next ∙ kept.1)
 
     contains : (n : ℕ) → Guards n → Contains (in_force rules (take n events) s) rule
@@ -153,6 +156,17 @@ module _ (rules : List Terms) (rule : Terms) (events : List Event) (there : Cont
     timer (suc n) g banned =
         ap (λ x. mtimecmp x.devices) (state-more n (inside n g) s) ∙ (last n g).leaves.timer banned ∙ timer n (fewer n g) banned
 
+    module _ (done : ℕ) (g : Guards done) (k : ℕ) (below : k < done) where
+      up-to : Guards (suc k)
+      up-to = let some = g.some in record {
+        some = omega arith;
+        keep = λ n few. g.keep n (omega arith);
+        about = λ n few. g.about n (omega arith);
+      }
+
+      at-step : KeepsTo rule (at k) (state s k)
+      at-step = last k up-to
+
     module _ (t : State) (differs : DiffersOutside rule s t) where
       same_state : (done : ℕ) → Guards done → DiffersOutside rule (state s done) (state t done)
       same_state zero g = differs
@@ -169,7 +183,8 @@ module _ (rules : List Terms) (rule : Terms) (events : List Event) (there : Cont
           ∙ ap (λ o. run_sent (take n events) s ++ option_to_list o) ((last n g).learns.sends (state t n) (same_state n (fewer n g)))
           ∙ sym (sent-more n (inside n g) s)
 
-    module _ (done : ℕ) (some : done ≤ length events) (keep : KeepToEach rules events done s) (about : IsAboutEach rule events done s) where
+    module _ (done : ℕ) (some : done ≤ length events) (keep : KeepToEach rules events done s)
+        (about : AppliesToEach rule events done s) where
       guards : Guards done
       guards = record { some = some; keep = keep; about = about }
 
@@ -197,6 +212,19 @@ module _ (rules : List Terms) (rule : Terms) (events : List Event) (there : Cont
 
       pub compare-stays : rule.timer ≡ false → mtimecmp (state s done).devices ≡ mtimecmp s.devices
       compare-stays = timer done guards
+
+      pub fetched-inside : (k pc a : ℕ) → k < done → fetched_at (state s k) ≡ Some pc → pc ≤ a → a < pc + 4 → IsInOne rule.execute a
+      fetched-inside k pc a below = (at-step done guards k below).runs.fetched pc a
+
+      pub types-allowed : (k : ℕ) (v : CapValue) → k < done → IsReachable (state s k) v → is_sealed v ≡ true
+          → is_reserved (value_otype v) ≡ false → AllowsType rule (value_otype v)
+      types-allowed k v below = (at-step done guards k below).seals.types v
+
+      pub none-unseals : rule.seal ≡ false → NoneUnseals events done s
+      none-unseals banned k below = λ d.
+          let inside : k < length events = omega (arith, some) in
+          subst (λ e. outcome e (state s k) ≢ Unseal) (get_or_default events k Step d inside)
+          ((at-step done guards k below).seals.unseals banned)
 
       pub sends-same : (t : State) → DiffersOutside rule s t → run_sent (take done events) t ≡ run_sent (take done events) s
       sends-same t differs = same_bytes t differs done guards

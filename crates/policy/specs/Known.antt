@@ -1,6 +1,6 @@
 -- What a watcher knows between two looks: rules that hold, and certificates of rules, by which one look at the registers shows that they
 -- hold.
-use Rattle.std.specs.Prelude.{◌≡◌, ℕ, ◌<◌, Bool, true, false, List, length, Option, None, Some, IsNone, Contains, slice_index_or, ◌⊎◌}
+use Rattle.std.specs.Prelude.{◌≡◌, ℕ, ◌<◌, Bool, true, false, List, length, Option, IsNone, Contains, slice_index_or, ◌⊎◌}
 use Rattle.std.specs.List.{HoldsAt}
 use Rattle.cap_bounds.specs.CapValue.{CapValue, is_tagged}
 use Rattle.tagged_memory.specs.Memory.{Memory}
@@ -15,7 +15,7 @@ use Rattle.policy.specs.declared.watcher.Watcher.{Watcher}
 use Rattle.policy.specs.Terms.{Terms, terms_of}
 use Rattle.policy.specs.Cover.{ShareNone}
 use Rattle.policy.specs.Rule.{BreaksRule}
-use Rattle.policy.specs.Watch.{IsAbout, Holds}
+use Rattle.policy.specs.Watch.{Applies, Holds}
 
 -- ---- rules that hold
 
@@ -23,14 +23,13 @@ use Rattle.policy.specs.Watch.{IsAbout, Holds}
 abbrev pub IsLasting : Terms → Type 0
 IsLasting rule = (rule.seal ≡ false) ⊎ IsNone rule.types
 
--- the rule is lasting, and about the code at an address that is known
-abbrev pub WasAbout : Option ℕ → Terms → Type 0
-WasAbout None rule = ⊥
-WasAbout (Some pc) rule = IsLasting rule × IsAbout rule pc
+-- the rule is lasting, and applies to what was fetched at an address that is known
+abbrev pub Applied : Option ℕ → Terms → Type 0
+Applied known rule = IsLasting rule × Applies rule known
 
 -- each rule that was so holds
 abbrev pub AreKnown : List Terms → Option ℕ → State → Type 0
-AreKnown rules known s = (rule : Terms) → Contains rules rule → WasAbout known rule → Holds rule s
+AreKnown rules known s = (rule : Terms) → Contains rules rule → Applied known rule → Holds rule s
 
 -- ---- certificates
 
@@ -68,13 +67,13 @@ KeepsThose rules certified now e =
 
 -- ---- many steps under one rule, the guard
 
--- the rule is lasting and about the code at an address, as the guard is; or about no code that the guard lets be fetched
-abbrev pub StaysAway : ℕ → Terms → Terms → Type 0
-StaysAway pc guard rule = WasAbout (Some pc) rule ⊎ ShareNone rule.code guard.execute
+-- the rule is lasting and applies, as the guard does; or is about no code that the guard lets be fetched
+abbrev pub StaysAway : Option ℕ → Terms → Terms → Type 0
+StaysAway at guard rule = Applied at rule ⊎ ShareNone rule.code guard.execute
 
 -- it is so; or lets code load nothing that the guard lets be stored to
-abbrev pub OutOfReach : ℕ → Terms → Terms → Type 0
-OutOfReach pc guard rule = WasAbout (Some pc) rule ⊎ ShareNone rule.load guard.store
+abbrev pub OutOfReach : Option ℕ → Terms → Terms → Type 0
+OutOfReach at guard rule = Applied at rule ⊎ ShareNone rule.load guard.store
 
 -- ---- all of it
 

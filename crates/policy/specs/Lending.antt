@@ -1,6 +1,6 @@
 -- Rules that allow what the caller of their code could reach, too: which terms are in force. Code is called by a jump through a seal that
 -- comes to it from other code; a trap and the return from it are no call, and change nothing of what is in force.
-use Rattle.std.specs.Prelude.{ℕ, Bool, true, false, not, ◌&&◌, ◌||◌, if◌then◌else◌, List, [], ◌∷◌, ◌++◌, Option, Some, None, option_map}
+use Rattle.std.specs.Prelude.{ℕ, Bool, false, not, ◌&&◌, ◌||◌, if◌then◌else◌, List, [], ◌∷◌, ◌++◌, Option, Some, None, option_map}
 use Rattle.std.specs.List.{list_any}
 use Rattle.cap_bounds.specs.CapValue.{CapValue}
 use Rattle.devices.specs.Devices.{halt, timer_compare, transmit}

@@ -3,25 +3,29 @@ use Rattle.std.specs.Prelude.{◌≡◌, ℕ, ◌<◌, ◌≤◌, ◌≢◌, ◌
 use Rattle.std.specs.List.{HoldsAt}
 use Rattle.steps.specs.declared.event.Event.{Event}
 use Rattle.steps.specs.Event.{outcome}
-use Rattle.steps.specs.Outcome.{Trap}
-use Rattle.steps.specs.State.{State, pc_of}
+use Rattle.steps.specs.Outcome.{Trap, Unseal}
+use Rattle.steps.specs.State.{State}
 use Rattle.machine.specs.Run.{run_after, run_sent}
 use Rattle.policy.specs.Terms.{Terms}
-use Rattle.policy.specs.Watch.{IsAbout, KeepsToEach}
+use Rattle.policy.specs.Watch.{Applies, KeepsToEach, fetched_at}
 use Rattle.policy.specs.Lending.{in_force}
 
--- each of the first events of a run keeps to each rule about the code, by the terms in force
+-- each of the first events of a run keeps to each rule that applies, by the terms in force
 abbrev pub KeepToEach : List Terms → List Event → ℕ → State → Type 0
 KeepToEach rules events done s =
     (k : ℕ) → k < done → HoldsAt (λ e. KeepsToEach (in_force rules (take k events) s) e (run_after (take k events) s)) events k
 
--- the rule is about the code before each of them
-abbrev pub IsAboutEach : Terms → List Event → ℕ → State → Type 0
-IsAboutEach rule events done s = (k : ℕ) → k < done → IsAbout rule (pc_of (run_after (take k events) s))
+-- the rule applies before each of them
+abbrev pub AppliesToEach : Terms → List Event → ℕ → State → Type 0
+AppliesToEach rule events done s = (k : ℕ) → k < done → Applies rule (fetched_at (run_after (take k events) s))
 
 -- none of them traps
 abbrev pub NoneTraps : List Event → ℕ → State → Type 0
 NoneTraps events done s = (k : ℕ) → k < done → HoldsAt (λ e. outcome e (run_after (take k events) s) ≢ Trap) events k
+
+-- none of them unseals
+abbrev pub NoneUnseals : List Event → ℕ → State → Type 0
+NoneUnseals events done s = (k : ℕ) → k < done → HoldsAt (λ e. outcome e (run_after (take k events) s) ≢ Unseal) events k
 
 -- a run over the first `done` of some events, with the bytes that it sends
 pub record IsRunOf (events : List Event) (done : ℕ) (s later : State) (out out_later : List ℕ) : Type 0 where

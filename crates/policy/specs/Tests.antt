@@ -1,6 +1,7 @@
--- Tests for what breaks a rule, and for the code that it is about. (That they are what policies mean by it is a law of its own.)
+-- Tests for what breaks a rule, for the code that it is about, and for what it applies to. (That they are what policies mean by it is a
+-- law of its own.)
 use Rattle.std.specs.Prelude.{ℕ, ◌+◌, ◌*◌, ◌/◌, Bool, false, not, ◌&&◌, ◌||◌, ◌==◌, nat_le, nat_lt, min, max}
-use Rattle.std.specs.Prelude.{List, [], ◌∷◌, option_map, unwrap_or}
+use Rattle.std.specs.Prelude.{List, [], ◌∷◌, Option, None, Some, option_map, unwrap_or}
 use Rattle.std.specs.List.{list_any}
 use Rattle.base.specs.declared.otype.TheConstants.{FIRST_RESERVED}
 use Rattle.base.specs.ObjectType.{is_reserved}
@@ -62,3 +63,7 @@ breaks rule Types c = unwrap_or (option_map (λ types. is_sealed_beyond types c)
 
 unfoldable pub is_about : Terms → ℕ → Bool
 is_about rule pc = is_in_one rule.code pc
+
+unfoldable pub applies : Terms → Option ℕ → Bool
+applies rule None = false
+applies rule (Some pc) = is_about rule pc

@@ -1,59 +1,65 @@
 //! What keeps other rules out of the way of code that a rule guards.
-ghost use Rattle.std.specs.Prelude.{◌≡◌, ℕ, ◌<◌, true, false, length, slice_index_or, Some, Contains, IfSome, IsTrue};
+ghost use Rattle.std.specs.Prelude.{◌≡◌, ℕ, ◌<◌, true, false, length, slice_index_or, Contains, IfSome, IsTrue};
 ghost use Rattle.std.specs.List.{HoldsAt};
 ghost use Rattle.policy.specs.Terms.{Terms, terms, terms_of};
-ghost use Rattle.policy.specs.Known.{WasAbout, StaysAway, OutOfReach};
+ghost use Rattle.policy.specs.Known.{Applied, StaysAway, OutOfReach};
 
-use crate::about::was_about;
+use crate::about::applied;
 use crate::cover::share_none;
 use crate::rule::Rule;
 
-/// A lasting rule about the code at an address.
-pub(crate) fn guard_at<'r>(rules: &'r [Rule], pc: u64) -> Option<&'r Rule>
+/// A lasting rule that applies to what is fetched at an address.
+pub(crate) fn guard_at<'r>(rules: &'r [Rule], at: Option<u64>) -> Option<&'r Rule>
     ensures there { IfSome result (λ rule. Contains (terms_of rules.now) (terms rule.now)) }
-    ensures was { IfSome result (λ rule. WasAbout (Some pc) (terms rule.now)) }
+    ensures applied { IfSome result (λ rule. Applied at (terms rule.now)) }
 {
     for rule in rules {
-        if was_about(rule, Some(pc)) {
+        if applied(rule, at) {
             return Some(rule);
         }
     }
     None
 }
 
-/// Whether a rule is about the code at an address too, and lasting, or about no code that may be fetched under the guard.
-fn stays_away(rule: &Rule, pc: u64, guard: &Rule) -> bool
-    ensures { IsTrue result → StaysAway pc (terms guard.now) (terms rule.now) }
+/// Whether a rule applies to what is fetched at an address too, and is lasting, or is about no code that may be fetched under the guard.
+fn stays_away(rule: &Rule, at: Option<u64>, guard: &Rule) -> bool
+    ensures { IsTrue result → StaysAway at (terms guard.now) (terms rule.now) }
 {
-    was_about(rule, Some(pc)) || share_none(&rule.code, &guard.execute)
+    applied(rule, at) || share_none(&rule.code, &guard.execute)
 }
 
 /// Whether each rule is so.
-pub(crate) fn each_stays_away(rules: &[Rule], pc: u64, guard: &Rule) -> bool
-    ensures { IsTrue result → (rule : Terms) → Contains (terms_of rules.now) rule → StaysAway pc (terms guard.now) rule }
+pub(crate) fn each_stays_away(rules: &[Rule], at: Option<u64>, guard: &Rule) -> bool
+    ensures { IsTrue result → (rule : Terms) → Contains (terms_of rules.now) rule → StaysAway at (terms guard.now) rule }
 {
     for rule in rules {
-        if !stays_away(rule, pc, guard) {
+        if !stays_away(rule, at, guard) {
             return false;
         }
     }
     true
 }
 
-/// Whether a rule is about the code at an address too, and lasting, or lets code load nothing that may be stored to under the guard.
-fn is_out_of_reach(rule: &Rule, pc: u64, guard: &Rule) -> bool
-    ensures { IsTrue result → OutOfReach pc (terms guard.now) (terms rule.now) }
+/// Whether a rule applies to what is fetched at an address too, and is lasting, or lets code load nothing that may be stored to under the
+/// guard.
+fn is_out_of_reach(rule: &Rule, at: Option<u64>, guard: &Rule) -> bool
+    ensures { IsTrue result → OutOfReach at (terms guard.now) (terms rule.now) }
 {
-    was_about(rule, Some(pc)) || share_none(&rule.load, &guard.store)
+    applied(rule, at) || share_none(&rule.load, &guard.store)
 }
 
 /// Takes the certificates of the rules that are not so.
-pub(crate) fn keep_out_of_reach(certified: &mut [bool], rules: &[Rule], pc: u64, guard: &Rule)
+pub(crate) fn keep_out_of_reach(
+    certified: &mut [bool],
+    rules: &[Rule],
+    at: Option<u64>,
+    guard: &Rule,
+)
     requires { length certified.old ≡ length rules.now }
     ensures { (k : ℕ) → k < length (terms_of rules.now) → slice_index_or certified.new k false ≡ true
-        → (slice_index_or certified.old k false ≡ true) × HoldsAt (OutOfReach pc (terms guard.now)) (terms_of rules.now) k }
+        → (slice_index_or certified.old k false ≡ true) × HoldsAt (OutOfReach at (terms guard.now)) (terms_of rules.now) k }
 {
     for (place, rule) in rules.iter().enumerate() {
-        certified[place] = certified[place] && is_out_of_reach(rule, pc, guard);
+        certified[place] = certified[place] && is_out_of_reach(rule, at, guard);
     }
 }

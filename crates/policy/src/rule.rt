@@ -6,7 +6,7 @@ use reach::Range;
 /// `0x8000_0000` on: a capability whose bounds go on past the memory of the machine opens what lies there too.
 #[derive(Debug, Drop)]
 pub struct Rule {
-    /// The code: the rule is about a state whose program counter lies in one of these ranges.
+    /// The code: the rule applies to a state where an instruction can be fetched from one of these ranges.
     pub code: Vec<Range>,
     /// The bytes of RAM that may be stored to.
     pub store: Vec<Range>,

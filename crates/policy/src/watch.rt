@@ -1,4 +1,4 @@
-//! Runs that are watched: before each event the rules about the code are looked at, unless they are known to hold.
+//! Runs that are watched: before each event the rules that apply are looked at, unless they are known to hold.
 ghost use Rattle.std.specs.Prelude.{◌≡◌, ◌≤◌, ◌++◌, None, length, take, IfOk, IfSome, OnErr};
 ghost use Rattle.machine.specs.Run.{run_after, run_sent};
 ghost use Rattle.policy.specs.Terms.{terms_of};
@@ -23,11 +23,12 @@ pub struct Watched {
     pub refused: Option<Refused>,
 }
 
-/// Meets events in order, up to the first before which a rule about the code is broken, and appends the sent bytes to `out`.
+/// Meets events in order, up to the first before which a rule that applies is broken, and appends the sent bytes to `out`. A rule applies
+/// where an instruction can be fetched, from its code.
 ///
-/// Whatever the code is: no event that is met changes what a rule about the code guards, and what lies outside the rule's ranges for loads
-/// and fetches makes no difference at it. A rule is looked at before an event, unless it was about the code before the last one too, that
-/// one was plain, and new seals can't break it: then it still holds. `Watcher` says when a look is a search.
+/// Whatever the code is: no event that is met changes what a rule that applies guards, and what lies outside the rule's ranges for loads
+/// and fetches makes no difference at it. A rule is looked at before an event, unless it applied before the last one too, that one was
+/// plain, and new seals can't break it: then it still holds. `Watcher` says when a look is a search.
 ///
 /// A rule that allows what its caller could reach is in force with that from the call on.
 ///

@@ -1,6 +1,5 @@
 //! Watchers: they tell which rule about the code refuses the next event, and remember what saves a search.
-ghost use Rattle.std.specs.Bool.{then_some};
-ghost use Rattle.std.specs.Prelude.{◌≡◌, ◌&&◌, not, ℕ, ◌<◌, ◌≤◌, ◌⊎◌, None, [], replicate, length, Contains};
+ghost use Rattle.std.specs.Prelude.{◌≡◌, ◌&&◌, not, if◌then◌else◌, ℕ, ◌<◌, ◌≤◌, ◌⊎◌, None, [], replicate, length, Contains};
 ghost use Rattle.std.specs.Prelude.{IfNone, IfOk, IfSome, IsTrue, OnOk, OnErr};
 ghost use Rattle.steps.specs.declared.event.Event.TheVariants.{Step};
 ghost use Rattle.steps.specs.Event.{after, sent};
@@ -8,11 +7,11 @@ ghost use Rattle.steps.specs.IsState.{IsState};
 ghost use Rattle.steps.specs.State.{State};
 ghost use Rattle.machine.specs.Run.{run_after, run_sent};
 ghost use Rattle.policy.specs.Terms.{Terms, terms_of};
-ghost use Rattle.policy.specs.Watch.{IsAbout, Holds, HoldEach, IsRefused};
+ghost use Rattle.policy.specs.Watch.{Applies, Holds, HoldEach, IsRefused, fetched_at};
 ghost use Rattle.policy.specs.Lending.{in_force_after, next_door};
-ghost use Rattle.policy.specs.Known.{WasAbout, AreCertified, Knows, rules_of, said_to};
+ghost use Rattle.policy.specs.Known.{Applied, AreCertified, Knows, rules_of, said_to};
 
-use crate::about::{is_about, was_about};
+use crate::about::{applied, applies, fetched_at};
 use crate::certificate::{is_certain, take_all};
 use crate::guard::{each_stays_away, guard_at, keep_out_of_reach};
 use crate::in_force::InForce;
@@ -25,39 +24,39 @@ use machine::{Event, Machine};
 use reach::Reach;
 use std::alloc::{AllocError, Global};
 
-/// Watches a machine by rules: it tells before an event which rule about the code refuses it, and meets it.
+/// Watches a machine by rules: it tells before an event which rule that applies refuses it, and meets it.
 ///
-/// All that is reachable is searched only for a rule that is new: that was not about the code before the last event too, or may have
-/// been broken by it, and for which no certificate speaks. A certificate says that the capabilities which lie where the rule lets code
+/// All that is reachable is searched only for a rule that is new: that did not apply before the last event too, or may have been broken
+/// by it, and for which no certificate speaks. A certificate says that the capabilities which lie where the rule lets code
 /// load all keep the rule; then a look at the registers is enough. The steps of the watched code keep it, and a store that doesn't takes
 /// it away.
 #[derive(Debug, Drop)]
 pub struct Watcher<'r> {
     /// What it watches by.
     force: InForce<'r>,
-    /// An address: the lasting rules about the code there hold.
+    /// An address: the lasting rules that apply to what is fetched there hold.
     known: Option<u64>,
     /// Which rules have certificates.
     certified: Vec<bool>,
 }
 
-/// Whether each rule about the code at an address was about it at the known one too, or holds by a certificate. Marks the certificates
-/// that it finds.
+/// Whether each rule that applies to what is fetched at an address applied at the known one too, or holds by a certificate. Marks the
+/// certificates that it finds.
 fn each_is_certain<C: CapRep>(
     hart: &Hart<C>,
     rules: &[Rule],
-    pc: u64,
+    at: Option<u64>,
     known: Option<u64>,
     certified: &mut [bool],
 ) -> bool
     requires count { length certified.old ≡ length rules.now }
     requires certified { AreCertified (terms_of rules.now) certified.old hart.now.memory }
     ensures certified { AreCertified (terms_of rules.now) certified.new hart.now.memory }
-    ensures holds { IsTrue result → (rule : Terms) → Contains (terms_of rules.now) rule → IsAbout rule pc
-        → WasAbout known rule ⊎ Holds rule hart.now }
+    ensures holds { IsTrue result → (rule : Terms) → Contains (terms_of rules.now) rule → Applies rule at
+        → Applied known rule ⊎ Holds rule hart.now }
 {
     for (place, rule) in rules.iter().enumerate() {
-        if !is_about(rule, pc) || was_about(rule, known) {
+        if !applies(rule, at) || applied(rule, known) {
             continue;
         }
         if !is_certain(hart, rule, certified[place]) {
@@ -68,11 +67,11 @@ fn each_is_certain<C: CapRep>(
     true
 }
 
-/// The address of a step, where the rules before it are known to hold after it: it was plain, and none other is in force now.
-fn known_at(pc: u64, plain: bool, changed: bool) -> Option<u64>
-    ensures { result ≡ then_some (plain && not changed) pc }
+/// What a step fetched from, where the rules before it are known to hold after it: it was plain, and none other is in force now.
+fn known_at(at: Option<u64>, plain: bool, changed: bool) -> Option<u64>
+    ensures { result ≡ (if plain && not changed then at else None) }
 {
-    if plain && !changed { Some(pc) } else { None }
+    if plain && !changed { at } else { None }
 }
 
 impl<'r> Watcher<'r> {
@@ -91,8 +90,8 @@ impl<'r> Watcher<'r> {
         })
     }
 
-    /// Which rule about the code refuses the next event, with the first reachable capability that breaks it and the part of the rule that
-    /// it breaks; `None` where each rule about the code holds. `AllocError`: there is no memory for a search of what is reachable.
+    /// Which rule refuses the next event, with the first reachable capability that breaks it and the part of the rule that it breaks;
+    /// `None` where each rule that applies holds. `AllocError`: there is no memory for a search of what is reachable.
     pub fn refusal<C: CapRep>(
         &mut self,
         alloc: Global,
@@ -106,16 +105,16 @@ impl<'r> Watcher<'r> {
         ensures knows { Knows self.new machine.now }
     {
         let hart = machine.hart();
-        let pc = hart.scrs().pcc().address();
+        let at = fetched_at(hart);
         let rules = self.force.rules();
-        if each_is_certain(hart, rules, pc, self.known, &mut self.certified) {
+        if each_is_certain(hart, rules, at, self.known, &mut self.certified) {
             return Ok(None);
         }
         let reach = Reach::of(alloc, hart)?;
-        Ok(first_refused(&reach, rules, pc))
+        Ok(first_refused(&reach, rules, at))
     }
 
-    /// Meets an event, before which each rule about the code holds, and answers the byte that is sent. `AllocError`: there is no memory
+    /// Meets an event, before which each rule that applies holds, and answers the byte that is sent. `AllocError`: there is no memory
     /// for what the caller of a rule's code can reach; then nothing is changed.
     pub fn meet<C: CapRep>(
         &mut self,
@@ -133,17 +132,17 @@ impl<'r> Watcher<'r> {
         ensures knows { OnOk result (Knows self.new machine.new) }
         ensures was_state { IsState machine.old }
     {
-        let pc = machine.hart().scrs().pcc().address();
+        let at = fetched_at(machine.hart());
         let changed = self.force.pass(alloc, machine, event)?;
         take_all(&mut self.certified, changed);
         let met = meet(machine, event, self.force.rules(), &mut self.certified);
-        self.known = known_at(pc, met.plain, changed);
+        self.known = known_at(at, met.plain, changed);
         Ok(met.byte)
     }
 
     /// Does steps before which no rule needs a look, `most` at most and maybe none, and answers how many. They send nothing.
     ///
-    /// They are those of a lasting rule about the code, under which code comes to no other rule's; it does none where another rule may be
+    /// They are those of a lasting rule that applies, under which code comes to no other rule's; it does none where another rule may be
     /// about what is fetched.
     pub fn advance<C: CapRep>(&mut self, machine: &mut Machine<C>, most: u64) -> u64
         requires knows { Knows self.old machine.old }
@@ -159,20 +158,20 @@ impl<'r> Watcher<'r> {
         ensures knows { Knows self.new machine.new }
         ensures was_state { IsState machine.old }
     {
-        let pc = machine.hart().scrs().pcc().address();
+        let at = fetched_at(machine.hart());
         let rules = self.force.rules();
-        let Some(guard) = guard_at(rules, pc) else {
+        let Some(guard) = guard_at(rules, at) else {
             return 0;
         };
-        if !each_stays_away(rules, pc, guard) {
+        if !each_stays_away(rules, at, guard) {
             return 0;
         }
-        keep_out_of_reach(&mut self.certified, rules, pc, guard);
-        self.known = Some(pc);
+        keep_out_of_reach(&mut self.certified, rules, at, guard);
+        self.known = at;
         machine.advance_short_of(None, most)
     }
 
-    /// Meets an event that is no step, whether or not the rules about the code hold. It changes a device alone, and nothing of what is
+    /// Meets an event that is no step, whether or not the rules that apply hold. It changes a device alone, and nothing of what is
     /// known.
     pub fn pass<C: CapRep>(&self, machine: &mut Machine<C>, event: Event)
         requires knows { Knows self.now machine.old }

@@ -1,5 +1,6 @@
 -- What is added part by part.
-use Rattle.std.proofs.Common.{◌≡◌, ℕ, ◌+◌, ◌<◌, ◌≤◌, List, [], ◌∷◌, ◌++◌, Result, drop, length, get_or, refl, ap, sym, ◌∙◌, inl, inr}
+use Rattle.std.proofs.Common.{◌≡◌, ℕ, ◌+◌, ◌<◌, ◌≤◌, List, [], ◌∷◌, ◌++◌, Option, Result, drop, length, get_or, refl, ap, sym, ◌∙◌, inl}
+use Rattle.std.proofs.Common.{inr}
 use Rattle.std.proofs.lemmas.Bool.{and_parts, cases_Bool}
 use Rattle.std.proofs.lemmas.List.{append_assoc, append-nil, drop_more, drop_all}
 use Rattle.std.specs.List.{flat_map}
@@ -9,7 +10,7 @@ use Rattle.policy.specs.Terms.{Terms}
 use Rattle.policy.specs.declared.rule.Ban.{Ban}
 use Rattle.policy_audit.specs.declared.finding.Finding.{Finding}
 use Rattle.policy_audit.specs.Found.{are_found, found_from, found_of, found_part, is_found, parts}
-use Rattle.policy.specs.Tests.{is_about}
+use Rattle.policy.specs.Tests.{applies}
 
 -- ---- lists
 
@@ -41,14 +42,14 @@ map_end f xs k past = ap (flat_map f) (drop_all k xs past)
 
 -- ---- rules
 
-module _ (seen : List Finding) (vs : List CapValue) (pc : ℕ) where
+module _ (seen : List Finding) (vs : List CapValue) (at : Option ℕ) where
   pub rules_next : (rules : List Terms) (k : ℕ) (d : Terms) → k < length rules
-      → found_from seen vs pc k (drop k rules)
-      ≡ found_of seen vs pc k (get_or rules k d) ++ found_from seen vs pc (k + 1) (drop (k + 1) rules)
-  rules_next rules k d inside = ap (found_from seen vs pc k) (drop_more rules k d inside)
+      → found_from seen vs at k (drop k rules)
+      ≡ found_of seen vs at k (get_or rules k d) ++ found_from seen vs at (k + 1) (drop (k + 1) rules)
+  rules_next rules k d inside = ap (found_from seen vs at k) (drop_more rules k d inside)
 
-  pub rules_end : (rules : List Terms) (k : ℕ) → length rules ≤ k → found_from seen vs pc k (drop k rules) ≡ []
-  rules_end rules k past = ap (found_from seen vs pc k) (drop_all k rules past)
+  pub rules_end : (rules : List Terms) (k : ℕ) → length rules ≤ k → found_from seen vs at k (drop k rules) ≡ []
+  rules_end rules k past = ap (found_from seen vs at k) (drop_all k rules past)
 
 -- ---- where nothing is found
 
@@ -60,14 +61,14 @@ no_parts seen vs place rule (ban ∷ bans) all =
     let both = and_parts (is_found seen place ban) (are_found seen place bans) all in
     rw both.0 (no_parts seen vs place rule bans both.1)
 
-module _ (seen : List Finding) (pc place : ℕ) (rule : Terms) where
-  pub not_about : is_about rule pc ≡ false → (vs : List CapValue) → found_of seen vs pc place rule ≡ []
+module _ (seen : List Finding) (at : Option ℕ) (place : ℕ) (rule : Terms) where
+  pub not_applied : applies rule at ≡ false → (vs : List CapValue) → found_of seen vs at place rule ≡ []
   unfolding found_of
-  not_about other vs = rw other refl
+  not_applied other vs = rw other refl
 
-  pub all_found : are_found seen place parts ≡ true → (vs : List CapValue) → found_of seen vs pc place rule ≡ []
+  pub all_found : are_found seen place parts ≡ true → (vs : List CapValue) → found_of seen vs at place rule ≡ []
   unfolding found_of
-  all_found all vs = elim (cases_Bool (is_about rule pc)) [
+  all_found all vs = elim (cases_Bool (applies rule at)) [
     | inl about ↦ rw about (no_parts seen vs place rule parts all)
     | inr other ↦ rw other refl
   ]

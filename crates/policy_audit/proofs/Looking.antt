@@ -5,7 +5,7 @@ use Rattle.std.proofs.lemmas.List.Elements.{All-nil, All-cons, All-append}
 use Rattle.std.specs.List.{flat_map}
 use Rattle.std.specs.Prelude.{All, Option, Some, None, if◌then◌else◌}
 use Rattle.cap_bounds.specs.CapValue.{CapValue}
-use Rattle.steps.specs.State.{State, pc_of}
+use Rattle.steps.specs.State.{State}
 use Rattle.reached.specs.Links.{values}
 use Rattle.reached.specs.Order.{seen_members}
 use Rattle.reached.specs.declared.member.Member.{Member}
@@ -13,10 +13,10 @@ use Rattle.reach.proofs.Reaches.{values_seen}
 use Rattle.reach.specs.Reach.{members_in}
 use Rattle.policy.specs.Terms.{Terms}
 use Rattle.policy.specs.declared.rule.Ban.{Ban}
-use Rattle.policy.specs.Watch.{values_in}
+use Rattle.policy.specs.Watch.{fetched_at, values_in}
 use Rattle.policy_audit.specs.declared.finding.Finding.{Finding}
 use Rattle.policy_audit.specs.Found.{finding_of, first_from, found_at, found_from, found_of, found_part, is_found, parts}
-use Rattle.policy.specs.Tests.{breaks, is_about}
+use Rattle.policy.specs.Tests.{applies, breaks}
 
 -- what is found in a state
 module _ {X : Type 0} (value : X → CapValue) (members : List (Member X)) (s h : State) (same_state : h ≡ s)
@@ -24,18 +24,18 @@ module _ {X : Type 0} (value : X → CapValue) (members : List (Member X)) (s h 
   pub values_are : values value members ≡ values_in s
   values_are = sym (values_seen value members) ∙ ap (map (λ x. x.value)) (are ∙ ap members_in same_state)
 
-  pub found_in_reach : (rules : List Terms) (seen : List Finding) (pc : ℕ) → pc ≡ pc_of s
-      → found_from seen (values value members) pc 0 rules ≡ found_at rules seen s
-  found_in_reach rules seen pc at =
-      ap (λ vs. found_from seen vs pc 0 rules) values_are ∙ ap (λ a. found_from seen (values_in s) a 0 rules) at
+  pub found_in_reach : (rules : List Terms) (seen : List Finding) (at : Option ℕ) → at ≡ fetched_at s
+      → found_from seen (values value members) at 0 rules ≡ found_at rules seen s
+  found_in_reach rules seen at is =
+      ap (λ vs. found_from seen vs at 0 rules) values_are ∙ ap (λ a. found_from seen (values_in s) a 0 rules) is
 
 -- what is added to nothing
-pub found_here : {X : Type 0} (value : X → CapValue) (rules : List Terms) (seen read : List Finding) (pc : ℕ) (empty found : List Finding)
-    (members ms : List (Member X)) → read ≡ seen → empty ≡ [] → ms ≡ members
-    → found ≡ empty ++ found_from read (values value ms) pc 0 rules → found ≡ found_from seen (values value members) pc 0 rules
-found_here value rules seen read pc empty found members ms same none are added =
-    added ∙ ap (λ e. e ++ found_from read (values value ms) pc 0 rules) none
-    ∙ ap (λ r. found_from r (values value ms) pc 0 rules) same ∙ ap (λ m. found_from seen (values value m) pc 0 rules) are
+pub found_here : {X : Type 0} (value : X → CapValue) (rules : List Terms) (seen read : List Finding) (at : Option ℕ)
+    (empty found : List Finding) (members ms : List (Member X)) → read ≡ seen → empty ≡ [] → ms ≡ members
+    → found ≡ empty ++ found_from read (values value ms) at 0 rules → found ≡ found_from seen (values value members) at 0 rules
+found_here value rules seen read at empty found members ms same none are added =
+    added ∙ ap (λ e. e ++ found_from read (values value ms) at 0 rules) none
+    ∙ ap (λ r. found_from r (values value ms) at 0 rules) same ∙ ap (λ m. found_from seen (values value m) at 0 rules) are
 
 -- ---- each finding names a member
 
@@ -74,23 +74,23 @@ module _ (seen : List Finding) (vs : List CapValue) where
       All-append (IsInside (length vs)) (found_part seen vs place rule ban) (flat_map (found_part seen vs place rule) bans)
       (part-inside place rule ban) (parts-inside place rule bans)
 
-  rule-inside : (pc place : ℕ) (rule : Terms) → All (IsInside (length vs)) (found_of seen vs pc place rule)
+  rule-inside : (at : Option ℕ) (place : ℕ) (rule : Terms) → All (IsInside (length vs)) (found_of seen vs at place rule)
   unfolding found_of
-  rule-inside pc place rule = go (is_about rule pc)
+  rule-inside at place rule = go (applies rule at)
     where
       go : (b : Bool) → All (IsInside (length vs)) (if b then flat_map (found_part seen vs place rule) parts else [])
       go true = parts-inside place rule parts
       go false = All-nil (IsInside (length vs))
 
-  all-inside : (pc place : ℕ) (rules : List Terms) → All (IsInside (length vs)) (found_from seen vs pc place rules)
-  all-inside pc place [] = All-nil (IsInside (length vs))
-  all-inside pc place (rule ∷ rules) =
-      All-append (IsInside (length vs)) (found_of seen vs pc place rule) (found_from seen vs pc (place + 1) rules)
-      (rule-inside pc place rule) (all-inside pc (place + 1) rules)
+  all-inside : (at : Option ℕ) (place : ℕ) (rules : List Terms) → All (IsInside (length vs)) (found_from seen vs at place rules)
+  all-inside at place [] = All-nil (IsInside (length vs))
+  all-inside at place (rule ∷ rules) =
+      All-append (IsInside (length vs)) (found_of seen vs at place rule) (found_from seen vs at (place + 1) rules)
+      (rule-inside at place rule) (all-inside at (place + 1) rules)
 
-pub found-inside : {X : Type 0} (value : X → CapValue) (members : List (Member X)) (seen : List Finding) (pc : ℕ) (rules : List Terms)
-    (found : List Finding) → found ≡ found_from seen (values value members) pc 0 rules
+pub found-inside : {X : Type 0} (value : X → CapValue) (members : List (Member X)) (seen : List Finding) (at : Option ℕ)
+    (rules : List Terms) (found : List Finding) → found ≡ found_from seen (values value members) at 0 rules
     → All (λ finding. finding.member < length members) found
-found-inside value members seen pc rules found is =
+found-inside value members seen at rules found is =
     subst (λ n. All (IsInside n) found) (length-map members (λ (m : Member _). value m.cap))
-    (subst (All (IsInside (length (values value members)))) (sym is) (all-inside seen (values value members) pc 0 rules))
+    (subst (All (IsInside (length (values value members)))) (sym is) (all-inside seen (values value members) at 0 rules))

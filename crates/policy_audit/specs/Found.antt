@@ -1,14 +1,14 @@
--- What is found before a step: the parts of the rules about the code that something reachable breaks, and that were not found before.
+-- What is found before a step: the parts of the rules that apply and that something reachable breaks, and that were not found before.
 use Rattle.std.specs.Prelude.{ℕ, ◌+◌, Bool, ◌&&◌, ◌==◌, if◌then◌else◌, List, [], ◌∷◌, ◌++◌, Option, Some, None}
 use Rattle.std.specs.List.{flat_map, list_all, list_any}
 use Rattle.cap_bounds.specs.CapValue.{CapValue}
-use Rattle.steps.specs.State.{State, pc_of}
+use Rattle.steps.specs.State.{State}
 use Rattle.policy.specs.declared.rule.Ban.{Ban}
 use Rattle.policy.specs.declared.rule.Ban.TheVariants.{Store, Load, Execute, Keep, Transmit, Halt, Timer, System, Seal, Types}
 use Rattle.policy.specs.Terms.{Terms}
 use Rattle.policy.specs.Rule.{place_of}
-use Rattle.policy.specs.Tests.{breaks, is_about}
-use Rattle.policy.specs.Watch.{values_in}
+use Rattle.policy.specs.Tests.{applies, breaks}
+use Rattle.policy.specs.Watch.{fetched_at, values_in}
 use Rattle.policy_audit.specs.declared.finding.Finding.{Finding}
 
 -- ---- what is found
@@ -35,18 +35,18 @@ unfoldable pub found_part : List Finding → List CapValue → ℕ → Terms →
 found_part seen vs place rule ban =
     if is_found seen place ban then [] else finding_of place ban (first_from (breaks rule ban) 0 vs)
 
--- of each part, if the rule is about the code at an address
-unfoldable pub found_of : List Finding → List CapValue → ℕ → ℕ → Terms → List Finding
-found_of seen vs pc place rule = if is_about rule pc then flat_map (found_part seen vs place rule) parts else []
+-- of each part, if the rule applies to what is fetched at an address
+unfoldable pub found_of : List Finding → List CapValue → Option ℕ → ℕ → Terms → List Finding
+found_of seen vs at place rule = if applies rule at then flat_map (found_part seen vs place rule) parts else []
 
 -- of rules, which stand from a place on
-abbrev pub found_from : List Finding → List CapValue → ℕ → ℕ → List Terms → List Finding
-found_from seen vs pc place [] = []
-found_from seen vs pc place (rule ∷ rules) = found_of seen vs pc place rule ++ found_from seen vs pc (place + 1) rules
+abbrev pub found_from : List Finding → List CapValue → Option ℕ → ℕ → List Terms → List Finding
+found_from seen vs at place [] = []
+found_from seen vs at place (rule ∷ rules) = found_of seen vs at place rule ++ found_from seen vs at (place + 1) rules
 
 -- before a state's next step
 abbrev pub found_at : List Terms → List Finding → State → List Finding
-found_at rules seen s = found_from seen (values_in s) (pc_of s) 0 rules
+found_at rules seen s = found_from seen (values_in s) (fetched_at s) 0 rules
 
 -- ---- what is looked at where nothing may be found
 

@@ -15,7 +15,7 @@ use crate::finding::Finding;
 use crate::search::{add_found, finds_none};
 use cap_bounds::CapRep;
 use machine::{Event, Machine};
-use policy::{InForce, Rule};
+use policy::{InForce, Rule, fetched_at};
 use reach::Reach;
 use std::alloc::{AllocError, Global};
 
@@ -62,8 +62,8 @@ impl<'r> Audit<'r> {
     }
 
     /// What is found before the machine's next step that was not found before, rule by rule and part by part, with all that is reachable:
-    /// of each part of a rule about the code that something reachable breaks, the first member that breaks it. `None` where each part of
-    /// the rules about the code was found before, so that nothing has to be searched.
+    /// of each part of a rule that applies and that something reachable breaks, the first member that breaks it. `None` where each part of
+    /// the rules that apply was found before, so that nothing has to be searched.
     ///
     /// # Errors
     ///
@@ -86,14 +86,14 @@ impl<'r> Audit<'r> {
         ensures whole { IsWhole self.old → IsWhole self.new }
     {
         let hart = machine.hart();
-        let pc = hart.scrs().pcc().address();
+        let at = fetched_at(hart);
         let rules = self.force.rules();
-        if finds_none(&self.seen, pc, rules) {
+        if finds_none(&self.seen, at, rules) {
             return Ok(None);
         }
         let reach = Reach::of(alloc, hart)?;
         let mut found = Vec::new(alloc);
-        add_found(&mut found, reach.members(), &self.seen, pc, rules)?;
+        add_found(&mut found, reach.members(), &self.seen, at, rules)?;
         self.seen.extend_from_slice(&found)?;
         Ok(Some((reach, found)))
     }

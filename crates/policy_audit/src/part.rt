@@ -50,11 +50,11 @@ pub(crate) fn is_found(seen: &[Finding], rule: usize, ban: Ban) -> bool
     seen.iter().any(|finding| finding.rule == rule && place_of(finding.ban) == place_of(ban))
 }
 
-/// Whether a rule is about the code at an address.
-pub(crate) fn is_about(rule: &Rule, pc: u64) -> bool
-    ensures { result ≡ tests.is_about (terms rule.now) pc }
+/// Whether a rule applies to what is fetched at an address, if anything is.
+pub(crate) fn applies(rule: &Rule, at: Option<u64>) -> bool
+    ensures { result ≡ tests.applies (terms rule.now) at }
 {
-    policy::is_about(rule, pc)
+    policy::applies(rule, at)
 }
 
 /// Whether a capability breaks a part of the rule.

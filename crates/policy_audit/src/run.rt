@@ -91,7 +91,7 @@ fn tell_around<C: CapRep>(
 /// Runs a machine on a schedule, and appends a text for each part of a rule that is broken in the run: before which step that is so
 /// for the first time, counted from 1, where PCC stands then, and what breaks the rule. Answers how many there are.
 ///
-/// A rule is broken before a step if it is about the code and something reachable breaks it, by its terms in force. The machine does each
+/// A rule is broken before a step if it applies and something reachable breaks it, by its terms in force. The machine does each
 /// step all the same, and what it sends is forgotten. A rule's line stands at its place in `lines`; for a rule without a line the step
 /// alone is told.
 ///

@@ -7,7 +7,7 @@ ghost use Rattle.policy.specs.Terms.{terms, terms_of};
 ghost use Rattle.policy_audit.specs.Found.{are_found, found_from, found_of, found_part, parts};
 
 use crate::finding::Finding;
-use crate::part::{PARTS, first_breaking, is_about, is_found};
+use crate::part::{PARTS, applies, first_breaking, is_found};
 use cap_bounds::CapRep;
 use policy::{Ban, Rule};
 use reached::Member;
@@ -59,20 +59,20 @@ fn add_parts<C: CapRep>(
     Ok(())
 }
 
-/// Adds what is found of a rule, if it is about the code at an address.
+/// Adds what is found of a rule, if it applies to what is fetched at an address.
 #[tactic(auto, unfolding(crate::specs::Found::found_of))]
 fn add_rule<C: CapRep>(
     found: &mut Vec<Finding>,
     members: &[Member<C>],
     seen: &[Finding],
-    pc: u64,
+    at: Option<u64>,
     place: usize,
     rule: &Rule,
 ) -> Result<(), AllocError>
     ensures { OnOk result (found.new.items
-        ≡ found.old.items ++ found_of seen.now (values C.value members.now) pc place (terms rule.now)) }
+        ≡ found.old.items ++ found_of seen.now (values C.value members.now) at place (terms rule.now)) }
 {
-    if is_about(rule, pc) {
+    if applies(rule, at) {
         add_parts(found, members, seen, place, rule)
     } else {
         Ok(())
@@ -84,15 +84,15 @@ pub(crate) fn add_found<C: CapRep>(
     found: &mut Vec<Finding>,
     members: &[Member<C>],
     seen: &[Finding],
-    pc: u64,
+    at: Option<u64>,
     rules: &[Rule],
 ) -> Result<(), AllocError>
     ensures { OnOk result (found.new.items
-        ≡ found.old.items ++ found_from seen.now (values C.value members.now) pc 0 (terms_of rules.now)) }
+        ≡ found.old.items ++ found_from seen.now (values C.value members.now) at 0 (terms_of rules.now)) }
 {
     let mut place = 0;
     while place < rules.len() {
-        add_rule(found, members, seen, pc, place, &rules[place])?;
+        add_rule(found, members, seen, at, place, &rules[place])?;
         place += 1;
     }
     Ok(())
@@ -105,13 +105,13 @@ fn is_all_found(seen: &[Finding], place: usize) -> bool
     PARTS.iter().all(|ban| is_found(seen, place, *ban))
 }
 
-/// Whether each part was of each rule about the code at an address: then nothing is found, whatever is reachable.
-pub(crate) fn finds_none(seen: &[Finding], pc: u64, rules: &[Rule]) -> bool
-    ensures { IsTrue result → (vs : List CapValue) → found_from seen.now vs pc 0 (terms_of rules.now) ≡ [] }
+/// Whether each part was of each rule that applies to what is fetched at an address: then nothing is found, whatever is reachable.
+pub(crate) fn finds_none(seen: &[Finding], at: Option<u64>, rules: &[Rule]) -> bool
+    ensures { IsTrue result → (vs : List CapValue) → found_from seen.now vs at 0 (terms_of rules.now) ≡ [] }
 {
     let mut place = 0;
     while place < rules.len() {
-        if is_about(&rules[place], pc) && !is_all_found(seen, place) {
+        if applies(&rules[place], at) && !is_all_found(seen, place) {
             return false;
         }
         place += 1;

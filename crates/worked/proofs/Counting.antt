@@ -1,5 +1,6 @@
 -- The counter is a state, and its round is plain.
-use Rattle.std.proofs.Common.{◌≡◌, ℕ, zero, suc, ◌<◌, ◌≤◌, true, ltb, List, [], ◌∷◌, All, None, take, refl, arith, lit<, lit≤}
+use Rattle.std.proofs.Common.{◌≡◌, ℕ, zero, suc, ◌+◌, ◌*◌, ◌<◌, ◌≤◌, true, ltb, List, [], ◌∷◌, All, None, Some, take, refl, arith, lit<}
+use Rattle.std.proofs.Common.{lit≤}
 use Rattle.std.proofs.lemmas.Bool.{and_parts, ltb-true}
 use Rattle.std.specs.Prelude.{slice_index}
 use Rattle.std.specs.List.{list_all}
@@ -29,6 +30,7 @@ use Rattle.steps.specs.Step.{asked, does, kind_effect, step_effect, stepped}
 use Rattle.hart.specs.OpeningStateLaws.{IsState-opening}
 use Rattle.machine.specs.Run.{run_after}
 use Rattle.machine.specs.Stretch.{ArePlain, IsPlainRun, IsStretch}
+use Rattle.policy.specs.Watch.{fetched_at}
 use Rattle.worked.specs.Counter.{code, image, counter, round}
 
 -- ---- it is a state
@@ -97,13 +99,13 @@ module _ (secret : ℕ) (fits : secret < 256) where
 
 -- ---- its four steps
 
--- Where PCC stands before each, and what the round leaves; all of it is computed.
+-- What is fetched at each, and what the round leaves; all of it is computed.
 record GoesRound (s : State) : Type 0 where
   are_plain : ArePlain round s
-  first : pc_of s ≡ 0x8000_0000
-  second : pc_of (run_after (take 1 round) s) ≡ 0x8000_0004
-  third : pc_of (run_after (take 2 round) s) ≡ 0x8000_0008
-  fourth : pc_of (run_after (take 3 round) s) ≡ 0x8000_000c
+  first : fetched_at s ≡ Some 0x8000_0000
+  second : fetched_at (run_after (take 1 round) s) ≡ Some 0x8000_0004
+  third : fetched_at (run_after (take 2 round) s) ≡ Some 0x8000_0008
+  fourth : fetched_at (run_after (take 3 round) s) ≡ Some 0x8000_000c
   again : pc_of (run_after round s) ≡ 0x8000_0000
   count : number_at (run_after round s).memory 0x8000_0100 4 ≡ 1
 
@@ -134,10 +136,9 @@ counts secret = (goes-round secret).count
 pub begins-again : (secret : ℕ) → pc_of (run_after round (counter secret)) ≡ 0x8000_0000
 begins-again secret = (goes-round secret).again
 
-pub pc-inside : (secret k : ℕ) → k < 4
-    → (0x8000_0000 ≤ pc_of (run_after (take k round) (counter secret))) × (pc_of (run_after (take k round) (counter secret)) < 0x8000_0100)
-pc-inside secret zero inside = let pc = (goes-round secret).first in (omega arith, omega arith)
-pc-inside secret (suc zero) inside = let pc = (goes-round secret).second in (omega arith, omega arith)
-pc-inside secret (suc (suc zero)) inside = let pc = (goes-round secret).third in (omega arith, omega arith)
-pc-inside secret (suc (suc (suc zero))) inside = let pc = (goes-round secret).fourth in (omega arith, omega arith)
-pc-inside secret (suc (suc (suc (suc k)))) inside = absurd (omega arith)
+pub fetched-at : (secret k : ℕ) → k < 4 → fetched_at (run_after (take k round) (counter secret)) ≡ Some (0x8000_0000 + 4 * k)
+fetched-at secret zero inside = (goes-round secret).first
+fetched-at secret (suc zero) inside = (goes-round secret).second
+fetched-at secret (suc (suc zero)) inside = (goes-round secret).third
+fetched-at secret (suc (suc (suc zero))) inside = (goes-round secret).fourth
+fetched-at secret (suc (suc (suc (suc k)))) inside = absurd (omega arith)

@@ -1,6 +1,6 @@
 -- The counter's rule holds, and its round keeps to it.
-use Rattle.std.proofs.Common.{◌≡◌, ◌≢◌, ℕ, zero, suc, ◌-◌, ◌<◌, ◌≤◌, false, ◌⊎◌, inl, inr, List, [], ◌∷◌, length, take, refl, sym, subst}
-use Rattle.std.proofs.Common.{arith}
+use Rattle.std.proofs.Common.{◌≡◌, ◌≢◌, ℕ, zero, suc, ◌+◌, ◌*◌, ◌-◌, ◌<◌, ◌≤◌, false, ◌⊎◌, inl, inr, List, [], ◌∷◌, length, take, refl, sym}
+use Rattle.std.proofs.Common.{subst, arith}
 use Rattle.std.proofs.lemmas.Bool.{both_ways}
 use Rattle.std.specs.Prelude.{slice_index_or}
 use Rattle.std.specs.List.{HoldsAt}
@@ -13,7 +13,7 @@ use Rattle.steps.specs.Event.{after, outcome}
 use Rattle.steps.specs.EventLaws.{IsState-after}
 use Rattle.steps.specs.IsState.{IsState}
 use Rattle.steps.specs.Outcome.{Trap}
-use Rattle.steps.specs.State.{State, pc_of}
+use Rattle.steps.specs.State.{State}
 use Rattle.authority.specs.Reachable.{IsReachable}
 use Rattle.machine.specs.Run.{run_after}
 use Rattle.machine.specs.Stretch.{AreEvents, ArePlain}
@@ -22,10 +22,10 @@ use Rattle.reach.proofs.Determined.{in-cases, none-in}
 use Rattle.policy.specs.Known.{IsLasting}
 use Rattle.policy.specs.Lending.{in_force_from}
 use Rattle.policy.specs.Rule.{BreaksRule}
-use Rattle.policy.specs.Run.{IsAboutEach, KeepToEach}
+use Rattle.policy.specs.Run.{AppliesToEach, KeepToEach}
 use Rattle.policy.specs.Terms.{Terms}
 use Rattle.policy.specs.Tests.{breaks}
-use Rattle.policy.specs.Watch.{DiffersOutside, Holds, IsAbout, KeepsTo, KeepsToEach}
+use Rattle.policy.specs.Watch.{Applies, DiffersOutside, Holds, IsAbout, KeepsTo, KeepsToEach}
 use Rattle.policy.specs.declared.rule.Ban.{Ban}
 use Rattle.policy.specs.declared.rule.Ban.TheVariants as ban
 use Rattle.policy.proofs.Learning.{keeps-to}
@@ -34,7 +34,7 @@ use Rattle.policy.proofs.Tests.{is-break}
 use Rattle.tagged_memory.specs.Memory.{data_written, capability_written}
 use Rattle.worked.specs.Counter.{code_capability, code_range, counter, counter_rule, data_capability, data_range, round}
 use Rattle.worked.proofs.Confining.{same-elsewhere, same-size}
-use Rattle.worked.proofs.Counting.{pc-inside}
+use Rattle.worked.proofs.Counting.{fetched-at}
 
 -- ---- it holds
 
@@ -112,14 +112,14 @@ keep-to-each events s is are plain hold = λ k inside d.
     (each-of-one (slice_index_or events k d) (run_after (take k events) s)
     (keeps-along counter_rule (inl refl) events s is are plain hold k inside d))
 
--- ---- it is about the code, and what differs lies outside its ranges
+-- ---- it applies, and what differs lies outside its ranges
 
 about : (pc : ℕ) → 0x8000_0000 ≤ pc → pc < 0x8000_0100 → IsAbout counter_rule pc
 about pc low high = record { range = code_range; is_one = (0, omega arith, refl); inside = record { low = low; high = high } }
 
-pub about-each : (secret : ℕ) → IsAboutEach counter_rule round 4 (counter secret)
-about-each secret k inside =
-    about (pc_of (run_after (take k round) (counter secret))) (pc-inside secret k inside).0 (pc-inside secret k inside).1
+pub applies-each : (secret : ℕ) → AppliesToEach counter_rule round 4 (counter secret)
+applies-each secret k inside =
+    subst (Applies counter_rule) (sym (fetched-at secret k inside)) (about (0x8000_0000 + 4 * k) (omega arith) (omega arith))
 
 low-code : (a : ℕ) → IsInOne (code_range ∷ []) a → a - ram_base ≢ 0x400
 low-code a one = elim (in-cases code_range [] a one) [ inl it ↦ omega (arith, it.high) | inr none ↦ absurd (none-in a none) ]

@@ -15,7 +15,7 @@ ghost use Rattle.reach.specs.Differs.{DiffersWithin, KeepsBytes};
 ghost use Rattle.reach.specs.First.{HoldsOfNone};
 ghost use Rattle.reach.specs.Opens.{IsSealedAs, OpensSome, OpensUnsealing};
 ghost use Rattle.reach.specs.Reach.{AreReachable};
-ghost use Rattle.policy.specs.Run.{IsAboutEach, KeepToEach, NoneTraps};
+ghost use Rattle.policy.specs.Run.{AppliesToEach, KeepToEach, NoneTraps};
 ghost use Rattle.policy.specs.Watch.{DiffersOutside};
 ghost use Rattle.worked.specs.Counter.{code_capability, counter, counter_rule, data_capability, round, two_capabilities};
 
@@ -34,13 +34,13 @@ pub fn the_counter_is_confined()
 {}
 
 /// Its two capabilities are its reach; counters with other secrets look the same to it and agree, and differ outside its rule's ranges
-/// alone; and over its round the rule is about the code and is kept.
+/// alone; and over its round the rule applies and is kept.
 pub fn the_counter_keeps_its_rule()
     ensures reach { (secret : ℕ) → AreReachable (counter secret) two_capabilities }
     ensures looks { (secret other : ℕ) → LooksTheSame (counter secret) (counter other) }
     ensures agree { (secret other : ℕ) → Agree (counter secret) (counter other) }
     ensures differs { (secret other : ℕ) → DiffersOutside counter_rule (counter secret) (counter other) }
-    ensures about { (secret : ℕ) → IsAboutEach counter_rule round 4 (counter secret) }
+    ensures applies { (secret : ℕ) → AppliesToEach counter_rule round 4 (counter secret) }
     ensures keeps { (secret : ℕ) → secret < 256 → KeepToEach (counter_rule ∷ []) round 4 (counter secret) }
     ensures no_trap { (secret : ℕ) → secret < 256 → NoneTraps round 4 (counter secret) }
 {

@@ -1,6 +1,6 @@
 use Rattle.std.proofs.Common.{inl, inr}
 use Rattle.std.proofs.lemmas.Bool.{not-true, not_from_false, cases_Bool}
-use Rattle.policy.proofs.Tests.{gap-keeps, keeps-stores, none-keeps}
+use Rattle.policy.proofs.Tests.{gap-keeps, none-keeps}
 use Rattle.policy.proofs.breach.keeps_outside.Goals as goal
 
 pub returns-then-stores_locals : goal.returns-then-stores_locals

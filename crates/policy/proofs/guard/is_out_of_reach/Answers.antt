@@ -2,7 +2,7 @@ use Rattle.std.proofs.Common.{subst, inr}
 use Rattle.policy.specs.Cover.{ShareNone}
 use Rattle.policy.proofs.guard.is_out_of_reach.Goals as goal
 
-pub returns-else-was_about : goal.returns-else-was_about
-returns-else-was_about c = λ yes.
+pub returns-else-applied : goal.returns-else-applied
+returns-else-applied c = λ yes.
     inr (subst (λ xs. ShareNone xs c.args.guard.now.store.items) c.deref.ensures.value
-    (subst (ShareNone c.deref.result.now) c.deref-else-was_about.ensures.value (c.share_none.ensures yes)))
+    (subst (ShareNone c.deref.result.now) c.deref-else-applied.ensures.value (c.share_none.ensures yes)))

@@ -11,9 +11,9 @@ use Rattle.policy.proofs.guard.keep_out_of_reach.Goals as goal
 pub loop-place-preserved : goal.loop-place-preserved
 loop-place-preserved c =
     let l = c.loop-place in
-    let P = OutOfReach c.args.pc (terms c.args.guard.now) in
+    let P = OutOfReach c.args.at (terms c.args.guard.now) in
     let rule = terms c.index-rules-place.result in
-    let at = termed-at c.args.rules.now l.place c.index-rules-place.result c.index-rules-place.is in
+    let there = termed-at c.args.rules.now l.place c.index-rules-place.result c.index-rules-place.is in
     let mark = c.if-certified-place.certified in
     let below : l.place < length (terms_of c.args.rules.now) = termed-below c.args.rules.now l.place (omega arith) in
     let inside : l.place < length l.certified = omega arith in
@@ -23,9 +23,9 @@ loop-place-preserved c =
       | else-certified-place w ↦ λ yes. absurd (false≢true (sym w.if-certified-place.false ∙ sym w.certified-is ∙ yes))
     ] in
     record {
-      left = left-more P (terms_of c.args.rules.now) l.place rule below at l.certified mark inside c.args.certified.now new
+      left = left-more P (terms_of c.args.rules.now) l.place rule below there l.certified mark inside c.args.certified.now new
           l.invariant.left;
-      looked = looked-more P (terms_of c.args.rules.now) l.place rule below at l.certified mark inside (λ yes. (new yes).1)
+      looked = looked-more P (terms_of c.args.rules.now) l.place rule below there l.certified mark inside (λ yes. (new yes).1)
           l.invariant.looked;
     }
 

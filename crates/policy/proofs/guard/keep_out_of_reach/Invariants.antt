@@ -7,5 +7,5 @@ use Rattle.policy.proofs.guard.keep_out_of_reach.Given as goal
 abbrev pub invariant-loop-place : goal.invariant-loop-place
 invariant-loop-place l = record {
   left : (k : ℕ) → get_or l.certified k false ≡ true → get_or l.fn.certified k false ≡ true;
-  looked : (k : ℕ) → k < l.place → get_or l.certified k false ≡ true → HoldsAt (OutOfReach l.pc (terms l.guard)) (terms_of l.rules) k;
+  looked : (k : ℕ) → k < l.place → get_or l.certified k false ≡ true → HoldsAt (OutOfReach l.at (terms l.guard)) (terms_of l.rules) k;
 }

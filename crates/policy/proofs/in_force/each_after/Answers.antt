@@ -1,11 +1,11 @@
-use Rattle.std.proofs.Common.{◌≡◌, ◌+◌, ◌++◌, ◌≤◌, ◌∷◌, [], List, append-nil, append_assoc, drop, length}
-use Rattle.std.proofs.Common.{map, ap, ap₂, sym, refl, ◌∙◌, ℕ, arith}
+use Rattle.std.proofs.Common.{◌≡◌, ◌+◌, ◌++◌, ◌∷◌, [], List, append-nil, append_assoc, drop}
+use Rattle.std.proofs.Common.{ap, ap₂, sym, refl, ◌∙◌, ℕ, arith}
 use Rattle.std.proofs.lemmas.List.{map-append}
 use Rattle.std.specs.Prelude.{Option}
 use Rattle.cap_bounds.specs.CapValue.{CapValue}
 use Rattle.reached.specs.Links.{values}
 use Rattle.policy.specs.Terms.{Terms, terms, terms_of}
-use Rattle.policy.specs.Lending.{each_after, terms_after}
+use Rattle.policy.specs.Lending.{each_after}
 use Rattle.policy.proofs.Termed.{termed-none, termed-rest}
 use Rattle.policy.proofs.in_force.each_after.Goals.{then-loop-place-test+else-place-now, else-loop-place-test}
 use Rattle.policy.proofs.in_force.each_after.Goals as goal

@@ -1,5 +1,5 @@
 use Rattle.policy.proofs.Whole.{bytes-stay, tags-stay, nothing-kept, system-stays, nothing-sent}
-use Rattle.policy.proofs.Whole.{halted-stays, compare-stays, sends-same, ends-same}
+use Rattle.policy.proofs.Whole.{halted-stays, compare-stays, fetched-inside, types-allowed, none-unseals, sends-same, ends-same}
 use Rattle.policy.proofs.laws.runs_keep_to_a_rule.Goals as goal
 
 pub returns-clause-bytes : goal.returns-clause-bytes
@@ -22,6 +22,16 @@ returns-clause-halt c = λ rules rule events done s some keep there about. halte
 
 pub returns-clause-timer : goal.returns-clause-timer
 returns-clause-timer c = λ rules rule events done s some keep there about. compare-stays rules rule events there s done some keep about
+
+pub returns-clause-fetched : goal.returns-clause-fetched
+returns-clause-fetched c = λ rules rule events done s some keep there about.
+    fetched-inside rules rule events there s done some keep about
+
+pub returns-clause-types : goal.returns-clause-types
+returns-clause-types c = λ rules rule events done s some keep there about. types-allowed rules rule events there s done some keep about
+
+pub returns-clause-unseals : goal.returns-clause-unseals
+returns-clause-unseals c = λ rules rule events done s some keep there about. none-unseals rules rule events there s done some keep about
 
 pub returns-clause-same_bytes : goal.returns-clause-same_bytes
 returns-clause-same_bytes c = λ rules rule events done s t some keep there about.

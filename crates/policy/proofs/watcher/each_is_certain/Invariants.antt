@@ -1,8 +1,8 @@
 use Rattle.std.proofs.Common.{ℕ, ◌<◌, ◌⊎◌}
 use Rattle.std.specs.List.{HoldsAt}
 use Rattle.policy.specs.Terms.{terms_of}
-use Rattle.policy.specs.Watch.{IsAbout, Holds}
-use Rattle.policy.specs.Known.{WasAbout, AreCertified}
+use Rattle.policy.specs.Watch.{Applies, Holds}
+use Rattle.policy.specs.Known.{Applied, AreCertified}
 use Rattle.policy.proofs.watcher.each_is_certain.Given as goal
 
 abbrev pub invariant-loop-place : goal.invariant-loop-place
@@ -10,5 +10,5 @@ invariant-loop-place g l = record {
   certified : AreCertified (terms_of l.rules) l.certified l.hart.memory;
   holds :
       (k : ℕ) → k < l.place
-      → HoldsAt (λ rule. IsAbout rule l.pc → WasAbout l.known rule ⊎ Holds rule l.hart) (terms_of l.rules) k;
+      → HoldsAt (λ rule. Applies rule l.at → Applied l.known rule ⊎ Holds rule l.hart) (terms_of l.rules) k;
 }

@@ -12,15 +12,15 @@ loop-place-preserved g c =
     let vs = values g.C.CapRep.value c.args.members.now in
     let rules = c.args.rules.now in
     let seen = c.args.seen.now in
-    let pc = c.args.pc in
+    let at = c.args.at in
     let k = c.loop-place.place in
     let rule = c.index-rules-place.result in
     let inside = c.loop-place-test.true in
     record {
       within = omega (arith, inside);
       found = more _ _ _ _ _ _ c.in_ok-add_rule.ensures
-          (rules_next seen vs pc (terms_of rules) k (terms rule) (termed-below rules k inside)
-          ∙ ap (λ t. found_of seen vs pc k t ++ found_from seen vs pc (k + 1) (drop (k + 1) (terms_of rules)))
+          (rules_next seen vs at (terms_of rules) k (terms rule) (termed-below rules k inside)
+          ∙ ap (λ t. found_of seen vs at k t ++ found_from seen vs at (k + 1) (drop (k + 1) (terms_of rules)))
           (sym (termed-at rules k rule c.index-rules-place.is)))
           c.loop-place.invariant.found;
     }
@@ -29,6 +29,6 @@ pub returns : goal.returns
 returns g c =
     let vs = values g.C.CapRep.value c.args.members.now in
     end _ _ _
-    (rules_end c.args.seen.now vs c.args.pc (terms_of c.args.rules.now) c.loop-place.place
+    (rules_end c.args.seen.now vs c.args.at (terms_of c.args.rules.now) c.loop-place.place
     (omega (arith, c.loop-place-test.false, length-map c.args.rules.now terms)))
     c.loop-place.invariant.found

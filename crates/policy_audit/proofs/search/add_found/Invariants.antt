@@ -8,8 +8,8 @@ use Rattle.policy_audit.proofs.search.add_found.Given as goal
 abbrev pub invariant-loop-place : goal.invariant-loop-place
 invariant-loop-place g l = record {
   within : l.place ≤ length l.rules;
-  found : l.found.items ++ found_from l.seen (values g.C.CapRep.value l.members) l.pc l.place (drop l.place (terms_of l.rules))
-      ≡ l.fn.found.items ++ found_from l.seen (values g.C.CapRep.value l.members) l.pc 0 (terms_of l.rules);
+  found : l.found.items ++ found_from l.seen (values g.C.CapRep.value l.members) l.at l.place (drop l.place (terms_of l.rules))
+      ≡ l.fn.found.items ++ found_from l.seen (values g.C.CapRep.value l.members) l.at 0 (terms_of l.rules);
 }
 
 abbrev pub decreases-loop-place : goal.decreases-loop-place

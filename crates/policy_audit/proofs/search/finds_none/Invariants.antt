@@ -8,8 +8,8 @@ use Rattle.policy_audit.proofs.search.finds_none.Given as goal
 abbrev pub invariant-loop-place : goal.invariant-loop-place
 invariant-loop-place l = record {
   within : l.place ≤ length l.rules;
-  none : (vs : List CapValue) → found_from l.seen vs l.pc 0 (terms_of l.rules)
-      ≡ found_from l.seen vs l.pc l.place (drop l.place (terms_of l.rules));
+  none : (vs : List CapValue) → found_from l.seen vs l.at 0 (terms_of l.rules)
+      ≡ found_from l.seen vs l.at l.place (drop l.place (terms_of l.rules));
 }
 
 abbrev pub decreases-loop-place : goal.decreases-loop-place

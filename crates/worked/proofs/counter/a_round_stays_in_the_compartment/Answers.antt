@@ -31,5 +31,5 @@ returns-clause-two_worlds c = λ secret other fits.
 pub returns-clause-secrets : goal.returns-clause-secrets
 returns-clause-secrets c = λ secret other fits.
     c.runs_keep_to_a_rule.ensures.same_state (counter_rule ∷ []) counter_rule round 4 (counter secret) (counter other) (omega arith)
-    (c.the_counter_keeps_its_rule.ensures.keeps secret fits) (0, omega arith, refl) (c.the_counter_keeps_its_rule.ensures.about secret)
+    (c.the_counter_keeps_its_rule.ensures.keeps secret fits) (0, omega arith, refl) (c.the_counter_keeps_its_rule.ensures.applies secret)
     (c.the_counter_keeps_its_rule.ensures.differs secret other)

@@ -1,7 +1,7 @@
 use Rattle.authority.specs.ConfinedLaws.{agrees}
 use Rattle.worked.proofs.Confining.{confined, members, same-looks}
 use Rattle.worked.proofs.Counting.{plain}
-use Rattle.worked.proofs.Ruled.{about-each, differs, keep-to-each, none-traps, holds}
+use Rattle.worked.proofs.Ruled.{applies-each, differs, keep-to-each, none-traps, holds}
 use Rattle.worked.specs.Counter.{counter, round}
 use Rattle.worked.proofs.counter.the_counter_keeps_its_rule.Goals as goal
 
@@ -19,8 +19,8 @@ returns-clause-agree c = λ secret other. agrees (counter secret) (confined secr
 pub returns-clause-differs : goal.returns-clause-differs
 returns-clause-differs c = differs
 
-pub returns-clause-about : goal.returns-clause-about
-returns-clause-about c = about-each
+pub returns-clause-applies : goal.returns-clause-applies
+returns-clause-applies c = applies-each
 
 pub returns-clause-keeps : goal.returns-clause-keeps
 unfolding counter

@@ -1,13 +1,10 @@
 use Rattle.std.proofs.Common.{◌≡◌, length, replicate, sym, ap, ◌∙◌, subst}
 use Rattle.std.proofs.lemmas.List.{with_items_is}
-use Rattle.std.specs.Prelude.{Some}
 use Rattle.std.specs.Vec.{with_items}
-use Rattle.cap_bounds.specs.CapValue.{value_address}
-use Rattle.steps.specs.State.{pc_of}
 use Rattle.steps.specs.declared.event.Event.TheVariants.{Step}
 use Rattle.machine.specs.Run.{run_after}
 use Rattle.policy.specs.Terms.{terms, terms_of}
-use Rattle.policy.specs.Watch.{HoldEach}
+use Rattle.policy.specs.Watch.{HoldEach, fetched_at}
 use Rattle.policy.specs.Known.{AreCertified, AreKnown, rules_of}
 use Rattle.policy.proofs.Advancing.{known-run, hold-run, certified-run}
 use Rattle.policy.proofs.Forced.{no-door-plain}
@@ -27,13 +24,11 @@ returns-clause-holds g c = λ k below.
     let s = c.args.machine.now in
     let n = c.advance_short_of.result in
     let held = c.rules-rules.ensures in
-    let is : c.address-pc.result ≡ pc_of s =
-    c.address-pc.ensures
-    ∙ ap value_address (c.pcc.ensures.value ∙ ap (λ x. x.pcc) (c.scrs.ensures.value ∙ ap (λ u. u.scrs) c.hart.ensures.value)) in
+    let is : c.fetched_at-at.result ≡ fetched_at s = c.fetched_at-at.ensures ∙ ap fetched_at c.hart.ensures.value in
     subst (λ rs. HoldEach (terms_of rs) (run_after (replicate k Step) s)) held
     (hold-run s c.hart.ensures.state n c.advance_short_of.ensures.goes (terms_of c.rules-rules.result.now)
-    (subst (λ rs. HoldEach (terms_of rs) s) (sym held) c.requires.holds) c.address-pc.result is (terms c.in-Some.guard.now)
-    c.in-Some.ensures.there c.in-Some.ensures.was (c.each_stays_away.ensures c.if-not-each_stays_away.false) k below)
+    (subst (λ rs. HoldEach (terms_of rs) s) (sym held) c.requires.holds) c.fetched_at-at.result is (terms c.in-Some.guard.now)
+    c.in-Some.ensures.there c.in-Some.ensures.applied (c.each_stays_away.ensures c.if-not-each_stays_away.false) k below)
 
 pub returns-clause-knows : goal.returns-clause-knows
 returns-clause-knows g c =
@@ -45,9 +40,7 @@ returns-clause-knows g c =
     let held = c.rules-rules.ensures in
     let by = terms_of c.rules-rules.result.now in
     let holds = subst (λ rs. HoldEach (terms_of rs) s) (sym held) c.requires.holds in
-    let is : c.address-pc.result ≡ pc_of s =
-    c.address-pc.ensures
-    ∙ ap value_address (c.pcc.ensures.value ∙ ap (λ x. x.pcc) (c.scrs.ensures.value ∙ ap (λ u. u.scrs) c.hart.ensures.value)) in
+    let is : c.fetched_at-at.result ≡ fetched_at s = c.fetched_at-at.ensures ∙ ap fetched_at c.hart.ensures.value in
     let later = c.advance_short_of.new.self in
     let marks = c.keep_out_of_reach.new.certified in
     let same = c.deref_mut.ensures.value in
@@ -57,13 +50,13 @@ returns-clause-knows g c =
     subst (λ rs. AreCertified (terms_of rs) w.certified.items s.memory) (sym held) c.requires.knows.certified in
     record {
       paired = c.requires.knows.paired;
-      known = subst (λ rs. AreKnown (terms_of rs) (Some c.address-pc.result) later) held
-          (known-run s c.hart.ensures.state n goes by holds c.address-pc.result is guard c.in-Some.ensures.there
-          c.in-Some.ensures.was later c.advance_short_of.ensures.state);
+      known = subst (λ rs. AreKnown (terms_of rs) c.fetched_at-at.result later) held
+          (known-run s c.hart.ensures.state n goes by holds c.fetched_at-at.result is guard c.in-Some.ensures.there
+          c.in-Some.ensures.applied later c.advance_short_of.ensures.state);
       count = ap length left ∙ c.keep_out_of_reach.auto.certified ∙ ap length same ∙ c.requires.knows.count;
       certified = subst (λ xs. AreCertified (rules_of w) xs later.memory) (sym left)
           (subst (λ rs. AreCertified (terms_of rs) marks later.memory) held
-          (certified-run s c.hart.ensures.state n goes by holds c.address-pc.result is guard c.in-Some.ensures.there
-          c.in-Some.ensures.was later c.advance_short_of.ensures.state c.deref_mut.result.now marks
+          (certified-run s c.hart.ensures.state n goes by holds c.fetched_at-at.result is guard c.in-Some.ensures.there
+          c.in-Some.ensures.applied later c.advance_short_of.ensures.state c.deref_mut.result.now marks
           (subst (λ xs. AreCertified by xs s.memory) (sym same) were) c.keep_out_of_reach.ensures));
     }

@@ -1,9 +1,8 @@
 use Rattle.std.proofs.Common.{◌≡◌, length, rules, sym, ap, ◌∙◌, subst}
 use Rattle.std.proofs.lemmas.List.{length-map, with_items_is}
 use Rattle.std.specs.Vec.{with_items}
-use Rattle.cap_bounds.specs.CapValue.{value_address}
-use Rattle.steps.specs.State.{pc_of}
 use Rattle.policy.specs.Terms.{terms, terms_of}
+use Rattle.policy.specs.Watch.{fetched_at}
 use Rattle.policy.specs.Known.{AreCertified, forced_by, held_by, rules_of}
 use Rattle.policy.proofs.Looking.{certified-then, known-then}
 use Rattle.policy.proofs.watcher.Watcher.meet.Goals as goal
@@ -51,12 +50,10 @@ returns-clause-knows g c =
     let as_said : length (held_by f) ≡ length (held_by w.force) =
     sym c.in_ok-changed.ensures.paired ∙ sym (length-map f.said.now terms) ∙ ap length c.in_ok-changed.ensures.said
     ∙ length-map w.force.said.now terms ∙ c.requires.knows.paired in
-    let is : c.address-pc.result ≡ pc_of t =
-    c.address-pc.ensures
-    ∙ ap value_address (c.pcc.ensures.value ∙ ap (λ x. x.pcc) (c.scrs.ensures.value ∙ ap (λ s. s.scrs) c.hart.ensures.value)) in
+    let is : c.fetched_at-at.result ≡ fetched_at t = c.fetched_at-at.ensures ∙ ap fetched_at c.hart.ensures.value in
     record {
       paired = c.in_ok-changed.ensures.paired;
-      known = known-then (rules_of w) (forced_by f) t next c.args.event c.address-pc.result c.meet-met.result.plain
+      known = known-then (rules_of w) (forced_by f) t next c.args.event c.fetched_at-at.result c.meet-met.result.plain
           c.in_ok-changed.changed c.known_at-self.result met.was_state met.state met.plain c.known_at-self.ensures is c.requires.holds
           c.in_ok-changed.ensures.unchanged;
       count = ap length end ∙ all ∙ kept ∙ c.requires.knows.count ∙ sym as_said;

@@ -2,11 +2,9 @@ use Rattle.std.proofs.Common.{◌≡◌, length, rules, sym, ap, ◌∙◌, subs
 use Rattle.std.specs.Prelude.{Contains, IfSome, IfNone}
 use Rattle.std.proofs.lemmas.List.{with_items_is}
 use Rattle.std.specs.Vec.{with_items}
-use Rattle.cap_bounds.specs.CapValue.{value_address}
-use Rattle.steps.specs.State.{pc_of}
 use Rattle.policy.specs.Terms.{Terms, terms_of}
-use Rattle.policy.specs.Watch.{IsAbout, Holds, HoldEach, IsRefused}
-use Rattle.policy.specs.Known.{WasAbout, AreCertified, rules_of}
+use Rattle.policy.specs.Watch.{Applies, Holds, HoldEach, IsRefused, fetched_at}
+use Rattle.policy.specs.Known.{Applied, AreCertified, rules_of}
 use Rattle.policy.proofs.Looking.{refused-in, holds-in, holds-certain}
 use Rattle.policy.proofs.watcher.Watcher.refusal.Goals as goal
 
@@ -28,14 +26,12 @@ pub returns-then-each_is_certain-clause-holds : goal.returns-then-each_is_certai
 returns-then-each_is_certain-clause-holds g c =
     let w = c.args.self.now in
     let s = c.args.machine.now in
-    let is : c.address-pc.result ≡ pc_of s =
-    c.address-pc.ensures
-    ∙ ap value_address (c.pcc.ensures.value ∙ ap (λ x. x.pcc) (c.scrs.ensures.value ∙ ap (λ u. u.scrs) c.hart-hart.ensures.value)) in
-    holds-certain (rules_of w) s c.address-pc.result w.known is c.requires.knows.known
-    (subst (λ rs. (rule : Terms) → Contains (terms_of rs) rule → IsAbout rule c.address-pc.result
-    → WasAbout w.known rule ⊎ Holds rule s) c.rules-rules.ensures
-    (subst (λ u. (rule : Terms) → Contains (terms_of c.rules-rules.result.now) rule → IsAbout rule c.address-pc.result
-    → WasAbout w.known rule ⊎ Holds rule u) c.hart-hart.ensures.value (c.each_is_certain.ensures.holds c.if-each_is_certain.true)))
+    let is : c.fetched_at-at.result ≡ fetched_at s = c.fetched_at-at.ensures ∙ ap fetched_at c.hart-hart.ensures.value in
+    holds-certain (rules_of w) s c.fetched_at-at.result w.known is c.requires.knows.known
+    (subst (λ rs. (rule : Terms) → Contains (terms_of rs) rule → Applies rule c.fetched_at-at.result
+    → Applied w.known rule ⊎ Holds rule s) c.rules-rules.ensures
+    (subst (λ u. (rule : Terms) → Contains (terms_of c.rules-rules.result.now) rule → Applies rule c.fetched_at-at.result
+    → Applied w.known rule ⊎ Holds rule u) c.hart-hart.ensures.value (c.each_is_certain.ensures.holds c.if-each_is_certain.true)))
 
 pub returns-then-each_is_certain-clause-knows : goal.returns-then-each_is_certain-clause-knows
 returns-then-each_is_certain-clause-knows g c =
@@ -91,20 +87,16 @@ returns-clause-knows g c =
 pub returns-clause-refused : goal.returns-clause-refused
 returns-clause-refused g c =
     let s = c.args.machine.now in
-    let is : c.address-pc.result ≡ pc_of s =
-    c.address-pc.ensures
-    ∙ ap value_address (c.pcc.ensures.value ∙ ap (λ x. x.pcc) (c.scrs.ensures.value ∙ ap (λ u. u.scrs) c.hart-hart.ensures.value)) in
+    let is : c.fetched_at-at.result ≡ fetched_at s = c.fetched_at-at.ensures ∙ ap fetched_at c.hart-hart.ensures.value in
     subst (λ rs. IfSome c.first_refused.result (λ x. IsRefused (terms_of rs) x s)) c.rules-rules.ensures
-    (refused-in c.hart-hart.result.now s c.hart-hart.ensures.value (terms_of c.rules-rules.result.now) c.address-pc.result is
+    (refused-in c.hart-hart.result.now s c.hart-hart.ensures.value (terms_of c.rules-rules.result.now) c.fetched_at-at.result is
     g.C.CapRep.value c.in_ok-reach.reach c.in_ok-reach.ensures.exact c.in_ok-reach.ensures.members c.first_refused.result
     c.first_refused.ensures.some)
 
 pub returns-clause-holds : goal.returns-clause-holds
 returns-clause-holds g c =
     let s = c.args.machine.now in
-    let is : c.address-pc.result ≡ pc_of s =
-    c.address-pc.ensures
-    ∙ ap value_address (c.pcc.ensures.value ∙ ap (λ x. x.pcc) (c.scrs.ensures.value ∙ ap (λ u. u.scrs) c.hart-hart.ensures.value)) in
+    let is : c.fetched_at-at.result ≡ fetched_at s = c.fetched_at-at.ensures ∙ ap fetched_at c.hart-hart.ensures.value in
     subst (λ rs. IfNone c.first_refused.result (HoldEach (terms_of rs) s)) c.rules-rules.ensures
-    (holds-in c.hart-hart.result.now s c.hart-hart.ensures.value (terms_of c.rules-rules.result.now) c.address-pc.result is
+    (holds-in c.hart-hart.result.now s c.hart-hart.ensures.value (terms_of c.rules-rules.result.now) c.fetched_at-at.result is
     g.C.CapRep.value c.in_ok-reach.reach c.in_ok-reach.ensures.exact c.first_refused.result c.first_refused.ensures.none)

@@ -1,8 +1,6 @@
 use Rattle.std.proofs.Common.{◌≡◌, ◌++◌, ap, sym, ◌∙◌}
-use Rattle.cap_bounds.specs.CapValue.{value_address}
-use Rattle.steps.specs.State.{pc_of}
 use Rattle.policy.specs.Terms.{terms_of}
-use Rattle.policy.specs.Watch.{values_in}
+use Rattle.policy.specs.Watch.{fetched_at, values_in}
 use Rattle.policy_audit.specs.Found.{found_at, found_from}
 use Rattle.policy_audit.specs.Look.{rules_of, seen_by}
 use Rattle.policy_audit.proofs.Adding.{nothing}
@@ -15,13 +13,11 @@ returns-then-finds_none-clause-seen g c =
     let held = c.rules-rules.ensures in
     let rules = terms_of c.rules-rules.result.now in
     let seen = seen_by c.args.self.now in
-    let is : c.address-pc.result ≡ pc_of s =
-    c.address-pc.ensures
-    ∙ ap value_address (c.pcc.ensures.value ∙ ap (λ x. x.pcc) (c.scrs.ensures.value ∙ ap (λ t. t.scrs) c.hart-hart.ensures.value)) in
+    let is : c.fetched_at-at.result ≡ fetched_at s = c.fetched_at-at.ensures ∙ ap fetched_at c.hart-hart.ensures.value in
     nothing seen (found_at (rules_of c.args.self.now) seen s)
     (ap (λ rs. found_at (terms_of rs) seen s) (sym held)
     ∙ ap (λ a. found_from seen (values_in s) a 0 rules) (sym is)
-    ∙ ap (λ f. found_from f (values_in s) c.address-pc.result 0 rules) (sym c.deref.ensures.value)
+    ∙ ap (λ f. found_from f (values_in s) c.fetched_at-at.result 0 rules) (sym c.deref.ensures.value)
     ∙ c.finds_none.ensures c.if-finds_none.true (values_in s))
 
 pub returns-clause-found : goal.returns-clause-found
@@ -30,14 +26,12 @@ returns-clause-found g c =
     let held = c.rules-rules.ensures in
     let rules = terms_of c.rules-rules.result.now in
     let seen = seen_by c.args.self.now in
-    let is : c.address-pc.result ≡ pc_of s =
-    c.address-pc.ensures
-    ∙ ap value_address (c.pcc.ensures.value ∙ ap (λ x. x.pcc) (c.scrs.ensures.value ∙ ap (λ t. t.scrs) c.hart-hart.ensures.value)) in
-    found_here g.C.CapRep.value rules seen c.deref-2.result.now c.address-pc.result c.new-found.result.items c.add_found.new.found.items
+    let is : c.fetched_at-at.result ≡ fetched_at s = c.fetched_at-at.ensures ∙ ap fetched_at c.hart-hart.ensures.value in
+    found_here g.C.CapRep.value rules seen c.deref-2.result.now c.fetched_at-at.result c.new-found.result.items c.add_found.new.found.items
     c.in_ok-reach.reach c.members.result.now c.deref-2.ensures.value c.new-found.ensures.items c.members.ensures
     c.in_ok-add_found.ensures
     ∙ found_in_reach g.C.CapRep.value c.in_ok-reach.reach s c.hart-hart.result.now c.hart-hart.ensures.value
-    c.in_ok-reach.ensures.members rules seen c.address-pc.result is
+    c.in_ok-reach.ensures.members rules seen c.fetched_at-at.result is
     ∙ ap (λ rs. found_at (terms_of rs) seen s) held
 
 pub returns-clause-inside : goal.returns-clause-inside
@@ -45,8 +39,8 @@ returns-clause-inside g c =
     let held = c.rules-rules.ensures in
     let rules = terms_of c.rules-rules.result.now in
     let seen = seen_by c.args.self.now in
-    found-inside g.C.CapRep.value c.in_ok-reach.reach seen c.address-pc.result rules c.add_found.new.found.items
-    (found_here g.C.CapRep.value rules seen c.deref-2.result.now c.address-pc.result c.new-found.result.items c.add_found.new.found.items
+    found-inside g.C.CapRep.value c.in_ok-reach.reach seen c.fetched_at-at.result rules c.add_found.new.found.items
+    (found_here g.C.CapRep.value rules seen c.deref-2.result.now c.fetched_at-at.result c.new-found.result.items c.add_found.new.found.items
     c.in_ok-reach.reach c.members.result.now c.deref-2.ensures.value c.new-found.ensures.items c.members.ensures
     c.in_ok-add_found.ensures)
 
@@ -56,15 +50,13 @@ returns-clause-seen g c =
     let held = c.rules-rules.ensures in
     let rules = terms_of c.rules-rules.result.now in
     let seen = seen_by c.args.self.now in
-    let is : c.address-pc.result ≡ pc_of s =
-    c.address-pc.ensures
-    ∙ ap value_address (c.pcc.ensures.value ∙ ap (λ x. x.pcc) (c.scrs.ensures.value ∙ ap (λ t. t.scrs) c.hart-hart.ensures.value)) in
+    let is : c.fetched_at-at.result ≡ fetched_at s = c.fetched_at-at.ensures ∙ ap fetched_at c.hart-hart.ensures.value in
     c.in_ok-extend_from_slice.ensures.items
     ∙ ap (λ f. seen ++ f)
     (c.deref-3.ensures.value
-    ∙ found_here g.C.CapRep.value rules seen c.deref-2.result.now c.address-pc.result c.new-found.result.items
+    ∙ found_here g.C.CapRep.value rules seen c.deref-2.result.now c.fetched_at-at.result c.new-found.result.items
     c.add_found.new.found.items c.in_ok-reach.reach c.members.result.now c.deref-2.ensures.value c.new-found.ensures.items
     c.members.ensures c.in_ok-add_found.ensures
     ∙ found_in_reach g.C.CapRep.value c.in_ok-reach.reach s c.hart-hart.result.now c.hart-hart.ensures.value
-    c.in_ok-reach.ensures.members rules seen c.address-pc.result is
+    c.in_ok-reach.ensures.members rules seen c.fetched_at-at.result is
     ∙ ap (λ rs. found_at (terms_of rs) seen s) held)

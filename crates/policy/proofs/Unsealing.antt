@@ -1,13 +1,16 @@
--- What an unsealing opens with: a key in a register, within the rights of a member that may unseal. One line a kind of row.
-use Rattle.std.proofs.Common.{◌≡◌, ℕ, Bool, true, false, not, eqb, cond, List, Option, None, Some, Result, Ok, Err}
-use Rattle.std.proofs.Common.{refl, subst}
+-- What an unsealing opens with: a key in a register that may unseal something of the type. One line a kind of row.
+use Rattle.std.proofs.Common.{◌≡◌, ℕ, ◌≤◌, Bool, true, false, not, eqb, cond, List, Option, None, Some, Result, Ok, Err}
+use Rattle.std.proofs.Common.{refl, subst, arith}
 use Rattle.std.specs.Prelude.{◌≢◌}
-use Rattle.std.proofs.lemmas.Bool.{and_parts}
+use Rattle.std.proofs.lemmas.Bool.{and_parts, leb-true, lt-leb}
 use Rattle.base.specs.declared.fault.Fault.{Fault}
+use Rattle.base.specs.ObjectType.{is_reserved}
+use Rattle.base.specs.declared.otype.TheConstants.{FIRST_RESERVED}
 use Rattle.base.specs.declared.size.Size.{Size}
 use Rattle.cap_bounds.specs.CapValue.{CapValue, is_tagged, is_sealed, value_otype, value_address}
 use Rattle.cap_rights.specs.declared.permission.Permission.TheVariants as permission
 use Rattle.cap_rights.specs.Derivations.{tagged_if, may_unseal, unseal, address_in_bounds}
+use Rattle.cap_rights.specs.ObjectType.{greatest_sealing_type}
 use Rattle.cap_rights.specs.Permission.{permits}
 use Rattle.cap_insns.specs.CapabilityRows.{row_value}
 use Rattle.cap_checks.specs.declared.question.Condition.{Condition}
@@ -43,10 +46,8 @@ use Rattle.steps.specs.Outcome.{Plain, Unseal, SealedJump, outcome_of, step_outc
 use Rattle.steps.specs.State.{State}
 use Rattle.steps.specs.Step.{asked, does, kind_effect, fetch, decoded_effect, fetched_effect, decided, step_effect}
 use Rattle.steps.specs.SystemRows.{csr_held, csr_done, special_held, special_done, return_done}
-use Rattle.authority.specs.Reachable.{in_register}
-use Rattle.doors.specs.Closed.{Bounds}
 use Rattle.reach.specs.Opens.{OpensUnsealing}
-use Rattle.reach.proofs.Unsealing.{unseal-opens, OpensUnsealing-outer}
+use Rattle.reach.proofs.Unsealing.{unseal-opens}
 
 -- the value is what a key in a register gives of the value in another
 pub record IsUnsealed (s : State) (v : CapValue) : Type 0 where
@@ -188,9 +189,10 @@ tagged_if-may false v tagged = cc
 
 pub record IsKey (key : CapValue) (otype : ℕ) : Type 0 where
   pub tagged : is_tagged key ≡ true
+  pub unreserved : is_reserved otype ≡ false
   pub opens : OpensUnsealing key otype
 
-may-tagged : (v key : CapValue) → may_unseal v key ≡ true → is_tagged key ≡ true
+may-tagged : (v key : CapValue) → may_unseal v key ≡ true → (is_tagged key ≡ true) × (is_reserved (value_otype v) ≡ false)
 unfolding may_unseal
 may-tagged v key may =
     let address : ℕ = value_address key in
@@ -199,27 +201,26 @@ may-tagged v key may =
     let with_permission = and_parts _ (permits key permission.Unseal) with_bounds.0 in
     let with_seal = and_parts _ (not (is_sealed key)) with_permission.0 in
     let with_type = and_parts _ _ with_seal.0 in
-    (and_parts (is_tagged v) (is_tagged key) with_type.0).1
+    let small : value_otype v ≤ greatest_sealing_type = leb-true (value_otype v) greatest_sealing_type with_type.1 in
+    let reserved : FIRST_RESERVED ≡ 262140 = refl in (
+      (and_parts (is_tagged v) (is_tagged key) with_type.0).1,
+      lt-leb FIRST_RESERVED (value_otype v) (omega (arith, reserved)),
+    )
 
 unseal-key : (v key : CapValue) → is_tagged (unseal v key) ≡ true → IsKey key (value_otype v)
 unfolding unseal
-unseal-key v key tagged = record {
-  tagged = may-tagged v key (tagged_if-may (may_unseal v key) _ tagged);
-  opens = unseal-opens v key tagged;
-}
+unseal-key v key tagged =
+    let may = may-tagged v key (tagged_if-may (may_unseal v key) _ tagged) in
+    record { tagged = may.0; unreserved = may.1; opens = unseal-opens v key tagged }
 
--- ---- no member unseals
+-- ---- where no register holds a key
 
-module _ (P : CapValue → Type 0) (none : (c : CapValue) (otype : ℕ) → P c → OpensUnsealing c otype → ⊥)
-    (s : State) (bounds : Bounds P s) where
+module _ (s : State) (none : (n otype : ℕ) → IsKey (register s.registers n) otype → ⊥) where
   unsealed-never : (v : CapValue) → IsUnsealed s v → is_tagged v ≡ true → ⊥
   unsealed-never v by tagged =
       let held = register s.registers by.sealed in
-      let key = register s.registers by.key in
-      let is : IsKey key (value_otype held) = unseal-key held key (subst (λ x. is_tagged x ≡ true) by.value tagged) in
-      let covered = (bounds.roots key is.tagged (in_register by.key refl)).covered in
-      none covered.source (value_otype held) covered.member
-      (OpensUnsealing-outer key covered.source (value_otype held) covered.within is.opens)
+      none by.key (value_otype held)
+      (unseal-key held (register s.registers by.key) (subst (λ x. is_tagged x ≡ true) by.value tagged))
 
   tagged-unsealed : (v : CapValue) → IsUnsealed s v → (tagged : Bool) → is_tagged v ≡ tagged → cond tagged Unseal Plain ≡ Unseal → ⊥
   tagged-unsealed v by true same is = unsealed-never v by same
