@@ -1,7 +1,7 @@
 -- The text of an audit: each part of a rule that is broken in a run, before which step that is first so, and what breaks it.
 use Rattle.std.specs.Prelude.{ℕ, List, [], ◌++◌, Option, Some, None, slice_get, codes, decimal}
 use Rattle.std.specs.List.{flat_map}
-use Rattle.texts.specs.Hex.{hex_of}
+use Rattle.symbols.specs.Labels.{labelled}
 use Rattle.symbols.specs.Symbols.{Symbol}
 use Rattle.steps.specs.declared.event.Event.{Event}
 use Rattle.steps.specs.State.{State, pc_of}
@@ -22,14 +22,14 @@ breach_by symbols members finding None = []
 breach_by symbols members finding (Some line) =
     breach_text symbols members line.number line.text.now finding.ban finding.member
 
--- before which step: its number, and PCC's address
-abbrev pub step_line : ℕ → ℕ → List ℕ
-step_line step pc = codes "step " ++ decimal step ++ codes ", pcc " ++ hex_of 16 pc ++ codes "\n"
+-- before which step: its number, and PCC's address with its label
+abbrev pub step_line : List Symbol → ℕ → ℕ → List ℕ
+step_line symbols step pc = codes "step " ++ decimal step ++ codes ", pcc " ++ labelled symbols pc ++ codes "\n"
 
 -- the lines of a finding
 unfoldable pub finding_text : List Symbol → List Found → List RuleLine → ℕ → ℕ → Finding → List ℕ
 finding_text symbols members lines step pc finding =
-    step_line step pc ++ breach_by symbols members finding (slice_get lines finding.rule)
+    step_line symbols step pc ++ breach_by symbols members finding (slice_get lines finding.rule)
 
 -- what is noted of the steps so far: what was found, and the terms in force
 pub record Notes : Type 0 where

@@ -10,8 +10,9 @@ use breach_texts::{RuleLine, put_breach};
 use cap_bounds::CapRep;
 use reached::Member;
 use std::alloc::{AllocError, Global};
-use symbols::Symbols;
-use texts::{append, pieces};
+use symbols::{Symbols, labelled};
+use texts::Piece::{Decimal, Text};
+use texts::append;
 
 /// Before which step something is found: its number, counted from 1, and PCC's address.
 #[derive(Clone, Copy)]
@@ -20,13 +21,20 @@ pub(crate) struct Moment {
     pub pc: u64,
 }
 
-/// Appends before which step something is found.
-fn append_step(text: &mut String, at: Moment) -> Result<(), AllocError>
-    ensures { OnOk result (string_bytes text.new ≡ string_bytes text.old ++ step_line at.step at.pc) }
+/// Appends before which step something is found, with the label of PCC's address.
+fn append_step(text: &mut String, symbols: &Symbols, at: Moment) -> Result<(), AllocError>
+    ensures { OnOk result (string_bytes text.new ≡ string_bytes text.old ++ step_line symbols.now at.step at.pc) }
 {
+    let place = labelled(Some(symbols), at.pc);
     append(
         text,
-        &pieces!["step " Decimal(at.step) ", pcc " Address(at.pc) "\n"],
+        &[
+            Text("step "),
+            Decimal(at.step),
+            Text(", pcc "),
+            Text(place.as_str()),
+            Text("\n"),
+        ],
     )
 }
 
@@ -74,7 +82,7 @@ fn append_finding<C: CapRep>(
     ensures { OnOk result (string_bytes text.new ≡ string_bytes text.old
         ++ finding_text symbols.now (seen_members C.value members.now) lines.now at.step at.pc finding) }
 {
-    append_step(text, at)?;
+    append_step(text, symbols, at)?;
     append_by_line(text, alloc, symbols, members, lines, finding)
 }
 
