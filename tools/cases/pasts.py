@@ -1,14 +1,15 @@
 """Conversations of the debugger about what came before, with what is answered by the model of recorded runs."""
 
-from cases.past import Past
+from model.pasts import Past
 from cases.quoting import escaped
 from cases.sessions import conversation, typed
 from model.devices import RAM
+from model.schedules import Schedule
 
 
 def session(about, text, commands, schedule=None, labels=None):
     """A conversation of commands, which are parted by `; `, with what the model answers; maybe with a table of names and addresses."""
-    past, lines = Past(text, schedule, labels), []
+    past, lines = Past(text, schedule and Schedule(*schedule), labels), []
     for command in commands.split("; "):
         lines += [typed(command), *past.answer(command).splitlines()]
     first = [f"% {schedule[0]} {schedule[1]} {escaped(bytes(schedule[2])) or '-'}"] if schedule else []

@@ -1,18 +1,19 @@
 """Command lines of the program that watch a run by a policy: what breaks each part, what is about the code, what is told, and which texts
 are refused.
 
-What is told of a run is what the model of a machine meets (cases/running.py, cases/watched.py); a text's fault is that of the grammar.
+What is told of a run is what the model of a machine meets (model/machine.py, cases/watched.py); a text's fault is that of the grammar.
 """
 
-from cases.encoded import image_of
-from cases.program_lines import BAD, FILE, TRACE, case, refused, table, with_labels
+from cases.program_lines import BAD, FILE, TRACE, case, refused, table
 from cases.quoting import quoted
-from cases.running import Running
 from cases.watched import GAP, TICK, ran
 from model import policy
 from model.devices import HALT, RAM, TIMER_COMPARE, TRANSMIT
+from model.images import file_v2
+from model.listings import table_text, with_names
 from model.rights import (ACCESS_SYSTEM_REGISTERS, CINVOKE, EXECUTE, GLOBAL, GREATEST_SEALING_TYPE, LOAD, LOAD_CAPABILITY, SEAL, STORE,
                           STORE_CAPABILITY, STORE_LOCAL, UNSEAL)
+from model.texts import Program
 
 # ---- programs
 
@@ -42,8 +43,12 @@ def sealed(name, number):
 
 # ---- a case
 
-def table_of(machine):
-    return "t " + quoted("".join(f"{address:016x} {name}\n" for address, name in machine.symbols()))
+def image_of(program):
+    """The file of the image of a program: its statements as one section, and its capabilities."""
+    code = bytearray(max(program.words) + 4 - RAM)
+    for place, word in program.words.items():
+        code[place - RAM:place - RAM + 4] = word.to_bytes(4, "little")
+    return file_v2(program.pages, RAM, 1, program.grants, [(RAM, bytes(code))])
 
 
 class Watch:
@@ -52,20 +57,20 @@ class Watch:
     COMMAND = "run"
 
     def __init__(self, text, rules, steps=1000, options="", named=True, gap=GAP, tick=TICK, keys=b""):
-        machine = Running(text)
-        labels = machine.symbols() if named else []
+        made = Program(text)
+        labels = made.symbols() if named else []
         read, fault = policy.read(rules, {name: address for address, name in labels})
         assert not fault, fault
-        self.status, self.sent, self.told = self.came(machine, read, steps, gap, tick, keys, labels)
-        file = FILE if text == FIRST else f"first.img {quoted(image_of(text))}"
+        self.status, self.sent, self.told = self.came(made.machine(), read, steps, gap, tick, keys, labels)
+        file = FILE if text == FIRST else f"first.img {quoted(image_of(made))}"
         self.words = " ".join([self.COMMAND, "first.img", str(steps), "--policy p", *(["--symbols t"] if named else []), *options.split()])
-        self.files = [file, *([table_of(machine)] if named else []), f"p {quoted(rules)}", *([f"keys {quoted(keys)}"] if keys else [])]
+        self.files = [file, *([f"t {quoted(table_text(labels))}"] if named else []), f"p {quoted(rules)}", *([f"keys {quoted(keys)}"] if keys else [])]
         self.opened = ", ".join(["open first.img", *(["open t"] if named else []), "open p", *(["open keys"] if keys else [])])
 
     def came(self, machine, *run):
         """What comes of it: the status, what is sent and what is told."""
         status, told = ran(machine, *run)
-        return status, bytes(machine.sent), told
+        return status, bytes(machine.devices.sent), told
 
     def line(self, told=None, opened="", made=b""):
         """The case; what is told may be less than all of it."""
@@ -127,8 +132,8 @@ def first_image():
     yield "# with a table the addresses of the trace and of where it stopped have labels"
     labels = [(RAM, "start"), (RAM + 12, "halt"), (RAM + 12, "end")]
     yield case("run first.img 9 --policy p --symbols s --trace t", [FILE, table("s", labels), f"p {quoted(last)}"], 1,
-               "open first.img, open s, open p, make t", b"A", with_labels(watch.told, labels),
-               with_labels("".join(TRACE.splitlines(True)[:4]), labels).encode())
+               "open first.img, open s, open p, make t", b"A", with_names(watch.told, labels),
+               with_names("".join(TRACE.splitlines(True)[:4]), labels).encode())
 
 
 def which():

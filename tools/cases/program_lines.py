@@ -1,7 +1,5 @@
 """What cases of command lines are made of: machine words, files of images, texts with a fault, and a case's line."""
 
-import re
-
 from cases.quoting import quoted
 from model.devices import RAM
 from model.images import FIRST, header, section
@@ -106,18 +104,6 @@ def traced(*steps):
 TRACE = traced(*zip(LISTED.splitlines(), (
     f"ca1 = {integer(0x10000000)}", f"ca0 = {integer(65)}", "device store 1 byte at 0000000010000000: 41",
     f"ca1 = {integer(0x100000)}", "device store 8 bytes at 0000000000100000: 0000000000000000")))
-
-
-def with_labels(text, labels):
-    """A text with the label after each address: the nearest below it, by fewer than 4096 bytes."""
-    def shown(found):
-        address = int(found[0], 16)
-        below = [(place, -index, name) for index, (place, name) in enumerate(labels) if place <= address < place + 4096]
-        if not below:
-            return found[0]
-        place, _, name = max(below)
-        return f"{found[0]} <{name}>" if place == address else f"{found[0]} <{name}+{address - place}>"
-    return re.sub(r"(?<!:)\b[0-9a-f]{16}\b", shown, text)
 
 
 def table(name, labels):

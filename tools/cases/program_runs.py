@@ -3,10 +3,11 @@
 from cases.explanations import access, begun, fetch, number as held_number, reply, trapped as trap_effect
 from cases.program_lines import (
     A0, A1, A2, BAD, ECHO, FILE, LISTED, REPLY, TEXT, TEXT_OF_CLAP, TRACE, addi, case, csrrs, csrrw, image,
-    immediate, integer, ld, lui, refused, sb, sd, special_rw, table, traced, with_labels,
+    immediate, integer, ld, lui, refused, sb, sd, special_rw, table, traced,
 )
 from cases.quoting import quoted
 from model.devices import RAM
+from model.listings import with_names
 from model.images import FIRST, header, section
 from model.words import SPACE
 
@@ -329,7 +330,7 @@ def labelled_runs():
              "3 0000000080000008 <start+8> 00a58023 sb a0, 0(a1): device store 1 byte at 0000000010000000 <console>: 41\n",
              "4 000000008000000c <halt> 001005b7 lui a1, 0x100: ca1 = " + integer(0x100000) + "\n")
     four = "".join(lines)
-    assert four == with_labels("".join(TRACE.splitlines(True)[:4]), labels)
+    assert four == with_names("".join(TRACE.splitlines(True)[:4]), labels)
     yield from runs("4 --trace t", labels, b"A", f"{started} 4, pcc 0000000080000010 <halt+4>\n", made=four.encode(), opened=", make t")
     yield from runs("4 --trace t --trace-last 1", labels, b"A", f"{started} 4, pcc 0000000080000010 <halt+4>\n", made=lines[3].encode(),
                     opened=", make t")
@@ -349,7 +350,7 @@ def labelled_runs():
                 f"2 0000000080000004{shown[1]} 04100513 addi a0, zero, 65: ca0 = {integer(65)}\n")
         yield from runs("2 --trace t --quiet", [(place, "low")], b"", "cherisim: not halted\n", made=made.encode(), opened=", make t")
         yield from runs(f"{steps + 1}", [(place, "low")], b"", f"{started} {steps + 1}, pcc {RAM + 4 + 4 * steps:016x}"
-                        + (shown[1] if steps == 0 else with_labels(f"{RAM + 8:016x}", [(place, "low")])[16:]) + "\n")
+                        + (shown[1] if steps == 0 else with_names(f"{RAM + 8:016x}", [(place, "low")])[16:]) + "\n")
     yield "# an empty table changes nothing"
     yield from runs("4 --trace t", [], b"A", f"{started} 4, pcc 0000000080000010\n", made="".join(TRACE.splitlines(True)[:4]).encode(),
                     opened=", make t")
@@ -371,10 +372,10 @@ def labelled_runs():
     parts = [begun(RAM + 4, word), *access("load of 1 byte", held_number("ca1", 0), "ca1", "load", 0, 1, 0, SPACE, False,
                                           rights=(False, True, True)), trap_effect(28, "CHERI exception, tag violation at ca1", 32 * 11 + 2)]
     for why in ("--why", "--why=all"):
-        yield from runs(f"9 {why}", labels, b"", with_labels(f"{started} 1, pcc {RAM + 4:016x}\n{reply(*parts)}\n", labels), file=null)
+        yield from runs(f"9 {why}", labels, b"", with_names(f"{started} 1, pcc {RAM + 4:016x}\n{reply(*parts)}\n", labels), file=null)
     ecall = f"call.img {quoted(image(NOP, ECALL))}"
     yield from runs("9 --why --trace t", labels, b"", f"{started} 1, pcc 0000000080000004 <start+4>\n"
-                    + reply(with_labels(begun(RAM + 4, "00000073 ecall"), labels),
+                    + reply(with_names(begun(RAM + 4, "00000073 ecall"), labels),
                             "effect: trap environment call, mcause 000000000000000b, mtval 0000000000000000") + "\n",
                     file=ecall, made=b"1 0000000080000000 <start> 00000013 addi zero, zero, 0: nothing\n", opened=", make t")
     yield "# an audit's trace has them too"

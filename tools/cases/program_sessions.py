@@ -1,15 +1,17 @@
 """Sessions by the program: commands with labels, schedules, tables that are refused, and what code can reach."""
 
 from cases.explanations import access, begun, reply, root, written
-from cases.program_lines import A0, A2, BAD, ECHO, FILE, addi, case, image, immediate, integer, refused, with_labels
+from cases.program_lines import A0, A2, BAD, ECHO, FILE, addi, case, image, immediate, integer, refused
 from cases.quoting import quoted
 from cases.reaching import answered
 from cases.sessions import ECHO_THREE
-from cases.straight import Straight
 from model.devices import RAM
 from model.images import FIRST, file_v2
+from model.listings import table_text, with_names
 from model.origins import fields
-from model.sessions import Schedule, Session
+from model.schedules import Schedule
+from model.sessions import Session
+from model.texts import machine_of
 from model.words import NULL_HIGH, SPACE
 
 
@@ -28,10 +30,10 @@ def labelled(session):
     store = reply(begun(RAM + 8, "00a58023 sb a0, 0(a1)"),
                   access("store of 1 byte", root("ddc", 0), "ddc", "store", 0x10000000, 1, 0, SPACE, True),
                   "effect: device store 1 byte at 0000000010000000: 41")
-    yield session("why\nstep 2\nwhy\nback 1\ntrap 3", with_labels(
+    yield session("why\nstep 2\nwhy\nback 1\ntrap 3", with_names(
         f"{first}\nevents 2 out - pc 0000000080000008 running\n{store}\nevents -1 out - pc 0000000080000004 running\n"
         "events 3 out 41 pc 0000000080000010 running\n", labels), names)
-    yield session("dis 0x80000000 5", with_labels(
+    yield session("dis 0x80000000 5", with_names(
         "".join(f"{RAM + 4 * at:016x} {line}\n" for at, line in enumerate((
             "100005b7 lui a1, 0x10000", "04100513 addi a0, zero, 65", "00a58023 sb a0, 0(a1)", "001005b7 lui a1, 0x100",
             "0005b023 sd zero, 0(a1)"))), labels), names)
@@ -154,7 +156,7 @@ def reached():
         return case("debug caps.img --symbols t", [file, table, f"input {quoted(typed)}"], 0, "open caps.img, open t", answer)
 
     def session(labels, *lines, steps=6):
-        machine = Straight(program).steps(steps)
+        machine = machine_of(program, steps)
         done = f"events {steps} out - pc {RAM + 4 * steps:016x} running\n" if steps else ""
         answer = "".join(f"{line}\n" for typed in lines for line in answered(machine, typed, labels))
         return asked(labels, (f"step {steps}\n" if steps else "") + "\n".join(lines), done + answer)

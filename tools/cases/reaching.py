@@ -5,17 +5,18 @@ A program gives up root: it keeps a PCC for its own code and what else it is abo
 
 from collections import Counter
 
-from cases.straight import Straight
 from model import reach
-from model.capabilities import base, flag, is_unsealed, otype, perms, top
+from model.capabilities import base, is_unsealed, perms, top
 from model.devices import CONTROL, HALT, RAM, RECEIVE, STATUS, TIMER, TIMER_COMPARE, TRANSMIT
+from model.listings import named_address
+from model.names import CAPABILITY_NAMES, SPECIALS
+from model.origins import fields
 from model.rights import ACCESS_SYSTEM_REGISTERS, ALL, SEAL, SENTRY, STORE, UNSEAL, UNSEALED
+from model.texts import Program
 from model.words import ONES, SPACE
-from trying.names import CAPABILITY_NAMES
 
 LETTERS = "GXRWcCLsiuSd"
 ROOTS = [*CAPABILITY_NAMES, "pcc", "ddc"]
-SPECIALS = ["mtcc", "mtdc", "mscratchc", "mepcc"]
 NO, NO_THROUGH_DOORS = "no, until the next trap, unsealing or sealed jump", "no, until the next trap or unsealing"
 HEAD = ["digraph reach {", "  rankdir=LR;", "  node [shape=box, fontname=monospace];", "  registers [shape=plaintext];"]
 
@@ -29,9 +30,7 @@ def letters(value):
 
 def text(value):
     """A capability with its permissions in letters, and every field."""
-    view = perms(value) & 0xFFF | perms(value) >> 12 << 15
-    return (f"{letters(value)} v:{value[2]:d} a:{value[1]:016x} b:{base(value):016x} t:{top(value):017x} p:{view:05x} f:{flag(value)} "
-            f"o:{otype(value):05x}")
+    return f"{letters(value)} {fields(value)}"
 
 
 def place_name(place, labels=(), doors=()):
@@ -42,18 +41,7 @@ def place_name(place, labels=(), doors=()):
         return f"behind {place_name(doors[n], labels)}"
     if kind != reach.GRANULE:
         return {reach.ROOT: ROOTS, reach.SPECIAL: SPECIALS}[kind][n]
-    return labelled(n, labels)
-
-
-def labelled(n, labels):
-    """An address with the label at it or fewer than 4096 bytes below it."""
-    below = [(address, name) for address, name in labels if address <= n]
-    # of several names of one address the first counts
-    nearest = max(below, key=lambda label: label[0], default=None)
-    if nearest is None or n - nearest[0] >= 4096:
-        return f"{n:016x}"
-    distance = n - nearest[0]
-    return f"{n:016x} <{nearest[1]}" + (f"+{distance}>" if distance else ">")
+    return named_address(n, labels)
 
 
 def member_text(number, member, labels=()):
@@ -112,8 +100,8 @@ def answered(machine, line, labels=()):
     """What a line of these commands is answered with."""
     words = " ".join(line.replace("\\t", " ").replace("\\r", " ").split())
     if words in VIEWS:
-        return VIEWS[words](machine.members(), labels)
-    found, doors = machine.through_doors()
+        return VIEWS[words](reach.members(machine.state()), labels)
+    found, doors = reach.through_doors(machine.state())
     if words == "reach doors":
         return summary(found, labels, COUNTED)
     asked = words.removesuffix(" through doors")
@@ -123,16 +111,17 @@ def answered(machine, line, labels=()):
     if question == "keep" and not numbers:
         numbers = [0, ONES]
     if asked == words:
-        return answer_text(machine.members(), question, numbers, labels)
+        return answer_text(reach.members(machine.state()), question, numbers, labels)
     return answer_text(found, question, numbers, labels, doors, NO_THROUGH_DOORS)
 
 
 def after(program, steps, lines, *more):
     """A conversation's text: so many steps, and these lines with their answers; and then the same with more steps and lines."""
-    machine, text = Straight(program), []
+    machine, text = Program(program).machine(), []
     for count, asked in zip((steps, *more[::2]), (lines, *more[1::2])):
-        machine.steps(count)
-        text += [f"> step {count}", f"events {count} out - pc {machine.special['pcc'][1]:016x} running"] if count else []
+        for _ in range(count):
+            machine.step()
+        text += [f"> step {count}", f"events {count} out - pc {machine.pc:016x} running"] if count else []
         text += [part for line in asked for part in (f"> {line}", *answered(machine, line))]
     return "\n".join(text)
 

@@ -10,7 +10,8 @@ In the texts here a line that begins with `! ` stands for lines of the state.
 from cases import explanations, reaching
 from cases.programs import machines
 from cases.quoting import escaped, quoted
-from model.sessions import Schedule, Session
+from model.schedules import Schedule
+from model.sessions import Session
 from model.words import SPACE
 
 # What `help` answers.

@@ -1,11 +1,11 @@
 """What a query tells of a machine."""
 from ctypes import c_uint8
 
+from model.names import CSRS, NAMES, REGISTERS, SCRS
 from model.words import NULL_HIGH
 
 from .machines import MCAUSE, MTVAL, PAGE, RAM
 from .memory import planes_of
-from .names import CSRS, NAMES, REGISTERS, SCRS
 from .reading import spaced
 
 
