@@ -4,7 +4,7 @@ And the compartments: when the kernel has cleared the registers, nothing of a lo
 import unittest
 from random import Random
 
-import support
+import support  # where tools/ is found
 from cherisim import Machine, Perms, Stop
 
 from cases.policed import CALL, DATA, HALTS, program
@@ -81,7 +81,8 @@ class Lent(unittest.TestCase):
             self.assertEqual(word_of(machine.scrs[name]), tuple(model.special[name]))
         self.assertEqual((machine.csrs["mcause"], machine.csrs["mtval"]), (model.csrs["mcause"], model.csrs["mtval"]))
         self.assertEqual(machine.mem[SPACE.start:SPACE.stop], model.memory.read(SPACE.start, len(SPACE)))
-        self.assertEqual([place for place in machine.tags() if place in SPACE], sorted(place for place in model.memory.tags if place in SPACE))
+        self.assertEqual([place for place in machine.tags() if place in SPACE],
+                         sorted(place for place in model.memory.tags if place in SPACE))
 
     def kept(self, model, begun):
         """Each granule that holds something without Global that it didn't hold lies where a member may keep it."""

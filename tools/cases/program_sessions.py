@@ -7,7 +7,7 @@ from cases.reaching import answered
 from cases.sessions import ECHO_THREE
 from model.devices import RAM
 from model.images import FIRST, file_v2
-from model.listings import table_text, with_names
+from model.listings import with_names
 from model.origins import fields
 from model.schedules import Schedule
 from model.sessions import Session

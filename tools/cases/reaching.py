@@ -5,6 +5,7 @@ A program gives up root: it keeps a PCC for its own code and what else it is abo
 
 from collections import Counter
 
+from cases.conversations import STATE, said
 from model import reach
 from model.capabilities import base, is_unsealed, perms, top
 from model.devices import CONTROL, HALT, RAM, RECEIVE, STATUS, TIMER, TIMER_COMPARE, TRANSMIT
@@ -12,6 +13,7 @@ from model.listings import named_address
 from model.names import CAPABILITY_NAMES, SPECIALS
 from model.origins import fields
 from model.rights import ACCESS_SYSTEM_REGISTERS, ALL, SEAL, SENTRY, STORE, UNSEAL, UNSEALED
+from model.sessions import Session
 from model.texts import Program
 from model.words import ONES, SPACE
 
@@ -368,9 +370,6 @@ REFUSED_OPERANDS += [f"may keep{rest}" for rest in (
     " 0x80000000 -1", " 0x80000000 1 1", " 0x80000000 1 through", " x 1", " -1 1", " 0x10000000000000000 1", " 0 18446744073709551616")]
 REFUSED_NAMES = ["store 0x80000000 1", "send", "reaches", "Reach", "MAY send", "may: send", "members", "dot"]
 
-# The whole state, in which nothing has changed.
-UNCHANGED = "\n> csr\n! csr\n> scr\n! scr 80000000\n> regs\n! regs"
-
 CONVERSATIONS = [(about, program, after(program, *asked)) for about, program, *asked in conversations()]
 CONVERSATIONS += [("Without a capability in RAM; asking changes nothing", "nop", after("nop", 0, [
-    "reach", " reach\\tmembers\\r", "reach  dot", f"may  hold\\t{UNSEALED}", "may execute 0 1"]) + UNCHANGED)]
+    "reach", " reach\\tmembers\\r", "reach  dot", f"may  hold\\t{UNSEALED}", "may execute 0 1"]) + "\n" + said(Session("nop"), STATE))]

@@ -8,7 +8,7 @@ from model.devices import RAM
 from model.faults import FIRST_SPECIAL
 from model.machine import LOADS, OF_BRANCH, STORES, VIEWS, csr_written, view_written
 from model.memory import WORD
-from model.names import CAPABILITY_NAMES, CSR_NAMES, SCR_NAMES, SPECIALS
+from model.names import CAPABILITY_NAMES, CSR_NAMES, SCR_NAMES
 from model.origins import GRANULE, MEPCC, MTCC, NUMBER, PCC, REGISTER, SPECIAL, Event, Making, fields, held, placed
 from model.rights import SENTRY
 from model.rows import text_of

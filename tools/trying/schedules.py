@@ -64,7 +64,7 @@ def schedule(bench, case):
         for gap in GAPS:
             given = Schedule(max(gap, 1), tick, KEYS if gap else b"")
             at_once, one_by_one = Outcome(machine.copy()), Outcome(machine.copy())
-            at_once.scheduled(STEPS, *given)
+            at_once.run_scheduled(STEPS, given)
             singly(one_by_one, given)
             expected = by_model(model.copy(), given)
             for way, outcome in (("at once", at_once), ("one by one", one_by_one)):

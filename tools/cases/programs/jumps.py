@@ -16,7 +16,8 @@ BRANCHES = [
     Table("not taken", BOTH, [[f"{branch}, .+6"] for branch in NOT_TAKEN], [(ONES, "trap; address pcc")]),
     # beq over a word; then PCC has two words, and the same beq is done again
     Table("beq out of PCC", INTEGER, [["beq zero, zero, .+8", "nop", number("t0", ENTRY), "cspecialrw ca0, pcc, cnull",
-                                       "csetaddr ca0, ca0, t0", "csetboundsimm ca0, ca0, 8", "jalr.cap cnull, ca0"]], [([], "trap; mepcc")]),
+                                       "csetaddr ca0, ca0, t0", "csetboundsimm ca0, ca0, 8", "jalr.cap cnull, ca0"]],
+          [([], "trap; mepcc")]),
 ]
 
 # PCC is the 16 bytes from 0x8000_0030 on, where the row stands: 7 words for t0, one for ra, 4 for PCC. t0 is 16 bytes before.

@@ -70,7 +70,8 @@ def first_image():
         yield line(mode, FIRST_IMAGE, f"{SPECIAL}; a0; mstatus")
     yield "# a halted machine meets ticks and bytes alone"
     state = f"registers; {SPECIAL}; mstatus; mie; mscratch; mcause; mtval; mip; mcycle; minstret; ram"
-    yield line(0, FIRST_IMAGE, "steps 5; halted", state, "byte 42; tick; step; halted; sent; waiting; mtime; mtimecmp; overrun; control", state)
+    yield line(0, FIRST_IMAGE, "steps 5; halted", state,
+               "byte 42; tick; step; halted; sent; waiting; mtime; mtimecmp; overrun; control", state)
 
 
 def programs():

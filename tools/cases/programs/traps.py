@@ -36,7 +36,8 @@ RETURNS = [
     Table("interrupts are after it as before", INTEGER, [[*CALL, "@step"]], of_masks("mstatus; mcause; address pcc")),
     Table("a return to 0x80000102", BOTH, [["cspecialrw cnull, mepcc, ca0", "mret"]],
           [([*TO_102, "csealentry ca0, ca0"], "pcc; same mepcc a0"), (TO_102, "pcc; same mepcc a0")]),
-    Table("MRET without Access_System_Registers", BOTH, [[WITHOUT_SYSTEM_ACCESS, "mret"]], [([], "trap; address mepcc; permissions mepcc")]),
+    Table("MRET without Access_System_Registers", BOTH, [[WITHOUT_SYSTEM_ACCESS, "mret"]],
+          [([], "trap; address mepcc; permissions mepcc")]),
 ]
 
 # mtimecmp is 1, control lets bytes interrupt, and MIE and both bits of mie are set.
