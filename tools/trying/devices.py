@@ -4,7 +4,7 @@ from .reading import Left, Words, bytes_of, bytes_text, number
 
 LOADS = {1: "lbu", 2: "lhu", 4: "lwu", 8: "ld"}
 STORES = {1: "sb", 2: "sh", 4: "sw", 8: "sd"}
-INTERRUPTS = 0x344
+XX
 INSTRUCTION = RAM + 64
 REFUSALS = ("V1", "V2")
 
