@@ -64,7 +64,8 @@ class Watch:
         self.status, self.sent, self.told = self.came(made.machine(), read, steps, gap, tick, keys, labels)
         file = FILE if text == FIRST else f"first.img {quoted(image_of(made))}"
         self.words = " ".join([self.COMMAND, "first.img", str(steps), "--policy p", *(["--symbols t"] if named else []), *options.split()])
-        self.files = [file, *([f"t {quoted(table_text(labels))}"] if named else []), f"p {quoted(rules)}", *([f"keys {quoted(keys)}"] if keys else [])]
+        self.files = [file, *([f"t {quoted(table_text(labels))}"] if named else []), f"p {quoted(rules)}",
+                      *([f"keys {quoted(keys)}"] if keys else [])]
         self.opened = ", ".join(["open first.img", *(["open t"] if named else []), "open p", *(["open keys"] if keys else [])])
 
     def came(self, machine, *run):
