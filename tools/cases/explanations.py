@@ -6,12 +6,9 @@ A stage is its first line, the capabilities that it asks, and its conditions up 
 
 from cases.conversations import said
 from model.devices import RAM
-from model.rights import UNSEALED
+from model.rights import UNSEALED, letters
 from model.sessions import Session
 from model.words import SPACE
-
-
-LETTERS = "GXRWcCLsiuSd"
 
 
 def fields(name, tag, address, base, top, perms, flag, otype):
@@ -21,8 +18,7 @@ def fields(name, tag, address, base, top, perms, flag, otype):
 
 def value(name, tag, address, base, top, perms, flag, otype):
     """A register that is asked, with its permissions in letters."""
-    letters = "".join(letter if perms >> bit & 1 else "-" for bit, letter in enumerate(LETTERS))
-    return f"{fields(name, tag, address, base, top, perms, flag, otype)} {letters}"
+    return f"{fields(name, tag, address, base, top, perms, flag, otype)} {letters(perms)}"
 
 
 def root(name, address):

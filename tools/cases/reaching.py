@@ -12,12 +12,11 @@ from model.devices import CONTROL, HALT, RAM, RECEIVE, STATUS, TIMER, TIMER_COMP
 from model.listings import named_address
 from model.names import CAPABILITY_NAMES, SPECIALS
 from model.origins import fields
-from model.rights import ACCESS_SYSTEM_REGISTERS, ALL, SEAL, SENTRY, STORE, UNSEAL, UNSEALED
+from model.rights import ACCESS_SYSTEM_REGISTERS, ALL, SEAL, SENTRY, STORE, UNSEAL, UNSEALED, letters
 from model.sessions import Session
 from model.texts import Program
 from model.words import ONES, SPACE
 
-LETTERS = "GXRWcCLsiuSd"
 ROOTS = [*CAPABILITY_NAMES, "pcc", "ddc"]
 NO, NO_THROUGH_DOORS = "no, until the next trap, unsealing or sealed jump", "no, until the next trap or unsealing"
 HEAD = ["digraph reach {", "  rankdir=LR;", "  node [shape=box, fontname=monospace];", "  registers [shape=plaintext];"]
@@ -25,14 +24,9 @@ HEAD = ["digraph reach {", "  rankdir=LR;", "  node [shape=box, fontname=monospa
 
 # ---- texts
 
-def letters(value):
-    """The hardware permissions, a letter each."""
-    return "".join(letter if perms(value) >> bit & 1 else "-" for bit, letter in enumerate(LETTERS))
-
-
 def text(value):
     """A capability with its permissions in letters, and every field."""
-    return f"{letters(value)} {fields(value)}"
+    return f"{letters(perms(value))} {fields(value)}"
 
 
 def place_name(place, labels=(), doors=()):
@@ -60,7 +54,7 @@ def graph_text(found, labels=()):
     for number, (value, place, source) in enumerate(found):
         dashed = "" if is_unsealed(value) else ", style=dashed"
         start = "registers" if source is None else f"n{source}"
-        lines += [f'  n{number} [label="{letters(value)}\\n{base(value):016x} to {top(value):017x}"{dashed}];',
+        lines += [f'  n{number} [label="{letters(perms(value))}\\n{base(value):016x} to {top(value):017x}"{dashed}];',
                   f'  {start} -> n{number} [label="{place_name(place, labels)}"];']
     return [*HEAD, *lines, "}"]
 
