@@ -13,6 +13,9 @@ from model.names import CSRS, REGISTERS, SCRS
 from model.row_forms import FORM
 from model.rows import PLAIN, made, slots
 
+# What stands before a comment, the statements of that, and a statement's label, name and operands.
+TEXT = r'"(?:\\.|[^"\\])*"'
+CODE, PARTS = re.compile(rf'(?:{TEXT}|[^"#])*'), re.compile(rf'(?:{TEXT}|[^";])+')
 STATEMENT = re.compile(r"(?:([\w.]+):)?\s*([\w.]*)\s*(.*)")
 EXPRESSION = re.compile(r"(-?[\w.]+)(?:([+-])(-?\w+))?")
 # What a row with another name is, with its operands in their places.
@@ -34,10 +37,10 @@ class Grant(NamedTuple):
 
 
 def statements(text):
-    """The labels, names and operands of a text, whose lines may be parted by `; ` too."""
-    for statement in (part for line in text.split("\n") for part in line.partition("#")[0].split("; ")):
+    """The labels, names and operands of a text, whose statements may be parted by `;` too."""
+    for statement in (part for line in text.split("\n") for part in PARTS.findall(CODE.match(line)[0])):
         label, name, rest = STATEMENT.fullmatch(statement.strip()).groups()
-        operands = re.split(r",\s*", rest) if rest else []
+        operands = [rest] if name == ".ascii" else re.split(r"\s*,\s*", rest) if rest else []
         if name in ALIASES or name in ALONE and not rest:
             name, _, rest = (ALIASES.get(name) or ALONE[name]).format(*operands).partition(" ")
             operands = rest.split(", ")
@@ -135,7 +138,7 @@ class Program:
 
 def ascii_of(operands):
     """The bytes of a text in quotes."""
-    return re.sub(r"\\(.)", lambda found: ESCAPED[found[1]], ", ".join(operands)[1:-1]).encode()
+    return re.sub(r"\\(.)", lambda found: ESCAPED[found[1]], operands[0][1:-1]).encode()
 
 
 def machine_of(text, steps=0):
