@@ -33,12 +33,13 @@ def said(session, commands):
                      for line in (typed(command), *session.answer(command).splitlines()))
 
 
-def modelled(about, program, commands, schedule=None, labels=None, kind=Session):
-    """A conversation by the model; on a schedule of a gap, a tick and the bytes of the input, and with a table of names and addresses."""
+def modelled(about, program, commands, schedule=None, labels=None, kind=Session, left=()):
+    """A conversation by the model; on a schedule of a gap, a tick and the bytes of the input, with a table of names and addresses, and with
+    lines that are left unread."""
     session = kind(program, schedule and Schedule(*schedule), labels)
     first = [f"% {schedule[0]} {schedule[1]} {escaped(bytes(schedule[2])) or '-'}"] if schedule else []
     first += [] if labels is None else [" ".join(["&", *(f"{name}={address:x}" for name, address in labels.items())])]
-    return about, program, "\n".join([*first, said(session, commands)])
+    return about, program, "\n".join([*first, said(session, commands), *(f"< {line}" for line in left)])
 
 
 def replies(rows):

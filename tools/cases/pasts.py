@@ -6,6 +6,7 @@ from model.pasts import Past
 
 
 def session(*given, **how):
+    """A conversation by the model of sessions with a past."""
     return modelled(*given, **how, kind=Past)
 
 

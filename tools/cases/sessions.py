@@ -99,7 +99,7 @@ CONVERSATIONS = [
              "typed after `quit` is not answered", FIRST_IMAGE,
              "tick 1; tick 1000000; tick 0xF4240; byte 0; byte -0; byte 255; byte 0xFF; byte 0x00ff; until 0x80000000 1000000; "
              "until 2147483652 0x1; until 0xffffffffffffffff 1; csr; until 18446744073709551615 1; until 0x80000002 1000000; step 1; "
-             "tick 5; byte 0x41; until 0x80000014 1; csr; scr; \rquit\t"),
+             "tick 5; byte 0x41; until 0x80000014 1; csr; scr; \rquit\t", left=("step 1", "frob")),
     modelled("Steps are counted after the halt too, and change nothing there", FIRST_IMAGE, "step 1000000; csr; step 5; csr"),
     modelled("Steps end before the row at the address, and else with the halt", FIRST_IMAGE, "until 0x8000000c 1000000; until 0 1000000"),
     modelled("The last step that may be given reaches the address and halts", FIRST_IMAGE, "until 0x80000014 5"),
@@ -142,8 +142,6 @@ CONVERSATIONS = [
              "cspecialrw ca0, pcc, cnull; addi a1, zero, 1; csetflags ca0, ca0, a1; cincoffsetimm ca0, ca0, 20; jalr.cap cra, ca0; "
              "sb a0, 0(a1)", "dis 0x80000014 1; step 5; dis 0x80000014 1; scr; reg ca0; reg cra"),
 ]
-# What is typed after `quit` is left unread.
-CONVERSATIONS[0] = (*CONVERSATIONS[0][:2], CONVERSATIONS[0][2] + "\n< step 1\n< frob")
 
 # Echoes the bytes that come.
 ECHO = "lui a1, 0x10000; loop: ld a0, 16(a1); beq a0, zero, loop; ld a0, 8(a1); sb a0, 0(a1); j loop"
