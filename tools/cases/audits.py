@@ -5,7 +5,7 @@ What is written is what the model of a machine meets (model/machine.py, cases/wa
 """
 
 from cases.callers import BY_PAIR, BY_SENTRY, LENT, SENTRY, by_caller, calling, rule
-from cases.policed import CALL, FIRST, HALTS, KEEPS, WHOLE, Watch, image_of, inside, program, sealed
+from cases.policed import CALL, FIRST, HALTS, KEEPS, RUNS_OFF, UNTAGGED, WHOLE, Watch, image_of, inside, program, sealed
 from cases.program_lines import BAD, FILE, TRACE, case
 from cases.quoting import quoted
 from cases.watched import GAP, TICK, audited, entered
@@ -77,6 +77,10 @@ def moments():
     later = program(HALTS, ("cs1", "data", 16, STORE), ("cs2", "7", 1, SEAL),
                     then=("cseal cs3, cs1, cs2", "cmove cs2, cnull", "nop", "csd zero, 0(cs11)"))
     yield finds(later, inside("types none", "seal no", "halt no") + "when pc in code..+4 0x8000010c..+4: seal no, types 6\n", 5)
+    yield "# where nothing can be fetched nothing is found"
+    yield finds(RUNS_OFF, "when pc in next..+4: halt no, execute no\n", 0)
+    yield finds(RUNS_OFF, "when pc in next..+4: halt no\nwhen pc in last..+4: halt no, execute no\n", 2)
+    yield finds(UNTAGGED, "when pc in 64..+4: halt no, system no\nwhen pc in entry..+4: system no\n", 1)
     yield "# steps of --times, a byte, ticks"
     audit = Audit(FIRST, "when pc in 0x80000008..+4: timer no\nwhen pc in 0x80000010..+4: halt no\n", 4, named=False)
     audit.words = "audit first.img 2 --times 2 --policy p"

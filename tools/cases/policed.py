@@ -302,6 +302,30 @@ def moves():
     yield stops(narrows, inside("store within data..+63"))
 
 
+def entered_by_trap(then, *held):
+    """A program whose traps lead to `entry`, which stands at the end of `then`; the code's bounds end 128 bytes after its first."""
+    return program(HALTS, ("cs0", "entry", 32, CALL | ACCESS_SYSTEM_REGISTERS), *held,
+                   before=["cspecialrw cnull, mtcc, cs0", "cmove cs0, cnull"], then=(*then, "entry: csd zero, 0(cs11)"))
+
+
+# Code that runs off the end of its bounds, and stands at `next` with its own rights; and a return to what has no tag.
+RUNS_OFF = entered_by_trap(("j last", ".zero 120", "last: nop", "next: csd zero, 0(cs11)"))
+UNTAGGED = program(HALTS, ("cs0", "entry", 32, CALL | ACCESS_SYSTEM_REGISTERS), code=CALL | ACCESS_SYSTEM_REGISTERS,
+                   before=["cspecialrw cnull, mtcc, cs0", "cmove cs0, cnull"],
+                   then=("addi a0, zero, 64", "csrrw zero, mepc, a0", "cspecialrw ct1, mepcc, cnull", "cgettag a1, ct1", "mret",
+                         "entry: csd zero, 0(cs11)"))
+
+
+def unfetched():
+    yield "# where nothing can be fetched no rule applies: past the end of the code's bounds, and by a PCC without a tag"
+    yield goes(RUNS_OFF, "when pc in next..+4: halt no\n")
+    yield goes(RUNS_OFF, "when pc in next..+4: halt no, system no, execute no, store no\nwhen pc in code..+4: load no\n")
+    yield stops(RUNS_OFF, "when pc in next..+4: halt no\nwhen pc in last..+4: halt no\n")
+    yield stops(RUNS_OFF, "when pc in next..+4: halt no\nwhen pc in entry..+4: halt no\n")
+    yield goes(UNTAGGED, "when pc in 64..+4: halt no, system no\n")
+    yield stops(UNTAGGED, "when pc in 64..+4: halt no\nwhen pc in entry..+4: system no\n")
+
+
 # Code that waits for a byte, sends it and goes on at `inner`.
 WAITS = ("cld a0, 16(cs0)", "beq a0, zero, code", "cld a0, 8(cs0)", "csb a0, 0(cs0)", "inner: csd zero, 0(cs11)")
 
@@ -406,6 +430,6 @@ def files_and_words():
 
 def files():
     lines = ["# a command line, files and streams => the status, what is opened and made, sent, told, and what stands in the file made"]
-    for part in (first_image, which, ranges, keeps, devices, system, seals, moves, outside, forms, faulty, files_and_words):
+    for part in (first_image, which, ranges, keeps, devices, system, seals, moves, unfetched, outside, forms, faulty, files_and_words):
         lines += part()
     yield "policies.txt", lines

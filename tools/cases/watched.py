@@ -38,18 +38,18 @@ def run(machine, steps, schedule, look, after=lambda pc, step: None):
 
 
 class Terms:
-    """The terms in force of rules in a run, and the members before its next step, where a rule is about the code or it may be a call."""
+    """The terms in force of rules in a run, and the members before its next step, where a rule applies or it may be a call."""
 
     def __init__(self, machine, rules):
         self.machine, self.rules, self.terms, self.found = machine, rules, rules, []
 
     def is_asked(self):
-        """Whether a rule is about the code; then the members are known."""
-        is_about = any(policy.is_in(rule.code, self.machine.pc) for rule in self.rules)
+        """Whether a rule applies; then the members are known."""
+        applies = any(policy.applies(rule, self.machine.fetched_at()) for rule in self.rules)
         insn = self.machine.next_insn()
         lends = insn and insn.row in CALLS and any(rule.or_caller for rule in self.rules)
-        self.found = reach.members(self.machine.state()) if is_about or lends else []
-        return is_about
+        self.found = reach.members(self.machine.state()) if applies or lends else []
+        return applies
 
     def after(self, pc, step):
         """After a step from an address."""
@@ -58,12 +58,12 @@ class Terms:
 
 
 def met(machine, rules, steps, schedule, labels):
-    """Runs a machine so many steps at most, up to its halt or to a step before which a rule about its code is broken: what is told of that,
+    """Runs a machine so many steps at most, up to its halt or to a step before which a rule that applies is broken: what is told of that,
     or nothing, and how many steps it had."""
     terms = Terms(machine, rules)
 
     def look(done):
-        breach = policy.first_breach(terms.terms, machine.pc, terms.found) if terms.is_asked() else None
+        breach = policy.first_breach(terms.terms, machine.fetched_at(), terms.found) if terms.is_asked() else None
         return breach and policy.stopped(breach, done, named_address(machine.pc, labels), held(terms.found, breach.member, labels))
     return run(machine, steps, schedule, look, terms.after)
 
@@ -73,7 +73,7 @@ def audited(machine, rules, steps, gap=GAP, tick=TICK, keys=b"", labels=()):
     terms, seen, told = Terms(machine, rules), set(), []
 
     def look(done):
-        for breach in policy.breaches(terms.terms, machine.pc, terms.found) if terms.is_asked() else ():
+        for breach in policy.breaches(terms.terms, machine.fetched_at(), terms.found) if terms.is_asked() else ():
             if (breach.rule.line, breach.part) not in seen:
                 seen.add((breach.rule.line, breach.part))
                 told.append(policy.listed(breach, done + 1, machine.pc, held(terms.found, breach.member, labels)))
