@@ -76,7 +76,7 @@ def audited(machine, rules, steps, gap=GAP, tick=TICK, keys=b"", labels=()):
         for breach in policy.breaches(terms.terms, machine.fetched_at(), terms.found) if terms.is_asked() else ():
             if (breach.rule.line, breach.part) not in seen:
                 seen.add((breach.rule.line, breach.part))
-                told.append(policy.listed(breach, done + 1, machine.pc, held(terms.found, breach.member, labels)))
+                told.append(policy.listed(breach, done + 1, named_address(machine.pc, labels), held(terms.found, breach.member, labels)))
     run(machine, steps, Schedule(gap, tick, keys), look, terms.after)
     return 1 if told else 0, "".join(told)
 

@@ -246,8 +246,8 @@ def stopped(breach, steps, pc, held):
 
 
 def listed(breach, step, pc, held):
-    """The lines of an audit about a part that is broken before the step of a number."""
-    return f"step {step}, pcc {pc:016x}\n{told(breach, held)}"
+    """The lines of an audit about a part that is broken before the step of a number, at an address with its label."""
+    return f"step {step}, pcc {pc}\n{told(breach, held)}"
 
 
 def range_text(first, end):
