@@ -26,10 +26,11 @@ from ._faults import (CherisimError, Closed, ImageFault, OutOfMemory, OutOfRange
                       in_range, refusal)
 from ._html import machine_html
 from ._library import NULL_UPPER, SENTRY, UNSEALED, lib
+from ._names import _SHOWN, CSRS, PAGE, RAM, REGISTERS, SCRS
 from ._policy import _ORDER, _PARTS, Breach, Policy, Watched
 from ._reach import Answer, Door, Questions, Reach, ReachMember
 from ._symbols import Symbols, labels_of
-from ._views import (_SHOWN, CSRS, PAGE, RAM, REGISTERS, SCRS, Memory, Registers, SpecialRegisters, StatusRegisters, _value)
+from ._views import Memory, Registers, SpecialRegisters, StatusRegisters, _value
 
 __version__ = "0.1.0"
 __all__ = ["Answer", "Breach", "CSRS", "Cap", "CherisimError", "Closed", "Console", "Door", "ImageFault", "Insn", "Machine", "Memory",

@@ -4,7 +4,7 @@ from __future__ import annotations
 from typing import List, NamedTuple
 
 from . import CSRS, PAGE, RAM, SCRS, Cap, Machine, OutOfRange, Perms
-from ._views import _SHOWN as CAPS
+from ._names import _SHOWN as CAPS
 
 INTEGERS = ("zero ra sp gp tp t0 t1 t2 fp s1 a0 a1 a2 a3 a4 a5 a6 a7 s2 s3 s4 s5 s6 s7 s8 s9 s10 s11 t3 t4 t5 t6").split()
 """The general registers as numbers, by the names that GDB asks for."""

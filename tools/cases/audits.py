@@ -1,19 +1,18 @@
 """Command lines of the program that audit a run: by a policy each part of a rule that is broken, once; without one a rule for each range of
 code that is entered.
 
-What is written is what the model of a machine meets (cases/running.py, cases/watched.py).
+What is written is what the model of a machine meets (model/machine.py, cases/watched.py).
 """
 
 from cases.callers import BY_PAIR, BY_SENTRY, LENT, SENTRY, by_caller, calling, rule
-from cases.encoded import image_of
-from cases.policed import CALL, FIRST, HALTS, KEEPS, WHOLE, Watch, inside, program, sealed
+from cases.policed import CALL, FIRST, HALTS, KEEPS, RUNS_OFF, UNTAGGED, WHOLE, Watch, image_of, inside, program, sealed
 from cases.program_lines import BAD, FILE, TRACE, case
 from cases.quoting import quoted
-from cases.running import Running
 from cases.watched import GAP, TICK, audited, entered
 from model import policy
 from model.devices import TIMER_COMPARE, TRANSMIT
 from model.rights import ACCESS_SYSTEM_REGISTERS, EXECUTE, GREATEST_SEALING_TYPE, LOAD, LOAD_CAPABILITY, SEAL, STORE, STORE_LOCAL, UNSEAL
+from model.texts import Program
 
 
 class Audit(Watch):
@@ -35,9 +34,10 @@ def finds(text, rules, count, *steps, **how):
 
 def enters(text, count, steps=1000, options="", gap=GAP, tick=TICK, keys=b""):
     """An audit without a policy, which lists so many rules."""
-    rules = entered(Running(text), steps, gap, tick, keys)
+    made = Program(text)
+    rules = entered(made.machine(), steps, gap, tick, keys)
     assert rules.count("\n") == count
-    file = FILE if text == FIRST else f"first.img {quoted(image_of(text))}"
+    file = FILE if text == FIRST else f"first.img {quoted(image_of(made))}"
     return case(" ".join(["audit", "first.img", str(steps), *options.split()]), [file, *([f"keys {quoted(keys)}"] if keys else [])], 0,
                 ", ".join(["open first.img", *(["open keys"] if keys else [])]), rules)
 
@@ -77,6 +77,10 @@ def moments():
     later = program(HALTS, ("cs1", "data", 16, STORE), ("cs2", "7", 1, SEAL),
                     then=("cseal cs3, cs1, cs2", "cmove cs2, cnull", "nop", "csd zero, 0(cs11)"))
     yield finds(later, inside("types none", "seal no", "halt no") + "when pc in code..+4 0x8000010c..+4: seal no, types 6\n", 5)
+    yield "# where nothing can be fetched nothing is found"
+    yield finds(RUNS_OFF, "when pc in next..+4: halt no, execute no\n", 0)
+    yield finds(RUNS_OFF, "when pc in next..+4: halt no\nwhen pc in last..+4: halt no, execute no\n", 2)
+    yield finds(UNTAGGED, "when pc in 64..+4: halt no, system no\nwhen pc in entry..+4: system no\n", 1)
     yield "# steps of --times, a byte, ticks"
     audit = Audit(FIRST, "when pc in 0x80000008..+4: timer no\nwhen pc in 0x80000010..+4: halt no\n", 4, named=False)
     audit.words = "audit first.img 2 --times 2 --policy p"

@@ -9,7 +9,7 @@ from cases.quoting import quoted
 from cases.sequences import Numbers
 from cases.words import distinct_words
 from model.bounds import alignment_mask, bounded, by_the_least_exponent
-from model.rights import ALL, GREATEST_SEALING_TYPE, SENTRY, UNSEALED
+from model.rights import ALL, GREATEST_SEALING_TYPE, SENTRY, UNSEALED, letters
 from model.words import NULL_HIGH, ONES, ROOT_HIGH, SPACE, canonical, decoded, exponent_and_mantissas, fields, is_well_formed, kept
 
 # base, length and address of the requests whose numbers are worked out by hand
@@ -36,9 +36,6 @@ WORKED = [
 # lengths at which the granule grows, and the greatest
 LENGTHS = [0, 1, 0xFFF, 0x1000, 0x1001, 0x1FF8, 0x1FF9, 0x2000, 0x2001, 1 << 20, (1 << 20) + 1, 1 << 63, (1 << 63) + 1, ONES - (1 << 55),
            ONES - (1 << 55) + 1, ONES - (1 << 55) + 2, ONES]
-
-# the hardware permissions by their bits from 0 on
-LETTERS = "GXRWcCLsiuSd"
 
 
 def marks(base, low, up, end, first, size):
@@ -134,7 +131,6 @@ def word_text(high, address):
     """What a word means."""
     base, top = decoded(high, address)
     perms, flag, otype = fields(high)
-    letters = "".join(letter if perms >> bit & 1 else "-" for bit, letter in enumerate(LETTERS))
     first, last = window(high, address)
     yield f"logical  {high:016x} {address:016x}"
     yield f"memory   {high ^ NULL_HIGH:016x} {address:016x}"
@@ -142,7 +138,7 @@ def word_text(high, address):
     yield f"address  {address:016x}"
     yield f"bounds   {base:016x} {top:017x}"
     yield f"length   {(top - base) % (2 * SPACE)}"
-    yield f"perms    {perms >> 12 << 15 | perms & 0xFFF:05x} {letters}"
+    yield f"perms    {perms >> 12 << 15 | perms & 0xFFF:05x} {letters(perms)}"
     yield f"otype    {otype:05x} {type_words(otype)}"
     yield f"flag     {flag}"
     yield f"encoding IE {high >> 26 & 1} T {high >> 14 & 0xFFF:03x} B {high & 0x3FFF:04x}, exponent {exponent_and_mantissas(high)[0]}"

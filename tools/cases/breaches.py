@@ -1,10 +1,10 @@
 """The kernel of the compartments under the policy of the example: without a mistake and with each, and compartments that lend what they
-have, also where a rule has `or caller`. What comes of it is what the model of a machine meets (cases/running.py, cases/watched.py)."""
+have, also where a rule has `or caller`. What comes of it is what the model of a machine meets (model/machine.py, cases/watched.py)."""
 
 from cases.quoting import quoted
-from cases.running import Running
 from cases.watched import ran
 from model import policy
+from model.texts import Program
 from trying.kernel import STEPS, kernel_and_pieces
 from trying.policies import policy_of
 from trying.reaching import mistaken
@@ -27,11 +27,12 @@ UNCALLED = [f"data-passed {EXAMPLE} 0 A", "ddc-left a-keep b-look 0 B", f"frame-
 def line(inputs):
     mistake, a, b, tick, *callers = inputs.split()
     kernel, pieces = kernel_and_pieces()
-    machine = Running(mistaken("".join([kernel, *(pieces[name] for name in [*b.split("+"), *a.split("+")])]), mistake))
-    read, fault = policy.read(policy_of(callers), machine.labels)
+    made = Program(mistaken("".join([kernel, *(pieces[name] for name in [*b.split("+"), *a.split("+")])]), mistake))
+    read, fault = policy.read(policy_of(callers), made.labels)
     assert not fault, fault
-    status, told = ran(machine, read, STEPS, tick=int(tick), labels=machine.symbols())
-    return f"{inputs} => {status} {quoted(bytes(machine.sent))} {quoted(told)}"
+    machine = made.machine()
+    status, told = ran(machine, read, STEPS, tick=int(tick), labels=made.symbols())
+    return f"{inputs} => {status} {quoted(bytes(machine.devices.sent))} {quoted(told)}"
 
 
 def lines():

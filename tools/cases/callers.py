@@ -1,7 +1,7 @@
 """Command lines of the program that watch a run by a policy with `or caller`: one piece of code calls another, through a sealed pair or a
 sentry, and lends it what it has.
 
-What is told of a run is what the model of a machine meets (cases/running.py, cases/watched.py).
+What is told of a run is what the model of a machine meets (model/machine.py, cases/watched.py).
 """
 
 from cases.policed import CALL, CODE, DATA, HALTS, TABLE, goes, program, sealed, stops

@@ -3,7 +3,7 @@
 Values are from the rules of the command line, of listings and of the schedule.
 """
 
-from cases.programs.items import csr, halted, integer, line, sent
+from cases.programs.items import line
 from cases.programs.machines import FIRST_IMAGE
 from cases.quoting import quoted
 from model.listings import named, table_text
@@ -295,40 +295,32 @@ def listings():
         yield f"{quoted(CUT)} {quoted(table_text(CUT_LABELS))} {call} => cut 1 {quoted(''.join(pieces[:call]))}"
 
 
-def scheduled(program, steps, gap, tick, keys, *seen):
+def scheduled(program, steps, gap, tick, keys, seen):
     """A run of so many steps, with a byte of the keys each so many steps, and ticks. After the keys the byte that can't be sent."""
-    return line(0, program, [f"scheduled {steps} {gap} {tick} {keys or '-'}", *seen])
-
-
-def verdict(number, text):
-    """A program that halts with a number, and its status and the line of its end."""
-    return line(0, ["lui a1, 0x100", f"addi a0, zero, {number}", "sd a0, 0(a1)"], ["steps 3", ("verdict", text)])
+    return line(0, program, f"scheduled {steps} {gap} {tick} {keys or '-'}", seen)
 
 
 def runs():
     yield "# mode | statements | deeds and queries => answers, as of programs"
     yield "# scheduled: steps, gap, tick, the bytes that come, and the number of the byte that can't be sent"
     yield "# the first image halts with its fifth step"
-    for steps, end, last in ((5, "halted 0", 0), (4, "running", None)):
-        yield scheduled(FIRST_IMAGE, steps, 1000, 100, "", ("end", end), halted(last), sent(b"A"))
+    for steps in (5, 4):
+        yield scheduled(FIRST_IMAGE, steps, 1000, 100, "", "end; halted; sent")
     yield "# an echo; the third byte comes before step 2001"
-    yield scheduled(ECHO, 22, 1, 100, "ABC", ("end", "halted 0"), sent(b"ABC"))
-    yield scheduled(ECHO, 2000, 1000, 0, "ABC", ("end", "running"), sent(b"AB"))
+    yield scheduled(ECHO, 22, 1, 100, "ABC", "end; sent")
+    yield scheduled(ECHO, 2000, 1000, 0, "ABC", "end; sent")
     yield "# of the same echo a byte can't be sent: the run ends after the step that sends it, the sixth of each turn"
-    for count in range(3):
-        yield scheduled(ECHO, 22, 1, 100, f"ABC {count}", ("end", "cut 1"), sent(b"ABC"[:count]), csr("minstret", 6 * (count + 1)),
-                        halted(None))
-    yield scheduled(ECHO, 22, 1, 100, "ABC 3", ("end", "halted 0"), sent(b"ABC"), csr("minstret", 22), halted(0))
+    for count in range(4):
+        yield scheduled(ECHO, 22, 1, 100, f"ABC {count}", "end; sent; minstret; halted")
     yield "# bytes come just before their step, and ticks just after"
-    yield scheduled(WAITING, 4, 3, 0, "AB", integer("a0", 0), integer("a2", 1), ("mtime", "0"))
-    yield scheduled(TIMES, 5, 1, 2, "", integer("a0", 0), integer("a2", 1), integer("a3", 1), integer("a4", 2))
+    yield scheduled(WAITING, 4, 3, 0, "AB", "a0; a2; mtime")
+    yield scheduled(TIMES, 5, 1, 2, "", "a0; a2; a3; a4")
     yield "# after the step that halts no tick comes"
-    yield scheduled(FIRST_IMAGE, 9, 1, 1, "", ("mtime", "4"))
+    yield scheduled(FIRST_IMAGE, 9, 1, 1, "", "mtime")
     yield "# verdicts"
-    yield verdict(0, "0 -")
-    yield verdict(1, "1 cherisim: halted with 1")
-    yield verdict(-1, "1 cherisim: halted with 18446744073709551615")
-    yield line(0, FIRST_IMAGE, ["steps 4", ("verdict", "1 cherisim: not halted")])
+    for number in (0, 1, -1):
+        yield line(0, ["lui a1, 0x100", f"addi a0, zero, {number}", "sd a0, 0(a1)"], "steps 3; verdict")
+    yield line(0, FIRST_IMAGE, "steps 4; verdict")
 
 
 def files():

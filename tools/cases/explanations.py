@@ -4,12 +4,11 @@ privileged manual, mcause), each true or the first that is false, and the step's
 A stage is its first line, the capabilities that it asks, and its conditions up to the first false one.
 """
 
+from cases.conversations import said
 from model.devices import RAM
-from model.rights import UNSEALED
+from model.rights import UNSEALED, letters
+from model.sessions import Session
 from model.words import SPACE
-
-
-LETTERS = "GXRWcCLsiuSd"
 
 
 def fields(name, tag, address, base, top, perms, flag, otype):
@@ -19,8 +18,7 @@ def fields(name, tag, address, base, top, perms, flag, otype):
 
 def value(name, tag, address, base, top, perms, flag, otype):
     """A register that is asked, with its permissions in letters."""
-    letters = "".join(letter if perms >> bit & 1 else "-" for bit, letter in enumerate(LETTERS))
-    return f"{fields(name, tag, address, base, top, perms, flag, otype)} {letters}"
+    return f"{fields(name, tag, address, base, top, perms, flag, otype)} {letters(perms)}"
 
 
 def root(name, address):
@@ -108,7 +106,7 @@ def sealed(name, address, otype):
 
 CONVERSATIONS = [
     ("Why an ordinary sum is done, and what it changes; asking changes nothing", "add a0, a1, a2",
-     step_and_ask(0, begun(RAM, "00c58533 add a0, a1, a2"), f"effect: {written('ca0', 0)}") + "> csr\n! csr"),
+     step_and_ask(0, begun(RAM, "00c58533 add a0, a1, a2"), f"effect: {written('ca0', 0)}") + said(Session("add a0, a1, a2"), "csr")),
     ("Why a load past its authority's bounds traps", BOUNDED + "cincoffsetimm ca0, ca0, 16; ld.cap a2, (ca0)",
      step_and_ask(6, begun(RAM + 24, "fab5065b ld.cap a2, (ca0)"),
                   access("load of 8 bytes", value("ca0", 1, HIGH, LOW, HIGH, 0x78fff, 0, 0x3ffff), "ca0", "load", HIGH, 8, LOW, HIGH, True),

@@ -8,7 +8,7 @@ import os
 import subprocess
 import tempfile
 
-from cases.row_forms import FORM, FORMS
+from model.row_forms import FORM, FORMS
 from model.words import SPACE
 
 AS = "riscv64-linux-gnu-as"

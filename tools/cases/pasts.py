@@ -1,19 +1,13 @@
 """Conversations of the debugger about what came before, with what is answered by the model of recorded runs."""
 
-from cases.past import Past
-from cases.quoting import escaped
-from cases.sessions import conversation, typed
+from cases.conversations import conversation, modelled, typed
 from model.devices import RAM
+from model.pasts import Past
 
 
-def session(about, text, commands, schedule=None, labels=None):
-    """A conversation of commands, which are parted by `; `, with what the model answers; maybe with a table of names and addresses."""
-    past, lines = Past(text, schedule, labels), []
-    for command in commands.split("; "):
-        lines += [typed(command), *past.answer(command).splitlines()]
-    first = [f"% {schedule[0]} {schedule[1]} {escaped(bytes(schedule[2])) or '-'}"] if schedule else []
-    first += [] if labels is None else [" ".join(["&", *(f"{name}={address:x}" for name, address in labels.items())])]
-    return about, text, "\n".join(first + lines)
+def session(*given, **how):
+    """A conversation by the model of sessions with a past."""
+    return modelled(*given, **how, kind=Past)
 
 
 def after(text, commands):

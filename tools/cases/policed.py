@@ -1,18 +1,19 @@
 """Command lines of the program that watch a run by a policy: what breaks each part, what is about the code, what is told, and which texts
 are refused.
 
-What is told of a run is what the model of a machine meets (cases/running.py, cases/watched.py); a text's fault is that of the grammar.
+What is told of a run is what the model of a machine meets (model/machine.py, cases/watched.py); a text's fault is that of the grammar.
 """
 
-from cases.encoded import image_of
-from cases.program_lines import BAD, FILE, TRACE, case, refused, table, with_labels
+from cases.program_lines import BAD, FILE, TRACE, case, refused, table
 from cases.quoting import quoted
-from cases.running import Running
 from cases.watched import GAP, TICK, ran
 from model import policy
 from model.devices import HALT, RAM, TIMER_COMPARE, TRANSMIT
+from model.images import file_v2
+from model.listings import table_text, with_names
 from model.rights import (ACCESS_SYSTEM_REGISTERS, CINVOKE, EXECUTE, GLOBAL, GREATEST_SEALING_TYPE, LOAD, LOAD_CAPABILITY, SEAL, STORE,
                           STORE_CAPABILITY, STORE_LOCAL, UNSEAL)
+from model.texts import Program
 
 # ---- programs
 
@@ -42,8 +43,12 @@ def sealed(name, number):
 
 # ---- a case
 
-def table_of(machine):
-    return "t " + quoted("".join(f"{address:016x} {name}\n" for address, name in machine.symbols()))
+def image_of(program):
+    """The file of the image of a program: its statements as one section, and its capabilities."""
+    code = bytearray(max(program.words) + 4 - RAM)
+    for place, word in program.words.items():
+        code[place - RAM:place - RAM + 4] = word.to_bytes(4, "little")
+    return file_v2(program.pages, RAM, 1, program.grants, [(RAM, bytes(code))])
 
 
 class Watch:
@@ -52,20 +57,21 @@ class Watch:
     COMMAND = "run"
 
     def __init__(self, text, rules, steps=1000, options="", named=True, gap=GAP, tick=TICK, keys=b""):
-        machine = Running(text)
-        labels = machine.symbols() if named else []
+        made = Program(text)
+        labels = made.symbols() if named else []
         read, fault = policy.read(rules, {name: address for address, name in labels})
         assert not fault, fault
-        self.status, self.sent, self.told = self.came(machine, read, steps, gap, tick, keys, labels)
-        file = FILE if text == FIRST else f"first.img {quoted(image_of(text))}"
+        self.status, self.sent, self.told = self.came(made.machine(), read, steps, gap, tick, keys, labels)
+        file = FILE if text == FIRST else f"first.img {quoted(image_of(made))}"
         self.words = " ".join([self.COMMAND, "first.img", str(steps), "--policy p", *(["--symbols t"] if named else []), *options.split()])
-        self.files = [file, *([table_of(machine)] if named else []), f"p {quoted(rules)}", *([f"keys {quoted(keys)}"] if keys else [])]
+        self.files = [file, *([f"t {quoted(table_text(labels))}"] if named else []), f"p {quoted(rules)}",
+                      *([f"keys {quoted(keys)}"] if keys else [])]
         self.opened = ", ".join(["open first.img", *(["open t"] if named else []), "open p", *(["open keys"] if keys else [])])
 
     def came(self, machine, *run):
         """What comes of it: the status, what is sent and what is told."""
         status, told = ran(machine, *run)
-        return status, bytes(machine.sent), told
+        return status, bytes(machine.devices.sent), told
 
     def line(self, told=None, opened="", made=b""):
         """The case; what is told may be less than all of it."""
@@ -127,8 +133,8 @@ def first_image():
     yield "# with a table the addresses of the trace and of where it stopped have labels"
     labels = [(RAM, "start"), (RAM + 12, "halt"), (RAM + 12, "end")]
     yield case("run first.img 9 --policy p --symbols s --trace t", [FILE, table("s", labels), f"p {quoted(last)}"], 1,
-               "open first.img, open s, open p, make t", b"A", with_labels(watch.told, labels),
-               with_labels("".join(TRACE.splitlines(True)[:4]), labels).encode())
+               "open first.img, open s, open p, make t", b"A", with_names(watch.told, labels),
+               with_names("".join(TRACE.splitlines(True)[:4]), labels).encode())
 
 
 def which():
@@ -296,6 +302,30 @@ def moves():
     yield stops(narrows, inside("store within data..+63"))
 
 
+def entered_by_trap(then, *held):
+    """A program whose traps lead to `entry`, which stands at the end of `then`; the code's bounds end 128 bytes after its first."""
+    return program(HALTS, ("cs0", "entry", 32, CALL | ACCESS_SYSTEM_REGISTERS), *held,
+                   before=["cspecialrw cnull, mtcc, cs0", "cmove cs0, cnull"], then=(*then, "entry: csd zero, 0(cs11)"))
+
+
+# Code that runs off the end of its bounds, and stands at `next` with its own rights; and a return to what has no tag.
+RUNS_OFF = entered_by_trap(("j last", ".zero 120", "last: nop", "next: csd zero, 0(cs11)"))
+UNTAGGED = program(HALTS, ("cs0", "entry", 32, CALL | ACCESS_SYSTEM_REGISTERS), code=CALL | ACCESS_SYSTEM_REGISTERS,
+                   before=["cspecialrw cnull, mtcc, cs0", "cmove cs0, cnull"],
+                   then=("addi a0, zero, 64", "csrrw zero, mepc, a0", "cspecialrw ct1, mepcc, cnull", "cgettag a1, ct1", "mret",
+                         "entry: csd zero, 0(cs11)"))
+
+
+def unfetched():
+    yield "# where nothing can be fetched no rule applies: past the end of the code's bounds, and by a PCC without a tag"
+    yield goes(RUNS_OFF, "when pc in next..+4: halt no\n")
+    yield goes(RUNS_OFF, "when pc in next..+4: halt no, system no, execute no, store no\nwhen pc in code..+4: load no\n")
+    yield stops(RUNS_OFF, "when pc in next..+4: halt no\nwhen pc in last..+4: halt no\n")
+    yield stops(RUNS_OFF, "when pc in next..+4: halt no\nwhen pc in entry..+4: halt no\n")
+    yield goes(UNTAGGED, "when pc in 64..+4: halt no, system no\n")
+    yield stops(UNTAGGED, "when pc in 64..+4: halt no\nwhen pc in entry..+4: system no\n")
+
+
 # Code that waits for a byte, sends it and goes on at `inner`.
 WAITS = ("cld a0, 16(cs0)", "beq a0, zero, code", "cld a0, 8(cs0)", "csb a0, 0(cs0)", "inner: csd zero, 0(cs11)")
 
@@ -400,6 +430,6 @@ def files_and_words():
 
 def files():
     lines = ["# a command line, files and streams => the status, what is opened and made, sent, told, and what stands in the file made"]
-    for part in (first_image, which, ranges, keeps, devices, system, seals, moves, outside, forms, faulty, files_and_words):
+    for part in (first_image, which, ranges, keeps, devices, system, seals, moves, unfetched, outside, forms, faulty, files_and_words):
         lines += part()
     yield "policies.txt", lines

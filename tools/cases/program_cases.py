@@ -6,7 +6,7 @@ The statuses, the order of faults and the texts are those of the program's descr
 import re
 
 from cases.bounds_texts import length_text, text as bounds_text, word_text
-from cases.program_lines import BAD, FILE, LISTED, REPLY, TEXT, case, image, joined, refused
+from cases.program_lines import BAD, FILE, LISTED, REPLY, TEXT, case, file_of, joined, refused
 from cases.program_runs import ended_otherwise, ends, labelled_runs, not_begun, runs_without_table, traces
 from cases.program_sessions import debugged, reached, replayed, tables_refused
 from cases.quoting import quoted
@@ -175,7 +175,7 @@ def named():
                "000000008000000c: b7\nfault B2\n")
     yield "# in whichever order a table stands, a place is that of the nearest address below, and of an address' names the first; all of"
     yield "# them stand before the word there"
-    jumps = f"jumps.img {quoted(image(0x00c0006f, 0x13, 0x13, 0xffdff06f))}"
+    jumps = file_of("jumps.img", "j .+12; nop; nop; j .-4")
     unsorted = 't "0000000080000008 b\\n0000000080000000 a\\n0000000080000008 c\\n0000000080000010 d\\n0000000080000000 e\\n"'
     yield case("dis jumps.img --symbols t", [jumps, unsorted], 0, "open jumps.img, open t",
                "a:\ne:\n0000000080000000 00c0006f jal zero, .+12 <b+4>\n0000000080000004 00000013 addi zero, zero, 0\n"

@@ -1,15 +1,17 @@
 """Sessions by the program: commands with labels, schedules, tables that are refused, and what code can reach."""
 
 from cases.explanations import access, begun, reply, root, written
-from cases.program_lines import A0, A2, BAD, ECHO, FILE, addi, case, image, immediate, integer, refused, with_labels
+from cases.program_lines import BAD, FILE, case, file_of, integer, refused
 from cases.quoting import quoted
 from cases.reaching import answered
 from cases.sessions import ECHO_THREE
-from cases.straight import Straight
 from model.devices import RAM
 from model.images import FIRST, file_v2
+from model.listings import with_names
 from model.origins import fields
-from model.sessions import Schedule, Session
+from model.schedules import Schedule
+from model.sessions import Session
+from model.texts import Program, machine_of
 from model.words import NULL_HIGH, SPACE
 
 
@@ -28,10 +30,10 @@ def labelled(session):
     store = reply(begun(RAM + 8, "00a58023 sb a0, 0(a1)"),
                   access("store of 1 byte", root("ddc", 0), "ddc", "store", 0x10000000, 1, 0, SPACE, True),
                   "effect: device store 1 byte at 0000000010000000: 41")
-    yield session("why\nstep 2\nwhy\nback 1\ntrap 3", with_labels(
+    yield session("why\nstep 2\nwhy\nback 1\ntrap 3", with_names(
         f"{first}\nevents 2 out - pc 0000000080000008 running\n{store}\nevents -1 out - pc 0000000080000004 running\n"
         "events 3 out 41 pc 0000000080000010 running\n", labels), names)
-    yield session("dis 0x80000000 5", with_labels(
+    yield session("dis 0x80000000 5", with_names(
         "".join(f"{RAM + 4 * at:016x} {line}\n" for at, line in enumerate((
             "100005b7 lui a1, 0x10000", "04100513 addi a0, zero, 65", "00a58023 sb a0, 0(a1)", "001005b7 lui a1, 0x100",
             "0005b023 sd zero, 0(a1)"))), labels), names)
@@ -83,7 +85,7 @@ def debugged(table):
 
 def replayed():
     """Sessions on a schedule: what isn't given is as of `run`."""
-    echo = f"echo.img {quoted(image(*ECHO))}"
+    echo = file_of("echo.img", ECHO_THREE)
 
     def session(words, typed, gap, tick, keys):
         model = Session(ECHO_THREE, Schedule(gap, tick, keys))
@@ -130,11 +132,8 @@ def tables_refused(table):
 
 
 # Gives up root but for a capability, in ca0 and PCC, that loads all; then capabilities in RAM of two pages, by their places.
-GIVES_UP = {
-    "cspecialrw ca0, pcc, cnull": immediate(0x20, 0, 0, A0, 0x5B), "addi a2, zero, 23": addi(A2, 0, 23),
-    "candperm ca0, ca0, a2": immediate(0x1A0 | A2, A0, 0, A0, 0x5B), "cincoffsetimm ca0, ca0, 24": immediate(24, A0, 1, A0, 0x5B),
-    "cspecialrw cnull, ddc, ca7": immediate(0x21, 17, 0, 0, 0x5B), "jalr.cap cnull, ca0": immediate(0xFEC, A0, 0, 0, 0x5B),
-}
+GIVES_UP = ("cspecialrw ca0, pcc, cnull; addi a2, zero, 23; candperm ca0, ca0, a2; cincoffsetimm ca0, ca0, 24; "
+            "cspecialrw cnull, ddc, ca7; jalr.cap cnull, ca0")
 GRANTS = [(RAM + 0xF0, 0x10000000, 1, 0x8, 0), (RAM + 0x100, RAM, 16, 0x5, 0), (RAM + 0x110, RAM, 0x120, 0xFBFF, 1),
           (RAM + 0x1100, 0x100000, 8, 0x9, 0), (RAM + 0x1110, 0, 0, 0, 0)]
 # Labels: two of one address, of which the first counts; none within 4096 bytes of the last place, and then one there.
@@ -144,17 +143,17 @@ MORE_LABELS = [*LABELS, (RAM + 0x1100, "first")]
 
 def reached():
     """Sessions that ask what is reachable, with labels."""
-    code = b"".join(word.to_bytes(4, "little") for word in GIVES_UP.values())
-    file = f"caps.img {quoted(file_v2(2, RAM, 0, GRANTS, [(RAM, code)]))}"
+    code = b"".join(word.to_bytes(4, "little") for word in Program(GIVES_UP).words.values())
+    caps = f"caps.img {quoted(file_v2(2, RAM, 0, GRANTS, [(RAM, code)]))}"
     held = [f".org {place:#x}; .cap {start:#x}, {length}, {perms:#x}, {flag}" for place, start, length, perms, flag in GRANTS]
-    program = "; ".join([".pages 2", *GIVES_UP, *held])
+    program = "; ".join([".pages 2", GIVES_UP, *held])
 
     def asked(labels, typed, answer):
         table = "t " + quoted("".join(f"{address:016x} {name}\n" for address, name in labels))
-        return case("debug caps.img --symbols t", [file, table, f"input {quoted(typed)}"], 0, "open caps.img, open t", answer)
+        return case("debug caps.img --symbols t", [caps, table, f"input {quoted(typed)}"], 0, "open caps.img, open t", answer)
 
     def session(labels, *lines, steps=6):
-        machine = Straight(program).steps(steps)
+        machine = machine_of(program, steps)
         done = f"events {steps} out - pc {RAM + 4 * steps:016x} running\n" if steps else ""
         answer = "".join(f"{line}\n" for typed in lines for line in answered(machine, typed, labels))
         return asked(labels, (f"step {steps}\n" if steps else "") + "\n".join(lines), done + answer)

@@ -5,33 +5,28 @@ A program gives up root: it keeps a PCC for its own code and what else it is abo
 
 from collections import Counter
 
-from cases.straight import Straight
+from cases.conversations import STATE, said
 from model import reach
-from model.capabilities import base, flag, is_unsealed, otype, perms, top
+from model.capabilities import base, is_unsealed, perms, top
 from model.devices import CONTROL, HALT, RAM, RECEIVE, STATUS, TIMER, TIMER_COMPARE, TRANSMIT
-from model.rights import ACCESS_SYSTEM_REGISTERS, ALL, SEAL, SENTRY, STORE, UNSEAL, UNSEALED
+from model.listings import named_address
+from model.names import CAPABILITY_NAMES, SPECIALS
+from model.origins import fields
+from model.rights import ACCESS_SYSTEM_REGISTERS, ALL, SEAL, SENTRY, STORE, UNSEAL, UNSEALED, letters
+from model.sessions import Session
+from model.texts import Program
 from model.words import ONES, SPACE
-from trying.names import CAPABILITY_NAMES
 
-LETTERS = "GXRWcCLsiuSd"
 ROOTS = [*CAPABILITY_NAMES, "pcc", "ddc"]
-SPECIALS = ["mtcc", "mtdc", "mscratchc", "mepcc"]
 NO, NO_THROUGH_DOORS = "no, until the next trap, unsealing or sealed jump", "no, until the next trap or unsealing"
 HEAD = ["digraph reach {", "  rankdir=LR;", "  node [shape=box, fontname=monospace];", "  registers [shape=plaintext];"]
 
 
 # ---- texts
 
-def letters(value):
-    """The hardware permissions, a letter each."""
-    return "".join(letter if perms(value) >> bit & 1 else "-" for bit, letter in enumerate(LETTERS))
-
-
 def text(value):
     """A capability with its permissions in letters, and every field."""
-    view = perms(value) & 0xFFF | perms(value) >> 12 << 15
-    return (f"{letters(value)} v:{value[2]:d} a:{value[1]:016x} b:{base(value):016x} t:{top(value):017x} p:{view:05x} f:{flag(value)} "
-            f"o:{otype(value):05x}")
+    return f"{letters(perms(value))} {fields(value)}"
 
 
 def place_name(place, labels=(), doors=()):
@@ -42,18 +37,7 @@ def place_name(place, labels=(), doors=()):
         return f"behind {place_name(doors[n], labels)}"
     if kind != reach.GRANULE:
         return {reach.ROOT: ROOTS, reach.SPECIAL: SPECIALS}[kind][n]
-    return labelled(n, labels)
-
-
-def labelled(n, labels):
-    """An address with the label at it or fewer than 4096 bytes below it."""
-    below = [(address, name) for address, name in labels if address <= n]
-    # of several names of one address the first counts
-    nearest = max(below, key=lambda label: label[0], default=None)
-    if nearest is None or n - nearest[0] >= 4096:
-        return f"{n:016x}"
-    distance = n - nearest[0]
-    return f"{n:016x} <{nearest[1]}" + (f"+{distance}>" if distance else ">")
+    return named_address(n, labels)
 
 
 def member_text(number, member, labels=()):
@@ -70,7 +54,7 @@ def graph_text(found, labels=()):
     for number, (value, place, source) in enumerate(found):
         dashed = "" if is_unsealed(value) else ", style=dashed"
         start = "registers" if source is None else f"n{source}"
-        lines += [f'  n{number} [label="{letters(value)}\\n{base(value):016x} to {top(value):017x}"{dashed}];',
+        lines += [f'  n{number} [label="{letters(perms(value))}\\n{base(value):016x} to {top(value):017x}"{dashed}];',
                   f'  {start} -> n{number} [label="{place_name(place, labels)}"];']
     return [*HEAD, *lines, "}"]
 
@@ -112,8 +96,8 @@ def answered(machine, line, labels=()):
     """What a line of these commands is answered with."""
     words = " ".join(line.replace("\\t", " ").replace("\\r", " ").split())
     if words in VIEWS:
-        return VIEWS[words](machine.members(), labels)
-    found, doors = machine.through_doors()
+        return VIEWS[words](reach.members(machine.state()), labels)
+    found, doors = reach.through_doors(machine.state())
     if words == "reach doors":
         return summary(found, labels, COUNTED)
     asked = words.removesuffix(" through doors")
@@ -123,16 +107,17 @@ def answered(machine, line, labels=()):
     if question == "keep" and not numbers:
         numbers = [0, ONES]
     if asked == words:
-        return answer_text(machine.members(), question, numbers, labels)
+        return answer_text(reach.members(machine.state()), question, numbers, labels)
     return answer_text(found, question, numbers, labels, doors, NO_THROUGH_DOORS)
 
 
 def after(program, steps, lines, *more):
     """A conversation's text: so many steps, and these lines with their answers; and then the same with more steps and lines."""
-    machine, text = Straight(program), []
+    machine, text = Program(program).machine(), []
     for count, asked in zip((steps, *more[::2]), (lines, *more[1::2])):
-        machine.steps(count)
-        text += [f"> step {count}", f"events {count} out - pc {machine.special['pcc'][1]:016x} running"] if count else []
+        for _ in range(count):
+            machine.step()
+        text += [f"> step {count}", f"events {count} out - pc {machine.pc:016x} running"] if count else []
         text += [part for line in asked for part in (f"> {line}", *answered(machine, line))]
     return "\n".join(text)
 
@@ -379,9 +364,6 @@ REFUSED_OPERANDS += [f"may keep{rest}" for rest in (
     " 0x80000000 -1", " 0x80000000 1 1", " 0x80000000 1 through", " x 1", " -1 1", " 0x10000000000000000 1", " 0 18446744073709551616")]
 REFUSED_NAMES = ["store 0x80000000 1", "send", "reaches", "Reach", "MAY send", "may: send", "members", "dot"]
 
-# The whole state, in which nothing has changed.
-UNCHANGED = "\n> csr\n! csr\n> scr\n! scr 80000000\n> regs\n! regs"
-
 CONVERSATIONS = [(about, program, after(program, *asked)) for about, program, *asked in conversations()]
 CONVERSATIONS += [("Without a capability in RAM; asking changes nothing", "nop", after("nop", 0, [
-    "reach", " reach\\tmembers\\r", "reach  dot", f"may  hold\\t{UNSEALED}", "may execute 0 1"]) + UNCHANGED)]
+    "reach", " reach\\tmembers\\r", "reach  dot", f"may  hold\\t{UNSEALED}", "may execute 0 1"]) + "\n" + said(Session("nop"), STATE))]

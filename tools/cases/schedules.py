@@ -1,5 +1,5 @@
-"""Programs for runs on a grid of schedules, drawn with a fixed seed: what is compared is the machine with itself, steps done many at once
-with the same events one at a time, so a case needs no other expected value than `same`.
+"""Programs for runs on a grid of schedules, drawn with a fixed seed: steps done many at once and the same events one at a time are compared
+with the model machine when a case is tried, so a case needs no other expected value than `same`.
 
 Each program sets up a handler of traps, which skips the instruction that faulted, puts the timer off, and takes the byte that waits; then
 come arithmetic, loads and stores (some misaligned or outside RAM), branches, system registers, devices, capabilities, faults, and stores
@@ -8,7 +8,7 @@ instructions is another's.
 """
 import random
 
-HEAD = "# mode | statements => same, or the schedule on which steps done many at once differ from single events, and how"
+HEAD = "# mode | statements => same, or the schedule on which steps done many at once or single events differ from the model, and how"
 
 SEED = 20261123
 PROGRAMS = 200

@@ -22,8 +22,9 @@ import tempfile
 
 sys.path.insert(0, os.path.join(os.path.dirname(os.path.abspath(__file__)), ".."))
 from cases import isa_vectors
-from cases.row_forms import FORM
-from cases.row_texts import CSRS, FIELDS, HOLDS, shown, slots, with_operands
+from model.row_forms import FORM
+from model.names import CSR_NAMES as CSRS
+from model.rows import FIELDS, HOLDS, shown, slots, with_operands
 from model.integers import s as signed
 from model.words import SPACE
 

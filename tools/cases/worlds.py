@@ -1,13 +1,14 @@
-"""Two worlds: one program in two images, that differ where it may not look, and in what it then may. Values are the architecture's, worked
-out by hand: bounds and permissions decide what is reachable, and the faults are those of the first check that fails.
+"""Two worlds: one program in two images, that differ where it may not look, and in what it then may. What is told of both is what the model
+machine tells: bounds and permissions decide what is reachable, and the faults are those of the first check that fails.
 
 Each program narrows PCC and DDC, jumps to code that nobody trusts, and runs it as a stretch. That code has PCC without system access over
 64 bytes from CODE on, DDC and a0 over bytes from SHARED on, and a1 over the transmit register.
 """
 
 from cases.programs.items import BOTH, ENTRY
-from model.faults import ACCESS, CHERI, LENGTH
-from model.rights import ACCESS_SYSTEM_REGISTERS, EXECUTE, LOAD_CAPABILITY, UNSEALED
+from model.deeds import OfModel
+from model.rights import ACCESS_SYSTEM_REGISTERS, EXECUTE, LOAD_CAPABILITY
+from model.texts import machine_of
 
 HEAD = ("# mode | statements | what the first world has after them | what the second has | events and queries => answers, both where they "
         "differ")
@@ -15,9 +16,6 @@ HEAD = ("# mode | statements | what the first world has after them | what the se
 CODE = ENTRY + 0x100
 SHARED = ENTRY + 0x200
 PRELUDE = ENTRY + 0x240
-
-# The register of a fault at the first load or store, by mode: DDC, or a0.
-THROUGH = {0: 33, 1: 10}
 
 # Loads a byte that is shared, sends it, loads eight more, and then the byte past DDC's bounds.
 LOADS = ["lbu a2, 0(a0)", "sb.cap a2, (ca1)", "ld a3, 8(a0)", "lbu a4, 16(a0)"]
@@ -55,48 +53,38 @@ def entered(statements):
 
 
 def line(mode, program, one, two, deeds):
-    """The case of a program and two worlds; a deed is an event or a run, or a query with its answer."""
-    queries = "; ".join(deed if isinstance(deed, str) else deed[0] for deed in deeds)
-    answers = "; ".join(deed[1] for deed in deeds if not isinstance(deed, str))
+    """The case of a program and two worlds, and of events, runs and queries."""
+    told = [OfModel(machine_of("; ".join([f".mode {mode}", *program, *more]))).answers(deeds.split("; ")) for more in (one, two)]
+    assert len(told[0]) == len(told[1])
+    answers = [first if first == second else f"{first} / {second}" for first, second in zip(*told)]
     worlds = " | ".join("; ".join(statements) for statements in (program, one, two))
-    return f"{mode} | {worlds} | {queries} => {answers}"
-
-
-def trapped(mode):
-    """mcause and mtval after a load beyond the authority's bounds."""
-    return f"{CHERI:x} {THROUGH[mode] << 5 | LENGTH:x}"
+    return f"{mode} | {worlds} | {deeds} => {'; '.join(answers)}"
 
 
 def hidden_memory():
     yield "# RAM that no reachable capability covers differs: the bytes past DDC's bounds, and a place far from them"
+    after = "sent; ends; a2; a3; address pcc; step; trap; mcycle"
     for mode in BOTH:
         one, two = (shared(".dword 0x42", ".dword 0x1122334455667788", f".dword 0x5ec4e70{n}", f".org {SHARED + 0x100:#x}", f".dword {n}")
                     for n in (1, 2))
-        yield line(mode, narrowed() + code(LOADS), one, two, [
-            "steps 23", (f"word {SHARED + 16:x}", "5ec4e701 / 5ec4e702"), (f"word {SHARED + 0x100:x}", "1 / 2"),
-            ("stretch ssssss", "3 trap"), ("sent", "42"), ("ends", "trap"), ("a2", "42"), ("a3", "1122334455667788"),
-            ("address pcc", f"{CODE + 12:x}"), "step", ("trap", trapped(mode)), ("mcycle", f"{23 + 3 + 1:x}")])
+        yield line(mode, narrowed() + code(LOADS), one, two,
+                   f"steps 23; word {SHARED + 16:x}; word {SHARED + 0x100:x}; stretch ssssss; {after}")
     yield "# the same where DDC's bounds end inside a granule"
     loads = ["lbu a2, 0(a0)", "sb.cap a2, (ca1)", "lbu a3, 8(a0)", "lhu a4, 8(a0)"]
     for mode in BOTH:
         one, two = (shared(".dword 0x42", ".byte 7", f".byte {n}", f".byte {n}") for n in (1, 2))
-        yield line(mode, narrowed(length=9) + code(loads), one, two, [
-            "steps 23", (f"word {SHARED + 8:x}", "10107 / 20207"), ("stretch ssssss", "3 trap"), ("sent", "42"), ("ends", "trap"),
-            ("a2", "42"), ("a3", "7"), ("address pcc", f"{CODE + 12:x}"), "step", ("trap", trapped(mode)), ("mcycle", f"{23 + 3 + 1:x}")])
+        yield line(mode, narrowed(length=9) + code(loads), one, two, f"steps 23; word {SHARED + 8:x}; stretch ssssss; {after}")
 
 
 def hidden_tag():
     yield "# a granule's tag differs, and its authority has no Load_Capability"
     loads = ["lc ca2, 0(a0)", "cgettag a3, ca2", "sb.cap a3, (ca1)", "ebreak"]
-    root = "0000000000000000 000000000000ffff"
     for mode in BOTH:
         program = entered(narrowed(data=ACCESS_SYSTEM_REGISTERS | EXECUTE | LOAD_CAPABILITY)) + code(loads)
         one, two = (prelude(["cspecialrw ct3, ddc, cnull", f"{row} ct3, ct3", "addi t2, zero, 1", "slli t2, t2, 31",
                              f"addi t2, t2, {SHARED - ENTRY:#x}", "sc.ddc ct3, (t2)", "addi t3, zero, 0", "addi t2, zero, 0"])
                     for row in ("cmove", "ccleartag"))
-        yield line(mode, program, one, two, [
-            "steps 32", (f"granule {SHARED:x}", f"{root} 1 / {root} 0"), ("stretch ssss", "3 trap"), ("sent", "00"), ("ends", "trap"),
-            ("fields a2", f"0 {UNSEALED:x} 0"), ("a3", "0"), ("address pcc", f"{CODE + 12:x}")])
+        yield line(mode, program, one, two, f"steps 32; granule {SHARED:x}; stretch ssss; sent; ends; fields a2; a3; address pcc")
 
 
 def other_mtcc(place):
@@ -108,30 +96,26 @@ def other_mtcc(place):
 
 # The worlds in which MTCC alone differs, after 31 steps, and what shows it.
 MTCC = (other_mtcc(0x100), other_mtcc(0x204))
-SEEN = [(f"word {PRELUDE:x}", "0"), ("address mtcc", "100 / 204")]
+SEEN = f"steps 31; word {PRELUDE:x}; address mtcc"
 
 
 def hidden_register():
     yield "# MTCC alone differs, and nothing reachable opens it: so do PCC after the trap that ends the stretch, and nothing before"
     for mode in BOTH:
-        yield line(mode, entered(narrowed()) + code(LOADS), *MTCC, [
-            "steps 31", *SEEN, ("stretch stsbssss", "5 trap"), ("sent", "42"), ("ends", "trap"), ("address pcc", f"{CODE + 12:x}"),
-            ("a2", "42"), ("a3", "11"), ("waiting", "41"), ("mtime", "1"), "step", ("address pcc", "100 / 204"), ("mcause", f"{CHERI:x}"),
-            ("mtval", f"{THROUGH[mode] << 5 | LENGTH:x}"), ("address mepcc", f"{CODE + 12:x}"), ("mcycle", f"{31 + 3 + 1:x}")])
+        yield line(mode, entered(narrowed()) + code(LOADS), *MTCC,
+                   f"{SEEN}; stretch stsbssss; sent; ends; address pcc; a2; a3; waiting; mtime; step; address pcc; mcause; mtval; "
+                   "address mepcc; mcycle")
     yield "# a read of MTCC without access traps in both"
     for mode in BOTH:
-        yield line(mode, entered(narrowed()) + code(["cspecialrw ca2, mtcc, cnull"]), *MTCC, [
-            "steps 31", *SEEN, ("stretch ss", "0 trap"), ("ends", "trap"), ("fields a2", f"0 {UNSEALED:x} 0"), "step",
-            ("mcause", f"{CHERI:x}"), ("mtval", f"{(32 + 28) << 5 | ACCESS:x}"), ("address pcc", "100 / 204")])
+        yield line(mode, entered(narrowed()) + code(["cspecialrw ca2, mtcc, cnull"]), *MTCC,
+                   f"{SEEN}; stretch ss; ends; fields a2; step; mcause; mtval; address pcc")
 
 
 def reachable():
     yield "# what is reachable is seen: MTCC by code with system access, and a byte in DDC's bounds"
     for mode in BOTH:
-        yield line(mode, entered(narrowed(code=0)) + code(["cspecialrw ca2, mtcc, cnull"]), *MTCC,
-                   ["steps 31", ("stretch s", "1 none"), ("address a2", "100 / 204")])
-        yield line(mode, narrowed() + code(LOADS), shared(".dword 0x42"), shared(".dword 0x43"),
-                   ["steps 23", ("stretch ssssss", "3 trap"), ("sent", "42 / 43"), ("a2", "42 / 43"), ("a3", "0")])
+        yield line(mode, entered(narrowed(code=0)) + code(["cspecialrw ca2, mtcc, cnull"]), *MTCC, "steps 31; stretch s; address a2")
+        yield line(mode, narrowed() + code(LOADS), shared(".dword 0x42"), shared(".dword 0x43"), "steps 23; stretch ssssss; sent; a2; a3")
 
 
 def lines():

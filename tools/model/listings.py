@@ -1,4 +1,5 @@
-"""A model of listings with names: which lines stand before a row, and what stands after one that is a branch or jal."""
+"""A model of texts with names: what stands after an address, which lines stand before a row of a listing, and what stands after one that
+is a branch or jal. A table is pairs of an address and a name, in their order."""
 import re
 
 # How near below an address a label is that names it.
@@ -13,6 +14,16 @@ def name_of(address, table):
     place = max(places)
     name = next(name for other, name in table if other == place)
     return f" <{name}>" if place == address else f" <{name}+{address - place}>"
+
+
+def named_address(address, table):
+    """An address with its name."""
+    return f"{address:016x}{name_of(address, table)}"
+
+
+def with_names(text, table, mark=r"(?<!:)\b([0-9a-f]{16})\b"):
+    """A text with names after its addresses: all that stand alone, or those with a mark."""
+    return re.sub(mark, lambda found: named_address(int(found[1], 16), table), text)
 
 
 def named(rows, table):

@@ -8,12 +8,12 @@ number. Ticks and bytes write nothing. In lines LABEL stands after each address 
 from typing import NamedTuple, Optional
 
 from model.capabilities import base, flag, has, in_bounds, is_unsealed, otype, perms, set_bounds, top
+from model.names import CAPABILITY_NAMES, SPECIALS
 from model.reach import State
 from model.rights import EXECUTE, GREATEST_SEALING_TYPE, LOAD_CAPABILITY, SEAL, SENTRY, UNSEAL
 from model.words import SPACE, decoded
 
 REGISTER, SPECIAL, GRANULE = "register", "special", "granule"
-SPECIALS = ("mtcc", "mtdc", "mscratchc", "mepcc")
 PCC, DDC, MTCC, MEPCC = ((SPECIAL, name) for name in ("pcc", "ddc", "mtcc", "mepcc"))
 
 
@@ -48,10 +48,6 @@ def held(state, place):
 
 # ---- texts
 
-NAMES = ["cnull", *("c" + name for name in ("ra sp gp tp t0 t1 t2 s0 s1 a0 a1 a2 a3 a4 a5 a6 a7 s2 s3 s4 s5 s6 s7 s8 s9 s10 s11 "
-                                            "t3 t4 t5 t6").split())]
-
-
 LABEL = "\0"
 
 
@@ -62,7 +58,7 @@ def placed(address):
 
 def name_of(place):
     kind, n = place
-    return NAMES[n] if kind == REGISTER else placed(n) if kind == GRANULE else n
+    return CAPABILITY_NAMES[n] if kind == REGISTER else placed(n) if kind == GRANULE else n
 
 
 def fields(value):

@@ -1,7 +1,8 @@
 """Policies: rules for the code in some ranges as texts, what breaks one, what a run says that stops there, and what an audit says.
 
-A line is a definition, `NAME = RANGES`, or a rule, `when pc in RANGES: PART, ..`; `#` begins a comment. A rule holds of a state if no
-capability that is reachable in it breaks a part of the rule. By the part `or caller` its code may also do what its last caller could.
+A line is a definition, `NAME = RANGES`, or a rule, `when pc in RANGES: PART, ..`; `#` begins a comment. A rule applies to a state where
+an instruction can be fetched from its code, and holds of it if no capability that is reachable in it breaks a part of the rule. By the
+part `or caller` its code may also do what its last caller could.
 """
 
 import re
@@ -209,16 +210,21 @@ def terms_after(rules, terms, before, after, found):
 
 # ---- breaches
 
-def breaches(rules, pc, found):
-    """Of the members of a state each part of each rule about its code that one breaks, and the first that does."""
+def applies(rule, at):
+    """Whether a rule applies to what is fetched from an address, if anything is."""
+    return at is not None and is_in(rule.code, at)
+
+
+def breaches(rules, at, found):
+    """Of the members of a state each part of each rule that applies and that one breaks, and the first that does."""
     return [Breach(rule, next(member for member, (value, *_) in enumerate(found) if breaks(value, name, rule.allowed[name])), name)
-            for rule in rules if is_in(rule.code, pc) for name in PARTS
+            for rule in rules if applies(rule, at) for name in PARTS
             if name in rule.allowed and any(breaks(value, name, rule.allowed[name]) for value, *_ in found)]
 
 
-def first_breach(rules, pc, found) -> Optional[Breach]:
-    """Of the members of a state the first rule about its code that one breaks, the first that does, and the first part that it breaks."""
-    return next((Breach(rule, member, name) for rule in rules if is_in(rule.code, pc) for member, (value, *_) in enumerate(found)
+def first_breach(rules, at, found) -> Optional[Breach]:
+    """Of the members of a state the first rule that applies and that one breaks, the first that does, and the first part that it breaks."""
+    return next((Breach(rule, member, name) for rule in rules if applies(rule, at) for member, (value, *_) in enumerate(found)
                  for name in PARTS if name in rule.allowed and breaks(value, name, rule.allowed[name])), None)
 
 
@@ -240,8 +246,8 @@ def stopped(breach, steps, pc, held):
 
 
 def listed(breach, step, pc, held):
-    """The lines of an audit about a part that is broken before the step of a number."""
-    return f"step {step}, pcc {pc:016x}\n{told(breach, held)}"
+    """The lines of an audit about a part that is broken before the step of a number, at an address with its label."""
+    return f"step {step}, pcc {pc}\n{told(breach, held)}"
 
 
 def range_text(first, end):

@@ -7,6 +7,8 @@ the definitions of cap_bounds, which go by windows.
 A word is its high half and its address; in memory it is exclusive-ored with the word of null.
 """
 
+from functools import lru_cache
+
 # The end of the address space, and its last address.
 SPACE = 1 << 64
 ONES = SPACE - 1
@@ -26,6 +28,7 @@ def exponent_and_mantissas(high):
     return e, b, ((b >> 12) + carry + ie & 3) << 12 | t
 
 
+@lru_cache(maxsize=1 << 16)
 def decoded(high, address):
     """The base and the top of a word."""
     e, b, t = exponent_and_mantissas(high)

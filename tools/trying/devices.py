@@ -1,10 +1,10 @@
 """Scripts of the devices, by loads and stores of a machine."""
-from .machines import PAGE, PCC, RAM
+from .machines import MIP, PAGE, PCC, RAM
 from .reading import Left, Words, bytes_of, bytes_text, number
 
 LOADS = {1: "lbu", 2: "lhu", 4: "lwu", 8: "ld"}
 STORES = {1: "sb", 2: "sh", 4: "sw", 8: "sd"}
-INTERRUPTS = 0x344
+INTERRUPTS = MIP
 INSTRUCTION = RAM + 64
 REFUSALS = ("V1", "V2")
 

@@ -34,7 +34,7 @@ def joined(bench, a, b):
 def ran(bench, a, b, tick):
     """What a run sends, and its status."""
     outcome = Outcome(Machine.of_text(bench.library, joined(bench, a, b)))
-    outcome.scheduled(STEPS, GAP, int(tick), b"")
+    outcome.scheduled(STEPS, GAP, tick)
     return f"{outcome.sent.decode()}, status {outcome.verdict()[0]}"
 
 

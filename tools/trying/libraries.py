@@ -1,21 +1,12 @@
 """The two C libraries, by the structures and the functions that python/headers.py reads in c/include."""
-import importlib.util
 import os
 from ctypes import CDLL, POINTER, c_char_p, c_uint8
 
+from .paths import module_alone
+
 NAME = "libcherisim.so"
-CALLS = os.path.join(os.path.dirname(os.path.abspath(__file__)), "..", "..", "python", "cherisim", "_calls.py")
 
-
-def read_calls():
-    """The module's table alone: the module itself would load a library."""
-    found = importlib.util.spec_from_file_location("calls_of_headers", CALLS)
-    calls = importlib.util.module_from_spec(found)
-    found.loader.exec_module(calls)
-    return calls
-
-
-calls = read_calls()
+calls = module_alone("_calls")
 Asked, Cap, Console, Fields, Halted, Handle = calls.Asked, calls.Cap, calls.Console, calls.Fields, calls.Halted, calls.Handle
 Insn, Number, Ran, Sent, Timer, Word = calls.Insn, calls.Number, calls.Ran, calls.Sent, calls.Timer, calls.Word
 # A number of 65 bits or more; a capability's word, and what tells it from others; the end of its bounds.

@@ -1,21 +1,21 @@
 """A machine of the library, as the readers of cases use it."""
 from ctypes import byref, c_uint8, c_uint32, c_uint64, c_size_t
 
+from model import names
 from model.devices import RAM
+from model.memory import PAGE
 from model.words import SPACE
 
-from .libraries import Asked, Cap, Console, Halted, Handle, Ran, Sent, Timer
+from .libraries import Asked, Cap, Console, Halted, Handle, Ran, Sent, Timer, calls
 
-PAGE = 4096
-PCC, DDC, MTCC, MTDC, MSCRATCHC, MEPCC = 0, 1, 28, 29, 30, 31
-SCRS = (PCC, DDC, MTCC, MTDC, MSCRATCHC, MEPCC)
-MSTATUS, MIE, MSCRATCH, MCAUSE, MTVAL, MIP, MCYCLE, MINSTRET = 0x300, 0x304, 0x340, 0x342, 0x343, 0x344, 0xB00, 0xB02
+PCC, DDC, MTCC, MTDC, MSCRATCHC, MEPCC = SCRS = tuple(names.SCRS.values())
+MSTATUS, MIE, MSCRATCH, MCAUSE, MTVAL, MIP, MCYCLE, MINSTRET = (
+    names.CSRS[name] for name in "mstatus mie mscratch mcause mtval mip mcycle minstret".split())
 
-# Statuses that are no fault of an image or of a text.
-OK, RANGE = 0, 66
-OTHERS = {64: "no memory", 65: "no machine", RANGE: "range", 67: "full"}
-# Why a run stopped.
-STEPS, HALTED, BUFFER, ADDRESS, TRAP, UNSEAL, SEALED_JUMP = range(7)
+# Statuses that are no fault of an image or of a text, and why a run stopped.
+OK, RANGE, STEPS, HALTED, BUFFER, ADDRESS, TRAP, UNSEAL, SEALED_JUMP = (
+    calls.CONSTANTS[name] for name in "OK RANGE STEPS HALTED BUFFER ADDRESS TRAP UNSEAL SEALED_JUMP".split())
+OTHERS = {calls.CONSTANTS[name.upper().replace(" ", "_")]: name for name in ("no memory", "no machine", "range", "full")}
 # What ends a stretch, in cases.
 ENDS = {0: "none", TRAP: "trap", UNSEAL: "unseal", SEALED_JUMP: "sealed jump"}
 

@@ -3,10 +3,11 @@
 Numbers are read and written by instructions, in a copy of the machine, whose faults tell misaligned from outside; what they leave is
 written into the machine itself.
 """
+from model.seen import planes
 from model.words import NULL_HIGH
 
 from .libraries import Cap
-from .machines import PAGE, PCC, RAM, Machine, Refused
+from .machines import PCC, RAM, Machine, Refused
 from .reading import Words, bytes_of, cap_text, number
 
 NAMES = {1: ("lbu", "sb"), 2: ("lhu", "sh"), 4: ("lwu", "sw"), 8: ("ld", "sd"), 16: ("lc", "sc")}
@@ -87,16 +88,7 @@ class Memory:
         return " ".join(found) or "none"
 
     def planes(self, _):
-        return " ".join(f"{word:x}" for word in planes_of(self.machine))
-
-
-def planes_of(machine):
-    """The words of tags: 64 granules a word, the first granule's the lowest bit of the first."""
-    planes = [0] * (machine.pages() * PAGE // 1024)
-    for address in machine.tagged():
-        granule = (address - RAM) // 16
-        planes[granule // 64] |= 1 << granule % 64
-    return planes
+        return " ".join(f"{word:x}" for word in planes(self.machine.tagged(), self.machine.pages()))
 
 
 def script(bench, case):

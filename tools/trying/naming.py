@@ -1,9 +1,10 @@
 """Names of registers and rows, by what the assembler takes and the disassembler shows."""
 import re
 
+from model.names import CAPABILITY_NAMES, NAMES
+
 from .instructions import text_of
 from .machines import RAM, Machine, Refused
-from .names import CAPABILITY_NAMES, NAMES
 from .reading import Left, unquoted
 from .rows import BY_VARIANT, ROWS, decoded, encoded
 

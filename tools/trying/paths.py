@@ -1,4 +1,5 @@
 """Where everything stands that the cases are tried with."""
+import importlib.util
 import os
 
 TOP = os.path.abspath(os.path.join(os.path.dirname(os.path.abspath(__file__)), "..", ".."))
@@ -24,6 +25,14 @@ FAILING_DEVICES = below("tools", "trying", "failing_devices.c")
 # What is tried, as the gate leaves it.
 LIBRARY = below("c", "build")
 PROGRAM = below("crates", "cherisim", "out", "cherisim")
+
+
+def module_alone(name):
+    """A module of python/cherisim by itself: the package would load a library."""
+    found = importlib.util.spec_from_file_location(name, below("python", "cherisim", f"{name}.py"))
+    module = importlib.util.module_from_spec(found)
+    found.loader.exec_module(module)
+    return module
 
 
 def cases_of(name):

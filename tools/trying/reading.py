@@ -71,11 +71,6 @@ def bytes_text(contents):
     return contents.hex() or "-"
 
 
-def spaced(contents):
-    """Bytes as two digits each, parted by spaces, or `-` where there are none."""
-    return contents.hex(" ") or "-"
-
-
 def number(value):
     """A number as a register holds it."""
     return Cap(value & ONES, NULL_HIGH, False)

@@ -5,8 +5,9 @@ into the machine itself, so that nothing else of the step (the counters, PCC's a
 """
 from ctypes import byref, c_bool
 
-from model.devices import CONTROL, TIMER_COMPARE
-from model.faults import ACCESS, CHERI, INTERRUPT, LENGTH
+from model.devices import CONTROL, EXTERNAL_BIT as EXTERNAL, TIMER_BIT as TIMER, TIMER_COMPARE
+from model.faults import ACCESS, BREAKPOINT as EBREAK, CHERI, DDC as OF_DDC, ECALL, FIRST_SPECIAL as SPECIAL, ILLEGAL, INTERRUPT, LENGTH
+from model.faults import STORE_ACCESS
 from model.rights import EXECUTE, UNSEALED
 from model.words import SPACE, fields
 
@@ -15,10 +16,8 @@ from .machines import (DDC, MCAUSE, MCYCLE, MEPCC, MIE, MINSTRET, MSCRATCH, MSCR
 from .reading import Left, Words, cap_text, number
 from .rows import encoded
 
-ILLEGAL, EBREAK, STORE_ACCESS, ECALL = 2, 3, 7, 11
-# The number of PCC in mtval, and the mtval of an access past DDC's bounds.
-SPECIAL, PAST_DDC = 32, 33 << 5 | LENGTH
-TIMER, EXTERNAL = 0x80, 0x800
+# The mtval of an access past DDC's bounds.
+PAST_DDC = OF_DDC << 5 | LENGTH
 STORES_AT = RAM + 0x200
 
 

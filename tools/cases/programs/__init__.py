@@ -1,23 +1,19 @@
-"""Cases over programs: what the whole machine shows after statements of assembly. Values are the architecture's, worked out by hand."""
-
-from model.words import NULL_HIGH
+"""Cases over programs: what the whole machine shows after statements of assembly, as the model machine shows it."""
 
 from . import derivations, integers, invocations, jumps, loads, machines, memory, opened, stretches, system, traps
-from .items import BOTH, ENTRY, at, bits, csr, line, together
+from .items import BOTH, line, number, together
 
 HEAD = "# mode | statements | events and queries => answers"
 
 
 def steps_line(mode, steps):
-    """A case of steps with what each then leaves in its register: a number, or a high half, an address and a tag."""
+    """A case of steps, with what each leaves in its register: a statement, or a register and a number that is put into it."""
     texts, deeds = [], []
-    for statements, *expected in steps:
-        statements = [statements] if isinstance(statements, str) else statements
-        register = statements[0].split()[1].rstrip(",")
+    for step in steps:
+        statements = [step] if isinstance(step, str) else number(*step)
         texts += statements
-        deeds += together(len(statements) * ["step"])
-        deeds.append(bits(register, *(expected if len(expected) == 3 else (NULL_HIGH, expected[0], False))))
-    return line(mode, texts, deeds + [csr("mcause", 0), csr("minstret", len(texts)), at(ENTRY + 4 * len(texts))])
+        deeds += [*together(len(statements) * ["step"]), f"bits {statements[0].split()[1].rstrip(',')}"]
+    return line(mode, texts, *deeds, "mcause; minstret; address pcc")
 
 
 def lines():

@@ -1,13 +1,12 @@
-"""What cases over programs are made of: statements of the assembly language, events, and what is to be seen.
+"""What cases over programs are made of: statements of the assembly language, events, and queries, which the model machine answers.
 
 A program is a list of items: a statement, a list of statements, or an event, which begins with `@`. Each statement is one word long and
-one step is done for it; an event is met where it stands. What is to be seen is a list of pairs, of a query and its answer, or of
-functions that give one where the program's end is known.
+one step is done for it; an event is met where it stands. What is to be seen after it are queries, parted by `; `.
 """
 
+from model.deeds import OfModel
 from model.devices import RAM
-from model.rights import SENTRY
-from model.words import SPACE
+from model.texts import machine_of
 
 # Where each program begins.
 ENTRY = RAM
@@ -33,11 +32,6 @@ def number(register, value):
     return made
 
 
-def put(register, value):
-    """A step of a program that says what each step gives: a number is put into a register."""
-    return number(register, value), value
-
-
 def shaped(register, permissions, length, offset):
     """Makes of DDC, which is root, a capability with these permissions, of so many bytes from DATA on. Its address lies so far past
     its base. Uses t5."""
@@ -61,106 +55,6 @@ def narrowed(length):
 # The rest runs with a PCC without Access_System_Registers. Uses t5 and t6; 5 words.
 WITHOUT_SYSTEM_ACCESS = ["cspecialrw ct5, pcc, cnull", "cincoffsetimm ct5, ct5, 20", "addi t6, zero, -1025", "candperm ct5, ct5, t6",
                          "jalr.cap cnull, ct5"]
-
-
-# ---- what is to be seen
-
-# The last step did not trap: PCC is not at 0, where MTCC stands at first.
-DONE = ("trap", "none")
-
-
-def trap(mcause, mtval):
-    """The last step trapped."""
-    return "trap", f"{mcause:x} {mtval:x}"
-
-
-def at(address):
-    """PCC's address."""
-    return "address pcc", f"{address:x}"
-
-
-def came_from(address):
-    """MEPCC's address."""
-    return "address mepcc", f"{address:x}"
-
-
-def FROM_LAST(end):
-    """MEPCC stands at the program's last word."""
-    return came_from(end - 4)
-
-
-def integer(register, value):
-    """A register holds this number, and null otherwise."""
-    return register, f"{value:x}"
-
-
-def capability(name, base, top, address, permissions, flag, otype):
-    """What a register holds is tagged, and all its fields are these."""
-    return name, f"v:1 b:{base:x} t:{top:x} a:{address:x} p:{permissions:x} f:{int(flag)} o:{otype:x}"
-
-
-def link(register, flag):
-    """A register holds a sentry of root after the program's last word, with this flag."""
-    return lambda end: capability(register, 0, SPACE, end, 0xffff, flag, SENTRY)
-
-
-def fields(name, address, otype, tag):
-    """Of what a register holds the address, the type and the tag."""
-    return f"fields {name}", f"{address:x} {otype:x} {int(tag)}"
-
-
-def permissions(name, value):
-    """Of what a register holds the permissions."""
-    return f"permissions {name}", f"{value:x}"
-
-
-def same(first, second):
-    """Both registers hold the same."""
-    return f"same {first} {second}", "1"
-
-
-def bits(name, high, address, tag):
-    """The word in a register, as its two halves, and its tag."""
-    return f"bits {name}", f"{high:016x} {address:016x} {int(tag)}"
-
-
-def memory_form(name, first, second, tag):
-    """The 16 bytes that what a register holds has in memory, and its tag."""
-    return f"bytes {name}", f"{first:016x} {second:016x} {int(tag)}"
-
-
-def granule(address, first, second, tag):
-    """The 16 bytes at an address, and the granule's tag."""
-    return f"granule {address:x}", f"{first:016x} {second:016x} {int(tag)}"
-
-
-def csr(name, value):
-    """What a control and status register gives."""
-    return name, f"{value:x}"
-
-
-def shown_bytes(values):
-    return " ".join(f"{value:02x}" for value in values) or "-"
-
-
-def sent(values):
-    """The bytes that were sent from the program's beginning on."""
-    return "sent", shown_bytes(values)
-
-
-def waiting(values):
-    """The bytes that wait in the console."""
-    return "waiting", shown_bytes(values)
-
-
-def halted(value):
-    """The number with which the machine is halted, or None."""
-    return "halted", "no" if value is None else f"{value:x}"
-
-
-def end(value):
-    """The end of the last run of events: halted with a number, or running where it is None."""
-    return "end", "running" if value is None else f"halted {value:x}"
 
 
 # ---- lines
@@ -194,22 +88,16 @@ def together(events):
     return [event if count == 1 else f"steps {count}" for event, count in made]
 
 
-def line(mode, texts, deeds):
-    """A case: of the deeds those that are pairs are queries with their answers, and the others are events."""
-    queries = [deed for deed in deeds if isinstance(deed, tuple)]
-    done = "; ".join(deed[0] if isinstance(deed, tuple) else deed for deed in deeds)
-    return f"{mode} | {'; '.join(texts)} | {done} => {'; '.join(answer for _, answer in queries)}"
-
-
-def program_line(mode, items, seen):
-    """A case of a program and of what is to be seen after it."""
-    texts, events = statements(items)
-    end = ENTRY + 4 * len(texts)
-    return line(mode, texts, together(events) + [pair(end) if callable(pair) else pair for pair in seen])
+def line(mode, texts, *deeds):
+    """A case: statements, and events and queries, which may stand together, parted by `; `."""
+    deeds = [deed for part in deeds for deed in part.split("; ")]
+    answers = OfModel(machine_of("; ".join([f".mode {mode}", *texts]))).answers(deeds)
+    return f"{mode} | {'; '.join(texts)} | {'; '.join(deeds)} => {'; '.join(answers)}"
 
 
 class Table:
-    """Programs and what is to be seen after them: in each mode, each line's beginning before each row."""
+    """Programs and what is to be seen after them: in each mode, each line's beginning before each row. A line is its items, or a pair of
+    them and what is to be seen, which else is the trap."""
 
     def __init__(self, name, modes, rows, lines):
         self.name, self.modes, self.rows, self.lines = name, modes, rows, lines
@@ -218,5 +106,7 @@ class Table:
         yield f"# {self.name}"
         for mode in self.modes:
             for row in self.rows:
-                for beginning, seen in self.lines:
-                    yield program_line(mode, beginning + row, seen)
+                for given in self.lines:
+                    beginning, seen = given if isinstance(given, tuple) else (given, "trap")
+                    texts, events = statements([*beginning, *row])
+                    yield line(mode, texts, *together(events), seen)

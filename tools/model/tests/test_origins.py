@@ -4,6 +4,7 @@ import unittest
 
 from model.capabilities import capability, integer, seal, untagged, with_fields
 from model.devices import RAM
+from model.names import SPECIALS
 from model.origins import (GRANULE, LABEL, NUMBER, REGISTER, SPECIAL, WAYS, Event, Making, conditions, losses, lost, notes, origin)
 from model.reach import State
 from model.rights import ALL, EXECUTE, SEAL, SENTRY, UNSEAL
@@ -19,7 +20,7 @@ def state(registers=None, granules=None, **special):
     ram = bytearray(64)
     for address, value in (granules or {}).items():
         ram[address - RAM:address - RAM + 16] = value[1].to_bytes(8, "little") + in_memory(value).to_bytes(8, "little")
-    specials = [special.get(name, NULL) for name in ("mtcc", "mtdc", "mscratchc", "mepcc")]
+    specials = [special.get(name, NULL) for name in SPECIALS]
     return State([(registers or {}).get(n, NULL) for n in range(32)], special.get("pcc", root(RAM)), special.get("ddc", root(0)), specials,
                  bytes(ram), frozenset(address for address, value in (granules or {}).items() if value[2]))
 

@@ -155,8 +155,8 @@ class Breaches(unittest.TestCase):
         self.assertEqual(stopped(Breach(rules[0], 0, "halt"), 12, f"{RAM:016x} <start>", "pcc GX"), (
             "cherisim: not halted\ncherisim: steps 12, pcc 0000000080000000 <start>\ncherisim: policy: line 2: halt\n"
             "  rule  when pc in 4..6: halt no\n  held  pcc GX\n"))
-        self.assertEqual(listed(Breach(rules[0], 0, "halt"), 13, RAM, "pcc GX"), (
-            "step 13, pcc 0000000080000000\npolicy: line 2: halt\n  rule  when pc in 4..6: halt no\n  held  pcc GX\n"))
+        self.assertEqual(listed(Breach(rules[0], 0, "halt"), 13, f"{RAM:016x} <start>", "pcc GX"), (
+            "step 13, pcc 0000000080000000 <start>\npolicy: line 2: halt\n  rule  when pc in 4..6: halt no\n  held  pcc GX\n"))
         self.assertEqual(refused("P4", 7, "a.policy"), "cherisim: line 7: P4 number\n  a.policy:7\n")
 
 

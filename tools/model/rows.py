@@ -1,19 +1,16 @@
-"""The words of rows and their texts: the fields that operands fill, and how the assembly language writes them.
+"""The words of rows and their texts: which fields operands fill, which word is which row, and how the assembly language writes one.
 
-The word of a row without operands is that of cases/encodings.txt with the fields cleared.
+A row's word without operands is that of cases/encodings.txt, which GNU as and the fields of CHERI-RISC-V's encodings give, with the
+fields cleared.
 """
 import re
 from functools import lru_cache
+from typing import NamedTuple
 
-from cases.row_forms import FORM, SECOND
+from model.integers import s
+from model.names import CAPABILITY_NAMES, CSR_NAMES, NAMES, SCR_NAMES
+from model.row_forms import FORM, SECOND
 from trying.paths import cases_of
-
-X = ("zero ra sp gp tp t0 t1 t2 s0 s1 a0 a1 a2 a3 a4 a5 a6 a7 s2 s3 s4 s5 s6 s7 s8 s9 s10 s11 t3 t4 t5 t6").split()
-C = ["cnull"] + ["c" + name for name in X[1:]]
-CSRS = {0x300: "mstatus", 0x301: "misa", 0x304: "mie", 0x305: "mtvec", 0x340: "mscratch", 0x341: "mepc", 0x342: "mcause",
-        0x343: "mtval", 0x344: "mip", 0xB00: "mcycle", 0xB02: "minstret", 0xF11: "mvendorid", 0xF12: "marchid",
-        0xF13: "mimpid", 0xF14: "mhartid"}
-SCRS = {0: "pcc", 1: "ddc", 28: "mtcc", 29: "mtdc", 30: "mscratchc", 31: "mepcc"}
 
 # For each operand the fields that it fills, as (lowest bit of the word, lowest bit of the operand, count of bits).
 FIELDS = {
@@ -25,6 +22,19 @@ FIELDS = {
 }
 HOLDS = {"scr": "rs2", "five": "rs1"} | {slot: "imm" for slot in
          ("signed", "unsigned", "csr", "shift6", "shift5", "stored", "upper", "branch", "jump")}
+# The bits of immediates that have a sign.
+SIGNED = {"signed": 12, "stored": 12, "upper": 32, "branch": 13, "jump": 21}
+# The name in integer mode of a row by its name in capability mode.
+PLAIN = {second: name for name, (second, _) in SECOND.items()}
+
+
+class Insn(NamedTuple):
+    """An instruction: its row's name in integer mode and its operands; those that the row hasn't are 0."""
+    row: str
+    rd: int = 0
+    rs1: int = 0
+    rs2: int = 0
+    imm: int = 0
 
 
 def slots(form):
@@ -55,9 +65,31 @@ def plain_words():
 
 
 def made(name, changes):
-    """The word of a row with these operands, and what of them it holds."""
-    word, _, operands = with_operands((plain_words()[name], name, {}), changes)
-    return word, operands
+    """The word of a row with these operands."""
+    return with_operands((plain_words()[name], name, {}), changes)[0]
+
+
+@lru_cache
+def lines():
+    """The rows by their opcodes: for each the bits that are no operand's, what they are, and its name."""
+    found = {}
+    for name, word in plain_words().items():
+        free = with_operands((0, name, {}), dict.fromkeys(FIELDS, -1))[0]
+        found.setdefault(word & 0x7F, []).append((~free & 0xFFFFFFFF, word, name))
+    return found
+
+
+@lru_cache(maxsize=None)
+def decode(word):
+    """The instruction of a word, or None where it is no row."""
+    row = next((name for mask, value, name in lines().get(word & 0x7F, ()) if word & mask == value), None)
+    return row and Insn(row, **{HOLDS.get(slot, slot): operand_of(word, slot) for slot in slots(FORM[row])})
+
+
+def operand_of(word, slot):
+    """What a word's fields say of an operand."""
+    number = sum((word >> at & 2**count - 1) << low for at, low, count in FIELDS[slot])
+    return s(number, SIGNED[slot]) if slot in SIGNED else number
 
 
 # ---- texts
@@ -65,12 +97,12 @@ def made(name, changes):
 def operand(slot, operands):
     """An operand's text."""
     if slot[-1] in "d12" and slot[0] in "rc":
-        return (C if slot[0] == "c" else X)[operands["r" + slot.lstrip("rc")]]
+        return (CAPABILITY_NAMES if slot[0] == "c" else NAMES)[operands["r" + slot.lstrip("rc")]]
     number = operands[HOLDS[slot]]
     if slot == "csr":
-        return CSRS.get(number, f"{number:#x}")
+        return CSR_NAMES.get(number, f"{number:#x}")
     if slot == "scr":
-        return SCRS.get(number, str(number))
+        return SCR_NAMES.get(number, str(number))
     if slot == "upper":
         return f"{number >> 12 & 0xFFFFF:#x}"
     if slot in ("branch", "jump"):
@@ -82,3 +114,9 @@ def shown(name, operands, mode):
     """The text of a row in a mode."""
     name, form = SECOND.get(name, (name, FORM[name])) if mode else (name, FORM[name])
     return " ".join([name] + [re.sub(r"\w+", lambda slot: operand(slot[0], operands), form)] * (form != ""))
+
+
+def text_of(word, mode):
+    """The text of a word in a mode, as the disassembler shows it."""
+    insn = decode(word)
+    return shown(insn.row, insn._asdict(), mode) if insn else f".word 0x{word:08x}"

@@ -1,0 +1,83 @@
+"""Sessions of the debugger with a past, over a machine whose steps are recorded as they are given.
+
+Where a session has a schedule, its own events are those that the schedule has in turn: a byte before a step, the step, and a tick after
+it.
+"""
+from model import origins, recorded
+from model.memory import WORD
+from model.names import REGISTERS, SCRS
+from model.origins import GRANULE, REGISTER, SPECIAL, Event, held
+from model.sessions import Refused, Session, address, number
+from model.words import ONES
+
+
+def place_of(session, word):
+    """Reads a place: a register before a special register before a granule's address."""
+    if word in REGISTERS:
+        return REGISTER, REGISTERS[word]
+    if word in SCRS:
+        return SPECIAL, word
+    found = address(session, word)
+    if found % WORD:
+        raise Refused("B2")
+    return GRANULE, found
+
+
+class Past(Session):
+    """A session of the machine of a text."""
+
+    OPERANDS = Session.OPERANDS | {"ago": (), "back": (number(1, ONES),), "changed": (place_of, Session.COUNT), "origin": (place_of,),
+                                   "lost": (place_of,)}
+
+    def begin(self):
+        super().begin()
+        self.events, self.given, self.opening = [], [], self.machine.state()
+
+    def meet(self, kind, byte):
+        if kind == "step":
+            self.events.append(recorded.event(self.machine))
+        else:
+            super().meet(kind, byte)
+            state = self.machine.state()
+            self.events.append(Event(state, state, {}, ""))
+
+    def give(self, kind, byte=None, is_own=False):
+        self.given.append((kind, byte, is_own))
+        super().give(kind, byte, is_own)
+
+    def within(self, place):
+        """A place, which is to lie in RAM if it is a granule."""
+        if place[0] == GRANULE and not self.machine.memory.holds(place[1], WORD):
+            raise Refused("B3")
+        return place
+
+    def on_ago(self):
+        return f"events {self.count}\n"
+
+    def on_back(self, count):
+        if count > self.count:
+            raise Refused("B2")
+        given, before = self.given[:self.count - count], self.count
+        self.begin()
+        for event in given:
+            self.give(*event)
+        return self.told(before, len(self.machine.devices.sent))
+
+    def on_changed(self, place, most):
+        """Events of the session's own steps, up to the halt or to one after which the place holds another value."""
+        before, value = self.standing(), held(self.machine.state(), self.within(place))
+        for _ in range(most):
+            if self.is_halted() or held(self.machine.state(), place) != value:
+                break
+            self.own()
+        return self.told(*before)
+
+    def on_origin(self, place):
+        return "".join(f"{line}\n" for line in origins.origin(self.events, self.opening, self.within(place)))
+
+    def on_lost(self, place):
+        return "".join(f"{line}\n" for line in origins.lost(self.events, self.within(place)))
+
+    def answers(self, lines):
+        """The replies to lines, one after the other."""
+        return "".join(map(self.answer, lines))
