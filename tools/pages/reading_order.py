@@ -87,7 +87,8 @@ REST = [
      "commands/specs/Files, Loading, Assembling, Imaging, Bounding, Listing, Running, Watching, Auditing, Overwriting; "
      "program/specs/Debugging, Carrying"),
     ("capabilities and the machine for C",
-     "c_types/specs/Halves, Words; cheri_c/specs/Insns; cherisim_c/specs/Status, Made, Running, Stepping, Reaching, Questions, Policies"),
+     "c_types/specs/Halves, Words; cheri_c/specs/Insns; "
+     "cherisim_c/specs/Status, Made, Running, Stepping, Reaching, Questions, Refusals, Policies"),
 ]
 
 
