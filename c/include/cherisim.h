@@ -76,9 +76,9 @@ cherisim_status cherisim_tick(cherisim_t *machine);
 cherisim_status cherisim_receive(cherisim_t *machine, uint8_t byte);
 
 /* What a run does: `steps` steps at most. With `at_address` it stops before a step whose PCC has this address, and with `at_end` before
- * one that traps, unseals, or jumps through a seal. A tick follows each step whose number is a multiple of `tick` (0: none), where steps
- * are numbered from `before` + 1 on. */
-typedef struct { uint64_t steps, tick, before, address; bool at_address, at_end; } cherisim_asked_t;
+ * one that traps, unseals, or jumps through a seal; with `doors`, too, sealed jumps are gone through, up to where answers through doors
+ * hold. A tick follows each step whose number is a multiple of `tick` (0: none), where steps are numbered from `before` + 1 on. */
+typedef struct { uint64_t steps, tick, before, address; bool at_address, at_end, doors; } cherisim_asked_t;
 /* Why a run stopped. */
 enum {
     CHERISIM_STEPS = 0,       /* all steps were done */
@@ -147,8 +147,11 @@ cherisim_status cherisim_next_ends(cherisim_t *machine, uint32_t *why);
  * buffer is too short, CHERISIM_FULL, and *length is what it takes. */
 cherisim_status cherisim_why(cherisim_t *machine, uint8_t *text, size_t room, size_t *length);
 /* The line of a trace for the next step (docs/TRACE.md), as that of step `number`, with its line feed: *length bytes of text, no 0 after
- * them; of a halted machine none. Where the buffer is too short, CHERISIM_FULL, and *length is what it takes. */
-cherisim_status cherisim_trace(cherisim_t *machine, uint64_t number, uint8_t *text, size_t room, size_t *length);
+ * them; of a halted machine none. `labels` is the text of a table of labels, as `asm --symbols` writes it; of no bytes, it has none. Where
+ * the buffer is too short, CHERISIM_FULL, and *length is what it takes. CHERISIM_LABELS where line *line of the table is no label's; where
+ * memory ran out *line is 0. */
+cherisim_status cherisim_trace(cherisim_t *machine, const uint8_t *labels, size_t labels_length, uint64_t number,
+                               uint8_t *text, size_t room, size_t *length, uint64_t *line);
 /* The text of an instruction word, as cheri_disassemble() gives it: how many bytes of `text` it has, at most 64. */
 size_t cherisim_disassemble(uint32_t word, bool capability_mode, char text[64]);
 
@@ -254,6 +257,12 @@ typedef struct { uint64_t step, line, member; uint32_t part; bool found; } cheri
 cherisim_status cherisim_watch(cherisim_t *machine, const uint8_t *policy, size_t policy_length,
                                const uint8_t *labels, size_t labels_length, const cherisim_timetable_t *timetable,
                                const uint8_t *input, size_t input_length, cherisim_breach_t *breach, uint64_t *line);
+/* What `cherisim audit` writes of such a run: of each part of each rule that is broken in it the first step before which it is, the line
+ * and the rule, and what breaks it. *length bytes of text, no 0 after them; none where nothing is broken. The run goes on past each breach,
+ * on a copy. Where the buffer is too short, CHERISIM_FULL, and *length is what it takes; other refusals are those of cherisim_watch. */
+cherisim_status cherisim_audit(cherisim_t *machine, const uint8_t *policy, size_t policy_length,
+                               const uint8_t *labels, size_t labels_length, const cherisim_timetable_t *timetable,
+                               const uint8_t *input, size_t input_length, uint8_t *text, size_t room, size_t *length, uint64_t *line);
 
 #ifdef __cplusplus
 }

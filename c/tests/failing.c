@@ -87,16 +87,33 @@ static cherisim_status call_may_through_doors(cherisim_t *m) {
     ROW(answer.member == (status ? 99 : 0) && answer.may == !status);
     return status;
 }
+static const char *policy = "code = start..+8 0x80001000..+16\nwhen pc in code: store no, types none, or caller\n";
+static const char *labels = "0000000080000000 start\n";
+static const cherisim_timetable_t timetable = {100, 1000, 0};
 static cherisim_status call_watch(cherisim_t *m) {
-    static const char *policy = "code = start..+8 0x80001000..+16\nwhen pc in code: store no, types none, or caller\n";
-    static const char *labels = "0000000080000000 start\n";
-    cherisim_timetable_t timetable = {100, 1000, 0};
     cherisim_breach_t breach = {99, 99, 99, 99, false};
     uint64_t line = 99;
     cherisim_status status = cherisim_watch(m, (const uint8_t *)policy, strlen(policy), (const uint8_t *)labels, strlen(labels), &timetable,
                                             nothing_typed, 0, &breach, &line);
     ROW(breach.found == !status && breach.step == (status ? 99 : 1) && breach.line == (status ? 99 : 2) && line == (status ? 0 : 99));
     ROW(status || (breach.member == 0 && breach.part == CHERISIM_RULE_STORE));
+    return status;
+}
+static cherisim_status call_audit(cherisim_t *m) {
+    uint8_t told[1024] = {0xee};
+    size_t length = 99;
+    uint64_t line = 99;
+    cherisim_status status = cherisim_audit(m, (const uint8_t *)policy, strlen(policy), (const uint8_t *)labels, strlen(labels), &timetable,
+                                            nothing_typed, 0, told, sizeof told, &length, &line);
+    ROW(status ? length == 99 && told[0] == 0xee && line == 0 : length > 99 && told[0] == 's' && line == 99);
+    return status;
+}
+static cherisim_status call_trace(cherisim_t *m) {
+    uint8_t told[1024] = {0xee};
+    size_t length = 99;
+    uint64_t line = 99;
+    cherisim_status status = cherisim_trace(m, (const uint8_t *)labels, strlen(labels), 1, told, sizeof told, &length, &line);
+    ROW(status ? length == 99 && told[0] == 0xee && line == 0 : memcmp(told, "1 0000000080000004 <start+4> ", 29) == 0 && line == 99);
     return status;
 }
 
@@ -126,10 +143,11 @@ static void each_fails(const char *name, cherisim_status (*call)(cherisim_t *), 
 /* what takes no memory succeeds without any */
 static void takes_none(void) {
     cherisim_t m = CHERISIM_NONE;
-    cherisim_asked_t asked = {1000, 7, 0, 0, false, false};
+    cherisim_asked_t asked = {1000, 7, 0, 0, false, false, false};
     cherisim_ran_t ran;
     uint8_t bytes[64] = {0}, line[1024];
     size_t length;
+    uint64_t faulty;
     cherisim_cap_t values[32];
     of_text(&m, "loop: addi a0, a0, 1\nsc.ddc ca1, (a2)\nebreak\n");
     DONE(cherisim_set_reg(&m, 12, number(RAM + 64)));
@@ -145,7 +163,7 @@ static void takes_none(void) {
     DONE(cherisim_all_regs(&m, values));
     steps(&m, 9);
     ROW(ran.steps == 1000 && same(&m, &m) && ends(&m) < 4);
-    DONE(cherisim_trace(&m, 1, line, sizeof line, &length));
+    DONE(cherisim_trace(&m, nothing_typed, 0, 1, line, sizeof line, &length, &faulty));
     ROW(cherisim_new(image, 5, &m) == 1);
     left = -1;
     cherisim_free(&m);
@@ -158,7 +176,7 @@ int main(void) {
         {"new", call_new, true}, {"new_flat", call_new_flat, true}, {"assemble", call_assemble, true}, {"copy", call_copy, true},
         {"why", call_why, false}, {"reach", call_reach, false}, {"may_store", call_may, false},
         {"reach_through_doors", call_through_doors, false}, {"doors", call_doors, false}, {"may", call_may_through_doors, false},
-        {"watch", call_watch, false}};
+        {"watch", call_watch, false}, {"audit", call_audit, false}, {"trace", call_trace, false}};
     for (size_t i = 0; i < COUNT_OF(calls); i += 1) {
         if (calls[i].makes) each_fails(calls[i].name, calls[i].call, false);
         each_fails(calls[i].name, calls[i].call, true);

@@ -277,6 +277,9 @@ static void asked_without_machine(void) {
     ROW(equal(member.value, root_at(7)) && member.place == 21 && member.from == 22 && member.kind == 23 && count == 20);
     ROW(equal(cap, root_at(5)) && equal(values[0], root_at(6)) && halt.halted && halt.number == 11 && time.mtime == 12);
     ROW(time.mtimecmp == 13 && held.waiting == 14 && held.overrun && held.control && bytes[0] == 15 && n == 16 && pages == 17);
+    cherisim_timetable_t timetable = {1, 1, 1};
+    ROW(cherisim_trace(&m, bytes, 0, 1, bytes, 64, &length, &n) == none && bytes[0] == 15 && n == 16);
+    ROW(cherisim_audit(&m, bytes, 0, bytes, 0, &timetable, bytes, 0, bytes, 64, &length, &n) == none && bytes[0] == 15 && n == 16);
     ROW(end == 18 && length == 19 && !m.at);
 }
 
@@ -284,7 +287,7 @@ static void done_without_machine(void) {
     cherisim_t m = CHERISIM_NONE, to = CHERISIM_NONE;
     cherisim_status none = CHERISIM_NO_MACHINE;
     cherisim_sent_t sent = {true, 7};
-    cherisim_asked_t asked = {1, 0, 0, 0, false, false};
+    cherisim_asked_t asked = {1, 0, 0, 0, false, false, false};
     cherisim_ran_t ran = {8, 9, 10};
     uint8_t bytes[64] = {15};
     ROW(cherisim_step(&m, &sent) == none && cherisim_tick(&m) == none && cherisim_receive(&m, 65) == none);

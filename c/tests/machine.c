@@ -97,9 +97,10 @@ static bool is_run(run_t done, uint64_t of_steps, const char *sent, uint32_t sto
     size_t length = strlen(sent);
     return done.ran.steps == of_steps && done.ran.sent == length && done.ran.stop == stop && memcmp(done.bytes, sent, length) == 0;
 }
-static cherisim_asked_t most(uint64_t of_steps) { return (cherisim_asked_t){of_steps, 0, 0, 0, false, false}; }
-static cherisim_asked_t until(uint64_t address) { return (cherisim_asked_t){1000, 0, 0, address, true, false}; }
-static cherisim_asked_t to_end(uint64_t of_steps) { return (cherisim_asked_t){of_steps, 0, 0, 0, false, true}; }
+static cherisim_asked_t most(uint64_t of_steps) { return (cherisim_asked_t){of_steps, 0, 0, 0, false, false, false}; }
+static cherisim_asked_t until(uint64_t address) { return (cherisim_asked_t){1000, 0, 0, address, true, false, false}; }
+static cherisim_asked_t to_end(uint64_t of_steps) { return (cherisim_asked_t){of_steps, 0, 0, 0, false, true, false}; }
+static cherisim_asked_t to_turn(uint64_t of_steps) { return (cherisim_asked_t){of_steps, 0, 0, 0, false, true, true}; }
 
 static void run_stops(void) {
     cherisim_t m = CHERISIM_NONE;
@@ -139,8 +140,8 @@ static void run_ends(void) {
     ROW(is_run(run(&m, to_end(1000), 64), 1, "", CHERISIM_TRAP) && pc(&m) == RAM + 4 && ends(&m) == CHERISIM_TRAP);
     ROW(is_run(run(&m, to_end(1000), 64), 0, "", CHERISIM_TRAP) && csr(&m, MCAUSE) == 0);
     ROW(is_run(run(&m, to_end(0), 64), 0, "", CHERISIM_STEPS) && is_run(run(&m, to_end(9), 0), 0, "", CHERISIM_BUFFER));
-    ROW(is_run(run(&m, (cherisim_asked_t){9, 0, 0, RAM + 4, true, true}, 64), 0, "", CHERISIM_ADDRESS));
-    ROW(is_run(run(&m, (cherisim_asked_t){1, 0, 0, 0, false, false}, 64), 1, "", CHERISIM_STEPS));
+    ROW(is_run(run(&m, (cherisim_asked_t){9, 0, 0, RAM + 4, true, true, false}, 64), 0, "", CHERISIM_ADDRESS));
+    ROW(is_run(run(&m, (cherisim_asked_t){1, 0, 0, 0, false, false, false}, 64), 1, "", CHERISIM_STEPS));
     ROW(has_trapped(&m, 3, RAM + 4) && pc(&m) == 0);
     of_text(&m, ".mode 1\nnop\ncunseal ca2, ca0, ca1\nnop\ncjalr cra, (ca0)\n.org 0x80000100\ncinvoke ca0, ca1\n");
     DONE(cherisim_set_reg(&m, A0, with(root_at(RAM + 0x100), ALL, 5)));
@@ -164,22 +165,41 @@ static void run_ends(void) {
     cherisim_free(&m);
 }
 
+/* through doors it goes on over jumps through seals, up to what traps or unseals */
+static void run_turns(void) {
+    cherisim_t m = CHERISIM_NONE;
+    of_text(&m, ".mode 1\nnop\ncjalr cra, (ca0)\nnop\n.org 0x80000100\ncinvoke ca0, ca1\n"
+                ".org 0x80000200\nnop\ncunseal ca2, ca4, ca5\nebreak\n");
+    DONE(cherisim_set_reg(&m, A0, with(capability_mode_at(RAM + 0x100), ALL, SENTRY)));
+    DONE(cherisim_set_reg(&m, 14, with(root_at(RAM), ALL, 5)));
+    DONE(cherisim_set_reg(&m, 15, root_at(5)));
+    ROW(is_run(run(&m, to_end(1000), 64), 1, "", CHERISIM_SEALED_JUMP));
+    ROW(is_run(run(&m, to_turn(1000), 64), 1, "", CHERISIM_TRAP) && pc(&m) == RAM + 0x100 && ends(&m) == CHERISIM_TRAP);
+    DONE(cherisim_set_reg(&m, A0, with(capability_mode_at(RAM + 0x200), ALL, 5)));
+    DONE(cherisim_set_reg(&m, X11, with(root_at(77), NO_EXECUTE, 5)));
+    ROW(is_run(run(&m, to_end(1000), 64), 0, "", CHERISIM_SEALED_JUMP) && is_run(run(&m, to_turn(1), 64), 1, "", CHERISIM_STEPS));
+    ROW(is_run(run(&m, to_turn(1000), 64), 1, "", CHERISIM_UNSEAL) && pc(&m) == RAM + 0x204 && ends(&m) == CHERISIM_UNSEAL);
+    steps(&m, 1);
+    ROW(is_run(run(&m, to_turn(1000), 64), 0, "", CHERISIM_TRAP));
+    cherisim_free(&m);
+}
+
 /* ticks follow the steps whose numbers are multiples, counted from `before` + 1 on */
 static void run_ticks(void) {
     cherisim_t m = CHERISIM_NONE;
     const char *loop = "loop: nop\nj loop\n";
     of_text(&m, loop);
-    ROW(is_run(run(&m, (cherisim_asked_t){25, 10, 0, 0, false, false}, 64), 25, "", CHERISIM_STEPS) && timer(&m).mtime == 2);
-    ROW(is_run(run(&m, (cherisim_asked_t){5, 10, 25, 0, false, false}, 64), 5, "", CHERISIM_STEPS) && timer(&m).mtime == 3);
-    ROW(is_run(run(&m, (cherisim_asked_t){4, 10, 5, 0, false, false}, 64), 4, "", CHERISIM_STEPS) && timer(&m).mtime == 3);
-    ROW(is_run(run(&m, (cherisim_asked_t){5, 3, 7, 0, false, false}, 64), 5, "", CHERISIM_STEPS) && timer(&m).mtime == 5);
-    ROW(is_run(run(&m, (cherisim_asked_t){7, 1, 100, 0, false, false}, 64), 7, "", CHERISIM_STEPS) && timer(&m).mtime == 12);
-    ROW(is_run(run(&m, (cherisim_asked_t){99, 100, 0, 0, false, false}, 64), 99, "", CHERISIM_STEPS) && timer(&m).mtime == 12);
-    ROW(is_run(run(&m, (cherisim_asked_t){9, 0, 0, 0, false, false}, 64), 9, "", CHERISIM_STEPS) && timer(&m).mtime == 12);
+    ROW(is_run(run(&m, (cherisim_asked_t){25, 10, 0, 0, false, false, false}, 64), 25, "", CHERISIM_STEPS) && timer(&m).mtime == 2);
+    ROW(is_run(run(&m, (cherisim_asked_t){5, 10, 25, 0, false, false, false}, 64), 5, "", CHERISIM_STEPS) && timer(&m).mtime == 3);
+    ROW(is_run(run(&m, (cherisim_asked_t){4, 10, 5, 0, false, false, false}, 64), 4, "", CHERISIM_STEPS) && timer(&m).mtime == 3);
+    ROW(is_run(run(&m, (cherisim_asked_t){5, 3, 7, 0, false, false, false}, 64), 5, "", CHERISIM_STEPS) && timer(&m).mtime == 5);
+    ROW(is_run(run(&m, (cherisim_asked_t){7, 1, 100, 0, false, false, false}, 64), 7, "", CHERISIM_STEPS) && timer(&m).mtime == 12);
+    ROW(is_run(run(&m, (cherisim_asked_t){99, 100, 0, 0, false, false, false}, 64), 99, "", CHERISIM_STEPS) && timer(&m).mtime == 12);
+    ROW(is_run(run(&m, (cherisim_asked_t){9, 0, 0, 0, false, false, false}, 64), 9, "", CHERISIM_STEPS) && timer(&m).mtime == 12);
     of_text(&m, "lui a1, 0x100\nsd zero, 0(a1)\n");
-    ROW(is_run(run(&m, (cherisim_asked_t){9, 1, 0, 0, false, false}, 64), 2, "", CHERISIM_HALTED) && timer(&m).mtime == 1);
+    ROW(is_run(run(&m, (cherisim_asked_t){9, 1, 0, 0, false, false, false}, 64), 2, "", CHERISIM_HALTED) && timer(&m).mtime == 1);
     of_text(&m, "lui a1, 0x100\nsd zero, 0(a1)\n");
-    ROW(is_run(run(&m, (cherisim_asked_t){2, 2, 0, 0, false, false}, 64), 2, "", CHERISIM_STEPS) && timer(&m).mtime == 0);
+    ROW(is_run(run(&m, (cherisim_asked_t){2, 2, 0, 0, false, false, false}, 64), 2, "", CHERISIM_STEPS) && timer(&m).mtime == 0);
     cherisim_free(&m);
 }
 
@@ -189,9 +209,9 @@ static void timer_ticks(void) {
     of_text(&m, "cspecialrw ct0, pcc, cnull\nla t1, trap\ncsetaddr ct0, ct0, t1\ncspecialrw cnull, mtcc, ct0\nlui s1, 0x2004\n"
                 "lui s2, 0x10000\nli s4, 3\nsd s4, 0(s1)\nli t0, 128\ncsrrs zero, mie, t0\ncsrrsi zero, mstatus, 8\nwait: j wait\n"
                 "trap: li a0, 46\nsb a0, 0(s2)\naddi s4, s4, 3\nsd s4, 0(s1)\nmret\n");
-    cherisim_asked_t asked = {150, 10, 0, 0, false, true};
+    cherisim_asked_t asked = {150, 10, 0, 0, false, true, false};
     ROW(is_run(run(&m, asked, 64), 30, "", CHERISIM_TRAP) && timer(&m).mtime == 3);
-    asked = (cherisim_asked_t){120, 10, 30, 0, false, false};
+    asked = (cherisim_asked_t){120, 10, 30, 0, false, false, false};
     ROW(is_run(run(&m, asked, 64), 120, "....", CHERISIM_STEPS) && timer(&m).mtime == 15);
     ROW(csr(&m, MCAUSE) == 0x8000000000000007 && ends(&m) == CHERISIM_TRAP);
     cherisim_free(&m);
@@ -550,6 +570,7 @@ int main(void) {
     run_stops();
     run_before_stops();
     run_ends();
+    run_turns();
     run_ticks();
     timer_ticks();
     written_registers();

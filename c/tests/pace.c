@@ -34,7 +34,7 @@ static void assembled(cherisim_t *m, unsigned long turns) {
 
 static void long_call(const char *what, unsigned long turns, uint64_t tick, bool at_end) {
     cherisim_t m = CHERISIM_NONE;
-    cherisim_asked_t asked = {UINT64_MAX, tick, 0, 0, false, at_end};
+    cherisim_asked_t asked = {UINT64_MAX, tick, 0, 0, false, at_end, false};
     cherisim_ran_t ran;
     uint8_t sent[1];
     assembled(&m, turns);
@@ -61,7 +61,7 @@ static void long_calls(unsigned long turns) {
 
 static void short_calls(void) {
     cherisim_t m = CHERISIM_NONE, copy = CHERISIM_NONE;
-    cherisim_asked_t one = {1, 0, 0, 0, false, false}, to_end = {1, 0, 0, 0, false, true};
+    cherisim_asked_t one = {1, 0, 0, 0, false, false, false}, to_end = {1, 0, 0, 0, false, true, false};
     cherisim_ran_t ran;
     cherisim_sent_t sent;
     cherisim_cap_t value, values[32];

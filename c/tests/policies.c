@@ -1,6 +1,6 @@
-/* Tries cherisim_watch and cherisim_trace: the compartments of the file that is named under their policy, as docs/POLICY.md has them with
- * and without a kernel's mistake; each fault of a policy's text; and lines of a trace, as docs/TRACE.md has them. Says how many rows are
- * wrong, and ends with 0 where none is. */
+/* Tries cherisim_watch, cherisim_audit and cherisim_trace: the compartments of the file that is named under their policy, as docs/POLICY.md
+ * has them with and without a kernel's mistake; each fault of a policy's text; and lines of a trace, as docs/TRACE.md has them. Says how
+ * many rows are wrong, and ends with 0 where none is. */
 #include "machines.h"
 
 enum { TEXT = 1 << 16, P1 = 49, P2, P3, P4, P5, P6, P7, P8 };
@@ -18,7 +18,25 @@ static const char labels[] = "0000000080003000 b_code\n0000000080004000 b_data\n
 static const uint8_t *bytes(const char *text) { return (const uint8_t *)text; }
 typedef struct { cherisim_status status; cherisim_breach_t breach; uint64_t line; } watched_t;
 
-/* what a call answers; the machine stays as it is, and what isn't written stays too */
+/* an audit writes this text, and the machine stays as it is; what isn't written stays too */
+static void audited(cherisim_t *m, const char *rules, cherisim_timetable_t timetable, const char *expected) {
+    char told[4096];
+    size_t length = 99, needed = strlen(expected);
+    uint64_t line = 94;
+    cherisim_t before = CHERISIM_NONE;
+    DONE(cherisim_copy(m, &before));
+    memset(told, '?', sizeof told);
+    for (size_t room = needed ? needed - 1 : 0; room <= needed; room += 1) {
+        cherisim_status status = cherisim_audit(m, bytes(rules), strlen(rules), bytes(labels), strlen(labels), &timetable,
+                                                bytes("typed"), 5, (uint8_t *)told, room, &length, &line);
+        ROW(status == (room < needed ? CHERISIM_FULL : CHERISIM_OK) && length == needed && line == 94 && told[room] == '?');
+        ROW(room < needed ? told[0] == '?' : memcmp(told, expected, needed) == 0);
+    }
+    ROW(same(m, &before));
+    cherisim_free(&before);
+}
+
+/* what a call answers; the machine stays as it is, and what isn't written stays too. An audit is refused as it is */
 static watched_t watched(cherisim_t *m, const char *rules, const char *table, cherisim_timetable_t timetable, const char *input) {
     watched_t w = {0, {90, 91, 92, 93, true}, 94};
     cherisim_t before = CHERISIM_NONE;
@@ -26,6 +44,14 @@ static watched_t watched(cherisim_t *m, const char *rules, const char *table, ch
     w.status = cherisim_watch(m, bytes(rules), strlen(rules), bytes(table), strlen(table), &timetable, bytes(input), strlen(input),
                               &w.breach, &w.line);
     ROW(!m->at || same(m, &before));
+    char told[8] = "?";
+    size_t size = 99;
+    uint64_t line = 94;
+    cherisim_status status = cherisim_audit(m, bytes(rules), strlen(rules), bytes(table), strlen(table), &timetable, bytes(input),
+                                            strlen(input), (uint8_t *)told, 0, &size, &line);
+    ROW(told[0] == '?' && line == w.line);
+    ROW(status == (w.status || !w.breach.found ? w.status : CHERISIM_FULL) && (size > 0) == (w.status || w.breach.found));
+    ROW(!w.status || size == 99);
     if (w.status)
         ROW(w.breach.step == 90 && w.breach.line == 91 && w.breach.member == 92 && w.breach.part == 93 && w.breach.found);
     else
@@ -133,34 +159,66 @@ static void refused(void) {
     cherisim_free(&m);
 }
 
+/* each part of each rule once, where it is first broken, as the line says it that has the rule */
+static void audits(void) {
+    static const char *rules = "begin = 0x80000000..+4\n when pc in begin: load no  # and more\n"
+                               "when pc in 0x80000008..+8: store no, halt no, system yes";
+    cherisim_timetable_t timetable = {1000, 1, 1};
+    cherisim_t m = CHERISIM_NONE;
+    of_words(&m, first_words, sizeof first_words, false);
+    audited(&m, rules, timetable,
+            "step 1, pcc 0000000080000000\npolicy: line 2: load\n  rule  when pc in begin: load no\n"
+            "  held  pcc GXRWcCLsiuSd v:1 a:0000000080000000 b:0000000000000000 t:10000000000000000 p:78fff f:0 o:3ffff\n"
+            "step 3, pcc 0000000080000008\npolicy: line 3: store\n  rule  when pc in 0x80000008..+8: store no, halt no, system yes\n"
+            "  held  pcc GXRWcCLsiuSd v:1 a:0000000080000008 b:0000000000000000 t:10000000000000000 p:78fff f:0 o:3ffff\n"
+            "step 3, pcc 0000000080000008\npolicy: line 3: halt\n  rule  when pc in 0x80000008..+8: store no, halt no, system yes\n"
+            "  held  pcc GXRWcCLsiuSd v:1 a:0000000080000008 b:0000000000000000 t:10000000000000000 p:78fff f:0 o:3ffff\n");
+    audited(&m, "when pc in 0x80000014..+4: halt no", timetable, "");
+    steps(&m, 5);
+    ROW(halted(&m).halted);
+    audited(&m, "when pc in 0x80000000..+0x1000: store no", timetable, "");
+    cherisim_free(&m);
+}
+
 /* ---- traces */
 
-static void traced(cherisim_t *m, uint64_t number, const char *expected) {
+static cherisim_status trace(cherisim_t *m, const char *table, uint64_t number, char *text, size_t room, size_t *length, uint64_t *line) {
+    return cherisim_trace(m, bytes(table), strlen(table), number, (uint8_t *)text, room, length, line);
+}
+static void traced(cherisim_t *m, const char *table, uint64_t number, const char *expected) {
     char text[1024];
     size_t length = 99, needed = strlen(expected);
+    uint64_t line = 94;
     memset(text, '?', sizeof text);
-    if (needed) ROW(cherisim_trace(m, number, (uint8_t *)text, needed - 1, &length) == CHERISIM_FULL);
+    if (needed) ROW(trace(m, table, number, text, needed - 1, &length, &line) == CHERISIM_FULL);
     ROW(length == (needed ? needed : 99) && text[0] == '?');
-    DONE(cherisim_trace(m, number, (uint8_t *)text, needed, &length));
-    ROW(length == needed && memcmp(text, expected, needed) == 0 && text[needed] == '?');
+    DONE(trace(m, table, number, text, needed, &length, &line));
+    ROW(length == needed && memcmp(text, expected, needed) == 0 && text[needed] == '?' && line == 94);
 }
 
 static void traces(void) {
     cherisim_t m = CHERISIM_NONE, before = CHERISIM_NONE;
     char text[64] = "?";
     size_t length = 99;
-    ROW(cherisim_trace(&m, 1, (uint8_t *)text, sizeof text, &length) == CHERISIM_NO_MACHINE && length == 99 && text[0] == '?');
+    uint64_t line = 94;
+    ROW(trace(&m, "", 1, text, sizeof text, &length, &line) == CHERISIM_NO_MACHINE && length == 99 && text[0] == '?' && line == 94);
     of_words(&m, first_words, sizeof first_words, false);
     DONE(cherisim_copy(&m, &before));
-    traced(&m, 14, "14 0000000080000000 100005b7 lui a1, 0x10000: ca1 = v:0 a:0000000010000000 b:0000000000000000 t:10000000000000000 "
+    traced(&m, "", 14, "14 0000000080000000 100005b7 lui a1, 0x10000: ca1 = v:0 a:0000000010000000 b:0000000000000000 t:10000000000000000 "
            "p:00000 f:0 o:3ffff\n");
     ROW(same(&m, &before));
     steps(&m, 2);
-    traced(&m, UINT64_MAX, "18446744073709551615 0000000080000008 00a58023 sb a0, 0(a1): device store 1 byte at 0000000010000000: 41\n");
+    traced(&m, "", UINT64_MAX,
+           "18446744073709551615 0000000080000008 00a58023 sb a0, 0(a1): device store 1 byte at 0000000010000000: 41\n");
     steps(&m, 3);
-    traced(&m, 6, "");
+    traced(&m, "", 6, "");
+    of_text(&m, "j next\nnext: nop\n");
+    traced(&m, "0000000080000000 start\n0000000080000004 next\n", 1,
+           "1 0000000080000000 <start> 0040006f jal zero, .+4: jump to 0000000080000004 <next>\n");
+    ROW(trace(&m, "0000000080000000 start\nnext\n", 1, text, sizeof text, &length, &line) == CHERISIM_LABELS && line == 2);
+    ROW(length == 99 && text[0] == '?');
     of_text(&m, "ecall\n");
-    traced(&m, 1, "1 0000000080000000 00000073 ecall: trap environment call, mcause 000000000000000b, mtval 0000000000000000\n");
+    traced(&m, "", 1, "1 0000000080000000 00000073 ecall: trap environment call, mcause 000000000000000b, mtval 0000000000000000\n");
     cherisim_free(&m);
     cherisim_free(&before);
 }
@@ -174,6 +232,7 @@ int main(int count, char **given) {
     compartments(text);
     parts();
     refused();
+    audits();
     traces();
     printf("%lu rows, %lu wrong\n", tried, wrong);
     return wrong != 0;

@@ -63,7 +63,7 @@ static void random_integers(void) {
     uint32_t words[256];
     uint64_t expected[32] = {0};
     cherisim_cap_t values[32];
-    cherisim_asked_t asked = {256, 0, 0, 0, false, false};
+    cherisim_asked_t asked = {256, 0, 0, 0, false, false, false};
     cherisim_ran_t ran = {0, 0, 0};
     uint8_t room;
     for (int n = 1; n < 32; n += 1) expected[n] = sized();
@@ -201,7 +201,8 @@ static uint32_t stop_of(cherisim_t *m, cherisim_asked_t asked, cherisim_ran_t ra
     if (halted(m).halted) return CHERISIM_HALTED;
     if (ran.sent == room) return CHERISIM_BUFFER;
     if (asked.at_address && pc(m) == asked.address) return CHERISIM_ADDRESS;
-    return asked.at_end && ends(m) ? ends(m) : 99;
+    uint32_t end = asked.at_end ? ends(m) : 0;
+    return end && !(asked.doors && end == CHERISIM_SEALED_JUMP) ? end : 99;
 }
 /* a run, by its definition */
 static cherisim_ran_t by_single_calls(cherisim_t *m, cherisim_asked_t asked, uint8_t *bytes, size_t room) {
@@ -226,7 +227,7 @@ static void random_runs(void) {
     DONE(cherisim_copy(&m, &single));
     for (int i = 0; i < 8; i += 1) {
         uint64_t near = pc(&m) + 4 * (drawn() % 8);
-        cherisim_asked_t asked = {drawn() % 100, drawn() % 8, drawn() % 1000, near, drawn() % 3 == 0, drawn() % 3 == 0};
+        cherisim_asked_t asked = {drawn() % 100, drawn() % 8, drawn() % 1000, near, drawn() % 3 == 0, drawn() % 3 == 0, drawn() % 2 == 0};
         size_t room = drawn() % 4 ? 64 : drawn() % 3;
         cherisim_ran_t ran = {99, 99, 99}, expected = by_single_calls(&single, asked, bytes[0], room);
         DONE(cherisim_run(&m, &asked, bytes[1], room, &ran));

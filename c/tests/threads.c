@@ -16,7 +16,7 @@ static size_t program(char *text, size_t room, uint64_t number) {
 
 static bool is_right(uint64_t number) {
     cherisim_t m = CHERISIM_NONE, copy = CHERISIM_NONE;
-    cherisim_asked_t asked = {2 * number, 0, 0, 0, false, false};
+    cherisim_asked_t asked = {2 * number, 0, 0, 0, false, false, false};
     cherisim_ran_t ran;
     cherisim_halted_t halted = {false, 0};
     cherisim_cap_t cap;

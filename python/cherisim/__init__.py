@@ -27,7 +27,7 @@ from ._faults import (CherisimError, Closed, ImageFault, OutOfMemory, OutOfRange
 from ._html import machine_html
 from ._library import NULL_UPPER, SENTRY, UNSEALED, lib
 from ._names import _SHOWN, CSRS, PAGE, RAM, REGISTERS, SCRS
-from ._policy import _ORDER, _PARTS, Breach, Policy, Watched
+from ._policy import _PARTS, Breach, Policy, Watched, found_in
 from ._reach import Answer, Door, Questions, Reach, ReachMember
 from ._symbols import Symbols, labels_of
 from ._views import Memory, Registers, SpecialRegisters, StatusRegisters, _value
@@ -246,6 +246,7 @@ class Machine(Questions):
             wanted, asked.at_end = wanted or {*until}, True
             if not _ENDS.issuperset(wanted):
                 raise ValueError(f"no step is one of {until!r}")
+            asked.doors = Stop.SEALED_JUMP not in wanted
         began, done = len(self.sent), 0
         for byte, mark in zip(bytes(memoryview(input)), range(0, steps, gap)):
             done, stop = self._run_to(asked, done, mark, wanted)
@@ -260,18 +261,19 @@ class Machine(Questions):
         return self.run(steps, (Stop.TRAP, Stop.UNSEAL), tick=tick, input=input, gap=gap)
 
     def trace(self, steps: int, *, tick: int = 0, input: bytes = b"", gap: int = 1000) -> str:
-        """Runs so many steps at most, and answers a line for each, as `cherisim run --trace` writes it (docs/TRACE.md)."""
+        """Runs so many steps at most, and answers a line for each, as `cherisim run --trace` writes it (docs/TRACE.md), with the machine's
+        labels."""
         if gap < 1:
             raise OutOfRange(f"no gap {gap}")
         in_range("number of steps", steps, 64)
         in_range("tick", tick, 64)
-        lines, asked, data = [], c.Asked(tick=tick), bytes(memoryview(input))
+        lines, asked, data, table = [], c.Asked(tick=tick), bytes(memoryview(input)), self.symbols.table()
         for done in range(steps):
             if self.halted is not None:
                 break
             if done % gap == 0 and done // gap < len(data):
                 self.receive(data[done // gap:done // gap + 1])
-            lines.append(self._text(lib.cherisim_trace, c_uint64(done + 1)))
+            lines.append(self._text(lib.cherisim_trace, table, len(table), c_uint64(done + 1), line=c_uint64()))
             self._run_to(asked, done, done + 1)
         return "".join(lines)
 
@@ -289,17 +291,17 @@ class Machine(Questions):
 
     def audit(self, policy: Union[Policy, str], steps: int, *, tick: int = 0, input: bytes = b"", gap: int = 1000) -> List[Breach]:
         """Each part of a rule that is broken in a run, with the first step before which it is, as `cherisim audit` tells them. The machine
-        stays as it is. The run is done for each part of a rule."""
+        stays as it is."""
         from ._replay import Replay, Schedule  # which is made of this module, too
         policy, timetable, data = self._policed(policy, steps, tick, gap), c.Timetable(steps, gap, tick), bytes(memoryview(input))
-        self._breach(policy, timetable, data)
-        every = [self._breach(part, timetable, data) for part in policy._single()]
-        found = sorted((it for it in every if it.found), key=lambda it: (it.step, it.line, _ORDER.index(_PARTS[it.part])))
-        told, run = [], Replay(self.copy(), Schedule(data, gap, tick))
-        for it in found:
-            run.go_to(it.step - 1)
-            told.append(run.machine._shown_breach(it))
-        return told
+        told = self._text(lib.cherisim_audit, policy.text, len(policy.text), policy.labels, len(policy.labels), byref(timetable), data,
+                          len(data), line=c_uint64())
+        found, run = [], Replay(self.copy(), Schedule(data, gap, tick))
+        for step, line, part, where in found_in(told):
+            run.go_to(step - 1)
+            reach = run.machine.reach()
+            found.append(Breach.by(step, line, part, reach, next(it.number for it in reach if it.where == where)))
+        return found
 
     def _policed(self, policy: Union[Policy, str], steps: int, tick: int, gap: int) -> Policy:
         """A policy that is given as itself or as a text, where the numbers of a run are in range."""
@@ -309,9 +311,7 @@ class Machine(Questions):
 
     def _shown_breach(self, found: c.Breach) -> Breach:
         """A breach, of the state before its step."""
-        reach = self.reach()
-        way = tuple(reach[number] for number in reach.chain(found.member))
-        return Breach(found.step, found.line, _PARTS[found.part], way[-1], way)
+        return Breach.by(found.step, found.line, _PARTS[found.part], self.reach(), found.member)
 
     def _breach(self, policy: Policy, timetable: c.Timetable, data: bytes) -> c.Breach:
         """Where a policy stops a run, as C gives it."""
@@ -441,17 +441,17 @@ class Machine(Questions):
         self._do(lib.cherisim_next_ends, byref(why))
         return Stop(why.value) if why.value else None
 
-    def _text(self, call: Any, *given: Any) -> str:
-        """The text of a call that takes a buffer, its room, and where it puts the length, which is what the text takes where it is too
-        long."""
-        room, length = create_string_buffer(_ROOM["text"]), c_size_t()
+    def _text(self, call: Any, *given: Any, line: Optional[c_uint64] = None) -> str:
+        """The text of a call that takes a buffer, its room, where it puts the length, which is what the text takes where it is too long,
+        and where it puts the number of a faulty line, if it reads lines."""
+        room, length, faulty = create_string_buffer(_ROOM["text"]), c_size_t(), () if line is None else (byref(line),)
         self._own()
-        status = call(self._at, *given, room, len(room), byref(length))
+        status = call(self._at, *given, room, len(room), byref(length), *faulty)
         if status == _FULL:
             room = create_string_buffer(length.value)
-            status = call(self._at, *given, room, len(room), byref(length))
+            status = call(self._at, *given, room, len(room), byref(length), *faulty)
         if status:
-            raise refusal(status, call.__name__)
+            raise refusal(status, call.__name__, line.value if line else 0)
         return room.raw[:length.value].decode("ascii")
 
     def why(self) -> str:

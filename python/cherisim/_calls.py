@@ -39,7 +39,7 @@ class Stepped(ctypes.Structure):
 
 class Asked(ctypes.Structure):
     _fields_ = [("steps", c_uint64), ("tick", c_uint64), ("before", c_uint64), ("address", c_uint64), ("at_address", c_bool),
-                ("at_end", c_bool)]
+                ("at_end", c_bool), ("doors", c_bool)]
 
 
 class Ran(ctypes.Structure):
@@ -171,7 +171,7 @@ CALLS: Dict[str, Tuple[Any, ...]] = {  # what each answers, and what it is given
     "cherisim_write_cap": (c_uint32, POINTER(Handle), c_uint64, Cap),
     "cherisim_next_ends": (c_uint32, POINTER(Handle), POINTER(c_uint32)),
     "cherisim_why": (c_uint32, POINTER(Handle), c_char_p, c_size_t, POINTER(c_size_t)),
-    "cherisim_trace": (c_uint32, POINTER(Handle), c_uint64, c_char_p, c_size_t, POINTER(c_size_t)),
+    "cherisim_trace": (c_uint32, POINTER(Handle), c_char_p, c_size_t, c_uint64, c_char_p, c_size_t, POINTER(c_size_t), POINTER(c_uint64)),
     "cherisim_disassemble": (c_size_t, c_uint32, c_bool, c_char_p),
     "cherisim_reach": (c_uint32, POINTER(Handle), POINTER(Member), c_size_t, POINTER(c_size_t)),
     "cherisim_may_store": (c_uint32, POINTER(Handle), c_uint64, c_uint64, POINTER(Answer)),
@@ -189,4 +189,6 @@ CALLS: Dict[str, Tuple[Any, ...]] = {  # what each answers, and what it is given
     "cherisim_may": (c_uint32, POINTER(Handle), POINTER(Question), POINTER(Answer)),
     "cherisim_watch": (c_uint32, POINTER(Handle), c_char_p, c_size_t, c_char_p, c_size_t, POINTER(Timetable), c_char_p, c_size_t,
                        POINTER(Breach), POINTER(c_uint64)),
+    "cherisim_audit": (c_uint32, POINTER(Handle), c_char_p, c_size_t, c_char_p, c_size_t, POINTER(Timetable), c_char_p, c_size_t,
+                       c_char_p, c_size_t, POINTER(c_size_t), POINTER(c_uint64)),
 }

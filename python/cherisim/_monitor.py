@@ -10,7 +10,7 @@ from ._symbols import Symbols
 
 _NO = {False: "no, until the next trap, unsealing or sealed jump\n", True: "no, until the next trap or unsealing\n"}  # through doors
 _MOVES = ("step", "tick", "byte", "until", "trap", "go", "changed", "back")
-_NOT_IN_C = ("origin", "lost", "dot")
+_NOT_IN_C = ("origin", "lost")
 _BANKS = ("regs", "scr", "csr", "caps")
 _QUESTIONS = {"store": (2,), "load": (2,), "execute": (2,), "learn": (2,), "keep": (0, 2), "send": (0,), "halt": (0,), "system": (0,),
               "timer": (0,), "hold": (1,)}  # how many operands each has
@@ -27,7 +27,7 @@ reg R                   a general register as a capability
 caps                    the capabilities in RAM
 mem ADDR LEN            bytes of RAM, at most 4096
 dis ADDR N              words of RAM as instructions, at most 1024
-reach, reach members    what the code that runs can come to hold, in sum and each; reach doors: through doors, too
+reach, reach members    what the code that runs can come to hold, in sum and each; reach doors: through doors, too; reach dot: a graph
 may store ADDR LEN      whether it may store there; load, execute, learn and keep likewise
 may send                whether it may send a byte; halt, system and timer likewise
 may hold TYPE           whether a member is sealed with an object type, or may seal with it
@@ -74,7 +74,7 @@ class Monitor:
         word, *given = line.split() or [""]
         if word in _MOVES:
             return "GDB's own commands move the machine\n"
-        if word in _NOT_IN_C or given[-1:] and given[-1] in _NOT_IN_C:
+        if word in _NOT_IN_C:
             return "the library has no such question: ask it of `cherisim debug`\n"
         if word in _BANKS:
             return self._bank(word) if not given else "fault B2\n"
@@ -147,9 +147,11 @@ class Monitor:
         return f"{it.number} {self._place(it)}{'' if it.from_ is None else f' from {it.from_}'} {self._shown(it.value)}\n"
 
     def _reach(self, what: str = "") -> str:
-        if what not in ("", "members", "doors"):
+        if what not in ("", "members", "dot", "doors"):
             raise Fault("B2")
         reach = self._machine().reach(doors=what == "doors")
+        if what == "dot":
+            return self._graph(reach)
         if what == "members":
             return "".join(map(self._member, reach))
         kinds = ["door" if isinstance(it.where, Door) else "register" if it.from_ is None else "special" if it.where in SCRS else "memory"
@@ -165,6 +167,15 @@ class Monitor:
         text += (lines or "device none\n") + f"system registers {'yes' if system else 'no'}\n"
         text += "".join(self._ranges(name, needs, reach) for name, needs in _RIGHTS[4:])
         return text + "".join(self._member(it) for it in reach if it.value.sealed)
+
+    def _graph(self, reach: Reach) -> str:
+        """A reach in the language of Graphviz: a node a member, an edge a link with its place; what is sealed is dashed."""
+        text = "digraph reach {\n  rankdir=LR;\n  node [shape=box, fontname=monospace];\n  registers [shape=plaintext];\n"
+        for it in reach:
+            begin, dashed = "registers" if it.from_ is None else f"n{it.from_}", ", style=dashed" * it.value.sealed
+            text += f'  n{it.number} [label="{letters(it.value.perms)}\\n{it.value.base:016x} to {it.value.top:017x}"{dashed}];\n'
+            text += f'  {begin} -> n{it.number} [label="{self._place(it)}"];\n'
+        return text + "}\n"
 
     @staticmethod
     def _opens(reach: Reach, address: int, right: Perms) -> bool:

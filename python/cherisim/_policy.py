@@ -1,10 +1,11 @@
 """Policies: rules about what code in some ranges can come to hold (docs/POLICY.md)."""
 from __future__ import annotations
 
+import re
 from typing import TYPE_CHECKING, Iterator, NamedTuple, Optional, Tuple, Union
 
 from . import _library as c
-from ._reach import ReachMember
+from ._reach import Reach, ReachMember
 from ._symbols import Symbols
 
 if TYPE_CHECKING:
@@ -12,7 +13,8 @@ if TYPE_CHECKING:
 
 _PARTS = {value: name[len("RULE_"):].lower() for name, value in c.CONSTANTS.items() if name.startswith("RULE_")}
 
-_ORDER = ("store", "load", "execute", "keep", "transmit", "halt", "timer", "system", "seal", "types")  # in which parts are told
+_FOUND = re.compile(r"step (\d+), pcc .*\npolicy: line (\d+): (\w+)\n  rule  .*\n  held  (?:.* -> )?(\S+)(?: <\S+>)? \S+ v:.*\n")
+"""What an audit tells of a part of a rule that is broken."""
 
 
 class Breach(NamedTuple):
@@ -25,12 +27,24 @@ class Breach(NamedTuple):
     member: ReachMember
     way: Tuple[ReachMember, ...]
 
+    @classmethod
+    def by(cls, step: int, line: int, part: str, reach: Reach, number: int) -> Breach:
+        """That by the member with this number of what is reachable before the step."""
+        way = tuple(reach[it] for it in reach.chain(number))
+        return cls(step, line, part, way[-1], way)
+
 
 class Watched(NamedTuple):
     """What a run did that a policy watches, and the breach before which it stopped, or None."""
 
     ran: Ran
     breach: Optional[Breach]
+
+
+def found_in(told: str) -> Iterator[Tuple[int, int, str, Union[str, int]]]:
+    """Of each part of a rule that an audit tells of: the step, the line, the part, and where what breaks it was found."""
+    for step, line, part, place in _FOUND.findall(told):
+        yield int(step), int(line), part, int(place, 16) if len(place) == 16 else place
 
 
 class Policy:
@@ -46,23 +60,10 @@ class Policy:
         """That of a text. Raises PolicyFault with the first faulty line, and SymbolsFault with that of the table."""
         from . import Machine  # which is made of this module, too
         table = Symbols.read(symbols) if isinstance(symbols, str) else symbols or Symbols()
-        policy = cls(text.encode(), "".join(f"{address:016x} {name}\n" for name, address in table.items()).encode())
+        policy = cls(text.encode(), table.table())
         with Machine(text="") as machine:
             machine._breach(policy, c.Timetable(0, 1, 0), b"")
         return policy
-
-    def _single(self) -> Iterator[Policy]:
-        """For each part of each rule a policy of this part alone, in the same line, with `or caller` where the rule has it."""
-        lines = [line.partition("#")[0] for line in self.text.decode("latin-1").split("\n")]
-        names = ["" if ":" in line else line for line in lines]  # definitions have no colon
-        for at, line in enumerate(lines):
-            head, colon, body = line.partition(":")
-            parts = [part for part in body.split(",") if colon]
-            callers = [part for part in parts if part.split() == ["or", "caller"]]
-            for part in parts:
-                if part not in callers:
-                    rule = f"{head}:{','.join([part, *callers])}"
-                    yield Policy("\n".join([*names[:at], rule, *names[at + 1:]]).encode("latin-1"), self.labels)
 
     def __repr__(self) -> str:
         return f"<Policy of {len(self.text.splitlines())} lines>"

@@ -56,6 +56,10 @@ class Symbols:
         """The labels with their addresses."""
         return list(self._addresses.items())
 
+    def table(self) -> bytes:
+        """Their table, as `cherisim asm --symbols` writes it."""
+        return "".join(f"{address:016x} {name}\n" for name, address in self._addresses.items()).encode()
+
     def near(self, address: int) -> str:
         """The label at an address or fewer than 4096 bytes below it, as `<table+16>`: empty where there is none."""
         at = bisect_right(self._rows, (address, "\U0010ffff")) - 1

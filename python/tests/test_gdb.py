@@ -258,20 +258,27 @@ class Monitored(unittest.TestCase):
                 at += answer.count("\n")
         self.assertEqual(at, len(told))
 
+    def test_graphs(self):
+        """Those of docs/pictures, which the debugger's `reach dot` gives."""
+        machine = Machine(text=read("examples", "compartments.s"))
+        for name, label in (("reach-a", "a_code"), ("reach-kernel", "trap")):
+            machine.run(1000, machine.symbols[label])
+            self.assertEqual(self.said(machine, "reach dot"), [read("docs", "pictures", f"{name}.dot").decode()])
+
     def test_looks(self):
         machine = Machine(text=COUNT)
         machine.step(3)
         elsewhere = "the library has no such question: ask it of `cherisim debug`\n"
         self.assertEqual(self.said(machine, "reg ca0", "mem 0x80000100 9", "mem start 4", "dis loop 2", "ago", "step 1", "go", "stops",
                                    "origin ca0", "nonsense", "reg 5", "mem 0 1", "mem 0x80000000 0", "dis 0x80000002 1", "caps", "may send",
-                                   "may sing", "reach dot", "stop", "stop never", ""),
+                                   "may sing", "stop", "stop never", ""),
                          ["ca0 v:0 a:0000000000000003 b:0000000000000000 t:10000000000000000 p:00000 f:0 o:3ffff\n",
                           "0000000080000100: 03 00 00 00 00 00 00 00 00\n", "0000000080000000: 17 06 00 00\n",
                           "0000000080000008 <loop> 10a63023 sd a0, 256(a2)\n000000008000000c <loop+4> fff50513 addi a0, a0, -1\n", "0\n",
                           *["GDB's own commands move the machine\n"] * 2, "", elsewhere,
                           "fault B1\n", "fault B2\n", "fault B3\n", "fault B2\n", "fault B2\n", "",
                           "yes: pcc GXRWcCLsiuSd v:1 a:000000008000000c b:0000000000000000 t:10000000000000000 p:78fff f:0 o:3ffff\n",
-                          "fault B2\n", elsewhere, "stop takes unhandled, trap, never\n", "", "fault B1\n"])
+                          "fault B2\n", "stop takes unhandled, trap, never\n", "", "fault B1\n"])
         self.assertEqual(self.said(machine, "why"), [machine.why()])
         self.assertEqual(self.said(machine, "regs")[0].splitlines()[10], f"ca0 {machine.regs['ca0']}")
         self.assertEqual(self.said(machine, "csr")[0].splitlines()[0], f"mstatus {machine.csrs['mstatus']:016x}")

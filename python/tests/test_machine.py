@@ -12,8 +12,8 @@ from unittest import mock
 
 from support import FIRST, NO_PROGRAM, PAGE, PROGRAM, RAM, has_program, image, read
 import cherisim
-from cherisim import (CSRS, REGISTERS, SCRS, Cap, CherisimError, Closed, Console, ImageFault, Machine, OutOfRange, Perms, Stop, TextFault,
-                      Timer, WrongThread, decode)
+from cherisim import (CSRS, REGISTERS, SCRS, Cap, CherisimError, Closed, Console, ImageFault, Machine, OutOfRange, Perms, Stop, Symbols,
+                      TextFault, Timer, WrongThread, decode)
 
 HELLO = r"""
         lui a1, 0x10000
@@ -366,9 +366,11 @@ class Texts(unittest.TestCase):
 
     def test_trace(self):
         """Lines of docs/TRACE.md, and all of a run against the program's."""
-        lines = Machine(text=read("examples", "hello.s")).trace(1000).splitlines()
+        lines = Machine(text=read("examples", "hello.s"), symbols=Symbols()).trace(1000).splitlines()
         page = read("docs", "TRACE.md").decode().split("```console\n")[1].split("```")[0].splitlines()
         self.assertEqual((lines[13:17], len(lines)), (page[-4:], 67))
+        self.assertEqual(Machine(text="j next\nnext: nop\n").trace(1),
+                         "1 0000000080000000 0040006f jal zero, .+4: jump to 0000000080000004 <next>\n")
         machine = Machine(text="nop\nebreak\n")
         self.assertEqual(machine.trace(0), "")
         self.assertEqual(machine.trace(2).count("\n"), 2)
@@ -379,15 +381,16 @@ class Texts(unittest.TestCase):
 
     @unittest.skipUnless(has_program(), NO_PROGRAM)
     def test_trace_of_the_program(self):
+        """With the labels of the text."""
         with tempfile.TemporaryDirectory() as folder:
             for name, given in (("hello", {}), ("timer", {"tick": 9}), ("echo", {"input": b"ab\n", "gap": 50}), ("sealed", {})):
-                text, paths = read("examples", f"{name}.s"), [os.path.join(folder, it) for it in ("t.s", "t.img", "t.trace", "t.in")]
+                text, paths = read("examples", f"{name}.s"), [os.path.join(folder, it) for it in ("s", "img", "trace", "in", "sym")]
                 for path, data in ((paths[0], text), (paths[3], given.get("input", b""))):
                     with open(path, "wb") as file:
                         file.write(data)
                 numbers = [str(given.get(name, other)) for name, other in (("tick", 0), ("gap", 1000))]
-                options = ["--trace", paths[2], "--tick", numbers[0], "--gap", numbers[1], "--input", paths[3]]
-                subprocess.run([PROGRAM, "asm", *paths[:2]], check=True, stdout=subprocess.DEVNULL)
+                options = ["--trace", paths[2], "--tick", numbers[0], "--gap", numbers[1], "--input", paths[3], "--symbols", paths[4]]
+                subprocess.run([PROGRAM, "asm", *paths[:2], "--symbols", paths[4]], check=True, stdout=subprocess.DEVNULL)
                 subprocess.run([PROGRAM, "run", paths[1], "500", *options], check=False, capture_output=True)
                 with open(paths[2], encoding="ascii") as file:
                     self.assertEqual(Machine(text=text).trace(500, **given), file.read(), name)

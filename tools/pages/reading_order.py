@@ -76,7 +76,8 @@ REST = [
      "command_line/specs/CommandLine; schedules/specs/Schedule; sim_run/specs/Trace, Verdict, Unhandled, Ending, Stopping"),
     ("walks over a schedule, and who watches them", "schedules/specs/Whole, Walk, Pace, Both, Output"),
     ("policies as texts, runs that are watched by one, audits",
-     "policy_text/specs/Policy, Sound; policy_runs/specs/Keeping; breach_texts/specs/Text; policy_audit/specs/Found, Told, Text, Entries"),
+     "policy_text/specs/Policy, Sound; policy_runs/specs/Keeping; breach_texts/specs/Text; "
+     "policy_audit/specs/Found, Told, Lines, Text, Entries"),
     ("where a value came from, and where a tag was lost",
      "origins/specs/Places, Making, Made, Tags, Kept, Search, Parts; past/specs/Replay, Position, Given; "
      "origin_texts/specs/Link, Conditions, Origin"),
@@ -86,7 +87,8 @@ REST = [
      "commands/specs/Files, Loading, Assembling, Imaging, Bounding, Listing, Running, Watching, Auditing, Overwriting; "
      "program/specs/Debugging, Carrying"),
     ("capabilities and the machine for C",
-     "c_types/specs/Halves, Words; cheri_c/specs/Insns; cherisim_c/specs/Status, Made, Running, Stepping, Reaching, Questions, Policies"),
+     "c_types/specs/Halves, Words; cheri_c/specs/Insns; "
+     "cherisim_c/specs/Status, Made, Running, Stepping, Reaching, Questions, Refusals, Policies"),
 ]
 
 

@@ -1,3 +1,4 @@
+pub mod Buffers
 pub mod RamBytes
 pub mod Reaches
 pub mod Runs

@@ -76,7 +76,7 @@ is-none (Some n) none = absurd (cc)
 
 -- what is asked when steps are left, when the machine runs besides, and when the buffer has room besides
 abbrev in_place : Asked → State → Option ℕ
-in_place a s = if is_at_stop a s then Some 3 else (if a.at_end then end_code (why_of (outcome Step s)) else None)
+in_place a s = if is_at_stop a s then Some 3 else (if a.at_end then end_code a.doors (why_of (outcome Step s)) else None)
 
 abbrev in_running : Asked → ℕ → State → Option ℕ
 in_running a room s = if room == 0 then Some 2 else in_place a s
@@ -124,8 +124,8 @@ stopless a left room s some place on =
     (no-end a.at_end s on.no_end)
   where
     no-end : (ends : Bool) (s : State) → (ends ≡ true → outcome Step s ≡ Plain)
-        → (if ends then end_code (why_of (outcome Step s)) else None) ≡ None
-    no-end true s plain = ap (λ o. end_code (why_of o)) (plain refl)
+        → (if ends then end_code a.doors (why_of (outcome Step s)) else None) ≡ None
+    no-end true s plain = ap (λ o. end_code a.doors (why_of o)) (plain refl)
     no-end false s plain = refl
 
 -- a plain step short of the address where a run stops, if it stops at one, is one that the run goes by

@@ -10,13 +10,25 @@ use Rattle.policy_runs.specs.Keeping.{StepsKeepToEach}
 use Rattle.schedules.specs.declared.schedule.Schedule.{Schedule}
 use Rattle.schedules.specs.Schedule.{IsPlaceOf, events_before, scheduled}
 use Rattle.steps.specs.State.{State}
+use Rattle.cherisim_c.specs.declared.refusal.Refusal.{Refusal}
+use Rattle.cherisim_c.specs.declared.refusal.Refusal.TheVariants as refusal
+use Rattle.cherisim_c.specs.declared.types.Timetable.{Timetable}
 use Rattle.cherisim_c.specs.Policies.{Stops}
+use Rattle.cherisim_c.specs.Refusals.{IsLabelsRefusal, IsRefusalOf}
 
 -- what holds of a refusal holds of a result that hands it on
 pub refused_so : {T F : Type 0} (result : Result T F) (fault : F) (Holds : F → Type 0)
     → IsErrAnd result (λ f. f ≡ fault) → Holds fault → IfErr result Holds
 refused_so (Err f) fault Holds same holds = subst Holds (sym same) holds
 refused_so (Ok x) fault Holds same holds = tt
+
+-- a refusal of labels is one of a question with them
+pub of_labels : (labels text : List ℕ) (t : Timetable) (refusal : Refusal) → IsLabelsRefusal labels refusal
+    → IsRefusalOf labels text t refusal
+of_labels labels text t (refusal.Labels line) is = is
+of_labels labels text t refusal.Memory is = tt
+of_labels labels text t refusal.Schedule is = absurd is
+of_labels labels text t (refusal.Text line code) is = absurd is
 
 module _ (rules : List Terms) (schedule : Schedule) (input : List ℕ) (s : State) where
   stops_here : (later : State) (found : Option Breach)

@@ -5,6 +5,7 @@ pub mod Running
 pub mod Stepping
 pub mod Reaching
 pub mod Questions
+pub mod Refusals
 pub mod Policies
 -- Inner words
 pub mod Handle

@@ -1,70 +1,42 @@
 -- What a policy says of the runs of a machine on a schedule, as C gets it.
-use Rattle.std.specs.Prelude.{◌≡◌, ℕ, true, false, List, Option, None, Some, Err, Ok, slice_get, ⊤}
+use Rattle.std.specs.Prelude.{◌≡◌, ℕ, true, false, if◌then◌else◌, List, [], Option, None, Some, Ok, slice_get}
+use Rattle.breach_texts.specs.declared.breach.RuleLine.{RuleLine}
 use Rattle.machine.specs.Run.{run_after}
 use Rattle.policy.specs.Lending.{in_force}
 use Rattle.policy.specs.declared.rule.Ban.{Ban}
 use Rattle.policy.specs.declared.rule.Ban.TheVariants as ban
 use Rattle.policy.specs.Terms.{Terms, terms_of}
 use Rattle.policy.specs.Watch.{IsRefused}
+use Rattle.policy_audit.specs.Lines.{AreLinesOf}
+use Rattle.policy_audit.specs.Text.{audit_text}
 use Rattle.policy_runs.specs.declared.breach.Breach.{Breach as RunBreach}
 use Rattle.policy_runs.specs.Keeping.{StepsKeepToEach}
-use Rattle.policy_text.specs.declared.fault.PolicyCode.{PolicyCode}
-use Rattle.policy_text.specs.declared.fault.PolicyCode.TheVariants.{P1, P2, P3, P4, P5, P6, P7, P8}
 use Rattle.policy_text.specs.declared.reading.Policy.{Policy}
 use Rattle.policy_text.specs.Policy.{policy_of}
 use Rattle.policy_text.specs.Seen.{seen}
 use Rattle.schedules.specs.declared.schedule.Schedule.{Schedule}
 use Rattle.schedules.specs.Schedule.{IsPlaceOf, IsRunnable, events_before, is_halted, scheduled}
 use Rattle.steps.specs.State.{State}
-use Rattle.symbols.specs.Symbols.{faulty_line, symbols_of}
-use Rattle.cherisim_c.specs.declared.refusal.Refusal.{Refusal}
-use Rattle.cherisim_c.specs.declared.refusal.Refusal.TheVariants as refusal
+use Rattle.symbols.specs.Symbols.{Symbol, faulty_line, symbols_of}
+use Rattle.cherisim_c.specs.declared.policed.Policed.{Policed}
 use Rattle.cherisim_c.specs.declared.types.Breach.{Breach}
 use Rattle.cherisim_c.specs.declared.types.Timetable.{Timetable}
+use Rattle.cherisim_c.specs.Refusals.{schedule_of}
 use Rattle.cherisim_c.specs.Running.{code_or_zero}
-use Rattle.cherisim_c.specs.Status.{no_memory, out_of_range}
 
--- ---- what is refused
+-- ---- what is read
 
--- 48 and the number of the fault of a policy's text
-abbrev pub policy_status : PolicyCode → ℕ
-policy_status P1 = 49
-policy_status P2 = 50
-policy_status P3 = 51
-policy_status P4 = 52
-policy_status P5 = 53
-policy_status P6 = 54
-policy_status P7 = 55
-policy_status P8 = 56
+-- the texts are a table of labels and a policy
+pub record IsPolicyOf (labels text : List ℕ) (policy : Policy) : Type 0 where
+  pub labelled : faulty_line labels ≡ None
+  pub read : policy_of (symbols_of labels) text ≡ Ok (seen policy)
 
-abbrev pub refusal_status : Refusal → ℕ
-refusal_status refusal.Schedule = out_of_range
-refusal_status (refusal.Labels line) = 57
-refusal_status (refusal.Text line code) = policy_status code
-refusal_status refusal.Memory = no_memory
-
--- the faulty line, or 0
-abbrev pub refusal_line : Refusal → ℕ
-refusal_line refusal.Schedule = 0
-refusal_line (refusal.Labels line) = line
-refusal_line (refusal.Text line code) = line
-refusal_line refusal.Memory = 0
-
-abbrev pub schedule_of : Timetable → Schedule
-schedule_of t = record { steps = t.steps; gap = t.gap; tick = t.tick }
-
--- it is that of the table of labels or of the text, or of the memory
-abbrev pub IsRefusalOf : List ℕ → List ℕ → Timetable → Refusal → Type 0
-IsRefusalOf labels text t refusal.Schedule = IsRunnable (schedule_of t) → ⊥
-IsRefusalOf labels text t (refusal.Labels line) = faulty_line labels ≡ Some line
-IsRefusalOf labels text t (refusal.Text line code) = policy_of (symbols_of labels) text ≡ Err (line, code)
-IsRefusalOf labels text t refusal.Memory = ⊤
-
-pub record IsPolicyRefusal (labels text : List ℕ) (t : Timetable) (line status : ℕ) : Type 0 where
-  pub refusal : Refusal
-  pub number : status ≡ refusal_status refusal
-  pub at_line : line ≡ refusal_line refusal
-  pub is_so : IsRefusalOf labels text t refusal
+-- with the labels, and the schedule of a timetable
+pub record AreRead (labels text : List ℕ) (t : Timetable) (read : Policed) : Type 0 where
+  pub policy : IsPolicyOf labels text read.policy
+  pub symbols : read.symbols ≡ symbols_of labels
+  pub schedule : read.schedule ≡ schedule_of t
+  pub runnable : IsRunnable (schedule_of t)
 
 -- ---- where a policy stops a run
 
@@ -106,11 +78,6 @@ c_breach lines (Some x) =
       found = true;
     }
 
--- the texts are a table of labels and a policy
-pub record IsPolicyOf (labels text : List ℕ) (policy : Policy) : Type 0 where
-  pub labelled : faulty_line labels ≡ None
-  pub read : policy_of (symbols_of labels) text ≡ Ok (seen policy)
-
 -- A breach says where the policy of a text stops a run, or that it stops it nowhere.
 pub record IsBreachOf (labels text : List ℕ) (schedule : Schedule) (input : List ℕ) (s : State) (breach : Breach) : Type 0 where
   pub policy : Policy
@@ -118,3 +85,20 @@ pub record IsBreachOf (labels text : List ℕ) (schedule : Schedule) (input : Li
   pub stop : Option RunBreach
   pub stops : Stops (terms_of policy.rules.items) schedule input s stop
   pub shown : breach ≡ c_breach policy.lines.items stop
+
+-- ---- an audit
+
+-- what an audit of a run tells, with these lines of its rules; a halted machine does no step
+abbrev pub audit_of : List RuleLine → List Symbol → List Terms → Schedule → List ℕ → State → List ℕ
+audit_of lines symbols rules schedule input s =
+    if is_halted s then [] else audit_text symbols lines rules (scheduled schedule input s) s
+
+-- the same, where the rules are those of a text
+abbrev pub TellsOf : List ℕ → Policed → List ℕ → State → List ℕ → Type 0
+TellsOf text read input s told =
+    (lines : List RuleLine) × AreLinesOf text read.policy.lines.items lines
+    × (told ≡ audit_of lines read.symbols (terms_of read.policy.rules.items) read.schedule input s)
+
+-- A text is what an audit of a run by the policy of a text tells.
+abbrev pub IsAuditOf : List ℕ → List ℕ → Timetable → List ℕ → State → List ℕ → Type 0
+IsAuditOf labels text t input s told = (read : Policed) × AreRead labels text t read × TellsOf text read input s told

@@ -11,16 +11,17 @@ use Rattle.steps.specs.State.{State, pc_of}
 use Rattle.explain.specs.TraceLine.{trace_line}
 use Rattle.machine.specs.Run.{run_after}
 use Rattle.schedules.specs.Schedule.{ticks_after}
+use Rattle.symbols.specs.Symbols.{Symbol}
 use Rattle.cherisim_c.specs.declared.types.Asked.{Asked}
 use Rattle.cherisim_c.specs.declared.types.Halted.{Halted}
 use Rattle.cherisim_c.specs.declared.types.Sent.{Sent}
 
--- why the next step would end a stretch, as a number
-abbrev pub end_code : Option Why → Option ℕ
-end_code None = None
-end_code (Some Trap) = Some 4
-end_code (Some Unseal) = Some 5
-end_code (Some SealedJump) = Some 6
+-- why the next step would end a stretch, as a number; through doors a jump through a seal does not
+abbrev pub end_code : Bool → Option Why → Option ℕ
+end_code doors None = None
+end_code doors (Some Trap) = Some 4
+end_code doors (Some Unseal) = Some 5
+end_code doors (Some SealedJump) = if doors then None else Some 6
 
 -- the same with 0 where it would not
 abbrev pub code_or_zero : Option ℕ → ℕ
@@ -32,15 +33,15 @@ abbrev pub is_at_stop : Asked → State → Bool
 is_at_stop a s = a.at_address && (pc_of s == a.address)
 
 -- Why a run goes no further, where so many steps are left and the buffer has room for so many bytes: all steps were done (0), the
--- machine is halted (1), the buffer is full (2), PCC has the address (3), or the next step traps (4), unseals (5) or jumps through a
--- seal (6).
+-- machine is halted (1), the buffer is full (2), PCC has the address (3), or the next step traps (4), unseals (5) or, unless doors are
+-- gone through, jumps through a seal (6).
 unfoldable pub stop_at : Asked → ℕ → ℕ → State → Option ℕ
 stop_at a left room s =
     if left == 0 then Some 0 else
     (if is_some s.devices.halted then Some 1 else
     (if room == 0 then Some 2 else
     (if is_at_stop a s then Some 3 else
-    (if a.at_end then end_code (why_of (outcome Step s)) else None))))
+    (if a.at_end then end_code a.doors (why_of (outcome Step s)) else None))))
 
 -- the tick after the step of this number, which left this state; none follows a step that halts the machine
 abbrev pub tick_after : Asked → ℕ → State → List Event
@@ -69,6 +70,6 @@ abbrev pub halted_of : Option ℕ → Halted
 halted_of None = record { halted = false; number = 0 }
 halted_of (Some number) = record { halted = true; number = number }
 
--- the line of a trace for the next step, with its number; a halted machine has none
-abbrev pub step_line : ℕ → State → List ℕ
-step_line number s = if is_some s.devices.halted then [] else trace_line [] number s
+-- the line of a trace for the next step, with its number, where there are these labels; a halted machine has none
+abbrev pub step_line : List Symbol → ℕ → State → List ℕ
+step_line symbols number s = if is_some s.devices.halted then [] else trace_line symbols number s

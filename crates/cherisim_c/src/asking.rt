@@ -1,15 +1,19 @@
 //! What the next step will do, and texts.
 
-ghost use Rattle.std.specs.Prelude.{◌≡◌, ◌⊎◌, ◌≤◌, ◌<◌, [], None, IfSome, IfOk, length, take, string_bytes};
+ghost use Rattle.std.specs.Prelude.{◌≡◌, ◌⊎◌, ◌≤◌, ◌<◌, [], false, None, IfSome, IfOk, IfErr, length, take, string_bytes};
 ghost use Rattle.disassembler.specs.Shown.{shown_word};
 ghost use Rattle.explain.specs.WhyText.{why_text};
 ghost use Rattle.steps.specs.declared.event.Event.TheVariants.{Step};
 ghost use Rattle.steps.specs.Ends.{why_of};
 ghost use Rattle.steps.specs.Event.{outcome};
+ghost use Rattle.symbols.specs.Symbols.{symbols_of};
+ghost use Rattle.cherisim_c.specs.Refusals.{IsLabelsRefusal, IsRefusal};
 ghost use Rattle.cherisim_c.specs.Status.{no_machine, no_memory, full};
 ghost use Rattle.cherisim_c.specs.Running.{end_code, code_or_zero, step_line};
 
 use crate::handle::Handle;
+use crate::policed::labels_of;
+use crate::refusal::Refusal;
 use crate::running::code_of_end;
 use crate::status::{FULL, NO_MACHINE, NO_MEMORY, OK};
 use disassembler::disassemble;
@@ -24,12 +28,12 @@ use word_cap::WordCap;
 pub extern "C" fn cherisim_next_ends(alloc: Global, machine: &mut Handle, why: &mut u32) -> u32
     ensures state { machine.new.machine ≡ machine.old.machine }
     ensures closed { machine.old.machine ≡ None → result ≡ no_machine }
-    ensures ok { IfSome machine.old.machine (λ s. (result ≡ 0) × (why.new ≡ code_or_zero (end_code (why_of (outcome Step s))))) }
+    ensures ok { IfSome machine.old.machine (λ s. (result ≡ 0) × (why.new ≡ code_or_zero (end_code false (why_of (outcome Step s))))) }
     ensures same { 1 ≤ result → why.new ≡ why.old }
 {
     match machine.take(alloc) {
         Some(held) => {
-            *why = code_of_end(held.next_ends(Event::Step)).unwrap_or(0);
+            *why = code_of_end(held.next_ends(Event::Step), false).unwrap_or(0);
             machine.put(held);
             OK
         }
@@ -47,10 +51,11 @@ fn why_of(alloc: Global, machine: &Machine<WordCap>) -> Result<String, AllocErro
 }
 
 /// Copies a text into a buffer that is long enough.
-fn copy(text: &str, out: &mut [u8]) -> u32
-    ensures ok { length text.now ≤ length out.old → (result ≡ 0) × (take (length text.now) out.new ≡ text.now) }
-    ensures full { length out.old < length text.now → (result ≡ full) × (out.new ≡ out.old) }
-    ensures room { length out.new ≡ length out.old }
+pub(crate) fn copy(text: &str, out: &mut [u8]) -> u32
+    ensures only { (result ≡ 0) ⊎ (result ≡ full) }
+    ensures ok { result ≡ 0 → take (length text.now) out.new ≡ text.now }
+    ensures fits { result ≡ 0 → length text.now ≤ length out.new }
+    ensures full { result ≡ full → (length out.old < length text.now) × (out.new ≡ out.old) }
 {
     let bytes = text.as_bytes();
     if bytes.len() <= out.len() {
@@ -95,41 +100,68 @@ pub extern "C" fn cherisim_why(
 }
 
 /// The line of a trace for the next step, as the step of a number; of a halted machine it is empty.
-fn line_of(alloc: Global, machine: &Machine<WordCap>, number: u64) -> Line
-    ensures { result.bytes ≡ step_line number machine.now }
+fn line_of(symbols: &Symbols, machine: &Machine<WordCap>, number: u64) -> Line
+    ensures { result.bytes ≡ step_line symbols.now number machine.now }
 {
     if machine.halted().is_some() {
         Line::new()
     } else {
         let planned = machine.next();
-        trace_line(&Symbols::new(alloc), number, machine.hart(), &planned)
+        trace_line(symbols, number, machine.hart(), &planned)
     }
 }
 
-/// The line of a trace for the next step, as the step of a number: so many bytes at the beginning of `text`. Where it is too short, its
-/// length is what it takes. Of a halted machine it is empty.
+/// The same with the labels of a table.
+fn labelled_line(
+    alloc: Global,
+    labels: &[u8],
+    machine: &Machine<WordCap>,
+    number: u64,
+) -> Result<Line, Refusal>
+    ensures ok { IfOk result (λ line. line.bytes ≡ step_line (symbols_of labels.now) number machine.now) }
+    ensures err { IfErr result (IsLabelsRefusal labels.now) }
+{
+    let symbols = labels_of(alloc, labels)?;
+    Ok(line_of(&symbols, machine, number))
+}
+
+/// The line of a trace for the next step, as the step of a number, with the labels of a table: so many bytes at the beginning of `text`.
+/// Where it is too short, its length is what it takes. Of a halted machine it is empty. Where the table is refused, its faulty line is
+/// written.
 #[unsafe(no_mangle)]
 pub extern "C" fn cherisim_trace(
     alloc: Global,
     machine: &mut Handle,
+    labels: &[u8],
     number: u64,
     text: &mut [u8],
     size: &mut u64,
+    line: &mut u64,
 ) -> u32
     ensures state { machine.new.machine ≡ machine.old.machine }
     ensures closed { machine.old.machine ≡ None → (result ≡ no_machine) × (text.new ≡ text.old) × (size.new ≡ size.old) }
-    ensures ok { IfSome machine.old.machine (λ s. result ≡ 0
-        → (size.new ≡ length (step_line number s)) × (take size.new text.new ≡ step_line number s)) }
-    ensures full { IfSome machine.old.machine (λ s. result ≡ full
-        → (size.new ≡ length (step_line number s)) × (length text.old < size.new) × (text.new ≡ text.old)) }
-    ensures only { IfSome machine.old.machine (λ s. (result ≡ 0) ⊎ (result ≡ full)) }
+    ensures ok { IfSome machine.old.machine (λ s. result ≡ 0 → (size.new ≡ length (step_line (symbols_of labels.now) number s))
+        × (take size.new text.new ≡ step_line (symbols_of labels.now) number s)) }
+    ensures full { IfSome machine.old.machine (λ s. result ≡ full → (size.new ≡ length (step_line (symbols_of labels.now) number s))
+        × (length text.old < size.new) × (text.new ≡ text.old)) }
+    ensures only { IfSome machine.old.machine (λ s. (result ≡ 0) ⊎ ((result ≡ full)
+        ⊎ IsRefusal (IsLabelsRefusal labels.now) line.new result)) }
+    ensures no_line { (result ≡ 0) ⊎ (result ≡ full) → line.new ≡ line.old }
 {
     match machine.take(alloc) {
         Some(held) => {
-            let line = line_of(alloc, &held, number);
+            let told = labelled_line(alloc, labels, &held, number);
             machine.put(held);
-            *size = line.len() as u64;
-            copy(line.as_str(), text)
+            match told {
+                Ok(shown) => {
+                    *size = shown.len() as u64;
+                    copy(shown.as_str(), text)
+                }
+                Err(refusal) => {
+                    *line = refusal.line();
+                    refusal.status()
+                }
+            }
         }
         None => NO_MACHINE,
     }

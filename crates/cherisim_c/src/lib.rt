@@ -3,6 +3,7 @@
 
 mod answers;
 mod asking;
+mod audits;
 mod bytes;
 mod events;
 mod handle;
@@ -10,6 +11,7 @@ mod life;
 mod machine_registers;
 mod memory;
 mod peripherals;
+mod policed;
 mod policies;
 mod reaching;
 mod refusal;

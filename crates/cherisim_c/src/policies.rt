@@ -1,30 +1,29 @@
 //! Runs by a policy: where it stops them.
 
-ghost use Rattle.std.specs.Prelude.{◌≡◌, ◌≤◌, ◌↔◌, ℕ, List, None, Ok, IfOk, IfErr, IfSome, IsTrue};
+ghost use Rattle.std.specs.Prelude.{◌≡◌, ◌≤◌, None, IfOk, IfErr, IfSome};
 ghost use Rattle.policy.specs.Terms.{terms_of};
-ghost use Rattle.policy_text.specs.Policy.{policy_of};
-ghost use Rattle.policy_text.specs.Seen.{seen};
 ghost use Rattle.schedules.specs.Schedule.{IsRunnable};
-ghost use Rattle.symbols.specs.Symbols.{faulty_line, symbols_of};
-ghost use Rattle.cherisim_c.specs.Policies.{c_breach, part_number, schedule_of, IsBreachOf, IsPolicyRefusal, IsRefusalOf, Stops};
-ghost use Rattle.cherisim_c.specs.declared.types.Timetable.{Timetable as Times};
+ghost use Rattle.cherisim_c.specs.Policies.{c_breach, part_number, IsBreachOf, Stops};
+ghost use Rattle.cherisim_c.specs.Refusals.{schedule_of, IsRefusalOf, IsRefusal};
 ghost use Rattle.cherisim_c.specs.Status.{no_machine};
 
 use crate::handle::Handle;
+use crate::policed::read_texts;
 use crate::refusal::Refusal;
 use crate::status::{NO_MACHINE, OK};
 use crate::types::{Breach, Timetable};
 use machine::Machine;
 use policy::{Ban, Rule};
 use policy_runs::{Breach as Found, find_breach};
-use policy_text::{Policy, PolicyTextFault, read_policy};
 use schedules::Schedule;
 use std::alloc::{AllocError, Global};
-use symbols::{Symbols, SymbolsFault, read_symbols};
 use word_cap::WordCap;
 
 /// A machine in the same state.
-fn cloned(alloc: Global, machine: &Machine<WordCap>) -> Result<Machine<WordCap>, AllocError>
+pub(crate) fn cloned(
+    alloc: Global,
+    machine: &Machine<WordCap>,
+) -> Result<Machine<WordCap>, AllocError>
     ensures { IfOk result (λ copy. copy ≡ machine.now) }
 {
     match machine.try_clone(alloc) {
@@ -91,56 +90,6 @@ fn breach_of(lines: &[u64], found: Option<Found>) -> Breach
     }
 }
 
-/// The labels of a table.
-fn labels_of(alloc: Global, labels: &[u8]) -> Result<Symbols, Refusal>
-    ensures correct { IfOk result (λ _. faulty_line labels.now ≡ None) }
-    ensures symbols { IfOk result (λ symbols. symbols ≡ symbols_of labels.now) }
-    ensures fault { IfErr result (λ refusal. (text : List ℕ) (t : Times) → IsRefusalOf labels.now text t refusal) }
-{
-    match read_symbols(alloc, labels) {
-        Ok(symbols) => Ok(symbols),
-        Err(SymbolsFault::Line(line)) => Err(Refusal::Labels(line)),
-        Err(SymbolsFault::Memory) => Err(Refusal::Memory),
-    }
-}
-
-/// The policy of a text.
-fn policy_of(alloc: Global, text: &[u8], symbols: &Symbols) -> Result<Policy, Refusal>
-    ensures ok { IfOk result (λ policy. policy_of symbols.now text.now ≡ Ok (seen policy)) }
-    ensures fault { IfErr result (λ refusal. (labels : List ℕ) (t : Times) → symbols.now ≡ symbols_of labels
-        → IsRefusalOf labels text.now t refusal) }
-{
-    match read_policy(alloc, text, symbols) {
-        Ok(policy) => Ok(policy),
-        Err(PolicyTextFault::Line { line, code }) => Err(Refusal::Text(line, code)),
-        Err(PolicyTextFault::Memory) => Err(Refusal::Memory),
-    }
-}
-
-/// Whether a machine can run by a schedule.
-fn is_runnable(schedule: Schedule) -> bool
-    ensures { IsTrue result ↔ IsRunnable schedule }
-{
-    schedule.steps <= 100_000_000_000_000
-        && 1 <= schedule.gap
-        && schedule.gap <= 1_000_000
-        && schedule.tick <= 1_000_000
-}
-
-/// The schedule of a timetable, if a machine can run by it.
-fn schedule_of(timetable: Timetable) -> Result<Schedule, Refusal>
-    ensures ok { IfOk result (λ schedule. (schedule ≡ schedule_of timetable) × IsRunnable schedule) }
-    ensures fault { IfErr result (λ refusal. (labels text : List ℕ) → IsRefusalOf labels text timetable refusal) }
-{
-    let Timetable { steps, gap, tick } = timetable;
-    let schedule = Schedule { steps, gap, tick };
-    if is_runnable(schedule) {
-        Ok(schedule)
-    } else {
-        Err(Refusal::Schedule)
-    }
-}
-
 /// Where the policy of a text stops a machine's run.
 fn watched(
     alloc: Global,
@@ -154,11 +103,9 @@ fn watched(
     ensures range { IfOk result (λ _. IsRunnable (schedule_of timetable)) }
     ensures err { IfErr result (IsRefusalOf labels.now text.now timetable) }
 {
-    let schedule = schedule_of(timetable)?;
-    let symbols = labels_of(alloc, labels)?;
-    let policy = policy_of(alloc, text, &symbols)?;
-    let found = breach_ahead(alloc, machine, &policy.rules, schedule, input)?;
-    Ok(breach_of(&policy.lines, found))
+    let read = read_texts(alloc, labels, text, timetable)?;
+    let found = breach_ahead(alloc, machine, &read.policy.rules, read.schedule, input)?;
+    Ok(breach_of(&read.policy.lines, found))
 }
 
 /// Where a policy stops a run of the machine from its state on: before which step, by which line, part and capability; or that it doesn't.
@@ -179,7 +126,8 @@ pub extern "C" fn cherisim_watch(
     ensures ok { IfSome machine.old.machine (λ s. result ≡ 0
         → IsBreachOf labels.now text.now (schedule_of timetable.now) input.now s breach.new) }
     ensures range { IfSome machine.old.machine (λ s. result ≡ 0 → IsRunnable (schedule_of timetable.now)) }
-    ensures refused { IfSome machine.old.machine (λ s. 1 ≤ result → IsPolicyRefusal labels.now text.now timetable.now line.new result) }
+    ensures refused { IfSome machine.old.machine (λ s. 1 ≤ result
+        → IsRefusal (IsRefusalOf labels.now text.now timetable.now) line.new result) }
     ensures same { 1 ≤ result → breach.new ≡ breach.old }
     ensures no_line { result ≡ 0 → line.new ≡ line.old }
 {

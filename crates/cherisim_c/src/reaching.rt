@@ -75,9 +75,9 @@ fn fill<C: CapRep>(found: &[Found<C>], members: &mut [Member])
 
 /// Copies members to where there is room for them all.
 pub(crate) fn copy<C: CapRep>(found: &[Found<C>], members: &mut [Member]) -> u32
-    ensures ok { length found.now ≤ length members.old → (result ≡ 0)
-        × (map shown_member (take (length found.now) members.new) ≡ map c_member (seen_members C.value found.now)) }
-    ensures full { length members.old < length found.now → (result ≡ full) × (members.new ≡ members.old) }
+    ensures only { (result ≡ 0) ⊎ (result ≡ full) }
+    ensures ok { result ≡ 0 → map shown_member (take (length found.now) members.new) ≡ map c_member (seen_members C.value found.now) }
+    ensures full { result ≡ full → (length members.old < length found.now) × (members.new ≡ members.old) }
 {
     if found.len() <= members.len() {
         fill(found, members);

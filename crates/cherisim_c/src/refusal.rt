@@ -1,8 +1,8 @@
-//! Why a question by a policy is refused.
+//! Why a question with labels or by a policy is refused.
 
-ghost use Rattle.std.specs.Prelude.{◌≡◌};
+ghost use Rattle.std.specs.Prelude.{◌≡◌, ◌≤◌};
 ghost use Rattle.cherisim_c.specs.declared.refusal.Refusal.TheVariants as refusal;
-ghost use Rattle.cherisim_c.specs.Policies.{policy_status, refusal_line, refusal_status};
+ghost use Rattle.cherisim_c.specs.Refusals.{policy_status, refusal_line, refusal_status};
 
 use crate::status::{NO_MEMORY, RANGE};
 use policy_text::PolicyCode;
@@ -11,7 +11,7 @@ use std::alloc::AllocError;
 /// The status of a table of labels with a faulty line.
 const LABELS: u32 = 57;
 
-/// Why a question by a policy is refused.
+/// Why a question with labels or by a policy is refused.
 #[derive(Clone, Copy)]
 pub(crate) enum Refusal {
     /// The schedule is out of range.
@@ -51,7 +51,9 @@ fn status_of_policy(code: PolicyCode) -> u32
 impl Refusal {
     /// The status.
     pub(crate) fn status(self) -> u32
-        ensures { result ≡ refusal_status self }
+        ensures value { result ≡ refusal_status self }
+        ensures low { 49 ≤ result }
+        ensures high { result ≤ 66 }
     {
         match self {
             Refusal::Schedule => RANGE,

@@ -26,15 +26,15 @@ fn pc(machine: &Machine<WordCap>) -> u64
     machine.scr(PCC).address()
 }
 
-/// Why a stretch ends, as a number.
-pub(crate) fn code_of_end(why: Option<Why>) -> Option<u32>
-    ensures { result ≡ end_code why }
+/// Why a stretch ends, as a number; through doors a jump through a seal doesn't end one.
+pub(crate) fn code_of_end(why: Option<Why>, doors: bool) -> Option<u32>
+    ensures { result ≡ end_code doors why }
 {
     match why {
         None => None,
         Some(Why::Trap) => Some(4),
         Some(Why::Unseal) => Some(5),
-        Some(Why::SealedJump) => Some(6),
+        Some(Why::SealedJump) => { if doors { None } else { Some(6) } }
     }
 }
 
@@ -66,7 +66,7 @@ fn stop_of(machine: &Machine<WordCap>, asked: &Asked, left: u64, room: usize) ->
     } else if is_at_stop(machine, asked) {
         Some(3)
     } else if asked.at_end {
-        code_of_end(machine.next_ends(Event::Step))
+        code_of_end(machine.next_ends(Event::Step), asked.doors)
     } else {
         None
     }

@@ -97,8 +97,9 @@ fn fill(found: &[Found], doors: &mut [Door])
 
 /// Copies doors to where there is room for them all.
 fn copy_doors(found: &[Found], doors: &mut [Door]) -> u32
-    ensures ok { length found.now ≤ length doors.old → (result ≡ 0) × (take (length found.now) doors.new ≡ map c_door found.now) }
-    ensures full { length doors.old < length found.now → (result ≡ full) × (doors.new ≡ doors.old) }
+    ensures only { (result ≡ 0) ⊎ (result ≡ full) }
+    ensures ok { result ≡ 0 → take (length found.now) doors.new ≡ map c_door found.now }
+    ensures full { result ≡ full → (length doors.old < length found.now) × (doors.new ≡ doors.old) }
 {
     if found.len() <= doors.len() {
         fill(found, doors);

@@ -4,7 +4,7 @@ use c_types::CheriCap;
 
 /// A byte that was sent, if one was.
 #[repr(C)]
-#[derive(Clone, Copy, Debug, PartialEq, Eq)]
+#[derive(Clone, Copy)]
 pub struct Sent {
     /// Whether a byte was sent.
     pub sends: bool,
@@ -14,7 +14,7 @@ pub struct Sent {
 
 /// What a run is asked to do.
 #[repr(C)]
-#[derive(Clone, Copy, Debug, PartialEq, Eq)]
+#[derive(Clone, Copy)]
 pub struct Asked {
     /// The most steps.
     pub steps: u64,
@@ -28,11 +28,13 @@ pub struct Asked {
     pub at_address: bool,
     /// Whether it stops before a step that traps, unseals, or jumps through a seal.
     pub at_end: bool,
+    /// Whether it does steps that jump through a seal all the same.
+    pub doors: bool,
 }
 
 /// What a run did.
 #[repr(C)]
-#[derive(Clone, Copy, Debug, PartialEq, Eq)]
+#[derive(Clone, Copy)]
 pub struct Ran {
     /// How many steps were done.
     pub steps: u64,
@@ -44,7 +46,7 @@ pub struct Ran {
 
 /// Whether a machine is halted.
 #[repr(C)]
-#[derive(Clone, Copy, Debug, PartialEq, Eq)]
+#[derive(Clone, Copy)]
 pub struct Halted {
     /// Whether it is.
     pub halted: bool,
@@ -54,7 +56,7 @@ pub struct Halted {
 
 /// The timer.
 #[repr(C)]
-#[derive(Clone, Copy, Debug, PartialEq, Eq)]
+#[derive(Clone, Copy)]
 pub struct Timer {
     /// Ticks, modulo 2^64.
     pub mtime: u64,
@@ -64,7 +66,7 @@ pub struct Timer {
 
 /// The console, but for the bytes that wait.
 #[repr(C)]
-#[derive(Clone, Copy, Debug, PartialEq, Eq)]
+#[derive(Clone, Copy)]
 pub struct Console {
     /// How many bytes wait, at most 64.
     pub waiting: u64,
@@ -91,7 +93,7 @@ pub struct Member {
 
 /// Whether code may do something.
 #[repr(C)]
-#[derive(Clone, Copy, Debug, PartialEq, Eq)]
+#[derive(Clone, Copy)]
 pub struct Answer {
     /// The number of the first member that lets it, or 0.
     pub member: u64,
@@ -152,7 +154,8 @@ pub struct Breach {
     pub line: u64,
     /// The number of the reachable capability that breaks it, or 0.
     pub member: u64,
-    /// The part of the rule: store (0), load (1), execute (2), transmit (3), halt (4), timer (5), system (6), seal (7) or types (8).
+    /// The part of the rule: store (0), load (1), execute (2), transmit (3), halt (4), timer (5), system (6), seal (7), types (8) or
+    /// keep (9).
     pub part: u32,
     /// Whether the policy stops the run.
     pub found: bool,

@@ -1,5 +1,5 @@
 -- Texts that are read up to a limit; and the lines of policies' rules.
-use Rattle.std.proofs.Common.{◌≡◌, ℕ, zero, suc, ◌+◌, ◌<◌, ◌≤◌, List, [], ◌∷◌, ◌++◌, length, take, get_or, refl, sym, ap, subst, arith}
+use Rattle.std.proofs.Common.{◌≡◌, ℕ, zero, suc, ◌+◌, ◌<◌, ◌≤◌, List, [], ◌∷◌, length, take, get_or, refl, sym, ap, subst, arith}
 use Rattle.std.specs.Prelude.{Option, Some, None, IfSome}
 use Rattle.std.specs.List.{HoldsAt}
 use Rattle.cap_bounds.specs.CapValue.{CapValue}
@@ -12,9 +12,6 @@ use Rattle.policy.specs.Terms.{Terms}
 use Rattle.policy.specs.Watch.{values_in}
 use Rattle.policy.specs.Lending.{in_force_after, in_force_from, next_door}
 use Rattle.policy.proofs.Forced.{each-length}
-use Rattle.breach_texts.specs.declared.breach.RuleLine.{RuleLine}
-use Rattle.commands.specs.Files.{Text}
-use Rattle.commands.specs.Auditing.{AreLinesOf, IsLineOf}
 
 pub some-weaker : {A : Type 0} (o : Option A) (P Q : A → Type 0) → ((a : A) → P a → Q a) → IfSome o P → IfSome o Q
 some-weaker None P Q weaker holds = tt
@@ -39,14 +36,6 @@ pub taken-short : (most : ℕ) (bytes : List ℕ) → length (take most bytes) �
 taken-short zero bytes = omega arith
 taken-short (suc most) [] = omega arith
 taken-short (suc most) (b ∷ bs) = let few = taken-short most bs in omega arith
-
--- one line more
-pub one-more : (text : Text) (numbers : List ℕ) (lines : List RuleLine) (number : ℕ) (line : RuleLine) → AreLinesOf text numbers lines
-    → IsLineOf text number line → AreLinesOf text (numbers ++ number ∷ []) (lines ++ line ∷ [])
-one-more text [] [] number line are is = (is, tt)
-one-more text [] (l ∷ ls) number line are is = absurd are
-one-more text (n ∷ ns) [] number line are is = absurd are
-one-more text (n ∷ ns) (l ∷ ls) number line are is = (are.0, one-more text ns ls number line are.1 is)
 
 -- the member that breaks a rule is one of those that are reachable
 module _ (P : Terms → CapValue → Type 0) (vs : List CapValue) (member : ℕ) where

@@ -1,29 +1,18 @@
 -- What `audit` tells and writes of a run.
-use Rattle.std.specs.Prelude.{◌≡◌, ℕ, Bool, if◌then◌else◌, List, [], ◌∷◌, length, Option, Some, None, string_bytes, IsUtf8, ⊤}
+use Rattle.std.specs.Prelude.{◌≡◌, ℕ, Bool, if◌then◌else◌, List, [], length, Option, Some, None, string_bytes}
 use Rattle.std.specs.Io.KnownBytes.{Appends}
 use Rattle.breach_texts.specs.declared.breach.RuleLine.{RuleLine}
 use Rattle.command_line.specs.declared.plans.RunRequest.{RunRequest}
 use Rattle.hart.specs.Opening.{opening}
 use Rattle.policy_audit.specs.Entries.{entries_text}
+use Rattle.policy_audit.specs.Lines.{AreLinesOf}
 use Rattle.policy_audit.specs.Text.{audit_findings, audit_text}
-use Rattle.policy_text.specs.Policy.{line_text}
 use Rattle.commands.specs.declared.auditing.Audited.{Audited}
 use Rattle.commands.specs.declared.loading.LoadedRun.{LoadedRun}
 use Rattle.commands.specs.declared.loading.Rules.{Rules}
-use Rattle.commands.specs.Files.{Text, Change}
+use Rattle.commands.specs.Files.{Change}
 use Rattle.commands.specs.Loading.{IsLoaded, Run, events_to, run_of, terms_in}
 use Rattle.commands.specs.Running.{Traces, trace_of}
-
--- a line of a text by its number, as far as it is UTF-8
-abbrev pub IsLineOf : Text → ℕ → RuleLine → Type 0
-IsLineOf text number line = (line.number ≡ number) × (IsUtf8 (line_text text number) → line.text.now ≡ line_text text number)
-
--- one for each number
-abbrev pub AreLinesOf : Text → List ℕ → List RuleLine → Type 0
-AreLinesOf text [] [] = ⊤
-AreLinesOf text [] (line ∷ lines) = ⊥
-AreLinesOf text (number ∷ numbers) [] = ⊥
-AreLinesOf text (number ∷ numbers) (line ∷ lines) = IsLineOf text number line × AreLinesOf text numbers lines
 
 -- The audit of a run by a policy is told, with the lines of its rules; and how many parts are broken.
 abbrev pub Audits : Rules → Run → Audited → Type 0

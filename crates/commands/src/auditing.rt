@@ -1,10 +1,10 @@
 //! The command `audit`.
 
-ghost use Rattle.std.specs.Prelude.{◌≡◌, IfOk, OnOk, None, string_bytes};
+ghost use Rattle.std.specs.Prelude.{IfOk, OnOk, None};
 ghost use Rattle.std.specs.Io.KnownBytes.{Appends};
 ghost use Rattle.command_line.specs.CommandLine.{AreInRange};
 ghost use Rattle.schedules.specs.Schedule.{IsRunnable};
-ghost use Rattle.commands.specs.Auditing.{AreLinesOf, Audits, AuditsBy, AuditsLoaded, AuditsRun, ListsEntries, told_unless};
+ghost use Rattle.commands.specs.Auditing.{Audits, AuditsBy, AuditsLoaded, AuditsRun, ListsEntries, told_unless};
 ghost use Rattle.commands.specs.Files.{changed};
 ghost use Rattle.commands.specs.Loading.{events_to, run_of};
 ghost use Rattle.commands.specs.Running.{Traces, trace_of};
@@ -13,30 +13,13 @@ use crate::fault::ProgramFault;
 use crate::files::Folder;
 use crate::loading::{LoadedRun, Rules, load};
 use crate::running::{ProgramMachine, run_image};
-use crate::watching::rule_line;
 use crate::writing::{Nowhere, Writing};
-use breach_texts::RuleLine;
 use command_line::RunRequest;
 use image::write_all;
 use machine::Machine;
-use policy_audit::{audit_run, entries_run};
-use std::alloc::{AllocError, Global};
+use policy_audit::{audit_run, entries_run, rule_lines};
+use std::alloc::Global;
 use std::io::Write;
-
-/// The lines of a policy's text by their numbers.
-fn rule_lines<'t>(
-    alloc: Global,
-    text: &'t [u8],
-    numbers: &[u64],
-) -> Result<Vec<RuleLine<'t>>, AllocError>
-    ensures { IfOk result (λ lines. AreLinesOf text.entry.now numbers.now lines.items) }
-{
-    let mut lines = Vec::new(alloc);
-    for number in numbers {
-        lines.push(rule_line(text, *number))?;
-    }
-    Ok(lines)
-}
 
 /// What an audit of a run finds: its text, and how many parts of rules are broken.
 #[derive(Debug, Drop)]
@@ -70,7 +53,7 @@ fn audit_policy<'a>(
     Ok(Audited { text, count })
 }
 
-/// ListsEntries what the code in each range that a run enters can do, as rules.
+/// Lists what the code in each range that a run enters can do, as rules.
 fn list_entries<'a>(alloc: Global, run: &LoadedRun<'_>) -> Result<Audited, ProgramFault<'a>>
     requires { IsRunnable run.now.schedule }
     ensures { IfOk result (ListsEntries (run_of run.now)) }

@@ -1,7 +1,6 @@
 //! Runs that a policy watches.
 
-ghost use Rattle.std.specs.Prelude.{◌≡◌, ◌≤◌, ◌<◌, [], true, false, length, IfOk, IsUtf8, string_bytes, vec_len};
-ghost use Rattle.policy_text.specs.Policy.{line_text};
+ghost use Rattle.std.specs.Prelude.{◌≡◌, ◌≤◌, ◌<◌, [], true, false, length, IfOk, string_bytes, vec_len};
 ghost use Rattle.reach.specs.Reach.{members_in};
 ghost use Rattle.schedules.specs.Schedule.{IsRunnable};
 ghost use Rattle.commands.specs.Files.{changed};
@@ -12,24 +11,13 @@ use crate::fault::ProgramFault;
 use crate::files::Folder;
 use crate::loading::{LoadedRun, Rules};
 use crate::running::{Ended, ProgramMachine, run_freely, run_image};
-use breach_texts::{RuleLine, refused_lines};
+use breach_texts::refused_lines;
 use machine::Machine;
+use policy_audit::rule_line;
 use policy_runs::{Breach, find_breach};
-use policy_text::line_text;
 use sim_run::StopAt;
 use std::alloc::Global;
 use std::io::Write;
-
-/// A line of a policy's text, by its number, as far as it is UTF-8.
-pub fn rule_line(text: &[u8], number: u64) -> RuleLine<'_>
-    ensures number { result.number ≡ number }
-    ensures text { IsUtf8 (line_text text.now number) → result.text.now ≡ line_text text.now number }
-{
-    RuleLine {
-        number,
-        text: str::from_utf8(line_text(text, number)).unwrap_or(""),
-    }
-}
 
 /// The lines that say where a policy stopped a run, none where it is quiet.
 fn stop_lines<'a>(

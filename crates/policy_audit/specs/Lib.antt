@@ -1,5 +1,6 @@
 -- What to read
 pub mod Found
+pub mod Lines
 pub mod Told
 pub mod Text
 pub mod Entries

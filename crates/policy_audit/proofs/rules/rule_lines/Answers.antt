@@ -1,8 +1,8 @@
 use Rattle.std.proofs.Common.{◌+◌, ◌++◌, ◌∷◌, [], get_or, take, sym, subst}
 use Rattle.std.proofs.lemmas.List.{take_more}
-use Rattle.commands.specs.Auditing.{AreLinesOf}
-use Rattle.commands.proofs.Policies.{one-more}
-use Rattle.commands.proofs.auditing.rule_lines.Goals as goal
+use Rattle.policy_audit.specs.Lines.{AreLinesOf}
+use Rattle.policy_audit.proofs.Lines.{one-more}
+use Rattle.policy_audit.proofs.rules.rule_lines.Goals as goal
 
 pub loop-number-preserved : goal.loop-number-preserved
 loop-number-preserved c =

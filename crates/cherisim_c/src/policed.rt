@@ -1,0 +1,97 @@
+//! What a question by a policy is asked with: labels, a policy, and when a run ends.
+
+ghost use Rattle.std.specs.Prelude.{◌≡◌, ◌↔◌, ℕ, List, None, Ok, IfOk, IfErr, IsTrue};
+ghost use Rattle.policy_text.specs.Policy.{policy_of};
+ghost use Rattle.policy_text.specs.Seen.{seen};
+ghost use Rattle.schedules.specs.Schedule.{IsRunnable};
+ghost use Rattle.symbols.specs.Symbols.{faulty_line, symbols_of};
+ghost use Rattle.cherisim_c.specs.declared.types.Timetable.{Timetable as Times};
+ghost use Rattle.cherisim_c.specs.Policies.{AreRead};
+ghost use Rattle.cherisim_c.specs.Refusals.{schedule_of, IsLabelsRefusal, IsRefusalOf};
+
+use crate::refusal::Refusal;
+use crate::types::Timetable;
+use policy_text::{Policy, PolicyTextFault, read_policy};
+use schedules::Schedule;
+use std::alloc::Global;
+use symbols::{Symbols, SymbolsFault, read_symbols};
+
+/// A policy, the labels that it may name, and the schedule of a run.
+#[derive(Drop)]
+pub(crate) struct Policed {
+    pub policy: Policy,
+    pub symbols: Symbols,
+    pub schedule: Schedule,
+}
+
+/// The labels of a table.
+pub(crate) fn labels_of(alloc: Global, labels: &[u8]) -> Result<Symbols, Refusal>
+    ensures correct { IfOk result (λ _. faulty_line labels.now ≡ None) }
+    ensures symbols { IfOk result (λ symbols. symbols ≡ symbols_of labels.now) }
+    ensures fault { IfErr result (IsLabelsRefusal labels.now) }
+{
+    match read_symbols(alloc, labels) {
+        Ok(symbols) => Ok(symbols),
+        Err(SymbolsFault::Line(line)) => Err(Refusal::Labels(line)),
+        Err(SymbolsFault::Memory) => Err(Refusal::Memory),
+    }
+}
+
+/// The policy of a text.
+fn policy_of(alloc: Global, text: &[u8], symbols: &Symbols) -> Result<Policy, Refusal>
+    ensures ok { IfOk result (λ policy. policy_of symbols.now text.now ≡ Ok (seen policy)) }
+    ensures fault { IfErr result (λ refusal. (labels : List ℕ) (t : Times) → symbols.now ≡ symbols_of labels
+        → IsRefusalOf labels text.now t refusal) }
+{
+    match read_policy(alloc, text, symbols) {
+        Ok(policy) => Ok(policy),
+        Err(PolicyTextFault::Line { line, code }) => Err(Refusal::Text(line, code)),
+        Err(PolicyTextFault::Memory) => Err(Refusal::Memory),
+    }
+}
+
+/// Whether a machine can run by a schedule.
+fn is_runnable(schedule: Schedule) -> bool
+    ensures { IsTrue result ↔ IsRunnable schedule }
+{
+    schedule.steps <= 100_000_000_000_000
+        && 1 <= schedule.gap
+        && schedule.gap <= 1_000_000
+        && schedule.tick <= 1_000_000
+}
+
+/// The schedule of a timetable, if a machine can run by it.
+fn schedule_of(timetable: Timetable) -> Result<Schedule, Refusal>
+    ensures ok { IfOk result (λ schedule. (schedule ≡ schedule_of timetable) × IsRunnable schedule) }
+    ensures fault { IfErr result (λ refusal. (labels text : List ℕ) → IsRefusalOf labels text timetable refusal) }
+{
+    let Timetable { steps, gap, tick } = timetable;
+    let schedule = Schedule { steps, gap, tick };
+    if is_runnable(schedule) {
+        Ok(schedule)
+    } else {
+        Err(Refusal::Schedule)
+    }
+}
+
+/// What the texts and the timetable of a question by a policy say.
+pub(crate) fn read_texts(
+    alloc: Global,
+    labels: &[u8],
+    text: &[u8],
+    timetable: Timetable,
+) -> Result<Policed, Refusal>
+    ensures ok { IfOk result (AreRead labels.now text.now timetable) }
+    ensures err { IfErr result (IsRefusalOf labels.now text.now timetable) }
+{
+    let schedule = schedule_of(timetable)?;
+    let symbols = labels_of(alloc, labels)?;
+    match policy_of(alloc, text, &symbols) {
+        Ok(policy) => Ok(Policed {
+            policy,
+            symbols,
+            schedule,
+        }),
+        Err(refusal) => Err(refusal),
+    }
+}
