@@ -86,7 +86,7 @@ def audited(machine, breaches, text, steps, given):
         at.go_to(step - 1)
         places = (it.where if isinstance(it.where, str) else machine.symbols.shown(it.where) for it in way)
         rule = text.splitlines()[line - 1].partition("#")[0].strip(" \t\r")
-        told += (f"step {step}, pcc {at.machine.pc:016x}\npolicy: line {line}: {part}\n  rule  {rule}\n"
+        told += (f"step {step}, pcc {machine.symbols.shown(at.machine.pc)}\npolicy: line {line}: {part}\n  rule  {rule}\n"
                  f"  held  {' -> '.join(places)} {letters(member.value.perms)} {member.value}\n")
     return told
 
