@@ -8,17 +8,18 @@ use Rattle.steps.specs.declared.event.Event.TheVariants.{Step, Byte}
 use Rattle.steps.specs.Event.{after}
 use Rattle.steps.specs.State.{State}
 use Rattle.machine.specs.Run.{run_after}
+use Rattle.policy.specs.declared.refused.Refused.{Refused}
 use Rattle.policy.specs.Terms.{Terms}
 use Rattle.policy.specs.Watch.{IsRefused}
 use Rattle.policy.specs.Lending.{in_force_from}
 use Rattle.schedules.specs.declared.schedule.Schedule.{Schedule}
 use Rattle.schedules.specs.Schedule.{block, byte_before, first_steps, is_halted, scheduled, up_to_halt, AreAlone}
-use Rattle.schedules.specs.Schedule.{events_before}
+use Rattle.schedules.specs.Schedule.{IsPlaceOf, events_before}
 use Rattle.schedules.proofs.Events.{brought, no_more, then_up_to_halt, up_to_halt-append}
 use Rattle.schedules.proofs.Scheduled.{block_follows, more_follow, nth_block, steps_from}
 use Rattle.policy_runs.specs.declared.breach.Breach.{Breach}
 use Rattle.policy_runs.specs.Keeping.{StepsKeepFrom}
-use Rattle.policy_runs.specs.Kept.{Kept, IsBreachPast}
+use Rattle.policy_runs.specs.Kept.{Kept, IsBreachPast, StandsPast}
 use Rattle.policy_runs.proofs.Parts.{kept-as, kept-end, kept-on}
 
 -- ---- a byte that comes after events that did not halt the machine
@@ -48,6 +49,12 @@ byte-then xs byte s u running there still = go (is_halted (run_after (up_to_halt
 
 module _ (said by now others : List Terms) (same_said : said ≡ by) (same_now : now ≡ others) (byte other : Option ℕ)
     (same_byte : byte ≡ other) (n : ℕ) (t u : State) where
+  pub stands-as : (number : ℕ) → StandsPast said now (brought byte) n t u number → StandsPast by others (brought other) n t u number
+  stands-as number stands =
+      subst (λ b. StandsPast by others (brought b) n t u number) same_byte
+      (subst (λ ts. StandsPast ts others (brought byte) n t u number) same_said
+      (subst (λ ts. StandsPast said ts (brought byte) n t u number) same_now stands))
+
   pub found-as : (x : Breach) → IsBreachPast said now (brought byte) n t u x → IsBreachPast by others (brought other) n t u x
   found-as x found =
       subst (λ b. IsBreachPast by others (brought b) n t u x) same_byte
@@ -103,38 +110,44 @@ module _ (said now : List Terms) (schedule : Schedule) (input : List ℕ) (m n :
       (sym (append-nil (replicate (suc j) Step)))
       ∙ sym (append-nil (first_steps schedule input m ++ (brought (byte_before schedule input (m + 1)) ++ (replicate (suc j) Step ++ [])))))
 
-  module _ (x : Breach) (u : State) (found : IsBreachPast said now (brought (byte_before schedule input (m + 1))) n t u x) where
-    few_before : x.number - 1 < n
+  module _ (number : ℕ) (u : State) (found : StandsPast said now (brought (byte_before schedule input (m + 1))) n t u number) where
+    few_before : number - 1 < n
     few_before =
         let from = found.some in
         let to = found.few in
         omega arith
 
     met_so_far : Kept said said found.next
-        (first_steps schedule input (m + (x.number - 1)) ++ brought (byte_before schedule input (m + (x.number - 1) + 1)))
+        (first_steps schedule input (m + (number - 1)) ++ brought (byte_before schedule input (m + (number - 1) + 1)))
         s u
     met_so_far =
-        kept-as said said found.next _ _ s u (steps_before (x.number - 1) few_before)
+        kept-as said said found.next _ _ s u (steps_before (number - 1) few_before)
         (kept-on said said now (first_steps schedule input m)
-        (brought (byte_before schedule input (m + 1)) ++ replicate (x.number - 1) Step) s t running before found.next u still found.kept)
+        (brought (byte_before schedule input (m + 1)) ++ replicate (number - 1) Step) s t running before found.next u still found.kept)
 
     events : up_to_halt
-        (first_steps schedule input (m + (x.number - 1)) ++ brought (byte_before schedule input (m + (x.number - 1) + 1))) s
-        ≡ events_before (Some (m + x.number)) schedule input s
+        (first_steps schedule input (m + (number - 1)) ++ brought (byte_before schedule input (m + (number - 1) + 1))) s
+        ≡ events_before (Some (m + number)) schedule input s
     events =
         let from = found.some in
-        let last : m + (x.number - 1) ≡ m + x.number - 1 = omega arith in
-        let here : m + (x.number - 1) + 1 ≡ m + x.number = omega arith in
-        byte-then (first_steps schedule input (m + (x.number - 1))) (byte_before schedule input (m + (x.number - 1) + 1)) s u running
+        let last : m + (number - 1) ≡ m + number - 1 = omega arith in
+        let here : m + (number - 1) + 1 ≡ m + number = omega arith in
+        byte-then (first_steps schedule input (m + (number - 1))) (byte_before schedule input (m + (number - 1) + 1)) s u running
         met_so_far.state found.running
         ∙ ap₂ (λ k i. up_to_halt (first_steps schedule input k) s ++ brought (byte_before schedule input i)) last here
 
-    pub found-state : u ≡ run_after (events_before (Some (m + x.number)) schedule input s) s
+    pub found-state : u ≡ run_after (events_before (Some (m + number)) schedule input s) s
     found-state = met_so_far.state ∙ ap (λ es. run_after es s) events
 
-    pub found-keep : StepsKeepFrom said said (events_before (Some (m + x.number)) schedule input s) s
+    pub found-keep : StepsKeepFrom said said (events_before (Some (m + number)) schedule input s) s
     found-keep = subst (λ es. StepsKeepFrom said said es s) events met_so_far.keep
 
-    pub found-refused : IsRefused (in_force_from said said (events_before (Some (m + x.number)) schedule input s) s) x.refused u
-    found-refused =
-        subst (λ ts. IsRefused ts x.refused u) (met_so_far.force ∙ ap (λ es. in_force_from said said es s) events) found.refused
+    pub found-refused : (x : Refused) → IsRefused found.next x u
+        → IsRefused (in_force_from said said (events_before (Some (m + number)) schedule input s) s) x u
+    found-refused x refused =
+        subst (λ ts. IsRefused ts x u) (met_so_far.force ∙ ap (λ es. in_force_from said said es s) events) refused
+
+    pub found-place : IsPlaceOf schedule (m + number)
+    found-place =
+        let from = found.some in
+        let to = found.few in (omega arith, omega (arith, few))

@@ -19,7 +19,7 @@ use Rattle.schedules.specs.Schedule.{block, is_halted, up_to_halt}
 use Rattle.schedules.proofs.Events.{all_are_met, brought, ticking, ends_at_halt, goes_on, is_halted-brought, no_more, state_after}
 use Rattle.policy_runs.specs.declared.breach.Breach.{Breach}
 use Rattle.policy_runs.specs.Keeping.{StepsKeepFrom}
-use Rattle.policy_runs.specs.Kept.{Kept, IsBreachPast}
+use Rattle.policy_runs.specs.Kept.{Kept, IsBreachPast, StandsPast}
 
 module _ (said : List Terms) where
   keep-append : (now : List Terms) (xs ys : List Event) (s : State) → StepsKeepFrom said now xs s
@@ -174,14 +174,19 @@ module _ (said : List Terms) where
             kept-on now now (brought byte) (replicate n Step ++ ticking ticks) s t running (kept-brought now byte s t at_byte) next u
             still-running (kept-end now next (replicate n Step) (ticking ticks) t u still-running steps halted)
 
+      -- before one of so many steps
+      abbrev pub stands-after : (count : ℕ) (u : State) (number : ℕ) → StandsPast said now [] count t u number
+          → StandsPast said now (brought byte) count s u number
+      stands-after count u number stands = record {
+        next = stands.next;
+        some = stands.some;
+        few = stands.few;
+        kept = kept-on now now (brought byte) (replicate (number - 1) Step) s t running (kept-brought now byte s t at_byte) stands.next u
+            still-running stands.kept;
+        running = stands.running;
+      }
+
       pub breach-after : (count : ℕ) (u : State) (x : Breach) → IsBreachPast said now [] count t u x
           → IsBreachPast said now (brought byte) count s u x
-      breach-after count u x found = record {
-        next = found.next;
-        some = found.some;
-        few = found.few;
-        kept = kept-on now now (brought byte) (replicate (x.number - 1) Step) s t running (kept-brought now byte s t at_byte) found.next u
-            still-running found.kept;
-        running = found.running;
-        refused = found.refused;
-      }
+      breach-after count u x found =
+          record { stands = stands-after count u x.number found.stands; refused = found.refused }

@@ -17,11 +17,20 @@ pub record Kept (said now next : List Terms) (events : List Event) (s later : St
   pub keep : StepsKeepFrom said now (up_to_halt events s) s
   pub force : next ≡ in_force_from said now (up_to_halt events s) s
 
--- A breach is before one of so many steps that come after other events, and the machine stands there.
-pub record IsBreachPast (said now : List Terms) (before : List Event) (count : ℕ) (s later : State) (x : Breach) : Type 0 where
+-- The machine stands before the step of a number, one of so many that come after other events, and each step before it kept to the rules
+-- in force.
+pub record StandsPast (said now : List Terms) (before : List Event) (count : ℕ) (s later : State) (number : ℕ) : Type 0 where
   pub next : List Terms
-  pub some : 1 ≤ x.number
-  pub few : x.number ≤ count
-  pub kept : Kept said now next (before ++ replicate (x.number - 1) Step) s later
+  pub some : 1 ≤ number
+  pub few : number ≤ count
+  pub kept : Kept said now next (before ++ replicate (number - 1) Step) s later
   pub running : is_halted later ≡ false
-  pub refused : IsRefused next x.refused later
+
+-- a breach there
+pub record IsBreachPast (said now : List Terms) (before : List Event) (count : ℕ) (s later : State) (x : Breach) : Type 0 where
+  pub stands : StandsPast said now before count s later x.number
+  pub refused : IsRefused stands.next x.refused later
+
+-- one of these steps, before which there was no memory to go on
+abbrev pub StandsMidway : List Terms → List Terms → List Event → ℕ → State → State → Type 0
+StandsMidway said now before count s later = (number : ℕ) × StandsPast said now before count s later number

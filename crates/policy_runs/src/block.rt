@@ -1,11 +1,11 @@
 //! Steps with the byte before the first of them and the tick after the last.
 
-ghost use Rattle.std.specs.Prelude.{◌≡◌, false, [], ◌∷◌, map, option_to_list, if◌then◌else◌, IfNone, IfOk, IfSome};
+ghost use Rattle.std.specs.Prelude.{◌≡◌, false, [], ◌∷◌, map, option_to_list, if◌then◌else◌, IfNone, IfOk, IfSome, OnErr};
 ghost use Rattle.steps.specs.declared.event.Event.TheVariants.{Tick, Byte};
 ghost use Rattle.machine.specs.Run.{run_after};
 ghost use Rattle.policy.specs.Known.{Knows, rules_of, said_to};
 ghost use Rattle.schedules.specs.Schedule.{block, is_halted};
-ghost use Rattle.policy_runs.specs.Kept.{Kept, IsBreachPast};
+ghost use Rattle.policy_runs.specs.Kept.{Kept, IsBreachPast, StandsMidway};
 
 use crate::breach::Breach;
 use crate::keeping::keep_steps;
@@ -53,6 +53,8 @@ pub(crate) fn keep_block<C: CapRep>(
         (Kept (said_to watcher.old) (rules_of watcher.old) (rules_of watcher.new) (block byte count ticks) machine.old machine.new)) }
     ensures knows { IfOk result (λ b. IfNone b (Knows watcher.new machine.new)) }
     ensures said { said_to watcher.new ≡ said_to watcher.old }
+    ensures midway { OnErr result (StandsMidway (said_to watcher.old) (rules_of watcher.old) (map Byte (option_to_list byte)) count
+        machine.old machine.new) }
 {
     bring(watcher, machine, byte);
     if let Some(breach) = keep_steps(alloc, watcher, machine, count)? {

@@ -1,6 +1,6 @@
 //! The first breach of rules in a run on a schedule.
 
-ghost use Rattle.std.specs.Prelude.{◌≡◌, Some, false, IfNone, IfOk, IfSome};
+ghost use Rattle.std.specs.Prelude.{◌≡◌, Some, false, IfNone, IfOk, IfSome, OnErr};
 ghost use Rattle.machine.specs.Run.{run_after};
 ghost use Rattle.policy.specs.Terms.{terms_of};
 ghost use Rattle.policy.specs.Watch.{IsRefused};
@@ -8,7 +8,7 @@ ghost use Rattle.policy.specs.Lending.{in_force};
 ghost use Rattle.schedules.specs.Schedule.{is_halted, scheduled, IsRunnable};
 ghost use Rattle.schedules.specs.Schedule.{events_before};
 ghost use Rattle.schedules.specs.Schedule.{IsPlaceOf};
-ghost use Rattle.policy_runs.specs.Keeping.{StepsKeepToEach};
+ghost use Rattle.policy_runs.specs.Keeping.{LeavesMidway, StepsKeepToEach};
 
 use crate::block::keep_block;
 use cap_bounds::CapRep;
@@ -34,7 +34,8 @@ pub struct Breach {
 ///
 /// # Errors
 ///
-/// Out of memory for what is known of the rules, or to find out what is reachable. The machine then stands in the middle of its run.
+/// Out of memory for what is known of the rules, before the run, or to find out what is reachable, before a step of it. The machine then
+/// stands there, and each step before kept to each rule about the code.
 pub fn find_breach<C: CapRep>(
     alloc: Global,
     machine: &mut Machine<C>,
@@ -54,6 +55,7 @@ pub fn find_breach<C: CapRep>(
         x.refused machine.new)) }
     ensures kept { IfOk result (λ b. IfSome b (λ x.
         StepsKeepToEach (terms_of rules.now) (events_before (Some x.number) schedule input.now machine.old) machine.old)) }
+    ensures midway { OnErr result (LeavesMidway (terms_of rules.now) schedule input.now machine.old machine.new) }
 {
     let mut watcher = Watcher::new(alloc, rules)?;
     let mut done = 0;

@@ -1,11 +1,11 @@
 //! Steps of a machine that keep to rules.
 
-ghost use Rattle.std.specs.Prelude.{◌≡◌, ◌≤◌, false, [], replicate, IfNone, IfOk, IfSome, OnOk};
+ghost use Rattle.std.specs.Prelude.{◌≡◌, ◌≤◌, false, [], replicate, IfNone, IfOk, IfSome, OnErr, OnOk};
 ghost use Rattle.steps.specs.declared.event.Event.TheVariants.{Step};
 ghost use Rattle.policy.specs.Known.{Knows, rules_of, said_to};
 ghost use Rattle.policy.specs.Watch.{HoldEach};
 ghost use Rattle.schedules.specs.Schedule.{is_halted};
-ghost use Rattle.policy_runs.specs.Kept.{Kept, IsBreachPast};
+ghost use Rattle.policy_runs.specs.Kept.{Kept, IsBreachPast, StandsMidway};
 
 use crate::breach::Breach;
 use cap_bounds::CapRep;
@@ -30,6 +30,7 @@ fn go_on<C: CapRep>(
         Kept (said_to watcher.old) (rules_of watcher.old) (rules_of watcher.new) (replicate n Step) machine.old machine.new) }
     ensures knows { OnOk result (Knows watcher.new machine.new) }
     ensures said { said_to watcher.new ≡ said_to watcher.old }
+    ensures same { OnErr result (machine.new ≡ machine.old) }
 {
     let fast = watcher.advance(machine, most);
     if fast > 0 {
@@ -54,6 +55,7 @@ pub(crate) fn keep_steps<C: CapRep>(
         (Kept (said_to watcher.old) (rules_of watcher.old) (rules_of watcher.new) (replicate count Step) machine.old machine.new)) }
     ensures knows { IfOk result (λ b. IfNone b (Knows watcher.new machine.new)) }
     ensures said { said_to watcher.new ≡ said_to watcher.old }
+    ensures midway { OnErr result (StandsMidway (said_to watcher.old) (rules_of watcher.old) [] count machine.old machine.new) }
 {
     let mut done = 0;
     while done < count {

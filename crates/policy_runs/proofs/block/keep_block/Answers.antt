@@ -1,8 +1,9 @@
 use Rattle.std.proofs.Common.{◌≡◌, ◌∙◌, false, true, ap, sym, rules}
 use Rattle.std.specs.Prelude.{is_some}
+use Rattle.std.proofs.lemmas.Result.{err_from_is_err_and}
 use Rattle.policy.specs.Known.{rules_of, said_to}
 use Rattle.schedules.specs.Schedule.{is_halted}
-use Rattle.policy_runs.proofs.Parts.{block-halted, block-kept, breach-after, still-running}
+use Rattle.policy_runs.proofs.Parts.{block-halted, block-kept, breach-after, stands-after, still-running}
 use Rattle.policy_runs.proofs.block.keep_block.Goals as goal
 
 pub keep_steps-requires : goal.keep_steps-requires
@@ -46,3 +47,15 @@ returns-clause-none g c =
     c.bring.ensures.state (rules_of c.keep_steps.new.watcher) c.args.count c.args.ticks u
     (rw c.in_default.is at c.in_ok-breach.ensures.none)
     c.tick.new.machine still c.tick.ensures.state
+
+pub returns-in_err-breach-clause-midway : goal.returns-in_err-breach-clause-midway
+returns-in_err-breach-clause-midway g c =
+    let t = c.bring.new.machine in
+    let u = c.keep_steps.new.machine in
+    let midway = c.in_err-breach.ensures.midway in
+    let p = err_from_is_err_and c.from_residual.result c.from_residual.ensures.1 in
+    rw p.1 (
+      midway.0,
+      stands-after (said_to c.args.watcher.now) (rules_of c.args.watcher.now) c.args.byte c.args.machine.now t
+          c.requires.running c.bring.ensures.state c.args.count u midway.0 midway.1,
+    )

@@ -1,5 +1,6 @@
 use Rattle.std.proofs.Common.{◌≡◌, ◌∙◌, ap, ap₂, sym, subst, length, replicate, rules, arith}
 use Rattle.std.proofs.lemmas.List.{length-map}
+use Rattle.std.proofs.lemmas.Result.{err_from_is_err_and}
 use Rattle.steps.specs.declared.event.Event.TheVariants.{Step}
 use Rattle.steps.specs.Event.{after}
 use Rattle.machine.specs.Run.{run_after}
@@ -50,3 +51,10 @@ returns-clause-kept g c =
     (c.in_ok-meet.ensures.rules
     ∙ ap₂ (λ x y. in_force_after x y Step t) c.advance-fast.ensures.said c.advance-fast.ensures.rules
     ∙ ap (in_force_after (said_to w) (rules_of w) Step) same)
+
+pub returns-in_err-meet-clause-same : goal.returns-in_err-meet-clause-same
+returns-in_err-meet-clause-same g c =
+    let s = c.args.machine.now in
+    let none : c.advance-fast.result ≡ 0 = omega (arith, c.if-fast-gt0.false) in
+    let p = err_from_is_err_and c.from_residual.result c.from_residual.ensures.1 in
+    rw p.1 (c.in_err-meet.ensures.same ∙ c.advance-fast.ensures.state ∙ ap (λ n. run_after (replicate n Step) s) none)

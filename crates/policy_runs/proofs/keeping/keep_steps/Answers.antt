@@ -1,10 +1,13 @@
-use Rattle.std.proofs.Common.{◌≡◌, ◌+◌, ◌-◌, ◌≤◌, ◌∙◌, true, ap, sym, subst, replicate, rules, refl, arith}
+use Rattle.std.proofs.Common.{◌≡◌, ℕ, ◌+◌, ◌-◌, ◌<◌, ◌≤◌, ◌∙◌, false, true, List, [], ap, sym, subst, replicate, rules, refl, arith}
+use Rattle.std.proofs.lemmas.Result.{err_from_is_err_and}
 use Rattle.std.specs.Prelude.{is_some}
 use Rattle.steps.specs.declared.event.Event.TheVariants.{Step}
+use Rattle.steps.specs.State.{State}
 use Rattle.policy.specs.Known.{rules_of, said_to}
+use Rattle.policy.specs.Terms.{Terms}
 use Rattle.policy.specs.Watch.{HoldEach}
 use Rattle.schedules.specs.Schedule.{is_halted}
-use Rattle.policy_runs.specs.Kept.{Kept}
+use Rattle.policy_runs.specs.Kept.{Kept, StandsMidway, StandsPast}
 use Rattle.policy_runs.proofs.Parts.{kept-all, kept-none, kept-steps}
 use Rattle.policy_runs.proofs.keeping.keep_steps.Goals as goal
 
@@ -17,18 +20,47 @@ loop-done-init g c = record {
   said = refl;
 }
 
+abbrev stands : (said rules next : List Terms) (done count : ℕ) (s later : State) → done < count → is_halted later ≡ false
+    → Kept said rules next (replicate done Step) s later → StandsPast said rules [] count s later (done + 1)
+stands said rules next done count s later below running kept =
+    let same : done ≡ done + 1 - 1 = omega arith in
+    record {
+      next = next;
+      some = omega arith;
+      few = omega (arith, below);
+      kept = subst (λ n. Kept said rules next (replicate n Step) s later) same kept;
+      running = running;
+    }
+
+pub returns-in_err-refused-clause-midway : goal.returns-in_err-refused-clause-midway
+returns-in_err-refused-clause-midway g c =
+    let l = c.loop-done in
+    let w = c.args.watcher.now in
+    let p = err_from_is_err_and c.from_residual.result c.from_residual.ensures.1 in
+    rw p.1 (
+      l.done + 1,
+      stands (said_to w) (rules_of w) (rules_of l.watcher) l.done c.args.count c.args.machine.now l.machine
+          c.loop-done-test.true l.invariant.running l.invariant.kept,
+    )
+
+pub returns-in_err-done-clause-midway : goal.returns-in_err-done-clause-midway
+returns-in_err-done-clause-midway g c =
+    let l = c.loop-done in
+    let w = c.args.watcher.now in
+    let p = err_from_is_err_and c.from_residual-in_err-done.result c.from_residual-in_err-done.ensures.1 in
+    rw p.1 (subst (StandsMidway (said_to w) (rules_of w) [] c.args.count c.args.machine.now) (sym c.in_err-done.ensures.same) (
+      l.done + 1,
+      stands (said_to w) (rules_of w) (rules_of l.watcher) l.done c.args.count c.args.machine.now l.machine
+          c.loop-done-test.true l.invariant.running l.invariant.kept,
+    ))
+
 pub returns-in-Some-clause-found : goal.returns-in-Some-clause-found
 returns-in-Some-clause-found g c =
     let l = c.loop-done in
     let w = c.args.watcher.now in
-    let same : l.done ≡ l.done + 1 - 1 = omega arith in
     record {
-      next = rules_of l.watcher;
-      some = omega arith;
-      few = omega (arith, c.loop-done-test.true);
-      kept = subst (λ n. Kept (said_to w) (rules_of w) (rules_of l.watcher) (replicate n Step) c.args.machine.now l.machine) same
-          l.invariant.kept;
-      running = l.invariant.running;
+      stands = stands (said_to w) (rules_of w) (rules_of l.watcher) l.done c.args.count c.args.machine.now l.machine
+          c.loop-done-test.true l.invariant.running l.invariant.kept;
       refused = rw c.in-Some.is at c.in_ok-refused.ensures.refused;
     }
 
