@@ -12,10 +12,8 @@ use Rattle.image.specs.declared.fault.ImageFault.TheVariants.{L4, L6, L11}
 use Rattle.image.specs.Image.{Image, Section, Builds, build_fault, image_of, is_version, is_good_header}
 use Rattle.image.specs.ImageLaws.{header_ranges}
 use Rattle.commands.specs.Imaging.{given, default_pages, most_read, header_number, version_of, flat_sections, flat_fault, at_of, entry_of}
-use Rattle.commands.specs.Imaging.{mode_of, pages_of, fault_for, image_for, IsFlatFault, MakesImage}
-use Rattle.commands.specs.Files.{File, Gains, whole, IsOfSystem}
-use Rattle.commands.specs.declared.fault.ProgramFault.{ProgramFault}
-use Rattle.commands.specs.declared.fault.ProgramFault.TheVariants as program
+use Rattle.commands.specs.Imaging.{mode_of, pages_of, fault_for, image_for, MakesImage}
+use Rattle.commands.specs.Files.{File, Gains, whole}
 use Rattle.image.specs.Grammar.{spelling}
 use Rattle.command_line.specs.declared.layout.Layout.{Layout}
 
@@ -158,22 +156,17 @@ fault_whole layout read bytes found part builds = elim (builds_err _ _ found bui
   | inr fault ↦ inr (sym (read_all layout bytes).0 ∙ (rw part at fault))
 ]
 
--- a fault of the system is not one of an image
-pub system_flat : (layout : Layout) (flat bytes : List ℕ) (old new : Option (List File)) (fault : ProgramFault) → IsOfSystem fault
-    → IsFlatFault layout flat bytes old new fault
-system_flat layout flat bytes old new (program.File name fault) system = absurd system
-system_flat layout flat bytes old new other system = system
-
-pub flat_system : {X : Type 0} (layout : Layout) (flat : List ℕ) (known : Option (List ℕ)) (old new : Option (List File))
-    (result : Result X ProgramFault) → IfErr result IsOfSystem
-    → IfErr result (λ fault. IfSome known (λ bytes. IsFlatFault layout flat bytes old new fault))
-flat_system layout flat known old new (Ok x) system = tt
-flat_system layout flat None old new (Err fault) system = tt
-flat_system layout flat (Some bytes) old new (Err fault) system = system_flat layout flat bytes old new fault system
-
-pub fault_known : (layout : Layout) (flat read : List ℕ) (known : Option (List ℕ)) (found : ImageFault) (old : Option (List File))
+-- where a file's bytes are known
+pub fault_known : (layout : Layout) (read : List ℕ) (known : Option (List ℕ)) (found : ImageFault)
     → IfSome known (λ bytes. read ≡ take (most_read layout.pages) bytes)
     → Builds (fault_for layout read) (image_for layout read) (Err found)
-    → IfSome known (λ bytes. (flat ≡ flat) × ((found ≡ L11) ⊎ (fault_for layout bytes ≡ Some found)) × (old ≡ old))
-fault_known layout flat read None found old part builds = tt
-fault_known layout flat read (Some bytes) found old part builds = (refl, fault_whole layout read bytes found part builds, refl)
+    → IfSome known (λ bytes. (found ≡ L11) ⊎ (fault_for layout bytes ≡ Some found))
+fault_known layout read None found part builds = tt
+fault_known layout read (Some bytes) found part builds = fault_whole layout read bytes found part builds
+
+pub no_fault : (layout : Layout) (read : List ℕ) (known : Option (List ℕ)) (made : Image)
+    → IfSome known (λ bytes. read ≡ take (most_read layout.pages) bytes)
+    → Builds (fault_for layout read) (image_for layout read) (Ok made) → IfSome known (λ bytes. fault_for layout bytes ≡ None)
+no_fault layout read None made part builds = tt
+no_fault layout read (Some bytes) made part builds =
+    let built = builds_ok _ _ made builds in sym (read_all layout bytes).0 ∙ (rw part at built.0)

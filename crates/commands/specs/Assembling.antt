@@ -1,8 +1,9 @@
 -- What `asm` writes of a text, and how it tells its fault.
-use Rattle.std.specs.Prelude.{◌≡◌, ◌⊎◌, ℕ, ◌+◌, ◌/◌, ◌<◌, ◌==◌, Bool, if◌then◌else◌, List, [], ◌∷◌, ◌++◌, map, length}
-use Rattle.std.specs.Prelude.{decimal, Option, Some, None}
+use Rattle.std.specs.Prelude.{◌≡◌, ◌⊎◌, ℕ, ◌+◌, ◌/◌, ◌==◌, Bool, if◌then◌else◌, List, [], ◌∷◌, ◌++◌, map, length}
+use Rattle.std.specs.Prelude.{decimal, Option, Some, None, IsSomeAnd}
 use Rattle.std.specs.Borrow.{Bor}
 use Rattle.image.specs.Grammar.{spelling}
+use Rattle.image.specs.Image.{Image}
 use Rattle.assembler.specs.declared.fault.AsmFault.{AsmFault}
 use Rattle.assembler.specs.Left.{IsFaultOf}
 use Rattle.assembler.specs.Places.{Symbols, symbols_of}
@@ -11,8 +12,8 @@ use Rattle.assembler.specs.Text.{text_fault, text_image}
 use Rattle.fault_details.specs.Detail.{detail_of, line_at}
 use Rattle.symbols.specs.Symbols.{Symbol, symbol, table_text}
 use Rattle.commands.specs.declared.fault.ProgramFault.{ProgramFault}
-use Rattle.commands.specs.declared.fault.ProgramFault.TheVariants.{Asm, LongText}
-use Rattle.commands.specs.Files.{Text, File, Gains, whole, IsOfSystem}
+use Rattle.commands.specs.declared.fault.ProgramFault.TheVariants.{Asm}
+use Rattle.commands.specs.Files.{Text, File, Gains, Holds, IsTextFault, IsUnwritten, whole}
 
 -- labels and their values, as a table has them
 abbrev pub seen_labels : Symbols → List Symbol
@@ -50,9 +51,27 @@ abbrev pub IsAsmFault : Text → List ℕ → AsmFault → ProgramFault → Type
 IsAsmFault input text found (Asm name fault read) = (name.now ≡ input) × (fault ≡ found) × IsRead input text fault read.items
 IsAsmFault input text found other = ⊥
 
--- A fault of the text is its first, unless there was no memory, or that it is too long, and no file is written; any other is the system's.
-abbrev pub IsAssemblyFault : Text → List ℕ → Option (List File) → Option (List File) → ProgramFault → Type 0
-IsAssemblyFault input text old new (Asm name fault read) =
-    (name.now ≡ input) × IsFaultOf (text_fault text) fault × IsRead input text fault read.items × (new ≡ old)
-IsAssemblyFault input text old new (LongText name) = (name.now ≡ input) × (0x1000_0000 < length text) × (new ≡ old)
-IsAssemblyFault input text old new other = IsOfSystem other
+-- a fault of a text, which is its first, unless there was no memory
+abbrev pub IsFaultyText : Text → List ℕ → ProgramFault → Type 0
+IsFaultyText input text (Asm name fault read) =
+    (name.now ≡ input) × IsFaultOf (text_fault text) fault × IsRead input text fault read.items
+IsFaultyText input text other = ⊥
+
+-- Why an assembly isn't written: its image can't be; or that is, and the table of its labels that is named can't be.
+pub data FailsToWrite (output : Text) (symbols : Option (Bor Text)) (image : Image) (old new : Option (List File)) (fault : ProgramFault)
+    : Type 0 where
+  at_image : IsUnwritten output old new fault → FailsToWrite output symbols image old new fault
+  at_labels :
+      (between : Option (List File)) → Gains old between (whole output (spelling image))
+      → IsSomeAnd symbols (λ name. IsUnwritten name.now between new fault) → FailsToWrite output symbols image old new fault
+
+-- Why a text isn't assembled: it can't be read; or it is faulty; or it is correct, and what it means can't be written.
+pub data FailsToAssemble (input output : Text) (symbols : Option (Bor Text)) (old new : Option (List File)) (fault : ProgramFault)
+    : Type 0 where
+  at_input : IsTextFault input old fault → new ≡ old → FailsToAssemble input output symbols old new fault
+  at_text :
+      (text : List ℕ) → Holds input old text → IsFaultyText input text fault → new ≡ old
+      → FailsToAssemble input output symbols old new fault
+  at_output :
+      (text : List ℕ) → Holds input old text → text_fault text ≡ None → FailsToWrite output symbols (text_image text) old new fault
+      → FailsToAssemble input output symbols old new fault

@@ -1,8 +1,10 @@
 -- The files of a folder: what became of them, in order.
-use Rattle.std.specs.Prelude.{◌≡◌, ◌⊎◌, ℕ, ◌<◌, List, length, [], ◌∷◌, ◌++◌, bytes_eq, if◌then◌else◌, Option, Some, None, Err, IfSome, ⊤}
+use Rattle.std.specs.Prelude.{◌≡◌, ℕ, ◌<◌, List, length, [], ◌∷◌, ◌++◌, bytes_eq, if◌then◌else◌, Option, Some, None, Ok, Err}
+use Rattle.std.specs.Prelude.{IfSome, IsSomeAnd, ⊤}
 use Rattle.std.specs.Borrow.{Bor}
 use Rattle.std.specs.Io.KnownBytes.{Keeps}
 use Rattle.image.specs.Grammar.{reading}
+use Rattle.image.specs.Image.{Image}
 use Rattle.image.specs.Reads.{IsOfBytes}
 use Rattle.symbols.specs.Symbols.{Symbol, faulty_line, symbols_of}
 use Rattle.commands.specs.declared.fault.ProgramFault.{ProgramFault}
@@ -66,27 +68,46 @@ pub record Change : Type 0 where
 abbrev pub changed : Option (List ℕ) → Option (List ℕ) → Option (List File) → Option (List File) → Change
 changed sent out old new = record { sent = sent; out = out; old = old; new = new }
 
--- a fault of the system, its devices or its memory, and none of what was read
-abbrev pub IsOfSystem : ProgramFault → Type 0
-IsOfSystem (NoFile name kind) = ⊤
-IsOfSystem (Directory name) = ⊤
-IsOfSystem (Read name kind) = ⊤
-IsOfSystem (Write failed) = ⊤
-IsOfSystem (CutShort name) = ⊤
-IsOfSystem Memory = ⊤
-IsOfSystem other = ⊥
+-- ---- faults of files, of which each names the one that it is about
+
+-- the system doesn't let a file be opened or made, or there is no memory
+abbrev pub IsOpening : Text → ProgramFault → Type 0
+IsOpening file (NoFile name kind) = name.now ≡ file
+IsOpening file (Directory name) = name.now ≡ file
+IsOpening file Memory = ⊤
+IsOpening file other = ⊥
+
+-- or an open file be read
+abbrev pub IsReading : Text → ProgramFault → Type 0
+IsReading file (Read name kind) = name.now ≡ file
+IsReading file other = IsOpening file other
+
+-- a file that is to be written: it isn't made, or it is made and cut short
+abbrev pub IsUnwritten : Text → Option (List File) → Option (List File) → ProgramFault → Type 0
+IsUnwritten file old new (CutShort name) = (name.now ≡ file) × Gains old new (begun file ∷ [])
+IsUnwritten file old new other = IsOpening file other × (new ≡ old)
+
+-- a write to the output fails
+abbrev pub IsUnsent : ProgramFault → Type 0
+IsUnsent (Write failed) = ⊤
+IsUnsent other = ⊥
+
+-- or there is no memory for it
+abbrev pub IsUnsentOrMemory : ProgramFault → Type 0
+IsUnsentOrMemory Memory = ⊤
+IsUnsentOrMemory other = IsUnsent other
 
 -- a fault of a file that is to be an image: what its bytes are refused for, or the system's
 abbrev pub IsImageFault : Text → Option (List File) → ProgramFault → Type 0
 IsImageFault image files (program.File name fault) =
     (name.now ≡ image) × IfSome (bytes_of image files) (λ bytes. IsOfBytes fault → reading bytes ≡ Err fault)
-IsImageFault image files other = IsOfSystem other
+IsImageFault image files other = IsOpening image other
 
 -- a fault of a file that is to hold a text: more than 256 MiB, or the system's
 abbrev pub IsTextFault : Text → Option (List File) → ProgramFault → Type 0
 IsTextFault text files (program.LongText name) =
     (name.now ≡ text) × IfSome (bytes_of text files) (λ bytes. 0x1000_0000 < length bytes)
-IsTextFault text files other = IsOfSystem other
+IsTextFault text files other = IsReading text other
 
 -- a fault of a file that is to be a table of symbols: its first invalid line, or that of a text
 abbrev pub IsTableFault : Text → Option (List File) → ProgramFault → Type 0
@@ -94,7 +115,14 @@ IsTableFault table files (program.Symbols name number) =
     (name.now ≡ table) × IfSome (bytes_of table files) (λ text. faulty_line text ≡ Some number)
 IsTableFault table files other = IsTextFault table files other
 
--- a fault of an image, or of the table that is named beside it
-abbrev pub IsSourceFault : Text → Option (Bor Text) → Option (List File) → ProgramFault → Type 0
-IsSourceFault image None files fault = IsImageFault image files fault
-IsSourceFault image (Some table) files fault = IsImageFault image files fault ⊎ IsTableFault table.now files fault
+-- the same of a table that is named
+abbrev pub IsNamedTableFault : Option (Bor Text) → Option (List File) → ProgramFault → Type 0
+IsNamedTableFault symbols files fault = IsSomeAnd symbols (λ name. IsTableFault name.now files fault)
+
+-- ---- files that are read, where it is known what they hold
+
+abbrev pub Holds : Text → Option (List File) → List ℕ → Type 0
+Holds name files bytes = IfSome (bytes_of name files) (λ held. bytes ≡ held)
+
+abbrev pub HoldsImage : Text → Option (List File) → Image → Type 0
+HoldsImage name files image = IfSome (bytes_of name files) (λ bytes. reading bytes ≡ Ok image)

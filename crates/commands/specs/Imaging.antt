@@ -1,6 +1,6 @@
 -- The image that `image` makes of a flat file: where the bytes go, and what stands for what isn't named.
 use Rattle.std.specs.Prelude.{◌≡◌, ℕ, ◌+◌, ◌-◌, ◌*◌, ◌/◌, ◌^◌, nat_le, min, max, if◌then◌else◌, List, [], ◌∷◌, length}
-use Rattle.std.specs.Prelude.{Option, Some, None, ◌⊎◌}
+use Rattle.std.specs.Prelude.{Option, Some, None, IfSome, ◌⊎◌}
 use Rattle.base.specs.Ram.{ram_base, page_bytes, most_pages, most_pages_version_1}
 use Rattle.image.specs.declared.fault.ImageFault.{ImageFault}
 use Rattle.image.specs.Image.{Image, Section, build_fault, image_of}
@@ -9,7 +9,7 @@ use Rattle.image.specs.Grammar.{spelling}
 use Rattle.command_line.specs.declared.layout.Layout.{Layout}
 use Rattle.commands.specs.declared.fault.ProgramFault.{ProgramFault}
 use Rattle.commands.specs.declared.fault.ProgramFault.TheVariants as program
-use Rattle.commands.specs.Files.{Text, File, Gains, whole, IsOfSystem}
+use Rattle.commands.specs.Files.{Text, File, Gains, whole, IsReading, IsUnwritten, bytes_of}
 
 abbrev pub given : ℕ → Option ℕ → ℕ
 given default None = default
@@ -65,8 +65,16 @@ abbrev pub MakesImage : Layout → Text → List ℕ → Option (List File) → 
 MakesImage layout output bytes old new =
     (fault_for layout bytes ≡ None) × Gains old new (whole output (spelling (image_for layout bytes)))
 
--- A fault of the image is the first of its build, unless there was no memory, and no file is written; any other is the system's.
-abbrev pub IsFlatFault : Layout → Text → List ℕ → Option (List File) → Option (List File) → ProgramFault → Type 0
-IsFlatFault layout flat bytes old new (program.File name fault) =
-    (name.now ≡ flat) × ((fault ≡ L11) ⊎ (fault_for layout bytes ≡ Some fault)) × (new ≡ old)
-IsFlatFault layout flat bytes old new other = IsOfSystem other
+-- what no image is built of these bytes of a file for: the first fault of its build, unless there was no memory
+abbrev pub IsFlatFault : Layout → Text → Option (List ℕ) → ProgramFault → Type 0
+IsFlatFault layout flat known (program.File name fault) =
+    (name.now ≡ flat) × IfSome known (λ bytes. (fault ≡ L11) ⊎ (fault_for layout bytes ≡ Some fault))
+IsFlatFault layout flat known other = ⊥
+
+-- Why no image is made of a flat file: it can't be read; or no image is built of its bytes; or the image can't be written.
+pub data FailsToImage (layout : Layout) (flat output : Text) (old new : Option (List File)) (fault : ProgramFault) : Type 0 where
+  at_flat : IsReading flat fault → new ≡ old → FailsToImage layout flat output old new fault
+  at_build : IsFlatFault layout flat (bytes_of flat old) fault → new ≡ old → FailsToImage layout flat output old new fault
+  at_output :
+      IfSome (bytes_of flat old) (λ bytes. fault_for layout bytes ≡ None) → IsUnwritten output old new fault
+      → FailsToImage layout flat output old new fault

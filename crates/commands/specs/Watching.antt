@@ -22,7 +22,7 @@ use Rattle.commands.specs.declared.loading.LoadedRun.{LoadedRun}
 use Rattle.commands.specs.declared.loading.Rules.{Rules}
 use Rattle.commands.specs.declared.running.Ended.{Ended}
 use Rattle.commands.specs.declared.watching.Stop.{Stop}
-use Rattle.commands.specs.Files.{Text, File, Change, IsOfSystem, bytes_of}
+use Rattle.commands.specs.Files.{Text, File, Change, IsReading, bytes_of}
 use Rattle.commands.specs.Loading.{IsLoaded, Run, events_to, run_of, state_after, terms_in}
 use Rattle.commands.specs.Running.{RunsFreely, Sends, Traces, place_of, trace_of}
 
@@ -30,7 +30,7 @@ use Rattle.commands.specs.Running.{RunsFreely, Sends, Traces, place_of, trace_of
 abbrev pub IsPolicyTextFault : Text → Option (List File) → ProgramFault → Type 0
 IsPolicyTextFault policy files (program.LongPolicy name) =
     (name.now ≡ policy) × IfSome (bytes_of policy files) (λ text. 0x10_0000 < length text)
-IsPolicyTextFault policy files other = IsOfSystem other
+IsPolicyTextFault policy files other = IsReading policy other
 
 -- a fault of a text that is to be a policy: its first faulty line and what is wrong with it, or no memory
 abbrev pub IsPolicyFault : Text → Text → List Symbol → ProgramFault → Type 0

@@ -5,8 +5,9 @@ ghost use Rattle.assembler.specs.Left.{IsStoppedAt};
 ghost use Rattle.assembler.specs.Standing.{standing_of};
 ghost use Rattle.image.specs.Grammar.{spelling};
 ghost use Rattle.symbols.specs.Symbols.{table_text};
-ghost use Rattle.commands.specs.Assembling.{Assembles, IsAsmFault, IsAssemblyFault, columns, indent_of, seen_labels, table_file};
-ghost use Rattle.commands.specs.Files.{Gains, IsOfSystem, bytes_of, whole};
+ghost use Rattle.commands.specs.Assembling.{Assembles, FailsToAssemble, FailsToWrite, IsAsmFault};
+ghost use Rattle.commands.specs.Assembling.{columns, indent_of, seen_labels, table_file};
+ghost use Rattle.commands.specs.Files.{Gains, IsUnwritten, bytes_of, whole};
 
 use crate::fault::ProgramFault;
 use crate::files::{Folder, read_text, write_bytes, write_image};
@@ -60,7 +61,7 @@ fn write_labels<'a, F: Folder>(
 ) -> Result<(), ProgramFault<'a>>
     ensures ok { OnOk result (Gains (F.files folder.old) (F.files folder.new)
         (whole name.entry.now (table_text (seen_labels assembly.now.symbols)))) }
-    ensures err { IfErr result IsOfSystem }
+    ensures err { IfErr result (IsUnwritten name.entry.now (F.files folder.old) (F.files folder.new)) }
 {
     match table_text(alloc, assembly.symbols()) {
         Ok(labels) => write_bytes(folder, name, &labels),
@@ -78,7 +79,7 @@ fn write_assembly<'a, F: Folder>(
 ) -> Result<(), ProgramFault<'a>>
     ensures ok { OnOk result (Gains (F.files folder.old) (F.files folder.new)
         (whole output.entry.now (spelling assembly.now.image) ++ table_file symbols.entry assembly.now.symbols)) }
-    ensures err { IfErr result IsOfSystem }
+    ensures err { IfErr result (FailsToWrite output.entry.now symbols.entry assembly.now.image (F.files folder.old) (F.files folder.new)) }
 {
     write_image(folder, output, assembly.image())?;
     match symbols {
@@ -98,8 +99,7 @@ pub fn assemble_file<'a, F: Folder>(
 ) -> Result<(), ProgramFault<'a>>
     ensures ok { OnOk result (IfSome (bytes_of input.entry.now (F.files folder.old)) (λ text.
         Assembles output.entry.now symbols.entry text (F.files folder.old) (F.files folder.new))) }
-    ensures err { IfErr result (λ fault. IfSome (bytes_of input.entry.now (F.files folder.old)) (λ text.
-        IsAssemblyFault input.entry.now text (F.files folder.old) (F.files folder.new) fault)) }
+    ensures err { IfErr result (FailsToAssemble input.entry.now output.entry.now symbols.entry (F.files folder.old) (F.files folder.new)) }
 {
     let text = read_text(alloc, folder, input)?;
     match assemble_or_stop(alloc, text.as_slice()) {

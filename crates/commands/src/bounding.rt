@@ -1,9 +1,10 @@
 //! The commands `bounds` and `word`.
 
-ghost use Rattle.std.specs.Prelude.{◌≡◌, IfOk};
+ghost use Rattle.std.specs.Prelude.{◌≡◌, IfErr, IfOk};
 ghost use Rattle.std.specs.Io.KnownBytes.{Appends};
 ghost use Rattle.bounds_text.specs.WordText.{word_of_halves};
 ghost use Rattle.commands.specs.Bounding.{WritesWord, bounds_answer};
+ghost use Rattle.commands.specs.Files.{IsUnsent};
 
 use crate::fault::ProgramFault;
 use crate::writing::Writing;
@@ -14,7 +15,8 @@ use word_cap::WordCap;
 
 /// Writes a text to `output`, and hands it back.
 fn show<'a, O: Write + Drop>(text: Text, output: O) -> Result<O, ProgramFault<'a>>
-    ensures { IfOk result (λ out. Appends (O.contents output) (O.contents out) text.bytes) }
+    ensures ok { IfOk result (λ out. Appends (O.contents output) (O.contents out) text.bytes) }
+    ensures err { IfErr result IsUnsent }
 {
     let mut sink = Writing::new(output);
     write_all(&mut sink, text.as_bytes())?;
@@ -39,7 +41,8 @@ pub fn show_bounds<'a, O: Write + Drop>(
     address: Option<u64>,
     output: O,
 ) -> Result<O, ProgramFault<'a>>
-    ensures { IfOk result (λ out. Appends (O.contents output) (O.contents out) (bounds_answer base length address)) }
+    ensures ok { IfOk result (λ out. Appends (O.contents output) (O.contents out) (bounds_answer base length address)) }
+    ensures err { IfErr result IsUnsent }
 {
     show(bounds_answer(base, length, address), output)
 }
@@ -52,7 +55,8 @@ pub fn show_word<'a, O: Write + Drop>(
     memory: bool,
     output: O,
 ) -> Result<O, ProgramFault<'a>>
-    ensures { IfOk result (λ out. WritesWord (word_of_halves high low memory) (O.contents output) (O.contents out)) }
+    ensures ok { IfOk result (λ out. WritesWord (word_of_halves high low memory) (O.contents output) (O.contents out)) }
+    ensures err { IfErr result IsUnsent }
 {
     show(word_text::<WordCap>(high, low, memory), output)
 }

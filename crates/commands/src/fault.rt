@@ -1,7 +1,7 @@
 //! The faults that end the program with status 3, and their texts.
 
 ghost use Rattle.std.specs.Prelude.{◌≡◌};
-ghost use Rattle.commands.specs.Files.{IsOfSystem};
+ghost use Rattle.commands.specs.Files.{IsOpening, IsReading};
 ghost use Rattle.commands.specs.declared.fault.ProgramFault.TheVariants as program;
 
 use assembler::{AsmCode, AsmFault};
@@ -34,7 +34,7 @@ pub enum ProgramFault<'a> {
     Input,
     /// A byte could not be written.
     #[error("write failed")]
-    Write(#[from] DeviceFailed),
+    Write(DeviceFailed),
     /// No memory for a file's bytes or for the words of the command line.
     #[error("no memory")]
     Memory,
@@ -58,13 +58,37 @@ pub enum ProgramFault<'a> {
     CutShort(&'a str),
     /// There is no image.
     #[error("{}", image_text(.0))]
-    Image(#[from] ImageFault),
+    Image(ImageFault),
     /// A text is not assembled: its file, the first faulty line and its first fault, and what was read there, if that says more.
     #[error("line {}: {}\n  {}:{}{}{}", .1.line, asm_text(.1.code), .0, .1.line, colon_before(.2), text_of(.2))]
     Asm(&'a str, AsmFault, Vec<u8>),
     /// No machine could be made.
     #[error("{}", machine_text(.0))]
-    Machine(#[from] MachineFault),
+    Machine(MachineFault),
+}
+
+impl From<DeviceFailed> for ProgramFault<'_> {
+    ghost from_gives = { λ failed fault. fault ≡ program.Write failed };
+
+    fn from(failed: DeviceFailed) -> Self {
+        ProgramFault::Write(failed)
+    }
+}
+
+impl From<ImageFault> for ProgramFault<'_> {
+    ghost from_gives = { λ found fault. fault ≡ program.Image found };
+
+    fn from(found: ImageFault) -> Self {
+        ProgramFault::Image(found)
+    }
+}
+
+impl From<MachineFault> for ProgramFault<'_> {
+    ghost from_gives = { λ found fault. fault ≡ program.Machine found };
+
+    fn from(found: MachineFault) -> Self {
+        ProgramFault::Machine(found)
+    }
 }
 
 impl From<AllocError> for ProgramFault<'_> {
@@ -171,7 +195,7 @@ fn machine_text(fault: &MachineFault) -> &'static str {
 
 /// The fault of a file that could not be opened or made.
 pub fn opening_fault<'a>(name: &'a str, error: &io::Error) -> ProgramFault<'a>
-    ensures { IsOfSystem result }
+    ensures { IsOpening name.entry.now result }
 {
     match error.kind() {
         ErrorKind::OutOfMemory => ProgramFault::Memory,
@@ -182,7 +206,7 @@ pub fn opening_fault<'a>(name: &'a str, error: &io::Error) -> ProgramFault<'a>
 
 /// The fault of a file that was opened and could not be read.
 pub fn reading_fault<'a>(name: &'a str, error: &io::Error) -> ProgramFault<'a>
-    ensures { IsOfSystem result }
+    ensures { IsReading name.entry.now result }
 {
     match error.kind() {
         ErrorKind::OutOfMemory => ProgramFault::Memory,

@@ -1,9 +1,10 @@
 //! What the program reads from files and writes to them.
 
-ghost use Rattle.std.specs.Prelude.{◌≡◌, ◌<◌, List, [], ◌∷◌, Option, None, IfOk, IfErr, IfNone, OnOk, IfSome, length, take};
+ghost use Rattle.std.specs.Prelude.{◌≡◌, ◌<◌, List, [], ◌∷◌, Option, None, IfOk, IfErr, IfNone, OnErr, OnOk, IfSome, length, take};
 ghost use Rattle.image.specs.Grammar.{spelling, reading};
 ghost use Rattle.symbols.specs.Symbols.{faulty_line, symbols_of};
-ghost use Rattle.commands.specs.Files.{File, begun, ended, whole, Gains, IsNew, IsOfSystem, IsImageFault, IsTable, IsTableFault, IsTextFault, bytes_of};
+ghost use Rattle.commands.specs.Files.{File, begun, ended, whole, Gains, IsNew, IsImageFault, IsNamedTableFault, IsTable, IsTableFault};
+ghost use Rattle.commands.specs.Files.{IsOpening, IsReading, IsTextFault, IsUnwritten, bytes_of};
 ghost use Rattle.commands.specs.Overwriting.{Sameness};
 
 use crate::fault::{ProgramFault, opening_fault, reading_fault};
@@ -40,8 +41,9 @@ pub trait Folder {
         ensures { IfOk result (λ file. IfSome (bytes_of name.now (files self.now))
             (λ bytes. Self.Opened.remaining file ≡ Some bytes)) };
 
-    /// Makes a file of this name, or empties the one that there is.
+    /// Makes a file of this name, or empties the one that there is. An Err leaves every file as it is.
     fn make(&mut self, name: &str) -> io::Result<Self::Made>
+        ensures same { OnErr result (files self.new ≡ files self.old) }
         ensures files { OnOk result (Gains (files self.old) (files self.new) (begun name.now ∷ [])) }
         ensures empty { IfOk result (λ file. IsNew (files self.old) (Self.Made.contents file)) };
 
@@ -57,7 +59,7 @@ fn read_rest<'a, R: Read + Drop>(
     name: &'a str,
 ) -> Result<Vec<u8>, ProgramFault<'a>>
     ensures ok { IfOk result (λ read. IfSome (R.remaining file) (λ bytes. read.items ≡ bytes)) }
-    ensures err { IfErr result IsOfSystem }
+    ensures err { IfErr result (IsReading name.entry.now) }
 {
     let mut bytes = Vec::new(alloc);
     match file.read_to_end(&mut bytes) {
@@ -70,7 +72,7 @@ fn read_rest<'a, R: Read + Drop>(
 pub fn open_file<'a, F: Folder>(folder: &F, name: &'a str) -> Result<F::Opened, ProgramFault<'a>>
     ensures ok { IfOk result (λ file. IfSome (bytes_of name.entry.now (F.files folder.now))
         (λ bytes. F.Opened.remaining file ≡ Some bytes)) }
-    ensures err { IfErr result IsOfSystem }
+    ensures err { IfErr result (IsOpening name.entry.now) }
 {
     folder
         .open(name)
@@ -85,7 +87,7 @@ pub fn read_beginning<'a, F: Folder>(
     most: u64,
 ) -> Result<Vec<u8>, ProgramFault<'a>>
     ensures ok { IfOk result (λ read. IfSome (bytes_of name.entry.now (F.files folder.now)) (λ bytes. read.items ≡ take most bytes)) }
-    ensures err { IfErr result IsOfSystem }
+    ensures err { IfErr result (IsReading name.entry.now) }
 {
     let file = open_file(folder, name)?;
     read_rest(alloc, file.take(most), name)
@@ -102,7 +104,7 @@ pub fn read_at_most<'a, F: Folder>(
         (λ bytes. text.items ≡ bytes))) }
     ensures more { IfOk result (λ read. IfNone read (IfSome (bytes_of name.entry.now (F.files folder.now)) (λ bytes.
         most < length bytes))) }
-    ensures err { IfErr result IsOfSystem }
+    ensures err { IfErr result (IsReading name.entry.now) }
 {
     let read = read_beginning(alloc, folder, name, u64::from(most) + 1)?;
     if read.len() > most as usize {
@@ -130,7 +132,8 @@ pub fn read_text<'a, F: Folder>(
 pub fn make_file<'a, F: Folder>(folder: &mut F, name: &'a str) -> Result<F::Made, ProgramFault<'a>>
     ensures files { OnOk result (Gains (F.files folder.old) (F.files folder.new) (begun name.entry.now ∷ [])) }
     ensures empty { IfOk result (λ file. IsNew (F.files folder.old) (F.Made.contents file)) }
-    ensures err { IfErr result IsOfSystem }
+    ensures err { IfErr result (IsOpening name.entry.now) }
+    ensures same { OnErr result (F.files folder.new ≡ F.files folder.old) }
 {
     folder
         .make(name)
@@ -144,7 +147,7 @@ pub fn write_image<'a, F: Folder>(
     image: &Image,
 ) -> Result<(), ProgramFault<'a>>
     ensures ok { OnOk result (Gains (F.files folder.old) (F.files folder.new) (whole name.entry.now (spelling image.now))) }
-    ensures err { IfErr result IsOfSystem }
+    ensures err { IfErr result (IsUnwritten name.entry.now (F.files folder.old) (F.files folder.new)) }
 {
     let file = make_file(folder, name)?;
     let mut sink = Writing::new(file);
@@ -164,7 +167,7 @@ pub fn write_bytes<'a, F: Folder>(
     bytes: &[u8],
 ) -> Result<(), ProgramFault<'a>>
     ensures ok { OnOk result (Gains (F.files folder.old) (F.files folder.new) (whole name.entry.now bytes.now)) }
-    ensures err { IfErr result IsOfSystem }
+    ensures err { IfErr result (IsUnwritten name.entry.now (F.files folder.old) (F.files folder.new)) }
 {
     let file = make_file(folder, name)?;
     let mut sink = Writing::new(file);
@@ -217,7 +220,8 @@ pub fn table_of<'a, F: Folder>(
     folder: &F,
     symbols: Option<&'a str>,
 ) -> Result<Symbols, ProgramFault<'a>>
-    ensures { IfOk result (λ table. IsTable symbols.entry (F.files folder.now) table) }
+    ensures ok { IfOk result (λ table. IsTable symbols.entry (F.files folder.now) table) }
+    ensures err { IfErr result (IsNamedTableFault symbols.entry (F.files folder.now)) }
 {
     match symbols {
         Some(name) => read_table(alloc, folder, name),

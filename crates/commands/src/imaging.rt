@@ -4,7 +4,7 @@ ghost use Rattle.std.specs.Prelude.{◌≡◌, IfErr, OnOk, IfSome};
 ghost use Rattle.image.specs.Image.{Builds};
 ghost use Rattle.commands.specs.Files.{bytes_of};
 ghost use Rattle.commands.specs.Imaging.{default_pages, fault_for, flat_fault, flat_image, header_number, image_for as image_for_layout};
-ghost use Rattle.commands.specs.Imaging.{most_read, IsFlatFault, MakesImage};
+ghost use Rattle.commands.specs.Imaging.{most_read, FailsToImage, MakesImage};
 
 use crate::fault::ProgramFault;
 use crate::files::{Folder, read_beginning, write_image};
@@ -85,8 +85,7 @@ pub fn image_file<'a, F: Folder>(
 ) -> Result<(), ProgramFault<'a>>
     ensures ok { OnOk result (IfSome (bytes_of flat.entry.now (F.files folder.old)) (λ bytes.
         MakesImage layout output.entry.now bytes (F.files folder.old) (F.files folder.new))) }
-    ensures err { IfErr result (λ fault. IfSome (bytes_of flat.entry.now (F.files folder.old)) (λ bytes.
-        IsFlatFault layout flat.entry.now bytes (F.files folder.old) (F.files folder.new) fault)) }
+    ensures err { IfErr result (FailsToImage layout flat.entry.now output.entry.now (F.files folder.old) (F.files folder.new)) }
 {
     let bytes = read_beginning(alloc, folder, flat, most_bytes(layout.pages))?;
     match image_for(alloc, layout, &bytes) {

@@ -4,8 +4,8 @@ ghost use Rattle.std.specs.Prelude.{◌-◌, ◌^◌, ◌<◌, Some, IfOk, IfErr
 ghost use Rattle.std.specs.Option.{option_copied};
 ghost use Rattle.std.specs.Io.Buffered.{writer_contents};
 ghost use Rattle.std.specs.Io.KnownBytes.{Appends, Keeps};
-ghost use Rattle.commands.specs.Files.{bytes_of, IsOfSystem, IsSourceFault};
-ghost use Rattle.commands.specs.Listing.{ListsFile, listing_of};
+ghost use Rattle.commands.specs.Files.{bytes_of, IsUnsent, IsUnsentOrMemory};
+ghost use Rattle.commands.specs.Listing.{FailsToList, ListsFile, listing_of};
 ghost use Rattle.image_listing.specs.Listing.{listing_by};
 
 use crate::fault::ProgramFault;
@@ -53,7 +53,7 @@ fn list_on<W: Sink>(
 /// Writes what is left of a block of lines, and hands the output back.
 fn finish<'a, O: Write + Drop>(lines: BufWriter<O>) -> Result<O, ProgramFault<'a>>
     ensures ok { IfOk result (λ out. Keeps (writer_contents O.contents lines) (O.contents out)) }
-    ensures err { IfErr result IsOfSystem }
+    ensures err { IfErr result IsUnsent }
 {
     match lines.into_inner() {
         Ok(output) => Ok(output),
@@ -71,7 +71,7 @@ fn list_to<'a, O: Write + Drop>(
 ) -> Result<O, ProgramFault<'a>>
     ensures ok { IfOk result (λ out.
         Appends (O.contents output) (O.contents out) (listing_of header (option_copied table.entry) image.now)) }
-    ensures err { IfErr result IsOfSystem }
+    ensures err { IfErr result IsUnsentOrMemory }
 {
     let lines = match BufWriter::new(alloc, output) {
         Ok(lines) => lines,
@@ -96,7 +96,7 @@ pub fn list_file<'a, F: Folder, O: Write + Drop>(
 ) -> Result<O, ProgramFault<'a>>
     ensures ok { IfOk result (λ out. IfSome (bytes_of name.entry.now (F.files folder.now)) (λ bytes.
         ListsFile header (F.files folder.now) bytes symbols.entry (O.contents output) (O.contents out))) }
-    ensures err { IfErr result (IsSourceFault name.entry.now symbols.entry (F.files folder.now)) }
+    ensures err { IfErr result (FailsToList name.entry.now symbols.entry (F.files folder.now)) }
 {
     let image = read_image(alloc, folder, name)?;
     match symbols {
@@ -111,7 +111,7 @@ pub fn list_file<'a, F: Folder, O: Write + Drop>(
 /// The fault of a listing that was cut short. What is left of its block is let go: written when the writer is dropped it would stand
 /// after a gap.
 fn cut_short<'a, O: Write + Drop>(lines: BufWriter<O>) -> ProgramFault<'a>
-    ensures { IsOfSystem result }
+    ensures { IsUnsent result }
 {
     let _ = lines.into_parts();
     ProgramFault::Write(DeviceFailed)

@@ -5,7 +5,7 @@ ghost use Rattle.command_line.specs.CommandLine.{AreInRange};
 ghost use Rattle.policy_text.specs.Policy.{policy_of};
 ghost use Rattle.policy_text.specs.Seen.{seen};
 ghost use Rattle.schedules.specs.Schedule.{IsRunnable};
-ghost use Rattle.commands.specs.Files.{IsOfSystem, bytes_of};
+ghost use Rattle.commands.specs.Files.{bytes_of};
 ghost use Rattle.commands.specs.Loading.{AreNumbered, AreRules, IsLoaded, IsPolicyOf, IsReady, IsTyped, schedule_of};
 ghost use Rattle.commands.specs.Watching.{IsPolicyFault, IsPolicyTextFault};
 

@@ -9,7 +9,7 @@ such_a_text : {T E : Type 0} (r : Result T E) (writes : T → List ℕ → Type 
 such_a_text (Ok out) writes word text shows written = (text, shows, written)
 such_a_text (Err e) writes word text shows written = tt
 
-pub returns : goal.returns
-returns g c =
+pub returns-clause-ok : goal.returns-clause-ok
+returns-clause-ok g c =
     such_a_text c.show.result (λ out text. Appends (g.O.Write.contents c.args.output) (g.O.Write.contents out) text) _ _
-    c.word_text.ensures c.show.ensures
+    c.word_text.ensures c.show.ensures.ok

@@ -6,4 +6,4 @@ returns g c =
     debugged g.O.Write.contents (g.F.Folder.files c.args.folder.now) c.args.symbols c.args.keys c.args.gap c.args.tick
     (g.I.Read.remaining c.args.input) (g.O.Write.contents c.args.output) c.in_ok-image.image c.in_ok-table.table
     c.in_ok-typed.typed.items c.debug_image.result _ c.schedule_asked-schedule.result c.is_some.result c.in_ok-image.ensures.ok
-    c.in_ok-table.ensures c.in_ok-typed.ensures c.is_some.ensures c.schedule_asked-schedule.ensures.value c.debug_image.ensures
+    c.in_ok-table.ensures.ok c.in_ok-typed.ensures c.is_some.ensures c.schedule_asked-schedule.ensures.value c.debug_image.ensures
