@@ -1,8 +1,6 @@
+mod Numbers
+mod Inverse
+mod Format
 mod Taking
 mod Going
-mod GoingOn
-mod Valid
 mod Ending
-mod Numbers
-mod Again
-mod Spelt

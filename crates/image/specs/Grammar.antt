@@ -18,23 +18,25 @@ use Rattle.image.specs.Image.{most_capabilities_of, capability_fault}
 abbrev pub magic : List ℕ
 magic = codes "CHERIIMG"
 
--- 32 bytes: the magic, the version, the pages, the entry, the count of sections and the mode
+-- fields, each of so many bytes and with a number
+abbrev pub fields : List (ℕ × ℕ) → List ℕ
+fields numbers = flat_map (λ (field : ℕ × ℕ). little_bytes field.0 field.1) numbers
+
+-- 32 bytes: the magic, and the fields of a header
 unfoldable pub header_bytes : ℕ → ℕ → ℕ → ℕ → ℕ → List ℕ
 header_bytes version pages entry count mode =
-    magic
-    ++ (little_bytes 4 version ++ (little_bytes 4 pages ++ (little_bytes 8 entry ++ (little_bytes 4 count ++ little_bytes 4 mode))))
+    magic ++ fields ((4, version) ∷ (4, pages) ∷ (8, entry) ∷ (4, count) ∷ (4, mode) ∷ [])
 
 -- 16 bytes: where a section lies, and how many bytes it has
 unfoldable pub span_bytes : ℕ → ℕ → List ℕ
-span_bytes address size = little_bytes 8 address ++ little_bytes 8 size
+span_bytes address size = fields ((8, address) ∷ (8, size) ∷ [])
 
 abbrev pub section_bytes : Section → List ℕ
 section_bytes s = span_bytes s.address (length s.bytes) ++ s.bytes
 
 -- 32 bytes: the place, the base, the length, the permissions and the flag
 unfoldable pub capability_bytes : CapEntry → List ℕ
-capability_bytes c =
-    little_bytes 8 c.place ++ (little_bytes 8 c.base ++ (little_bytes 8 c.length ++ (little_bytes 4 c.perms ++ little_bytes 4 c.flag)))
+capability_bytes c = fields ((8, c.place) ∷ (8, c.base) ∷ (8, c.length) ∷ (4, c.perms) ∷ (4, c.flag) ∷ [])
 
 -- after the sections: in version 1 nothing, in version 2 the count of capabilities in 4 bytes, and each of them
 unfoldable pub capabilities_bytes : ℕ → List CapEntry → List ℕ
@@ -56,6 +58,10 @@ AreBytes bytes = (k : ℕ) → slice_index bytes k < 256
 
 -- ---- the reading of bytes, with the first fault in order
 
+-- A part of a file is read from the front of bytes: what it says and the rest, or the first fault.
+abbrev pub Part : Type 0 → Type 0
+Part X = List ℕ → Result (X × List ℕ) ImageFault
+
 infixl 10 ◌>>=◌
 abbrev pub ◌>>=◌ : {A B : Type 0} → Result A ImageFault → (A → Result B ImageFault) → Result B ImageFault
 (Ok x) >>= f = f x
@@ -65,22 +71,30 @@ abbrev pub ◌>>=◌ : {A B : Type 0} → Result A ImageFault → (A → Result 
 abbrev pub number_at : ℕ → ℕ → List ℕ → ℕ
 number_at place size bytes = little_number size (take size (drop place bytes))
 
--- so many bytes and the rest, or the fault that they are cut short
-abbrev pub taken : ℕ → ImageFault → List ℕ → Result (List ℕ × List ℕ) ImageFault
+-- so many bytes, or the fault that they are cut short
+abbrev pub taken : ℕ → ImageFault → Part (List ℕ)
 taken size cut_short bytes = if nat_lt (length bytes) size then Err cut_short else Ok (take size bytes, drop size bytes)
 
--- the 32 bytes of a header: the magic, the version, pages with entry and mode, the count of sections
-abbrev pub header_checks : List ℕ → List (Bool × ImageFault)
-header_checks bytes =
-    (starts_with nat_eq bytes magic, L2)
-    ∷ (is_version (number_at 8 4 bytes), L3)
-    ∷ (is_good_header (number_at 8 4 bytes) (number_at 12 4 bytes) (number_at 16 8 bytes) (number_at 28 4 bytes), L4)
-    ∷ (nat_le (number_at 24 4 bytes) 64, L5)
-    ∷ []
+-- what so many bytes say, or the fault that they have
+abbrev pub checked : {X : Type 0} → ℕ → ImageFault → (List ℕ → Option ImageFault) → (List ℕ → X) → Part X
+checked size cut_short fault said bytes = do
+  front ← taken size cut_short bytes
+  x ← unless (fault front.0) (said front.0)
+  Ok (x, front.1)
 
-unfoldable pub header_fault : List ℕ → Option ImageFault
-header_fault bytes = first_fault (header_checks bytes)
+-- a part, and then one that depends on what it says
+abbrev pub both : {X Y Z : Type 0} → Part X → (X → Part Y) → (X → Y → Z) → Part Z
+both first second join bytes = do
+  x ← first bytes
+  y ← second x.0 x.1
+  Ok (join x.0 y.0, y.1)
 
+-- so many parts of one kind, each of which depends on a number of the one before
+abbrev pub each : {X : Type 0} → (ℕ → Part X) → (X → ℕ) → ℕ → ℕ → Part (List X)
+each part number zero before = λ bytes. Ok ([], bytes)
+each part number (suc n) before = both (part before) (λ x. each part number n (number x)) (λ x xs. x ∷ xs)
+
+-- the 32 bytes of a header
 abbrev pub header_of : List ℕ → Header
 header_of bytes =
     record {
@@ -91,35 +105,36 @@ header_of bytes =
       mode = number_at 28 4 bytes;
     }
 
--- the header in front, and the rest
-unfoldable pub header_at : List ℕ → Result (Header × List ℕ) ImageFault
-header_at bytes = do
-  front ← taken 32 L1 bytes
-  header ← unless (header_fault front.0) (header_of front.0)
-  Ok (header, front.1)
+-- the version, pages with entry and mode, the count of sections
+abbrev pub header_checks : Header → List (Bool × ImageFault)
+header_checks h =
+    (is_version h.version, L3) ∷ (is_good_header h.version h.pages h.entry h.mode, L4) ∷ (nat_le h.count 64, L5) ∷ []
 
--- where the section in front lies, if the one before it ended at `free`, and the rest
-unfoldable pub span_at : ℕ → ℕ → List ℕ → Result (Span × List ℕ) ImageFault
-span_at pages free bytes = do
-  front ← taken 16 L8 bytes
-  span ← unless (span_fault pages free (number_at 0 8 front.0) (number_at 8 8 front.0))
-      (record { address = number_at 0 8 front.0; size = number_at 8 8 front.0 })
-  Ok (span, front.1)
+-- the magic, and then what it says
+unfoldable pub header_fault : List ℕ → Option ImageFault
+header_fault bytes = first_fault ((starts_with nat_eq bytes magic, L2) ∷ header_checks (header_of bytes))
 
--- the section in front, and the rest
-unfoldable pub section_at : ℕ → ℕ → List ℕ → Result (Section × List ℕ) ImageFault
-section_at pages free bytes = do
-  span ← span_at pages free bytes
-  body ← taken span.0.size L8 span.1
-  Ok (record { address = span.0.address; bytes = body.0 }, body.1)
+unfoldable pub header_at : Part Header
+header_at = checked 32 L1 header_fault header_of
 
--- so many sections in order, and the rest
-unfoldable pub sections_at : ℕ → ℕ → ℕ → List ℕ → Result (List Section × List ℕ) ImageFault
-sections_at pages zero free bytes = Ok ([], bytes)
-sections_at pages (suc n) free bytes = do
-  first ← section_at pages free bytes
-  others ← sections_at pages n (first.0.address + length first.0.bytes) first.1
-  Ok (first.0 ∷ others.0, others.1)
+-- where a section lies: 16 bytes
+abbrev pub span_of : List ℕ → Span
+span_of bytes = record { address = number_at 0 8 bytes; size = number_at 8 8 bytes }
+
+-- where the section in front lies, if the one before it ended at `free`
+unfoldable pub span_at : ℕ → ℕ → Part Span
+span_at pages free = checked 16 L8 (λ bytes. span_fault pages free (span_of bytes).address (span_of bytes).size) span_of
+
+unfoldable pub section_at : ℕ → ℕ → Part Section
+section_at pages free =
+    both (span_at pages free) (λ span. taken span.size L8) (λ span body. record { address = span.address; bytes = body })
+
+abbrev pub section_end : Section → ℕ
+section_end s = s.address + length s.bytes
+
+-- so many sections in order
+abbrev pub sections_at : ℕ → ℕ → ℕ → Part (List Section)
+sections_at pages = each (section_at pages) section_end
 
 -- the capability that 32 bytes are
 abbrev pub capability_in : List ℕ → CapEntry
@@ -132,48 +147,39 @@ capability_in bytes =
       flag = number_at 28 4 bytes;
     }
 
--- the capability in front, if the one before it stands at `before`, and the rest
-unfoldable pub capability_at : ℕ → ℕ → List ℕ → Result (CapEntry × List ℕ) ImageFault
-capability_at pages before bytes = do
-  front ← taken 32 L8 bytes
-  capability ← unless (capability_fault pages before (capability_in front.0)) (capability_in front.0)
-  Ok (capability, front.1)
+-- the capability in front, if the one before it stands at `before`
+unfoldable pub capability_at : ℕ → ℕ → Part CapEntry
+capability_at pages before = checked 32 L8 (λ bytes. capability_fault pages before (capability_in bytes)) capability_in
 
--- so many capabilities in order, and the rest
-unfoldable pub entries_at : ℕ → ℕ → ℕ → List ℕ → Result (List CapEntry × List ℕ) ImageFault
-entries_at pages zero before bytes = Ok ([], bytes)
-entries_at pages (suc n) before bytes = do
-  first ← capability_at pages before bytes
-  others ← entries_at pages n first.0.place first.1
-  Ok (first.0 ∷ others.0, others.1)
+abbrev pub place_of : CapEntry → ℕ
+place_of c = c.place
 
--- a count, or the fault that it is more than the most
-abbrev pub unless_more : ℕ → ℕ → Result ℕ ImageFault
-unless_more most count = if nat_le count most then Ok count else Err L15
+-- so many capabilities in order
+abbrev pub entries_at : ℕ → ℕ → ℕ → Part (List CapEntry)
+entries_at pages = each (capability_at pages) place_of
 
--- the count of capabilities in front, and the rest
-unfoldable pub count_at : ℕ → List ℕ → Result (ℕ × List ℕ) ImageFault
-count_at version bytes = do
-  front ← taken 4 L8 bytes
-  count ← unless_more (most_capabilities_of version) (number_at 0 4 front.0)
-  Ok (count, front.1)
+-- a count of capabilities is not more than the version allows
+abbrev pub count_fault : ℕ → ℕ → Option ImageFault
+count_fault version count = first_fault ((nat_le count (most_capabilities_of version), L15) ∷ [])
 
--- the capabilities in front, which version 1 has not, and the rest
-unfoldable pub capabilities_at : ℕ → ℕ → List ℕ → Result (List CapEntry × List ℕ) ImageFault
-capabilities_at version pages bytes =
-    if version == 1 then Ok ([], bytes) else count_at version bytes >>= λ count. entries_at pages count.0 0 count.1
+unfoldable pub count_at : ℕ → Part ℕ
+count_at version = checked 4 L8 (λ bytes. count_fault version (number_at 0 4 bytes)) (number_at 0 4)
+
+-- the capabilities in front, which version 1 has not
+unfoldable pub capabilities_at : ℕ → ℕ → Part (List CapEntry)
+capabilities_at version pages =
+    if version == 1 then (λ bytes. Ok ([], bytes)) else both (count_at version) (λ count. entries_at pages count 0) (λ count cs. cs)
 
 -- the image of a header, sections and capabilities
 abbrev pub headed : Header → List Section → List CapEntry → Image
 headed header sections capabilities = image_of header.version header.pages header.entry header.mode sections capabilities
 
--- the image in front, and the rest
-unfoldable pub image_at : List ℕ → Result (Image × List ℕ) ImageFault
-image_at bytes = do
-  header ← header_at bytes
-  sections ← sections_at header.0.pages header.0.count 0 header.1
-  capabilities ← capabilities_at header.0.version header.0.pages sections.1
-  Ok (headed header.0 sections.0 capabilities.0, capabilities.1)
+-- sections, and then capabilities
+abbrev pub rest_at : Header → Part (List Section × List CapEntry)
+rest_at h = both (sections_at h.pages h.count 0) (λ ss. capabilities_at h.version h.pages) (λ ss cs. (ss, cs))
+
+unfoldable pub image_at : Part Image
+image_at = both header_at rest_at (λ h rest. headed h rest.0 rest.1)
 
 -- the image that the bytes are, each of them
 unfoldable pub reading : List ℕ → Result Image ImageFault

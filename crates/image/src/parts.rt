@@ -2,9 +2,9 @@
 
 ghost use Rattle.std.specs.Prelude.{◌≡◌, ◌+◌, ◌≤◌, IfOk, IfErr, length};
 ghost use Rattle.base.specs.Ram.{ram_end};
-ghost use Rattle.image.specs.Image.{span_fault, capability_fault, most_capabilities_of};
+ghost use Rattle.image.specs.Image.{span_fault, capability_fault};
 ghost use Rattle.base.specs.FirstFault.{unless};
-ghost use Rattle.image.specs.Grammar.{number_at, header_fault, header_of, capability_in, unless_more};
+ghost use Rattle.image.specs.Grammar.{number_at, header_fault, header_of, span_of, capability_in, count_fault};
 ghost use Rattle.image.specs.Reads.{IsOfBytes};
 
 use crate::cap_entry::CapEntry;
@@ -60,8 +60,7 @@ pub fn header_in(bytes: &[u8; 32]) -> Result<Header, ImageFault>
 
 /// What the 16 bytes in front of a section say, where the one before it ended at `free`, or their fault.
 pub fn span_in(bytes: &[u8; 16], pages: u32, free: u64) -> Result<Span, ImageFault>
-    ensures value { let address = number_at 0 8 bytes.now in let size = number_at 8 8 bytes.now in
-        result ≡ unless (span_fault pages free address size) (record { address = address; size = size }) }
+    ensures value { let span = span_of bytes.now in result ≡ unless (span_fault pages free span.address span.size) span }
     ensures fault { IfErr result IsOfBytes }
     ensures inside { IfOk result (λ span. span.address + span.size ≤ ram_end pages) }
 {
@@ -75,7 +74,7 @@ pub fn span_in(bytes: &[u8; 16], pages: u32, free: u64) -> Result<Span, ImageFau
 
 /// The number of capabilities that 4 bytes say, or that they are more than the version may have.
 pub fn count_in(bytes: &[u8; 4], version: u32) -> Result<u32, ImageFault>
-    ensures value { result ≡ unless_more (most_capabilities_of version) (number_at 0 4 bytes.now) }
+    ensures value { let count = number_at 0 4 bytes.now in result ≡ unless (count_fault version count) count }
     ensures fault { IfErr result IsOfBytes }
 {
     let count = LittleEndian::read_u32(bytes);

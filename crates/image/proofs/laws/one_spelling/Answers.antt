@@ -1,4 +1,4 @@
-use Rattle.image.proofs.Again.{one_of}
+use Rattle.image.proofs.Format.{one_of}
 use Rattle.image.proofs.laws.one_spelling.Goals as goal
 
 pub returns : goal.returns

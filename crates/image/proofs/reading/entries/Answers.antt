@@ -1,36 +1,37 @@
 use Rattle.std.proofs.Common.{arith, rules, ◌-◌, ◌+◌, ◌++◌, refl}
 use Rattle.std.proofs.lemmas.Result.{err_from_is_err_and}
 use Rattle.std.proofs.KnownBytes.{Consumes-trans}
-use Rattle.image.proofs.GoingOn.{Goes-begins, Goes-on, Goes-stops, Goes-ends}
+use Rattle.image.specs.Grammar.{capability_at, place_of}
+use Rattle.image.proofs.Going.{Goes-begins, Goes-on, Goes-stops, Goes-ends}
 use Rattle.image.proofs.reading.entries.Goals as goal
 
 pub loop-init : goal.loop-init
 loop-init g c = record {
   count = search rules;
-  read = rw c.new-entries.ensures.items (Goes-begins c.args.pages c.args.count _ _ (omega arith));
+  read = rw c.new-entries.ensures.items (Goes-begins (capability_at c.args.pages) place_of c.args.count _ _ (omega arith));
 }
 
 pub returns-in_err-capability-clause-part : goal.returns-in_err-capability-clause-part
 returns-in_err-capability-clause-part g c =
     let p = err_from_is_err_and c.from_residual.result c.from_residual.ensures.1 in
     rw (p.1, p.2)
-    (Goes-stops c.args.pages c.args.count (c.args.count - c.loop.counter)
-    (c.args.count - (c.loop.counter + 1)) c.loop.before c.loop.entries.items _ _ _ _
-    (omega arith) c.loop.invariant.read c.in_err-capability.ensures.part)
+    (Goes-stops (capability_at c.args.pages) place_of c.args.count (c.args.count - c.loop.counter)
+    (c.args.count - (c.loop.counter + 1)) c.loop.before c.loop.entries.items (omega arith) _ _ _ _ c.loop.invariant.read
+    c.in_err-capability.ensures.part)
 
 pub loop-preserved : goal.loop-preserved
 loop-preserved g c = record {
   count = search rules;
   read = rw c.in_ok-push.ensures.items
-      (Goes-on c.args.pages c.args.count (c.args.count - c.loop.counter)
-      (c.args.count - (c.loop.counter + 1)) c.loop.before _ c.loop.entries.items c.in_ok-capability.capability _ _ _ (omega arith)
+      (Goes-on (capability_at c.args.pages) place_of c.args.count (c.args.count - c.loop.counter)
+      (c.args.count - (c.loop.counter + 1)) c.loop.before c.loop.entries.items (omega arith) _ _ _ _ c.in_ok-capability.capability
       refl c.loop.invariant.read
       c.in_ok-capability.ensures.part);
 }
 
 pub returns-clause-part : goal.returns-clause-part
 returns-clause-part g c =
-    Goes-ends c.args.pages c.args.count (c.args.count - c.loop.counter) c.loop.before c.loop.entries.items _ _
+    Goes-ends (capability_at c.args.pages) place_of c.args.count (c.args.count - c.loop.counter) c.loop.before c.loop.entries.items _ _
     (omega arith) c.loop.invariant.read
 
 pub returns-in_err-push-clause-part : goal.returns-in_err-push-clause-part
