@@ -60,7 +60,7 @@ impl<C: CapRep> Machine<C> {
     }
 
     /// Does steps, `most` at most and maybe none, and answers how many: it ends before a step that stands at `stop`, that traps, unseals,
-    /// replaces PCC, or that changes a device or touches a system register.
+    /// replaces PCC, or that changes a device or writes a system register.
     ///
     /// They are those of `event`, and none of them sends a byte. A halted machine does none. It takes no memory.
     #[inline]

@@ -6,5 +6,6 @@ pub mod PlainSteps
 pub mod Plans
 pub mod Polled
 pub mod Quiet
+pub mod SystemReads
 pub mod Words
 pub mod Written

@@ -25,5 +25,6 @@ pub mod FetchedLaws
 pub mod Applying
 pub mod RowEffects
 pub mod Plan
+pub mod Places
 pub mod PlainRun
 pub mod Hops
