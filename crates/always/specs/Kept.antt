@@ -13,7 +13,7 @@ use Rattle.policy.specs.Watch.{HoldEach}
 abbrev pub StaysIn : (State → Type 0) → Type 0
 StaysIn P = (e : Event) (s : State) → IsEvent e → IsState s → P s → P (after e s)
 
--- in each of its states the rules about the code hold
+-- in each of its states the rules that apply hold
 abbrev pub HoldIn : List Terms → (State → Type 0) → Type 0
 HoldIn rules P = (s : State) → IsState s → P s → HoldEach rules s
 

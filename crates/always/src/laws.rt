@@ -26,7 +26,7 @@ use crate::set::StateSet;
 use doors::CapSet;
 use doors::laws::closed_sets_bound_turns;
 
-/// From a state of a set that no event leaves, and in whose states the rules about the code hold, every run keeps to the rules: over any
+/// From a state of a set that no event leaves, and in whose states the rules that apply hold, every run keeps to the rules: over any
 /// steps, ticks and bytes, to the last. No rule may allow what the caller of its code could reach.
 pub fn kept_sets_keep_to_rules<S: StateSet>()
     ensures { (rules : List Terms) (s : State) (events : List Event) → LendsNothing rules → AreEvents events → IsState s → S.has s

@@ -40,7 +40,7 @@ pub record AreRead (labels text : List ℕ) (t : Timetable) (read : Policed) : T
 
 -- ---- where a policy stops a run
 
--- Before the step of a number, which is not done: each step before it keeps to each rule about the code, by the terms in force, and then a
+-- Before the step of a number, which is not done: each step before it keeps to each rule that applies, by the terms in force, and then a
 -- reachable capability breaks one.
 pub record IsStop (rules : List Terms) (schedule : Schedule) (input : List ℕ) (s : State) (x : RunBreach) : Type 0 where
   pub place : IsPlaceOf schedule x.number
@@ -48,7 +48,7 @@ pub record IsStop (rules : List Terms) (schedule : Schedule) (input : List ℕ) 
   pub refused : IsRefused (in_force rules (events_before (Some x.number) schedule input s) s) x.refused
       (run_after (events_before (Some x.number) schedule input s) s)
 
--- Or nowhere: each step of the run keeps to each rule about the code.
+-- Or nowhere: each step of the run keeps to each rule that applies.
 abbrev pub Stops : List Terms → Schedule → List ℕ → State → Option RunBreach → Type 0
 Stops rules schedule input s None = is_halted s ≡ false → StepsKeepToEach rules (scheduled schedule input s) s
 Stops rules schedule input s (Some x) = IsStop rules schedule input s x

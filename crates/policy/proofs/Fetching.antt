@@ -1,5 +1,6 @@
 -- What can be fetched: PCC passes the checks of the fetch, and RAM answers; so where a rule holds it lies in its ranges for fetches.
-use Rattle.std.proofs.Common.{◌≡◌, ℕ, ◌+◌, ◌<◌, ◌≤◌, Bool, true, false, Option, None, Some, Result, Ok, Err, cond, refl, subst, arith, inl, inr}
+use Rattle.std.proofs.Common.{◌≡◌, ℕ, ◌+◌, ◌<◌, ◌≤◌, Bool, true, false, Option, None, Some, Result, Ok, Err, cond, refl, subst, arith}
+use Rattle.std.proofs.Common.{inl, inr}
 use Rattle.base.specs.declared.fault.Fault.{Fault}
 use Rattle.base.specs.declared.cause.Cause.TheVariants as cause
 use Rattle.base.specs.Fault.{fault}

@@ -168,7 +168,7 @@ module _ (rule : Terms) where
       seals = seals-by rule s holds e is;
     }
 
--- ---- the rules about the code
+-- ---- the rules that apply
 
 -- where each of them holds, every event keeps to each
 pub keeps-to-each : (rules : List Terms) (e : Event) (s : State) → IsState s → HoldEach rules s → KeepsToEach rules e s

@@ -60,7 +60,7 @@ known-if : (rules : List Terms) (s : State) (at : Option ℕ) (plain : Bool) (kn
 known-if rules s at true known same hold = subst (λ o. AreKnown rules o s) (sym same) (hold refl)
 known-if rules s at false known same hold = subst (λ o. AreKnown rules o s) (sym same) (λ rule there about. absurd about.1)
 
--- after a plain event the lasting rules about the code before it are known to hold
+-- after a plain event the lasting rules that applied before it are known to hold
 pub known-after : (rules : List Terms) (t next : State) (e : Event) (at : Option ℕ) (plain : Bool) (known : Option ℕ) → IsState t
     → next ≡ after e t → (plain ≡ true → outcome e t ≡ Plain) → known ≡ (if plain then at else None) → at ≡ fetched_at t
     → HoldEach rules t → AreKnown rules known next

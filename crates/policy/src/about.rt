@@ -10,7 +10,7 @@ use cap_bounds::CapRep;
 use hart::Hart;
 
 /// Whether a rule is about the code at an address.
-pub fn is_about(rule: &Rule, pc: u64) -> bool
+pub(crate) fn is_about(rule: &Rule, pc: u64) -> bool
     ensures { IsTrue result ↔ IsAbout (terms rule.now) pc }
 {
     holds(&rule.code, u128::from(pc))

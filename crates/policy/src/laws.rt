@@ -31,8 +31,8 @@ pub fn rules_that_hold_are_kept()
 /// RAM outside its ranges for stores stay; a granule that doesn't lie wholly in its ranges for keeping comes to hold nothing without Global
 /// that it didn't hold; nothing is sent, the machine is not halted and the timer's interrupt is not set where it says no, and
 /// without a trap the system registers stay; what is fetched lies in its ranges for fetches; what is reachable and sealed, but for
-/// sentries, has an object type that it allows, and nothing is unsealed where it says no; and from a state that differs only outside its ranges for loads and fetches the same bytes
-/// are sent, and the state at the end differs only there.
+/// sentries, has an object type that it allows, and nothing is unsealed where it says no; and from a state that differs only outside its
+/// ranges for loads and fetches the same bytes are sent, and the state at the end differs only there.
 pub fn runs_keep_to_a_rule()
     ensures bytes { (rules : List Terms) (rule : Terms) (events : List Event) (done : ℕ) (s : State) → done ≤ length events
         → KeepToEach rules events done s → Contains rules rule → AppliesToEach rule events done s → (a : ℕ) → ram_base ≤ a

@@ -17,7 +17,7 @@ mod types;
 mod watch;
 mod watcher;
 
-pub use about::{applies, fetched_at, is_about};
+pub use about::{applies, fetched_at};
 pub use breach::{breaks, first_breach};
 pub use fault::PolicyFault;
 pub use in_force::InForce;

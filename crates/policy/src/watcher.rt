@@ -1,4 +1,4 @@
-//! Watchers: they tell which rule about the code refuses the next event, and remember what saves a search.
+//! Watchers: they tell which rule that applies refuses the next event, and remember what saves a search.
 ghost use Rattle.std.specs.Prelude.{◌≡◌, ◌&&◌, not, if◌then◌else◌, ℕ, ◌<◌, ◌≤◌, ◌⊎◌, None, [], replicate, length, Contains};
 ghost use Rattle.std.specs.Prelude.{IfNone, IfOk, IfSome, IsTrue, OnOk, OnErr};
 ghost use Rattle.steps.specs.declared.event.Event.TheVariants.{Step};

@@ -11,7 +11,7 @@ use Rattle.policy.specs.Terms.{Terms}
 use Rattle.policy.specs.Watch.{KeepsToEach}
 use Rattle.policy.specs.Lending.{in_force_after}
 
--- each step among the events keeps to each rule about the code before it, by the terms in force; a byte that comes and a tick are no steps
+-- each step among the events keeps to each rule that applies before it, by the terms in force; a byte that comes and a tick are no steps
 abbrev pub StepsKeepFrom : List Terms → List Terms → List Event → State → Type 0
 StepsKeepFrom said now [] s = Unit {0}
 StepsKeepFrom said now (Step ∷ es) s = KeepsToEach now Step s × StepsKeepFrom said (in_force_after said now Step s) es (after Step s)
@@ -23,7 +23,7 @@ abbrev pub StepsKeepToEach : List Terms → List Event → State → Type 0
 StepsKeepToEach said events s = StepsKeepFrom said said events s
 
 -- A search that runs out of memory leaves the machine where it stood, or before a step of its run; each step before that kept to each
--- rule about the code.
+-- rule that applies.
 abbrev pub LeavesMidway : List Terms → Schedule → List ℕ → State → State → Type 0
 LeavesMidway rules schedule input s later =
     (later ≡ s)

@@ -26,16 +26,16 @@ pub struct Breach {
     pub refused: Refused,
 }
 
-/// The first step of a machine's run on a schedule before which a rule about the code is broken; none where there is none.
+/// The first step of a machine's run on a schedule before which a rule that applies is broken; none where there is none.
 ///
 /// The machine is run up to that step, the byte that comes just before it among what it met, and what it sends is forgotten. Before each
-/// earlier step every rule about the code held, by the terms in force, and each of those steps kept to it. A run that halts the machine
+/// earlier step every rule that applied held, by the terms in force, and each of those steps kept to it. A run that halts the machine
 /// ends there.
 ///
 /// # Errors
 ///
 /// Out of memory for what is known of the rules, before the run, or to find out what is reachable, before a step of it. The machine then
-/// stands there, and each step before kept to each rule about the code.
+/// stands there, and each step before kept to each rule that applied.
 pub fn find_breach<C: CapRep>(
     alloc: Global,
     machine: &mut Machine<C>,

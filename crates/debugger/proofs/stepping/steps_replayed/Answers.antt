@@ -7,7 +7,8 @@ use Rattle.machine.specs.Run.{run_after, run_sent}
 use Rattle.schedules.proofs.Events.{run_sent-brought}
 use Rattle.debugger.specs.Stepping.{is_any_stop, is_at_end, steps_while}
 use Rattle.past.specs.Replay.{byte_due, replayed}
-use Rattle.debugger.proofs.ReplaySteps.{at-end, none-left, room-left, runs-on, stops, state-goes-on, bytes-go-on, replay-goes-on, count-goes-on}
+use Rattle.debugger.proofs.ReplaySteps.{at-end, none-left, room-left, runs-on, stops, state-goes-on, bytes-go-on, replay-goes-on}
+use Rattle.debugger.proofs.ReplaySteps.{count-goes-on}
 use Rattle.debugger.proofs.stepping.steps_replayed.Goals as goal
 
 pub is_any_stop-requires : goal.is_any_stop-requires
