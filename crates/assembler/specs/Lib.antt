@@ -6,6 +6,7 @@ pub mod Faults
 pub mod Text
 pub mod Standing
 pub mod AtFault
+pub mod Further
 -- Laws
 pub mod FaultLaws
 -- Inner words
@@ -18,5 +19,6 @@ pub mod Capabilities
 pub mod Sound
 pub mod Buildable
 pub mod Left
+pub mod Told
 pub mod Assembly
 pub mod Pieces

@@ -41,6 +41,13 @@ impl Assembly {
         &self.image
     }
 
+    /// The image alone.
+    pub fn into_image(self) -> Image
+        ensures { result ≡ self.image }
+    {
+        self.image
+    }
+
     /// The labels and the places of their lines, in order of definition.
     pub fn symbols(&self) -> &IndexMap<Vec<u8>, u128>
         ensures { seen_entries result.now.entries ≡ self.now.symbols }

@@ -9,6 +9,7 @@ mod bytes;
 mod capabilities;
 mod checks;
 mod fault;
+mod further;
 mod labels;
 pub mod laws;
 mod lines;
@@ -20,6 +21,7 @@ mod values;
 
 pub use assembly::{Assembly, assemble, assemble_or_stop};
 pub use fault::{AsmCode, AsmFault};
+pub use further::{FurtherFaults, further_faults};
 pub use misplaced::Misplaced;
 pub use reason::Reason;
 pub use standing::{Standing, Stopped};

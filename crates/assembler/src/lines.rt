@@ -1,5 +1,5 @@
 //! How a text is cut into lines.
-ghost use Rattle.std.specs.Prelude.{◌≡◌, ◌<◌, ◌==◌, [], ◌∷◌, length, IfSome, IsTrue};
+ghost use Rattle.std.specs.Prelude.{◌≡◌, ◌<◌, ◌==◌, [], ◌∷◌, length, drop, IfSome, IsTrue};
 ghost use Rattle.std.specs.List.{slice_split};
 ghost use Rattle.asm_lines.specs.Line.{line_meaning, RowFits};
 ghost use Rattle.asm_lines.specs.Seen.{seen_line};
@@ -24,6 +24,14 @@ fn split_line(text: &[u8]) -> (&[u8], Option<&[u8]>)
         }
     }
     (text, None)
+}
+
+/// What stands after the first line, if there is a line more.
+pub(crate) fn after_line(text: &[u8]) -> Option<&[u8]>
+    ensures lines { lines_left result ≡ drop 1 (lines_of text.now) }
+    ensures shorter { IfSome result (λ rest. length rest.now < length text.now) }
+{
+    split_line(text).1
 }
 
 /// What a line says.

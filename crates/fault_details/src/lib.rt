@@ -9,4 +9,4 @@ macro_rules! append_pieces {
 mod reading;
 mod reasons;
 
-pub use reading::detail;
+pub use reading::{detail, line_at};

@@ -8,8 +8,8 @@ use asm_lines::{Class, Part, after, before, parts_of, run_length, trimmed_end};
 use assembler::{AsmCode, Stopped};
 use std::alloc::{AllocError, Global};
 
-/// A line of a text, counted from 1.
-fn line_at(number: u64, text: &[u8]) -> &[u8]
+/// A line of a text, counted from 1, without its line feed; after the last one an empty one.
+pub fn line_at(number: u64, text: &[u8]) -> &[u8]
     ensures { result.now ≡ spec.line_at number text.now }
 {
     let mut lines_before = number.saturating_sub(1);
