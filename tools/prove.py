@@ -31,8 +31,9 @@ sim_run 200
 origins 221
 origin_texts 210
 policy_audit 195
-hart 180
+hart 700
 policy 190
+hints 120
 always 40
 command_line 139
 explain 136

@@ -6,7 +6,8 @@
 PROGRAM is the proved program, as the gate leaves it: crates/cherisim/out/cherisim. The README's commands, and some with `=` in an option,
 are called through the script in a copy of the tracked files, and compared with what the program does: status, standard output, and the
 files that are made. There `rt` is a stand-in that has the proved program do it in a folder of its own, as `rt try` does, because a build
-takes a minute of processor time. One command that makes two files is then called with `rt` itself.
+takes a minute of processor time. Mistakes are told where no `rt` is on the path. One command that makes two files is then called with `rt`
+itself.
 """
 import os
 import re
@@ -28,7 +29,11 @@ OTHERS = ("./cherisim asm --symbols=labels.sym examples/list.s list.img", "./che
           "echo 'when pc in 0..4: store no' > low.policy && ./cherisim run list.img 30 --quiet --policy low.policy",
           "./cherisim run --policy=low.policy list.img 10000 --symbols labels.sym",
           "./cherisim audit list.img 30 --policy low.policy --symbols labels.sym", "./cherisim audit list.img 30",
-          "./cherisim run examples/none.img 5")
+          "./cherisim run examples/none.img 5", "./cherisim go examples/list.s --steps 30 --trace go.trace")
+
+# What is told before anything is built, as the program tells it: `rt` isn't asked.
+MISTAKES = ("./cherisim go none.s", "./cherisim go list.img --stepz 3", "./cherisim rnu list.img 30", "./cherisim run list.img 30 --tock 3", "./cherisim dis none.img --header",
+            "./cherisim run list.img 30 --policy none.policy", "./cherisim debug --symbols=none.sym list.img")
 
 # The command that is called with `rt` itself.
 WHOLE = "./cherisim asm examples/bounds.s whole.img --symbols whole.sym"
@@ -69,6 +74,13 @@ def did(command, folder, path):
     return ran.returncode, ran.stdout, made
 
 
+def told(command, folder, path):
+    """What a command that is a mistake ends with: its status, and the first line on standard error."""
+    ran = subprocess.run(["bash", "-c", command], cwd=folder, env={"PATH": path, "HOME": folder, "LANG": "C.UTF-8"}, timeout=SECONDS,
+                         stdin=subprocess.DEVNULL, capture_output=True, check=False)
+    return ran.returncode, ran.stderr.split(b"\n")[0]
+
+
 def copied(folder):
     """Copies the tracked files into a folder."""
     names = subprocess.run(["git", "ls-files", "-z"], cwd=TOP, capture_output=True, check=True).stdout.decode().split("\0")
@@ -88,9 +100,9 @@ def stand_in(room, program):
     return folder, own
 
 
-def is_same(command, wanted, came):
+def is_same(command, wanted, came, parts=("status", "standard output", "files")):
     """Whether a command did what the program does; says it if not."""
-    for what, left, right in zip(("status", "standard output", "files"), wanted, came):
+    for what, left, right in zip(parts, wanted, came):
         if left != right:
             print(f"{command}: not the program's {what}\nwanted {str(left)[:SHOWN]}\ncame   {str(right)[:SHOWN]}")
             return False
@@ -113,11 +125,18 @@ def main():
                 file.write(bytes(8))
         tried = listed()
         right = [is_same(it, did(it, built, path), did(it, unbuilt, f"{folder}:{path}")) for it in tried]
+        nothing = os.path.join(room, "nothing")
+        os.mkdir(nothing)
+        os.symlink(shutil.which("bash"), os.path.join(nothing, "bash"))
+        for name in ("dirname", "env"):
+            os.symlink(shutil.which(name), os.path.join(nothing, name))
+        right += [is_same(it, told(it, built, path), told(it, unbuilt, nothing), ("status", "first line")) for it in MISTAKES]
         left = files_of(own)
         if left:
             print(f"made where `rt try` runs the program: {', '.join(left)}")
         right += [not left, is_same(WHOLE, did(WHOLE, built, path), did(WHOLE, unbuilt, path))]
-    print(f"cherisim: {len(tried)} commands where the program isn't built, and one that is built for the call")
+    print(f"cherisim: {len(tried)} commands where the program isn't built, {len(MISTAKES)} mistakes that are told without a build, and one "
+          "that is built for the call")
     return 0 if all(right) else 1
 
 

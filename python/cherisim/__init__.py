@@ -279,7 +279,7 @@ class Machine(Questions):
 
     def watch(self, policy: Union[Policy, str], steps: int, *, tick: int = 0, input: bytes = b"", gap: int = 1000) -> Watched:
         """Runs so many steps at most, as `cherisim run --policy` does: up to the first before which a reachable capability breaks a rule
-        about the code. Up to there, it is proved, the rules are kept. A text as the policy may name the machine's labels."""
+        that applies. Up to there, it is proved, the rules are kept. A text as the policy may name the machine's labels."""
         policy, timetable, data = self._policed(policy, steps, tick, gap), c.Timetable(steps, gap, tick), bytes(memoryview(input))
         found = self._breach(policy, timetable, data)
         ran = self.run(found.step - 1 if found.found else steps, tick=tick, input=data, gap=gap)

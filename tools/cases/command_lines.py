@@ -10,6 +10,11 @@ from model.listings import named, table_text
 
 # A command line, and its plan: of a run the image, the steps, the gap, the tick and the input, whether it is quiet, and its trace.
 PLANS = [
+    ("go hello.s", "go hello.s 10000000000 1 1000 100 -"),
+    ("go hello.img --steps 22 --input keys --gap 1", "go hello.img 22 1 1 100 keys"),
+    ("go --times=10000 --steps 1 hello.s --quiet", "go hello.s 1 10000 1000 100 - quiet"),
+    ("go hello.s --steps 22 --trace t --symbols hello.sym", "go hello.s 22 1 1000 100 - trace t symbols hello.sym"),
+    ("go --why=all hello.s --steps 22", "go hello.s 22 1 1000 100 - why all"),
     ("run hello.img 5", "run hello.img 5 1000 100 -"),
     ("run hello.img 1", "run hello.img 1 1000 100 -"),
     ("run hello.img 100000000", "run hello.img 100000000 1000 100 -"),
@@ -64,6 +69,14 @@ PLANS = [
 
 # A command line that is refused, and what the text of its refusal names.
 REFUSED = [
+    ("go", "FILE"),
+    ("go hello.s 5", "5"),
+    ("go hello.s --steps 0", "--steps"),
+    ("go hello.s --steps 10000000001", "--steps"),
+    ("go hello.s --times 10001", "--times"),
+    ("go hello.s --trace hello.s", "a file that is written"),
+    ("go hello.s --why --policy hello.policy", "--policy"),
+    ("run hello.s --steps 5", "--steps"),
     ("link hello.img", "link"),
     ("dis", "IMAGE"),
     ("dis hello.img more", "more"),
@@ -177,7 +190,9 @@ REFUSED = [
 
 # A command line that asks for help, and what its text names.
 HELPED = [
-    *(("--help", named) for named in ("asm", "image", "run", "dis", "debug", "bounds", "word", "Example")),
+    ("go --help", "--steps"),
+    ("go --help", "10000000000"),
+    *(("--help", named) for named in ("asm", "image", "go", "run", "dis", "debug", "bounds", "word", "Example")),
     ("asm --help", "OUT"),
     ("asm --help", "--symbols"),
     ("image --help", "--pages"),

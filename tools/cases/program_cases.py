@@ -9,6 +9,7 @@ from cases.bounds_texts import length_text, text as bounds_text, word_text
 from cases.program_lines import BAD, FILE, LISTED, REPLY, TEXT, case, file_of, joined, refused
 from cases.program_runs import ended_otherwise, ends, labelled_runs, not_begun, runs_without_table, traces
 from cases.program_sessions import debugged, reached, replayed, tables_refused
+from cases.program_sources import sources
 from cases.quoting import quoted
 from model.devices import RAM
 from model.images import FIRST, GRANTED, MOST, MOST_END, file_v2, header, section
@@ -81,6 +82,26 @@ UNDERLINED = [
 ]
 
 
+# What the authors of some of these lines probably meant.
+COLON = "a label has a colon after it"
+IN_REGISTER = "put the number into a register, and write"
+HINTS = {
+    "foo": f"{COLON}: foo:", "frob": f"{COLON}: frob:", "x: frob": f"{COLON}: frob:",
+    "ecall a0": "write ecall",
+    "addi a0, a0, 4096": f"{IN_REGISTER} add",
+    "csrrwi a0, mscratch, 32": f"{IN_REGISTER} csrrw",
+    "nops": "did you mean nop?",
+    "ld a0, a1": "write ld a0, 0(a1)",
+    ".byte 1, 2 3": "write .byte 1, 2, 3",
+    ".ascii a, b": "a text stands in double quotes",
+    ".byte 1, 256": "write .half 1, 256",
+    ".half x, -32769, 65536": "write .word x, -32769, 65536",
+    ".word 4294967296": "write .dword 4294967296",
+    "lw a0, 4096 (a1)": "add the number, or a part of it, to the register before",
+    "lui a0, 0x100000": "it takes bits 31 to 12: write 0x100",
+}
+
+
 def shown(base, length, address):
     """What the command `bounds` sends."""
     return joined(bounds_text(base, length, address))
@@ -142,13 +163,18 @@ def text_of(lines):
     return f"a.s {quoted(text.replace('«', '').replace('»', '').encode())}"
 
 
+def hinted(line):
+    """What stands after the fault of a line: its hint, if it has one."""
+    return f"  hint: {HINTS[line.strip()]}\n" if line.strip() in HINTS else ""
+
+
 def underlined(fault, lines, words):
-    """What is told of the line with marks: its text, with carets under what stands between them, and words after those."""
+    """What is told of the line with marks: its text, with carets under what stands between them, words after those, and a hint."""
     number, before, part, after = parted(lines)
     front = f"  a.s:{number}: "
     under = " " * len(front) + re.sub("[^\t]", " ", before) + "^" * max(1, len(part))
     line = (before + part + after).rstrip(" \t\r")
-    return f"cherisim: line {number}: {fault}\n{front}{line}\n{under}{words and ' ' + words}\n"
+    return f"cherisim: line {number}: {fault}\n{front}{line}\n{under}{words and ' ' + words}\n" + hinted(before + part + after)
 
 
 def faulty_line(number, told):
@@ -209,7 +235,7 @@ def named():
                    told=f"cherisim: line 1: {UNKNOWN}\n  {name}:1: \tj\tlop\n{' ' * (len(name) + 6)}\t \t^^^\n")
     tenth = "nop\\n" * 9 + "foo\\n"
     yield case("asm a.s out.img", [f'a.s "{tenth}"'], 3, "open a.s",
-               told=f"cherisim: line 10: {NO_MNEMONIC}\n  a.s:10: foo\n          ^^^\n")
+               told=f"cherisim: line 10: {NO_MNEMONIC}\n  a.s:10: foo\n          ^^^\n" + hinted("foo"))
     yield "# --quiet leaves the fault's text alone"
     yield case("asm a.s out.img --quiet", ['a.s "addi a0, a0, 4096\\n"'], 3, "open a.s", told=f"cherisim: line 1: {OUT_OF_RANGE}\n")
     yield case("asm --quiet a.s out.img", ['a.s "nop\\x01\\n"'], 3, "open a.s", told="cherisim: line 1: A8 byte not ASCII\n")
@@ -221,6 +247,48 @@ def named():
     for command in ("dis first.img", "debug first.img"):
         yield case(f"{command} --symbols t --quiet", [FILE, 't "x\\n"'], 3, "open first.img, open t",
                    told="cherisim: line 1: no address and label\n")
+
+
+def later(*faults, name="a.s"):
+    """What is told of later lines: the number and the fault of each."""
+    return "".join(f"  {name}:{number}: {fault}\n" for number, fault in faults)
+
+
+# Texts whose first faulty line has marks; what is said of it, and of the lines after it that are wrong by themselves.
+FURTHER = [
+    (NO_MNEMONIC, ["«nops»", "nop", "add a0", "nop", "addi a0, a0, 4096"], "", [(3, OPERANDS), (5, f"{OUT_OF_RANGE}: {IN_REGISTER} add")]),
+    (UNKNOWN, ["j «lop»", "nop", "frob"], "", [(3, f"{NO_MNEMONIC}: {COLON}: frob:")]),
+    (TWICE, ["x: nop", "«x»: nop", "addi a0, a0, 4096 # far"], "", [(3, f"{OUT_OF_RANGE}: {IN_REGISTER} add")]),
+    (OPERANDS, ["addi «a0»", "lop: addi a1"], "addi takes rd, rs1, imm", [(2, OPERANDS)]),
+    (NO_MNEMONIC, ["nop", "", "«frob»", "\x7f", " " * 256, "addi a0"], "",
+     [(4, "A8 byte not ASCII"), (5, "A9 line too long"), (6, OPERANDS)]),
+    # of a line the first that is wrong with it by itself
+    (NO_MNEMONIC, ["«frob»", "frob \x7f" + " " * 256, "addi b0, a0, 4096"], "", [(2, "A8 byte not ASCII"), (3, OPERANDS)]),
+    # a label that an earlier line has is of no account, and hides nothing
+    (UNKNOWN, ["x: j «lop»", "x: frob"], "", [(2, f"{NO_MNEMONIC}: {COLON}: frob:")]),
+    # what is wrong only by what stands elsewhere
+    (NO_MNEMONIC, ["x: «frob»", "x: nop", "j lop", "j .+3", ".byte x", ".pages 2", ".cap 0x80000001, 65537, 0, 0", ".org 0", "nop",
+                   "sb"], "", [(10, OPERANDS)]),
+]
+
+
+def further_faults():
+    yield "# what is wrong with later lines by themselves stands after that, each on a line of its own"
+    yield from (case("asm a.s out.img", [text_of(lines)], 3, "open a.s", told=underlined(fault, lines, words) + later(*faults))
+                for fault, lines, words, faults in FURTHER)
+    yield "# the file's name stands before each, and the last line may lack its line feed"
+    name = "longer-name.s"
+    yield case(f"asm {name} out.img", [f'{name} "nop\\nfoo\\nnop\\nbar"'], 3, f"open {name}",
+               told=f"cherisim: line 2: {NO_MNEMONIC}\n  {name}:2: foo\n{' ' * (len(name) + 6)}^^^\n"
+               + hinted("foo") + later((4, f"{NO_MNEMONIC}: {COLON}: bar:"), name=name))
+    yield "# twenty of them, and how many there are besides"
+    for count, more in ((21, ""), (22, "  and 1 more\n"), (23, "  and 2 more\n"), (141, "  and 120 more\n")):
+        twenty = later(*((number, f"{NO_MNEMONIC}: {COLON}: frob:") for number in range(2, 22)))
+        yield case("asm a.s out.img", [text_of(["frob"] * count)], 3, "open a.s",
+                   told=underlined(NO_MNEMONIC, ["«frob»"], "") + twenty + more)
+    yield "# --quiet leaves them out too"
+    yield from (case("asm a.s out.img --quiet", [text_of(lines)], 3, "open a.s", told=f"cherisim: line 1: {fault}\n")
+                for fault, lines in ((NO_MNEMONIC, ["frob", "add a0"]), (UNKNOWN, ["j x"] + ["frob"] * 30)))
 
 
 def header_lines(version, pages, entry, mode, capabilities=()):
@@ -326,12 +394,15 @@ def read_whole():
                                (2, "j x\\n\\x7f\\nx: nop\\n", "A8 byte not ASCII: 0x7f at column 1"),
                                (2, f"j x\\n{blanks}\\nx: nop\\n", "A9 line too long: 300 bytes"),
                                (2, f"nop\\n{blanks}", "A9 line too long: 300 bytes"),
-                               (2, f"nop\\n{blanks}\\x7f\\xff\\n", "A8 byte not ASCII: 0x7f at column 301"),
-                               (2, f"nop\\nx\\x01{blanks}\\n\\x7f", "A8 byte not ASCII: 0x01 at column 2")):
+                               (2, f"nop\\n{blanks}\\x7f\\xff\\n", "A8 byte not ASCII: 0x7f at column 301")):
         yield case("asm a.s out.img", [f'a.s "{text}"'], 3, "open a.s", told=faulty_line(number, told))
-    for fault, lines, rest in ((UNKNOWN, ["j «x»"], "\\x7f\\nnop\\n"), (NO_MNEMONIC, ["«frob»"], "\\x7f\\nnop\\n"),
-                               (UNKNOWN, ["j «x»"], f"{blanks}\\nnop\\n")):
-        yield case("asm a.s out.img", [text_of(lines)[:-1] + f'{rest}"'], 3, "open a.s", told=underlined(fault, lines, ""))
+    yield case("asm a.s out.img", [f'a.s "nop\\nx\\x01{blanks}\\n\\x7f"'], 3, "open a.s",
+               told=faulty_line(2, "A8 byte not ASCII: 0x01 at column 2") + later((3, "A8 byte not ASCII")))
+    for fault, lines, rest, besides in ((UNKNOWN, ["j «x»"], "\\x7f\\nnop\\n", "A8 byte not ASCII"),
+                                        (NO_MNEMONIC, ["«frob»"], "\\x7f\\nnop\\n", "A8 byte not ASCII"),
+                                        (UNKNOWN, ["j «x»"], f"{blanks}\\nnop\\n", "A9 line too long")):
+        yield case("asm a.s out.img", [text_of(lines)[:-1] + f'{rest}"'], 3, "open a.s",
+                   told=underlined(fault, lines, "") + later((2, besides)))
     yield "# so is a table"
     for call, text, line in ((21, "0000000080000000 x\\nx\\n0000000080000000 y\\n", 2), (19, "start 0000000080000000\\n", 1)):
         yield case("dis first.img --symbols t", [FILE, f't "{text}"'], 3, "open first.img, open t",
@@ -378,7 +449,7 @@ def fault_texts():
 
 def files():
     lines = ["# a command line, files and streams => the status, what is opened and made, sent, told, and what stands in the file made"]
-    lines += [*ends(), *ended_otherwise(), *not_begun(), *traces(), *labelled_runs(), *runs_without_table(), *images(), *named(), *headed(),
-              *faults(), *failing(), *read_whole()]
+    lines += [*ends(), *ended_otherwise(), *not_begun(), *traces(), *labelled_runs(), *runs_without_table(), *images(), *named(),
+              *further_faults(), *headed(), *faults(), *failing(), *read_whole(), *sources()]
     yield "commands.txt", lines
     yield "told.txt", fault_texts()

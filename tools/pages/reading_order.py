@@ -61,7 +61,8 @@ REST = [
      "asm_lines/specs/Text, Number, Ranges, Operand, Words, Fills, Statement, Line"),
     ("a text: what it means", "assembler/specs/Places, Values, Bytes, Faults, Text"),
     ("a text: what is told of its first faulty line",
-     "asm_lines/specs/Parts, Forms; assembler/specs/Standing, AtFault; fault_details/specs/Reasons, Detail"),
+     "asm_lines/specs/Parts, Forms; assembler/specs/Standing, AtFault, Further; fault_details/specs/Reasons, Detail; "
+     "hints/specs/Printable"),
     ("shown texts, read again", "texts/specs/Hex, Piece; disassembler/specs/Shown; text_laws/specs/ReadBack, TextBack"),
     ("bounds, lengths and words, as texts",
      "cap_bounds/specs/WindowEnds; bounds_text/specs/Picture, BoundsText, Letters, LengthText, WordText"),
@@ -84,7 +85,7 @@ REST = [
     ("sessions",
      "debug_commands/specs/Command; debugger/specs/SessionState, Stepping, Reaching, Reply, Answers, Conversation, Talk, OnSchedule"),
     ("what commands do with files",
-     "commands/specs/Files, Loading, Assembling, Imaging, Bounding, Listing, Running, Watching, Auditing, Overwriting; "
+     "commands/specs/Files, Programs, Loading, Assembling, Imaging, Bounding, Listing, Running, Watching, Auditing, Overwriting; "
      "program/specs/Debugging, Carrying"),
     ("capabilities and the machine for C",
      "c_types/specs/Halves, Words; cheri_c/specs/Insns; "

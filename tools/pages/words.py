@@ -5,7 +5,8 @@
     words.py --check    shows only what is too much or too old, and ends with 1 if something is
 
 The pages are README.md, CONTRIBUTING.md and docs/*.md; not counted are docs/PROGRAMMING.md, which a script makes, and what stands between
-the marks of tools/pages/made.py. A word has a letter or a digit. In the pages of `TIMED` each section that speaks of seconds or minutes
+the marks of tools/pages/made.py. A word has a letter or a digit. docs/PROVED.md has a limit of its own, and a choice of docs/DECISIONS.md
+has two sentences at most. In the pages of `TIMED` each section that speaks of seconds or minutes
 says *measured on* and a date, or the page says it before its first section; none is older than the 200th commit before the last.
 """
 import glob
@@ -18,12 +19,14 @@ sys.path.insert(0, os.path.join(os.path.dirname(os.path.abspath(__file__)), ".."
 from pages.made import by_hand, read
 from toolchain import ROOT
 
-MOST_WORDS, MOST_LINES, MOST_IN_A_CELL, MOST_COMMITS = 30000, 90, 60, 200
+MOST_WORDS, MOST_LINES, MOST_IN_A_CELL, MOST_SENTENCES, MOST_COMMITS = 30000, 90, 60, 2, 200
+MOST_IN_A_PAGE = {"docs/PROVED.md": 1500}
 
 NOT_COUNTED = ("docs/PROGRAMMING.md",)
 TIMED = ("README.md", "CONTRIBUTING.md", "docs/ARCHITECTURE.md", "docs/PERFORMANCE.md")
 
 WORD = re.compile(r"\S*\w\S*")
+SENTENCE = re.compile(r"[.!?](?!\S)")
 CELLS = re.compile(r"(?<!\\)\|")
 FIGURE = re.compile(r"(?<![\w-])(?:seconds|minutes|ms|ns|µs)(?!\w)")
 DATE = re.compile(r"measured on (\d{4}-\d{2}-\d{2})", re.IGNORECASE)
@@ -47,6 +50,14 @@ def long_cells(text):
             words = WORD.findall(cell)
             if len(words) > MOST_IN_A_CELL:
                 yield " ".join(words[:6]), len(words)
+
+
+def long_choices(text):
+    """The choices of a list that have too many sentences: their first words, and how many there are."""
+    for line in text.split("\n"):
+        sentences = len(SENTENCE.findall(line))
+        if line.startswith("- ") and sentences > MOST_SENTENCES:
+            yield " ".join(line[2:].split()[:6]), sentences
 
 
 def oldest():
@@ -74,6 +85,9 @@ def faults():
     lines = texts["README.md"].count("\n")
     if lines > MOST_LINES:
         yield f"README.md: {lines} lines: {MOST_LINES} at most"
+    yield from (f"{page}: {count(texts[page])} words by hand: {most} at most" for page, most in MOST_IN_A_PAGE.items()
+                if count(texts[page]) > most)
+    yield from (f"docs/DECISIONS.md: a choice of {many} sentences: {first} .." for first, many in long_choices(texts["docs/DECISIONS.md"]))
     for page, text in texts.items():
         yield from (f"{page}: a cell of {words} words: {first} .." for first, words in long_cells(text))
     day = oldest()

@@ -74,9 +74,11 @@ def words_of_plan(plan):
     command, *words = plan.split()
     if command == "first":
         return []
-    if command in ("run", "audit"):
-        image, steps, gap, tick, given, *rest = words
-        line = [command, image, steps, "--gap", gap, "--tick", tick, *named("--input", given)]
+    if command in ("go", "run", "audit"):
+        image, steps, *words = words
+        line = [command, image, "--steps", steps, "--times", words.pop(0)] if command == "go" else [command, image, steps]
+        gap, tick, given, *rest = words
+        line += ["--gap", gap, "--tick", tick, *named("--input", given)]
         if rest[:1] == ["quiet"]:
             line, rest = [*line, "--quiet"], rest[1:]
         for name, value in zip(rest[::2], rest[1::2]):
@@ -104,7 +106,9 @@ def words_of_plan(plan):
 
 def lines_to_compare(words, planned):
     """Pairs of command lines that are to come to the same, over the image of a text: the one that is tried and the plan's, and of a run
-    both with so many steps that the schedule shows."""
+    both with so many steps that the schedule shows. Where `go` has its steps by default they are said, for they are too many."""
+    if planned[:1] == ["go"] and "--steps" not in " ".join(words):
+        words, planned = [*words, "--steps", str(FEW)], [str(FEW) if word == planned[3] else word for word in planned]
     yield words, planned, SPINS if planned[:1] == ["run"] and int(planned[2]) > MANY else WATCHES
     if planned[:1] in (["run"], ["audit"]):
         steps = planned[2]

@@ -6,8 +6,11 @@ from .machines import Machine, Refused
 from .reading import unquoted
 from .image_cases import loaded
 
-# A fault of a text, as the program tells it: the fault alone, a line that begins with the file and the line, and carets, if any.
-TOLD = re.compile(r"cherisim: line (\d+): (A\d+) [^\n]*\n  a\.s:\1(?:: [^\n]*\n(?:[ \t]+\^+(?: [^\n]*)?\n)?|\n)")
+# A fault of a text, as the program tells it: the fault alone, a line that begins with the file and the line, and carets, if any, and a
+# hint, if there is one; then a line for each of later lines, and how many there are besides.
+HINT = r"  hint: ([^\n]*)\n"
+TOLD = re.compile(r"cherisim: line (\d+): (A\d+) [^\n]*\n  a\.s:\1(?:: [^\n]*\n(?:[ \t]+\^+(?: [^\n]*)?\n)?|\n)(?:" + HINT + r")?"
+                  r"(?:  a\.s:\d+: A[12389] [^\n]*\n){0,20}(?:  and \d+ more\n)?")
 
 
 def fault_of(bench, text):
@@ -29,6 +32,14 @@ def assembled(bench, text, *words):
     match = TOLD.fullmatch(told.decode())
     came = f"{match[2]} {match[1]}" if match else told.decode()
     return None, came if came == fault else f"{came} of the program, {fault} of the library"
+
+
+def hint(bench, case):
+    """A text in quotes whose last line is faulty: the hint that stands after its fault."""
+    bench.file("a.s", unquoted(case.inputs)[0])
+    status, _, told = bench.run("asm", "a.s", "a.img")
+    found = re.search(HINT, told.decode())
+    return f"status {status}" if status != 3 else found[1] if found else "no hint"
 
 
 def words_of(contents):

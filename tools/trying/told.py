@@ -44,7 +44,7 @@ OTHERS = {
     "directory": ("asm a.s a.img", {}, b"", ["a.s"], {}),
     "cut short": ("asm b.s a.s", {"b.s": TEXT}, b"", [], {"made": 3}),
     "symbols": ("dis a.img --symbols a.s", {"a.img": FIRST, "a.s": b"0000000080000000 x\n" * 6 + b"x\n"}, b"", [], {}),
-    "file L2": ("run a.s 5", {"a.s": FILES["L2"]}, b"", [], {}),
+    "file L2": ("run a.img 5", {"a.img": FILES["L2"]}, b"", [], {}),
     "far A8": ("asm a.s a.img", {"a.s": PAGES + b"nop\n" * 19999 + b"\x7f\n" + b"nop\n" * 9999}, b"", [], {}),
     "far A5": ("asm a.s a.img", {"a.s": PAGES + b"j x\n" + b"nop\n" * 19998 + b"\x7f\n" + b"nop\n" * 9999}, b"", [], {}),
     "mended A8": ("asm a.s a.img", {"a.s": PAGES + b"j x\n" + b"nop\n" * 19998 + b"\x7f\n" + b"nop\n" * 9999 + b"x:"}, b"", [], {}),

@@ -12,7 +12,7 @@ use Rattle.clap.specs.declared.builder.command.Command.{Command}
 use Rattle.clap.specs.declared.parser.matches.Found.{Found}
 use Rattle.clap.proofs.WalkLemmas.{one_text-rows}
 use Rattle.command_line.specs.declared.plans.Plan.{Plan}
-use Rattle.command_line.specs.declared.plans.Plan.TheVariants.{Run, Audit, First}
+use Rattle.command_line.specs.declared.plans.Plan.TheVariants.{Go, Run, Audit, First}
 use Rattle.command_line.specs.declared.table.Takes.{Takes}
 use Rattle.command_line.specs.declared.table.Takes.TheVariants.{Nothing, Ends, Read, Written, Count, Start, Number}
 use Rattle.command_line.specs.CommandLine.{Line, Entry, Said, File, Amount, Used, Explained, is_numeral}
@@ -22,6 +22,7 @@ use Rattle.command_line.specs.CommandLine.{written_number, files_found, files_sa
 use Rattle.command_line.specs.CommandLine.{AreSaid, KeepsLimits, IsWithin, name_said, name_of, said, lines_named}
 use Rattle.command_line.specs.CommandLine.{commands, Says, IsScheduled, IsSound, NoPlanFits, may_stand, AreFit, HasAll}
 use Rattle.std.proofs.Common.{get_or}
+use Rattle.std.proofs.lemmas.Nat.{mul-le}
 use Rattle.std.proofs.lemmas.Str.Parse.{without_leading_plus_none}
 use Rattle.std.specs.Str.Parse.{ParsesUnsigned}
 use borrow.Author.Tests.{ltb-true, lt-ltb, leb-true}
@@ -238,20 +239,26 @@ scheduled : (plan : Plan)
     → IfSome (lines_named (name_of plan) commands) (λ lines. AllZip (λ line said. KeepsLimits line.takes said) lines (said plan))
     → IsScheduled plan
 unfolding commands
+scheduled (Go request why) k = record {
+  some_step = k.1.0.0;
+  some_times = k.1.1.0.0;
+  most_steps = mul-le request.steps request.times 10000000000 10000 k.1.0.1 k.1.1.0.1;
+  some_gap = k.1.1.1.1.0.0;
+  most_gap = k.1.1.1.1.0.1;
+  most_tick = k.1.1.1.1.1.0.1;
+}
 scheduled (Run request why) k = record {
   some_step = k.1.0.0;
-  most_steps = k.1.0.1;
   some_times = k.1.1.0.0;
-  most_times = k.1.1.0.1;
+  most_steps = mul-le request.steps request.times 100000000 1000000 k.1.0.1 k.1.1.0.1;
   some_gap = k.1.1.1.1.0.0;
   most_gap = k.1.1.1.1.0.1;
   most_tick = k.1.1.1.1.1.0.1;
 }
 scheduled (Audit request) k = record {
   some_step = k.1.0.0;
-  most_steps = k.1.0.1;
   some_times = k.1.1.0.0;
-  most_times = k.1.1.0.1;
+  most_steps = mul-le request.steps request.times 100000000 1000000 k.1.0.1 k.1.1.0.1;
   some_gap = k.1.1.1.1.0.0;
   most_gap = k.1.1.1.1.0.1;
   most_tick = k.1.1.1.1.1.0.1;

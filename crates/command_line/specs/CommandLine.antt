@@ -1,5 +1,5 @@
 -- The command line: the command that clap reads the words by, and what a plan says of clap's matches. Both go by the lines of the table.
-use Rattle.std.specs.Prelude.{◌≡◌, ◌≤◌, ◌^◌, ◌==◌, ℕ, Bool, not, ◌&&◌, ◌||◌, if◌then◌else◌, IsTrue, List, [], ◌∷◌, ◌++◌, map, length, drop}
+use Rattle.std.specs.Prelude.{◌≡◌, ◌≤◌, ◌*◌, ◌^◌, ◌==◌, ℕ, Bool, not, ◌&&◌, ◌||◌, if◌then◌else◌, IsTrue, List, [], ◌∷◌, ◌++◌, map, length, drop}
 use Rattle.std.specs.Prelude.{Option, Some, None, true, false, bytes_eq, codes, option_map, option_and_then, is_some, ⊤}
 use Rattle.std.specs.Prelude.{IsSome, IsSomeAnd, IfSome, nat_lt, nat_le}
 use Rattle.std.specs.List.{AllByRecursion, AllZip, list_all, starts_with}
@@ -10,7 +10,7 @@ use Rattle.clap.specs.Words.{App, Row, Rule, Text, fault_of, first_of, one_of, n
 use Rattle.clap.specs.declared.builder.action.ArgAction.TheVariants.{SetTrue}
 use Rattle.clap.specs.declared.builder.value_parser.ValueParser.TheVariants as parser
 use Rattle.command_line.specs.declared.plans.Plan.{Plan}
-use Rattle.command_line.specs.declared.plans.Plan.TheVariants.{Asm, Image, Run, Audit, Dis, Debug, Bounds, Word, First}
+use Rattle.command_line.specs.declared.plans.Plan.TheVariants.{Asm, Image, Go, Run, Audit, Dis, Debug, Bounds, Word, First}
 use Rattle.command_line.specs.declared.plans.RunRequest.{RunRequest}
 use Rattle.command_line.specs.declared.plans.Why.{Why}
 use Rattle.command_line.specs.declared.plans.Why.TheVariants.{Unfetched, All}
@@ -18,8 +18,8 @@ use Rattle.command_line.specs.declared.table.Stands.{Stands}
 use Rattle.command_line.specs.declared.table.Stands.TheVariants.{Operand, Optional, Named, Flag, FlagOrAll}
 use Rattle.command_line.specs.declared.table.Takes.{Takes}
 use Rattle.command_line.specs.declared.table.Takes.TheVariants.{Nothing, Ends, Read, Written, Count, Start, Number}
-use Rattle.command_line.specs.declared.table.TheConstants.{COMMANDS, STEPS, TIMES, RUN_GAP, RUN_TICK}
-use Rattle.command_line.specs.declared.table.TheConstants.{IMAGE, INPUT, STATUS, TRACE, TRACE_FROM, TRACE_LAST, POLICY, RUN_LABELS}
+use Rattle.command_line.specs.declared.table.TheConstants.{COMMANDS, STEPS, GO_STEPS, TIMES, GO_TIMES, RUN_GAP, RUN_TICK}
+use Rattle.command_line.specs.declared.table.TheConstants.{INPUT, STATUS, TRACE, TRACE_FROM, TRACE_LAST, POLICY, RUN_LABELS}
 
 -- an argument: its id, how it stands among the words, what it takes, and its value where it isn't used
 pub record Line : Type 0 where
@@ -249,6 +249,7 @@ are_apart (file ∷ files) = list_all (are_two file) files && are_apart files
 abbrev pub name_of : Plan → Text
 name_of (Asm input output symbols quiet) = codes "asm"
 name_of (Image flat output layout quiet) = codes "image"
+name_of (Go request why) = codes "go"
 name_of (Run request why) = codes "run"
 name_of (Audit request) = codes "audit"
 name_of (Dis image symbols header quiet) = codes "dis"
@@ -267,22 +268,26 @@ abbrev amount : ℕ → Said
 amount number = Amount (Some number)
 
 -- what a run that is asked for says of its arguments, with what is said of others between them
-abbrev pub said_of_run : RunRequest → List Said → List Said
-said_of_run run between =
-    its_file run.image ∷ amount run.steps ∷ amount run.times ∷ file run.input ∷ amount run.gap ∷ amount run.tick ∷ Used run.quiet
+abbrev pub said_of_lines : RunRequest → List Said → List Said
+said_of_lines run between =
+    file run.input ∷ amount run.gap ∷ amount run.tick ∷ Used run.quiet
     ∷ (between ++ (file run.trace ∷ amount run.trace_from ∷ Amount run.trace_last ∷ file run.policy ∷ file run.symbols ∷ []))
 
--- the arguments that `run` and `audit` share
+abbrev pub said_of_run : RunRequest → List Said → List Said
+said_of_run run between = its_file run.image ∷ amount run.steps ∷ amount run.times ∷ said_of_lines run between
+
+-- the arguments that `go`, `run` and `audit` share, after the file and the numbers of steps
 abbrev pub run_lines : List Line
 run_lines =
     map (λ a. argument a.0.now a.1 a.2 (option_map (λ t. t.now) a.3))
-    (IMAGE ∷ STEPS ∷ TIMES ∷ INPUT ∷ RUN_GAP ∷ RUN_TICK ∷ STATUS ∷ TRACE ∷ TRACE_FROM ∷ TRACE_LAST ∷ POLICY ∷ RUN_LABELS ∷ [])
+    (INPUT ∷ RUN_GAP ∷ RUN_TICK ∷ STATUS ∷ TRACE ∷ TRACE_FROM ∷ TRACE_LAST ∷ POLICY ∷ RUN_LABELS ∷ [])
 
 -- what a plan says of each argument of its command, in the order of the table; with one number alone `bounds` has a length
 abbrev pub said : Plan → List Said
 said (Asm input output symbols quiet) = its_file input ∷ its_file output ∷ file symbols ∷ Used quiet ∷ []
 said (Image flat output layout quiet) =
     its_file flat ∷ its_file output ∷ Amount layout.at ∷ Amount layout.entry ∷ Amount layout.pages ∷ Amount layout.mode ∷ Used quiet ∷ []
+said (Go request why) = said_of_run request (Explained why ∷ [])
 said (Run request why) = said_of_run request (Explained why ∷ [])
 said (Audit request) = said_of_run request []
 said (Dis image symbols header quiet) = its_file image ∷ file symbols ∷ Used header ∷ Used quiet ∷ []
@@ -326,19 +331,19 @@ limits _ = (0, 0)
 
 -- those of a run's numbers, with the names of their arguments
 abbrev pub run_limits : List (Text × (ℕ × ℕ))
-run_limits = map (λ a. (a.0.now, limits a.2)) (STEPS ∷ TIMES ∷ RUN_GAP ∷ RUN_TICK ∷ [])
+run_limits = map (λ a. (a.0.now, limits a.2)) (STEPS ∷ TIMES ∷ GO_STEPS ∷ GO_TIMES ∷ RUN_GAP ∷ RUN_TICK ∷ [])
 
--- the numbers of a run lie within their limits
+-- the numbers of a run lie within their limits, and there are at most 10^14 steps in all
 pub record AreInRange (run : RunRequest) : Type 0 where
   pub some_step : (limits STEPS.2).0 ≤ run.steps
-  pub most_steps : run.steps ≤ (limits STEPS.2).1
   pub some_times : (limits TIMES.2).0 ≤ run.times
-  pub most_times : run.times ≤ (limits TIMES.2).1
+  pub most_steps : run.steps * run.times ≤ 10 ^ 14
   pub some_gap : (limits RUN_GAP.2).0 ≤ run.gap
   pub most_gap : run.gap ≤ (limits RUN_GAP.2).1
   pub most_tick : run.tick ≤ (limits RUN_TICK.2).1
 
 abbrev pub IsScheduled : Plan → Type 0
+IsScheduled (Go request why) = AreInRange request
 IsScheduled (Run request why) = AreInRange request
 IsScheduled (Audit request) = AreInRange request
 IsScheduled _ = ⊤

@@ -16,6 +16,17 @@ pub fn commands_and_arguments()
         ∷ argument (codes "OUT") Operand Written None ∷ argument (codes "at") Named Number None
         ∷ argument (codes "entry") Named Number None ∷ argument (codes "pages") Named Number None
         ∷ argument (codes "mode") Named Number None ∷ argument (codes "quiet") Flag Nothing None ∷ []))
+        ∷ (entry (codes "go") (argument (codes "FILE") Operand Read None
+        ∷ argument (codes "steps") Named (Count 1 10000000000) (Some (codes "10000000000"))
+        ∷ argument (codes "times") Named (Count 1 10000) (Some (codes "1"))
+        ∷ argument (codes "input") Named Read None
+        ∷ argument (codes "gap") Named (Count 1 1000000) (Some (codes "1000"))
+        ∷ argument (codes "tick") Named (Count 0 1000000) (Some (codes "100"))
+        ∷ argument (codes "quiet") Flag Nothing None ∷ argument (codes "why") FlagOrAll Ends None
+        ∷ argument (codes "trace") Named Written None
+        ∷ argument (codes "trace-from") Named (Start 1 100000000000000) None
+        ∷ argument (codes "trace-last") Named (Count 1 1000000) None ∷ argument (codes "policy") Named Read None
+        ∷ argument (codes "symbols") Named Read None ∷ []))
         ∷ (entry (codes "run") (argument (codes "IMAGE") Operand Read None
         ∷ argument (codes "STEPS") Operand (Count 1 100000000) None
         ∷ argument (codes "times") Named (Count 1 1000000) (Some (codes "1"))
@@ -53,17 +64,15 @@ pub fn commands_and_arguments()
 
 /// How far the numbers of a run go.
 pub fn limits_of_a_run()
-    ensures { run_limits ≡ (codes "STEPS", (1, 100000000)) ∷ (codes "times", (1, 1000000)) ∷ (codes "gap", (1, 1000000))
+    ensures { run_limits ≡ (codes "STEPS", (1, 100000000)) ∷ (codes "times", (1, 1000000))
+        ∷ (codes "steps", (1, 10000000000)) ∷ (codes "times", (1, 10000)) ∷ (codes "gap", (1, 1000000))
         ∷ (codes "tick", (0, 1000000)) ∷ [] }
 {}
 
-/// The arguments that `run` and `audit` share, as the table has them.
+/// The arguments that `go`, `run` and `audit` share, as the table has them.
 #[tactic(auto, unfolding(crate::specs::CommandLine::run_lines))]
 pub fn arguments_of_a_run()
-    ensures { run_lines ≡ (argument (codes "IMAGE") Operand Read None)
-        ∷ argument (codes "STEPS") Operand (Count 1 100000000) None
-        ∷ argument (codes "times") Named (Count 1 1000000) (Some (codes "1"))
-        ∷ argument (codes "input") Named Read None
+    ensures { run_lines ≡ (argument (codes "input") Named Read None)
         ∷ argument (codes "gap") Named (Count 1 1000000) (Some (codes "1000"))
         ∷ argument (codes "tick") Named (Count 0 1000000) (Some (codes "100"))
         ∷ argument (codes "quiet") Flag Nothing None ∷ argument (codes "trace") Named Written None

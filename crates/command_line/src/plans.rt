@@ -12,11 +12,11 @@ pub enum Why {
 /// A run of an image that is asked for.
 #[derive(Clone, Copy, Debug, PartialEq, Eq)]
 pub struct RunRequest<'a> {
-    /// The file with the image.
+    /// The file with the image, or with the text that is assembled into it.
     pub image: &'a str,
-    /// The most steps that are done, where `times` is 1: 1 to 100000000.
+    /// The most steps that are done, where `times` is 1: 1 to 10000000000.
     pub steps: u64,
-    /// How many times as many are done at most, 1 to 1000000.
+    /// How many times as many are done at most, 1 to 1000000; together at most 100000000000000.
     pub times: u64,
     /// Steps from one byte of the input to the next, 1 to 1000000.
     pub gap: u64,
@@ -63,6 +63,13 @@ pub enum Plan<'a> {
         /// Whether of a fault its text alone is told.
         quiet: bool,
     },
+    /// Run a text or an image until it halts.
+    Go {
+        /// Which run.
+        request: RunRequest<'a>,
+        /// Which ends are explained, if any; with a policy none is.
+        why: Option<Why>,
+    },
     /// Run an image.
     Run {
         /// Which run.
@@ -74,7 +81,7 @@ pub enum Plan<'a> {
     Audit(RunRequest<'a>),
     /// List an image.
     Dis {
-        /// The file with the image.
+        /// The file with the image, or with the text that is assembled into it.
         image: &'a str,
         /// The file with its labels, if one is named.
         symbols: Option<&'a str>,
@@ -85,7 +92,7 @@ pub enum Plan<'a> {
     },
     /// Debug an image.
     Debug {
-        /// The file with the image.
+        /// The file with the image, or with the text that is assembled into it.
         image: &'a str,
         /// The file with its labels, if one is named.
         symbols: Option<&'a str>,

@@ -13,6 +13,8 @@ use std::alloc::{AllocError, Global};
 
 /// What the help says below the commands.
 const EXAMPLE: &str = "Examples:
+  cherisim go hello.s
+      assembles the text hello.s, and runs it until it halts
   cherisim asm hello.s hello.img
       assembles the text hello.s, and writes the image to hello.img
   cherisim run hello.img 1000 --input keys.txt --gap 50
@@ -35,7 +37,10 @@ const EXAMPLE: &str = "Examples:
 Without a command the program runs a first image of five instructions, which prints A; with
 --version alone it prints its version.
 
-The status is 0 where all went well, for `run` where the machine halted with 0; 1 where `run` ended
+In place of an image `run`, `audit`, `dis` and `debug` take a text too, if its name ends in .s: then
+its labels are known without --symbols.
+
+The status is 0 where all went well, for a run where the machine halted with 0; 1 where a run ended
 otherwise, and where `audit` finds that a policy is broken; 2 for a command line that is no command;
 3 for any other fault.";
 

@@ -6,7 +6,7 @@ ghost use Rattle.clap.specs.Words.{first_of, found_of, rows_of, kind_of, subcomm
 ghost use Rattle.clap.specs.declared.error.kind.ErrorKind.{ErrorKind};
 ghost use Rattle.command_line.specs.CommandLine.{found_in, IsSound, IsTaken, IsPlanOf, NoPlanFits, asks_all, may_stand, line_of, entry_of};
 ghost use Rattle.command_line.specs.CommandLine.{Said, AreFit, AreSaid, HasAll, Says, lines_named, commands, files_found, NothingStands};
-ghost use Rattle.command_line.specs.CommandLine.{are_apart, are_two, have_one_name, is_file, is_written, run_lines, said_of_run};
+ghost use Rattle.command_line.specs.CommandLine.{are_apart, are_two, have_one_name, is_file, is_written, run_lines, said_of_lines};
 ghost use Rattle.command_line.specs.declared.fault.PlanFault.TheVariants.{Memory};
 
 use crate::fault::PlanFault;
@@ -189,15 +189,17 @@ fn image_plan<'a>(found: &ArgMatches<'a>) -> Plan<'a>
     }
 }
 
-/// The run that the arguments ask for which `run` and `audit` share.
-fn run_request<'a>(found: &ArgMatches<'a>) -> RunRequest<'a>
+/// The run of this file, of so many steps so many times, that the arguments ask for which `go`, `run` and `audit` share.
+fn run_request<'a>(found: &ArgMatches<'a>, image: &'a str, steps: u64, times: u64) -> RunRequest<'a>
     requires { AreFit (rows_of (found_of found.now)) run_lines }
-    ensures { AreSaid (rows_of (found_of found.now)) run_lines (said_of_run result []) }
+    ensures said { AreSaid (rows_of (found_of found.now)) run_lines (said_of_lines result []) }
+    ensures image { result.image ≡ image.entry }
+    ensures steps { (result.steps ≡ steps) × (result.times ≡ times) }
 {
     RunRequest {
-        image: operand(found, &IMAGE),
-        steps: amount(found, &STEPS),
-        times: amount(found, &TIMES),
+        image,
+        steps,
+        times,
         gap: amount(found, &RUN_GAP),
         tick: amount(found, &RUN_TICK),
         input: file(found, &INPUT),
@@ -211,12 +213,33 @@ fn run_request<'a>(found: &ArgMatches<'a>) -> RunRequest<'a>
 }
 
 #[tactic(auto, unfolding(crate::specs::CommandLine::commands))]
+fn go_plan<'a>(found: &ArgMatches<'a>) -> Plan<'a>
+    requires { HasAll (codes "go") (rows_of (found_of found.now)) }
+    ensures { Says (codes "go") (rows_of (found_of found.now)) result }
+{
+    Plan::Go {
+        request: run_request(
+            found,
+            operand(found, &FILE),
+            amount(found, &GO_STEPS),
+            amount(found, &GO_TIMES),
+        ),
+        why: ends(found, &WHY),
+    }
+}
+
+#[tactic(auto, unfolding(crate::specs::CommandLine::commands))]
 fn run_plan<'a>(found: &ArgMatches<'a>) -> Plan<'a>
     requires { HasAll (codes "run") (rows_of (found_of found.now)) }
     ensures { Says (codes "run") (rows_of (found_of found.now)) result }
 {
     Plan::Run {
-        request: run_request(found),
+        request: run_request(
+            found,
+            operand(found, &IMAGE),
+            amount(found, &STEPS),
+            amount(found, &TIMES),
+        ),
         why: ends(found, &WHY),
     }
 }
@@ -226,7 +249,12 @@ fn audit_plan<'a>(found: &ArgMatches<'a>) -> Plan<'a>
     requires { HasAll (codes "audit") (rows_of (found_of found.now)) }
     ensures { Says (codes "audit") (rows_of (found_of found.now)) result }
 {
-    Plan::Audit(run_request(found))
+    Plan::Audit(run_request(
+        found,
+        operand(found, &IMAGE),
+        amount(found, &STEPS),
+        amount(found, &TIMES),
+    ))
 }
 
 #[tactic(auto, unfolding(crate::specs::CommandLine::commands))]
@@ -296,6 +324,8 @@ fn read<'a>(name: &str, found: &ArgMatches<'a>) -> Plan<'a>
         asm_plan(found)
     } else if name == "image" {
         image_plan(found)
+    } else if name == "go" {
+        go_plan(found)
     } else if name == "run" {
         run_plan(found)
     } else if name == "audit" {

@@ -78,7 +78,11 @@ pub(crate) const IN: Argument = argument!("IN" Operand Read, "", "The file with 
 
 pub(crate) const FLAT: Argument = argument!("FLAT" Operand Read, "", "The file with the bytes");
 
-pub(crate) const IMAGE: Argument = argument!("IMAGE" Operand Read, "", "The file with the image");
+pub(crate) const FILE: Argument = argument!("FILE" Operand Read, "",
+    "The file with the text, if its name ends in .s, or else with the image");
+
+pub(crate) const IMAGE: Argument = argument!("IMAGE" Operand Read, "",
+    "The file with the image, or with a text, if its name ends in .s");
 
 pub(crate) const INPUT: Argument =
     argument!("input" Named Read, "FILE", "The file whose bytes come on the console");
@@ -107,6 +111,12 @@ pub(crate) const TRACE: Argument = argument!("trace" Named Written, "FILE",
 // Numbers with limits.
 pub(crate) const STEPS: Argument = argument!("STEPS" Operand Count 1 to 100000000, "", None,
     "The most steps that are done" "");
+
+pub(crate) const GO_STEPS: Argument = argument!("steps" Named Count 1 to 10000000000, "N",
+    Some("10000000000"), "The most steps that are done" "");
+
+pub(crate) const GO_TIMES: Argument = argument!("times" Named Count 1 to 10000, "N", Some("1"),
+    "How many times so many steps are done at most" "");
 
 pub(crate) const TIMES: Argument = argument!("times" Named Count 1 to 1000000, "N", Some("1"),
     "How many times STEPS steps are done at most" "");
@@ -178,7 +188,7 @@ pub(crate) const MEMORY: Argument = argument!("memory" Flag Nothing, "",
     "The halves are those of the word as it stands in memory");
 
 /// The commands, in the order of the help.
-pub(crate) const COMMANDS: [CommandRow; 8] = [
+pub(crate) const COMMANDS: [CommandRow; 9] = [
     (
         "asm",
         "Assembles a text into an image",
@@ -188,6 +198,14 @@ pub(crate) const COMMANDS: [CommandRow; 8] = [
         "image",
         "Makes an image of a file's bytes; numbers are decimal, or hexadecimal behind 0x",
         &[FLAT, OUT, AT, ENTRY, PAGES, MODE, ALONE],
+    ),
+    (
+        "go",
+        "Runs a text or an image until it halts; what it sends goes to standard output",
+        &[
+            FILE, GO_STEPS, GO_TIMES, INPUT, RUN_GAP, RUN_TICK, STATUS, WHY, TRACE, TRACE_FROM,
+            TRACE_LAST, POLICY, RUN_LABELS,
+        ],
     ),
     (
         "run",

@@ -2,4 +2,5 @@ pub mod Filing
 pub mod Flat
 pub mod Typed
 pub mod Policies
+pub mod Sources
 pub mod FirstRun

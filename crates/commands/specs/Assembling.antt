@@ -1,10 +1,12 @@
 -- What `asm` writes of a text, and how it tells its fault.
-use Rattle.std.specs.Prelude.{◌≡◌, ◌⊎◌, ℕ, ◌+◌, ◌/◌, ◌==◌, Bool, if◌then◌else◌, List, [], ◌∷◌, ◌++◌, map, length}
-use Rattle.std.specs.Prelude.{decimal, Option, Some, None, IsSomeAnd}
+use Rattle.std.specs.Prelude.{◌≡◌, ◌⊎◌, ◌≤◌, ℕ, ◌+◌, ◌-◌, ◌/◌, ◌==◌, Bool, if◌then◌else◌, List, [], ◌∷◌, ◌++◌, map, length}
+use Rattle.std.specs.Prelude.{take, decimal, Option, Some, None, IsSomeAnd}
 use Rattle.std.specs.Borrow.{Bor}
 use Rattle.image.specs.Grammar.{spelling}
 use Rattle.image.specs.Image.{Image}
 use Rattle.assembler.specs.declared.fault.AsmFault.{AsmFault}
+use Rattle.assembler.specs.declared.further.FurtherFaults.{FurtherFaults}
+use Rattle.assembler.specs.Further.{faults_after}
 use Rattle.assembler.specs.Left.{IsFaultOf}
 use Rattle.assembler.specs.Places.{Symbols, symbols_of}
 use Rattle.assembler.specs.Standing.{standing_of}
@@ -13,6 +15,7 @@ use Rattle.fault_details.specs.Detail.{detail_of, line_at}
 use Rattle.symbols.specs.Symbols.{Symbol, symbol, table_text}
 use Rattle.commands.specs.declared.fault.ProgramFault.{ProgramFault}
 use Rattle.commands.specs.declared.fault.ProgramFault.TheVariants.{Asm}
+use Rattle.commands.specs.declared.faulty_text.FaultyText.{FaultyText}
 use Rattle.commands.specs.Files.{Text, File, Gains, Holds, IsTextFault, IsUnwritten, whole}
 
 -- labels and their values, as a table has them
@@ -42,19 +45,29 @@ columns (b ∷ bs) = (if goes_on b then 0 else 1) + columns bs
 unfoldable pub indent_of : Text → ℕ → ℕ
 indent_of name number = columns name + length (decimal number) + 5
 
--- what is told of a fault of a text: what was read of its line, unless there was no memory for that
+-- what is told of the first fault: what was read of its line, unless there was no memory for that
 abbrev pub IsRead : Text → List ℕ → AsmFault → List ℕ → Type 0
 IsRead input text fault read =
     (read ≡ []) ⊎ (read ≡ detail_of fault.code (indent_of input fault.line) (standing_of text) (line_at fault.line text))
 
+-- what is told of the lines after the first faulty one: 20 of their own faults, and how many more there are; nothing where there was no
+-- memory, neither for these nor for the text (A10, which has line 0)
+abbrev pub AreFurther : List ℕ → ℕ → FurtherFaults → Type 0
+AreFurther text line told =
+    ((told.shown.items ≡ []) × (told.left ≡ 0))
+    ⊎ ((1 ≤ line) × (told.shown.items ≡ take 20 (faults_after line text)) × (told.left ≡ length (faults_after line text) - 20))
+
+abbrev pub IsTold : Text → List ℕ → FaultyText → Type 0
+IsTold input text told =
+    (told.name.now ≡ input) × IsRead input text told.fault told.read.items × AreFurther text told.fault.line told.further
+
 abbrev pub IsAsmFault : Text → List ℕ → AsmFault → ProgramFault → Type 0
-IsAsmFault input text found (Asm name fault read) = (name.now ≡ input) × (fault ≡ found) × IsRead input text fault read.items
+IsAsmFault input text found (Asm told) = (told.fault ≡ found) × IsTold input text told
 IsAsmFault input text found other = ⊥
 
 -- a fault of a text, which is its first, unless there was no memory
 abbrev pub IsFaultyText : Text → List ℕ → ProgramFault → Type 0
-IsFaultyText input text (Asm name fault read) =
-    (name.now ≡ input) × IsFaultOf (text_fault text) fault × IsRead input text fault read.items
+IsFaultyText input text (Asm told) = IsFaultOf (text_fault text) told.fault × IsTold input text told
 IsFaultyText input text other = ⊥
 
 -- Why an assembly isn't written: its image can't be; or that is, and the table of its labels that is named can't be.

@@ -1,10 +1,8 @@
 -- The files of a folder: what became of them, in order.
-use Rattle.std.specs.Prelude.{◌≡◌, ℕ, ◌<◌, List, length, [], ◌∷◌, ◌++◌, bytes_eq, if◌then◌else◌, Option, Some, None, Ok, Err}
-use Rattle.std.specs.Prelude.{IfSome, IsSomeAnd, ⊤}
-use Rattle.std.specs.Borrow.{Bor}
+use Rattle.std.specs.Prelude.{◌≡◌, ℕ, ◌<◌, List, length, [], ◌∷◌, ◌++◌, bytes_eq, if◌then◌else◌, Option, Some, None, Err}
+use Rattle.std.specs.Prelude.{IfSome, ⊤}
 use Rattle.std.specs.Io.KnownBytes.{Keeps}
 use Rattle.image.specs.Grammar.{reading}
-use Rattle.image.specs.Image.{Image}
 use Rattle.image.specs.Reads.{IsOfBytes}
 use Rattle.symbols.specs.Symbols.{Symbol, faulty_line, symbols_of}
 use Rattle.commands.specs.declared.fault.ProgramFault.{ProgramFault}
@@ -53,10 +51,9 @@ abbrev pub bytes_of : Text → Option (List File) → Option (List ℕ)
 bytes_of name None = None
 bytes_of name (Some files) = last_of name files None
 
--- The labels are those of a file, if one is named, which is a table.
-abbrev pub IsTable : Option (Bor Text) → Option (List File) → List Symbol → Type 0
-IsTable None files symbols = symbols ≡ []
-IsTable (Some name) files symbols = IfSome (bytes_of name.now files) (λ text. (faulty_line text ≡ None) × (symbols ≡ symbols_of text))
+-- The labels are those of a file, which is a table.
+abbrev pub IsTable : Text → Option (List File) → List Symbol → Type 0
+IsTable name files symbols = IfSome (bytes_of name files) (λ text. (faulty_line text ≡ None) × (symbols ≡ symbols_of text))
 
 -- What a command changes, where that is known: what an output holds, and what became of files, before and after.
 pub record Change : Type 0 where
@@ -109,20 +106,19 @@ IsTextFault text files (program.LongText name) =
     (name.now ≡ text) × IfSome (bytes_of text files) (λ bytes. 0x1000_0000 < length bytes)
 IsTextFault text files other = IsReading text other
 
--- a fault of a file that is to be a table of symbols: its first invalid line, or that of a text
+-- a fault of a text that is to be a table of symbols: its first invalid line, or no memory
+abbrev pub IsTextTableFault : Text → List ℕ → ProgramFault → Type 0
+IsTextTableFault table text (program.Symbols name number) = (name.now ≡ table) × (faulty_line text ≡ Some number)
+IsTextTableFault table text Memory = ⊤
+IsTextTableFault table text other = ⊥
+
+-- a fault of a file that is to be one: the same, or that of a text
 abbrev pub IsTableFault : Text → Option (List File) → ProgramFault → Type 0
 IsTableFault table files (program.Symbols name number) =
     (name.now ≡ table) × IfSome (bytes_of table files) (λ text. faulty_line text ≡ Some number)
 IsTableFault table files other = IsTextFault table files other
 
--- the same of a table that is named
-abbrev pub IsNamedTableFault : Option (Bor Text) → Option (List File) → ProgramFault → Type 0
-IsNamedTableFault symbols files fault = IsSomeAnd symbols (λ name. IsTableFault name.now files fault)
-
--- ---- files that are read, where it is known what they hold
+-- ---- a file that is read, where it is known what it holds
 
 abbrev pub Holds : Text → Option (List File) → List ℕ → Type 0
 Holds name files bytes = IfSome (bytes_of name files) (λ held. bytes ≡ held)
-
-abbrev pub HoldsImage : Text → Option (List File) → Image → Type 0
-HoldsImage name files image = IfSome (bytes_of name files) (λ bytes. reading bytes ≡ Ok image)

@@ -1,6 +1,7 @@
 -- What to read
 pub mod Files
 pub mod Assembling
+pub mod Programs
 pub mod Imaging
 pub mod Bounding
 pub mod Listing

@@ -3,7 +3,6 @@ use Rattle.std.specs.Prelude.{◌≡◌, ℕ, ◌*◌, List, [], Option, Some, N
 use Rattle.std.specs.Borrow.{Bor}
 use Rattle.command_line.specs.declared.plans.RunRequest.{RunRequest}
 use Rattle.hart.specs.Opening.{opening}
-use Rattle.image.specs.Grammar.{reading}
 use Rattle.image.specs.Image.{Image}
 use Rattle.machine.specs.Run.{run_after}
 use Rattle.policy.specs.Terms.{Terms, terms_of}
@@ -14,10 +13,12 @@ use Rattle.schedules.specs.declared.schedule.Schedule.{Schedule}
 use Rattle.schedules.specs.Schedule.{IsRunnable, events_before, scheduled}
 use Rattle.steps.specs.declared.event.Event.{Event}
 use Rattle.steps.specs.State.{State}
+use Rattle.symbols.specs.Labels.{table_of}
 use Rattle.symbols.specs.Symbols.{Symbol}
 use Rattle.commands.specs.declared.loading.LoadedRun.{LoadedRun}
 use Rattle.commands.specs.declared.loading.Rules.{Rules}
-use Rattle.commands.specs.Files.{Text, File, IsTable, bytes_of}
+use Rattle.commands.specs.Files.{Text, File, bytes_of}
+use Rattle.commands.specs.Programs.{IsProgram}
 
 -- ---- a run
 
@@ -65,8 +66,9 @@ terms_in rules = terms_of rules.policy.rules.items
 pub record IsLoaded (asked : RunRequest) (files : Option (List File)) (loaded : LoadedRun) : Type 0 where
   pub request : loaded.request ≡ asked
   pub schedule : loaded.schedule ≡ schedule_of asked
-  pub image : IfSome (bytes_of asked.image.now files) (λ bytes. reading bytes ≡ Ok loaded.image)
-  pub table : IsTable asked.symbols files loaded.table
+  pub program :
+      (labels : Option (List Symbol)) × (loaded.table ≡ table_of labels)
+      × IsProgram asked.image.now asked.symbols files loaded.image labels
   pub rules : AreRules asked.policy loaded.table files loaded.rules
   pub input : IsTyped (schedule_of asked) asked.input files loaded.input.items
 

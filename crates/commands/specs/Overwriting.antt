@@ -2,7 +2,7 @@
 use Rattle.std.specs.Prelude.{◌≡◌, Bool, false, ◌||◌, Option, Some, None, IfSome}
 use Rattle.std.specs.Borrow.{Bor}
 use Rattle.command_line.specs.declared.plans.Plan.{Plan}
-use Rattle.command_line.specs.declared.plans.Plan.TheVariants.{Asm, Image, Run, Audit}
+use Rattle.command_line.specs.declared.plans.Plan.TheVariants.{Asm, Image, Go, Run, Audit}
 use Rattle.command_line.specs.declared.plans.RunRequest.{RunRequest}
 use Rattle.commands.specs.Files.{Text}
 
@@ -26,6 +26,7 @@ abbrev pub overwrites : Sameness → Plan → Bool
 overwrites same (Asm input output symbols quiet) =
     (same output.now input.now || are_same same symbols (Some input)) || are_same same symbols (Some output)
 overwrites same (Image flat output layout quiet) = same output.now flat.now
+overwrites same (Go request why) = traces_over same request
 overwrites same (Run request why) = traces_over same request
 overwrites same (Audit request) = traces_over same request
 overwrites same other = false

@@ -63,7 +63,7 @@ TellsStop false rules run number told =
     (x : Refused) × IsRefused (force_before number rules run) x (state_before number run)
     × TellsRefused rules run.table x number (state_before number run) told
 
--- A policy stops a run before a step of a number: each step before it keeps to each rule about the code, by the terms in force, and then
+-- A policy stops a run before a step of a number: each step before it keeps to each rule that applies, by the terms in force, and then
 -- a reachable capability breaks one; and these lines are told.
 pub record IsStop (rules : Rules) (run : Run) (quiet : Bool) (number : ℕ) (lines : List ℕ) : Type 0 where
   pub place : IsPlaceOf run.schedule number
@@ -71,7 +71,7 @@ pub record IsStop (rules : Rules) (run : Run) (quiet : Bool) (number : ℕ) (lin
   pub refused : (x : Refused) × IsRefused (force_before number rules run) x (state_before number run)
   pub told : TellsStop quiet rules run number lines
 
--- It doesn't: each step of the run keeps to each rule about the code.
+-- It doesn't: each step of the run keeps to each rule that applies.
 abbrev pub KeepsToEnd : Rules → Run → Type 0
 KeepsToEnd rules run = StepsKeepToEach (terms_in rules) (events_to None run) (opening run.image)
 

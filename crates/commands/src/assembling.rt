@@ -5,17 +5,22 @@ ghost use Rattle.assembler.specs.Left.{IsStoppedAt};
 ghost use Rattle.assembler.specs.Standing.{standing_of};
 ghost use Rattle.image.specs.Grammar.{spelling};
 ghost use Rattle.symbols.specs.Symbols.{table_text};
-ghost use Rattle.commands.specs.Assembling.{Assembles, FailsToAssemble, FailsToWrite, IsAsmFault};
+ghost use Rattle.commands.specs.Assembling.{AreFurther, Assembles, FailsToAssemble, FailsToWrite, IsAsmFault};
 ghost use Rattle.commands.specs.Assembling.{columns, indent_of, seen_labels, table_file};
 ghost use Rattle.commands.specs.Files.{Gains, IsUnwritten, bytes_of, whole};
 
 use crate::fault::ProgramFault;
+use crate::faulty_text::FaultyText;
 use crate::files::{Folder, read_text, write_bytes, write_image};
-use assembler::{Assembly, Stopped, assemble_or_stop};
-use fault_details::detail;
+use assembler::{AsmFault, Assembly, FurtherFaults, Stopped, assemble_or_stop, further_faults};
+use fault_details::{detail, line_at};
+use hints::hint;
 use itoa::Buffer;
 use std::alloc::Global;
 use symbols::table_text;
+
+/// How many further faults are told one by one.
+const MOST_FURTHER: usize = 20;
 
 /// How many columns bytes in UTF-8 take: one for each that begins a character.
 fn columns(bytes: &[u8]) -> usize
@@ -38,18 +43,67 @@ fn indent_of(name: &str, number: u64) -> usize
     columns(name.as_bytes()) + buffer.format(number).len() + 5
 }
 
-/// The fault of a text, with what was read of its line; where there is no memory for that, without it.
-fn faulty_text<'a>(alloc: Global, name: &'a str, text: &[u8], stopped: &Stopped) -> ProgramFault<'a>
+/// The further faults of a text whose first faulty line is `first`; none where there is no memory for them, and after A10.
+fn further_of(alloc: Global, text: &[u8], first: u64) -> FurtherFaults
+    ensures { AreFurther text.now first result }
+{
+    if first > 0 {
+        if let Ok(further) = further_faults(alloc, text, first, MOST_FURTHER) {
+            return further;
+        }
+    }
+    FurtherFaults {
+        shown: Vec::new(alloc),
+        left: 0,
+    }
+}
+
+/// What the author of a line probably meant; nothing where that isn't known, or where there is no memory for it.
+fn hint_of(alloc: Global, text: &[u8], fault: AsmFault) -> Vec<u8> {
+    match hint(alloc, text, line_at(fault.line, text)) {
+        Ok(hint) => hint,
+        Err(_) => Vec::new(alloc),
+    }
+}
+
+/// The same of several lines, in their order.
+fn hints_of(alloc: Global, text: &[u8], faults: &[AsmFault]) -> Vec<Vec<u8>> {
+    let mut hints = Vec::new(alloc);
+    for fault in faults {
+        if hints.push(hint_of(alloc, text, *fault)).is_err() {
+            return hints;
+        }
+    }
+    hints
+}
+
+/// The fault of a text, with what was read of its line and what is wrong with later lines; without what there is no memory for.
+pub(crate) fn faulty_text<'a>(
+    alloc: Global,
+    name: &'a str,
+    text: &[u8],
+    stopped: &Stopped,
+) -> ProgramFault<'a>
     requires { IsStoppedAt (standing_of text.now) stopped.now }
     ensures { IsAsmFault name.entry.now text.now stopped.now.fault result }
 {
     let fault = stopped.fault;
     let indent = indent_of(name, fault.line);
+    let further = further_of(alloc, text, fault.line);
     let read = match detail(alloc, text, stopped, indent) {
         Ok(read) => read,
         Err(_) => Vec::new(alloc),
     };
-    ProgramFault::Asm(name, fault, read)
+    let hint = hint_of(alloc, text, fault);
+    let hints = hints_of(alloc, text, &further.shown);
+    ProgramFault::Asm(FaultyText {
+        name,
+        fault,
+        read,
+        hint,
+        further,
+        hints,
+    })
 }
 
 /// Writes the labels of a text to the file of this name.

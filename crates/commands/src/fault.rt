@@ -4,7 +4,7 @@ ghost use Rattle.std.specs.Prelude.{◌≡◌};
 ghost use Rattle.commands.specs.Files.{IsOpening, IsReading};
 ghost use Rattle.commands.specs.declared.fault.ProgramFault.TheVariants as program;
 
-use assembler::{AsmCode, AsmFault};
+use crate::faulty_text::FaultyText;
 use image::{DeviceFailed, ImageFault};
 use machine::MachineFault;
 use policy_text::PolicyCode;
@@ -59,9 +59,9 @@ pub enum ProgramFault<'a> {
     /// There is no image.
     #[error("{}", image_text(.0))]
     Image(ImageFault),
-    /// A text is not assembled: its file, the first faulty line and its first fault, and what was read there, if that says more.
-    #[error("line {}: {}\n  {}:{}{}{}", .1.line, asm_text(.1.code), .0, .1.line, colon_before(.2), text_of(.2))]
-    Asm(&'a str, AsmFault, Vec<u8>),
+    /// A text is not assembled.
+    #[error("{0}")]
+    Asm(FaultyText<'a>),
     /// No machine could be made.
     #[error("{}", machine_text(.0))]
     Machine(MachineFault),
@@ -144,23 +144,6 @@ fn image_text(fault: &ImageFault) -> &'static str {
     }
 }
 
-/// The code and the words of a fault of a text.
-fn asm_text(code: AsmCode) -> &'static str {
-    match code {
-        AsmCode::A1 => "A1 unknown mnemonic",
-        AsmCode::A2 => "A2 operands",
-        AsmCode::A3 => "A3 immediate out of range",
-        AsmCode::A4 => "A4 label twice",
-        AsmCode::A5 => "A5 label unknown",
-        AsmCode::A6 => "A6 target out of range",
-        AsmCode::A7 => "A7 place",
-        AsmCode::A8 => "A8 byte not ASCII",
-        AsmCode::A9 => "A9 line too long",
-        AsmCode::A10 => "A10 no memory",
-        AsmCode::A11 => "A11 capability not exact",
-    }
-}
-
 /// The code and the words of a fault of a policy.
 fn policy_text(code: &PolicyCode) -> &'static str {
     match code {
@@ -173,16 +156,6 @@ fn policy_text(code: &PolicyCode) -> &'static str {
         PolicyCode::P7 => "P7 part twice",
         PolicyCode::P8 => "P8 part malformed",
     }
-}
-
-/// What stands between the words of a fault and what was read: nothing where nothing was.
-fn colon_before(read: &[u8]) -> &'static str {
-    if read.is_empty() { "" } else { ": " }
-}
-
-/// What was read, which is ASCII.
-fn text_of(read: &[u8]) -> &str {
-    str::from_utf8(read).unwrap_or("")
 }
 
 /// The code and the words of a fault of a machine.

@@ -3,7 +3,7 @@
 ghost use Rattle.std.specs.Prelude.{◌≡◌, ◌<◌, List, [], ◌∷◌, Option, None, IfOk, IfErr, IfNone, OnErr, OnOk, IfSome, length, take};
 ghost use Rattle.image.specs.Grammar.{spelling, reading};
 ghost use Rattle.symbols.specs.Symbols.{faulty_line, symbols_of};
-ghost use Rattle.commands.specs.Files.{File, begun, ended, whole, Gains, IsNew, IsImageFault, IsNamedTableFault, IsTable, IsTableFault};
+ghost use Rattle.commands.specs.Files.{File, begun, ended, whole, Gains, IsNew, IsImageFault, IsTable, IsTableFault, IsTextTableFault};
 ghost use Rattle.commands.specs.Files.{IsOpening, IsReading, IsTextFault, IsUnwritten, bytes_of};
 ghost use Rattle.commands.specs.Overwriting.{Sameness};
 
@@ -196,35 +196,28 @@ pub fn read_image<'a, F: Folder>(
     }
 }
 
-/// The table of symbols of a file.
-pub fn read_table<'a, F: Folder>(
-    alloc: Global,
-    folder: &F,
-    name: &'a str,
-) -> Result<Symbols, ProgramFault<'a>>
-    ensures correct { IfOk result (λ _. IfSome (bytes_of name.entry.now (F.files folder.now)) (λ text. faulty_line text ≡ None)) }
-    ensures symbols { IfOk result (λ table. IfSome (bytes_of name.entry.now (F.files folder.now)) (λ text. table ≡ symbols_of text)) }
-    ensures err { IfErr result (IsTableFault name.entry.now (F.files folder.now)) }
+/// The table of symbols that a text is, which belongs to the file of this name.
+pub fn table_in<'a>(alloc: Global, name: &'a str, text: &[u8]) -> Result<Symbols, ProgramFault<'a>>
+    ensures correct { IfOk result (λ _. faulty_line text.now ≡ None) }
+    ensures symbols { IfOk result (λ table. table ≡ symbols_of text.now) }
+    ensures err { IfErr result (IsTextTableFault name.entry.now text.now) }
 {
-    let text = read_text(alloc, folder, name)?;
-    match read_symbols(alloc, &text) {
+    match read_symbols(alloc, text) {
         Ok(table) => Ok(table),
         Err(SymbolsFault::Line(number)) => Err(ProgramFault::Symbols(name, number)),
         Err(SymbolsFault::Memory) => Err(ProgramFault::Memory),
     }
 }
 
-/// The labels of the file `symbols`, or none where no file is named.
-pub fn table_of<'a, F: Folder>(
+/// The table of symbols of a file.
+pub fn read_table<'a, F: Folder>(
     alloc: Global,
     folder: &F,
-    symbols: Option<&'a str>,
+    name: &'a str,
 ) -> Result<Symbols, ProgramFault<'a>>
-    ensures ok { IfOk result (λ table. IsTable symbols.entry (F.files folder.now) table) }
-    ensures err { IfErr result (IsNamedTableFault symbols.entry (F.files folder.now)) }
+    ensures ok { IfOk result (IsTable name.entry.now (F.files folder.now)) }
+    ensures err { IfErr result (IsTableFault name.entry.now (F.files folder.now)) }
 {
-    match symbols {
-        Some(name) => read_table(alloc, folder, name),
-        None => Ok(Symbols::new(alloc)),
-    }
+    let text = read_text(alloc, folder, name)?;
+    table_in(alloc, name, &text)
 }

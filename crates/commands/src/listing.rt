@@ -4,12 +4,13 @@ ghost use Rattle.std.specs.Prelude.{◌-◌, ◌^◌, ◌<◌, Some, IfOk, IfErr
 ghost use Rattle.std.specs.Option.{option_copied};
 ghost use Rattle.std.specs.Io.Buffered.{writer_contents};
 ghost use Rattle.std.specs.Io.KnownBytes.{Appends, Keeps};
-ghost use Rattle.commands.specs.Files.{bytes_of, IsUnsent, IsUnsentOrMemory};
+ghost use Rattle.commands.specs.Files.{IsUnsent, IsUnsentOrMemory};
 ghost use Rattle.commands.specs.Listing.{FailsToList, ListsFile, listing_of};
 ghost use Rattle.image_listing.specs.Listing.{listing_by};
 
 use crate::fault::ProgramFault;
-use crate::files::{Folder, read_image, read_table};
+use crate::files::Folder;
+use crate::programs::read_program;
 use crate::writing::Writing;
 use image::{DeviceFailed, Image, Sink};
 use image_listing::{list, list_named, write_header};
@@ -84,8 +85,8 @@ fn list_to<'a, O: Write + Drop>(
     }
 }
 
-/// Lists the image of a file on `output`, a block of lines at a time, with the labels of the file `symbols` if one is named, after the
-/// image's header and capabilities if `header`; and hands the output back.
+/// Lists the program of a file on `output`, a block of lines at a time, with the labels of the file `symbols` if one is named or else of
+/// the text if it is one, after the image's header and capabilities if `header`; and hands the output back.
 pub fn list_file<'a, F: Folder, O: Write + Drop>(
     alloc: Global,
     folder: &F,
@@ -94,18 +95,18 @@ pub fn list_file<'a, F: Folder, O: Write + Drop>(
     header: bool,
     output: O,
 ) -> Result<O, ProgramFault<'a>>
-    ensures ok { IfOk result (λ out. IfSome (bytes_of name.entry.now (F.files folder.now)) (λ bytes.
-        ListsFile header (F.files folder.now) bytes symbols.entry (O.contents output) (O.contents out))) }
+    ensures ok { IfOk result (λ out.
+        ListsFile header (F.files folder.now) name.entry.now symbols.entry (O.contents output) (O.contents out)) }
     ensures err { IfErr result (FailsToList name.entry.now symbols.entry (F.files folder.now)) }
 {
-    let image = read_image(alloc, folder, name)?;
-    match symbols {
-        Some(table) => {
-            let table = read_table(alloc, folder, table)?;
-            list_to(alloc, &image, Some(&table), header, output)
-        }
-        None => list_to(alloc, &image, None, header, output),
-    }
+    let program = read_program(alloc, folder, name, symbols)?;
+    list_to(
+        alloc,
+        &program.image,
+        program.labels.as_ref(),
+        header,
+        output,
+    )
 }
 
 /// The fault of a listing that was cut short. What is left of its block is let go: written when the writer is dropped it would stand

@@ -10,9 +10,8 @@ ghost use Rattle.commands.specs.Loading.{AreNumbered, AreRules, IsLoaded, IsPoli
 ghost use Rattle.commands.specs.Watching.{IsPolicyFault, IsPolicyTextFault};
 
 use crate::fault::ProgramFault;
-use crate::files::{
-    Folder, MOST_TEXT, read_at_most, read_beginning, read_image, read_text, table_of,
-};
+use crate::files::{Folder, MOST_TEXT, read_at_most, read_beginning, read_text};
+use crate::programs::{Program, read_program, table_of};
 use command_line::RunRequest;
 use image::Image;
 use policy_text::{Policy, PolicyTextFault, read_policy};
@@ -127,7 +126,7 @@ fn typed<'a, F: Folder>(
     }
 }
 
-/// Reads the files of a run: its image, then its labels, its policy, and of what is typed as much as its schedule has room for.
+/// Reads the files of a run: its image or the text that is assembled into it, then its labels, its policy, and of what is typed as much as its schedule has room for.
 pub fn load<'a, F: Folder>(
     alloc: Global,
     folder: &F,
@@ -138,8 +137,8 @@ pub fn load<'a, F: Folder>(
     ensures ready { IfOk result IsReady }
 {
     let schedule = schedule_of(request);
-    let image = read_image(alloc, folder, request.image)?;
-    let table = table_of(alloc, folder, request.symbols)?;
+    let Program { image, labels } = read_program(alloc, folder, request.image, request.symbols)?;
+    let table = table_of(alloc, labels);
     let rules = rules_of(alloc, folder, request.policy, &table)?;
     let input = typed(alloc, folder, schedule, request.input)?;
     Ok(LoadedRun {

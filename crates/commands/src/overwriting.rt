@@ -47,7 +47,9 @@ pub fn overwrites<F: Folder>(folder: &F, plan: Plan<'_>) -> bool
             text || labels || image
         }
         Plan::Image { flat, output, .. } => folder.is_same(output, flat),
-        Plan::Run { request, .. } | Plan::Audit(request) => traces_over(folder, request),
+        Plan::Go { request, .. } | Plan::Run { request, .. } | Plan::Audit(request) => {
+            traces_over(folder, request)
+        }
         _ => false,
     }
 }

@@ -81,7 +81,7 @@ fn stop_of<'a>(
     }
 }
 
-/// Runs an image, watched by a policy: it ends before the first step at which a reachable capability breaks a rule about the code there.
+/// Runs an image, watched by a policy: it ends before the first step at which a reachable capability breaks a rule that applies there.
 /// Hands the output back.
 fn run_watched<'a, F: Folder, O: Write + Drop>(
     alloc: Global,

@@ -5,7 +5,7 @@ use Rattle.std.specs.Io.KnownBytes.{Appends}
 use Rattle.bounds_text.specs.WordText.{word_of_halves}
 use Rattle.command_line.specs.CommandLine.{IsPlanOf, IsSound, IsTaken, NoPlanFits, found_in}
 use Rattle.command_line.specs.declared.plans.Plan.{Plan}
-use Rattle.command_line.specs.declared.plans.Plan.TheVariants.{Asm, Image, Run, Audit, Dis, Debug, Bounds, Word, First}
+use Rattle.command_line.specs.declared.plans.Plan.TheVariants.{Asm, Image, Go, Run, Audit, Dis, Debug, Bounds, Word, First}
 use Rattle.sim_run.specs.Verdict.{status_of}
 use Rattle.program.specs.declared.carrying.Done.{Done}
 use Rattle.program.specs.declared.carrying.Done.TheVariants as done
@@ -36,16 +36,16 @@ HasStatus (Asm input output symbols quiet) typed change status =
 HasStatus (Image flat output layout quiet) typed change status =
     (status ≡ 0) × (change.out ≡ change.sent)
     × IfSome (bytes_of flat.now change.old) (λ bytes. MakesImage layout output.now bytes change.old change.new)
+HasStatus (Go request why) typed change status =
+    (ended : Ended) × (status ≡ status_of ended.end) × RunsFile request (stop_at why) ended change
 HasStatus (Run request why) typed change status =
     (ended : Ended) × (status ≡ status_of ended.end) × RunsFile request (stop_at why) ended change
 HasStatus (Audit request) typed change status =
     (count : ℕ) × (status ≡ (if count == 0 then 0 else 1)) × AuditsRun request count change
 HasStatus (Dis image symbols header quiet) typed change status =
-    (status ≡ 0) × IfSome (bytes_of image.now change.old) (λ bytes. ListsFile header change.old bytes symbols change.sent change.out)
+    (status ≡ 0) × ListsFile header change.old image.now symbols change.sent change.out
 HasStatus (Debug image symbols input gap tick quiet) typed change status =
-    (status ≡ 0)
-    × IfSome (bytes_of image.now change.old)
-    (λ bytes. DebugsFile change.old bytes symbols input gap tick typed change.sent change.out)
+    (status ≡ 0) × DebugsFile change.old image.now symbols input gap tick typed change.sent change.out
 HasStatus (Bounds base length address) typed change status =
     (status ≡ 0) × Appends change.sent change.out (bounds_answer base length address)
 HasStatus (Word high low memory) typed change status =

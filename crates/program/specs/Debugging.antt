@@ -1,16 +1,17 @@
 -- What `debug` writes of a file and what is typed.
-use Rattle.std.specs.Prelude.{◌≡◌, ℕ, ◌-◌, ◌^◌, Bool, ◌||◌, if◌then◌else◌, List, [], Option, Some, None, Ok, IfSome, is_some}
+use Rattle.std.specs.Prelude.{◌≡◌, ℕ, ◌-◌, ◌^◌, Bool, ◌||◌, if◌then◌else◌, List, [], Option, Some, None, IfSome, is_some}
 use Rattle.std.specs.Borrow.{Bor}
 use Rattle.std.specs.Io.KnownBytes.{Appends}
 use Rattle.std.specs.Option.{unwrap_or}
 use Rattle.debugger.specs.Conversation.{conversation}
 use Rattle.debugger.specs.SessionState.{session_of_image}
 use Rattle.debugger.specs.Talk.{heard}
-use Rattle.image.specs.Grammar.{reading}
 use Rattle.image.specs.Image.{Image}
 use Rattle.schedules.specs.declared.schedule.Schedule.{Schedule}
+use Rattle.symbols.specs.Labels.{table_of}
 use Rattle.symbols.specs.Symbols.{Symbol}
-use Rattle.commands.specs.Files.{Text, File, IsTable, bytes_of}
+use Rattle.commands.specs.Files.{Text, File, bytes_of}
+use Rattle.commands.specs.Programs.{IsProgram}
 
 -- The schedule of a session, where a file of input, a gap or a tick is asked for; what isn't is as of `run`. It ends where its steps can't
 -- be counted any more.
@@ -24,12 +25,12 @@ abbrev pub AreKeys : Option (Bor Text) → Option (List File) → List ℕ → T
 AreKeys None files keys = keys ≡ []
 AreKeys (Some name) files keys = IfSome (bytes_of name.now files) (λ bytes. keys ≡ bytes)
 
--- The bytes are an image, and an output grows by the conversation over what is typed with the image, these labels, and the schedule that
--- is asked for with these bytes on its console.
-abbrev pub DebugsFile : Option (List File) → List ℕ → Option (Bor Text) → Option (Bor Text) → Option ℕ → Option ℕ → Option (List ℕ)
+-- An output grows by the conversation over what is typed with a file's program, and the schedule that is asked for with these bytes on
+-- its console.
+abbrev pub DebugsFile : Option (List File) → Text → Option (Bor Text) → Option (Bor Text) → Option ℕ → Option ℕ → Option (List ℕ)
     → Option (List ℕ) → Option (List ℕ) → Type 0
-DebugsFile files bytes symbols keys gap tick input old new =
-    (image : Image) × (table : List Symbol) × (typed : List ℕ) × (reading bytes ≡ Ok image) × IsTable symbols files table
+DebugsFile files name symbols keys gap tick input old new =
+    (image : Image) × (labels : Option (List Symbol)) × (typed : List ℕ) × IsProgram name symbols files image labels
     × AreKeys keys files typed
     × IfSome input (λ lines. Appends old new
-    (conversation (heard lines) (session_of_image image table (schedule_asked (is_some keys) gap tick) typed)))
+    (conversation (heard lines) (session_of_image image (table_of labels) (schedule_asked (is_some keys) gap tick) typed)))

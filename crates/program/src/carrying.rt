@@ -90,7 +90,9 @@ fn is_quiet(plan: Plan<'_>) -> bool {
         | Plan::Image { quiet, .. }
         | Plan::Dis { quiet, .. }
         | Plan::Debug { quiet, .. } => quiet,
-        Plan::Run { request, .. } | Plan::Audit(request) => request.quiet,
+        Plan::Go { request, .. } | Plan::Run { request, .. } | Plan::Audit(request) => {
+            request.quiet
+        }
         Plan::Bounds { .. } | Plan::Word { .. } | Plan::First => false,
     }
 }
@@ -128,6 +130,10 @@ fn carry_out<'a, F: Folder, I: Read + Drop, O: Write + Drop>(
     match plan {
         Plan::First => {
             let (ended, output) = run_first(alloc, output)?;
+            Ok((Done::Run(ended), output))
+        }
+        Plan::Go { request, why } => {
+            let (ended, output) = run_file(alloc, folder, request, stop_at(why), output)?;
             Ok((Done::Run(ended), output))
         }
         Plan::Run { request, why } => {

@@ -6,9 +6,10 @@ ghost use Rattle.debugger.specs.Conversation.{conversation};
 ghost use Rattle.debugger.specs.SessionState.{session_of_image};
 ghost use Rattle.debugger.specs.Talk.{heard};
 ghost use Rattle.program.specs.Debugging.{AreKeys, DebugsFile, schedule_asked};
-ghost use Rattle.commands.specs.Files.{bytes_of};
 
-use commands::{Folder, ProgramFault, ProgramMachine, Writing, read_image, read_text, table_of};
+use commands::{
+    Folder, Program, ProgramFault, ProgramMachine, Writing, read_program, read_text, table_of,
+};
 use debugger::{Session, TalkFault, talk};
 use image::{DeviceFailed, FromRead, Image};
 use machine::Machine;
@@ -98,8 +99,8 @@ fn debug_image<'a, I: Read + Drop, O: Write + Drop>(
     talk_with(&mut session, input, output)
 }
 
-/// Debugs the image of a file: commands from `input`, which may name the labels of the file `symbols` if there is one, replies to
-/// `output`, which is handed back.
+/// Debugs the program of a file: commands from `input`, which may name the labels of the file `symbols` if one is named or else of the
+/// text if it is one, replies to `output`, which is handed back.
 ///
 /// Where a file `keys`, a gap or a tick is given, the session has the schedule of a run with these; what isn't given is as of `run`: no
 /// input, a gap of 1000, a tick of 100.
@@ -115,12 +116,11 @@ pub fn debug_file<'a, F: Folder, I: Read + Drop, O: Write + Drop>(
     output: O,
 ) -> Result<O, ProgramFault<'a>>
     requires { IfSome gap (λ gap. 1 ≤ gap) }
-    ensures { IfOk result (λ out. IfSome (bytes_of name.entry.now (F.files folder.now)) (λ bytes.
-        DebugsFile (F.files folder.now) bytes symbols.entry keys.entry gap tick (I.remaining input) (O.contents output)
-        (O.contents out))) }
+    ensures { IfOk result (λ out. DebugsFile (F.files folder.now) name.entry.now symbols.entry keys.entry gap tick
+        (I.remaining input) (O.contents output) (O.contents out)) }
 {
-    let image = read_image(alloc, folder, name)?;
-    let table = table_of(alloc, folder, symbols)?;
+    let Program { image, labels } = read_program(alloc, folder, name, symbols)?;
+    let table = table_of(alloc, labels);
     let schedule = schedule_asked(keys.is_some(), gap, tick);
     let typed = keys_of(alloc, folder, keys)?;
     debug_image(alloc, image, table, schedule, typed, input, output)

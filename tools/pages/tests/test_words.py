@@ -3,7 +3,7 @@
 import unittest
 
 from pages.made import by_hand, filled
-from pages.words import MOST_IN_A_CELL, count, long_cells, old_figures
+from pages.words import MOST_IN_A_CELL, count, long_cells, long_choices, old_figures
 
 PAGE = "One two.\n\n<!-- made by a.py: that -->\n\nthree\n\n<!-- end -->\n\n| four | -- |\n"
 
@@ -30,6 +30,10 @@ class Limits(unittest.TestCase):
 
     def test_a_bar_in_code_ends_no_cell(self):
         self.assertEqual(len(list(long_cells("| " + "x \\| " * (MOST_IN_A_CELL + 1) + " |\n"))), 1)
+
+    def test_a_choice_has_two_sentences_and_no_more(self):
+        self.assertEqual(list(long_choices("- One, as `a.b`. Two.\nOne. Two. Three.\n")), [])
+        self.assertEqual(list(long_choices("- One. Two. Three.\n")), [("One. Two. Three.", 3)])
 
     def test_figures_have_a_date_in_their_section_or_above_all(self):
         page = "# A\n{}\n## B\nIt takes 3 seconds.{}\n## C\nNo figure.\n"

@@ -23,7 +23,10 @@ unreachable-requires c =
                   sym c.eq-else-eq-6.ensures ∙ c.if-eq-7.false,
                   (
                     sym c.eq-else-eq-7.ensures ∙ c.if-eq-8.false,
-                    tt,
+                    (
+                      sym c.eq-else-eq-8.ensures ∙ c.if-eq-9.false,
+                      tt,
+                    ),
                   ),
                 ),
               ),

@@ -1,18 +1,8 @@
-use Rattle.std.proofs.Common.{ℕ, List, refl, subst, sym}
+use Rattle.std.proofs.Common.{refl}
 use Rattle.std.proofs.lemmas.Result.{IfErr-weaker}
-use Rattle.assembler.specs.declared.fault.AsmFault.{AsmFault}
-use Rattle.assembler.specs.Left.{IsFaultOf}
-use Rattle.assembler.specs.Text.{text_fault}
-use Rattle.commands.specs.declared.fault.ProgramFault.{ProgramFault}
-use Rattle.commands.specs.declared.fault.ProgramFault.TheVariants.{Asm}
-use Rattle.commands.specs.Assembling.{IsAsmFault, IsFaultyText}
 use Rattle.commands.specs.Assembling.FailsToAssemble.{at_output, at_text}
+use Rattle.commands.proofs.Sources.{faulty}
 use Rattle.commands.proofs.assembling.assemble_file.Goals as goal
-
-faulty : (input text : List ℕ) (found : AsmFault) (fault : ProgramFault) → IsFaultOf (text_fault text) found
-    → IsAsmFault input text found fault → IsFaultyText input text fault
-faulty input text found (Asm name fault read) is told = (told.0, subst (IsFaultOf (text_fault text)) (sym told.1) is, told.2)
-faulty input text found other is told = absurd told
 
 pub returns-in-Ok-clause-err : goal.returns-in-Ok-clause-err
 returns-in-Ok-clause-err g c =

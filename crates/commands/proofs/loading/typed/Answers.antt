@@ -1,6 +1,6 @@
 use Rattle.std.proofs.lemmas.Result.{IfOk-weaker}
 use Rattle.commands.specs.Files.{bytes_of}
-use Rattle.commands.proofs.Typed.{typed-all, typed-take}
+use Rattle.commands.proofs.Typed.{typed-take}
 use Rattle.commands.proofs.loading.typed.Goals as goal
 
 pub returns-in-Some : goal.returns-in-Some

@@ -3,10 +3,15 @@ use Rattle.command_line.specs.CommandLine.{IsSound}
 use Rattle.program.proofs.Gap.{gap_of}
 use Rattle.program.proofs.carrying.carry_out.Goals as goal
 
+pub returns-in_ok-ended-in-Go : goal.returns-in_ok-ended-in-Go
+returns-in_ok-ended-in-Go g c =
+    let run = c.in_ok-ended-in-Go in
+    rw c.in-Go.is (run.ended, refl, (rw c.stop_at.ensures at run.ensures))
+
 pub returns-in_ok-ended-in-Run : goal.returns-in_ok-ended-in-Run
 returns-in_ok-ended-in-Run g c =
     let run = c.in_ok-ended-in-Run in
-    rw c.in-Run.is (run.ended, refl, (rw c.stop_at.ensures at run.ensures))
+    rw c.in-Run.is (run.ended, refl, (rw c.stop_at-in-Run.ensures at run.ensures))
 
 pub returns-in_ok-count-in-Audit : goal.returns-in_ok-count-in-Audit
 returns-in_ok-count-in-Audit g c =
