@@ -24,6 +24,7 @@ def ends():
     yield "# done: status 0"
     yield case("", [], 0, sent=b"A")
     yield case("--version", [], 0, sent=b"cherisim 0.1.0\n")
+    yield case("-V", [], 0, sent=b"cherisim 0.1.0\n")
     yield case("asm a.s a.img", [TEXT], 0, "open a.s, make a.img", made=FIRST)
     yield case("run first.img 5", [FILE], 0, "open first.img", b"A")
     yield case("run first.img 100000000", [FILE], 0, "open first.img", b"A")

@@ -65,7 +65,7 @@ FILES = [
     File("listings", command_lines.listing, 42),
     File("worlds", programs.worlds, 14),
     File("schedules", schedules.schedule, 211, piece=8),
-    File("commands", commands.command, 564, piece=20),
+    File("commands", commands.command, 565, piece=20),
     File("policies", commands.command, 246, piece=20),
     File("callers", commands.command, 78, piece=20),
     File("audits", commands.command, 63, piece=20),

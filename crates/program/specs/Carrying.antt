@@ -1,6 +1,6 @@
 -- The status of a command line that was carried out, and what then holds of its files.
 use Rattle.std.specs.Prelude.{◌≡◌, ◌==◌, ℕ, List, Option, None, IfSome, Bool, true, false, bytes_eq, codes, [], ◌∷◌}
-use Rattle.std.specs.Prelude.{if◌then◌else◌}
+use Rattle.std.specs.Prelude.{if◌then◌else◌, ◌||◌}
 use Rattle.std.specs.Io.KnownBytes.{Appends}
 use Rattle.bounds_text.specs.WordText.{word_of_halves}
 use Rattle.command_line.specs.CommandLine.{IsPlanOf, IsSound, IsTaken, NoPlanFits, found_in}
@@ -53,9 +53,9 @@ HasStatus (Word high low memory) typed change status =
 HasStatus First typed change status =
     (ended : Ended) × (status ≡ status_of ended.end) × Runs first_run None false ended change.sent change.out
 
--- the program's name, and --version alone
+-- the program's name, and --version or -V alone
 abbrev pub asks_version : List Text → Bool
-asks_version (name ∷ word ∷ []) = bytes_eq word (codes "--version")
+asks_version (name ∷ word ∷ []) = bytes_eq word (codes "--version") || bytes_eq word (codes "-V")
 asks_version words = false
 
 abbrev pub version_line : List ℕ

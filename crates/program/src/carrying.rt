@@ -29,7 +29,7 @@ pub const FAULT: u8 = 3;
 /// What is told of a command that would write a file over another of its own.
 const SAME_FILE: &str = "error: a file that is written cannot be another file of the command\n";
 
-/// What `--version` writes.
+/// What `--version` and `-V` write.
 const VERSION: &str = "cherisim 0.1.0\n";
 
 /// What became of a command that was carried out.
@@ -275,7 +275,7 @@ fn carry_apart<'a, F: Folder, I: Read + Drop, O: Write + Drop, E: Write>(
 fn asks_version(words: &[&str]) -> bool
     ensures { result ≡ asks_version (map (λ word. word.now) words.entry.now) }
 {
-    words.len() == 2 && words[1] == "--version"
+    words.len() == 2 && (words[1] == "--version" || words[1] == "-V")
 }
 
 /// Writes a text that was asked for, and answers this status where it could be written.
