@@ -1,6 +1,6 @@
 -- The command line: the command that clap reads the words by, and what a plan says of clap's matches. Both go by the lines of the table.
-use Rattle.std.specs.Prelude.{◌≡◌, ◌≤◌, ◌*◌, ◌^◌, ◌==◌, ℕ, Bool, not, ◌&&◌, ◌||◌, if◌then◌else◌, IsTrue, List, [], ◌∷◌, ◌++◌, map, length, drop}
-use Rattle.std.specs.Prelude.{Option, Some, None, true, false, bytes_eq, codes, option_map, option_and_then, is_some, ⊤}
+use Rattle.std.specs.Prelude.{◌≡◌, ◌≤◌, ◌*◌, ◌^◌, ◌==◌, ℕ, Bool, not, ◌&&◌, ◌||◌, if◌then◌else◌, IsTrue, List, [], ◌∷◌, ◌++◌}
+use Rattle.std.specs.Prelude.{map, length, drop, Option, Some, None, true, false, bytes_eq, codes, option_map, option_and_then, is_some, ⊤}
 use Rattle.std.specs.Prelude.{IsSome, IsSomeAnd, IfSome, nat_lt, nat_le}
 use Rattle.std.specs.List.{AllByRecursion, AllZip, list_all, starts_with}
 use Rattle.std.specs.Borrow.{Bor}

@@ -35,8 +35,8 @@ GivesLabels true name None files labels =
     IsSomeAnd labels (λ labels. IfSome (bytes_of name files) (λ text. labels ≡ symbols_of (own_table text)))
 GivesLabels false name None files labels = labels ≡ None
 
-pub record IsProgram (name : Text) (symbols : Option (Bor Text)) (files : Option (List File)) (image : Image) (labels : Option (List Symbol))
-    : Type 0 where
+pub record IsProgram (name : Text) (symbols : Option (Bor Text)) (files : Option (List File)) (image : Image)
+    (labels : Option (List Symbol)) : Type 0 where
   pub held : GivesImage name files image
   pub known : GivesLabels (is_source name) name symbols files labels
 

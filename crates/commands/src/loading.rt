@@ -126,7 +126,8 @@ fn typed<'a, F: Folder>(
     }
 }
 
-/// Reads the files of a run: its image or the text that is assembled into it, then its labels, its policy, and of what is typed as much as its schedule has room for.
+/// Reads the files of a run: its image or the text that is assembled into it, then its labels, its policy, and of what is typed as
+/// much as its schedule has room for.
 pub fn load<'a, F: Folder>(
     alloc: Global,
     folder: &F,
