@@ -35,7 +35,9 @@ hart 700
 policy 190
 hints 120
 always 40
-command_line 139
+command_line 270
+every_run 137
+every_run_texts 90
 explain 136
 policy_runs 110
 past 84

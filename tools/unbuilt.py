@@ -23,6 +23,9 @@ TOP = os.path.join(os.path.dirname(os.path.abspath(__file__)), "..")
 # A command in the README's list of all of them, before its comment.
 LISTED = re.compile(r"    (\./cherisim\b[^#\n]*)")
 
+# The command whose usage is shown; of the program's that is empty.
+USED = re.compile(rb"^Usage: cherisim ([a-z]*)", re.MULTILINE)
+
 # What a command line may also look like.
 OTHERS = ("./cherisim asm --symbols=labels.sym examples/list.s list.img", "./cherisim dis --symbols=labels.sym -- list.img",
           "./cherisim dis --header list.img", "./cherisim run --trace=steps.trace --quiet list.img 30", "./cherisim run --why list.img 30",
@@ -75,10 +78,11 @@ def did(command, folder, path):
 
 
 def told(command, folder, path):
-    """What a command that is a mistake ends with: its status, and the first line on standard error."""
+    """What a command that is a mistake ends with: its status, the first line on standard error, and the command whose usage follows."""
     ran = subprocess.run(["bash", "-c", command], cwd=folder, env={"PATH": path, "HOME": folder, "LANG": "C.UTF-8"}, timeout=SECONDS,
                          stdin=subprocess.DEVNULL, capture_output=True, check=False)
-    return ran.returncode, ran.stderr.split(b"\n")[0]
+    used = USED.search(ran.stderr)
+    return ran.returncode, ran.stderr.split(b"\n")[0], used and used[1]
 
 
 def copied(folder):
@@ -130,7 +134,7 @@ def main():
         os.symlink(shutil.which("bash"), os.path.join(nothing, "bash"))
         for name in ("dirname", "env"):
             os.symlink(shutil.which(name), os.path.join(nothing, name))
-        right += [is_same(it, told(it, built, path), told(it, unbuilt, nothing), ("status", "first line")) for it in MISTAKES]
+        right += [is_same(it, told(it, built, path), told(it, unbuilt, nothing), ("status", "first line", "usage")) for it in MISTAKES]
         left = files_of(own)
         if left:
             print(f"made where `rt try` runs the program: {', '.join(left)}")

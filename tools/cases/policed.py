@@ -4,7 +4,7 @@ are refused.
 What is told of a run is what the model of a machine meets (model/machine.py, cases/watched.py); a text's fault is that of the grammar.
 """
 
-from cases.program_lines import BAD, FILE, TRACE, case, refused, table
+from cases.program_lines import BAD, FILE, NO_IMAGE, TRACE, case, refused, table
 from cases.quoting import quoted
 from cases.watched import GAP, TICK, ran
 from model import policy
@@ -417,7 +417,7 @@ def files_and_words():
                told="cherisim: file d\n  Is a directory\n")
     yield case("run first.img 5 --policy p", [FILE, 'p 0 "A = 0..1"'], 3, "open first.img, open p",
                told="cherisim: read failed\n  p: Broken pipe\n")
-    yield case("run bad.img 5 --policy none", [BAD], 3, "open bad.img", told="cherisim: L1 short header\n  bad.img\n")
+    yield case("run bad.img 5 --policy none", [BAD], 3, "open bad.img", told=NO_IMAGE)
     yield case("run first.img 5 --policy p --symbols none", [FILE, 'p "x"'], 3, "open first.img, open none", told=none)
     yield case("run first.img 5 --policy p --symbols t", [FILE, 'p "x"', 't "x"'], 3, "open first.img, open t",
                told="cherisim: line 1: no address and label\n  t:1\n")

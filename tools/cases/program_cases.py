@@ -6,7 +6,7 @@ The statuses, the order of faults and the texts are those of the program's descr
 import re
 
 from cases.bounds_texts import length_text, text as bounds_text, word_text
-from cases.program_lines import BAD, FILE, LISTED, REPLY, TEXT, case, file_of, joined, refused
+from cases.program_lines import BAD, FILE, LISTED, NO_IMAGE, REPLY, TEXT, case, file_of, joined, refused
 from cases.program_runs import ended_otherwise, ends, labelled_runs, not_begun, runs_without_table, traces
 from cases.program_sessions import debugged, reached, replayed, tables_refused
 from cases.program_sources import sources
@@ -144,6 +144,21 @@ def images():
                told="cherisim: L6 section outside RAM\n  flat\n")
     yield case("image flat out.img --pages 1", [f"flat 4096 {quoted(large)}"], 3, "open flat",
                told="cherisim: read failed\n  flat: Broken pipe\n")
+    yield "# an ELF is refused before the layout is looked at, unless its bytes are to be taken as they stand"
+    elf = b"\x7fELF\x02\x01\x01" + bytes(13)
+    told = ("cherisim: ELF, not flat bytes\n  elf\n"
+            "  hint: make flat bytes of it by objcopy -O binary (docs/COMPILED.md); --flat-elf takes its bytes as they stand\n")
+    for options in ("", " --at 0", " --pages 65537", " --mode 2 --entry 2"):
+        yield case(f"image elf out.img{options}", [f"elf {quoted(elf)}"], 3, "open elf", told=told)
+    yield case("image elf out.img", [f"elf {quoted(elf[:4])}"], 3, "open elf", told=told)
+    yield case("image elf out.img --quiet", [f"elf {quoted(elf)}"], 3, "open elf", told="cherisim: ELF, not flat bytes\n")
+    yield case("image elf out.img --flat-elf", [f"elf {quoted(elf)}"], 0, "open elf, make out.img", made=flat_image(elf))
+    yield case("image elf out.img --flat-elf --mode 2", [f"elf {quoted(elf)}"], 3, "open elf",
+               told="cherisim: L4 pages, entry or mode\n  elf\n")
+    yield case("image elf out.img --pages 0", [f"elf {quoted(elf)}"], 3, "open elf", told="cherisim: L4 pages, entry or mode\n  elf\n")
+    yield case("image elf out.img", [f"elf {quoted(elf[:3])}"], 0, "open elf, make out.img", made=flat_image(elf[:3]))
+    yield case("image elf out.img", [f"elf {quoted(elf[1:])}"], 0, "open elf, make out.img", made=flat_image(elf[1:]))
+    yield case("image flat out.img --flat-elf", [file], 0, opened, made=flat_image(flat))
     yield case("image none out.img", [file], 3, "open none", told="cherisim: file none\n  No such file or directory\n")
     yield case("image flat out.img", [file, "made 3"], 3, opened,
                told="cherisim: L10 device failed\n  out.img: the file is cut short\n", made=flat_image(flat)[:3])
@@ -210,7 +225,7 @@ def named():
                told="cherisim: line 2: no address and label\n  t:2\n")
     yield case("dis first.img --symbols none", [FILE], 3, "open first.img, open none",
                told="cherisim: file none\n  No such file or directory\n")
-    yield case("dis bad.img --symbols none", [BAD], 3, "open bad.img", told="cherisim: L1 short header\n  bad.img\n")
+    yield case("dis bad.img --symbols none", [BAD], 3, "open bad.img", told=NO_IMAGE)
     yield from debugged(table)
     yield from replayed()
     yield from reached()
@@ -313,7 +328,7 @@ def headed():
     yield case("dis --header first.img --symbols t", [FILE, 't "000000008000000C halt\\n"'], 0, "open first.img, open t",
                "".join([front, *lines[:3], "halt:\n", *lines[3:]]))
     yield "# nothing is sent of a file that is no image, nor where a table is refused; and an output may fail among these lines"
-    yield case("dis bad.img --header", [BAD], 3, "open bad.img", told="cherisim: L1 short header\n  bad.img\n")
+    yield case("dis bad.img --header", [BAD], 3, "open bad.img", told=NO_IMAGE)
     yield case("dis first.img --header --symbols t", [FILE, 't "halt"'], 3, "open first.img, open t",
                told="cherisim: line 1: no address and label\n  t:1\n")
     yield from (case("dis first.img --header", [FILE, f"output {call}"], 3, "open first.img", (front + LISTED)[:call],
@@ -325,7 +340,7 @@ def faults():
     for command in ("asm none out.img", "run none 5", "dis none", "debug none"):
         yield case(command, [FILE], 3, "open none", told="cherisim: file none\n  No such file or directory\n")
     for command in ("run bad.img 5", "dis bad.img", "debug bad.img"):
-        yield case(command, [BAD], 3, "open bad.img", told="cherisim: L1 short header\n  bad.img\n")
+        yield case(command, [BAD], 3, "open bad.img", told=NO_IMAGE)
     yield case("asm a.s out.img", ['a.s "nop\\nfrob a0\\n"'], 3, "open a.s", told=underlined(NO_MNEMONIC, ["nop", "«frob» a0"], ""))
     yield case("asm a.s out.img", [TEXT, "full"], 3, "open a.s, make out.img", told="cherisim: file out.img\n  No such file or directory\n")
     yield case("run first.img 5 --input none", [FILE], 3, "open first.img, open none",
@@ -334,7 +349,7 @@ def faults():
     yield refused("run none 0 --input none", [])
     yield refused("asm none", [])
     yield case("run none 5 --input nowhere", [], 3, "open none", told="cherisim: file none\n  No such file or directory\n")
-    yield case("run bad.img 5 --input none", [BAD], 3, "open bad.img", told="cherisim: L1 short header\n  bad.img\n")
+    yield case("run bad.img 5 --input none", [BAD], 3, "open bad.img", told=NO_IMAGE)
     yield case("asm none out.img", ["full"], 3, "open none", told="cherisim: file none\n  No such file or directory\n")
     yield case("asm a.s out.img", ['a.s "frob\\nnop\\n"', "full"], 3, "open a.s",
                told=underlined(NO_MNEMONIC, ["«frob»"], ""))
@@ -377,6 +392,17 @@ def failing():
                      "cherisim: write failed\n") for call in (0, 1, len(REPLY) - 1))
     yield from (case("debug first.img", [FILE, f'input {call} "step 5\\nquit\\n"'], 3, "open first.img", sent, "cherisim: read failed\n")
                 for call, sent in ((0, ""), (6, ""), (7, REPLY), (11, REPLY)))
+    yield "# an output that nobody reads any more is no failure: nothing is told of it, and the status is that of the whole"
+    for words, parts, status, opened, sent, told in (
+            ("run first.img 5", [], 0, "open first.img", "A", ""), ("dis first.img", [], 0, "open first.img", LISTED, ""),
+            ("run first.img 4", [], 1, "open first.img", "A", "cherisim: not halted\ncherisim: steps 4, pcc 0000000080000010\n"),
+            ("debug first.img", ['input "step 5\\nquit\\n"'], 0, "open first.img", REPLY, ""),
+            ("bounds 4097", [], 0, "", joined(length_text(4097)), ""), ("", [], 0, "", "A", "")):
+        yield from (case(words, [FILE, *parts, f"closed {call}"], status, opened, sent[:call], told)
+                    for call in sorted({0, 1, len(sent) - 1}))
+    yield case("--version", ["closed 0"], 0)
+    yield case("--help", ["closed 0"], 2)
+    yield case("dis bad.img", [BAD, "closed 0"], 3, "open bad.img", told=NO_IMAGE)
     yield "# where nothing can be told, the status is the same"
     yield case("run first.img 4", [FILE, "errors 0"], 1, "open first.img", b"A")
     yield case("dis none", ["errors 9"], 3, "open none", told="cherisim:")

@@ -41,6 +41,10 @@ assert image(SENDS_A) == FIRST
 FILE = f'first.img {quoted(FIRST)}'
 TEXT = 'a.s "lui a1, 0x10000\\naddi a0, zero, 65\\nsb a0, 0(a1)\\nlui a1, 0x100\\nsd zero, 0(a1)\\n"'
 BAD = 'bad.img "CHERIIMH"'
+# What is said of a file that is no image: that it is a text, of printable bytes, tabs and ends of lines alone, or an ELF.
+TEXT_HINT = "  hint: this is a text: a file is assembled where its name ends in .s\n"
+ELF_HINT = "  hint: this is an ELF: make flat bytes of it by objcopy -O binary, and an image by cherisim image (docs/COMPILED.md)\n"
+NO_IMAGE = f"cherisim: L1 short header\n  bad.img\n{TEXT_HINT}"
 # a text that stands in status 2, whatever it says
 TEXT_OF_CLAP = "a text"
 REPLY = "events 5 out 41 pc 0000000080000014 halted 0\n"

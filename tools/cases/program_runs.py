@@ -1,7 +1,8 @@
 """Runs by the program: their statuses and ends, traps, traces, and labels after addresses."""
 
 from cases.explanations import access, begun, fetch, number as held_number, reply, trapped as trap_effect
-from cases.program_lines import BAD, FILE, LISTED, REPLY, SENDS_A, TEXT, TEXT_OF_CLAP, TRACE, case, file_of, refused, table, traced
+from cases.program_lines import BAD, FILE, LISTED, NO_IMAGE, REPLY, SENDS_A, TEXT, TEXT_OF_CLAP, TRACE
+from cases.program_lines import case, file_of, refused, table, traced
 from cases.quoting import quoted
 from cases.sessions import ECHO_THREE
 from model.devices import RAM
@@ -344,7 +345,7 @@ def runs_without_table():
         yield case(f"{command} first.img 5 --symbols none --trace t", [FILE], 3, "open first.img, open none", told=none)
         yield case(f"{command} first.img 5 --symbols s --trace t", [FILE, 's "start"'], 3, "open first.img, open s",
                    told="cherisim: line 1: no address and label\n  s:1\n")
-        yield case(f"{command} bad.img 5 --symbols none", [BAD], 3, "open bad.img", told="cherisim: L1 short header\n  bad.img\n")
+        yield case(f"{command} bad.img 5 --symbols none", [BAD], 3, "open bad.img", told=NO_IMAGE)
         yield case(f"{command} first.img 5 --input none --symbols s", [FILE, 's ""'], 3, "open first.img, open s, open none", told=none)
         yield case(f"{command} first.img 5 --symbols d", [FILE, "directory d"], 3, "open first.img, open d",
                    told="cherisim: file d\n  Is a directory\n")

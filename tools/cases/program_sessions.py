@@ -1,7 +1,7 @@
 """Sessions by the program: commands with labels, schedules, tables that are refused, and what code can reach."""
 
 from cases.explanations import access, begun, reply, root, written
-from cases.program_lines import BAD, FILE, case, file_of, integer, refused
+from cases.program_lines import BAD, FILE, NO_IMAGE, case, file_of, integer, refused
 from cases.quoting import quoted
 from cases.reaching import answered
 from cases.sessions import ECHO_THREE
@@ -126,7 +126,7 @@ def tables_refused(table):
                told="cherisim: file d\n  Is a directory\n")
     yield case("debug first.img --symbols t", [FILE, table.replace("t ", "t 0 ", 1)], 3, "open first.img, open t",
                told="cherisim: read failed\n  t: Broken pipe\n")
-    yield case("debug bad.img --symbols none", [BAD], 3, "open bad.img", told="cherisim: L1 short header\n  bad.img\n")
+    yield case("debug bad.img --symbols none", [BAD], 3, "open bad.img", told=NO_IMAGE)
     yield refused("debug first.img --symbols", [FILE])
     yield refused("debug --symbols t", [FILE, table])
 

@@ -1,6 +1,7 @@
 """Policies: rules for the code in some ranges as texts, what breaks one, what a run says that stops there, and what an audit says.
 
-A line is a definition, `NAME = RANGES`, or a rule, `when pc in RANGES: PART, ..`; `#` begins a comment. A rule applies to a state where
+A line is a definition, `NAME = RANGES`, a rule, `when pc in RANGES: PART, ..`, or names ranges of any code, `any code in RANGES`; `#`
+begins a comment. A rule applies to a state where
 an instruction can be fetched from its code, and holds of it if no capability that is reachable in it breaks a part of the rule. By the
 part `or caller` its code may also do what its last caller could.
 """
@@ -118,9 +119,10 @@ def parts(text, names, labels):
     return allowed
 
 
-def read(text, labels):
-    """The rules of a text, with a table's labels and their addresses; or the code and the line of its first fault."""
-    names, rules = {}, []
+def read_all(text, labels):
+    """The rules of a text and its ranges of any code, with a table's labels and their addresses; or the code and the line of its first
+    fault."""
+    names, rules, any_code = {}, [], []
     for line, whole in enumerate(text.split("\n"), 1):
         said = whole.partition("#")[0].strip(BLANKS)
         head, colon, rest = said.partition(":")
@@ -134,11 +136,19 @@ def read(text, labels):
                 code = ranges(head.split()[3:], names, labels)
                 allowed = parts(rest, names, labels)
                 rules.append(Rule(line, said, code, allowed, allowed.pop(OR, False)))
+            elif words[:3] == ["any", "code", "in"] and words[3:] and not colon:
+                any_code += ranges(words[3:], names, labels)
             elif said:
                 raise Malformed("P1")
         except Malformed as fault:
-            return [], (*fault.args, line)
-    return rules, None
+            return [], [], (*fault.args, line)
+    return rules, any_code, None
+
+
+def read(text, labels):
+    """The rules of a text; or the code and the line of its first fault."""
+    rules, _, fault = read_all(text, labels)
+    return rules, fault
 
 
 # ---- what breaks a rule

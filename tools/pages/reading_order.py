@@ -53,16 +53,16 @@ REST = [
     ("through doors, and by a policy",
      "doors/specs/Sets, Closed, Doors, Turn, Lent, Worlds, Through, ThroughOrder; "
      "cap_rights/specs/Opens; policy/specs/Terms, Rule, Watch, Tests, Opened, Lending, Run"),
-    ("what holds for ever", "always/specs/Kept, Enclosed"),
+    ("what holds for ever", "always/specs/Kept, Enclosed; every_run/specs/Opens, Known; every_run_texts/specs/Text"),
     ("worked states, which meet the premises of laws", "worked/specs/Counter, Pair, Loan, Enclosure"),
     ("image files", "image/specs/Grammar, Reads"),
     ("a text: its lines",
      "asm_names/specs/Mnemonic, Registers, SpecialNames, Slots; "
      "asm_lines/specs/Text, Number, Ranges, Operand, Words, Fills, Statement, Line"),
-    ("a text: what it means", "assembler/specs/Places, Values, Bytes, Faults, Text"),
+    ("a text: what it means", "assembler/specs/Places, Placed, Values, Bytes, Faults, Text"),
     ("a text: what is told of its first faulty line",
-     "asm_lines/specs/Parts, Forms; assembler/specs/Standing, AtFault, Further; fault_details/specs/Reasons, Detail; "
-     "hints/specs/Printable"),
+     "asm_lines/specs/Parts, Forms; assembler/specs/Standing, AtFault, Further; fault_details/specs/Reasons, Detail, SourceLines; "
+     "hints/specs/Printable, Files"),
     ("shown texts, read again", "texts/specs/Hex, Piece; disassembler/specs/Shown; text_laws/specs/ReadBack, TextBack"),
     ("bounds, lengths and words, as texts",
      "cap_bounds/specs/WindowEnds; bounds_text/specs/Picture, BoundsText, Letters, LengthText, WordText"),
@@ -71,7 +71,7 @@ REST = [
     ("what the next step asks, and why", "explain/specs/Asked, WhyText"),
     ("what is shown, against the state; the numbers of texts on bounds", "text_laws/specs/Says, Shown, After, Bounds"),
     ("names and listings: tables of symbols, what they add to a listing, its lines",
-     "symbols/specs/Symbols, Labels; image_listing/specs/Named, Listing, Header"),
+     "symbols/specs/Symbols, Labels, Sources; image_listing/specs/Named, Listing, Header"),
     ("what code can reach, as text", "reach_texts/specs/Text, Asked, Summary"),
     ("the command line and runs on a schedule",
      "command_line/specs/CommandLine; schedules/specs/Schedule; sim_run/specs/Trace, Verdict, Unhandled, Ending, Stopping"),

@@ -111,10 +111,10 @@ def lines_to_compare(words, planned):
         words, planned = [*words, "--steps", str(FEW)], [str(FEW) if word == planned[3] else word for word in planned]
     yield words, planned, SPINS if planned[:1] == ["run"] and int(planned[2]) > MANY else WATCHES
     if planned[:1] in (["run"], ["audit"]):
-        steps = planned[2]
+        steps = (planned[2], f"+{planned[2]}", f"{int(planned[2]):#x}")
         more = str(FEW if "--trace" in planned or max(int(planned[4]), int(planned[6])) < FEW else MANY)
         given = [] if "--input" in planned else ["--input", "keys"]
-        yield *([more if word == steps else word for word in line] + given for line in (words, planned)), WATCHES
+        yield *([more if word in steps else word for word in line] + given for line in (words, planned)), WATCHES
 
 
 def plan(bench, case):

@@ -11,7 +11,7 @@ REFUSED = 2
 
 class Given:
     """The files and the devices of a case, by its parts: `NAME "text"`, `NAME CALL "text"`, of which `input` is what is typed;
-    `output CALL`, `errors CALL`, `made CALL`, `full` and `directory NAME`."""
+    `output CALL`, `errors CALL`, `made CALL`, `closed CALL`, `full` and `directory NAME`."""
 
     def __init__(self, parts):
         self.typed, self.files, self.devices, self.directories = b"", {}, {}, []
@@ -20,7 +20,7 @@ class Given:
 
     def take(self, part):
         name, _, rest = part.partition(" ")
-        if name in ("output", "errors", "made", "full"):
+        if name in ("output", "errors", "made", "closed", "full"):
             self.devices[name] = int(rest or 0)
         elif name == "directory":
             self.directories.append(rest)

@@ -2,7 +2,8 @@
  *
  * DEVICES has a line NAME CALL for each device that fails at the call of that number, from 0: `input`, `output` and `errors`, the file that
  * is made (`made`), and files that are read, by their names after a slash. Such a device moves a byte a call; the call that fails answers
- * EPIPE, of a file that is made it takes no byte, and the next one works again. One file can be made, and none where a line is `full`.
+ * EPIPE, and EIO where it is a write; of a file that is made it takes no byte, and the next one works again. `closed` is an output which is
+ * a pipe that nobody reads from that call on: each answers EPIPE. One file can be made, and none where a line is `full`.
  * The list, ` open NAME` and ` make NAME`, goes to the descriptor in OPENED. It needs no header, as a compiler alone may have none. */
 extern void *dlsym(void *, const char *);
 extern int *__errno_location(void);
@@ -11,11 +12,11 @@ extern unsigned long strlen(const char *);
 extern int strncmp(const char *, const char *, unsigned long), strcmp(const char *, const char *);
 extern long strtol(const char *, char **, int);
 
-enum { MOST = 16, NONE = -1, EPIPE = 32, ENOENT = 2, EISDIR = 21, O_CREAT = 0100 };
+enum { MOST = 16, NONE = -1, EPIPE = 32, EIO = 5, ENOENT = 2, EISDIR = 21, O_CREAT = 0100 };
 #define NEXT ((void *)-1l)
 
 static const char *devices = "";
-static int opened = NONE, has_made, is_full, is_read;
+static int opened = NONE, has_made, is_full, is_closed, is_read;
 /* Of each descriptor the calls until it fails: NONE where it is no device of the list. */
 static long left[MOST];
 static int takes_none[MOST];
@@ -47,28 +48,33 @@ static void read_list(void) {
         if (getenv("OPENED")) opened = (int)strtol(getenv("OPENED"), 0, 10);
         is_full = call_of("", "full") != NONE;
         begin(0, call_of("", "input"), 0);
-        begin(1, call_of("", "output"), 0);
+        is_closed = call_of("", "closed") != NONE;
+        begin(1, call_of("", is_closed ? "closed" : "output"), 0);
         begin(2, call_of("", "errors"), 0);
     }
 }
 
-static long moved(const char *call, int file, void *bytes, unsigned long count) {
+static long moved(const char *call, int file, void *bytes, unsigned long count, int fault) {
     long (*plain)(int, void *, unsigned long) = (long (*)(int, void *, unsigned long))dlsym(NEXT, call);
     read_list();
     if (file < 0 || MOST <= file || left[file] == NONE || count == 0) {
         return plain(file, bytes, count);
     }
+    if (left[file] == 0 && file == 1 && is_closed) {
+        *__errno_location() = EPIPE;
+        return -1;
+    }
     if (left[file]-- == 0) {
         left[file] = 1l << 62;
-        *__errno_location() = EPIPE;
+        *__errno_location() = fault;
         return takes_none[file] ? 0 : -1;
     }
     return plain(file, bytes, 1);
 }
 
-long read(int file, void *bytes, unsigned long count) { return moved("read", file, bytes, count); }
-long write(int file, const void *bytes, unsigned long count) { return moved("write", file, (void *)bytes, count); }
-long __write(int file, const void *bytes, unsigned long count) { return moved("write", file, (void *)bytes, count); }
+long read(int file, void *bytes, unsigned long count) { return moved("read", file, bytes, count, EPIPE); }
+long write(int file, const void *bytes, unsigned long count) { return moved("write", file, (void *)bytes, count, EIO); }
+long __write(int file, const void *bytes, unsigned long count) { return moved("write", file, (void *)bytes, count, EIO); }
 
 static void note(const char *deed, const char *name) {
     read_list();

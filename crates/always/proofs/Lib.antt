@@ -1,4 +1,4 @@
-mod Runs
+pub mod Runs
 mod Entering
 mod Looked
 mod Held

@@ -7,6 +7,7 @@ pub mod Text
 pub mod Standing
 pub mod AtFault
 pub mod Further
+pub mod Placed
 -- Laws
 pub mod FaultLaws
 -- Inner words

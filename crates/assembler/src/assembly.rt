@@ -3,6 +3,7 @@ ghost use Rattle.assembler.specs.Buildable.{IsBuildable};
 ghost use Rattle.assembler.specs.Faults.{opening};
 ghost use Rattle.assembler.specs.Labels.{seen_entries};
 ghost use Rattle.assembler.specs.Left.{IsFaultOf, IsStoppedAt};
+ghost use Rattle.assembler.specs.Placed.{placed_lines};
 ghost use Rattle.assembler.specs.Places.{lines_of, symbols_of};
 ghost use Rattle.assembler.specs.Standing.{standing_in, standing_of};
 ghost use Rattle.assembler.specs.Text.{first_faulty_line, all_assembled, text_fault, text_image};
@@ -11,6 +12,7 @@ use crate::builder::Builder;
 use crate::fault::AsmFault;
 use crate::labels::Labels;
 use crate::lines::next_line;
+use crate::placed::{PlacedLine, push_statement};
 use crate::places::Places;
 use crate::standing::{Standing, Stopped};
 use image::Image;
@@ -23,6 +25,7 @@ use std::marker::Model;
 pub struct Assembly {
     image: Image,
     labels: Labels,
+    placed: Vec<PlacedLine>,
 }
 
 impl Model for Assembly {
@@ -30,7 +33,7 @@ impl Model for Assembly {
 
     ghost Value = { spec.Assembly };
 
-    ghost view = { λ a. record { image = a.image; symbols = a.labels } };
+    ghost view = { λ a. record { image = a.image; symbols = a.labels; placed = a.placed.items } };
 }
 
 impl Assembly {
@@ -54,23 +57,42 @@ impl Assembly {
     {
         self.labels.entries()
     }
+
+    /// The instructions that the text places, in order, each with the number of its line.
+    pub fn placed(&self) -> &[PlacedLine]
+        ensures { result.now ≡ self.now.placed }
+    {
+        &self.placed
+    }
 }
 
-/// The labels of a text, whatever its faults.
-fn labels_of(alloc: Global, text: &[u8]) -> Result<Labels, AllocError>
-    ensures { IfOk result (λ labels. labels ≡ symbols_of text.now) }
+/// The labels of a text and its placed instructions, whatever its faults.
+#[derive(Drop)]
+struct Walked {
+    labels: Labels,
+    placed: Vec<PlacedLine>,
+}
+
+/// Goes through the places of a text.
+fn walk(alloc: Global, text: &[u8]) -> Result<Walked, AllocError>
+    ensures labels { IfOk result (λ walked. walked.labels ≡ symbols_of text.now) }
+    ensures placed { IfOk result (λ walked. walked.placed.items ≡ placed_lines text.now) }
 {
     let mut places = Places::new(alloc);
+    let mut placed = Vec::new(alloc);
+    let mut number: u64 = 1;
     let mut rest = Some(text);
     while let Some(left) = rest {
         let (line, after) = next_line(left);
-        if let Err(error) = places.pass(alloc, &line) {
-            drop(places);
-            return Err(error);
-        }
+        push_statement(&mut placed, number, places.place(), &line.statement)?;
+        places.pass(alloc, &line)?;
+        number += 1;
         rest = after;
     }
-    Ok(places.into_labels())
+    Ok(Walked {
+        labels: places.into_labels(),
+        placed,
+    })
 }
 
 /// What the lines of a text set and place, or the first fault of its first faulty line and where the text stands there. `labels` are those
@@ -117,13 +139,18 @@ pub fn assemble_or_stop(alloc: Global, text: &[u8]) -> Result<Assembly, Stopped>
     ensures correct { IfOk result (λ _. text_fault text.now ≡ None) }
     ensures image { IfOk result (λ assembly. assembly.image ≡ text_image text.now) }
     ensures symbols { IfOk result (λ assembly. assembly.symbols ≡ symbols_of text.now) }
+    ensures placed { IfOk result (λ assembly. assembly.placed ≡ placed_lines text.now) }
     ensures fault { IfErr result (λ stopped. IsFaultOf (text_fault text.now) stopped.fault) }
     ensures standing { IfErr result (IsStoppedAt (standing_of text.now)) }
 {
-    let labels = labels_of(alloc, text)?;
+    let Walked { labels, placed } = walk(alloc, text)?;
     let Standing { labels, builder } = built(alloc, labels, text)?;
     let image = builder.finish(alloc)?;
-    Ok(Assembly { image, labels })
+    Ok(Assembly {
+        image,
+        labels,
+        placed,
+    })
 }
 
 /// Assembles a text; a fault alone, as `assemble_or_stop` has it.
@@ -131,6 +158,7 @@ pub fn assemble(alloc: Global, text: &[u8]) -> Result<Assembly, AsmFault>
     ensures correct { IfOk result (λ _. text_fault text.now ≡ None) }
     ensures image { IfOk result (λ assembly. assembly.image ≡ text_image text.now) }
     ensures symbols { IfOk result (λ assembly. assembly.symbols ≡ symbols_of text.now) }
+    ensures placed { IfOk result (λ assembly. assembly.placed ≡ placed_lines text.now) }
     ensures fault { IfErr result (IsFaultOf (text_fault text.now)) }
 {
     match assemble_or_stop(alloc, text) {

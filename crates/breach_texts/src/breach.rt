@@ -22,8 +22,8 @@ pub struct RuleLine<'a> {
     pub text: &'a str,
 }
 
-/// The word for a part of a rule.
-fn ban_word(ban: Ban) -> &'static str
+/// The word for a part of a rule, as policies name it.
+pub fn ban_word(ban: Ban) -> &'static str
     ensures { result.now ≡ ban_word ban }
 {
     match ban {

@@ -4,5 +4,5 @@
 mod breach;
 mod stopped;
 
-pub use breach::{RuleLine, put_breach};
+pub use breach::{RuleLine, ban_word, put_breach};
 pub use stopped::refused_lines;

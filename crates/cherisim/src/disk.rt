@@ -2,10 +2,10 @@
 
 use program::Folder;
 use std::fs::{self, File};
-use std::io;
+use std::io::{self, Read, StdinLock};
 use std::os::unix::fs::MetadataExt;
 
-/// The files of the host, by their paths. What they hold is known to no clause.
+/// The files of the host, by their paths; of those that are read `-` is standard input. What they hold is known to no clause.
 #[derive(Clone, Copy)]
 pub struct Disk<'a> {
     rt: &'a HostRuntime,
@@ -15,6 +15,24 @@ impl<'a> Disk<'a> {
     /// The files that the host's runtime reaches.
     pub fn new(rt: &'a HostRuntime) -> Self {
         Disk { rt }
+    }
+}
+
+/// What is read: a file, or standard input.
+#[derive(Drop)]
+pub enum Opened {
+    /// A file.
+    File(File),
+    /// Standard input.
+    Input(StdinLock<'static>),
+}
+
+impl Read for Opened {
+    fn read(&mut self, buffer: &mut [u8]) -> io::Result<usize> {
+        match self {
+            Opened::File(file) => file.read(buffer),
+            Opened::Input(input) => input.read(buffer),
+        }
     }
 }
 
@@ -43,7 +61,7 @@ impl Disk<'_> {
 }
 
 impl Folder for Disk<'_> {
-    type Opened = File;
+    type Opened = Opened;
 
     type Made = File;
 
@@ -58,13 +76,16 @@ impl Folder for Disk<'_> {
         }
     }
 
-    fn open(&self, name: &str) -> io::Result<File> {
+    fn open(&self, name: &str) -> io::Result<Opened> {
+        if name == "-" {
+            return Ok(Opened::Input(self.rt.reader()));
+        }
         let file = fs::open(self.rt, name)?;
         // The system opens a directory, and refuses to read it.
         if file.metadata()?.is_dir() {
             return Err(io::Error::from(io::ErrorKind::IsADirectory));
         }
-        Ok(file)
+        Ok(Opened::File(file))
     }
 
     fn make(&mut self, name: &str) -> io::Result<File> {

@@ -2,8 +2,10 @@
 #![tactic(auto)]
 
 mod disk;
+mod pipe;
 
 use disk::Disk;
+use pipe::Pipe;
 use program::{ProgramFault, refuse, status_of, tell_fault};
 use std::process::ExitCode;
 use std::{env, io};
@@ -38,7 +40,7 @@ fn status(rt: &HostRuntime, words: &[String]) -> u8 {
     }
     let mut disk = Disk::new(rt);
     let input = rt.reader();
-    let output = io::writer(rt);
+    let output = Pipe::new(io::writer(rt));
     status_of(rt.alloc(), &mut disk, input, output, &mut errors, &texts).status
 }
 

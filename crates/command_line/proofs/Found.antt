@@ -2,21 +2,19 @@
 use Rattle.std.proofs.Common.{◌≡◌, ◌∙◌, ℕ, ◌<◌, ◌≤◌, ◌^◌, List, [], ◌∷◌, refl, sym, ap, subst, codes, arith}
 use Rattle.std.specs.Prelude.{Option, Some, None, IfSome, IsSomeAnd, IsTrue, IfOk, IfErr, Result}
 use Rattle.std.specs.Prelude.{Ok, Err, true, false, Bool, ◌&&◌, nat_lt, nat_le, length}
-use Rattle.std.specs.Prelude.{if◌then◌else◌, option_and_then, option_map, bytes_eq}
+use Rattle.std.specs.Prelude.{if◌then◌else◌, option_map, bytes_eq}
 use Rattle.std.specs.List.{AllByRecursion, AllZip, list_all}
 use Rattle.std.specs.Char.{digit_value}
 use Rattle.std.specs.Result.{OkIff, result_ok}
-use Rattle.std.specs.Str.Parse.{AllDigits, IsNumeral, digits_value, without_leading_plus}
-use Rattle.clap.specs.Words.{App, app_of, ReadsOne, Row, Text, first_of, one_text, rows_of}
+use Rattle.std.specs.Str.Parse.{AllDigits, IsNumeral, digits_value}
+use Rattle.clap.specs.Words.{App, app_of, Row, Text, first_of}
 use Rattle.clap.specs.declared.builder.command.Command.{Command}
-use Rattle.clap.specs.declared.parser.matches.Found.{Found}
-use Rattle.clap.proofs.WalkLemmas.{one_text-rows}
 use Rattle.command_line.specs.declared.plans.Plan.{Plan}
 use Rattle.command_line.specs.declared.plans.Plan.TheVariants.{Go, Run, Audit, First}
 use Rattle.command_line.specs.declared.table.Takes.{Takes}
-use Rattle.command_line.specs.declared.table.Takes.TheVariants.{Nothing, Ends, Read, Written, Count, Start, Number}
+use Rattle.command_line.specs.declared.table.Takes.TheVariants.{Nothing, Ends, Read, ReadBeside, Written, Count, Start, Number}
 use Rattle.command_line.specs.CommandLine.{Line, Entry, Said, File, Amount, Used, Explained, is_numeral}
-use Rattle.command_line.specs.CommandLine.{number_in, count_of, is_within, counted, said_by, unsaid, why_of}
+use Rattle.command_line.specs.CommandLine.{number_in, count_in, is_within, counted, said_by, unsaid, why_of}
 use Rattle.command_line.specs.CommandLine.{said_of, said_of_text, is_needed, is_file, is_written}
 use Rattle.command_line.specs.CommandLine.{written_number, files_found, files_said, are_apart, FileName}
 use Rattle.command_line.specs.CommandLine.{AreSaid, KeepsLimits, IsWithin, name_said, name_of, said, lines_named}
@@ -103,25 +101,6 @@ unsigned_ok radix digits r plain is =
     (subst (λ ds. OkIff r (IsNumeral radix ds × (digits_value radix ds < 2 ^ 64)) (digits_value radix ds))
     (without_leading_plus_none digits plain) is)
 
--- clap reads the decimal number
-module _ {E : Type 0} (f : Found) (id : Text) (G : Text → Result ℕ E → Type 0)
-    (says : (t : Text) (r : Result ℕ E) → G t r
-    → OkIff r (IsNumeral 10 (without_leading_plus t) × (digits_value 10 (without_leading_plus t) < 2 ^ 64))
-    (digits_value 10 (without_leading_plus t))) where
-  read : (t : Text) (r : Option ℕ) → ReadsOne G t r → r ≡ number_in 10 (without_leading_plus t)
-  read t (Some n) g = number_in-ok {E = E} 10 (without_leading_plus t) (Ok n) (says t (Ok n) g)
-  read t None g = number_in-ok {E = E} 10 (without_leading_plus t) (Err g.0) (says t (Err g.0) g.1)
-
-  pub count_is : (r : Option ℕ) → (one_text f id ≡ None → r ≡ None) → ((t : Text) → one_text f id ≡ Some t → ReadsOne G t r)
-      → r ≡ count_of id (rows_of f)
-  unfolding count_of
-  count_is r none reads =
-      go (one_text f id) refl ∙ ap (λ o. option_and_then (λ t. number_in 10 (without_leading_plus t)) o) (one_text-rows f id)
-    where
-      go : (o : Option Text) → one_text f id ≡ o → r ≡ option_and_then (λ t. number_in 10 (without_leading_plus t)) o
-      go None e = none e
-      go (Some t) e = read t r (reads t e)
-
 -- ---- arguments
 
 -- a number that is found keeps its limits
@@ -136,19 +115,21 @@ counted-kept least most (Some n) s e = go (is_within least most n) refl e
         let one : Amount (Some n) ≡ s = cc in
         subst (λ x. IsWithin least most x) one (leb-true least n parts.0, leb-true n most parts.1)
 
-by-kept : (takes : Takes) (text : Text) (count : Option ℕ) (s : Said) → said_by takes text count ≡ Some s → KeepsLimits takes s
-by-kept Nothing text count s e = tt
-by-kept Ends text count s e = tt
-by-kept Read text count s e = tt
-by-kept Written text count s e = tt
-by-kept (Count least most) text count s e = counted-kept least most count s e
-by-kept (Start least most) text count s e = counted-kept least most count s e
-by-kept Number text count s e = tt
+by-kept : (takes : Takes) (text : Text) (s : Said) → said_by takes text ≡ Some s → KeepsLimits takes s
+by-kept Nothing text s e = tt
+by-kept Ends text s e = tt
+by-kept Read text s e = tt
+by-kept ReadBeside text s e = tt
+by-kept Written text s e = tt
+by-kept (Count least most) text s e = counted-kept least most (count_in text) s e
+by-kept (Start least most) text s e = counted-kept least most (count_in text) s e
+by-kept Number text s e = tt
 
 un-kept : (takes : Takes) (s : Said) → unsaid takes ≡ Some s → KeepsLimits takes s
 un-kept Nothing s e = tt
 un-kept Ends s e = tt
 un-kept Read s e = tt
+un-kept ReadBeside s e = tt
 un-kept Written s e = tt
 un-kept (Count least most) s e = let none : Amount None ≡ s = cc in subst (λ x. IsWithin least most x) none tt
 un-kept (Start least most) s e = counted-kept least most (Some least) s e
@@ -159,14 +140,13 @@ unneeded : (needed : Bool) (o : Option Said) (s : Said) → (if needed then None
 unneeded true o s e = cc
 unneeded false o s e = e
 
-text-kept : (rows : List Row) (line : Line) (text : Option Text) (s : Said) → said_of_text rows line text ≡ Some s
-    → KeepsLimits line.takes s
-text-kept rows line (Some text) s e = by-kept line.takes text (count_of line.id rows) s e
-text-kept rows line None s e = un-kept line.takes s (unneeded (is_needed line) (unsaid line.takes) s e)
+text-kept : (line : Line) (text : Option Text) (s : Said) → said_of_text line text ≡ Some s → KeepsLimits line.takes s
+text-kept line (Some text) s e = by-kept line.takes text s e
+text-kept line None s e = un-kept line.takes s (unneeded (is_needed line) (unsaid line.takes) s e)
 
 kept : (rows : List Row) (line : Line) (s : Said) → said_of rows line ≡ Some s → KeepsLimits line.takes s
 unfolding said_of
-kept rows line s e = text-kept rows line (first_of line.id rows) s e
+kept rows line s e = text-kept line (first_of line.id rows) s e
 
 all_kept : (rows : List Row) (lines : List Line) (saids : List Said) → AreSaid rows lines saids
     → AllZip (λ line said. KeepsLimits line.takes said) lines saids
@@ -188,34 +168,41 @@ number-unnamed : (number : Option ℕ) (s : Said) → option_map (λ n. Amount (
 number-unnamed None s e = cc
 number-unnamed (Some n) s e = let one : Amount (Some n) ≡ s = cc in ap name_said one
 
-by-named : (takes : Takes) (text : Text) (count : Option ℕ) (s : Said) → said_by takes text count ≡ Some s
+beside-named : (text : Text) (is_input : Bool) (s : Said) → (if is_input then None else Some (File (Some text))) ≡ Some s
+    → Some text ≡ name_said s
+beside-named text true s e = cc
+beside-named text false s e = let one : File (Some text) ≡ s = cc in ap name_said one
+
+by-named : (takes : Takes) (text : Text) (s : Said) → said_by takes text ≡ Some s
     → (if is_file takes then Some text else None) ≡ name_said s
-by-named Nothing text count s e = let one : Used (bytes_eq text (codes "true")) ≡ s = cc in ap name_said one
-by-named Ends text count s e = let one : Explained (why_of text) ≡ s = cc in ap name_said one
-by-named Read text count s e = let one : File (Some text) ≡ s = cc in ap name_said one
-by-named Written text count s e = let one : File (Some text) ≡ s = cc in ap name_said one
-by-named (Count least most) text count s e = counted-unnamed least most count s e
-by-named (Start least most) text count s e = counted-unnamed least most count s e
-by-named Number text count s e = number-unnamed (written_number text) s e
+by-named Nothing text s e = let one : Used (bytes_eq text (codes "true")) ≡ s = cc in ap name_said one
+by-named Ends text s e = let one : Explained (why_of text) ≡ s = cc in ap name_said one
+by-named Read text s e = let one : File (Some text) ≡ s = cc in ap name_said one
+by-named ReadBeside text s e = beside-named text (bytes_eq text (codes "-")) s e
+by-named Written text s e = let one : File (Some text) ≡ s = cc in ap name_said one
+by-named (Count least most) text s e = counted-unnamed least most (count_in text) s e
+by-named (Start least most) text s e = counted-unnamed least most (count_in text) s e
+by-named Number text s e = number-unnamed (written_number text) s e
 
 un-named : (takes : Takes) (s : Said) → unsaid takes ≡ Some s → (if is_file takes then None else None) ≡ name_said s
 un-named Nothing s e = let one : Used false ≡ s = cc in ap name_said one
 un-named Ends s e = let one : Explained None ≡ s = cc in ap name_said one
 un-named Read s e = let one : File None ≡ s = cc in ap name_said one
+un-named ReadBeside s e = let one : File None ≡ s = cc in ap name_said one
 un-named Written s e = let one : File None ≡ s = cc in ap name_said one
 un-named (Count least most) s e = let one : Amount None ≡ s = cc in ap name_said one
 un-named (Start least most) s e = counted-unnamed least most (Some least) s e
 un-named Number s e = let one : Amount None ≡ s = cc in ap name_said one
 
-text-named : (rows : List Row) (line : Line) (text : Option Text) (s : Said) → said_of_text rows line text ≡ Some s
+text-named : (line : Line) (text : Option Text) (s : Said) → said_of_text line text ≡ Some s
     → (if is_file line.takes then text else None) ≡ name_said s
-text-named rows line (Some text) s e = by-named line.takes text (count_of line.id rows) s e
-text-named rows line None s e = un-named line.takes s (unneeded (is_needed line) (unsaid line.takes) s e)
+text-named line (Some text) s e = by-named line.takes text s e
+text-named line None s e = un-named line.takes s (unneeded (is_needed line) (unsaid line.takes) s e)
 
 named : (rows : List Row) (line : Line) (s : Said) → said_of rows line ≡ Some s
     → (if is_file line.takes then first_of line.id rows else None) ≡ name_said s
 unfolding said_of
-named rows line s e = text-named rows line (first_of line.id rows) s e
+named rows line s e = text-named line (first_of line.id rows) s e
 
 pub files-found : (rows : List Row) (lines : List Line) (saids : List Said) → AreSaid rows lines saids
     → files_found rows lines ≡ files_said lines saids

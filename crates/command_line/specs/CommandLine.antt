@@ -6,9 +6,8 @@ use Rattle.std.specs.List.{AllByRecursion, AllZip, list_all, starts_with}
 use Rattle.std.specs.Borrow.{Bor}
 use Rattle.std.specs.Char.{digit_value}
 use Rattle.std.specs.Str.Parse.{digits_value, without_leading_plus}
-use Rattle.clap.specs.Words.{App, Row, Rule, Text, fault_of, first_of, one_of, new_app, new_rule, subcommand_of, with_rule, with_subcommand}
+use Rattle.clap.specs.Words.{App, Row, Rule, Text, fault_of, first_of, new_app, new_rule, subcommand_of, with_rule, with_subcommand}
 use Rattle.clap.specs.declared.builder.action.ArgAction.TheVariants.{SetTrue}
-use Rattle.clap.specs.declared.builder.value_parser.ValueParser.TheVariants as parser
 use Rattle.command_line.specs.declared.plans.Plan.{Plan}
 use Rattle.command_line.specs.declared.plans.Plan.TheVariants.{Asm, Image, Go, Run, Audit, Dis, Debug, Bounds, Word, First}
 use Rattle.command_line.specs.declared.plans.RunRequest.{RunRequest}
@@ -17,9 +16,9 @@ use Rattle.command_line.specs.declared.plans.Why.TheVariants.{Unfetched, All}
 use Rattle.command_line.specs.declared.table.Stands.{Stands}
 use Rattle.command_line.specs.declared.table.Stands.TheVariants.{Operand, Optional, Named, Flag, FlagOrAll}
 use Rattle.command_line.specs.declared.table.Takes.{Takes}
-use Rattle.command_line.specs.declared.table.Takes.TheVariants.{Nothing, Ends, Read, Written, Count, Start, Number}
+use Rattle.command_line.specs.declared.table.Takes.TheVariants.{Nothing, Ends, Read, ReadBeside, Written, Count, Start, Number}
 use Rattle.command_line.specs.declared.table.TheConstants.{COMMANDS, STEPS, GO_STEPS, TIMES, GO_TIMES, RUN_GAP, RUN_TICK}
-use Rattle.command_line.specs.declared.table.TheConstants.{INPUT, STATUS, TRACE, TRACE_FROM, TRACE_LAST, POLICY, RUN_LABELS}
+use Rattle.command_line.specs.declared.table.TheConstants.{INPUT, STATUS, TRACE, TRACE_FROM, TRACE_LAST, POLICY, RUN_LABELS, RUN_LINES}
 
 -- an argument: its id, how it stands among the words, what it takes, and its value where it isn't used
 pub record Line : Type 0 where
@@ -64,12 +63,6 @@ as_stands all Flag id rule = record rule { long = Some id; action = Some SetTrue
 as_stands true FlagOrAll id rule = record rule { long = Some id; value_names = 1 }
 as_stands false FlagOrAll id rule = record rule { long = Some id; action = Some SetTrue }
 
--- a count is a decimal number within its limits
-abbrev pub as_takes : Takes → Rule → Rule
-as_takes (Count least most) rule = record rule { parser = Some (parser.Unsigned least most) }
-as_takes (Start least most) rule = record rule { parser = Some (parser.Unsigned least most) }
-as_takes _ rule = rule
-
 -- its value where it isn't used
 abbrev pub by_default : Option Text → Rule → Rule
 by_default None rule = rule
@@ -77,8 +70,7 @@ by_default (Some value) rule = record rule { defaults = value ∷ [] }
 
 -- the rule of an argument's line
 unfoldable pub rule : Bool → Line → Rule
-rule all line =
-    by_default line.default (as_takes line.takes (as_stands all line.stands line.id (new_rule line.id)))
+rule all line = by_default line.default (as_stands all line.stands line.id (new_rule line.id))
 
 -- a command with the arguments of these lines
 unfoldable pub with_arguments : Bool → App → List Line → App
@@ -138,9 +130,9 @@ is_hexadecimal text = starts_with (λ a b. a == b) text (codes "0x")
 unfoldable pub written_number : Text → Option ℕ
 written_number text = if is_hexadecimal text then number_in 16 (drop 2 text) else number_in 10 text
 
--- the decimal number that clap reads for an argument; a plus may stand first
-unfoldable pub count_of : Text → List Row → Option ℕ
-count_of id rows = option_and_then (λ text. number_in 10 (without_leading_plus text)) (one_of id rows)
+-- the same for a number with limits, of which a plus may stand before the decimal digits
+unfoldable pub count_in : Text → Option ℕ
+count_in text = if is_hexadecimal text then number_in 16 (drop 2 text) else number_in 10 (without_leading_plus text)
 
 -- a number from `least` to `most`
 abbrev pub is_within : ℕ → ℕ → ℕ → Bool
@@ -155,21 +147,23 @@ abbrev pub counted : ℕ → ℕ → Option ℕ → Option Said
 counted least most None = None
 counted least most (Some number) = if is_within least most number then Some (Amount (Some number)) else None
 
--- what an argument says by its text, of which `count` is the decimal number
-abbrev pub said_by : Takes → Text → Option ℕ → Option Said
-said_by Nothing text count = Some (Used (bytes_eq text (codes "true")))
-said_by Ends text count = Some (Explained (why_of text))
-said_by Read text count = Some (File (Some text))
-said_by Written text count = Some (File (Some text))
-said_by (Count least most) text count = counted least most count
-said_by (Start least most) text count = counted least most count
-said_by Number text count = option_map (λ number. Amount (Some number)) (written_number text)
+-- what an argument says by its text
+abbrev pub said_by : Takes → Text → Option Said
+said_by Nothing text = Some (Used (bytes_eq text (codes "true")))
+said_by Ends text = Some (Explained (why_of text))
+said_by Read text = Some (File (Some text))
+said_by ReadBeside text = if bytes_eq text (codes "-") then None else Some (File (Some text))
+said_by Written text = Some (File (Some text))
+said_by (Count least most) text = counted least most (count_in text)
+said_by (Start least most) text = counted least most (count_in text)
+said_by Number text = option_map (λ number. Amount (Some number)) (written_number text)
 
 -- and where it isn't used
 abbrev pub unsaid : Takes → Option Said
 unsaid Nothing = Some (Used false)
 unsaid Ends = Some (Explained None)
 unsaid Read = Some (File None)
+unsaid ReadBeside = Some (File None)
 unsaid Written = Some (File None)
 unsaid (Count least most) = Some (Amount None)
 unsaid (Start least most) = counted least most (Some least)
@@ -194,12 +188,12 @@ abbrev pub is_needed : Line → Bool
 is_needed line = is_operand line.stands || is_some line.default
 
 -- what clap found of an argument, where that is what the argument takes
-abbrev pub said_of_text : List Row → Line → Option Text → Option Said
-said_of_text rows line (Some text) = said_by line.takes text (count_of line.id rows)
-said_of_text rows line None = if is_needed line then None else unsaid line.takes
+abbrev pub said_of_text : Line → Option Text → Option Said
+said_of_text line (Some text) = said_by line.takes text
+said_of_text line None = if is_needed line then None else unsaid line.takes
 
 unfoldable pub said_of : List Row → Line → Option Said
-said_of rows line = said_of_text rows line (first_of line.id rows)
+said_of rows line = said_of_text line (first_of line.id rows)
 
 -- ---- rules between arguments
 
@@ -220,6 +214,7 @@ FileName = Bool × Option Text
 
 abbrev pub is_file : Takes → Bool
 is_file Read = true
+is_file ReadBeside = true
 is_file Written = true
 is_file _ = false
 
@@ -235,9 +230,13 @@ have_one_name _ _ = false
 abbrev pub files_found : List Row → List Line → List FileName
 files_found rows = map (λ line. (is_written line.takes, if is_file line.takes then first_of line.id rows else None))
 
--- of two files of a command of which one is written the names differ
+-- a file that is read from standard input
+abbrev pub is_input : Option Text → Bool
+is_input name = have_one_name name (Some (codes "-"))
+
+-- Of two files of a command of which one is written the names differ; so standard input is one of them at most.
 abbrev pub are_two : FileName → FileName → Bool
-are_two a b = not ((a.0 || b.0) && have_one_name a.1 b.1)
+are_two a b = not (((a.0 || b.0) || is_input a.1) && have_one_name a.1 b.1)
 
 abbrev pub are_apart : List FileName → Bool
 are_apart [] = true
@@ -247,13 +246,13 @@ are_apart (file ∷ files) = list_all (are_two file) files && are_apart files
 
 -- the name of a plan's command
 abbrev pub name_of : Plan → Text
-name_of (Asm input output symbols quiet) = codes "asm"
+name_of (Asm input output symbols lines quiet) = codes "asm"
 name_of (Image flat output layout quiet) = codes "image"
 name_of (Go request why) = codes "go"
 name_of (Run request why) = codes "run"
 name_of (Audit request) = codes "audit"
 name_of (Dis image symbols header quiet) = codes "dis"
-name_of (Debug image symbols input gap tick quiet) = codes "debug"
+name_of (Debug image symbols lines input gap tick quiet) = codes "debug"
 name_of (Bounds base length address) = codes "bounds"
 name_of (Word high low memory) = codes "word"
 name_of First = []
@@ -271,7 +270,8 @@ amount number = Amount (Some number)
 abbrev pub said_of_lines : RunRequest → List Said → List Said
 said_of_lines run between =
     file run.input ∷ amount run.gap ∷ amount run.tick ∷ Used run.quiet
-    ∷ (between ++ (file run.trace ∷ amount run.trace_from ∷ Amount run.trace_last ∷ file run.policy ∷ file run.symbols ∷ []))
+    ∷ (between ++ (file run.trace ∷ amount run.trace_from ∷ Amount run.trace_last ∷ file run.policy ∷ file run.symbols
+    ∷ file run.lines ∷ []))
 
 abbrev pub said_of_run : RunRequest → List Said → List Said
 said_of_run run between = its_file run.image ∷ amount run.steps ∷ amount run.times ∷ said_of_lines run between
@@ -280,19 +280,20 @@ said_of_run run between = its_file run.image ∷ amount run.steps ∷ amount run
 abbrev pub run_lines : List Line
 run_lines =
     map (λ a. argument a.0.now a.1 a.2 (option_map (λ t. t.now) a.3))
-    (INPUT ∷ RUN_GAP ∷ RUN_TICK ∷ STATUS ∷ TRACE ∷ TRACE_FROM ∷ TRACE_LAST ∷ POLICY ∷ RUN_LABELS ∷ [])
+    (INPUT ∷ RUN_GAP ∷ RUN_TICK ∷ STATUS ∷ TRACE ∷ TRACE_FROM ∷ TRACE_LAST ∷ POLICY ∷ RUN_LABELS ∷ RUN_LINES ∷ [])
 
 -- what a plan says of each argument of its command, in the order of the table; with one number alone `bounds` has a length
 abbrev pub said : Plan → List Said
-said (Asm input output symbols quiet) = its_file input ∷ its_file output ∷ file symbols ∷ Used quiet ∷ []
+said (Asm input output symbols lines quiet) = its_file input ∷ its_file output ∷ file symbols ∷ file lines ∷ Used quiet ∷ []
 said (Image flat output layout quiet) =
-    its_file flat ∷ its_file output ∷ Amount layout.at ∷ Amount layout.entry ∷ Amount layout.pages ∷ Amount layout.mode ∷ Used quiet ∷ []
+    its_file flat ∷ its_file output ∷ Amount layout.at ∷ Amount layout.entry ∷ Amount layout.pages ∷ Amount layout.mode
+    ∷ Used layout.flat_elf ∷ Used quiet ∷ []
 said (Go request why) = said_of_run request (Explained why ∷ [])
 said (Run request why) = said_of_run request (Explained why ∷ [])
 said (Audit request) = said_of_run request []
 said (Dis image symbols header quiet) = its_file image ∷ file symbols ∷ Used header ∷ Used quiet ∷ []
-said (Debug image symbols input gap tick quiet) =
-    its_file image ∷ file symbols ∷ file input ∷ Amount gap ∷ Amount tick ∷ Used quiet ∷ []
+said (Debug image symbols lines input gap tick quiet) =
+    its_file image ∷ file symbols ∷ file lines ∷ file input ∷ Amount gap ∷ Amount tick ∷ Used quiet ∷ []
 said (Bounds None length address) = amount length ∷ Amount None ∷ Amount address ∷ []
 said (Bounds (Some base) length address) = amount base ∷ amount length ∷ Amount address ∷ []
 said (Word high low memory) = amount high ∷ amount low ∷ Used memory ∷ []

@@ -9,4 +9,6 @@ pub struct Layout {
     pub pages: Option<u64>,
     /// The encoding mode, 0 for integer and 1 for capability; by default 0.
     pub mode: Option<u64>,
+    /// Whether the bytes of an ELF are taken as they stand: without it an ELF is refused.
+    pub flat_elf: bool,
 }

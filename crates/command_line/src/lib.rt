@@ -5,6 +5,7 @@ mod fault;
 /// What holds of the table of commands.
 pub mod laws;
 mod layout;
+mod misfit;
 mod numbers;
 mod plans;
 mod program;

@@ -36,6 +36,8 @@ pub struct RunRequest<'a> {
     pub policy: Option<&'a str>,
     /// The file with labels, if one is named: they stand after the addresses that are told, and the policy may name them.
     pub symbols: Option<&'a str>,
+    /// The file with lines of a source, if one is named: they stand after the addresses of instructions that are told.
+    pub lines: Option<&'a str>,
 }
 
 /// What the command line asks for.
@@ -49,6 +51,8 @@ pub enum Plan<'a> {
         output: &'a str,
         /// The file that the labels are written to, if one is named.
         symbols: Option<&'a str>,
+        /// The file that the line of each placed instruction is written to, if one is named.
+        lines: Option<&'a str>,
         /// Whether of a fault its text alone is told.
         quiet: bool,
     },
@@ -96,6 +100,8 @@ pub enum Plan<'a> {
         image: &'a str,
         /// The file with its labels, if one is named.
         symbols: Option<&'a str>,
+        /// The file with lines of a source, if one is named.
+        lines: Option<&'a str>,
         /// The file whose bytes come on the console, if one is named.
         input: Option<&'a str>,
         /// Steps from one byte of the input to the next, 1 to 1000000, where it is said.

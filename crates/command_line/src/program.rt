@@ -3,11 +3,10 @@
 ghost use Rattle.std.specs.Prelude.{◌≡◌, IfOk, false, map, option_map};
 ghost use Rattle.clap.specs.Words.{app_of, rule_of, with_rule, with_subcommand};
 ghost use Rattle.clap.specs.declared.builder.command.Command.TheViews.{out-Command};
-ghost use Rattle.command_line.specs.CommandLine.{as_stands, as_takes, by_default, line_of, entry_of};
+ghost use Rattle.command_line.specs.CommandLine.{as_stands, by_default, line_of, entry_of};
 ghost use Rattle.command_line.specs.CommandLine.{rule, with_arguments, command, with_commands, program};
 
-use crate::table::{Argument, COMMANDS, CommandRow, Stands, Takes};
-use clap::builder::ValueParser;
+use crate::table::{Argument, COMMANDS, CommandRow, Stands};
 use clap::{Arg, ArgAction, Command};
 use std::alloc::{AllocError, Global};
 
@@ -38,7 +37,8 @@ Without a command the program runs a first image of five instructions, which pri
 --version alone it prints its version.
 
 In place of an image `run`, `audit`, `dis` and `debug` take a text too, if its name ends in .s: then
-its labels are known without --symbols.
+its labels are known without --symbols. Of the files that are read - is standard input, for one of
+them alone, and not for `debug`. Numbers are decimal, or hexadecimal behind 0x.
 
 The status is 0 where all went well, for a run where the machine halted with 0; 1 where a run ended
 otherwise, and where `audit` finds that a policy is broken; 2 for a command line that is no command;
@@ -56,19 +56,6 @@ fn as_stands<'a>(all: bool, stands: Stands, id: &'a str, value: &'a str, arg: Ar
         Stands::Flag => arg.long(id).action(ArgAction::SetTrue),
         Stands::FlagOrAll if all => arg.long(id).value_name(value),
         Stands::FlagOrAll => arg.long(id).action(ArgAction::SetTrue),
-    }
-}
-
-/// Has clap look at the limits of what an argument takes.
-fn as_takes<'a>(takes: Takes, arg: Arg<'a>) -> Arg<'a>
-    ensures rule { rule_of result ≡ as_takes takes (rule_of arg.entry) }
-    ensures local { result.global ≡ arg.entry.global }
-{
-    match takes {
-        Takes::Count(least, most) | Takes::Start(least, most) => {
-            arg.value_parser(ValueParser::unsigned(least, most))
-        }
-        Takes::Nothing | Takes::Ends | Takes::Read | Takes::Written | Takes::Number => arg,
     }
 }
 
@@ -91,7 +78,7 @@ fn argument<'a>(alloc: Global, all: bool, line: &Argument) -> Arg<'a>
 {
     let arg = Arg::new(alloc, line.0).help(line.4.1);
     let arg = as_stands(all, line.1, line.0, line.4.0, arg);
-    by_default(line.3, as_takes(line.2, arg))
+    by_default(line.3, arg)
 }
 
 /// Adds an argument, which is not global, to a command.
@@ -132,6 +119,15 @@ fn command<'a>(alloc: Global, all: bool, row: &CommandRow) -> Result<Command<'a>
     ensures local { IfOk result (λ c. (out-Command c).has_globals ≡ false) }
 {
     with_arguments(alloc, all, Command::new(alloc, row.0).about(row.1), row.2)
+}
+
+/// A command by itself, with the arguments of these lines: its name is what its usage begins with.
+pub(crate) fn alone<'a>(
+    alloc: Global,
+    name: &'a str,
+    lines: &[Argument],
+) -> Result<Command<'a>, AllocError> {
+    with_arguments(alloc, false, Command::new(alloc, name), lines)
 }
 
 /// Adds a command, of which no argument is global, to the program.

@@ -6,35 +6,38 @@ ghost use Rattle.clap.specs.Words.{first_of, found_of, rows_of, kind_of, subcomm
 ghost use Rattle.clap.specs.declared.error.kind.ErrorKind.{ErrorKind};
 ghost use Rattle.command_line.specs.CommandLine.{found_in, IsSound, IsTaken, IsPlanOf, NoPlanFits, asks_all, may_stand, line_of, entry_of};
 ghost use Rattle.command_line.specs.CommandLine.{Said, AreFit, AreSaid, HasAll, Says, lines_named, commands, files_found, NothingStands};
-ghost use Rattle.command_line.specs.CommandLine.{are_apart, are_two, have_one_name, is_file, is_written, run_lines, said_of_lines};
+ghost use Rattle.command_line.specs.CommandLine.{are_apart, are_two, have_one_name, is_file, is_input, is_written, run_lines};
+ghost use Rattle.command_line.specs.CommandLine.{said_of_lines};
 ghost use Rattle.command_line.specs.declared.fault.PlanFault.TheVariants.{Memory};
 
 use crate::fault::PlanFault;
 use crate::layout::Layout;
+use crate::misfit::{MISSING, Misfit, misfit_text};
 use crate::plans::{Plan, RunRequest};
-use crate::program::program;
+use crate::program::{alone, program};
 use crate::table::*;
-use crate::values::{
-    MISSING, Misfit, amount, ends, file, flag, is_fit, is_used, number, operand, text, why_of,
-};
+use crate::values::{amount, ends, file, flag, is_fit, is_used, number, operand, text, why_of};
 use clap::error::ErrorKind;
 use clap::{ArgMatches, Error};
-use std::alloc::Global;
+use std::alloc::{AllocError, Global};
 
 /// A file would be written over another of the command.
-const SAME_FILE: Misfit = "a file that is written cannot be another file of the command";
+const SAME_FILE: &str = "a file that is written cannot be another file of the command";
+
+/// Standard input would be read for two files.
+const READ_TWICE: &str = "- is standard input, which is read for one file alone";
 
 /// A trace is described that isn't asked for.
-const UNTRACED: Misfit = "--trace-from and --trace-last go with --trace";
+const UNTRACED: &str = "--trace-from and --trace-last go with --trace";
 
 /// A run would have two reasons to stop.
-const TWO_STOPS: Misfit = "--policy does not go with --why";
+const TWO_STOPS: &str = "--policy does not go with --why";
 
 /// An address is to be placed against no bounds.
-const UNPLACED: Misfit = "--address goes with BASE and LENGTH";
+const UNPLACED: &str = "--address goes with BASE and LENGTH";
 
 /// What is said where an argument is not what it takes. Of `bounds` a number alone is LENGTH, with which no address goes.
-fn misfit_of(found: &ArgMatches<'_>, line: &Argument) -> Misfit {
+fn text_told(found: &ArgMatches<'_>, line: &Argument) -> &'static str {
     if is_used(found, "LENGTH") {
         return line.4.2;
     }
@@ -45,8 +48,22 @@ fn misfit_of(found: &ArgMatches<'_>, line: &Argument) -> Misfit {
     }
 }
 
+/// What is wrong with an argument that is not what it takes.
+fn misfit_of<'a>(found: &ArgMatches<'a>, line: &Argument) -> Misfit<'a> {
+    match (line.2, text(found, line.0)) {
+        (Takes::Count(least, most) | Takes::Start(least, most), Some(value)) => Misfit::Value {
+            id: line.0,
+            name: line.4.0,
+            value,
+            least,
+            most,
+        },
+        _ => Misfit::Told(text_told(found, line)),
+    }
+}
+
 /// Whether something that it takes was found for each argument.
-fn all_fit(found: &ArgMatches<'_>, lines: &[Argument]) -> Result<(), Misfit>
+fn all_fit<'a>(found: &ArgMatches<'a>, lines: &[Argument]) -> Result<(), Misfit<'a>>
     ensures ok { IfOk result (λ _. AreFit (rows_of (found_of found.now)) (map line_of lines.now)) }
     ensures err { IfErr result (λ _. (saids : List Said) → AreSaid (rows_of (found_of found.now)) (map line_of lines.now) saids → ⊥) }
 {
@@ -63,19 +80,19 @@ fn all_fit(found: &ArgMatches<'_>, lines: &[Argument]) -> Result<(), Misfit>
 }
 
 /// Whether the arguments that are used go together.
-fn may_stand(found: &ArgMatches<'_>) -> Result<(), Misfit>
+fn may_stand<'a>(found: &ArgMatches<'a>) -> Result<(), Misfit<'a>>
     ensures ok { IfOk result (λ _. IsTrue (may_stand (rows_of (found_of found.now)))) }
     ensures err { IfErr result (λ _. IsTrue (may_stand (rows_of (found_of found.now))) → ⊥) }
 {
     let from_or_last = is_used(found, "trace-from") || is_used(found, "trace-last");
     if from_or_last && !is_used(found, "trace") {
-        return Err(UNTRACED);
+        return Err(Misfit::Told(UNTRACED));
     }
     if is_used(found, "policy") && text(found, "why").and_then(why_of).is_some() {
-        return Err(TWO_STOPS);
+        return Err(Misfit::Told(TWO_STOPS));
     }
     if is_used(found, "address") && !is_used(found, "LENGTH") {
-        return Err(UNPLACED);
+        return Err(Misfit::Told(UNPLACED));
     }
     Ok(())
 }
@@ -96,9 +113,16 @@ fn file_found<'a>(found: &ArgMatches<'a>, line: &Argument) -> Option<&'a str>
         ≡ (if is_file line.now.2 then first_of line.now.0.now (rows_of (found_of found.now)) else None) }
 {
     match line.2 {
-        Takes::Read | Takes::Written => text(found, line.0),
+        Takes::Read | Takes::ReadBeside | Takes::Written => text(found, line.0),
         _ => None,
     }
+}
+
+/// Whether a file is standard input.
+fn is_input(name: Option<&str>) -> bool
+    ensures { result ≡ is_input (option_map (λ s. s.now) name.entry) }
+{
+    have_one_name(name, Some("-"))
 }
 
 /// Whether two files have one name.
@@ -111,7 +135,7 @@ fn have_one_name(one: Option<&str>, other: Option<&str>) -> bool
     }
 }
 
-/// Whether a file is none of those of other arguments, if it or they are written.
+/// Whether a file is none of those of other arguments, if it or they are written or it is standard input.
 fn is_apart(found: &ArgMatches<'_>, written: bool, name: Option<&str>, others: &[Argument]) -> bool
     ensures { result ≡ list_all (are_two (written, option_map (λ s. s.now) name.entry))
         (files_found (rows_of (found_of found.now)) (map line_of others.now)) }
@@ -119,8 +143,8 @@ fn is_apart(found: &ArgMatches<'_>, written: bool, name: Option<&str>, others: &
     match others {
         [] => true,
         [other, rest @ ..] => {
-            let either = written || is_written(other);
-            if either && have_one_name(name, file_found(found, other)) {
+            let alone = (written || is_written(other)) || is_input(name);
+            if alone && have_one_name(name, file_found(found, other)) {
                 false
             } else {
                 is_apart(found, written, name, rest)
@@ -129,7 +153,7 @@ fn is_apart(found: &ArgMatches<'_>, written: bool, name: Option<&str>, others: &
     }
 }
 
-/// Whether no file is written over another of the command.
+/// Whether no file is written over another of the command, and standard input is read for one file at most.
 fn are_apart(found: &ArgMatches<'_>, lines: &[Argument]) -> bool
     ensures { result ≡ are_apart (files_found (rows_of (found_of found.now)) (map line_of lines.now)) }
 {
@@ -142,8 +166,25 @@ fn are_apart(found: &ArgMatches<'_>, lines: &[Argument]) -> bool
     }
 }
 
+/// How many files are standard input.
+fn inputs(found: &ArgMatches<'_>, lines: &[Argument]) -> usize {
+    lines
+        .iter()
+        .filter(|line| !is_written(line) && is_input(file_found(found, line)))
+        .count()
+}
+
+/// What is said of files that are not apart.
+fn shared<'a>(found: &ArgMatches<'a>, lines: &[Argument]) -> Misfit<'a> {
+    Misfit::Told(if inputs(found, lines) > 1 {
+        READ_TWICE
+    } else {
+        SAME_FILE
+    })
+}
+
 /// Whether what was found of these arguments is a plan.
-fn check(found: &ArgMatches<'_>, lines: &[Argument]) -> Result<(), Misfit>
+fn check<'a>(found: &ArgMatches<'a>, lines: &[Argument]) -> Result<(), Misfit<'a>>
     ensures fit { IfOk result (λ _. AreFit (rows_of (found_of found.now)) (map line_of lines.now)) }
     ensures stand { IfOk result (λ _. IsTrue (may_stand (rows_of (found_of found.now)))) }
     ensures apart { IfOk result (λ _. IsTrue (are_apart (files_found (rows_of (found_of found.now)) (map line_of lines.now)))) }
@@ -154,7 +195,7 @@ fn check(found: &ArgMatches<'_>, lines: &[Argument]) -> Result<(), Misfit>
     if are_apart(found, lines) {
         Ok(())
     } else {
-        Err(SAME_FILE)
+        Err(shared(found, lines))
     }
 }
 
@@ -167,6 +208,7 @@ fn asm_plan<'a>(found: &ArgMatches<'a>) -> Plan<'a>
         input: operand(found, &IN),
         output: operand(found, &OUT),
         symbols: file(found, &ASM_LABELS),
+        lines: file(found, &ASM_LINES),
         quiet: flag(found, &ALONE),
     }
 }
@@ -184,6 +226,7 @@ fn image_plan<'a>(found: &ArgMatches<'a>) -> Plan<'a>
             entry: number(found, &ENTRY),
             pages: number(found, &PAGES),
             mode: number(found, &MODE),
+            flat_elf: flag(found, &FLAT_ELF),
         },
         quiet: flag(found, &ALONE),
     }
@@ -209,6 +252,7 @@ fn run_request<'a>(found: &ArgMatches<'a>, image: &'a str, steps: u64, times: u6
         trace_last: number(found, &TRACE_LAST),
         policy: file(found, &POLICY),
         symbols: file(found, &RUN_LABELS),
+        lines: file(found, &RUN_LINES),
     }
 }
 
@@ -276,9 +320,10 @@ fn debug_plan<'a>(found: &ArgMatches<'a>) -> Plan<'a>
     ensures { Says (codes "debug") (rows_of (found_of found.now)) result }
 {
     Plan::Debug {
-        image: operand(found, &IMAGE),
+        image: operand(found, &DEBUG_IMAGE),
         symbols: file(found, &DEBUG_LABELS),
-        input: file(found, &INPUT),
+        lines: file(found, &DEBUG_LINES),
+        input: file(found, &DEBUG_INPUT),
         gap: number(found, &GAP),
         tick: number(found, &TICK),
         quiet: flag(found, &ALONE),
@@ -371,7 +416,7 @@ fn plan_of_lines<'a>(
     name: &str,
     found: &ArgMatches<'a>,
     lines: &[Argument],
-) -> Result<Plan<'a>, Misfit>
+) -> Result<Plan<'a>, Misfit<'a>>
     requires { lines_named name.now commands ≡ Some (map line_of lines.now) }
     ensures value { IfOk result (IsPlanOf (Some (name.now, (rows_of (found_of found.now))))) }
     ensures sound { IfOk result IsSound }
@@ -381,18 +426,18 @@ fn plan_of_lines<'a>(
     Ok(read(name, found))
 }
 
-fn plan_of_command<'a>(name: &str, found: &ArgMatches<'a>) -> Result<Plan<'a>, Misfit>
+fn plan_of_command<'a>(name: &str, found: &ArgMatches<'a>) -> Result<Plan<'a>, Misfit<'a>>
     ensures value { IfOk result (IsPlanOf (Some (name.now, (rows_of (found_of found.now))))) }
     ensures sound { IfOk result IsSound }
     ensures none { IfErr result (λ _. NoPlanFits (Some (name.now, (rows_of (found_of found.now))))) }
 {
     match lines_of(name) {
-        None => Err(MISSING),
+        None => Err(Misfit::Told(MISSING)),
         Some(lines) => plan_of_lines(name, found, lines),
     }
 }
 
-fn plan_of<'a>(matches: &ArgMatches<'a>) -> Result<Plan<'a>, Misfit>
+fn plan_of<'a>(matches: &ArgMatches<'a>) -> Result<Plan<'a>, Misfit<'a>>
     ensures value { IfOk result (IsPlanOf (subcommand_rows_of matches.now)) }
     ensures sound { IfOk result IsSound }
     ensures none { IfErr result (λ _. NoPlanFits (subcommand_rows_of matches.now)) }
@@ -403,8 +448,51 @@ fn plan_of<'a>(matches: &ArgMatches<'a>) -> Result<Plan<'a>, Misfit>
     }
 }
 
+/// The text of a refusal, with the usage of the command of this name.
+fn refusal(alloc: Global, name: &str, told: &str) -> Result<String, AllocError> {
+    let lines = lines_of(name).unwrap_or(&[]);
+    let name = format!(in alloc; "cherisim {name}")?;
+    let mut command = alone(alloc, &name, lines)?;
+    let error = command.error(ErrorKind::InvalidValue, told)?;
+    format!(in alloc; "{error}")
+}
+
+/// What is told of words that clap takes, and that are no plan.
+fn misfit_refusal(
+    alloc: Global,
+    matches: &ArgMatches<'_>,
+    misfit: Misfit<'_>,
+) -> Result<String, AllocError> {
+    let told = misfit_text(alloc, misfit)?;
+    match matches.subcommand() {
+        Some((name, _)) => refusal(alloc, name, &told),
+        None => Ok(told),
+    }
+}
+
+/// What clap tells of the words, with the usage of the command that they name where clap shows none.
+fn clap_refusal(alloc: Global, words: &[&str], text: String) -> Result<String, AllocError> {
+    if text.contains("\n\nUsage: ") || words.len() < 2 || lines_of(words[1]).is_none() {
+        return Ok(text);
+    }
+    let line = text.split('\n').next().unwrap_or("");
+    refusal(
+        alloc,
+        words[1],
+        line.strip_prefix("error: ").unwrap_or(line),
+    )
+}
+
+/// The fault with the text of a refusal, if there was memory for it.
+fn refused(text: Result<String, AllocError>) -> PlanFault {
+    match text {
+        Ok(text) => PlanFault::Refused(text),
+        Err(_) => PlanFault::Memory,
+    }
+}
+
 /// The fault for an error of clap's, with its text.
-fn fault_of(alloc: Global, error: Error) -> PlanFault
+fn fault_of(alloc: Global, words: &[&str], error: Error) -> PlanFault
     ensures { kind_of error ≡ ErrorKind.OutOfMemory → result ≡ Memory }
 {
     let kind = error.kind();
@@ -413,7 +501,7 @@ fn fault_of(alloc: Global, error: Error) -> PlanFault
     }
     match format!(in alloc; "{error}") {
         Ok(text) if kind == ErrorKind::DisplayHelp => PlanFault::Help(text),
-        Ok(text) => PlanFault::Refused(text),
+        Ok(text) => refused(clap_refusal(alloc, words, text)),
         Err(_) => PlanFault::Memory,
     }
 }
@@ -436,9 +524,9 @@ fn asks_all(words: &[&str]) -> bool
 /// Reads the words of a command line, the program's name first.
 ///
 /// A file that is written may not bear the name of another file of the command; `--trace-from` and `--trace-last` go with `--trace`,
-/// and `--policy` does not go with `--why`; with one number `bounds` has a length and no address. A number of 64 bits is typed in
-/// decimal digits, or in hexadecimal digits after `0x`. `Help` and `Refused` hold the text for whoever typed the words; `Memory` says
-/// that there was none.
+/// and `--policy` does not go with `--why`; with one number `bounds` has a length and no address. `-` is standard input, which is read
+/// for one file at most, and for none of `debug`. A number is typed in decimal digits, or in hexadecimal digits after `0x`. `Help` and
+/// `Refused` hold the text for whoever typed the words; `Memory` says that there was none.
 pub fn plan<'a>(alloc: Global, words: &'a [&'a str]) -> Result<Plan<'a>, PlanFault>
     ensures taken { OnOk result (IsTaken (map (λ word. word.now) words.entry.now)) }
     ensures ok { IfOk result (IsPlanOf (found_in (map (λ word. word.now) words.entry.now))) }
@@ -451,10 +539,10 @@ pub fn plan<'a>(alloc: Global, words: &'a [&'a str]) -> Result<Plan<'a>, PlanFau
     let mut command = program(alloc, asks_all(words))?;
     let matches = match command.try_get_matches_from_mut(words) {
         Ok(matches) => matches,
-        Err(error) => return Err(fault_of(alloc, error)),
+        Err(error) => return Err(fault_of(alloc, words, error)),
     };
     match plan_of(&matches) {
         Ok(plan) => Ok(plan),
-        Err(misfit) => Err(fault_of(alloc, command.error(ErrorKind::InvalidValue, misfit)?)),
+        Err(misfit) => Err(refused(misfit_refusal(alloc, &matches, misfit))),
     }
 }

@@ -1,6 +1,9 @@
 //! The commands of the program and their arguments, a line each: what clap reads, the help, the limits and the definitions come of them.
 
-use crate::values::MISSING;
+use crate::misfit::MISSING;
+
+/// What is said where a file of `debug` is standard input.
+const BESIDE: &str = "debug reads its commands from standard input, so - cannot be a file of it";
 
 /// How an argument stands among the words.
 #[derive(Clone, Copy)]
@@ -24,11 +27,13 @@ pub(crate) enum Takes {
     Nothing,
     /// Which ends of a run are explained: nothing, or `all`.
     Ends,
-    /// The name of a file that is read.
+    /// The name of a file that is read; `-` is standard input.
     Read,
+    /// The name of a file that is read by a command which reads standard input besides; so it is not `-`.
+    ReadBeside,
     /// The name of a file that is written.
     Written,
-    /// A decimal number from the first to the second.
+    /// A number from the first to the second, in decimal digits or after `0x` in hexadecimal ones.
     Count(u64, u64),
     /// The same, and the first where the argument isn't used.
     Start(u64, u64),
@@ -58,6 +63,9 @@ macro_rules! argument {
         ($id, Stands::$stands, Takes::$takes($least, $most), $default,
             ($value, concat!($help, ", ", $least, " to ", $most, $end), MISSING))
     };
+    ($id:literal $stands:ident ReadBeside, $value:literal, $help:literal) => {
+        ($id, Stands::$stands, Takes::ReadBeside, None, ($value, $help, BESIDE))
+    };
     ($id:literal $stands:ident Number, $value:literal, $takes:expr, $help:literal) => {
         ($id, Stands::$stands, Takes::Number, None, ($value, $help, $takes))
     };
@@ -84,8 +92,14 @@ pub(crate) const FILE: Argument = argument!("FILE" Operand Read, "",
 pub(crate) const IMAGE: Argument = argument!("IMAGE" Operand Read, "",
     "The file with the image, or with a text, if its name ends in .s");
 
+pub(crate) const DEBUG_IMAGE: Argument = argument!("IMAGE" Operand ReadBeside, "",
+    "The file with the image, or with a text, if its name ends in .s");
+
 pub(crate) const INPUT: Argument =
     argument!("input" Named Read, "FILE", "The file whose bytes come on the console");
+
+pub(crate) const DEBUG_INPUT: Argument =
+    argument!("input" Named ReadBeside, "FILE", "The file whose bytes come on the console");
 
 pub(crate) const POLICY: Argument = argument!("policy" Named Read, "FILE",
     "The file with the policy that the run is watched by");
@@ -93,10 +107,16 @@ pub(crate) const POLICY: Argument = argument!("policy" Named Read, "FILE",
 pub(crate) const RUN_LABELS: Argument = argument!("symbols" Named Read, "FILE",
     "A file with labels, which stand after addresses, and which the policy may name");
 
+pub(crate) const RUN_LINES: Argument = argument!("lines" Named Read, "FILE",
+    "A file with lines of a source, which stand after the addresses of instructions");
+
+pub(crate) const DEBUG_LINES: Argument = argument!("lines" Named ReadBeside, "FILE",
+    "A file with lines of a source, which stand after the addresses of instructions");
+
 pub(crate) const DIS_LABELS: Argument = argument!("symbols" Named Read, "FILE",
     "A file with labels, which the listing shows");
 
-pub(crate) const DEBUG_LABELS: Argument = argument!("symbols" Named Read, "FILE",
+pub(crate) const DEBUG_LABELS: Argument = argument!("symbols" Named ReadBeside, "FILE",
     "A file with labels, which stand for their addresses in commands");
 
 pub(crate) const OUT: Argument =
@@ -104,6 +124,9 @@ pub(crate) const OUT: Argument =
 
 pub(crate) const ASM_LABELS: Argument = argument!("symbols" Named Written, "FILE",
     "The file that the labels are written to");
+
+pub(crate) const ASM_LINES: Argument = argument!("lines" Named Written, "FILE",
+    "The file that the line of each placed instruction is written to");
 
 pub(crate) const TRACE: Argument = argument!("trace" Named Written, "FILE",
     "The file that a line for each step is written to");
@@ -181,6 +204,9 @@ pub(crate) const STATUS: Argument = argument!("quiet" Flag Nothing, "",
 pub(crate) const WHY: Argument = argument!("why" FlagOrAll Ends, "WHICH",
     "Explains where the run ended if an instruction could not be fetched; --why=all explains each end");
 
+pub(crate) const FLAT_ELF: Argument = argument!("flat-elf" Flag Nothing, "",
+    "Takes the bytes of an ELF as they stand, where it would be refused");
+
 pub(crate) const HEADER: Argument = argument!("header" Flag Nothing, "",
     "Begin with the image's header and capabilities, as comments");
 
@@ -192,19 +218,19 @@ pub(crate) const COMMANDS: [CommandRow; 9] = [
     (
         "asm",
         "Assembles a text into an image",
-        &[IN, OUT, ASM_LABELS, ALONE],
+        &[IN, OUT, ASM_LABELS, ASM_LINES, ALONE],
     ),
     (
         "image",
         "Makes an image of a file's bytes; numbers are decimal, or hexadecimal behind 0x",
-        &[FLAT, OUT, AT, ENTRY, PAGES, MODE, ALONE],
+        &[FLAT, OUT, AT, ENTRY, PAGES, MODE, FLAT_ELF, ALONE],
     ),
     (
         "go",
         "Runs a text or an image until it halts; what it sends goes to standard output",
         &[
             FILE, GO_STEPS, GO_TIMES, INPUT, RUN_GAP, RUN_TICK, STATUS, WHY, TRACE, TRACE_FROM,
-            TRACE_LAST, POLICY, RUN_LABELS,
+            TRACE_LAST, POLICY, RUN_LABELS, RUN_LINES,
         ],
     ),
     (
@@ -212,7 +238,7 @@ pub(crate) const COMMANDS: [CommandRow; 9] = [
         "Runs an image, and writes the bytes that it sends to standard output",
         &[
             IMAGE, STEPS, TIMES, INPUT, RUN_GAP, RUN_TICK, STATUS, WHY, TRACE, TRACE_FROM,
-            TRACE_LAST, POLICY, RUN_LABELS,
+            TRACE_LAST, POLICY, RUN_LABELS, RUN_LINES,
         ],
     ),
     (
@@ -220,7 +246,7 @@ pub(crate) const COMMANDS: [CommandRow; 9] = [
         "Runs an image, and lists what breaks a policy, or what a policy would have to allow",
         &[
             IMAGE, STEPS, TIMES, INPUT, RUN_GAP, RUN_TICK, STATUS, TRACE, TRACE_FROM, TRACE_LAST,
-            POLICY, RUN_LABELS,
+            POLICY, RUN_LABELS, RUN_LINES,
         ],
     ),
     (
@@ -231,7 +257,15 @@ pub(crate) const COMMANDS: [CommandRow; 9] = [
     (
         "debug",
         "Debugs an image: commands from standard input, replies to standard output",
-        &[IMAGE, DEBUG_LABELS, INPUT, GAP, TICK, ALONE],
+        &[
+            DEBUG_IMAGE,
+            DEBUG_LABELS,
+            DEBUG_LINES,
+            DEBUG_INPUT,
+            GAP,
+            TICK,
+            ALONE,
+        ],
     ),
     (
         "bounds",

@@ -2,28 +2,15 @@
 
 ghost use Rattle.std.specs.Prelude.{◌≡◌, ◌&&◌, ◌||◌, IsSome, IsTrue, Some, None, not, is_some, option_map};
 ghost use Rattle.clap.specs.Words.{found_of, rows_of, first_of};
-ghost use Rattle.command_line.specs.CommandLine.{File, Amount, Used, Explained, count_of, said_of};
+ghost use Rattle.command_line.specs.CommandLine.{File, Amount, Used, Explained, said_of};
 ghost use Rattle.command_line.specs.CommandLine.{is_needed, is_file, line_of, why_of, is_used};
 ghost use Rattle.command_line.specs.CommandLine.{is_number, is_start};
 ghost use Rattle.command_line.specs.declared.table.Takes.TheVariants.{Nothing, Ends};
 
-use crate::numbers::written_number;
+use crate::numbers::{count_in, written_number};
 use crate::plans::Why;
 use crate::table::{Line, Stands, Takes};
 use clap::ArgMatches;
-
-/// Why what clap found is no plan: a text for whoever typed it.
-pub(crate) type Misfit = &'static str;
-
-/// An argument that must be there isn't, or a number of a run lies outside its range.
-pub(crate) const MISSING: Misfit = "an argument is missing, or its value is out of range";
-
-/// The decimal number that was found for `id`.
-fn count_of(found: &ArgMatches<'_>, id: &str) -> Option<u64>
-    ensures { result ≡ count_of id.now (rows_of (found_of found.now)) }
-{
-    found.get_one::<u64>(id)
-}
 
 /// The text that was found for `id`.
 pub(crate) fn text<'a>(matches: &ArgMatches<'a>, id: &str) -> Option<&'a str>
@@ -72,13 +59,15 @@ pub(crate) fn is_fit(found: &ArgMatches<'_>, line: &Line<'_>) -> bool
             Takes::Nothing
             | Takes::Ends
             | Takes::Read
+            | Takes::ReadBeside
             | Takes::Written
             | Takes::Count(..)
             | Takes::Number => true,
         },
         Some(text) => match line.2 {
             Takes::Nothing | Takes::Ends | Takes::Read | Takes::Written => true,
-            Takes::Count(least, most) | Takes::Start(least, most) => match count_of(found, line.0) {
+            Takes::ReadBeside => text != "-",
+            Takes::Count(least, most) | Takes::Start(least, most) => match count_in(text) {
                 Some(count) => least <= count && count <= most,
                 None => false,
             },
@@ -103,6 +92,7 @@ pub(crate) fn operand<'a>(found: &ArgMatches<'a>, line: &Line<'_>) -> &'a str
 /// The file that an argument names, if it is used.
 #[tactic(auto, unfolding(crate::specs::CommandLine::said_of))]
 pub(crate) fn file<'a>(found: &ArgMatches<'a>, line: &Line<'_>) -> Option<&'a str>
+    requires fit { IsSome (said_of (rows_of (found_of found.now)) (line_of line.now)) }
     requires kind { IsTrue (is_file line.now.2 && not (is_needed (line_of line.now))) }
     ensures { said_of (rows_of (found_of found.now)) (line_of line.now) ≡ Some (File (option_map (λ s. s.now) result)) }
 {
@@ -119,7 +109,7 @@ pub(crate) fn number(found: &ArgMatches<'_>, line: &Line<'_>) -> Option<u64>
     match text(found, line.0) {
         Some(text) => match line.2 {
             Takes::Number => written_number(text),
-            _ => count_of(found, line.0),
+            _ => count_in(text),
         },
         None => match line.2 {
             Takes::Start(least, _) => Some(least),

@@ -1,7 +1,7 @@
 -- The image of a flat file: numbers that a header can't hold, and bytes past those that RAM has room for, change no fault.
-use Rattle.std.specs.Prelude.{◌≡◌, ℕ, ◌+◌, ◌-◌, ◌*◌, ◌^◌, ◌<◌, ◌≤◌, min, nat_le, true, false, ◌&&◌, List, [], length, take, Option, Some}
+use Rattle.std.specs.Prelude.{◌≡◌, ℕ, ◌+◌, ◌-◌, ◌*◌, ◌^◌, ◌<◌, ◌≤◌, min, nat_le, Bool, true, false, not, ◌&&◌, List, [], length, take, Option, Some}
 use Rattle.std.specs.Prelude.{None, Result, Ok, Err, refl, IfSome, ◌⊎◌}
-use Rattle.std.proofs.Common.{sym, ◌∙◌, arith, inl, inr}
+use Rattle.std.proofs.Common.{sym, ap, ◌∙◌, arith, inl, inr}
 use Rattle.std.proofs.Math.Nat.{min-eq_left}
 use Rattle.std.proofs.lemmas.Bool.{cases_Bool, cases_lt, and_left, and_right, lt-leb}
 use Rattle.std.proofs.lemmas.List.{take_all, length-take-le}
@@ -12,7 +12,8 @@ use Rattle.image.specs.declared.fault.ImageFault.TheVariants.{L4, L6, L11}
 use Rattle.image.specs.Image.{Image, Section, Builds, build_fault, image_of, is_version, is_good_header}
 use Rattle.image.specs.ImageLaws.{header_ranges}
 use Rattle.commands.specs.Imaging.{given, default_pages, most_read, header_number, version_of, flat_sections, flat_fault, at_of, entry_of}
-use Rattle.commands.specs.Imaging.{mode_of, pages_of, fault_for, image_for, MakesImage}
+use Rattle.commands.specs.Imaging.{mode_of, pages_of, fault_for, image_for, is_refused, MakesImage}
+use Rattle.hints.specs.Files.{is_elf}
 use Rattle.commands.specs.Files.{File, Gains, whole}
 use Rattle.image.specs.Grammar.{spelling}
 use Rattle.command_line.specs.declared.layout.Layout.{Layout}
@@ -138,15 +139,16 @@ builds_err (Some fault) image found builds = inr cc
 -- the image that was written is that of the whole file
 pub written_whole : (layout : Layout) (output read : List ℕ) (known : Option (List ℕ)) (made : Image) (old new : Option (List File))
     → IfSome known (λ bytes. read ≡ take (most_read layout.pages) bytes)
+    → IfSome known (λ bytes. is_refused layout bytes ≡ false)
     → Builds (fault_for layout read) (image_for layout read) (Ok made) → Gains old new (whole output (spelling made))
     → IfSome known (λ bytes. MakesImage layout output bytes old new)
-written_whole layout output read None made old new part builds gains = tt
-written_whole layout output read (Some bytes) made old new part builds gains =
+written_whole layout output read None made old new part taken builds gains = tt
+written_whole layout output read (Some bytes) made old new part taken builds gains =
     let all = read_all layout bytes in
     let built = builds_ok _ _ made builds in
     let none : fault_for layout bytes ≡ None = sym all.0 ∙ (rw part at built.0) in
     let same : read ≡ bytes = part ∙ all.1 none in
-    (none, rw (built.1, same) at gains)
+    (taken, none, rw (built.1, same) at gains)
 
 -- and the fault of its build that of the whole file
 pub fault_whole : (layout : Layout) (read : List ℕ) (bytes : List ℕ) (found : ImageFault) → read ≡ take (most_read layout.pages) bytes
@@ -155,6 +157,14 @@ fault_whole layout read bytes found part builds = elim (builds_err _ _ found bui
   | inl memory ↦ inl memory
   | inr fault ↦ inr (sym (read_all layout bytes).0 ∙ (rw part at fault))
 ]
+
+-- whether a file is refused by what is read of it
+pub elf_known : (layout : Layout) (read : List ℕ) (known : Option (List ℕ)) (answer wanted : Bool)
+    → IfSome known (λ bytes. read ≡ take (most_read layout.pages) bytes) → answer ≡ (not layout.flat_elf && is_elf read)
+    → answer ≡ wanted → IfSome known (λ bytes. is_refused layout bytes ≡ wanted)
+elf_known layout read None answer wanted part is e = tt
+elf_known layout read (Some bytes) answer wanted part is e =
+    ap (λ bs. not layout.flat_elf && is_elf bs) (sym part) ∙ sym is ∙ e
 
 -- where a file's bytes are known
 pub fault_known : (layout : Layout) (read : List ℕ) (known : Option (List ℕ)) (found : ImageFault)

@@ -8,10 +8,12 @@ use Rattle.assembler.specs.declared.fault.AsmFault.{AsmFault}
 use Rattle.assembler.specs.declared.further.FurtherFaults.{FurtherFaults}
 use Rattle.assembler.specs.Further.{faults_after}
 use Rattle.assembler.specs.Left.{IsFaultOf}
+use Rattle.assembler.specs.Placed.{placed_lines}
 use Rattle.assembler.specs.Places.{Symbols, symbols_of}
 use Rattle.assembler.specs.Standing.{standing_of}
 use Rattle.assembler.specs.Text.{text_fault, text_image}
 use Rattle.fault_details.specs.Detail.{detail_of, line_at}
+use Rattle.fault_details.specs.SourceLines.{source_lines}
 use Rattle.symbols.specs.Symbols.{Symbol, symbol, table_text}
 use Rattle.commands.specs.declared.fault.ProgramFault.{ProgramFault}
 use Rattle.commands.specs.declared.fault.ProgramFault.TheVariants.{Asm}
@@ -27,11 +29,30 @@ abbrev pub table_file : Option (Bor Text) → Symbols → List File
 table_file None labels = []
 table_file (Some name) labels = whole name.now (table_text (seen_labels labels))
 
--- A correct text: its image is written to a file, the table of its labels to another if one is named, and no other file is.
-abbrev pub Assembles : Text → Option (Bor Text) → List ℕ → Option (List File) → Option (List File) → Type 0
-Assembles output symbols text old new =
+-- a file's name without its folders: what stands after the last slash, or the whole name
+abbrev pub after_slashes : List ℕ → Text → List ℕ
+after_slashes found [] = found
+after_slashes found (b ∷ bs) = if b == 47 then after_slashes bs bs else after_slashes found bs
+
+abbrev pub base_name : Text → List ℕ
+base_name name = after_slashes name name
+
+-- the line of each instruction that a text places, as a table of lines has them
+abbrev pub own_lines : Text → List ℕ → List ℕ
+own_lines name text = source_lines (base_name name) text (placed_lines text)
+
+-- the file of the lines, if one is named
+abbrev pub lines_file : Option (Bor Text) → List ℕ → List File
+lines_file None lines = []
+lines_file (Some name) lines = whole name.now lines
+
+-- A correct text: its image is written to a file, the table of its labels to another if one is named, then that of its lines to a third if
+-- one is, and no other file is.
+abbrev pub Assembles : Text → Text → Option (Bor Text) → Option (Bor Text) → List ℕ → Option (List File) → Option (List File) → Type 0
+Assembles input output symbols lines text old new =
     (text_fault text ≡ None)
-    × Gains old new (whole output (spelling (text_image text)) ++ table_file symbols (symbols_of text))
+    × Gains old new (whole output (spelling (text_image text)) ++ table_file symbols (symbols_of text)
+    ++ lines_file lines (own_lines input text))
 
 -- how many columns stand before a line where it is shown, after two blanks, the file's name, the line's number and two colons: one for
 -- each byte of the name that begins a character in UTF-8
@@ -78,13 +99,18 @@ pub data FailsToWrite (output : Text) (symbols : Option (Bor Text)) (image : Ima
       (between : Option (List File)) → Gains old between (whole output (spelling image))
       → IsSomeAnd symbols (λ name. IsUnwritten name.now between new fault) → FailsToWrite output symbols image old new fault
 
--- Why a text isn't assembled: it can't be read; or it is faulty; or it is correct, and what it means can't be written.
-pub data FailsToAssemble (input output : Text) (symbols : Option (Bor Text)) (old new : Option (List File)) (fault : ProgramFault)
+-- Why a text isn't assembled: it can't be read; or it is faulty; or it is correct, and what it means can't be written; or that is, and the
+-- table of its lines that is named can't be.
+pub data FailsToAssemble (input output : Text) (symbols lines : Option (Bor Text)) (old new : Option (List File)) (fault : ProgramFault)
     : Type 0 where
-  at_input : IsTextFault input old fault → new ≡ old → FailsToAssemble input output symbols old new fault
+  at_input : IsTextFault input old fault → new ≡ old → FailsToAssemble input output symbols lines old new fault
   at_text :
       (text : List ℕ) → Holds input old text → IsFaultyText input text fault → new ≡ old
-      → FailsToAssemble input output symbols old new fault
+      → FailsToAssemble input output symbols lines old new fault
   at_output :
       (text : List ℕ) → Holds input old text → text_fault text ≡ None → FailsToWrite output symbols (text_image text) old new fault
-      → FailsToAssemble input output symbols old new fault
+      → FailsToAssemble input output symbols lines old new fault
+  at_lines :
+      (text : List ℕ) (between : Option (List File)) → Holds input old text → text_fault text ≡ None
+      → Gains old between (whole output (spelling (text_image text)) ++ table_file symbols (symbols_of text))
+      → IsSomeAnd lines (λ name. IsUnwritten name.now between new fault) → FailsToAssemble input output symbols lines old new fault

@@ -2,8 +2,10 @@
 use Rattle.std.specs.Prelude.{◌≡◌, ℕ, ◌<◌, List, length, [], ◌∷◌, ◌++◌, bytes_eq, if◌then◌else◌, Option, Some, None, Err}
 use Rattle.std.specs.Prelude.{IfSome, ⊤}
 use Rattle.std.specs.Io.KnownBytes.{Keeps}
+use Rattle.hints.specs.Printable.{IsHint}
 use Rattle.image.specs.Grammar.{reading}
 use Rattle.image.specs.Reads.{IsOfBytes}
+use Rattle.symbols.specs.Sources.{faulty_place, places_of}
 use Rattle.symbols.specs.Symbols.{Symbol, faulty_line, symbols_of}
 use Rattle.commands.specs.declared.fault.ProgramFault.{ProgramFault}
 use Rattle.commands.specs.declared.fault.ProgramFault.TheVariants.{NoFile, Directory, Read, Write, CutShort, Memory}
@@ -55,6 +57,10 @@ bytes_of name (Some files) = last_of name files None
 abbrev pub IsTable : Text → Option (List File) → List Symbol → Type 0
 IsTable name files symbols = IfSome (bytes_of name files) (λ text. (faulty_line text ≡ None) × (symbols ≡ symbols_of text))
 
+-- The lines of sources are those of a file, which is a table of them.
+abbrev pub AreLinesOf : Text → Option (List File) → List Symbol → Type 0
+AreLinesOf name files lines = IfSome (bytes_of name files) (λ text. (faulty_place text ≡ None) × (lines ≡ places_of text))
+
 -- What a command changes, where that is known: what an output holds, and what became of files, before and after.
 pub record Change : Type 0 where
   pub sent : Option (List ℕ)
@@ -94,10 +100,10 @@ abbrev pub IsUnsentOrMemory : ProgramFault → Type 0
 IsUnsentOrMemory Memory = ⊤
 IsUnsentOrMemory other = IsUnsent other
 
--- a fault of a file that is to be an image: what its bytes are refused for, or the system's
+-- a fault of a file that is to be an image: what its bytes are refused for, with a hint, or the system's
 abbrev pub IsImageFault : Text → Option (List File) → ProgramFault → Type 0
-IsImageFault image files (program.File name fault) =
-    (name.now ≡ image) × IfSome (bytes_of image files) (λ bytes. IsOfBytes fault → reading bytes ≡ Err fault)
+IsImageFault image files (program.File name fault hint) =
+    (name.now ≡ image) × IsHint hint.now × IfSome (bytes_of image files) (λ bytes. IsOfBytes fault → reading bytes ≡ Err fault)
 IsImageFault image files other = IsOpening image other
 
 -- a fault of a file that is to hold a text: more than 256 MiB, or the system's

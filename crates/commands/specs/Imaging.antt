@@ -1,7 +1,8 @@
 -- The image that `image` makes of a flat file: where the bytes go, and what stands for what isn't named.
-use Rattle.std.specs.Prelude.{◌≡◌, ℕ, ◌+◌, ◌-◌, ◌*◌, ◌/◌, ◌^◌, nat_le, min, max, if◌then◌else◌, List, [], ◌∷◌, length}
-use Rattle.std.specs.Prelude.{Option, Some, None, IfSome, ◌⊎◌}
+use Rattle.std.specs.Prelude.{◌≡◌, ℕ, ◌+◌, ◌-◌, ◌*◌, ◌/◌, ◌^◌, nat_le, min, max, if◌then◌else◌, List, [], ◌∷◌, length, take}
+use Rattle.std.specs.Prelude.{Bool, true, false, not, ◌&&◌, Option, Some, None, IfSome, ◌⊎◌}
 use Rattle.base.specs.Ram.{ram_base, page_bytes, most_pages, most_pages_version_1}
+use Rattle.hints.specs.Files.{is_elf}
 use Rattle.image.specs.declared.fault.ImageFault.{ImageFault}
 use Rattle.image.specs.Image.{Image, Section, build_fault, image_of}
 use Rattle.image.specs.declared.fault.ImageFault.TheVariants.{L11}
@@ -60,21 +61,36 @@ image_for layout bytes = flat_image (pages_of layout (length bytes)) (entry_of l
 abbrev pub fault_for : Layout → List ℕ → Option ImageFault
 fault_for layout bytes = flat_fault (pages_of layout (length bytes)) (entry_of layout) (mode_of layout) (at_of layout) bytes
 
+-- An ELF is refused, unless its bytes are to be taken as they stand: what is read of it tells.
+abbrev pub is_refused : Layout → List ℕ → Bool
+is_refused layout bytes = not layout.flat_elf && is_elf (take (most_read layout.pages) bytes)
+
 -- The image of the bytes is written to a file, and no other file is.
 abbrev pub MakesImage : Layout → Text → List ℕ → Option (List File) → Option (List File) → Type 0
 MakesImage layout output bytes old new =
-    (fault_for layout bytes ≡ None) × Gains old new (whole output (spelling (image_for layout bytes)))
+    (is_refused layout bytes ≡ false) × (fault_for layout bytes ≡ None)
+    × Gains old new (whole output (spelling (image_for layout bytes)))
+
+-- an ELF that is refused
+abbrev pub IsElfFault : Layout → Text → Option (List ℕ) → ProgramFault → Type 0
+IsElfFault layout flat known (program.Elf name) = (name.now ≡ flat) × IfSome known (λ bytes. is_refused layout bytes ≡ true)
+IsElfFault layout flat known other = ⊥
 
 -- what no image is built of these bytes of a file for: the first fault of its build, unless there was no memory
 abbrev pub IsFlatFault : Layout → Text → Option (List ℕ) → ProgramFault → Type 0
-IsFlatFault layout flat known (program.File name fault) =
+IsFlatFault layout flat known (program.File name fault hint) =
     (name.now ≡ flat) × IfSome known (λ bytes. (fault ≡ L11) ⊎ (fault_for layout bytes ≡ Some fault))
 IsFlatFault layout flat known other = ⊥
 
--- Why no image is made of a flat file: it can't be read; or no image is built of its bytes; or the image can't be written.
+-- Why no image is made of a flat file: it can't be read; or it is an ELF that is refused; or no image is built of its bytes; or the
+-- image can't be written.
 pub data FailsToImage (layout : Layout) (flat output : Text) (old new : Option (List File)) (fault : ProgramFault) : Type 0 where
   at_flat : IsReading flat fault → new ≡ old → FailsToImage layout flat output old new fault
-  at_build : IsFlatFault layout flat (bytes_of flat old) fault → new ≡ old → FailsToImage layout flat output old new fault
+  at_elf : IsElfFault layout flat (bytes_of flat old) fault → new ≡ old → FailsToImage layout flat output old new fault
+  at_build :
+      IfSome (bytes_of flat old) (λ bytes. is_refused layout bytes ≡ false) → IsFlatFault layout flat (bytes_of flat old) fault
+      → new ≡ old → FailsToImage layout flat output old new fault
   at_output :
-      IfSome (bytes_of flat old) (λ bytes. fault_for layout bytes ≡ None) → IsUnwritten output old new fault
+      IfSome (bytes_of flat old) (λ bytes. is_refused layout bytes ≡ false)
+      → IfSome (bytes_of flat old) (λ bytes. fault_for layout bytes ≡ None) → IsUnwritten output old new fault
       → FailsToImage layout flat output old new fault

@@ -13,12 +13,11 @@ use Rattle.schedules.specs.declared.schedule.Schedule.{Schedule}
 use Rattle.schedules.specs.Schedule.{IsRunnable, events_before, scheduled}
 use Rattle.steps.specs.declared.event.Event.{Event}
 use Rattle.steps.specs.State.{State}
-use Rattle.symbols.specs.Labels.{table_of}
 use Rattle.symbols.specs.Symbols.{Symbol}
 use Rattle.commands.specs.declared.loading.LoadedRun.{LoadedRun}
 use Rattle.commands.specs.declared.loading.Rules.{Rules}
 use Rattle.commands.specs.Files.{Text, File, bytes_of}
-use Rattle.commands.specs.Programs.{IsProgram}
+use Rattle.commands.specs.Programs.{HasTable, IsProgram}
 
 -- ---- a run
 
@@ -67,7 +66,7 @@ pub record IsLoaded (asked : RunRequest) (files : Option (List File)) (loaded : 
   pub request : loaded.request ≡ asked
   pub schedule : loaded.schedule ≡ schedule_of asked
   pub program :
-      (labels : Option (List Symbol)) × (loaded.table ≡ table_of labels)
+      (labels : Option (List Symbol)) × HasTable asked.image.now asked.lines files labels loaded.table
       × IsProgram asked.image.now asked.symbols files loaded.image labels
   pub rules : AreRules asked.policy loaded.table files loaded.rules
   pub input : IsTyped (schedule_of asked) asked.input files loaded.input.items

@@ -19,12 +19,13 @@ are_same same (Some name) (Some other) = same name.now other.now
 abbrev pub traces_over : Sameness → RunRequest → Bool
 traces_over same run =
     (are_same same run.trace (Some run.image) || are_same same run.trace run.input)
-    || (are_same same run.trace run.policy || are_same same run.trace run.symbols)
+    || ((are_same same run.trace run.policy || are_same same run.trace run.symbols) || are_same same run.trace run.lines)
 
 -- a file that is written is another file of the command
 abbrev pub overwrites : Sameness → Plan → Bool
-overwrites same (Asm input output symbols quiet) =
-    (same output.now input.now || are_same same symbols (Some input)) || are_same same symbols (Some output)
+overwrites same (Asm input output symbols lines quiet) =
+    ((same output.now input.now || are_same same symbols (Some input)) || are_same same symbols (Some output))
+    || ((are_same same lines (Some input) || are_same same lines (Some output)) || are_same same lines symbols)
 overwrites same (Image flat output layout quiet) = same output.now flat.now
 overwrites same (Go request why) = traces_over same request
 overwrites same (Run request why) = traces_over same request

@@ -1,15 +1,17 @@
 -- What a file gives that is run, debugged or listed: an image, and the labels that are known of it.
-use Rattle.std.specs.Prelude.{◌≡◌, ◌⊎◌, ◌==◌, ℕ, Bool, true, false, List, Option, Some, None, Ok, IfSome, IsSomeAnd, codes}
+use Rattle.std.specs.Prelude.{◌≡◌, ◌⊎◌, ◌==◌, ℕ, Bool, true, false, List, [], ◌++◌, Option, Some, None, Ok, IfSome, IsSomeAnd, codes}
 use Rattle.std.specs.Borrow.{Bor}
 use Rattle.std.specs.List.{ends_with}
 use Rattle.assembler.specs.Places as places
 use Rattle.assembler.specs.Text.{text_fault, text_image}
 use Rattle.image.specs.Grammar.{reading}
 use Rattle.image.specs.Image.{Image}
+use Rattle.symbols.specs.Labels.{table_of}
+use Rattle.symbols.specs.Sources.{places_of}
 use Rattle.symbols.specs.Symbols.{Symbol, symbols_of, table_text}
 use Rattle.commands.specs.declared.fault.ProgramFault.{ProgramFault}
-use Rattle.commands.specs.Assembling.{IsFaultyText, seen_labels}
-use Rattle.commands.specs.Files.{Text, File, Holds, IsImageFault, IsTable, IsTableFault, IsTextFault, IsTextTableFault}
+use Rattle.commands.specs.Assembling.{IsFaultyText, own_lines, seen_labels}
+use Rattle.commands.specs.Files.{Text, File, AreLinesOf, Holds, IsImageFault, IsTable, IsTableFault, IsTextFault, IsTextTableFault}
 use Rattle.commands.specs.Files.{bytes_of}
 
 -- A file holds a text where its name ends in `.s`.
@@ -39,6 +41,25 @@ pub record IsProgram (name : Text) (symbols : Option (Bor Text)) (files : Option
     (labels : Option (List Symbol)) : Type 0 where
   pub held : GivesImage name files image
   pub known : GivesLabels (is_source name) name symbols files labels
+
+-- the table of lines that `asm` writes of a text; an image has none
+abbrev pub GivesOwnLines : Bool → Text → Option (List File) → List ℕ → Type 0
+GivesOwnLines true name files lines = IfSome (bytes_of name files) (λ text. lines ≡ own_lines name text)
+GivesOwnLines false name files lines = lines ≡ []
+
+-- the lines of sources: those of a table that is named, or else those of the text, if it is one
+abbrev pub GivesLines : Option (Bor Text) → List ℕ → Option (List File) → List Symbol → Type 0
+GivesLines None own files lines = lines ≡ places_of own
+GivesLines (Some table) own files lines = AreLinesOf table.now files lines
+
+-- What is told with addresses: the labels, and after them the lines of sources.
+pub record HasTable (name : Text) (lines : Option (Bor Text)) (files : Option (List File)) (labels : Option (List Symbol))
+    (table : List Symbol) : Type 0 where
+  pub own : List ℕ
+  pub sources : List Symbol
+  pub text : GivesOwnLines (is_source name) name files own
+  pub given : GivesLines lines own files sources
+  pub all : table ≡ table_of labels ++ sources
 
 -- ---- faults
 

@@ -1,19 +1,23 @@
 //! The command `asm`.
 
-ghost use Rattle.std.specs.Prelude.{◌≡◌, ◌≤◌, ◌++◌, length, IfErr, IfSome, OnOk};
+ghost use Rattle.std.specs.Prelude.{◌≡◌, ◌≤◌, ◌⊎◌, ◌++◌, List, Option, None, length, IfErr, IfSome, IsSomeAnd, OnOk};
 ghost use Rattle.assembler.specs.Left.{IsStoppedAt};
+ghost use Rattle.assembler.specs.Placed.{placed_lines};
+ghost use Rattle.assembler.specs.Places.{symbols_of};
 ghost use Rattle.assembler.specs.Standing.{standing_of};
+ghost use Rattle.assembler.specs.Text.{text_fault, text_image};
+ghost use Rattle.fault_details.specs.SourceLines.{source_lines};
 ghost use Rattle.image.specs.Grammar.{spelling};
 ghost use Rattle.symbols.specs.Symbols.{table_text};
 ghost use Rattle.commands.specs.Assembling.{AreFurther, Assembles, FailsToAssemble, FailsToWrite, IsAsmFault};
-ghost use Rattle.commands.specs.Assembling.{columns, indent_of, seen_labels, table_file};
-ghost use Rattle.commands.specs.Files.{Gains, IsUnwritten, bytes_of, whole};
+ghost use Rattle.commands.specs.Assembling.{base_name, columns, indent_of, lines_file, seen_labels, table_file};
+ghost use Rattle.commands.specs.Files.{File, Gains, IsUnwritten, bytes_of, whole};
 
 use crate::fault::ProgramFault;
 use crate::faulty_text::FaultyText;
 use crate::files::{Folder, read_text, write_bytes, write_image};
 use assembler::{AsmFault, Assembly, FurtherFaults, Stopped, assemble_or_stop, further_faults};
-use fault_details::{detail, line_at};
+use fault_details::{detail, line_at, source_lines};
 use hints::hint;
 use itoa::Buffer;
 use std::alloc::Global;
@@ -142,22 +146,91 @@ fn write_assembly<'a, F: Folder>(
     }
 }
 
+/// A file's name without its folders.
+pub(crate) fn base_name(name: &str) -> &[u8]
+    ensures { result.now ≡ base_name name.now }
+{
+    let mut found = name.as_bytes();
+    let mut rest = found;
+    while let Some((byte, after)) = rest.split_first() {
+        rest = after;
+        if *byte == b'/' {
+            found = after;
+        }
+    }
+    found
+}
+
+/// Writes the line of each placed instruction to the file `lines`, if one is named.
+fn write_lines<'a, F: Folder>(
+    alloc: Global,
+    folder: &mut F,
+    lines: Option<&'a str>,
+    input: &str,
+    text: &[u8],
+    assembly: &Assembly,
+) -> Result<(), ProgramFault<'a>>
+    ensures ok { OnOk result (Gains (F.files folder.old) (F.files folder.new)
+        (lines_file lines.entry (source_lines (base_name input.now) text.now assembly.now.placed))) }
+    ensures err { IfErr result (λ fault. IsSomeAnd lines.entry (λ name.
+        IsUnwritten name.now (F.files folder.old) (F.files folder.new) fault)) }
+{
+    let Some(file) = lines else {
+        return Ok(());
+    };
+    match source_lines(alloc, base_name(input), text, assembly.placed()) {
+        Ok(table) => write_bytes(folder, file, &table),
+        Err(_) => Err(ProgramFault::Memory),
+    }
+}
+
+/// Writes what a correct text of the file `input` means.
+fn write_all<'a, F: Folder>(
+    alloc: Global,
+    folder: &mut F,
+    input: &str,
+    output: &'a str,
+    symbols: Option<&'a str>,
+    lines: Option<&'a str>,
+    text: &[u8],
+    assembly: &Assembly,
+) -> Result<(), ProgramFault<'a>>
+    requires correct { text_fault text.now ≡ None }
+    requires image { assembly.now.image ≡ text_image text.now }
+    requires symbols { assembly.now.symbols ≡ symbols_of text.now }
+    requires placed { assembly.now.placed ≡ placed_lines text.now }
+    ensures ok { OnOk result (Assembles input.now output.entry.now symbols.entry lines.entry text.now
+        (F.files folder.old) (F.files folder.new)) }
+    ensures err { IfErr result (λ fault. FailsToWrite output.entry.now symbols.entry (text_image text.now)
+        (F.files folder.old) (F.files folder.new) fault
+        ⊎ ((between : Option (List File)) × Gains (F.files folder.old) between (whole output.entry.now (spelling (text_image text.now))
+        ++ table_file symbols.entry (symbols_of text.now))
+        × IsSomeAnd lines.entry (λ name. IsUnwritten name.now between (F.files folder.new) fault))) }
+{
+    write_assembly(alloc, folder, output, symbols, assembly)?;
+    write_lines(alloc, folder, lines, input, text, assembly)
+}
+
 /// Assembles the text of the file `input`, and where that succeeds makes the file `output` and writes the image to it; then the
-/// labels to the file `symbols`, if one is named.
+/// labels to the file `symbols`, if one is named, and the line of each placed instruction to the file `lines`, if one is.
 pub fn assemble_file<'a, F: Folder>(
     alloc: Global,
     folder: &mut F,
     input: &'a str,
     output: &'a str,
     symbols: Option<&'a str>,
+    lines: Option<&'a str>,
 ) -> Result<(), ProgramFault<'a>>
     ensures ok { OnOk result (IfSome (bytes_of input.entry.now (F.files folder.old)) (λ text.
-        Assembles output.entry.now symbols.entry text (F.files folder.old) (F.files folder.new))) }
-    ensures err { IfErr result (FailsToAssemble input.entry.now output.entry.now symbols.entry (F.files folder.old) (F.files folder.new)) }
+        Assembles input.entry.now output.entry.now symbols.entry lines.entry text (F.files folder.old) (F.files folder.new))) }
+    ensures err { IfErr result (FailsToAssemble input.entry.now output.entry.now symbols.entry lines.entry
+        (F.files folder.old) (F.files folder.new)) }
 {
     let text = read_text(alloc, folder, input)?;
     match assemble_or_stop(alloc, text.as_slice()) {
-        Ok(assembly) => write_assembly(alloc, folder, output, symbols, &assembly),
+        Ok(assembly) => write_all(
+            alloc, folder, input, output, symbols, lines, &text, &assembly,
+        ),
         Err(stopped) => Err(faulty_text(alloc, input, &text, &stopped)),
     }
 }

@@ -38,12 +38,18 @@ pub enum ProgramFault<'a> {
     /// No memory for a file's bytes or for the words of the command line.
     #[error("no memory")]
     Memory,
-    /// A file is no image, or its bytes make none, or it could not be read.
-    #[error("{}\n  {}", image_text(.1), .0)]
-    File(&'a str, ImageFault),
+    /// A file is no image, or its bytes make none, or it could not be read; and what it probably is instead, if that is known.
+    #[error("{}\n  {}{}{}", image_text(.1), .0, hint_mark(.2), .2)]
+    File(&'a str, ImageFault, &'static str),
+    /// An ELF is not taken for flat bytes.
+    #[error("ELF, not flat bytes\n  {}\n  hint: {}", .0, ELF_HINT)]
+    Elf(&'a str),
     /// An invalid line of a table of symbols: its file, and the line's number.
     #[error("line {1}: no address and label\n  {0}:{1}")]
     Symbols(&'a str, u64),
+    /// An invalid line of a table of lines of sources: its file, and the line's number.
+    #[error("line {1}: no address and line of a source\n  {0}:{1}")]
+    Lines(&'a str, u64),
     /// A text is not a policy: its file, the first faulty line, and what is wrong with it.
     #[error("line {}: {}\n  {}:{}", .1, policy_text(.2), .0, .1)]
     Policy(&'a str, u64, PolicyCode),
@@ -97,6 +103,15 @@ impl From<AllocError> for ProgramFault<'_> {
     fn from(_: AllocError) -> Self {
         ProgramFault::Memory
     }
+}
+
+/// What helps where an ELF is not taken for flat bytes.
+const ELF_HINT: &str =
+    "make flat bytes of it by objcopy -O binary (docs/COMPILED.md); --flat-elf takes its bytes as they stand";
+
+/// What stands before a hint: nothing where there is none.
+fn hint_mark(hint: &str) -> &'static str {
+    if hint.is_empty() { "" } else { "\n  hint: " }
 }
 
 /// The system's words for why a file could not be opened, made or read.

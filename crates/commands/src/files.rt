@@ -1,15 +1,17 @@
 //! What the program reads from files and writes to them.
 
-ghost use Rattle.std.specs.Prelude.{◌≡◌, ◌<◌, List, [], ◌∷◌, Option, None, IfOk, IfErr, IfNone, OnErr, OnOk, IfSome, length, take};
+ghost use Rattle.std.specs.Prelude.{◌≡◌, ◌<◌, List, [], ◌∷◌, ◌++◌, Option, None, IfOk, IfErr, IfNone, OnErr, OnOk, IfSome, length, take};
 ghost use Rattle.image.specs.Grammar.{spelling, reading};
+ghost use Rattle.symbols.specs.Sources.{faulty_place, places_of};
 ghost use Rattle.symbols.specs.Symbols.{faulty_line, symbols_of};
 ghost use Rattle.commands.specs.Files.{File, begun, ended, whole, Gains, IsNew, IsImageFault, IsTable, IsTableFault, IsTextTableFault};
 ghost use Rattle.commands.specs.Files.{IsOpening, IsReading, IsTextFault, IsUnwritten, bytes_of};
 ghost use Rattle.commands.specs.Overwriting.{Sameness};
 
+use crate::beginning::Beginning;
 use crate::fault::{ProgramFault, opening_fault, reading_fault};
 use crate::writing::Writing;
-use image::{FromRead, Image, write_all};
+use image::{Image, write_all};
 use std::alloc::Global;
 use std::io;
 use std::io::{Read, Write};
@@ -190,9 +192,10 @@ pub fn read_image<'a, F: Folder>(
     ensures err { IfErr result (IsImageFault name.entry.now (F.files folder.now)) }
 {
     let file = open_file(folder, name)?;
-    match image::read(alloc, &mut FromRead::new(file)) {
+    let mut source = Beginning::new(file);
+    match image::read(alloc, &mut source) {
         Ok(image) => Ok(image),
-        Err(fault) => Err(ProgramFault::File(name, fault)),
+        Err(fault) => Err(ProgramFault::File(name, fault, source.hint(fault))),
     }
 }
 
@@ -205,6 +208,23 @@ pub fn table_in<'a>(alloc: Global, name: &'a str, text: &[u8]) -> Result<Symbols
     match read_symbols(alloc, text) {
         Ok(table) => Ok(table),
         Err(SymbolsFault::Line(number)) => Err(ProgramFault::Symbols(name, number)),
+        Err(SymbolsFault::Memory) => Err(ProgramFault::Memory),
+    }
+}
+
+/// The symbols, and after them the lines of sources that a text has, which belongs to the file of this name.
+pub fn with_sources<'a>(
+    alloc: Global,
+    table: Symbols,
+    name: &'a str,
+    text: &[u8],
+) -> Result<Symbols, ProgramFault<'a>>
+    ensures correct { IfOk result (λ _. faulty_place text.now ≡ None) }
+    ensures symbols { IfOk result (λ all. all ≡ table ++ places_of text.now) }
+{
+    match table.with_sources(alloc, text) {
+        Ok(all) => Ok(all),
+        Err(SymbolsFault::Line(number)) => Err(ProgramFault::Lines(name, number)),
         Err(SymbolsFault::Memory) => Err(ProgramFault::Memory),
     }
 }

@@ -1,15 +1,17 @@
 //! The command `image`.
 
-ghost use Rattle.std.specs.Prelude.{◌≡◌, IfErr, OnOk, IfSome};
+ghost use Rattle.std.specs.Prelude.{◌≡◌, ◌&&◌, not, IfErr, OnOk, IfSome};
 ghost use Rattle.image.specs.Image.{Builds};
 ghost use Rattle.commands.specs.Files.{bytes_of};
 ghost use Rattle.commands.specs.Imaging.{default_pages, fault_for, flat_fault, flat_image, header_number, image_for as image_for_layout};
 ghost use Rattle.commands.specs.Imaging.{most_read, FailsToImage, MakesImage};
+ghost use Rattle.hints.specs.Files.{is_elf};
 
 use crate::fault::ProgramFault;
 use crate::files::{Folder, read_beginning, write_image};
 use base::ram;
 use command_line::Layout;
+use hints::is_elf;
 use image::{Image, ImageFault};
 use std::alloc::Global;
 
@@ -75,7 +77,15 @@ fn image_for(alloc: Global, layout: Layout, bytes: &[u8]) -> Result<Image, Image
     image_of(alloc, pages, entry, mode, (at, bytes))
 }
 
-/// Makes an image of the bytes of the file `flat`, and writes it to the file `output`.
+/// Whether a file whose bytes begin so is refused: an ELF is, unless its bytes are to be taken as they stand.
+fn is_refused(layout: Layout, read: &[u8]) -> bool
+    ensures { result ≡ (not layout.flat_elf && is_elf read.now) }
+{
+    !layout.flat_elf && is_elf(read)
+}
+
+/// Makes an image of the bytes of the file `flat`, and writes it to the file `output`. An ELF is refused unless the layout says that its
+/// bytes are taken as they stand.
 pub fn image_file<'a, F: Folder>(
     alloc: Global,
     folder: &mut F,
@@ -88,8 +98,12 @@ pub fn image_file<'a, F: Folder>(
     ensures err { IfErr result (FailsToImage layout flat.entry.now output.entry.now (F.files folder.old) (F.files folder.new)) }
 {
     let bytes = read_beginning(alloc, folder, flat, most_bytes(layout.pages))?;
-    match image_for(alloc, layout, &bytes) {
+    let read = bytes.as_slice();
+    if is_refused(layout, read) {
+        return Err(ProgramFault::Elf(flat));
+    }
+    match image_for(alloc, layout, read) {
         Ok(image) => write_image(folder, output, &image),
-        Err(fault) => Err(ProgramFault::File(flat, fault)),
+        Err(fault) => Err(ProgramFault::File(flat, fault, "")),
     }
 }

@@ -3,6 +3,7 @@
 
 mod assembling;
 mod auditing;
+mod beginning;
 mod bounding;
 mod fault;
 mod faulty_text;
@@ -26,7 +27,7 @@ pub use imaging::image_file;
 pub use listing::list_file;
 pub use loading::{LoadedRun, load};
 pub use overwriting::overwrites;
-pub use programs::{Program, read_program, table_of};
+pub use programs::{Program, read_program, told_with};
 pub use running::{Ended, ProgramMachine, run_first, stop_at};
 pub use watching::run_loaded;
 pub use writing::Writing;

@@ -11,7 +11,7 @@ ghost use Rattle.commands.specs.Watching.{IsPolicyFault, IsPolicyTextFault};
 
 use crate::fault::ProgramFault;
 use crate::files::{Folder, MOST_TEXT, read_at_most, read_beginning, read_text};
-use crate::programs::{Program, read_program, table_of};
+use crate::programs::{Program, read_program, told_with};
 use command_line::RunRequest;
 use image::Image;
 use policy_text::{Policy, PolicyTextFault, read_policy};
@@ -138,8 +138,20 @@ pub fn load<'a, F: Folder>(
     ensures ready { IfOk result IsReady }
 {
     let schedule = schedule_of(request);
-    let Program { image, labels } = read_program(alloc, folder, request.image, request.symbols)?;
-    let table = table_of(alloc, labels);
+    let program = read_program(alloc, folder, request.image, request.symbols)?;
+    let Program {
+        image,
+        labels,
+        own_lines,
+    } = program;
+    let table = told_with(
+        alloc,
+        folder,
+        request.image,
+        request.lines,
+        labels,
+        &own_lines,
+    )?;
     let rules = rules_of(alloc, folder, request.policy, &table)?;
     let input = typed(alloc, folder, schedule, request.input)?;
     Ok(LoadedRun {

@@ -1,6 +1,6 @@
 //! Commands that would write a file over another of their own.
 
-ghost use Rattle.std.specs.Prelude.{◌≡◌, IfSome};
+ghost use Rattle.std.specs.Prelude.{◌≡◌, ◌||◌, Some, IfSome};
 ghost use Rattle.commands.specs.Overwriting.{Overwrites, are_same, traces_over};
 
 use crate::files::Folder;
@@ -27,7 +27,26 @@ fn traces_over<F: Folder>(folder: &F, run: RunRequest<'_>) -> bool
     let over_input = are_same(folder, run.trace, run.input);
     let over_policy = are_same(folder, run.trace, run.policy);
     let over_labels = are_same(folder, run.trace, run.symbols);
-    (over_image || over_input) || (over_policy || over_labels)
+    let over_lines = are_same(folder, run.trace, run.lines);
+    (over_image || over_input) || ((over_policy || over_labels) || over_lines)
+}
+
+/// Whether the lines of a text are written over another file of `asm`.
+fn lines_over<F: Folder>(
+    folder: &F,
+    lines: Option<&str>,
+    input: &str,
+    output: &str,
+    symbols: Option<&str>,
+) -> bool
+    ensures { IfSome (F.same folder.now) (λ same. result
+        ≡ ((are_same same lines.entry (Some input.entry) || are_same same lines.entry (Some output.entry))
+        || are_same same lines.entry symbols.entry)) }
+{
+    let text = are_same(folder, lines, Some(input));
+    let image = are_same(folder, lines, Some(output));
+    let labels = are_same(folder, lines, symbols);
+    text || image || labels
 }
 
 /// Whether a file that a command writes is another of its own, under whichever names.
@@ -39,12 +58,13 @@ pub fn overwrites<F: Folder>(folder: &F, plan: Plan<'_>) -> bool
             input,
             output,
             symbols,
+            lines,
             ..
         } => {
             let text = folder.is_same(output, input);
             let labels = are_same(folder, symbols, Some(input));
             let image = are_same(folder, symbols, Some(output));
-            text || labels || image
+            (text || labels || image) || lines_over(folder, lines, input, output, symbols)
         }
         Plan::Image { flat, output, .. } => folder.is_same(output, flat),
         Plan::Go { request, .. } | Plan::Run { request, .. } | Plan::Audit(request) => {

@@ -55,6 +55,7 @@ const FIRST_RUN: RunRequest<'static> = RunRequest {
     trace_last: None,
     policy: None,
     symbols: None,
+    lines: None,
 };
 
 /// The program's machine: over capabilities as 128-bit words.

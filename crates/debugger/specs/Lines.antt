@@ -1,6 +1,6 @@
 -- One line of each kind of register, by its number.
 use Rattle.std.specs.Prelude.{ℕ, Bool, true, not, ◌&&◌, nat_lt, List, [], ◌++◌, None, codes, decimal}
-use Rattle.steps.specs.State.{State, pc_of}
+use Rattle.steps.specs.State.{State}
 use Rattle.debug_commands.specs.declared.command.Events.{Events}
 use Rattle.debug_commands.specs.declared.command.Events.TheVariants.{Steps, Ticks, Byte, Until, Go, Changed}
 use Rattle.debug_commands.specs.declared.command.Stop.{Stop}
@@ -8,20 +8,15 @@ use Rattle.registers.specs.Registers.{register}
 use Rattle.asm_names.specs.Registers.{register_name}
 use Rattle.disassembler.specs.Shown.{name_or}
 use Rattle.explain.specs.ValueText.{value_line}
-use Rattle.symbols.specs.Symbols.{Symbol}
-use Rattle.symbols.specs.Labels.{labelled}
 use Rattle.debugger.specs.Stepping.{is_any_stop, is_at_end, most_sent}
-use Rattle.debugger.specs.Reply.{shown_sent, shown_end}
+use Rattle.debugger.specs.Reply.{shown_sent}
 
 abbrev pub register_line : State → ℕ → List ℕ
 register_line s n = value_line (name_or [] (register_name true n)) (register s.registers n)
 
--- so many events and what was sent; where the machine stands
+-- so many events and what was sent
 abbrev pub given_part : ℕ → List ℕ → List ℕ
 given_part count bytes = codes "events " ++ decimal count ++ codes " out " ++ shown_sent bytes
-
-abbrev pub place_part : List Symbol → State → List ℕ
-place_part symbols s = codes " pc " ++ labelled symbols (pc_of s) ++ codes " " ++ shown_end s.devices.halted ++ codes "\n"
 
 -- whether one more step is given without a schedule
 abbrev pub goes_on : List Stop → ℕ → ℕ → State → Bool

@@ -25,6 +25,7 @@ use Rattle.disassembler.specs.Shown.{name_or}
 use Rattle.explain.specs.ValueText.{value_line}
 use Rattle.explain.specs.WordLine.{labelled_word}
 use Rattle.symbols.specs.Labels.{labelled}
+use Rattle.symbols.specs.Sources.{source_of}
 use Rattle.debug_commands.specs.declared.command.Stop.{Stop}
 use Rattle.debug_commands.specs.declared.command.Stop.TheVariants.{Address, Trap}
 use Rattle.debug_commands.specs.declared.command.Command.{Command}
@@ -128,12 +129,15 @@ abbrev pub shown_end : Option ℕ → List ℕ
 shown_end None = codes "running"
 shown_end (Some number) = codes "halted " ++ decimal number
 
+-- where a machine stands, with the line of a source that placed the instruction there, where that is known
+unfoldable pub standing : List Symbol → State → List ℕ
+standing symbols s =
+    codes " pc " ++ labelled symbols (pc_of s) ++ codes " " ++ shown_end s.devices.halted ++ source_of symbols (pc_of s) ++ codes "\n"
+
 -- how many events there were, what was sent, and where the machine stands
 abbrev pub events_line : List Symbol → List Event → State → List ℕ
 events_line symbols events s =
-    codes "events " ++ decimal (length events) ++ codes " out " ++ shown_sent (run_sent events s)
-    ++ codes " pc " ++ labelled symbols (pc_of (run_after events s)) ++ codes " " ++ shown_end (run_after events s).devices.halted
-    ++ codes "\n"
+    codes "events " ++ decimal (length events) ++ codes " out " ++ shown_sent (run_sent events s) ++ standing symbols (run_after events s)
 
 -- ---- commands that go back, and that show what came before
 
@@ -159,8 +163,7 @@ taken_back n t = taken_back_in n t.past t
 -- the line of so many events less, and where the machine stands
 abbrev pub back_line : List Symbol → ℕ → State → List ℕ
 back_line symbols n s =
-    codes "events -" ++ decimal n ++ codes " out - pc " ++ labelled symbols (pc_of s) ++ codes " " ++ shown_end s.devices.halted
-    ++ codes "\n"
+    codes "events -" ++ decimal n ++ codes " out -" ++ standing symbols s
 
 -- what is shown of a past
 unfoldable pub recalled : List Symbol → Recall → PastState → Option ReplayState → List ℕ

@@ -9,11 +9,11 @@ ghost use Rattle.arrayvec.specs.ArrayString.{array_string_len};
 ghost use Rattle.texts.specs.Hex.{hex_of};
 ghost use Rattle.debugger.specs.Reply.{after_events, events_line, given, given_of, given_on, own_steps, owed_after, replay_after};
 ghost use Rattle.debugger.specs.Reply.{with_tick};
-ghost use Rattle.debugger.specs.Reply.{shown_end, shown_sent};
+ghost use Rattle.debugger.specs.Reply.{shown_end, shown_sent, standing};
 ghost use Rattle.debugger.specs.Stepping.{counted_steps, most_gone, most_sent};
 ghost use Rattle.past.specs.Replay.{replayed};
 ghost use Rattle.debugger.specs.Keeping.{HasBegun, IsChangeThere, begun_past, kept_last};
-ghost use Rattle.debugger.specs.Lines.{given_part, most_of, place_part};
+ghost use Rattle.debugger.specs.Lines.{given_part, most_of};
 ghost use Rattle.past.specs.Given.{count_of, count_of_one};
 ghost use Rattle.debug_commands.specs.Limits.{AreWithinLimits};
 
@@ -31,7 +31,7 @@ use texts::Piece::{Decimal, Hexadecimal, Text};
 use texts::{append, text};
 
 /// The bytes that a line of events has at most, besides two for each byte that was sent.
-const LINE_ROOM: usize = 480;
+const LINE_ROOM: usize = 720;
 
 /// Gives an event so many times, and appends what is sent to the other bytes, for which there is room.
 fn repeat<C: CapRep>(machine: &mut Machine<C>, event: Event, times: u64, sent: &mut Vec<u8>)
@@ -329,18 +329,21 @@ fn end_text(halted: Option<u64>) -> ArrayString<27>
     }
 }
 
-/// Where a machine stands, as a line ends.
-pub(crate) fn place_text<C: CapRep>(symbols: &Symbols, machine: &Machine<C>) -> ArrayString<327>
-    ensures text { result.bytes ≡ place_part symbols.now machine.now }
-    ensures within { array_string_len result ≤ 327 }
+/// Where a machine stands, with the line of a source there, where it is known, as a line ends.
+#[tactic(auto, unfolding(crate::specs::Reply::standing))]
+pub(crate) fn place_text<C: CapRep>(symbols: &Symbols, machine: &Machine<C>) -> ArrayString<568>
+    ensures text { result.bytes ≡ standing symbols.now machine.now }
+    ensures within { array_string_len result ≤ 568 }
 {
     let place = labelled(Some(symbols), pc(machine));
     let end = end_text(machine.halted());
+    let source = symbols.source_of(pc(machine));
     text(&[
         Text(" pc "),
         Text(place.as_str()),
         Text(" "),
         Text(end.as_str()),
+        Text(source.as_str()),
         Text("\n"),
     ])
 }
@@ -354,8 +357,8 @@ fn append_events<C: CapRep>(
     sent: &[u8],
 ) -> Result<(), AllocError>
     ensures bytes { OnOk result (string_bytes text.new
-        ≡ string_bytes text.old ++ (given_part count sent.now ++ place_part symbols.now machine.now)) }
-    ensures full { OnErr result (string_capacity text.old < string_len text.old + 2 * length sent.now + 480) }
+        ≡ string_bytes text.old ++ (given_part count sent.now ++ standing symbols.now machine.now)) }
+    ensures full { OnErr result (string_capacity text.old < string_len text.old + 2 * length sent.now + 720) }
 {
     let place = place_text(symbols, machine);
     append(text, &[Text("events "), Decimal(count), Text(" out ")])?;

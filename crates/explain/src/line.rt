@@ -18,7 +18,8 @@ use symbols::{Symbols, labelled};
 use texts::Piece::Text;
 use texts::{append, pieces, text};
 
-/// Appends the line of a word at an address to a text: the address with its label, the word, and its text in integer or capability mode.
+/// Appends the line of a word at an address to a text: the address with its label, the word, its text in integer or capability mode, and
+/// the line of a source that places it, where that is known.
 ///
 /// # Errors
 ///
@@ -34,20 +35,22 @@ pub fn put_word_line(
 {
     let place = labelled(Some(symbols), address);
     let shown = disassemble(word, mode);
+    let source = symbols.source_of(address);
     let line = pieces![
-        Text(place.as_str()) " " Hexadecimal(8, u128::from(word)) " " Text(shown.as_str()) "\n"
+        Text(place.as_str()) " " Hexadecimal(8, u128::from(word)) " " Text(shown.as_str())
+        Text(source.as_str()) "\n"
     ];
     append(text, &line)
 }
 
 /// The text of a line.
-pub type Line = ArrayString<960>;
+pub type Line = ArrayString<1216>;
 
 /// A table of symbols, unless it is empty: then nothing is looked up.
 fn given(symbols: &Symbols) -> Option<&Symbols>
     ensures { table_of (option_copied result) ≡ symbols.now }
 {
-    if symbols.entries().is_empty() {
+    if symbols.is_empty() {
         None
     } else {
         Some(symbols)
@@ -68,8 +71,9 @@ fn word_part(mode: bool, fetched: Fetched) -> ArrayString<80>
 }
 
 /// The line of a trace for the next step, which was planned, of a machine that is not halted, with the step's number: PCC's address, the
-/// word of the instruction there and its text in PCC's mode, and what the step comes to; after an address stands its label. Where nothing
-/// is fetched, as where an interrupt is taken, `-` stands for the word. It takes no memory, and changes nothing.
+/// word of the instruction there and its text in PCC's mode, what the step comes to, and the line of a source that places the instruction,
+/// where that is known; after an address stands its label. Where nothing is fetched, as where an interrupt is taken, `-` stands for the
+/// word. It takes no memory, and changes nothing.
 #[tactic(auto, unfolding(crate::specs::TraceLine::step_word))]
 pub fn trace_line<C: CapRep>(
     symbols: &Symbols,
@@ -82,11 +86,13 @@ pub fn trace_line<C: CapRep>(
     ensures { result.bytes ≡ spec.trace_line symbols.now number hart.now }
 {
     let table = given(symbols);
-    let place = labelled(table, hart.scrs().pcc().address());
+    let address = hart.scrs().pcc().address();
+    let place = labelled(table, address);
+    let source = symbols.source_of(address);
     let word = word_part(hart.scrs().pcc().flag(), planned.fetched);
     let effect = effect_text(table, &planned.effect);
     text(&pieces![
         Decimal(number) " " Text(place.as_str()) " " Text(word.as_str()) ": " Text(effect.as_str())
-        "\n"
+        Text(source.as_str()) "\n"
     ])
 }

@@ -1,3 +1,4 @@
 -- What to read
 pub mod Reasons
 pub mod Detail
+pub mod SourceLines

@@ -8,17 +8,27 @@ use asm_lines::{Class, Part, after, before, parts_of, run_length, trimmed_end};
 use assembler::{AsmCode, Stopped};
 use std::alloc::{AllocError, Global};
 
+/// What stands after so many lines of a text.
+pub(crate) fn after_lines(text: &[u8], count: u64) -> &[u8]
+    ensures { result.now ≡ spec.after_lines count text.now }
+{
+    let mut left = count;
+    let mut rest = text;
+    while left > 0 {
+        left -= 1;
+        rest = after(rest, Class::Not(b'\n'));
+    }
+    rest
+}
+
 /// A line of a text, counted from 1, without its line feed; after the last one an empty one.
 pub fn line_at(number: u64, text: &[u8]) -> &[u8]
     ensures { result.now ≡ spec.line_at number text.now }
 {
-    let mut lines_before = number.saturating_sub(1);
-    let mut rest = text;
-    while lines_before > 0 {
-        lines_before -= 1;
-        rest = after(rest, Class::Not(b'\n'));
-    }
-    before(rest, Class::Not(b'\n'))
+    before(
+        after_lines(text, number.saturating_sub(1)),
+        Class::Not(b'\n'),
+    )
 }
 
 /// Appends a byte so many times.

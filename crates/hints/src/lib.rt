@@ -1,4 +1,5 @@
-//! What the author of a faulty line of assembly probably meant, by tables of what is written otherwise elsewhere.
+//! What the author of a faulty line of assembly probably meant, by tables of what is written otherwise elsewhere; and what a file is
+//! that was taken for an image.
 //!
 //! A hint is a short line of printable ASCII, which a contract says; of its words none says anything. A line that is proposed is one
 //! that the assembler reads, though its labels and its place may be at fault.
@@ -33,6 +34,7 @@ macro_rules! first_known {
 
 mod binary;
 mod faulty;
+mod files;
 mod labels;
 mod meant;
 mod near;
@@ -43,4 +45,5 @@ mod shapes;
 mod table;
 mod unknown;
 
+pub use files::{image_hint, is_elf};
 pub use meant::hint;

@@ -19,13 +19,14 @@ use Rattle.policy_text.specs.declared.part.Part.{Part}
 use Rattle.policy_text.specs.declared.part.Part.TheVariants.{Store, Load, Execute, Keep, Transmit, Halt, Timer, System}
 use Rattle.policy_text.specs.declared.part.Part.TheVariants.{Seal, Types, OrCaller}
 use Rattle.policy.specs.Terms.{Terms}
-use Rattle.policy_text.specs.Policy.{Definition, Parts, Line, Read, nothing, definition, rule}
+use Rattle.policy_text.specs.Policy.{Definition, Parts, Line, Read, nothing_read, nothing, definition, rule, any_code}
 use Rattle.policy_text.specs.Policy.{◌>>=◌, uncommented, cut_at, cut_at_dots}
 use Rattle.policy_text.specs.Policy.{range, number_up_to, address_or_code, to_of, filled, range_of}
 use Rattle.policy_text.specs.Policy.{defined, ranges_by, ranges_in, ranges_of}
 use Rattle.policy_text.specs.Policy.{ranges_or, part_named, new_part, no_parts, within_of, answer_of, numbers_of, types_of, with_part}
 use Rattle.policy_text.specs.Policy.{caller_of}
-use Rattle.policy_text.specs.Policy.{part_read, parts_read, everywhere, said, after_when, code_by, code_of, rule_of, name_of, new_name}
+use Rattle.policy_text.specs.Policy.{part_read, parts_read, everywhere, said, after_when, after_any, code_by, code_of, rule_of}
+use Rattle.policy_text.specs.Policy.{name_of, new_name}
 use Rattle.policy_text.specs.Policy.{definition_of, rule_line, line_by, line_of, with_line, at_line, policy_from, policy_of}
 use Rattle.policy_text.specs.Sound.{AreFilled, IsSound}
 
@@ -277,19 +278,23 @@ abbrev IsLineSound : Line → Type 0
 IsLineSound nothing = Unit {0}
 IsLineSound (definition d) = Good d.ranges
 IsLineSound (rule r) = IsSound r
+IsLineSound (any_code ranges) = AreFilled ranges
 
 module _ (symbols : List Symbol) (ds : List Definition) (g : AreGood ds) where
-  rule_line_is : (cut : Option (List ℕ × List ℕ)) (l : Line) → rule_line symbols ds cut ≡ Ok l → IsLineSound l
-  rule_line_is (Some sides) l h =
+  rule_line_is : (line : List ℕ) (cut : Option (List ℕ × List ℕ)) (l : Line) → rule_line symbols ds line cut ≡ Ok l → IsLineSound l
+  rule_line_is line (Some sides) l h =
       let r = bind_ok (rule_of symbols ds sides.0 sides.1) (λ r. Ok (rule r)) l h in
       subst IsLineSound (ok_inside (rule r.0) l r.2) (rule_is symbols ds g sides.0 sides.1 r.0 r.1)
-  rule_line_is None l h = cc
+  rule_line_is line None l h =
+      let words = after_any (words_of line) in
+      let ranges = bind_ok (code_by symbols ds words) (λ ranges. Ok (any_code ranges)) l h in
+      subst IsLineSound (ok_inside (any_code ranges.0) l ranges.2) (code_is symbols ds g words ranges.0 ranges.1).filled
 
   line_by_is : (line : List ℕ) (cut : Option (List ℕ × List ℕ)) (l : Line) → line_by symbols ds line cut ≡ Ok l → IsLineSound l
   line_by_is line (Some sides) l h =
       let d = bind_ok (definition_of symbols ds sides.0 sides.1) (λ d. Ok (definition d)) l h in
       subst IsLineSound (ok_inside (definition d.0) l d.2) (definition_is symbols ds g sides.0 sides.1 d.0 d.1)
-  line_by_is line None l h = rule_line_is (cut_at 58 line) l h
+  line_by_is line None l h = rule_line_is line (cut_at 58 line) l h
 
   line_is : (line : List ℕ) (l : Line) → line_of symbols ds line ≡ Ok l → IsLineSound l
   unfolding line_of
@@ -313,6 +318,7 @@ with_line_is number read (definition d) s i =
 with_line_is number read (rule r) s i =
     let rules = all_append (λ (r : ℕ × Terms). IsSound r.1) read.rules ((number, r) ∷ []) s.rules (i, tt) in
     record { definitions = s.definitions; rules = rules }
+with_line_is number read (any_code ranges) s i = record { definitions = s.definitions; rules = s.rules }
 
 at_line_ok : {A B : Type 0} (number : ℕ) (r : Result A PolicyCode) (f : A → Result B (ℕ × PolicyCode)) (y : B) → at_line number r f ≡ Ok y
     → (x : A) × (r ≡ Ok x) × (f x ≡ Ok y)
@@ -331,5 +337,5 @@ from_is symbols (line ∷ lines) number read rules s h =
 pub policy_is : (symbols : List Symbol) (text : List ℕ) (rules : List (ℕ × Terms)) → policy_of symbols text ≡ Ok rules
     → AllByRecursion (λ r. IsSound r.1) rules
 policy_is symbols text rules h =
-    let none : IsReadSound (record { definitions = []; rules = [] }) = record { definitions = tt; rules = tt } in
+    let none : IsReadSound nothing_read = record { definitions = tt; rules = tt } in
     from_is symbols (lines_of text) 1 _ rules none h

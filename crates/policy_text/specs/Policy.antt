@@ -1,4 +1,5 @@
--- Policies as texts: lines that define ranges by name, and lines that are rules about the code in ranges; and the first faulty line.
+-- Policies as texts: lines that define ranges by name, lines that are rules about the code in ranges, and lines that name ranges of any
+-- code; and the first faulty line.
 use Rattle.std.specs.Prelude.{ℕ, ◌+◌, ◌-◌, ◌^◌, Bool, true, false, not, ◌&&◌, ◌==◌, nat_lt, nat_le, if◌then◌else◌}
 use Rattle.std.specs.Prelude.{List, [], ◌∷◌, ◌++◌, length}
 use Rattle.std.specs.Prelude.{drop, get_or, slice_index, Option, Some, None, unwrap_or, ok_or, Result, Ok, Err, codes}
@@ -267,6 +268,14 @@ after_when (a ∷ b ∷ []) = None
 after_when (a ∷ b ∷ c ∷ words) =
     if is_word a (codes "when") && (is_word b (codes "pc") && is_word c (codes "in")) then Some words else None
 
+-- the words after `any code in`, if words begin so
+abbrev pub after_any : List (List ℕ) → Option (List (List ℕ))
+after_any [] = None
+after_any (a ∷ []) = None
+after_any (a ∷ b ∷ []) = None
+after_any (a ∷ b ∷ c ∷ words) =
+    if is_word a (codes "any") && (is_word b (codes "code") && is_word c (codes "in")) then Some words else None
+
 -- `when pc in RANGES`, or P1
 abbrev pub code_by : List Symbol → List Definition → Option (List (List ℕ)) → Result (List Range) PolicyCode
 code_by symbols definitions (Some words) = ranges_or P1 symbols definitions words
@@ -303,16 +312,21 @@ pub data Line : Type 0 where
   nothing : Line
   definition : Definition → Line
   rule : Terms → Line
+  any_code : List Range → Line
 
--- a line without an equals sign: a rule, or P1 where it has no colon
-abbrev pub rule_line : List Symbol → List Definition → Option (List ℕ × List ℕ) → Result Line PolicyCode
-rule_line symbols definitions (Some sides) = rule_of symbols definitions sides.0 sides.1 >>= λ r. Ok (rule r)
-rule_line symbols definitions None = Err P1
+-- `any code in RANGES`, or P1
+abbrev pub any_line : List Symbol → List Definition → List (List ℕ) → Result Line PolicyCode
+any_line symbols definitions words = code_by symbols definitions (after_any words) >>= λ ranges. Ok (any_code ranges)
+
+-- a line without an equals sign: a rule, or where it has no colon what it says of any code
+abbrev pub rule_line : List Symbol → List Definition → List ℕ → Option (List ℕ × List ℕ) → Result Line PolicyCode
+rule_line symbols definitions line (Some sides) = rule_of symbols definitions sides.0 sides.1 >>= λ r. Ok (rule r)
+rule_line symbols definitions line None = any_line symbols definitions (words_of line)
 
 -- a line with a word
 abbrev pub line_by : List Symbol → List Definition → List ℕ → Option (List ℕ × List ℕ) → Result Line PolicyCode
 line_by symbols definitions line (Some sides) = definition_of symbols definitions sides.0 sides.1 >>= λ d. Ok (definition d)
-line_by symbols definitions line None = rule_line symbols definitions (cut_at 58 line)
+line_by symbols definitions line None = rule_line symbols definitions line (cut_at 58 line)
 
 unfoldable pub line_of : List Symbol → List Definition → List ℕ → Result Line PolicyCode
 line_of symbols definitions line =
@@ -320,15 +334,20 @@ line_of symbols definitions line =
 
 -- ---- the whole text
 
--- what the lines so far say: the definitions, and the rules with the numbers of their lines
+-- what the lines so far say: the definitions, the rules with the numbers of their lines, and the ranges of any code
 pub record Read : Type 0 where
   pub definitions : List Definition
   pub rules : List (ℕ × Terms)
+  pub any : List Range
+
+abbrev pub nothing_read : Read
+nothing_read = record { definitions = []; rules = []; any = [] }
 
 abbrev pub with_line : ℕ → Read → Line → Read
 with_line number read nothing = read
 with_line number read (definition d) = record read { definitions = read.definitions ++ d ∷ [] }
 with_line number read (rule r) = record read { rules = read.rules ++ (number, r) ∷ [] }
+with_line number read (any_code ranges) = record read { any = read.any ++ ranges }
 
 -- reading goes on with what a line says, or ends with its number and its fault
 abbrev pub at_line : {A B : Type 0} → ℕ → Result A PolicyCode → (A → Result B (ℕ × PolicyCode)) → Result B (ℕ × PolicyCode)
@@ -343,7 +362,21 @@ policy_from symbols number read (line ∷ lines) =
 
 -- the rules of a text with the numbers of their lines, or the number of the first faulty line, counted from 1, and its fault
 abbrev pub policy_of : List Symbol → List ℕ → Result (List (ℕ × Terms)) (ℕ × PolicyCode)
-policy_of symbols text = policy_from symbols 1 (record { definitions = []; rules = [] }) (lines_of text)
+policy_of symbols text = policy_from symbols 1 nothing_read (lines_of text)
+
+-- the ranges of any code of a text that is read: what goes on with what a line says, and of a faulty line none
+abbrev pub any_then : Result Line PolicyCode → (Line → List Range) → List Range
+any_then (Ok said) f = f said
+any_then (Err code) f = []
+
+abbrev pub any_from : List Symbol → ℕ → Read → List (List ℕ) → List Range
+any_from symbols number read [] = read.any
+any_from symbols number read (line ∷ lines) =
+    any_then (line_of symbols read.definitions (uncommented line))
+    (λ said. any_from symbols (number + 1) (with_line number read said) lines)
+
+abbrev pub any_code_of : List Symbol → List ℕ → List Range
+any_code_of symbols text = any_from symbols 1 nothing_read (lines_of text)
 
 -- a line by its number, counted from 1, without its comment and without blanks at its ends; of none nothing
 unfoldable pub line_text : List ℕ → ℕ → List ℕ

@@ -12,7 +12,7 @@ use Rattle.policy_text.specs.declared.parts.Parts.{Parts as HeldParts}
 use Rattle.policy_text.specs.declared.line.Line.{Line as HeldLine}
 use Rattle.policy_text.specs.declared.line.Line.TheVariants as held
 use Rattle.policy_text.specs.declared.reading.Policy.{Policy}
-use Rattle.policy_text.specs.Policy.{Definition, Parts, Line, nothing, definition, rule, Read, ◌>>=◌}
+use Rattle.policy_text.specs.Policy.{Definition, Parts, Line, nothing, definition, rule, any_code, Read, ◌>>=◌}
 
 -- What a function returned, seen so, is what reading gives, unless there was no memory.
 abbrev pub Fails : {B : Type 0} → Fault → Result B PolicyCode → Type 0
@@ -58,14 +58,15 @@ abbrev pub seen_line : HeldLine → Line
 seen_line held.Nothing = nothing
 seen_line (held.Definition n) = definition (seen_named n)
 seen_line (held.Rule r) = rule (terms r)
+seen_line (held.AnyCode ranges) = any_code ranges.items
 
 -- the rules of a policy with the numbers of their lines
 abbrev pub seen : Policy → List (ℕ × Terms)
 seen policy = zip policy.lines.items (terms_of policy.rules.items)
 
--- the same with the definitions, while the text is read
+-- the same with the definitions and the ranges of any code, while the text is read
 abbrev pub read : List Named → Policy → Read
-read definitions policy = record { definitions = seen_names definitions; rules = seen policy }
+read definitions policy = record { definitions = seen_names definitions; rules = seen policy; any = policy.any.items }
 
 -- the fault of a text, unless there was no memory
 abbrev pub IsFaultOf : {A : Type 0} → Result A (ℕ × PolicyCode) → PolicyTextFault → Type 0

@@ -2,8 +2,8 @@
 ghost use Rattle.std.specs.Prelude.{◌≡◌, option_map, unwrap_or, IfOk};
 ghost use Rattle.std.specs.Result.{result_map_both};
 ghost use Rattle.asm_lines.specs.Words.{words_of};
-ghost use Rattle.policy_text.specs.Policy.{everywhere, said, after_when, code_of, rule_of, name_of, new_name, definition_of};
-ghost use Rattle.policy_text.specs.Policy.{rule_line, line_of};
+ghost use Rattle.policy_text.specs.Policy.{everywhere, said, after_when, after_any, code_of, rule_of, name_of, new_name, definition_of};
+ghost use Rattle.policy_text.specs.Policy.{any_line, rule_line, line_of};
 ghost use Rattle.policy.specs.Terms.{terms};
 ghost use Rattle.policy_text.specs.Seen.{Gives, seen_line, seen_named, seen_names, seen_parts};
 
@@ -23,6 +23,7 @@ pub(crate) enum Line<'a> {
     Nothing,
     Definition(Named<'a>),
     Rule(Rule),
+    AnyCode(Vec<Range>),
 }
 
 /// What follows `when pc in`, if a text begins with these words.
@@ -33,6 +34,20 @@ fn after_when(text: &[u8]) -> Option<&[u8]>
     let (b, rest) = split_word(rest)?;
     let (c, rest) = split_word(rest)?;
     if is_word(a, "when") && is_word(b, "pc") && is_word(c, "in") {
+        Some(rest)
+    } else {
+        None
+    }
+}
+
+/// What follows `any code in`, if a text begins with these words.
+fn after_any(text: &[u8]) -> Option<&[u8]>
+    ensures { option_map (λ rest. words_of rest.now) result ≡ after_any (words_of text.now) }
+{
+    let (a, rest) = split_word(text)?;
+    let (b, rest) = split_word(rest)?;
+    let (c, rest) = split_word(rest)?;
+    if is_word(a, "any") && is_word(b, "code") && is_word(c, "in") {
         Some(rest)
     } else {
         None
@@ -50,6 +65,24 @@ fn code(
 {
     match after_when(text) {
         Some(words) => ranges_or(PolicyCode::P1, alloc, symbols, definitions, words),
+        None => Err(Fault::Code(PolicyCode::P1)),
+    }
+}
+
+/// What `any code in RANGES` says, or P1.
+fn any_code<'a>(
+    alloc: Global,
+    symbols: &Symbols,
+    definitions: &[Named],
+    text: &[u8],
+) -> Result<Line<'a>, Fault>
+    ensures { Gives seen_line result (any_line symbols.now (seen_names definitions.now) (words_of text.now)) }
+{
+    match after_any(text) {
+        Some(words) => {
+            let ranges = ranges_or(PolicyCode::P1, alloc, symbols, definitions, words)?;
+            Ok(Line::AnyCode(ranges))
+        }
         None => Err(Fault::Code(PolicyCode::P1)),
     }
 }
@@ -151,6 +184,6 @@ pub(crate) fn read_line<'a>(
             let rule = rule(alloc, symbols, definitions, before, after)?;
             Ok(Line::Rule(rule))
         }
-        None => Err(Fault::Code(PolicyCode::P1)),
+        None => any_code(alloc, symbols, definitions, text),
     }
 }

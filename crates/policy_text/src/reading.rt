@@ -1,7 +1,7 @@
 //! Policies from texts.
 ghost use Rattle.std.specs.Prelude.{◌≡◌, ◌+◌, ◌≤◌, ◌^◌, Ok, IfOk, IfErr, OnOk, length, vec_len};
 ghost use Rattle.symbols.specs.Symbols.{lines_of};
-ghost use Rattle.policy_text.specs.Policy.{policy_of, with_line};
+ghost use Rattle.policy_text.specs.Policy.{any_code_of, policy_of, with_line};
 ghost use Rattle.policy_text.specs.Seen.{IsFaultOf, read, seen, seen_line};
 
 use crate::cut::uncommented;
@@ -9,16 +9,19 @@ use crate::fault::PolicyTextFault;
 use crate::line::{Line, read_line};
 use crate::ranges::Named;
 use policy::Rule;
+use reach::Range;
 use std::alloc::{AllocError, Global};
 use symbols::{Symbols, split_line};
 
-/// Rules, and the number of the line of each.
+/// Rules with the number of the line of each, and the ranges in which the code may be any.
 #[derive(Debug, Drop)]
 pub struct Policy {
     /// The rules, in order.
     pub rules: Vec<Rule>,
     /// The numbers of their lines, counted from 1.
     pub lines: Vec<u64>,
+    /// The ranges of the lines `any code in RANGES`, in order.
+    pub any: Vec<Range>,
 }
 
 /// Keeps what the line of this number says.
@@ -40,6 +43,7 @@ fn keep<'a>(
             policy.lines.push(number)?;
             policy.rules.push(rule)?;
         }
+        Line::AnyCode(ranges) => policy.any.extend_from_slice(&ranges)?,
     }
     Ok(())
 }
@@ -50,12 +54,14 @@ fn keep<'a>(
 pub fn read_policy(alloc: Global, text: &[u8], symbols: &Symbols) -> Result<Policy, PolicyTextFault>
     ensures ok { IfOk result (λ policy. policy_of symbols.now text.now ≡ Ok (seen policy)) }
     ensures paired { IfOk result (λ policy. vec_len policy.rules ≡ vec_len policy.lines) }
+    ensures any { IfOk result (λ policy. policy.any.items ≡ any_code_of symbols.now text.now) }
     ensures err { IfErr result (IsFaultOf (policy_of symbols.now text.now)) }
 {
     let mut definitions = Vec::new(alloc);
     let mut policy = Policy {
         rules: Vec::new(alloc),
         lines: Vec::new(alloc),
+        any: Vec::new(alloc),
     };
     let mut number: u64 = 1;
     let mut rest = text;

@@ -8,30 +8,29 @@ use Rattle.debugger.specs.SessionState.{session_of_image}
 use Rattle.debugger.specs.Talk.{heard}
 use Rattle.image.specs.Image.{Image}
 use Rattle.schedules.specs.declared.schedule.Schedule.{Schedule}
-use Rattle.symbols.specs.Labels.{table_of}
 use Rattle.symbols.specs.Symbols.{Symbol}
 use Rattle.program.specs.Debugging.{AreKeys, DebugsFile, schedule_asked}
 use Rattle.commands.specs.Files.{Text, File}
-use Rattle.commands.specs.Programs.{IsProgram}
+use Rattle.commands.specs.Programs.{HasTable, IsProgram}
 
-module _ {X E : Type 0} (contents : X → Option (List ℕ)) (files : Option (List File)) (name : Text) (symbols keys : Option (Bor Text))
+module _ {X E : Type 0} (contents : X → Option (List ℕ)) (files : Option (List File)) (name : Text) (symbols lines keys : Option (Bor Text))
     (gap tick : Option ℕ) (input old : Option (List ℕ)) (image : Image) (labels : Option (List Symbol)) (typed : List ℕ) where
   pub debugged : (r : Result X E) (table : List Symbol) (schedule : Option Schedule) (is_typed : Bool)
-      → IsProgram name symbols files image labels → table ≡ table_of labels → AreKeys keys files typed
+      → IsProgram name symbols files image labels → HasTable name lines files labels table → AreKeys keys files typed
       → is_typed ≡ is_some keys → schedule ≡ schedule_asked is_typed gap tick
       → IfOk r (λ out. IfSome input (λ lines. Appends old (contents out)
       (conversation (heard lines) (session_of_image image table schedule typed))))
-      → IfOk r (λ out. DebugsFile files name symbols keys gap tick input old (contents out))
+      → IfOk r (λ out. DebugsFile files name symbols lines keys gap tick input old (contents out))
   debugged (Err e) table schedule is_typed read known console typed_is asked told = tt
   debugged (Ok out) table schedule is_typed read known console typed_is asked told =
       let same : schedule ≡ schedule_asked (is_some keys) gap tick = asked ∙ ap (λ t. schedule_asked t gap tick) typed_is in (
         image,
         labels,
+        table,
         typed,
         read,
+        known,
         console,
         subst (λ s. IfSome input (λ lines. Appends old (contents out)
-            (conversation (heard lines) (session_of_image image (table_of labels) s typed)))) same
-            (subst (λ t. IfSome input (λ lines. Appends old (contents out)
-            (conversation (heard lines) (session_of_image image t schedule typed)))) known told),
+            (conversation (heard lines) (session_of_image image table s typed)))) same told,
       )

@@ -6,8 +6,8 @@ use Rattle.clap.specs.Words.{Text}
 use Rattle.command_line.specs.declared.plans.Plan.TheVariants.{Debug}
 use Rattle.command_line.specs.CommandLine.{IsSound, commands}
 
-pub gap_of : (image : Bor Text) (symbols input : Option (Bor Text)) (gap tick : Option ℕ) (quiet : Bool)
-    → IsSound (Debug image symbols input gap tick quiet) → IfSome gap (λ gap. 1 ≤ gap)
+pub gap_of : (image : Bor Text) (symbols lines input : Option (Bor Text)) (gap tick : Option ℕ) (quiet : Bool)
+    → IsSound (Debug image symbols lines input gap tick quiet) → IfSome gap (λ gap. 1 ≤ gap)
 unfolding commands
-gap_of image symbols input None tick quiet sound = tt
-gap_of image symbols input (Some gap) tick quiet sound = sound.1.1.1.1.0.0
+gap_of image symbols lines input None tick quiet sound = tt
+gap_of image symbols lines input (Some gap) tick quiet sound = sound.1.1.1.1.1.0.0

@@ -30,9 +30,9 @@ status_of_done (done.Audit count) = if count == 0 then 0 else 1
 -- A plan was carried out wholly, with this status: what an output holds then that held something before, where that is known, and what
 -- became of files, where they are known; what was typed is what the input had left.
 abbrev pub HasStatus : Plan → Option (List ℕ) → Change → ℕ → Type 0
-HasStatus (Asm input output symbols quiet) typed change status =
+HasStatus (Asm input output symbols lines quiet) typed change status =
     (status ≡ 0) × (change.out ≡ change.sent)
-    × IfSome (bytes_of input.now change.old) (λ text. Assembles output.now symbols text change.old change.new)
+    × IfSome (bytes_of input.now change.old) (λ text. Assembles input.now output.now symbols lines text change.old change.new)
 HasStatus (Image flat output layout quiet) typed change status =
     (status ≡ 0) × (change.out ≡ change.sent)
     × IfSome (bytes_of flat.now change.old) (λ bytes. MakesImage layout output.now bytes change.old change.new)
@@ -44,8 +44,8 @@ HasStatus (Audit request) typed change status =
     (count : ℕ) × (status ≡ (if count == 0 then 0 else 1)) × AuditsRun request count change
 HasStatus (Dis image symbols header quiet) typed change status =
     (status ≡ 0) × ListsFile header change.old image.now symbols change.sent change.out
-HasStatus (Debug image symbols input gap tick quiet) typed change status =
-    (status ≡ 0) × DebugsFile change.old image.now symbols input gap tick typed change.sent change.out
+HasStatus (Debug image symbols lines input gap tick quiet) typed change status =
+    (status ≡ 0) × DebugsFile change.old image.now symbols lines input gap tick typed change.sent change.out
 HasStatus (Bounds base length address) typed change status =
     (status ≡ 0) × Appends change.sent change.out (bounds_answer base length address)
 HasStatus (Word high low memory) typed change status =

@@ -8,10 +8,9 @@ use Rattle.debugger.specs.SessionState.{session_of_image}
 use Rattle.debugger.specs.Talk.{heard}
 use Rattle.image.specs.Image.{Image}
 use Rattle.schedules.specs.declared.schedule.Schedule.{Schedule}
-use Rattle.symbols.specs.Labels.{table_of}
 use Rattle.symbols.specs.Symbols.{Symbol}
 use Rattle.commands.specs.Files.{Text, File, bytes_of}
-use Rattle.commands.specs.Programs.{IsProgram}
+use Rattle.commands.specs.Programs.{HasTable, IsProgram}
 
 -- The schedule of a session, where a file of input, a gap or a tick is asked for; what isn't is as of `run`. It ends where its steps can't
 -- be counted any more.
@@ -27,10 +26,11 @@ AreKeys (Some name) files keys = IfSome (bytes_of name.now files) (λ bytes. key
 
 -- An output grows by the conversation over what is typed with a file's program, and the schedule that is asked for with these bytes on
 -- its console.
-abbrev pub DebugsFile : Option (List File) → Text → Option (Bor Text) → Option (Bor Text) → Option ℕ → Option ℕ → Option (List ℕ)
+abbrev pub DebugsFile : Option (List File) → Text → Option (Bor Text) → Option (Bor Text) → Option (Bor Text) → Option ℕ → Option ℕ → Option (List ℕ)
     → Option (List ℕ) → Option (List ℕ) → Type 0
-DebugsFile files name symbols keys gap tick input old new =
-    (image : Image) × (labels : Option (List Symbol)) × (typed : List ℕ) × IsProgram name symbols files image labels
+DebugsFile files name symbols lines keys gap tick input old new =
+    (image : Image) × (labels : Option (List Symbol)) × (table : List Symbol) × (typed : List ℕ)
+    × IsProgram name symbols files image labels × HasTable name lines files labels table
     × AreKeys keys files typed
     × IfSome input (λ lines. Appends old new
-    (conversation (heard lines) (session_of_image image (table_of labels) (schedule_asked (is_some keys) gap tick) typed)))
+    (conversation (heard lines) (session_of_image image table (schedule_asked (is_some keys) gap tick) typed)))

@@ -148,9 +148,10 @@ fn carry_out<'a, F: Folder, I: Read + Drop, O: Write + Drop>(
             input: text,
             output: made,
             symbols,
+            lines,
             ..
         } => {
-            assemble_file(alloc, folder, text, made, symbols)?;
+            assemble_file(alloc, folder, text, made, symbols, lines)?;
             Ok((Done::All, output))
         }
         Plan::Image {
@@ -174,13 +175,14 @@ fn carry_out<'a, F: Folder, I: Read + Drop, O: Write + Drop>(
         Plan::Debug {
             image,
             symbols,
+            lines,
             input: typed,
             gap,
             tick,
             ..
         } => {
             let output = debug_file(
-                alloc, folder, image, symbols, typed, gap, tick, input, output,
+                alloc, folder, image, symbols, lines, typed, gap, tick, input, output,
             )?;
             Ok((Done::All, output))
         }

@@ -8,7 +8,7 @@ ghost use Rattle.debugger.specs.Talk.{heard};
 ghost use Rattle.program.specs.Debugging.{AreKeys, DebugsFile, schedule_asked};
 
 use commands::{
-    Folder, Program, ProgramFault, ProgramMachine, Writing, read_program, read_text, table_of,
+    Folder, Program, ProgramFault, ProgramMachine, Writing, read_program, read_text, told_with,
 };
 use debugger::{Session, TalkFault, talk};
 use image::{DeviceFailed, FromRead, Image};
@@ -100,7 +100,8 @@ fn debug_image<'a, I: Read + Drop, O: Write + Drop>(
 }
 
 /// Debugs the program of a file: commands from `input`, which may name the labels of the file `symbols` if one is named or else of the
-/// text if it is one, replies to `output`, which is handed back.
+/// text if it is one, replies to `output`, which is handed back. After addresses of instructions stand the lines of the file `lines`, if one
+/// is named, or else of the text.
 ///
 /// Where a file `keys`, a gap or a tick is given, the session has the schedule of a run with these; what isn't given is as of `run`: no
 /// input, a gap of 1000, a tick of 100.
@@ -109,6 +110,7 @@ pub fn debug_file<'a, F: Folder, I: Read + Drop, O: Write + Drop>(
     folder: &F,
     name: &'a str,
     symbols: Option<&'a str>,
+    lines: Option<&'a str>,
     keys: Option<&'a str>,
     gap: Option<u64>,
     tick: Option<u64>,
@@ -116,11 +118,15 @@ pub fn debug_file<'a, F: Folder, I: Read + Drop, O: Write + Drop>(
     output: O,
 ) -> Result<O, ProgramFault<'a>>
     requires { IfSome gap (λ gap. 1 ≤ gap) }
-    ensures { IfOk result (λ out. DebugsFile (F.files folder.now) name.entry.now symbols.entry keys.entry gap tick
+    ensures { IfOk result (λ out. DebugsFile (F.files folder.now) name.entry.now symbols.entry lines.entry keys.entry gap tick
         (I.remaining input) (O.contents output) (O.contents out)) }
 {
-    let Program { image, labels } = read_program(alloc, folder, name, symbols)?;
-    let table = table_of(alloc, labels);
+    let Program {
+        image,
+        labels,
+        own_lines,
+    } = read_program(alloc, folder, name, symbols)?;
+    let table = told_with(alloc, folder, name, lines, labels, &own_lines)?;
     let schedule = schedule_asked(keys.is_some(), gap, tick);
     let typed = keys_of(alloc, folder, keys)?;
     debug_image(alloc, image, table, schedule, typed, input, output)

@@ -7,6 +7,7 @@ use Rattle.steps.specs.Event.{after}
 use Rattle.steps.specs.State.{State, pc_of}
 use Rattle.symbols.specs.Symbols.{Symbol}
 use Rattle.symbols.specs.Labels.{labelled}
+use Rattle.symbols.specs.Sources.{source_of}
 use Rattle.explain.specs.StandingText.{standing_text}
 use Rattle.explain.specs.TrapText.{trap_text}
 use Rattle.explain.specs.WhyText.{failed_line}
@@ -16,9 +17,9 @@ use Rattle.sim_run.specs.Unhandled.{Trapped}
 abbrev pub is_trapped : ℕ → ℕ → Bool
 is_trapped mcause mtval = not ((mcause == 0) && (mtval == 0))
 
--- a trap in words, and where it was taken
+-- a trap in words, and where it was taken, with the line of a source that placed the instruction there, where that is known
 unfoldable pub trap_part : List Symbol → ℕ → ℕ → ℕ → List ℕ
-trap_part symbols mcause mtval mepc = trap_text mcause mtval ++ codes ", mepc " ++ labelled symbols mepc
+trap_part symbols mcause mtval mepc = trap_text mcause mtval ++ codes ", mepc " ++ labelled symbols mepc ++ source_of symbols mepc
 
 unfoldable pub last_trap : List Symbol → State → List ℕ
 last_trap symbols s =

@@ -88,14 +88,20 @@ fn is_trapped(mcause: u64, mtval: u64) -> bool
     !(mcause == 0 && mtval == 0)
 }
 
-/// A trap in words, and where it was taken.
+/// A trap in words, and where it was taken, with the line of a source there, where it is known.
 #[tactic(auto, unfolding(crate::specs::Ending::trap_part))]
-fn trap_part(symbols: &Symbols, mcause: u64, mtval: u64, mepc: u64) -> ArrayString<480>
+fn trap_part(symbols: &Symbols, mcause: u64, mtval: u64, mepc: u64) -> ArrayString<720>
     ensures { result.bytes ≡ trap_part symbols.now mcause mtval mepc }
 {
     let words = trap_text(mcause, mtval);
     let place = labelled(Some(symbols), mepc);
-    text(&[Text(words.as_str()), Text(", mepc "), Text(place.as_str())])
+    let source = symbols.source_of(mepc);
+    text(&[
+        Text(words.as_str()),
+        Text(", mepc "),
+        Text(place.as_str()),
+        Text(source.as_str()),
+    ])
 }
 
 /// Appends the last trap to a text, where one was taken.

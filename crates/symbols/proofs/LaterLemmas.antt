@@ -4,7 +4,7 @@ use Rattle.std.proofs.Common.{inl, inr, refl, ap, sym, ◌∙◌, length, length
 use Rattle.std.specs.Prelude.{◌==◌, slice_get}
 use Rattle.std.proofs.lemmas.Bool.Decides.{nat_tests}
 use Rattle.symbols.specs.Places.{left_at, later_of, names_from, names_left}
-use Rattle.symbols.specs.Symbols.{Symbol, names_at}
+use Rattle.symbols.specs.Symbols.{Symbol, names_among}
 use Rattle.symbols.proofs.PlaceLemmas.{stands}
 
 -- ---- what a list with one more item gives
@@ -35,18 +35,18 @@ not_all : (ss : List Symbol) (n : ℕ) → n ≤ length ss → (suc (length ss) 
 not_all ss n h = grind (arith, nat_tests)
 
 -- an address without a symbol has no name
-no_names : (symbols : List Symbol) (address : ℕ) → left_at symbols address ≡ None → names_at symbols address ≡ []
+no_names : (symbols : List Symbol) (address : ℕ) → left_at symbols address ≡ None → names_among symbols address ≡ []
 no_names [] address h = refl
-no_names (s ∷ ss) address h = elim (s.address == address) as (λ t. (s.address == address) ≡ t → names_at (s ∷ ss) address ≡ []) [
+no_names (s ∷ ss) address h = elim (s.address == address) as (λ t. (s.address == address) ≡ t → names_among (s ∷ ss) address ≡ []) [
   | true ↦ λ e. let k : Some (suc (length ss)) ≡ None = rw e at h in cc
   | false ↦ λ e. let k : left_at ss address ≡ None = rw e at h in rw e (no_names ss address k)
 ] refl
 
 -- from its first symbol on an address has all its names
-names_stand : (symbols : List Symbol) (address n : ℕ) → left_at symbols address ≡ Some n → names_from symbols n ≡ names_at symbols address
+names_stand : (symbols : List Symbol) (address n : ℕ) → left_at symbols address ≡ Some n → names_from symbols n ≡ names_among symbols address
 names_stand [] address n h = cc
 names_stand (s ∷ ss) address n h =
-    elim (s.address == address) as (λ t. (s.address == address) ≡ t → names_from (s ∷ ss) n ≡ names_at (s ∷ ss) address) [
+    elim (s.address == address) as (λ t. (s.address == address) ≡ t → names_from (s ∷ ss) n ≡ names_among (s ∷ ss) address) [
       | true ↦ λ e.
           let k : Some (suc (length ss)) ≡ Some n = rw e at h in
           let m : suc (length ss) ≡ n = cc in
@@ -59,9 +59,9 @@ names_stand (s ∷ ss) address n h =
           rw (e, less) (names_stand ss address n k)
     ] refl
 
-pub first_names : (symbols : List Symbol) (address : ℕ) → names_left symbols (left_at symbols address) ≡ names_at symbols address
+pub first_names : (symbols : List Symbol) (address : ℕ) → names_left symbols (left_at symbols address) ≡ names_among symbols address
 first_names symbols address =
-    elim (left_at symbols address) as (λ o. left_at symbols address ≡ o → names_left symbols o ≡ names_at symbols address) [
+    elim (left_at symbols address) as (λ o. left_at symbols address ≡ o → names_left symbols o ≡ names_among symbols address) [
       | None ↦ λ e. sym (no_names symbols address e)
       | Some n ↦ λ e. names_stand symbols address n e
     ] refl
@@ -111,7 +111,7 @@ names_step (x ∷ xs) n s next at some later = elim (got_last (later_of xs) (lef
       let k : Some x ≡ Some s = rw z at at in
       let same : x ≡ s = cc in
       let within : (m : ℕ) → next ≡ Some m → m ≤ length xs = λ m e. (stands xs x.address m (last.1 ∙ e)).within in
-      let rest : names_at xs x.address ≡ names_left (x ∷ xs) next =
+      let rest : names_among xs x.address ≡ names_left (x ∷ xs) next =
       sym (first_names xs x.address) ∙ ap (names_left xs) last.1 ∙ sym (left_more x xs next within) in
       rw all (ap (λ names. x.name ∷ names) rest ∙ ap (λ y. y.name ∷ names_left (x ∷ xs) next) same)
 ]

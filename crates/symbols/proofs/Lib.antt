@@ -1,5 +1,6 @@
 mod LabelTexts
 mod LaterLemmas
 mod LineLemmas
+mod SourceLemmas
 pub mod PlaceLemmas
 mod TableLemmas

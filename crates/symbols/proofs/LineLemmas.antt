@@ -74,20 +74,24 @@ front_length (suc k) (b ∷ bs) h =
       | false ↦ λ e. let j : suc k ≤ 0 = rw e at h in absurd (omega (arith, j))
     ] refl
 
--- a symbol's line has 16 bytes
-pub symbol_front : (line : List ℕ) → IsTrue (is_symbol line) → length (take 16 line) ≡ 16
-unfolding is_symbol has_address
+-- an address has 16 bytes
+pub symbol_front : (line : List ℕ) → IsTrue (has_address line) → length (take 16 line) ≡ 16
+unfolding has_address
 symbol_front line h =
     let count : prefix_len is_hexadecimal_digit line ≡ 16 = grind (arith, nat_tests) in
     front_length 16 line (omega (arith, count))
 
 -- 16 digits are a number of 64 bits
-pub address_fits : (line : List ℕ) → IsTrue (is_symbol line) → digits_value 16 (take 16 line) < 18446744073709551616
-unfolding is_symbol has_address
+pub address_fits : (line : List ℕ) → IsTrue (has_address line) → digits_value 16 (take 16 line) < 18446744073709551616
+unfolding has_address
 address_fits line h =
     let count : prefix_len is_hexadecimal_digit line ≡ 16 = grind (arith, nat_tests) in
     let below = digits_value-lt 16 (take 16 line) (digits_in_front 16 line (omega (arith, count))) in
     rw (front_length 16 line (omega (arith, count))) at below
+
+and_left : (a b : Bool) → (a && b) ≡ true → a ≡ true
+and_left true b h = refl
+and_left false b h = h
 
 and_right : (a b : Bool) → (a && b) ≡ true → b ≡ true
 and_right true b h = h
@@ -106,3 +110,7 @@ first_symbols line lines =
       | true ↦ λ e. rw e refl
       | false ↦ λ e. rw e refl
     ] refl
+
+pub has_address_of : (line : List ℕ) → IsTrue (is_symbol line) → IsTrue (has_address line)
+unfolding is_symbol
+has_address_of line h = and_left _ _ h

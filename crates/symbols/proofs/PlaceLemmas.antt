@@ -1,10 +1,10 @@
--- The first symbol of an address and the nearest one below an address, by how many symbols stand from them on.
+-- The first symbol of an address and the nearest_among one below an address, by how many symbols stand from them on.
 use Rattle.std.proofs.Common.{◌≡◌, ℕ, suc, ◌-◌, ◌≤◌, true, false, ◌&&◌, List, [], ◌∷◌, Some, None, refl}
 use Rattle.std.proofs.Common.{length, sym, ◌∙◌, subst, arith}
 use Rattle.std.specs.Prelude.{◌==◌, nat_le, slice_get, IsSome}
 use Rattle.std.proofs.lemmas.Bool.Decides.{nat_tests}
 use Rattle.symbols.specs.Places.{left_at}
-use Rattle.symbols.specs.Symbols.{Symbol, is_not_below, name_at, names_at, nearest}
+use Rattle.symbols.specs.Symbols.{Symbol, is_not_below, name_among, names_among, nearest_among}
 
 itself : (n : ℕ) → (n == n) ≡ true
 itself n = grind (arith, nat_tests)
@@ -45,10 +45,10 @@ stands (s ∷ ss) address n h = elim (s.address == address) as (λ t. (s.address
 ] refl
 
 -- the name of an address is the first of its names
-pub first_name : (symbols : List Symbol) (address : ℕ) → name_at symbols address ≡ slice_get (names_at symbols address) 0
+pub first_name : (symbols : List Symbol) (address : ℕ) → name_among symbols address ≡ slice_get (names_among symbols address) 0
 first_name [] address = refl
 first_name (s ∷ ss) address = elim (s.address == address) as (λ t. (s.address == address) ≡ t
-    → name_at (s ∷ ss) address ≡ slice_get (names_at (s ∷ ss) address) 0) [
+    → name_among (s ∷ ss) address ≡ slice_get (names_among (s ∷ ss) address) 0) [
       | true ↦ λ e. rw e refl
       | false ↦ λ e. rw e (first_name ss address)
     ] refl
@@ -64,19 +64,19 @@ own : (s : Symbol) (ss : List Symbol) → IsSome (left_at (s ∷ ss) s.address)
 own s ss = let e = itself s.address in rw e refl
 
 -- what is found lies at the address or below it
-found_below : (symbols : List Symbol) (address : ℕ) (s : Symbol) → nearest symbols address ≡ Some s
+found_below : (symbols : List Symbol) (address : ℕ) (s : Symbol) → nearest_among symbols address ≡ Some s
     → (s.address ≤ address) × IsSome (left_at symbols s.address)
 found_below [] address s h = cc
 found_below (x ∷ xs) address s h =
-    elim (nat_le x.address address && is_not_below x (nearest xs address)) as (λ t.
-    (nat_le x.address address && is_not_below x (nearest xs address)) ≡ t → (s.address ≤ address) × IsSome (left_at (x ∷ xs) s.address)) [
+    elim (nat_le x.address address && is_not_below x (nearest_among xs address)) as (λ t.
+    (nat_le x.address address && is_not_below x (nearest_among xs address)) ≡ t → (s.address ≤ address) × IsSome (left_at (x ∷ xs) s.address)) [
       | true ↦ λ e.
           let k : Some x ≡ Some s = rw e at h in
           let m : x ≡ s = cc in
           let below : x.address ≤ address = grind (arith, nat_tests) in
           subst (λ y. (y.address ≤ address) × IsSome (left_at (x ∷ xs) y.address)) m (below, own x xs)
       | false ↦ λ e.
-          let k : nearest xs address ≡ Some s = rw e at h in
+          let k : nearest_among xs address ≡ Some s = rw e at h in
           let r = found_below xs address s k in
           (r.0, more x xs s.address r.1)
     ] refl
@@ -85,8 +85,8 @@ abbrev IsGreatest : List Symbol → ℕ → ℕ → Type 0
 IsGreatest symbols address place = (q : ℕ) → q ≤ address → IsSome (left_at symbols q) → q ≤ place
 
 not_below : (s : Symbol) (ss : List Symbol) (address : ℕ) → IsGreatest (s ∷ ss) address s.address
-    → is_not_below s (nearest ss address) ≡ true
-not_below s ss address greatest = elim (nearest ss address) as (λ o. nearest ss address ≡ o → is_not_below s o ≡ true) [
+    → is_not_below s (nearest_among ss address) ≡ true
+not_below s ss address greatest = elim (nearest_among ss address) as (λ o. nearest_among ss address ≡ o → is_not_below s o ≡ true) [
   | None ↦ λ e. refl
   | Some y ↦ λ e.
       let b = found_below ss address y e in
@@ -94,12 +94,12 @@ not_below s ss address greatest = elim (nearest ss address) as (λ o. nearest ss
       grind (arith, nat_tests)
 ] refl
 
--- The nearest symbol is the first of the greatest address that has one and isn't above.
+-- The nearest_among symbol is the first of the greatest address that has one and isn't above.
 pub nearest_stands : (symbols : List Symbol) (address place n : ℕ) → left_at symbols place ≡ Some n → place ≤ address
-    → ((q : ℕ) → q ≤ address → IsSome (left_at symbols q) → q ≤ place) → nearest symbols address ≡ slice_get symbols (length symbols - n)
+    → ((q : ℕ) → q ≤ address → IsSome (left_at symbols q) → q ≤ place) → nearest_among symbols address ≡ slice_get symbols (length symbols - n)
 nearest_stands [] address place n h below greatest = cc
 nearest_stands (s ∷ ss) address place n h below greatest = elim (s.address == place) as (λ t. (s.address == place) ≡ t
-    → nearest (s ∷ ss) address ≡ slice_get (s ∷ ss) (length (s ∷ ss) - n)) [
+    → nearest_among (s ∷ ss) address ≡ slice_get (s ∷ ss) (length (s ∷ ss) - n)) [
       | true ↦ λ e.
           let k : Some (suc (length ss)) ≡ Some n = rw e at h in
           let m : suc (length ss) ≡ n = cc in
@@ -120,7 +120,7 @@ nearest_stands (s ∷ ss) address place n h below greatest = elim (s.address == 
     ] refl
 
 pub nearest_none : (symbols : List Symbol) (address : ℕ) → ((q : ℕ) → q ≤ address → left_at symbols q ≡ None)
-    → nearest symbols address ≡ None
+    → nearest_among symbols address ≡ None
 nearest_none [] address h = refl
 nearest_none (s ∷ ss) address h =
     let rest : (q : ℕ) → q ≤ address → left_at ss q ≡ None = λ q l. elim (s.address == q) as (λ t. (s.address == q) ≡ t
@@ -129,7 +129,7 @@ nearest_none (s ∷ ss) address h =
       | false ↦ λ e. rw e at (h q l)
     ] refl in
     let near = nearest_none ss address rest in
-    elim (nat_le s.address address) as (λ t. nat_le s.address address ≡ t → nearest (s ∷ ss) address ≡ None) [
+    elim (nat_le s.address address) as (λ t. nat_le s.address address ≡ t → nearest_among (s ∷ ss) address ≡ None) [
       | true ↦ λ e.
           let l : s.address ≤ address = grind (arith, nat_tests) in
           let i = itself s.address in

@@ -2,7 +2,7 @@
 use Rattle.std.specs.Prelude.{◌≡◌, ℕ, suc, ◌==◌, if◌then◌else◌, List, [], ◌∷◌, ◌++◌, length, Option, Some, None}
 use Rattle.std.specs.BTreeMap.{BTreeMap, get}
 use Rattle.std.specs.Ordering.{nat_cmp}
-use Rattle.symbols.specs.Symbols.{Symbol, names_at}
+use Rattle.symbols.specs.Symbols.{Symbol, names_among}
 
 -- the first one
 abbrev pub left_at : List Symbol → ℕ → Option ℕ
@@ -20,7 +20,7 @@ later_of (s ∷ ss) = later_of ss ++ (left_at ss s.address ∷ [])
 -- the names of an address from one of its symbols on
 abbrev pub names_from : List Symbol → ℕ → List (List ℕ)
 names_from [] left = []
-names_from (s ∷ ss) left = if suc (length ss) == left then s.name ∷ names_at ss s.address else names_from ss left
+names_from (s ∷ ss) left = if suc (length ss) == left then s.name ∷ names_among ss s.address else names_from ss left
 
 abbrev pub names_left : List Symbol → Option ℕ → List (List ℕ)
 names_left symbols None = []

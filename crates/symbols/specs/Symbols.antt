@@ -1,7 +1,7 @@
 -- Tables of symbols: names and the addresses that they stand for, one a line, and what is looked up in them.
 use Rattle.std.specs.Prelude.{◌≡◌, ℕ, ◌<◌, ◌^◌, Bool, not, ◌&&◌, ◌||◌, ◌==◌, nat_le, nat_eq, if◌then◌else◌, List, [], ◌∷◌, ◌++◌, length}
 use Rattle.std.specs.Prelude.{take}
-use Rattle.std.specs.Prelude.{drop, ◌+◌, ◌-◌, true, nat_lt, slice_index, Option, Some, None, codes}
+use Rattle.std.specs.Prelude.{drop, ◌+◌, ◌-◌, true, false, nat_lt, slice_index, Option, Some, None, codes}
 use Rattle.std.specs.List.{prefix_len, starts_with, flat_map}
 use Rattle.std.specs.Char.{digit_value}
 use Rattle.std.specs.Option.{option_or}
@@ -11,13 +11,23 @@ use Rattle.asm_lines.specs.Text.{is_name, is_dot}
 use Rattle.asm_lines.specs.Words.{number_between, read_number}
 use Rattle.texts.specs.Hex.{hex_of}
 
--- A name and its address.
+-- An entry of a table: a label and its address; or a line of a source and the address of an instruction that it places.
 pub record Symbol : Type 0 where
   pub address : ℕ
   pub name : List ℕ
+  pub is_line : Bool
 
 abbrev pub symbol : ℕ → List ℕ → Symbol
-symbol address name = record { address = address; name = name }
+symbol address name = record { address = address; name = name; is_line = false }
+
+-- the labels of a table, and its lines of sources
+abbrev pub labels_in : List Symbol → List Symbol
+labels_in [] = []
+labels_in (s ∷ ss) = if s.is_line then labels_in ss else s ∷ labels_in ss
+
+abbrev pub lines_in : List Symbol → List Symbol
+lines_in [] = []
+lines_in (s ∷ ss) = if s.is_line then s ∷ lines_in ss else lines_in ss
 
 -- a name that a line of assembly can define: with its colon it has at most the 255 bytes of a line
 unfoldable pub is_label : List ℕ → Bool
@@ -78,6 +88,7 @@ symbols_of text = symbols_in (lines_of text)
 pub record HasLine (s : Symbol) : Type 0 where
   pub address : s.address < 2 ^ 64
   pub name : is_label s.name ≡ true
+  pub label : s.is_line ≡ false
 
 -- symbols as lines
 abbrev pub symbol_line : Symbol → List ℕ
@@ -86,28 +97,52 @@ symbol_line s = hex_of 16 s.address ++ codes " " ++ s.name ++ codes "\n"
 abbrev pub table_text : List Symbol → List ℕ
 table_text symbols = flat_map symbol_line symbols
 
--- the names of an address, in the table's order; the first of them, and the first address of a name
+-- ---- entries of one kind
+
+-- the names of an address, in their order; the first of them, and the first address of a name
+abbrev pub names_among : List Symbol → ℕ → List (List ℕ)
+names_among [] address = []
+names_among (s ∷ ss) address = if s.address == address then s.name ∷ names_among ss address else names_among ss address
+
+abbrev pub name_among : List Symbol → ℕ → Option (List ℕ)
+name_among [] address = None
+name_among (s ∷ ss) address = if s.address == address then Some s.name else name_among ss address
+
+abbrev pub address_among : List Symbol → List ℕ → Option ℕ
+address_among [] name = None
+address_among (s ∷ ss) name = if pointwise nat_eq s.name name then Some s.address else address_among ss name
+
+-- the one at an address or nearest below it; of several at one address the first
+abbrev pub is_not_below : Symbol → Option Symbol → Bool
+is_not_below s None = true
+is_not_below s (Some other) = nat_le other.address s.address
+
+abbrev pub nearest_among : List Symbol → ℕ → Option Symbol
+nearest_among [] address = None
+nearest_among (s ∷ ss) address =
+    if nat_le s.address address && is_not_below s (nearest_among ss address) then Some s else nearest_among ss address
+
+-- ---- the labels of a table
+
 abbrev pub names_at : List Symbol → ℕ → List (List ℕ)
-names_at [] address = []
-names_at (s ∷ ss) address = if s.address == address then s.name ∷ names_at ss address else names_at ss address
+names_at symbols address = names_among (labels_in symbols) address
 
 abbrev pub name_at : List Symbol → ℕ → Option (List ℕ)
-name_at [] address = None
-name_at (s ∷ ss) address = if s.address == address then Some s.name else name_at ss address
+name_at symbols address = name_among (labels_in symbols) address
 
 abbrev pub address_of : List Symbol → List ℕ → Option ℕ
-address_of [] name = None
-address_of (s ∷ ss) name = if pointwise nat_eq s.name name then Some s.address else address_of ss name
+address_of symbols name = address_among (labels_in symbols) name
 
 -- an address as it is written: a number of 64 bits, and where the text is not a number, the first address of the label of that name
 abbrev pub address_in : List Symbol → List ℕ → Option ℕ
 address_in symbols text = option_or (read_number (number_between 0 (2 ^ 64 - 1) text)) (address_of symbols text)
 
--- the symbol at an address or nearest below it; of several at one address the first
-abbrev pub is_not_below : Symbol → Option Symbol → Bool
-is_not_below s None = true
-is_not_below s (Some other) = nat_le other.address s.address
-
+-- the label at an address or nearest below it; of several at one address the first
 abbrev pub nearest : List Symbol → ℕ → Option Symbol
-nearest [] address = None
-nearest (s ∷ ss) address = if nat_le s.address address && is_not_below s (nearest ss address) then Some s else nearest ss address
+nearest symbols address = nearest_among (labels_in symbols) address
+
+-- ---- its lines of sources
+
+-- the first line that places an instruction at an address
+abbrev pub source_at : List Symbol → ℕ → Option (List ℕ)
+source_at symbols address = name_among (lines_in symbols) address

@@ -1,11 +1,12 @@
-//! What stands after an address: the label at it or below it.
+//! What stands after an address: the label at it or below it, and the line of a source that places its instruction.
 ghost use Rattle.std.specs.Prelude.{◌≡◌, ◌+◌, ◌<◌, ◌≤◌, length, true};
 ghost use Rattle.std.specs.Option.{option_copied};
 ghost use Rattle.arrayvec.specs.ArrayString.{array_string_len};
 ghost use Rattle.symbols.specs.Labels.{label_of, labelled, table_of};
+ghost use Rattle.symbols.specs.Sources.{source_of};
 ghost use Rattle.symbols.specs.Symbols.{is_label};
 
-use crate::table::Symbols;
+use crate::symbols::Symbols;
 use arrayvec::ArrayString;
 use texts::Piece::{Address, Decimal, Text};
 use texts::text;
@@ -46,6 +47,24 @@ impl Symbols {
             text(&[Text(" <"), name, Text(">")])
         } else {
             text(&[Text(" <"), name, Text("+"), Decimal(distance), Text(">")])
+        }
+    }
+}
+
+/// A line of a source, at most 241 bytes.
+pub type Source = ArrayString<256>;
+
+impl Symbols {
+    /// What stands after an address and its label where the line is known that places its instruction: ` mem.s:41: csd t0, 24(cs4)`. At
+    /// most 241 bytes; it takes no memory.
+    #[tactic(auto, unfolding(crate::specs::Sources::source_of))]
+    pub fn source_of(&self, address: u64) -> Source
+        ensures text { result.bytes ≡ source_of self.now address }
+        ensures within { array_string_len result ≤ 241 }
+    {
+        match self.source_at(address) {
+            Some(place) => text(&[Text(" "), Text(place)]),
+            None => Source::new(),
         }
     }
 }

@@ -56,7 +56,7 @@ pub(crate) fn name(line: &[u8]) -> &[u8]
 
 /// Whether a line begins with 16 hexadecimal digits and a blank.
 #[tactic(auto, unfolding(crate::specs::Symbols::has_address))]
-fn has_address(line: &[u8]) -> bool
+pub(crate) fn has_address(line: &[u8]) -> bool
     ensures { result ≡ has_address line.now }
 {
     run_length(line, Class::Digit(16)) == 16 && line.len() > 16 && line[16] == b' '
@@ -72,7 +72,7 @@ pub(crate) fn is_symbol(line: &[u8]) -> bool
 
 /// Whether blanks stand for a line's address, and one more before its letter.
 #[tactic(auto, unfolding(crate::specs::Symbols::lacks_address))]
-fn lacks_address(line: &[u8]) -> bool
+pub(crate) fn lacks_address(line: &[u8]) -> bool
     ensures { result ≡ lacks_address line.now }
 {
     line.starts_with(b"                 ")
@@ -98,10 +98,10 @@ fn value(digits: &[u8]) -> Option<u64>
     Some(value)
 }
 
-/// The address of a line of a table.
+/// The address that a line begins with.
 #[tactic(auto, using(crate::proofs::LineLemmas::address_fits))]
 pub(crate) fn address(line: &[u8]) -> u64
-    requires { IsTrue (is_symbol line.now) }
+    requires { IsTrue (has_address line.now) }
     ensures { result ≡ digits_value 16 (take 16 line.now) }
 {
     match value(&line[..16]) {

@@ -14,11 +14,12 @@ pub struct Symbol {
 }
 
 impl Model for Symbol {
+    ghost use Rattle.std.specs.Prelude.{false};
     ghost use Rattle.symbols.specs.Symbols as spec;
 
     ghost Value = { spec.Symbol };
 
-    ghost view = { λ s. record { address = s.address; name = s.name.items } };
+    ghost view = { λ s. record { address = s.address; name = s.name.items; is_line = false } };
 }
 
 impl Symbol {

@@ -1,4 +1,4 @@
-//! A table of symbols: reading one, and looking up in it.
+//! A table of labels: reading one, and looking up in it.
 ghost use Rattle.std.specs.Prelude.{◌≡◌, ◌-◌, ◌<◌, ◌≤◌, [], ◌∷◌, ◌++◌, None, Some, IfOk};
 ghost use Rattle.std.specs.Prelude.{IfErr, IfNone, IfSome, OnOk, length, option_map, slice_get};
 ghost use Rattle.std.specs.Option.{option_copied};
@@ -6,11 +6,10 @@ ghost use Rattle.std.proofs.Props.{props};
 ghost use Rattle.symbols.specs.declared.table.SymbolsFault.TheVariants.{Memory};
 ghost use Rattle.symbols.specs.Places.{IsPlacing, later_of, names_from, names_left};
 ghost use Rattle.symbols.specs.Reads.{IsFaultOf};
-ghost use Rattle.symbols.specs.Symbols.{address_in, address_of, faulty_line, name_at, names_at, nearest, symbols_in, symbols_of};
+ghost use Rattle.symbols.specs.Symbols.{address_among, faulty_line, name_among, names_among, nearest_among, symbols_in, symbols_of};
 
 use crate::lines::{address, is_line, is_symbol, name, split_line};
 use crate::symbol::Symbol;
-use asm_lines::number_between;
 use std::alloc::{AllocError, Global};
 use std::collections::BTreeMap;
 use std::marker::Model;
@@ -32,9 +31,9 @@ impl From<AllocError> for SymbolsFault {
     }
 }
 
-/// Symbols, in the order of their lines.
+/// Labels, in the order of their lines.
 #[derive(Drop, Debug)]
-pub struct Symbols {
+pub(crate) struct Table {
     entries: Vec<Symbol>,
     /// Of each address that has a symbol how many symbols stand from its first one on, that one among them.
     places: BTreeMap<u64, usize>,
@@ -44,7 +43,7 @@ pub struct Symbols {
     ghost linked: { later.items ≡ later_of entries.items } by { Prim.hlevel props },
 }
 
-impl Model for Symbols {
+impl Model for Table {
     ghost use Rattle.std.specs.Prelude.{List};
     ghost use Rattle.symbols.specs.Symbols as spec;
 
@@ -67,12 +66,8 @@ fn push_symbol(alloc: Global, entries: &mut Vec<Symbol>, line: &[u8]) -> Result<
     Ok(())
 }
 
-/// Reads a table of symbols: lines of 16 hexadecimal digits, a blank and a label, or lines as nm prints them, with a letter and a blank
-/// before the name. Of the latter those are passed over whose name is no label, or that have blanks in place of an address. The last line
-/// may lack its line feed.
-///
-/// The fault is the first line that is not such a line, or that there is no memory.
-pub fn read_symbols(alloc: Global, text: &[u8]) -> Result<Symbols, SymbolsFault>
+/// The labels of a text, or its first line that isn't one of a table.
+pub(crate) fn read_table(alloc: Global, text: &[u8]) -> Result<Table, SymbolsFault>
     ensures correct { IfOk result (λ _. faulty_line text.now ≡ None) }
     ensures symbols { IfOk result (λ symbols. symbols ≡ symbols_of text.now) }
     ensures fault { IfErr result (IsFaultOf (faulty_line text.now)) }
@@ -89,7 +84,7 @@ pub fn read_symbols(alloc: Global, text: &[u8]) -> Result<Symbols, SymbolsFault>
         number += 1;
         rest = after;
     }
-    Ok(Symbols::placed(alloc, entries)?)
+    Ok(Table::placed(alloc, entries)?)
 }
 
 /// The symbol from which on so many stand.
@@ -107,12 +102,12 @@ fn later_than(later: &[Option<usize>], left: usize) -> Option<Option<usize>>
     later.get(left.checked_sub(1)?).copied()
 }
 
-impl Symbols {
-    /// No symbols. It takes no memory; `alloc` is kept.
-    pub fn new(alloc: Global) -> Self
+impl Table {
+    /// No labels. It takes no memory; `alloc` is kept.
+    pub(crate) fn new(alloc: Global) -> Self
         ensures { result ≡ [] }
     {
-        Symbols {
+        Table {
             entries: Vec::new(alloc),
             places: BTreeMap::new(alloc),
             later: Vec::new(alloc),
@@ -131,7 +126,7 @@ impl Symbols {
             let next = places.insert(entries[index].address(), entries.len() - index)?;
             later.push(next)?;
         }
-        Ok(Symbols {
+        Ok(Table {
             entries,
             places,
             later,
@@ -139,7 +134,7 @@ impl Symbols {
     }
 
     /// The symbols.
-    pub fn entries(&self) -> &[Symbol]
+    pub(crate) fn entries(&self) -> &[Symbol]
         ensures { result.now ≡ self.now }
     {
         &self.entries
@@ -147,16 +142,16 @@ impl Symbols {
 
     /// The first name of an address.
     #[tactic(auto, using(crate::proofs::PlaceLemmas::first_name))]
-    pub fn name_at(&self, address: u64) -> Option<&[u8]>
-        ensures value { option_map (λ name. name.now) result ≡ name_at self.now address }
+    pub(crate) fn name_at(&self, address: u64) -> Option<&[u8]>
+        ensures value { option_map (λ name. name.now) result ≡ name_among self.now address }
         ensures bound { IfSome result (λ name. length name.now ≤ 254) }
     {
         self.names_at(address).next()
     }
 
     /// The names of an address, in the order of the symbols. It takes no memory.
-    pub fn names_at(&self, address: u64) -> Names<'_>
-        ensures { result ≡ names_at self.now address }
+    pub(crate) fn names_at(&self, address: u64) -> Names<'_>
+        ensures { result ≡ names_among self.now address }
     {
         Names {
             symbols: self,
@@ -166,7 +161,7 @@ impl Symbols {
 
     /// How many symbols stand from the first one of an address on, if it has one.
     fn first_left(&self, address: u64) -> Option<usize>
-        ensures { names_left self.now result ≡ names_at self.now address }
+        ensures { names_left self.now result ≡ names_among self.now address }
     {
         self.places.get(&address).copied()
     }
@@ -182,8 +177,8 @@ impl Symbols {
     }
 
     /// The first address of a name.
-    pub fn address_of(&self, name: &[u8]) -> Option<u64>
-        ensures { result ≡ address_of self.now name.now }
+    pub(crate) fn address_of(&self, name: &[u8]) -> Option<u64>
+        ensures { result ≡ address_among self.now name.now }
     {
         for symbol in self.entries() {
             if symbol.name() == name {
@@ -193,19 +188,9 @@ impl Symbols {
         None
     }
 
-    /// An address as it is written: a number of 64 bits, or else the first address of the label of that name.
-    pub fn address_in(&self, text: &[u8]) -> Option<u64>
-        ensures { result ≡ address_in self.now text.now }
-    {
-        match number_between(text, 0, u64::MAX) {
-            Some(number) => Some(number),
-            None => self.address_of(text),
-        }
-    }
-
     /// The symbol at an address or nearest below it; of several at one address the first.
-    pub fn nearest(&self, address: u64) -> Option<&Symbol>
-        ensures { option_copied result ≡ nearest self.now address }
+    pub(crate) fn nearest(&self, address: u64) -> Option<&Symbol>
+        ensures { option_copied result ≡ nearest_among self.now address }
     {
         match self.places.range(..=address).next_back() {
             Some((_, left)) => from_end(self.entries(), *left),
@@ -217,7 +202,7 @@ impl Symbols {
 /// The names of an address that are still to come, in the table's order.
 #[derive(Drop)]
 pub struct Names<'a> {
-    symbols: &'a Symbols,
+    symbols: &'a Table,
     /// How many symbols stand from the next one's on, if one is to come.
     left: Option<usize>,
 }

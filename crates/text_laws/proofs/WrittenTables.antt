@@ -186,7 +186,7 @@ line_says s h =
     let name = rw n at (drop_behind (hex_of 16 s.address) 32 s.name) in
     let letter = no_letter s h in
     let value = digits_number 16 s.address h.address in
-    rw (front, letter, name, value) refl
+    rw (front, letter, name, value) (ap (λ is_line. record { address = s.address; name = s.name; is_line = is_line }) (sym h.label))
 
 line_inside : (s : Symbol) → HasLine s → every inside (written_line s) ≡ true
 line_inside s h =

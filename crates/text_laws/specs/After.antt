@@ -19,6 +19,7 @@ use Rattle.disassembler.specs.Shown.{shown_word}
 use Rattle.registers.specs.Registers.{register}
 use Rattle.symbols.specs.Symbols.{Symbol}
 use Rattle.symbols.specs.Labels.{labelled}
+use Rattle.symbols.specs.Sources.{source_of}
 use Rattle.steps.specs.declared.effect.CsrWrite.{CsrWrite}
 use Rattle.steps.specs.declared.effect.Effect.{Effect}
 use Rattle.steps.specs.declared.effect.Effect.TheVariants.{Trap, Nothing, Write, Unseal, Store, StoreCapability, DeviceLoad, DeviceStore}
@@ -93,7 +94,7 @@ ShowsTheStateAfter =
     (number : ℕ)
     → trace_line symbols number s
     ≡ decimal number ++ codes " " ++ labelled symbols (value_address s.scrs.pcc) ++ codes " " ++ step_word s ++ codes ": "
-    ++ text_after symbols (step_effect s) (stepped s) ++ codes "\n"
+    ++ text_after symbols (step_effect s) (stepped s) ++ source_of symbols (value_address s.scrs.pcc) ++ codes "\n"
     )
     × (
     why_text symbols s
@@ -115,7 +116,9 @@ ShowsTheWord =
     (symbols : List Symbol) (s : State)
     → (
     is_in_ram s.memory (value_address s.scrs.pcc) 4 ≡ true
-    → instruction_text symbols s ≡ labelled symbols (value_address s.scrs.pcc) ++ codes " " ++ word_shown s ++ codes "\n"
+    → instruction_text symbols s
+    ≡ labelled symbols (value_address s.scrs.pcc) ++ codes " " ++ word_shown s ++ source_of symbols (value_address s.scrs.pcc)
+    ++ codes "\n"
     )
     × (pending s.csrs (interrupts_of s.devices) ≡ None → first_false (fetch_asked s) ≡ None → step_word s ≡ word_shown s)
 

@@ -41,6 +41,7 @@ use Rattle.registers.specs.Registers.{null, register, with_register, AreRegister
 use Rattle.steps.specs.AppliedLaws.{IsSoundEffect}
 use Rattle.symbols.specs.Symbols.{Symbol}
 use Rattle.symbols.specs.Labels.{labelled}
+use Rattle.symbols.specs.Sources.{source_of}
 use Rattle.steps.specs.declared.effect.CsrWrite.{CsrWrite}
 use Rattle.steps.specs.declared.effect.SpecialWrite.{SpecialWrite}
 use Rattle.steps.specs.declared.effect.Effect.{Effect}
@@ -354,10 +355,11 @@ module _ (s : State) (is : IsState s) where
 
 -- ---- the laws
 
-word-line : (address word text : List ℕ)
-    → address ++ codes " " ++ word ++ codes " " ++ text ++ codes "\n" ≡ address ++ codes " " ++ (word ++ codes " " ++ text) ++ codes "\n"
-word-line address word text =
-    ap (λ k. k ++ codes "\n")
+word-line : (address word text source : List ℕ)
+    → address ++ codes " " ++ word ++ codes " " ++ text ++ source ++ codes "\n"
+    ≡ address ++ codes " " ++ (word ++ codes " " ++ text) ++ source ++ codes "\n"
+word-line address word text source =
+    ap (λ k. k ++ source ++ codes "\n")
     (ap (λ k. k ++ text) (append_assoc (address ++ codes " ") word (codes " "))
     ∙ append_assoc (address ++ codes " ") (word ++ codes " ") text)
 
@@ -377,7 +379,7 @@ shows-the_state_after symbols s is running =
     let same = effect-after symbols s is running in (
       λ number.
           ap (λ text. decimal number ++ codes " " ++ labelled symbols (pc_of s) ++ codes " " ++ step_word s ++ codes ": " ++ text
-          ++ codes "\n")
+          ++ source_of symbols (pc_of s) ++ codes "\n")
           same,
       ap (λ halted. why_unless symbols halted s) running
           ∙ ap (λ text. instruction_text symbols s ++ stages_text symbols s ++ codes "effect: " ++ text ++ codes "\n") same,
@@ -386,7 +388,8 @@ shows-the_state_after symbols s is running =
 pub shows-the_word : ShowsTheWord
 unfolding instruction_text step_word
 shows-the_word symbols s = (
-  λ inside. rw inside (word-line (labelled symbols (pc_of s)) (hex_of 8 (word_here s)) (shown_word (value_flag s.scrs.pcc) (word_here s))),
+  λ inside. rw inside (word-line (labelled symbols (pc_of s)) (hex_of 8 (word_here s)) (shown_word (value_flag s.scrs.pcc) (word_here s))
+      (source_of symbols (pc_of s))),
   λ uninterrupted fetched. rw uninterrupted (ap (λ f. word_part (value_flag s.scrs.pcc) (fetched_by None (word_unless f s))) fetched),
 )
 

@@ -6,7 +6,7 @@ from random import Random
 from model.capabilities import ONE, capability, seal
 from model.devices import HALT, RAM, TIMER_COMPARE, TRANSMIT
 from model.policy import (PARTS, Breach, breaches, breaks, entry, first_breach, is_called, lent, lies_within, listed, range_text, read,
-                          refused, stopped, terms_after)
+                          read_all, refused, stopped, terms_after)
 from model.reach import KEEPING, ROOT, Member
 from model.rights import (ACCESS_SYSTEM_REGISTERS, ALL, EXECUTE, GREATEST_SEALING_TYPE, LOAD, SEAL, STORE, STORE_CAPABILITY, STORE_LOCAL,
                           UNSEAL)
@@ -48,6 +48,14 @@ class Texts(unittest.TestCase):
             self.assertEqual((rules[0].allowed, rules[0].or_caller, fault), ({"halt": False, "load": []}, True, None))
         self.assertEqual(read("when pc in 0..1: or caller", {})[0][0][3:], ({}, True))
         self.assertFalse(read("when pc in 0..1: load no # or caller", {})[0][0].or_caller)
+
+    def test_lines_name_ranges_of_any_code(self):
+        rules, any_code, fault = read_all("A = 0..4 8..12\nany code in A code..+8 # all\nwhen pc in A: halt no\n\tany code in 5..6\n", LABELS)
+        self.assertEqual(([rule.line for rule in rules], fault), ([3], None))
+        self.assertEqual(any_code, [(0, 4), (8, 12), (RAM, RAM + 8), (5, 6)])
+        for code, text in (("P1", "any code in"), ("P1", "any code at 0..4"), ("P1", "any code in 0..4: halt no"), ("P2", "any code in A"),
+                           ("P5", "any code in 4..4")):
+            self.assertEqual(fault_of(text), (code, 1))
 
     def test_texts_without_a_word_say_nothing(self):
         self.assertEqual([read(text, {}) for text in ("", "\n\r\n \t\n", "# when\n#\n")], [([], None)] * 3)

@@ -1,6 +1,6 @@
 use Rattle.std.proofs.Common.{◌≡◌, ◌+◌, ◌≤◌, length, vec_len}
 use Rattle.symbols.specs.Symbols.{lines_of}
-use Rattle.policy_text.specs.Policy.{policy_from, policy_of}
+use Rattle.policy_text.specs.Policy.{any_from, any_code_of, policy_from, policy_of}
 use Rattle.policy_text.specs.Seen.{read}
 use Rattle.policy_text.proofs.reading.read_policy.Given as goal
 
@@ -8,6 +8,7 @@ use Rattle.policy_text.proofs.reading.read_policy.Given as goal
 abbrev pub invariant-loop-rest : goal.invariant-loop-rest
 invariant-loop-rest l = record {
   policy : policy_from l.symbols l.number (read l.definitions.items l.policy) (lines_of l.rest) ≡ policy_of l.symbols l.text;
+  any : any_from l.symbols l.number (read l.definitions.items l.policy) (lines_of l.rest) ≡ any_code_of l.symbols l.text;
   paired : vec_len l.policy.rules ≡ vec_len l.policy.lines;
   start : 1 ≤ l.number;
   number : l.number + length l.rest ≤ length l.text + 1;

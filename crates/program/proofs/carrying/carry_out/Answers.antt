@@ -21,7 +21,7 @@ returns-in_ok-count-in-Audit g c =
 pub debug_file-requires : goal.debug_file-requires
 debug_file-requires g c =
     let debug = c.in-Debug in
-    gap_of debug.image debug.symbols debug.typed debug.gap debug.tick debug.quiet (subst IsSound debug.is c.requires)
+    gap_of debug.image debug.symbols debug.lines debug.typed debug.gap debug.tick debug.quiet (subst IsSound debug.is c.requires)
 
 pub returns-in_ok-ended-in-First : goal.returns-in_ok-ended-in-First
 returns-in_ok-ended-in-First g c =

@@ -1,0 +1,5 @@
+mod Covers
+mod Walking
+mod Enclosed
+mod Checked
+mod Found

@@ -1,0 +1,10 @@
+use Rattle.std.proofs.Common.{ℕ, ◌<◌}
+use Rattle.std.specs.List.{HoldsAt}
+use Rattle.reached.specs.Links.{values}
+use Rattle.every_run.proofs.Found.{HasBehind}
+use Rattle.every_run.proofs.members.missing.Given as goal
+
+abbrev pub invariant-loop-member : goal.invariant-loop-member
+invariant-loop-member g l =
+    (k : ℕ) → k < l.member-index
+    → HoldsAt (HasBehind (values g.C.CapRep.value l.members)) (values g.C.CapRep.value l.members) k

@@ -1,0 +1,28 @@
+//! What encloses a state keeps rules for ever: the contract is a law over the definitions alone.
+ghost use Rattle.std.specs.Prelude.{Contains, List};
+ghost use Rattle.cap_bounds.specs.CapValue.{CapValue};
+ghost use Rattle.steps.specs.IsState.{IsState};
+ghost use Rattle.steps.specs.State.{State};
+ghost use Rattle.policy.specs.Terms.{Terms};
+ghost use Rattle.always.specs.Enclosed.{Encloses, IsEnclosedBy, KeepsRules};
+ghost use Rattle.every_run.specs.Lasting.{AlwaysHold};
+
+use always::laws::enclosed_code_stays_enclosed;
+use doors::CapSet;
+
+/// The values that stand in the registers of the state to which the set belongs.
+struct Listed;
+
+impl CapSet for Listed {
+    ghost use Rattle.std.specs.Prelude.{Contains};
+
+    ghost has = { λ o. Contains o.registers };
+}
+
+/// Where a list of capabilities encloses a state and keeps some rules, the rules that apply hold in each state of each run from there.
+pub fn enclosed_states_keep_rules()
+    ensures { (vs : List CapValue) (rules : List Terms) (s : State) → Encloses (Contains vs) → KeepsRules (Contains vs) rules → IsState s
+        → IsEnclosedBy (Contains vs) s → AlwaysHold rules s }
+{
+    enclosed_code_stays_enclosed::<Listed>();
+}

@@ -1,0 +1,2 @@
+-- What to read
+pub mod Text

@@ -1,0 +1,10 @@
+use Rattle.std.proofs.Common.{ap, sym, ◌∙◌}
+use Rattle.symbols.specs.Symbols.{nearest_among}
+use Rattle.symbols.proofs.SourceLemmas.{labels_apart}
+use Rattle.symbols.proofs.symbols.Symbols.nearest.Goals as goal
+
+pub returns : goal.returns
+returns c =
+    let here = c.self.inside in
+    let apart = labels_apart _ _ here.labels_alone here.lines_alone in
+    rw (sym c.self.view_is) (c.nearest.ensures ∙ ap (λ labels. nearest_among labels c.args.address) (sym apart))

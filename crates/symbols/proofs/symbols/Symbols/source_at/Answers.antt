@@ -1,0 +1,10 @@
+use Rattle.std.proofs.Common.{ap, sym, ◌∙◌}
+use Rattle.symbols.specs.Symbols.{name_among}
+use Rattle.symbols.proofs.SourceLemmas.{lines_apart}
+use Rattle.symbols.proofs.symbols.Symbols.source_at.Goals as goal
+
+pub returns-clause-value : goal.returns-clause-value
+returns-clause-value c =
+    let here = c.self.inside in
+    let apart = lines_apart _ _ here.labels_alone here.lines_alone in
+    rw (sym c.self.view_is) (c.at.ensures.value ∙ ap (λ lines. name_among lines c.args.address) (sym apart))
