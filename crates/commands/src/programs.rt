@@ -46,8 +46,8 @@ pub fn table_of(alloc: Global, labels: Option<Symbols>) -> Symbols
     }
 }
 
-/// What is told with addresses: the labels, and after them the lines of the file `lines`, if one is named, or else those of the program's own
-/// text, which belong to the file of this name.
+/// What is told with addresses: the labels, and after them the lines of the file `lines`, if one is named, or else those of the program's
+/// own text, which belong to the file of this name.
 pub fn told_with<'a, F: Folder>(
     alloc: Global,
     folder: &F,

@@ -9,8 +9,9 @@ use std::alloc::{AllocError, AllocFailed};
 /// What is wrong with a line: its first fault, from left to right.
 #[derive(Clone, Copy, Debug, PartialEq, Eq)]
 pub enum PolicyCode {
-    /// Neither a definition nor a rule: there is no `=` and no `:`; before the first `=` stands anything but one name, or no word after it;
-    /// or before the first `:` stands anything but `when pc in` and a word or more.
+    /// Neither a definition nor a rule, and no ranges of any code: before the first `=` stands anything but one name, or no word after it;
+    /// or before the first `:` anything but `when pc in` and a word or more; or there is no `=` and no `:`, and the line is anything but
+    /// `any code in` and a word or more.
     P1,
     /// An unknown name: no earlier line defines it, or, at an end of a range, it is neither a number nor a label and begins with no digit.
     P2,

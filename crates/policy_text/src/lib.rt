@@ -1,6 +1,7 @@
 //! Policies as texts: lines that define ranges by name, and lines that are rules about the code in ranges.
 //!
-//! A line is a definition, `NAME = RANGES`, or a rule, `when pc in RANGES: PART, PART ..`, or says nothing; `#` begins a comment.
+//! A line is a definition, `NAME = RANGES`, a rule, `when pc in RANGES: PART, PART ..`, names where any code may be,
+//! `any code in RANGES`, or says nothing; `#` begins a comment.
 //!
 //! - RANGES are words, each a name that an earlier line defines, `FROM..TO` or `FROM..+LENGTH`. FROM and TO, which is not in the range,
 //!   are numbers or labels.

@@ -26,8 +26,8 @@ AreKeys (Some name) files keys = IfSome (bytes_of name.now files) (λ bytes. key
 
 -- An output grows by the conversation over what is typed with a file's program, and the schedule that is asked for with these bytes on
 -- its console.
-abbrev pub DebugsFile : Option (List File) → Text → Option (Bor Text) → Option (Bor Text) → Option (Bor Text) → Option ℕ → Option ℕ → Option (List ℕ)
-    → Option (List ℕ) → Option (List ℕ) → Type 0
+abbrev pub DebugsFile : Option (List File) → Text → Option (Bor Text) → Option (Bor Text) → Option (Bor Text) → Option ℕ → Option ℕ
+    → Option (List ℕ) → Option (List ℕ) → Option (List ℕ) → Type 0
 DebugsFile files name symbols lines keys gap tick input old new =
     (image : Image) × (labels : Option (List Symbol)) × (table : List Symbol) × (typed : List ℕ)
     × IsProgram name symbols files image labels × HasTable name lines files labels table

@@ -100,8 +100,8 @@ fn debug_image<'a, I: Read + Drop, O: Write + Drop>(
 }
 
 /// Debugs the program of a file: commands from `input`, which may name the labels of the file `symbols` if one is named or else of the
-/// text if it is one, replies to `output`, which is handed back. After addresses of instructions stand the lines of the file `lines`, if one
-/// is named, or else of the text.
+/// text if it is one, replies to `output`, which is handed back. After addresses of instructions stand the lines of the file `lines`, if
+/// one is named, or else of the text.
 ///
 /// Where a file `keys`, a gap or a tick is given, the session has the schedule of a run with these; what isn't given is as of `run`: no
 /// input, a gap of 1000, a tick of 100.

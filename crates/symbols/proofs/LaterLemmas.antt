@@ -43,7 +43,8 @@ no_names (s ∷ ss) address h = elim (s.address == address) as (λ t. (s.address
 ] refl
 
 -- from its first symbol on an address has all its names
-names_stand : (symbols : List Symbol) (address n : ℕ) → left_at symbols address ≡ Some n → names_from symbols n ≡ names_among symbols address
+names_stand : (symbols : List Symbol) (address n : ℕ) → left_at symbols address ≡ Some n
+    → names_from symbols n ≡ names_among symbols address
 names_stand [] address n h = cc
 names_stand (s ∷ ss) address n h =
     elim (s.address == address) as (λ t. (s.address == address) ≡ t → names_from (s ∷ ss) n ≡ names_among (s ∷ ss) address) [

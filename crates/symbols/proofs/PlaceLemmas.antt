@@ -69,7 +69,8 @@ found_below : (symbols : List Symbol) (address : ℕ) (s : Symbol) → nearest_a
 found_below [] address s h = cc
 found_below (x ∷ xs) address s h =
     elim (nat_le x.address address && is_not_below x (nearest_among xs address)) as (λ t.
-    (nat_le x.address address && is_not_below x (nearest_among xs address)) ≡ t → (s.address ≤ address) × IsSome (left_at (x ∷ xs) s.address)) [
+    (nat_le x.address address && is_not_below x (nearest_among xs address)) ≡ t
+    → (s.address ≤ address) × IsSome (left_at (x ∷ xs) s.address)) [
       | true ↦ λ e.
           let k : Some x ≡ Some s = rw e at h in
           let m : x ≡ s = cc in
@@ -96,7 +97,8 @@ not_below s ss address greatest = elim (nearest_among ss address) as (λ o. near
 
 -- The nearest_among symbol is the first of the greatest address that has one and isn't above.
 pub nearest_stands : (symbols : List Symbol) (address place n : ℕ) → left_at symbols place ≡ Some n → place ≤ address
-    → ((q : ℕ) → q ≤ address → IsSome (left_at symbols q) → q ≤ place) → nearest_among symbols address ≡ slice_get symbols (length symbols - n)
+    → ((q : ℕ) → q ≤ address → IsSome (left_at symbols q) → q ≤ place)
+    → nearest_among symbols address ≡ slice_get symbols (length symbols - n)
 nearest_stands [] address place n h below greatest = cc
 nearest_stands (s ∷ ss) address place n h below greatest = elim (s.address == place) as (λ t. (s.address == place) ≡ t
     → nearest_among (s ∷ ss) address ≡ slice_get (s ∷ ss) (length (s ∷ ss) - n)) [

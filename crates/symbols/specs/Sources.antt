@@ -1,4 +1,5 @@
--- Tables of lines of a source: which line places the instruction at an address, one a line, as `asm --lines` writes them or `nm -l` prints them.
+-- Tables of lines of a source: which line places the instruction at an address, one a line, as `asm --lines` writes them or `nm -l` prints
+-- them.
 use Rattle.std.specs.Prelude.{ℕ, ◌+◌, ◌==◌, ◌&&◌, ◌||◌, not, nat_le, Bool, true, if◌then◌else◌, List, [], ◌∷◌, ◌++◌, map, take, drop}
 use Rattle.std.specs.Prelude.{length, Option, Some, None, codes}
 use Rattle.std.specs.List.{list_all, list_any}
@@ -20,8 +21,8 @@ abbrev pub after_tabs : List ℕ → List ℕ → List ℕ
 after_tabs found [] = found
 after_tabs found (b ∷ bs) = if b == 9 then after_tabs bs bs else after_tabs found bs
 
--- the place in the source that a line names after its address and a blank, as `mem.s:41: csd t0, 24(cs4)`; in what nm prints, `main.c:12` after
--- the name and a tab
+-- the place in the source that a line names after its address and a blank, as `mem.s:41: csd t0, 24(cs4)`; in what nm prints, `main.c:12`
+-- after the name and a tab
 unfoldable pub place_in : List ℕ → List ℕ
 place_in line = after_tabs (drop 17 line) (drop 17 line)
 
