@@ -108,6 +108,16 @@ static cherisim_status call_audit(cherisim_t *m) {
     ROW(status ? length == 99 && told[0] == 0xee && line == 0 : length > 99 && told[0] == 's' && line == 99);
     return status;
 }
+static cherisim_status call_prove(cherisim_t *m) {
+    uint8_t told[1024] = {0xee};
+    size_t length = 99;
+    uint64_t line = 99;
+    bool shown = true;
+    cherisim_status status = cherisim_prove(m, (const uint8_t *)policy, strlen(policy), (const uint8_t *)labels, strlen(labels), 9, &shown,
+                                            told, sizeof told, &length, &line);
+    ROW(status ? length == 99 && told[0] == 0xee && line == 0 && shown : length != 99 && told[0] == 'n' && line == 99 && !shown);
+    return status;
+}
 static cherisim_status call_trace(cherisim_t *m) {
     uint8_t told[1024] = {0xee};
     size_t length = 99;
@@ -176,7 +186,7 @@ int main(void) {
         {"new", call_new, true}, {"new_flat", call_new_flat, true}, {"assemble", call_assemble, true}, {"copy", call_copy, true},
         {"why", call_why, false}, {"reach", call_reach, false}, {"may_store", call_may, false},
         {"reach_through_doors", call_through_doors, false}, {"doors", call_doors, false}, {"may", call_may_through_doors, false},
-        {"watch", call_watch, false}, {"audit", call_audit, false}, {"trace", call_trace, false}};
+        {"watch", call_watch, false}, {"audit", call_audit, false}, {"prove", call_prove, false}, {"trace", call_trace, false}};
     for (size_t i = 0; i < COUNT_OF(calls); i += 1) {
         if (calls[i].makes) each_fails(calls[i].name, calls[i].call, false);
         each_fails(calls[i].name, calls[i].call, true);

@@ -280,6 +280,8 @@ static void asked_without_machine(void) {
     cherisim_timetable_t timetable = {1, 1, 1};
     ROW(cherisim_trace(&m, bytes, 0, 1, bytes, 64, &length, &n) == none && bytes[0] == 15 && n == 16);
     ROW(cherisim_audit(&m, bytes, 0, bytes, 0, &timetable, bytes, 0, bytes, 64, &length, &n) == none && bytes[0] == 15 && n == 16);
+    bool shown = true;
+    ROW(cherisim_prove(&m, bytes, 0, bytes, 0, 1, &shown, bytes, 64, &length, &n) == none && shown && bytes[0] == 15 && n == 16);
     ROW(end == 18 && length == 19 && !m.at);
 }
 

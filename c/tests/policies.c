@@ -1,4 +1,4 @@
-/* Tries cherisim_watch, cherisim_audit and cherisim_trace: the compartments of the file that is named under their policy, as docs/POLICY.md
+/* Tries cherisim_watch, cherisim_audit, cherisim_prove and cherisim_trace: the compartments of the file that is named under their policy, as docs/POLICY.md
  * has them with and without a kernel's mistake; each fault of a policy's text; and lines of a trace, as docs/TRACE.md has them. Says how
  * many rows are wrong, and ends with 0 where none is. */
 #include "machines.h"
@@ -180,6 +180,53 @@ static void audits(void) {
     cherisim_free(&m);
 }
 
+/* ---- proofs */
+
+static cherisim_status proved(cherisim_t *m, const char *rules, const char *table, uint64_t most, bool *shown, char *text, size_t room,
+                              size_t *length, uint64_t *line) {
+    return cherisim_prove(m, bytes(rules), strlen(rules), bytes(table), strlen(table), most, shown, (uint8_t *)text, room, length, line);
+}
+/* a proof tells this text, and the machine stays as it is; what isn't written stays too */
+static void tells(cherisim_t *m, const char *rules, uint64_t most, bool expected, const char *told) {
+    static const char *table = "0000000080000080 app\n00000000800000c0 data\n";
+    char text[1024];
+    size_t length = 99, needed = strlen(told);
+    uint64_t line = 94;
+    bool shown = !expected;
+    cherisim_t before = CHERISIM_NONE;
+    DONE(cherisim_copy(m, &before));
+    memset(text, '?', sizeof text);
+    ROW(proved(m, rules, table, most, &shown, text, needed - 1, &length, &line) == CHERISIM_FULL);
+    ROW(length == needed && shown == expected && text[0] == '?');
+    DONE(proved(m, rules, table, most, &shown, text, needed, &length, &line));
+    ROW(length == needed && shown == expected && memcmp(text, told, needed) == 0 && text[needed] == '?' && line == 94);
+    ROW(same(m, &before));
+    cherisim_free(&before);
+}
+
+static void proofs(void) {
+    static const char *kernel =
+        ".mode 1\ncla ct0, table\nclc cra, 0(ct0)\nclc cs0, 16(ct0)\ncspecialrw cnull, mtcc, cra\ncspecialrw cnull, mepcc, cra\n"
+        "cspecialrw cnull, ddc, cs0\ncmove ct0, cnull\ncjalr cnull, 0(cra)\n.align 4\ntable: .cap app, 64, 7, 1\n.cap data, 16, 13, 0\n"
+        ".align 6\napp: .zero 64\ndata: .zero 16\n";
+    static const char *rules = "any code in app..+64\nwhen pc in app..+64: store within data..+16, system no, seal no\n";
+    cherisim_t m = CHERISIM_NONE;
+    char text[8] = "?";
+    size_t length = 99;
+    uint64_t line = 94;
+    bool shown = true;
+    ROW(proved(&m, rules, "", 9, &shown, text, sizeof text, &length, &line) == CHERISIM_NO_MACHINE);
+    ROW(shown && text[0] == '?' && length == 99 && line == 94);
+    of_text(&m, kernel);
+    tells(&m, rules, 9, true, "holds\n  of every run of this image, over any steps, ticks and bytes\n"
+          "  with any code in 0000000080000080 <app> to 000000000800000c0\n  steps 9, capabilities 6\n");
+    tells(&m, rules, 8, false, "not shown: more than 8 steps\n");
+    tells(&m, "any code in app..+64\n\nwhen pc in app..+64: store no", 9, false, "not shown: line 3: store\n  held  cs0\n");
+    ROW(proved(&m, "\nany code app", "", 9, &shown, text, sizeof text, &length, &line) == P1 && line == 2 && text[0] == '?');
+    ROW(proved(&m, rules, "app\n", 9, &shown, text, sizeof text, &length, &line) == CHERISIM_LABELS && line == 1 && length == 99);
+    cherisim_free(&m);
+}
+
 /* ---- traces */
 
 static cherisim_status trace(cherisim_t *m, const char *table, uint64_t number, char *text, size_t room, size_t *length, uint64_t *line) {
@@ -233,6 +280,7 @@ int main(int count, char **given) {
     parts();
     refused();
     audits();
+    proofs();
     traces();
     printf("%lu rows, %lu wrong\n", tried, wrong);
     return wrong != 0;

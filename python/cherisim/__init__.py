@@ -16,7 +16,7 @@ The library is found by the environment's CHERISIM_LIB, else beside this module,
 from __future__ import annotations
 
 import enum
-from ctypes import byref, c_size_t, c_uint32, c_uint64, create_string_buffer, pointer
+from ctypes import byref, c_bool, c_size_t, c_uint32, c_uint64, create_string_buffer, pointer
 from threading import get_ident
 from typing import Any, Collection, Iterator, List, NamedTuple, Optional, Sequence, Tuple, Union
 
@@ -27,14 +27,14 @@ from ._faults import (CherisimError, Closed, ImageFault, OutOfMemory, OutOfRange
 from ._html import machine_html
 from ._library import NULL_UPPER, SENTRY, UNSEALED, lib
 from ._names import _SHOWN, CSRS, PAGE, RAM, REGISTERS, SCRS
-from ._policy import _PARTS, Breach, Policy, Watched, found_in
+from ._policy import _PARTS, Breach, Policy, Proof, Watched, found_in
 from ._reach import Answer, Door, Questions, Reach, ReachMember
 from ._symbols import Symbols, labels_of
 from ._views import Memory, Registers, SpecialRegisters, StatusRegisters, _value
 
 __version__ = "0.1.0"
 __all__ = ["Answer", "Breach", "CSRS", "Cap", "CherisimError", "Closed", "Console", "Door", "ImageFault", "Insn", "Machine", "Memory",
-           "NULL_UPPER", "OutOfMemory", "OutOfRange", "PAGE", "Perms", "Policy", "PolicyFault", "RAM", "REGISTERS", "Ran", "Reach",
+           "NULL_UPPER", "OutOfMemory", "OutOfRange", "PAGE", "Perms", "Policy", "PolicyFault", "Proof", "RAM", "REGISTERS", "Ran", "Reach",
            "ReachMember", "Registers", "SCRS", "SENTRY", "SpecialRegisters", "StatusRegisters", "Stop", "Symbols", "SymbolsFault",
            "TextFault", "Timer", "UNSEALED", "Watched", "WrongThread", "decode", "disassemble", "encode", "execute"]
 
@@ -302,6 +302,15 @@ class Machine(Questions):
             reach = run.machine.reach()
             found.append(Breach.by(step, line, part, reach, next(it.number for it in reach if it.where == where)))
         return found
+
+    def prove(self, policy: Union[Policy, str], steps: int = 10**6) -> Proof:
+        """Whether it is shown of every run from here on, over any steps, ticks and bytes and with any code where the policy says so, that it
+        keeps to the policy; of the machine's own code at most so many steps are done, on a copy (docs/PROVE.md)."""
+        in_range("number of steps", steps, 64)
+        policy, shown = self._policed(policy, 0, 0, 1), c_bool()
+        told = self._text(lib.cherisim_prove, policy.text, len(policy.text), policy.labels, len(policy.labels), c_uint64(steps), byref(shown),
+                          line=c_uint64())
+        return Proof(shown.value, told)
 
     def _policed(self, policy: Union[Policy, str], steps: int, tick: int, gap: int) -> Policy:
         """A policy that is given as itself or as a text, where the numbers of a run are in range."""

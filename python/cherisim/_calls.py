@@ -191,4 +191,6 @@ CALLS: Dict[str, Tuple[Any, ...]] = {  # what each answers, and what it is given
                        POINTER(Breach), POINTER(c_uint64)),
     "cherisim_audit": (c_uint32, POINTER(Handle), c_char_p, c_size_t, c_char_p, c_size_t, POINTER(Timetable), c_char_p, c_size_t,
                        c_char_p, c_size_t, POINTER(c_size_t), POINTER(c_uint64)),
+    "cherisim_prove": (c_uint32, POINTER(Handle), c_char_p, c_size_t, c_char_p, c_size_t, c_uint64, POINTER(c_bool), c_char_p, c_size_t,
+                       POINTER(c_size_t), POINTER(c_uint64)),
 }

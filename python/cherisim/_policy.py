@@ -41,6 +41,14 @@ class Watched(NamedTuple):
     breach: Optional[Breach]
 
 
+class Proof(NamedTuple):
+    """Whether it is shown of every run that it keeps to a policy, and what is told of that, as `cherisim prove` tells it. What isn't shown
+    may hold all the same."""
+
+    shown: bool
+    told: str
+
+
 def found_in(told: str) -> Iterator[Tuple[int, int, str, Union[str, int]]]:
     """Of each part of a rule that an audit tells of: the step, the line, the part, and where what breaks it was found."""
     for step, line, part, place in _FOUND.findall(told):

@@ -112,6 +112,34 @@ class Audits(unittest.TestCase):
         self.assertGreater(seen, 20)
 
 
+class Proofs(unittest.TestCase):
+    def test_cases(self):
+        """The rows of cases/proofs.txt about an image, which an independent model gives."""
+        seen = 0
+        for row in read("cases", "proofs.txt").decode().splitlines():
+            found = re.fullmatch(r'cherisim prove first.img --policy p(?: --symbols t)?(?: --steps (\d+))? \| (.*) => ([01]) \| .*? \| "(.*?)" \| .*',
+                                 row)
+            if not found:
+                continue
+            steps, files, status, written = found.groups()
+            held = {name: unquoted(data) for name, data in re.findall(r'(\S+) "(.*?)"', files)}
+            machine = Machine(held["first.img"], symbols=held.get("t", b"").decode())
+            shown, told = machine.prove(held["p"].decode(), *([int(steps)] if steps else []))
+            self.assertEqual((shown, told), (status == "0", unquoted(written).decode()), row[:200])
+            self.assertEqual(machine.csrs["minstret"], 0)
+            seen += 1
+        self.assertGreater(seen, 50)
+
+    def test_from_here(self):
+        """A proof is of the runs from where the machine stands."""
+        machine = Machine(text="lui a0, 1\nnop\n")
+        self.assertEqual(machine.prove("any code in 0x80000004..+4"), (False, "not shown: system\n  held  pcc\n"))
+        machine.step()
+        machine.scrs["mtcc"], machine.scrs["mepcc"], machine.scrs["ddc"] = 0, 0, 0
+        machine.scrs["pcc"] = machine.scrs["pcc"].set_bounds(4).and_perms(Perms.Execute)
+        self.assertTrue(machine.prove("any code in 0x80000004..+4\nwhen pc in 0..0x80001000: load no, store no, system no").shown)
+
+
 class Texts(unittest.TestCase):
     def test_labels(self):
         machine = Machine(text="nop\nthere: nop\n")

@@ -47,6 +47,7 @@ SOURCES = [
     "policed",
     "callers",
     "audits",
+    "proofs",
     "breaches",
     "alone",
 ]

@@ -85,7 +85,7 @@ REST = [
     ("sessions",
      "debug_commands/specs/Command; debugger/specs/SessionState, Stepping, Reaching, Reply, Answers, Conversation, Talk, OnSchedule"),
     ("what commands do with files",
-     "commands/specs/Files, Programs, Loading, Assembling, Imaging, Bounding, Listing, Running, Watching, Auditing, Overwriting; "
+     "commands/specs/Files, Programs, Loading, Assembling, Imaging, Bounding, Listing, Running, Watching, Auditing, Proving, Overwriting; "
      "program/specs/Debugging, Carrying"),
     ("capabilities and the machine for C",
      "c_types/specs/Halves, Words; cheri_c/specs/Insns; "

@@ -84,6 +84,10 @@ def words_of_plan(plan):
         for name, value in zip(rest[::2], rest[1::2]):
             line += {"why": [f"--why={value}" if value == "all" else "--why"]}.get(name, [f"--{name}", value])
         return line
+    if command == "prove":
+        image, rules, steps, *rest = words
+        quiet, rest = (["--quiet"], rest[1:]) if rest[:1] == ["quiet"] else ([], rest)
+        return ["prove", image, "--policy", rules, "--steps", steps, *quiet, *(named("--symbols", rest[1]) if rest else [])]
     if command == "image":
         flat, output, *layout = words
         options = zip(("--at", "--entry", "--pages", "--mode"), layout)
@@ -109,7 +113,8 @@ def lines_to_compare(words, planned):
     both with so many steps that the schedule shows. Where `go` has its steps by default they are said, for they are too many."""
     if planned[:1] == ["go"] and "--steps" not in " ".join(words):
         words, planned = [*words, "--steps", str(FEW)], [str(FEW) if word == planned[3] else word for word in planned]
-    yield words, planned, SPINS if planned[:1] == ["run"] and int(planned[2]) > MANY else WATCHES
+    spins = planned[:1] == ["prove"] or planned[:1] == ["run"] and int(planned[2]) > MANY
+    yield words, planned, SPINS if spins else WATCHES
     if planned[:1] in (["run"], ["audit"]):
         steps = (planned[2], f"+{planned[2]}", f"{int(planned[2]):#x}")
         more = str(FEW if "--trace" in planned or max(int(planned[4]), int(planned[6])) < FEW else MANY)

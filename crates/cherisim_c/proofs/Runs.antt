@@ -15,7 +15,7 @@ use Rattle.steps.specs.Event.{after, sent, outcome}
 use Rattle.steps.specs.Outcome.{Plain}
 use Rattle.steps.specs.Steps.{GoesBy}
 use Rattle.machine.specs.Run.{run_after, run_sent}
-use Rattle.cherisim_c.specs.declared.types.Asked.{Asked}
+use Rattle.cherisim_c.specs.declared.types.RunAsked.{RunAsked}
 use Rattle.schedules.specs.Schedule.{steps_in, ticks_after}
 use Rattle.cherisim_c.specs.Running.{stop_at, is_at_stop, tick_after, end_code, run_from, run_events}
 use Rattle.cherisim_c.specs.Walks.{GoesOn, WalksOn, NoTicks, GoesOnFrom}
@@ -42,12 +42,12 @@ steps_in-steps : (n : ℕ) → steps_in (replicate n Step) ≡ n
 steps_in-steps zero = refl
 steps_in-steps (suc n) = ap suc (steps_in-steps n)
 
-steps_in-tick : (a : Asked) (number : ℕ) (s : State) → steps_in (tick_after a number s) ≡ 0
+steps_in-tick : (a : RunAsked) (number : ℕ) (s : State) → steps_in (tick_after a number s) ≡ 0
 steps_in-tick a number s =
     cond_both (ticks_after a.tick number && not (is_some s.devices.halted)) (Tick ∷ []) [] (λ es. steps_in es ≡ 0)
     (λ _. refl) (λ _. refl)
 
-run_sent-tick : (a : Asked) (number : ℕ) (s t : State) → run_sent (tick_after a number s) t ≡ []
+run_sent-tick : (a : RunAsked) (number : ℕ) (s t : State) → run_sent (tick_after a number s) t ≡ []
 run_sent-tick a number s t =
     cond_both (ticks_after a.tick number && not (is_some s.devices.halted)) (Tick ∷ []) [] (λ es. run_sent es t ≡ [])
     (λ _. refl) (λ _. refl)
@@ -75,16 +75,16 @@ is-none None none = refl
 is-none (Some n) none = absurd (cc)
 
 -- what is asked when steps are left, when the machine runs besides, and when the buffer has room besides
-abbrev in_place : Asked → State → Option ℕ
+abbrev in_place : RunAsked → State → Option ℕ
 in_place a s = if is_at_stop a s then Some 3 else (if a.at_end then end_code a.doors (why_of (outcome Step s)) else None)
 
-abbrev in_running : Asked → ℕ → State → Option ℕ
+abbrev in_running : RunAsked → ℕ → State → Option ℕ
 in_running a room s = if room == 0 then Some 2 else in_place a s
 
-abbrev in_time : Asked → ℕ → State → Option ℕ
+abbrev in_time : RunAsked → ℕ → State → Option ℕ
 in_time a room s = if is_some s.devices.halted then Some 1 else in_running a room s
 
-module _ (a : Asked) (left room : ℕ) (s : State) (go : stop_at a left room s ≡ None) where
+module _ (a : RunAsked) (left room : ℕ) (s : State) (go : stop_at a left room s ≡ None) where
   timely : (left == 0 ≡ false) × (in_time a room s ≡ None)
   unfolding stop_at
   timely = not-first (left == 0) 0 (in_time a room s) go
@@ -115,7 +115,7 @@ no-reason : (done halted full there : Bool) (end : Option ℕ)
 no-reason done halted full there end more running space elsewhere on = rw (more, running, space, elsewhere) on
 
 -- nothing stops a run in a state that it goes by
-stopless : (a : Asked) (left room : ℕ) (s : State) → 1 ≤ left → 1 ≤ room → GoesOn a s → stop_at a left room s ≡ None
+stopless : (a : RunAsked) (left room : ℕ) (s : State) → 1 ≤ left → 1 ≤ room → GoesOn a s → stop_at a left room s ≡ None
 unfolding stop_at
 stopless a left room s some place on =
     let more : left == 0 ≡ false = grind (arith, nat_tests) in
@@ -129,7 +129,7 @@ stopless a left room s some place on =
     no-end false s plain = refl
 
 -- a plain step short of the address where a run stops, if it stops at one, is one that the run goes by
-pub goes-by : (a : Asked) (s : State) → GoesBy (then_some a.at_address a.address) s → GoesOn a s
+pub goes-by : (a : RunAsked) (s : State) → GoesBy (then_some a.at_address a.address) s → GoesOn a s
 goes-by a s by = record { running = by.running; elsewhere = not-there a.at_address (pc_of s) by.elsewhere; no_end = λ ends. by.plain }
   where
     apart : (m n : ℕ) → (m ≡ n → ⊥) → m == n ≡ false
@@ -166,34 +166,34 @@ and_false : (b : Bool) → b && false ≡ false
 and_false true = refl
 and_false false = refl
 
-pub no-tick-yet : (a : Asked) (before : ℕ) → NoTicks a before (a.tick - before % a.tick)
+pub no-tick-yet : (a : RunAsked) (before : ℕ) → NoTicks a before (a.tick - before % a.tick)
 no-tick-yet a before = λ j some few. rw (between_multiples before j a.tick some few) (and_false (not (a.tick == 0)))
 
-pub no-tick-ever : (a : Asked) (before count : ℕ) → a.tick ≡ 0 → NoTicks a before count
+pub no-tick-ever : (a : RunAsked) (before count : ℕ) → a.tick ≡ 0 → NoTicks a before count
 no-tick-ever a before count never = λ j some few. rw never refl
 
 -- ---- a run by many steps
 
 -- what a run is after steps, the last of which has this number: the tick, if one comes, and the rest
-abbrev onward : Asked → ℕ → ℕ → ℕ → State → List Event
+abbrev onward : RunAsked → ℕ → ℕ → ℕ → State → List Event
 onward a number left room u = tick_after a number u ++ run_from a number left room (run_after (tick_after a number u) u)
 
-begun : (a : Asked) (before left room : ℕ) (s : State) → stop_at a (suc left) room s ≡ None
+begun : (a : RunAsked) (before left room : ℕ) (s : State) → stop_at a (suc left) room s ≡ None
     → run_from a before (suc left) room s
     ≡ Step ∷ onward a (before + 1) left (room - length (option_to_list (sent Step s))) (after Step s)
 begun a before left room s go = rw go refl
 
-no-tick-here : (a : Asked) (number : ℕ) (s : State) → ticks_after a.tick number ≡ false → tick_after a number s ≡ []
+no-tick-here : (a : RunAsked) (number : ℕ) (s : State) → ticks_after a.tick number ≡ false → tick_after a number s ≡ []
 no-tick-here a number s none = rw none refl
 
 less-none : (room : ℕ) → room - length {A = ℕ} [] ≡ room
 less-none room = omega arith
 
 -- the rest is the same whatever its numbers are written as
-onward-same : (a : Asked) (m n l k r q : ℕ) (u : State) → m ≡ n → l ≡ k → r ≡ q → onward a m l r u ≡ onward a n k q u
+onward-same : (a : RunAsked) (m n l k r q : ℕ) (u : State) → m ≡ n → l ≡ k → r ≡ q → onward a m l r u ≡ onward a n k q u
 onward-same a m n l k r q u e f g = rw (e, f, g) refl
 
-pub walked : (a : Asked) (k before left room : ℕ) (s : State) → suc k ≤ left → NoTicks a before (suc k)
+pub walked : (a : RunAsked) (k before left room : ℕ) (s : State) → suc k ≤ left → NoTicks a before (suc k)
     → stop_at a left room s ≡ None → WalksOn a (suc k) s
     → run_from a before left room s
     ≡ replicate (suc k) Step
@@ -246,7 +246,7 @@ walked a (suc k) before (suc left) room s few none go on =
 
 -- ---- what a run comes to, by many steps
 
-module _ (a : Asked) (k before left room : ℕ) (byte : Option ℕ) (s u t : State) (few : suc k ≤ left) (none : NoTicks a before (suc k))
+module _ (a : RunAsked) (k before left room : ℕ) (byte : Option ℕ) (s u t : State) (few : suc k ≤ left) (none : NoTicks a before (suc k))
     (go : stop_at a left room s ≡ None) (on : WalksOn a (suc k) s) (there : u ≡ run_after (replicate (suc k) Step) s)
     (bytes : run_sent (replicate (suc k) Step) s ≡ option_to_list byte)
     (passed : t ≡ run_after (tick_after a (before + suc k) u) u) where
@@ -293,7 +293,7 @@ module _ (a : Asked) (k before left room : ℕ) (byte : Option ℕ) (s u t : Sta
   goes-on : GoesOnFrom a before left room (suc k) byte s t
   goes-on = record { state = state; sent = sent-by; steps = steps }
 
-pub goes_on_from : (a : Asked) (count before left room : ℕ) (byte : Option ℕ) (s u t : State) → 1 ≤ count → count ≤ left
+pub goes_on_from : (a : RunAsked) (count before left room : ℕ) (byte : Option ℕ) (s u t : State) → 1 ≤ count → count ≤ left
     → NoTicks a before count → stop_at a left room s ≡ None → WalksOn a count s → u ≡ run_after (replicate count Step) s
     → run_sent (replicate count Step) s ≡ option_to_list byte → t ≡ run_after (tick_after a (before + count) u) u
     → GoesOnFrom a before left room count byte s t
@@ -304,16 +304,16 @@ goes_on_from a (suc k) before left room byte s u t some few none go on there byt
 -- ---- the loop of a run
 
 -- what is left of a run where so many steps and so many bytes are
-abbrev pub left_over : Asked → ℕ → ℕ → State → List Event
+abbrev pub left_over : RunAsked → ℕ → ℕ → State → List Event
 left_over a left room s = run_from a (a.before + (a.steps - left)) left room s
 
-pub all-left : (a : Asked) (room : ℕ) (s : State) → left_over a a.steps room s ≡ run_events a room s
+pub all-left : (a : RunAsked) (room : ℕ) (s : State) → left_over a a.steps room s ≡ run_events a room s
 all-left a room s = let none : a.before + (a.steps - a.steps) ≡ a.before = omega arith in rw none refl
 
 ended : (stop : Option ℕ) (none : Bool) → is_some stop ≡ not none → none ≡ false → is_some stop ≡ true
 ended stop none test is = rw is at test
 
-pub none-left : (a : Asked) (left room : ℕ) (s : State) (stop : Option ℕ) (none : Bool) → stop ≡ stop_at a left room s
+pub none-left : (a : RunAsked) (left room : ℕ) (s : State) (stop : Option ℕ) (none : Bool) → stop ≡ stop_at a left room s
     → is_some stop ≡ not none → none ≡ false → left_over a left room s ≡ []
 none-left a zero room s stop none same test is = refl
 none-left a (suc left) room s stop none same test is =
@@ -324,7 +324,7 @@ pub at-most-one : (byte : Option ℕ) → length (option_to_list byte) ≤ 1
 at-most-one None = omega arith
 at-most-one (Some b) = omega arith
 
-module _ (a : Asked) (left k room less more : ℕ) (byte : Option ℕ) (s t : State) (few : left ≤ a.steps) (done : k ≤ left)
+module _ (a : RunAsked) (left k room less more : ℕ) (byte : Option ℕ) (s t : State) (few : left ≤ a.steps) (done : k ≤ left)
     (on : GoesOnFrom a (a.before + (a.steps - left)) left room k byte s t) (fewer : less ≡ left - k)
     (smaller : more ≡ room - length (option_to_list byte)) where
   same-rest : left_over a less more t

@@ -14,7 +14,7 @@ use Rattle.cherisim_c.specs.declared.refusal.Refusal.{Refusal}
 use Rattle.cherisim_c.specs.declared.refusal.Refusal.TheVariants as refusal
 use Rattle.cherisim_c.specs.declared.types.Timetable.{Timetable}
 use Rattle.cherisim_c.specs.Policies.{Stops}
-use Rattle.cherisim_c.specs.Refusals.{IsLabelsRefusal, IsRefusalOf}
+use Rattle.cherisim_c.specs.Refusals.{IsLabelsRefusal, IsRefusalOf, IsTextsRefusal}
 
 -- what holds of a refusal holds of a result that hands it on
 pub refused_so : {T F : Type 0} (result : Result T F) (fault : F) (Holds : F → Type 0)
@@ -22,13 +22,19 @@ pub refused_so : {T F : Type 0} (result : Result T F) (fault : F) (Holds : F →
 refused_so (Err f) fault Holds same holds = subst Holds (sym same) holds
 refused_so (Ok x) fault Holds same holds = tt
 
--- a refusal of labels is one of a question with them
-pub of_labels : (labels text : List ℕ) (t : Timetable) (refusal : Refusal) → IsLabelsRefusal labels refusal
+-- a refusal of labels is one of texts, and one of texts is one of a question with them
+pub of_labels : (labels text : List ℕ) (refusal : Refusal) → IsLabelsRefusal labels refusal → IsTextsRefusal labels text refusal
+of_labels labels text (refusal.Labels line) is = is
+of_labels labels text refusal.Memory is = tt
+of_labels labels text refusal.Schedule is = absurd is
+of_labels labels text (refusal.Text line code) is = absurd is
+
+pub of_texts : (labels text : List ℕ) (t : Timetable) (refusal : Refusal) → IsTextsRefusal labels text refusal
     → IsRefusalOf labels text t refusal
-of_labels labels text t (refusal.Labels line) is = is
-of_labels labels text t refusal.Memory is = tt
-of_labels labels text t refusal.Schedule is = absurd is
-of_labels labels text t (refusal.Text line code) is = absurd is
+of_texts labels text t (refusal.Labels line) is = is
+of_texts labels text t refusal.Memory is = tt
+of_texts labels text t refusal.Schedule is = absurd is
+of_texts labels text t (refusal.Text line code) is = is
 
 module _ (rules : List Terms) (schedule : Schedule) (input : List ℕ) (s : State) where
   stops_here : (later : State) (found : Option Breach)

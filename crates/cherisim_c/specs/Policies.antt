@@ -1,6 +1,9 @@
 -- What a policy says of the runs of a machine on a schedule, as C gets it.
-use Rattle.std.specs.Prelude.{◌≡◌, ℕ, true, false, if◌then◌else◌, List, [], Option, None, Some, Ok, slice_get}
+use Rattle.std.specs.Prelude.{◌≡◌, ℕ, Bool, true, false, if◌then◌else◌, List, [], Option, None, Some, Ok, slice_get}
 use Rattle.breach_texts.specs.declared.breach.RuleLine.{RuleLine}
+use Rattle.every_run.specs.declared.verdict.Verdict.{Verdict}
+use Rattle.every_run.specs.Opens.{EveryRunKeepsTo, IsHolds, holds}
+use Rattle.every_run_texts.specs.Text.{verdict_text}
 use Rattle.machine.specs.Run.{run_after}
 use Rattle.policy.specs.Lending.{in_force}
 use Rattle.policy.specs.declared.rule.Ban.{Ban}
@@ -12,13 +15,14 @@ use Rattle.policy_audit.specs.Text.{audit_text}
 use Rattle.policy_runs.specs.declared.breach.Breach.{Breach as RunBreach}
 use Rattle.policy_runs.specs.Keeping.{StepsKeepToEach}
 use Rattle.policy_text.specs.declared.reading.Policy.{Policy}
-use Rattle.policy_text.specs.Policy.{policy_of}
+use Rattle.policy_text.specs.Policy.{any_code_of, policy_of}
 use Rattle.policy_text.specs.Seen.{seen}
 use Rattle.schedules.specs.declared.schedule.Schedule.{Schedule}
 use Rattle.schedules.specs.Schedule.{IsPlaceOf, IsRunnable, events_before, is_halted, scheduled}
 use Rattle.steps.specs.State.{State}
 use Rattle.symbols.specs.Symbols.{Symbol, faulty_line, symbols_of}
 use Rattle.cherisim_c.specs.declared.policed.Policed.{Policed}
+use Rattle.cherisim_c.specs.declared.policed.Texts.{Texts}
 use Rattle.cherisim_c.specs.declared.types.Breach.{Breach}
 use Rattle.cherisim_c.specs.declared.types.Timetable.{Timetable}
 use Rattle.cherisim_c.specs.Refusals.{schedule_of}
@@ -30,8 +34,14 @@ use Rattle.cherisim_c.specs.Running.{code_or_zero}
 pub record IsPolicyOf (labels text : List ℕ) (policy : Policy) : Type 0 where
   pub labelled : faulty_line labels ≡ None
   pub read : policy_of (symbols_of labels) text ≡ Ok (seen policy)
+  pub any : policy.any.items ≡ any_code_of (symbols_of labels) text
 
--- with the labels, and the schedule of a timetable
+-- with the labels
+pub record AreTexts (labels text : List ℕ) (read : Texts) : Type 0 where
+  pub policy : IsPolicyOf labels text read.policy
+  pub symbols : read.symbols ≡ symbols_of labels
+
+-- and with the schedule of a timetable
 pub record AreRead (labels text : List ℕ) (t : Timetable) (read : Policed) : Type 0 where
   pub policy : IsPolicyOf labels text read.policy
   pub symbols : read.symbols ≡ symbols_of labels
@@ -102,3 +112,16 @@ TellsOf text read input s told =
 -- A text is what an audit of a run by the policy of a text tells.
 abbrev pub IsAuditOf : List ℕ → List ℕ → Timetable → List ℕ → State → List ℕ → Type 0
 IsAuditOf labels text t input s told = (read : Policed) × AreRead labels text t read × TellsOf text read input s told
+
+-- ---- a proof
+
+-- A text is what a proof tells of the runs from a state, by the policy and the labels that were read; and where it is said to be shown,
+-- each of them keeps to the rules.
+pub record IsProof (read : Texts) (s : State) (shown : Bool) (told : List ℕ) : Type 0 where
+  pub verdict : Verdict
+  pub promise : IsHolds verdict → EveryRunKeepsTo (terms_of read.policy.rules.items) read.policy.any.items s
+  pub answer : shown ≡ holds verdict
+  pub text : told ≡ verdict_text read.symbols read.policy.any.items read.policy.lines.items verdict
+
+abbrev pub IsProofOf : List ℕ → List ℕ → State → Bool → List ℕ → Type 0
+IsProofOf labels text s shown told = (read : Texts) × AreTexts labels text read × IsProof read s shown told

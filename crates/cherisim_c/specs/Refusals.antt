@@ -44,12 +44,17 @@ IsLabelsRefusal labels (refusal.Labels line) = faulty_line labels ≡ Some line
 IsLabelsRefusal labels refusal.Memory = ⊤
 IsLabelsRefusal labels other = ⊥
 
--- or that of the policy, or of the timetable
+-- or that of the policy
+abbrev pub IsTextsRefusal : List ℕ → List ℕ → Refusal → Type 0
+IsTextsRefusal labels text refusal.Schedule = ⊥
+IsTextsRefusal labels text (refusal.Labels line) = faulty_line labels ≡ Some line
+IsTextsRefusal labels text (refusal.Text line code) = policy_of (symbols_of labels) text ≡ Err (line, code)
+IsTextsRefusal labels text refusal.Memory = ⊤
+
+-- or that of the timetable
 abbrev pub IsRefusalOf : List ℕ → List ℕ → Timetable → Refusal → Type 0
 IsRefusalOf labels text t refusal.Schedule = IsRunnable (schedule_of t) → ⊥
-IsRefusalOf labels text t (refusal.Labels line) = faulty_line labels ≡ Some line
-IsRefusalOf labels text t (refusal.Text line code) = policy_of (symbols_of labels) text ≡ Err (line, code)
-IsRefusalOf labels text t refusal.Memory = ⊤
+IsRefusalOf labels text t other = IsTextsRefusal labels text other
 
 -- the status and the line are those of such a refusal
 pub record IsRefusal (Holds : Refusal → Type 0) (line status : ℕ) : Type 0 where

@@ -12,7 +12,7 @@ use Rattle.explain.specs.TraceLine.{trace_line}
 use Rattle.machine.specs.Run.{run_after}
 use Rattle.schedules.specs.Schedule.{ticks_after}
 use Rattle.symbols.specs.Symbols.{Symbol}
-use Rattle.cherisim_c.specs.declared.types.Asked.{Asked}
+use Rattle.cherisim_c.specs.declared.types.RunAsked.{RunAsked}
 use Rattle.cherisim_c.specs.declared.types.Halted.{Halted}
 use Rattle.cherisim_c.specs.declared.types.Sent.{Sent}
 
@@ -29,13 +29,13 @@ code_or_zero None = 0
 code_or_zero (Some n) = n
 
 -- the address where a run stops
-abbrev pub is_at_stop : Asked → State → Bool
+abbrev pub is_at_stop : RunAsked → State → Bool
 is_at_stop a s = a.at_address && (pc_of s == a.address)
 
 -- Why a run goes no further, where so many steps are left and the buffer has room for so many bytes: all steps were done (0), the
 -- machine is halted (1), the buffer is full (2), PCC has the address (3), or the next step traps (4), unseals (5) or, unless doors are
 -- gone through, jumps through a seal (6).
-unfoldable pub stop_at : Asked → ℕ → ℕ → State → Option ℕ
+unfoldable pub stop_at : RunAsked → ℕ → ℕ → State → Option ℕ
 stop_at a left room s =
     if left == 0 then Some 0 else
     (if is_some s.devices.halted then Some 1 else
@@ -44,11 +44,11 @@ stop_at a left room s =
     (if a.at_end then end_code a.doors (why_of (outcome Step s)) else None))))
 
 -- the tick after the step of this number, which left this state; none follows a step that halts the machine
-abbrev pub tick_after : Asked → ℕ → State → List Event
+abbrev pub tick_after : RunAsked → ℕ → State → List Event
 tick_after a number s = if ticks_after a.tick number && not (is_some s.devices.halted) then Tick ∷ [] else []
 
 -- the events of a run from a state on: the number of the last step before them, and how many steps and bytes it has left
-abbrev pub run_from : Asked → ℕ → ℕ → ℕ → State → List Event
+abbrev pub run_from : RunAsked → ℕ → ℕ → ℕ → State → List Event
 run_from a before zero room s = []
 run_from a before (suc left) room s =
     if is_some (stop_at a (suc left) room s) then [] else
@@ -57,7 +57,7 @@ run_from a before (suc left) room s =
     (run_after (tick_after a (before + 1) (after Step s)) (after Step s))))
 
 -- all events of a run into a buffer of so many bytes
-abbrev pub run_events : Asked → ℕ → State → List Event
+abbrev pub run_events : RunAsked → ℕ → State → List Event
 run_events a room s = run_from a a.before a.steps room s
 
 -- the byte that a step sent, if it sent one, as C gets it; else 0

@@ -11,7 +11,7 @@ ghost use Rattle.cherisim_c.specs.Running.{run_events, stop_at, sent_of};
 use crate::handle::Handle;
 use crate::running::run;
 use crate::status::{NO_MACHINE, OK};
-use crate::types::{Asked, Ran, Sent};
+use crate::types::{RunAsked, RunDone, Sent};
 use machine::Event;
 use std::alloc::Global;
 
@@ -79,9 +79,9 @@ pub extern "C" fn cherisim_receive(alloc: Global, machine: &mut Handle, byte: u8
 pub extern "C" fn cherisim_run(
     alloc: Global,
     machine: &mut Handle,
-    asked: &Asked,
+    asked: &RunAsked,
     buffer: &mut [u8],
-    ran: &mut Ran,
+    ran: &mut RunDone,
 ) -> u32
     ensures closed { machine.old.machine ≡ None → result ≡ no_machine }
     ensures none { machine.old.machine ≡ None → (machine.new.machine ≡ None) × (ran.new ≡ ran.old) × (buffer.new ≡ buffer.old) }

@@ -13,6 +13,7 @@ mod memory;
 mod peripherals;
 mod policed;
 mod policies;
+mod proving;
 mod reaching;
 mod refusal;
 mod running;
@@ -23,6 +24,6 @@ mod types;
 
 pub use handle::Handle;
 pub use types::{
-    Answer, Asked, Breach, Console, Door, Halted, Member, Question, Ran, Sent, Stepped, Timer,
-    Timetable,
+    Answer, Breach, Console, Door, Halted, Member, Question, RunAsked, RunDone, Sent, Stepped,
+    Timer, Timetable,
 };

@@ -1,13 +1,12 @@
 //! What a question by a policy is asked with: labels, a policy, and when a run ends.
 
 ghost use Rattle.std.specs.Prelude.{◌≡◌, ◌↔◌, ℕ, List, None, Ok, IfOk, IfErr, IsTrue};
-ghost use Rattle.policy_text.specs.Policy.{policy_of};
+ghost use Rattle.policy_text.specs.Policy.{any_code_of, policy_of};
 ghost use Rattle.policy_text.specs.Seen.{seen};
 ghost use Rattle.schedules.specs.Schedule.{IsRunnable};
 ghost use Rattle.symbols.specs.Symbols.{faulty_line, symbols_of};
-ghost use Rattle.cherisim_c.specs.declared.types.Timetable.{Timetable as Times};
-ghost use Rattle.cherisim_c.specs.Policies.{AreRead};
-ghost use Rattle.cherisim_c.specs.Refusals.{schedule_of, IsLabelsRefusal, IsRefusalOf};
+ghost use Rattle.cherisim_c.specs.Policies.{AreRead, AreTexts};
+ghost use Rattle.cherisim_c.specs.Refusals.{schedule_of, IsLabelsRefusal, IsRefusalOf, IsTextsRefusal};
 
 use crate::refusal::Refusal;
 use crate::types::Timetable;
@@ -15,6 +14,13 @@ use policy_text::{Policy, PolicyTextFault, read_policy};
 use schedules::Schedule;
 use std::alloc::Global;
 use symbols::{Symbols, SymbolsFault, read_symbols};
+
+/// A policy, and the labels that it may name.
+#[derive(Drop)]
+pub(crate) struct Texts {
+    pub policy: Policy,
+    pub symbols: Symbols,
+}
 
 /// A policy, the labels that it may name, and the schedule of a run.
 #[derive(Drop)]
@@ -40,8 +46,9 @@ pub(crate) fn labels_of(alloc: Global, labels: &[u8]) -> Result<Symbols, Refusal
 /// The policy of a text.
 fn policy_of(alloc: Global, text: &[u8], symbols: &Symbols) -> Result<Policy, Refusal>
     ensures ok { IfOk result (λ policy. policy_of symbols.now text.now ≡ Ok (seen policy)) }
-    ensures fault { IfErr result (λ refusal. (labels : List ℕ) (t : Times) → symbols.now ≡ symbols_of labels
-        → IsRefusalOf labels text.now t refusal) }
+    ensures any { IfOk result (λ policy. policy.any.items ≡ any_code_of symbols.now text.now) }
+    ensures fault { IfErr result (λ refusal. (labels : List ℕ) → symbols.now ≡ symbols_of labels
+        → IsTextsRefusal labels text.now refusal) }
 {
     match read_policy(alloc, text, symbols) {
         Ok(policy) => Ok(policy),
@@ -74,6 +81,18 @@ fn schedule_of(timetable: Timetable) -> Result<Schedule, Refusal>
     }
 }
 
+/// What the texts of a question by a policy say.
+pub(crate) fn read_labelled(alloc: Global, labels: &[u8], text: &[u8]) -> Result<Texts, Refusal>
+    ensures ok { IfOk result (AreTexts labels.now text.now) }
+    ensures err { IfErr result (IsTextsRefusal labels.now text.now) }
+{
+    let symbols = labels_of(alloc, labels)?;
+    match policy_of(alloc, text, &symbols) {
+        Ok(policy) => Ok(Texts { policy, symbols }),
+        Err(refusal) => Err(refusal),
+    }
+}
+
 /// What the texts and the timetable of a question by a policy say.
 pub(crate) fn read_texts(
     alloc: Global,
@@ -85,9 +104,8 @@ pub(crate) fn read_texts(
     ensures err { IfErr result (IsRefusalOf labels.now text.now timetable) }
 {
     let schedule = schedule_of(timetable)?;
-    let symbols = labels_of(alloc, labels)?;
-    match policy_of(alloc, text, &symbols) {
-        Ok(policy) => Ok(Policed {
+    match read_labelled(alloc, labels, text) {
+        Ok(Texts { policy, symbols }) => Ok(Policed {
             policy,
             symbols,
             schedule,

@@ -10,7 +10,7 @@ ghost use Rattle.schedules.specs.Schedule.{steps_in, ticks_after};
 ghost use Rattle.cherisim_c.specs.Running.{stop_at, is_at_stop, tick_after, end_code, run_events};
 ghost use Rattle.cherisim_c.specs.Walks.{WalksOn, NoTicks, GoesOnFrom};
 
-use crate::types::{Asked, Ran};
+use crate::types::{RunAsked, RunDone};
 use cap_bounds::CapRep;
 use machine::{Advance, Event, Machine, Why};
 use word_cap::WordCap;
@@ -39,14 +39,14 @@ pub(crate) fn code_of_end(why: Option<Why>, doors: bool) -> Option<u32>
 }
 
 /// The address where a run stops, if it stops at one.
-fn stop_address(asked: &Asked) -> Option<u64>
+fn stop_address(asked: &RunAsked) -> Option<u64>
     ensures { result ≡ then_some asked.now.at_address asked.now.address }
 {
     asked.at_address.then_some(asked.address)
 }
 
 /// Whether PCC has the address where a run stops.
-fn is_at_stop(machine: &Machine<WordCap>, asked: &Asked) -> bool
+fn is_at_stop(machine: &Machine<WordCap>, asked: &RunAsked) -> bool
     ensures { result ≡ is_at_stop asked.now machine.now }
 {
     asked.at_address && pc(machine) == asked.address
@@ -54,7 +54,7 @@ fn is_at_stop(machine: &Machine<WordCap>, asked: &Asked) -> bool
 
 /// Why a run goes no further, where so many steps are left and the buffer has room for so many bytes.
 #[tactic(auto, unfolding(crate::specs::Running::stop_at))]
-fn stop_of(machine: &Machine<WordCap>, asked: &Asked, left: u64, room: usize) -> Option<u32>
+fn stop_of(machine: &Machine<WordCap>, asked: &RunAsked, left: u64, room: usize) -> Option<u32>
     ensures { result ≡ stop_at asked.now left room machine.now }
 {
     if left == 0 {
@@ -73,14 +73,14 @@ fn stop_of(machine: &Machine<WordCap>, asked: &Asked, left: u64, room: usize) ->
 }
 
 /// Whether a tick comes after the step of this number.
-fn is_tick_after(asked: &Asked, number: u128) -> bool
+fn is_tick_after(asked: &RunAsked, number: u128) -> bool
     ensures { result ≡ ticks_after asked.now.tick number }
 {
     asked.tick != 0 && number % u128::from(asked.tick) == 0
 }
 
 /// How many steps come after the step of a number without a tick between them; where none is to come, 2^64 - 1.
-fn steps_to_tick(asked: &Asked, before: u128) -> u64
+fn steps_to_tick(asked: &RunAsked, before: u128) -> u64
     ensures some { 1 ≤ result }
     ensures alone { NoTicks asked.now before result }
 {
@@ -105,7 +105,7 @@ fn one_step(machine: &mut Machine<WordCap>) -> Advance
 }
 
 /// Does steps of a run, one at least. Where the run may stop before a step, they are plain and short of its address, or one step.
-fn some_steps(machine: &mut Machine<WordCap>, asked: &Asked, most: u64) -> Advance
+fn some_steps(machine: &mut Machine<WordCap>, asked: &RunAsked, most: u64) -> Advance
     requires some { 1 ≤ most }
     requires running { machine.old.devices.halted ≡ None }
     ensures some { 1 ≤ result.steps }
@@ -126,7 +126,7 @@ fn some_steps(machine: &mut Machine<WordCap>, asked: &Asked, most: u64) -> Advan
 }
 
 /// Gives the tick that comes after the step of a number, if one does.
-fn pass(machine: &mut Machine<WordCap>, asked: &Asked, number: u128)
+fn pass(machine: &mut Machine<WordCap>, asked: &RunAsked, number: u128)
     ensures { machine.new ≡ run_after (tick_after asked.now number machine.old) machine.old }
 {
     let running = machine.halted().is_none();
@@ -136,7 +136,7 @@ fn pass(machine: &mut Machine<WordCap>, asked: &Asked, number: u128)
 }
 
 /// Meets some events of a run that does not stop: steps, and the tick after the last of them if one comes.
-fn meet_some(machine: &mut Machine<WordCap>, asked: &Asked, before: u128, left: u64) -> Advance
+fn meet_some(machine: &mut Machine<WordCap>, asked: &RunAsked, before: u128, left: u64) -> Advance
     requires some { 1 ≤ left }
     requires running { machine.old.devices.halted ≡ None }
     requires small { before + left < 2 ^ 128 }
@@ -168,7 +168,7 @@ fn put(out: &mut [u8], at: usize, byte: Option<u8>) -> usize
 }
 
 /// Runs as it is asked to, and puts the bytes that the steps send into the buffer.
-pub(crate) fn run(machine: &mut Machine<WordCap>, asked: Asked, out: &mut [u8]) -> Ran
+pub(crate) fn run(machine: &mut Machine<WordCap>, asked: RunAsked, out: &mut [u8]) -> RunDone
     ensures state { machine.new ≡ run_after (run_events asked (length out.old) machine.old) machine.old }
     ensures bytes { take result.sent out.new ≡ run_sent (run_events asked (length out.old) machine.old) machine.old }
     ensures steps { result.steps ≡ steps_in (run_events asked (length out.old) machine.old) }
@@ -186,7 +186,7 @@ pub(crate) fn run(machine: &mut Machine<WordCap>, asked: Asked, out: &mut [u8]) 
         left -= met.steps;
         stop = stop_of(machine, &asked, left, out.len() - sent);
     }
-    Ran {
+    RunDone {
         steps: asked.steps - left,
         sent: sent as u64,
         stop: stop.unwrap_or(0),

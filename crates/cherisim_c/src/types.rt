@@ -15,7 +15,7 @@ pub struct Sent {
 /// What a run is asked to do.
 #[repr(C)]
 #[derive(Clone, Copy)]
-pub struct Asked {
+pub struct RunAsked {
     /// The most steps.
     pub steps: u64,
     /// A tick follows each step whose number is a multiple of this; at 0 there is none.
@@ -35,7 +35,7 @@ pub struct Asked {
 /// What a run did.
 #[repr(C)]
 #[derive(Clone, Copy)]
-pub struct Ran {
+pub struct RunDone {
     /// How many steps were done.
     pub steps: u64,
     /// How many bytes were sent.

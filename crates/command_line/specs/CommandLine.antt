@@ -9,12 +9,12 @@ use Rattle.std.specs.Str.Parse.{digits_value, without_leading_plus}
 use Rattle.clap.specs.Words.{App, Row, Rule, Text, fault_of, first_of, new_app, new_rule, subcommand_of, with_rule, with_subcommand}
 use Rattle.clap.specs.declared.builder.action.ArgAction.TheVariants.{SetTrue}
 use Rattle.command_line.specs.declared.plans.Plan.{Plan}
-use Rattle.command_line.specs.declared.plans.Plan.TheVariants.{Asm, Image, Go, Run, Audit, Dis, Debug, Bounds, Word, First}
+use Rattle.command_line.specs.declared.plans.Plan.TheVariants.{Asm, Image, Go, Run, Audit, Prove, Dis, Debug, Bounds, Word, First}
 use Rattle.command_line.specs.declared.plans.RunRequest.{RunRequest}
 use Rattle.command_line.specs.declared.plans.Why.{Why}
 use Rattle.command_line.specs.declared.plans.Why.TheVariants.{Unfetched, All}
 use Rattle.command_line.specs.declared.table.Stands.{Stands}
-use Rattle.command_line.specs.declared.table.Stands.TheVariants.{Operand, Optional, Named, Flag, FlagOrAll}
+use Rattle.command_line.specs.declared.table.Stands.TheVariants.{Operand, Optional, Named, Required, Flag, FlagOrAll}
 use Rattle.command_line.specs.declared.table.Takes.{Takes}
 use Rattle.command_line.specs.declared.table.Takes.TheVariants.{Nothing, Ends, Read, ReadBeside, Written, Count, Start, Number}
 use Rattle.command_line.specs.declared.table.TheConstants.{COMMANDS, STEPS, GO_STEPS, TIMES, GO_TIMES, RUN_GAP, RUN_TICK}
@@ -54,11 +54,13 @@ entry_of row = entry row.0.now (map line_of row.2.now)
 
 -- ---- the command that clap reads the words by
 
--- a word that must be there, a word that need not, --ID VALUE, or --ID; and where the words have --why=all, --why takes a value too
+-- a word that must be there, a word that need not, --ID VALUE, the same where it must be there, or --ID; and where the words have
+-- --why=all, --why takes a value too
 abbrev pub as_stands : Bool → Stands → Text → Rule → Rule
 as_stands all Operand id rule = record rule { required = true }
 as_stands all Optional id rule = rule
 as_stands all Named id rule = record rule { long = Some id; value_names = 1 }
+as_stands all Required id rule = record rule { required = true; long = Some id; value_names = 1 }
 as_stands all Flag id rule = record rule { long = Some id; action = Some SetTrue }
 as_stands true FlagOrAll id rule = record rule { long = Some id; value_names = 1 }
 as_stands false FlagOrAll id rule = record rule { long = Some id; action = Some SetTrue }
@@ -169,9 +171,10 @@ unsaid (Count least most) = Some (Amount None)
 unsaid (Start least most) = counted least most (Some least)
 unsaid Number = Some (Amount None)
 
-abbrev pub is_operand : Stands → Bool
-is_operand Operand = true
-is_operand _ = false
+abbrev pub must_stand : Stands → Bool
+must_stand Operand = true
+must_stand Required = true
+must_stand _ = false
 
 abbrev pub is_number : Takes → Bool
 is_number (Count least most) = true
@@ -183,9 +186,9 @@ abbrev pub is_start : Takes → Bool
 is_start (Start least most) = true
 is_start _ = false
 
--- it has a text wherever clap takes the words: an operand, or an argument with a default value
+-- it has a text wherever clap takes the words: it must be there, or has a default value
 abbrev pub is_needed : Line → Bool
-is_needed line = is_operand line.stands || is_some line.default
+is_needed line = must_stand line.stands || is_some line.default
 
 -- what clap found of an argument, where that is what the argument takes
 abbrev pub said_of_text : Line → Option Text → Option Said
@@ -251,6 +254,7 @@ name_of (Image flat output layout quiet) = codes "image"
 name_of (Go request why) = codes "go"
 name_of (Run request why) = codes "run"
 name_of (Audit request) = codes "audit"
+name_of (Prove request) = codes "prove"
 name_of (Dis image symbols header quiet) = codes "dis"
 name_of (Debug image symbols lines input gap tick quiet) = codes "debug"
 name_of (Bounds base length address) = codes "bounds"
@@ -291,6 +295,9 @@ said (Image flat output layout quiet) =
 said (Go request why) = said_of_run request (Explained why ∷ [])
 said (Run request why) = said_of_run request (Explained why ∷ [])
 said (Audit request) = said_of_run request []
+said (Prove request) =
+    its_file request.image ∷ its_file request.policy ∷ file request.symbols ∷ file request.lines ∷ amount request.steps
+    ∷ Used request.quiet ∷ []
 said (Dis image symbols header quiet) = its_file image ∷ file symbols ∷ Used header ∷ Used quiet ∷ []
 said (Debug image symbols lines input gap tick quiet) =
     its_file image ∷ file symbols ∷ file lines ∷ file input ∷ Amount gap ∷ Amount tick ∷ Used quiet ∷ []

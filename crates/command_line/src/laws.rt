@@ -3,7 +3,7 @@
 
 ghost use Rattle.std.specs.Prelude.{◌≡◌, ◌∷◌, [], codes, Some, None};
 ghost use Rattle.command_line.specs.CommandLine.{argument, commands, entry, run_limits, run_lines};
-ghost use Rattle.command_line.specs.declared.table.Stands.TheVariants.{Operand, Optional, Named, Flag, FlagOrAll};
+ghost use Rattle.command_line.specs.declared.table.Stands.TheVariants.{Operand, Optional, Named, Required, Flag, FlagOrAll};
 ghost use Rattle.command_line.specs.declared.table.Takes.TheVariants.{Nothing, Ends, Read, ReadBeside, Written, Count, Start, Number};
 
 /// The commands with their arguments: of each its id, how it stands, what it takes and its default value.
@@ -50,6 +50,11 @@ pub fn commands_and_arguments()
         ∷ argument (codes "trace-from") Named (Start 1 100000000000000) None
         ∷ argument (codes "trace-last") Named (Count 1 1000000) None ∷ argument (codes "policy") Named Read None
         ∷ argument (codes "symbols") Named Read None ∷ argument (codes "lines") Named Read None ∷ []))
+        ∷ (entry (codes "prove") (argument (codes "IMAGE") Operand Read None
+        ∷ argument (codes "policy") Required Read None ∷ argument (codes "symbols") Named Read None
+        ∷ argument (codes "lines") Named Read None
+        ∷ argument (codes "steps") Named (Count 1 1000000000) (Some (codes "1000000"))
+        ∷ argument (codes "quiet") Flag Nothing None ∷ []))
         ∷ (entry (codes "dis") (argument (codes "IMAGE") Operand Read None
         ∷ argument (codes "symbols") Named Read None ∷ argument (codes "header") Flag Nothing None
         ∷ argument (codes "quiet") Flag Nothing None ∷ []))

@@ -40,6 +40,23 @@ pub struct RunRequest<'a> {
     pub lines: Option<&'a str>,
 }
 
+/// An image that is asked about, and the policy.
+#[derive(Clone, Copy, Debug, PartialEq, Eq)]
+pub struct ProveRequest<'a> {
+    /// The file with the image, or with the text that is assembled into it.
+    pub image: &'a str,
+    /// The file with the policy.
+    pub policy: &'a str,
+    /// The file with labels, if one is named: they stand after the addresses that are told, and the policy may name them.
+    pub symbols: Option<&'a str>,
+    /// The file with lines of a source, if one is named: they stand after the addresses of instructions that are told.
+    pub lines: Option<&'a str>,
+    /// The most steps of the image's own code that are done: 1 to 1000000000.
+    pub steps: u64,
+    /// Whether nothing is told but by the status.
+    pub quiet: bool,
+}
+
 /// What the command line asks for.
 #[derive(Clone, Copy, Debug, PartialEq, Eq)]
 pub enum Plan<'a> {
@@ -83,6 +100,8 @@ pub enum Plan<'a> {
     },
     /// List what breaks a policy in a run of an image, or the policy that the run keeps to.
     Audit(RunRequest<'a>),
+    /// Show of every run of an image that it keeps to a policy.
+    Prove(ProveRequest<'a>),
     /// List an image.
     Dis {
         /// The file with the image, or with the text that is assembled into it.

@@ -20,6 +20,8 @@ const EXAMPLE: &str = "Examples:
       runs hello.img for at most 1000 steps, and gives it a byte of keys.txt every 50 steps
   cherisim run hello.img 1000 --policy hello.policy --symbols hello.sym
       stops before a step at which the code can reach more than a rule about it allows
+  cherisim prove hello.img --policy hello.policy --symbols hello.sym
+      shows, if it can, that no run breaks a rule, whatever code is in the ranges of `any code`
   cherisim image hello.bin hello.img
       makes an image of the bytes of hello.bin, from RAM's first address on
   cherisim dis hello.img
@@ -36,13 +38,13 @@ const EXAMPLE: &str = "Examples:
 Without a command the program runs a first image of five instructions, which prints A; with
 --version alone it prints its version.
 
-In place of an image `run`, `audit`, `dis` and `debug` take a text too, if its name ends in .s: then
-its labels are known without --symbols. Of the files that are read - is standard input, for one of
-them alone, and not for `debug`. Numbers are decimal, or hexadecimal behind 0x.
+In place of an image `run`, `audit`, `prove`, `dis` and `debug` take a text too, if its name ends in
+.s: then its labels are known without --symbols. Of the files that are read - is standard input, for
+one of them alone, and not for `debug`. Numbers are decimal, or hexadecimal behind 0x.
 
 The status is 0 where all went well, for a run where the machine halted with 0; 1 where a run ended
-otherwise, and where `audit` finds that a policy is broken; 2 for a command line that is no command;
-3 for any other fault.";
+otherwise, where `audit` finds that a policy is broken, and where `prove` doesn't show that it is
+kept; 2 for a command line that is no command; 3 for any other fault.";
 
 /// Puts an argument where it stands among the words; `all` says that the words have `--why=all`.
 fn as_stands<'a>(all: bool, stands: Stands, id: &'a str, value: &'a str, arg: Arg<'a>) -> Arg<'a>
@@ -53,6 +55,7 @@ fn as_stands<'a>(all: bool, stands: Stands, id: &'a str, value: &'a str, arg: Ar
         Stands::Operand => arg.required(true),
         Stands::Optional => arg,
         Stands::Named => arg.long(id).value_name(value),
+        Stands::Required => arg.required(true).long(id).value_name(value),
         Stands::Flag => arg.long(id).action(ArgAction::SetTrue),
         Stands::FlagOrAll if all => arg.long(id).value_name(value),
         Stands::FlagOrAll => arg.long(id).action(ArgAction::SetTrue),

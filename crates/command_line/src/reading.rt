@@ -13,7 +13,7 @@ ghost use Rattle.command_line.specs.declared.fault.PlanFault.TheVariants.{Memory
 use crate::fault::PlanFault;
 use crate::layout::Layout;
 use crate::misfit::{MISSING, Misfit, misfit_text};
-use crate::plans::{Plan, RunRequest};
+use crate::plans::{Plan, ProveRequest, RunRequest};
 use crate::program::{alone, program};
 use crate::table::*;
 use crate::values::{amount, ends, file, flag, is_fit, is_used, number, operand, text, why_of};
@@ -302,6 +302,21 @@ fn audit_plan<'a>(found: &ArgMatches<'a>) -> Plan<'a>
 }
 
 #[tactic(auto, unfolding(crate::specs::CommandLine::commands))]
+fn prove_plan<'a>(found: &ArgMatches<'a>) -> Plan<'a>
+    requires { HasAll (codes "prove") (rows_of (found_of found.now)) }
+    ensures { Says (codes "prove") (rows_of (found_of found.now)) result }
+{
+    Plan::Prove(ProveRequest {
+        image: operand(found, &IMAGE),
+        policy: operand(found, &PROVE_POLICY),
+        symbols: file(found, &RUN_LABELS),
+        lines: file(found, &RUN_LINES),
+        steps: amount(found, &PROVE_STEPS),
+        quiet: flag(found, &STATUS),
+    })
+}
+
+#[tactic(auto, unfolding(crate::specs::CommandLine::commands))]
 fn dis_plan<'a>(found: &ArgMatches<'a>) -> Plan<'a>
     requires { HasAll (codes "dis") (rows_of (found_of found.now)) }
     ensures { Says (codes "dis") (rows_of (found_of found.now)) result }
@@ -375,6 +390,8 @@ fn read<'a>(name: &str, found: &ArgMatches<'a>) -> Plan<'a>
         run_plan(found)
     } else if name == "audit" {
         audit_plan(found)
+    } else if name == "prove" {
+        prove_plan(found)
     } else if name == "dis" {
         dis_plan(found)
     } else if name == "debug" {

@@ -14,6 +14,8 @@ pub(crate) enum Stands {
     Optional,
     /// `--ID VALUE`.
     Named,
+    /// `--ID VALUE`, which must be there.
+    Required,
     /// `--ID`.
     Flag,
     /// `--ID`; where the words have `--ID=all`, `--ID VALUE`, so that `--ID` alone takes no other word as its value.
@@ -104,6 +106,9 @@ pub(crate) const DEBUG_INPUT: Argument =
 pub(crate) const POLICY: Argument = argument!("policy" Named Read, "FILE",
     "The file with the policy that the run is watched by");
 
+pub(crate) const PROVE_POLICY: Argument = argument!("policy" Required Read, "FILE",
+    "The file with the policy that every run is to keep to");
+
 pub(crate) const RUN_LABELS: Argument = argument!("symbols" Named Read, "FILE",
     "A file with labels, which stand after addresses, and which the policy may name");
 
@@ -143,6 +148,9 @@ pub(crate) const GO_TIMES: Argument = argument!("times" Named Count 1 to 10000, 
 
 pub(crate) const TIMES: Argument = argument!("times" Named Count 1 to 1000000, "N", Some("1"),
     "How many times STEPS steps are done at most" "");
+
+pub(crate) const PROVE_STEPS: Argument = argument!("steps" Named Count 1 to 1000000000, "N",
+    Some("1000000"), "The most steps of the image's own code that are done" "");
 
 pub(crate) const RUN_GAP: Argument = argument!("gap" Named Count 1 to 1000000, "N", Some("1000"),
     "Steps from one byte of the input to the next" "");
@@ -214,7 +222,7 @@ pub(crate) const MEMORY: Argument = argument!("memory" Flag Nothing, "",
     "The halves are those of the word as it stands in memory");
 
 /// The commands, in the order of the help.
-pub(crate) const COMMANDS: [CommandRow; 9] = [
+pub(crate) const COMMANDS: [CommandRow; 10] = [
     (
         "asm",
         "Assembles a text into an image",
@@ -247,6 +255,18 @@ pub(crate) const COMMANDS: [CommandRow; 9] = [
         &[
             IMAGE, STEPS, TIMES, INPUT, RUN_GAP, RUN_TICK, STATUS, TRACE, TRACE_FROM, TRACE_LAST,
             POLICY, RUN_LABELS, RUN_LINES,
+        ],
+    ),
+    (
+        "prove",
+        "Shows of every run of an image, with any code where the policy says so, that it keeps to it",
+        &[
+            IMAGE,
+            PROVE_POLICY,
+            RUN_LABELS,
+            RUN_LINES,
+            PROVE_STEPS,
+            STATUS,
         ],
     ),
     (

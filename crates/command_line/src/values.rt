@@ -42,7 +42,7 @@ fn is_needed(line: &Line<'_>) -> bool
     ensures { result ≡ is_needed (line_of line.now) }
 {
     match line.1 {
-        Stands::Operand => true,
+        Stands::Operand | Stands::Required => true,
         Stands::Optional | Stands::Named | Stands::Flag | Stands::FlagOrAll => line.3.is_some(),
     }
 }

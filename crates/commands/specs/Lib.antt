@@ -9,4 +9,5 @@ pub mod Loading
 pub mod Running
 pub mod Watching
 pub mod Auditing
+pub mod Proving
 pub mod Overwriting

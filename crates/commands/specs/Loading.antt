@@ -7,7 +7,7 @@ use Rattle.image.specs.Image.{Image}
 use Rattle.machine.specs.Run.{run_after}
 use Rattle.policy.specs.Terms.{Terms, terms_of}
 use Rattle.policy_text.specs.declared.reading.Policy.{Policy}
-use Rattle.policy_text.specs.Policy.{policy_of}
+use Rattle.policy_text.specs.Policy.{any_code_of, policy_of}
 use Rattle.policy_text.specs.Seen.{seen}
 use Rattle.schedules.specs.declared.schedule.Schedule.{Schedule}
 use Rattle.schedules.specs.Schedule.{IsRunnable, events_before, scheduled}
@@ -47,9 +47,10 @@ IsTyped schedule None files typed = typed ≡ []
 IsTyped schedule (Some name) files typed =
     IfSome (bytes_of name.now files) (λ input. (s : State) → scheduled schedule typed s ≡ scheduled schedule input s)
 
--- A policy is the text of a file, with labels of a table, and says these rules.
+-- A policy is the text of a file, with labels of a table, and says these rules, and in which ranges the code may be any.
 pub record IsPolicyOf (text : Text) (table : List Symbol) (policy : Policy) : Type 0 where
   pub said : policy_of table text ≡ Ok (seen policy)
+  pub any : policy.any.items ≡ any_code_of table text
 
 -- The rules are those that a file says, if one is named.
 abbrev pub AreRules : Option (Bor Text) → List Symbol → Option (List File) → Option Rules → Type 0

@@ -85,7 +85,11 @@ fn write_text<'a, O: Write + Drop>(output: O, text: &str) -> Result<O, ProgramFa
 }
 
 /// Writes a text to an output, unless nothing is to be told, and hands the output back.
-fn tell<'a, O: Write + Drop>(output: O, text: &str, quiet: bool) -> Result<O, ProgramFault<'a>>
+pub(crate) fn tell<'a, O: Write + Drop>(
+    output: O,
+    text: &str,
+    quiet: bool,
+) -> Result<O, ProgramFault<'a>>
     ensures { IfOk result (λ out. Appends (O.contents output) (O.contents out) (told_unless quiet text.now)) }
 {
     if quiet {

@@ -1,6 +1,6 @@
 //! The files of a run, read: its image, its labels, its policy, and what is typed.
 
-ghost use Rattle.std.specs.Prelude.{◌≡◌, ◌≤◌, ◌<◌, IfOk, IfErr, IfSome, Ok, length, vec_len};
+ghost use Rattle.std.specs.Prelude.{◌≡◌, ◌≤◌, ◌<◌, IfOk, IfErr, IfSome, Ok, Some, length, vec_len};
 ghost use Rattle.command_line.specs.CommandLine.{AreInRange};
 ghost use Rattle.policy_text.specs.Policy.{policy_of};
 ghost use Rattle.policy_text.specs.Seen.{seen};
@@ -86,6 +86,21 @@ fn policy_of<'a>(
     }
 }
 
+/// The rules of the file of a name, which may name these labels.
+pub(crate) fn named_rules<'a, F: Folder>(
+    alloc: Global,
+    folder: &F,
+    name: &'a str,
+    table: &Symbols,
+) -> Result<Rules, ProgramFault<'a>>
+    ensures rules { IfOk result (λ rules. AreRules (Some name.entry) table.now (F.files folder.now) (Some rules)) }
+    ensures numbered { IfOk result AreNumbered }
+{
+    let text = policy_bytes(alloc, folder, name)?;
+    let policy = policy_of(alloc, name, &text, table)?;
+    Ok(Rules { text, policy })
+}
+
 /// The rules of the file `policy`, which may name these labels, or none where no file is named.
 fn rules_of<'a, F: Folder>(
     alloc: Global,
@@ -98,9 +113,8 @@ fn rules_of<'a, F: Folder>(
 {
     match policy {
         Some(name) => {
-            let text = policy_bytes(alloc, folder, name)?;
-            let policy = policy_of(alloc, name, &text, table)?;
-            Ok(Some(Rules { text, policy }))
+            let rules = named_rules(alloc, folder, name, table)?;
+            Ok(Some(rules))
         }
         None => Ok(None),
     }

@@ -1,6 +1,6 @@
 -- What is promised of every run: the states in which an image may be opened, where the code in some ranges may be any, and that each run
 -- from one of them keeps to the rules.
-use Rattle.std.specs.Prelude.{◌≡◌, List, length}
+use Rattle.std.specs.Prelude.{◌≡◌, Bool, true, false, List, length}
 use Rattle.image.specs.Image.{Image}
 use Rattle.hart.specs.Opening.{opening}
 use Rattle.steps.specs.declared.event.Event.{Event}
@@ -34,6 +34,10 @@ EveryRunKeepsTo rules any a =
     (s : State) (events : List Event) → StartsWithAnyCode any a s → AreEvents events → KeepToEach rules events (length events) s
 
 -- the verdict is that it holds
+abbrev pub holds : Verdict → Bool
+holds (Holds steps members) = true
+holds (Unshown why) = false
+
 abbrev pub IsHolds : Verdict → Type 0
 IsHolds (Holds steps members) = Unit {0}
 IsHolds (Unshown why) = ⊥

@@ -1,6 +1,7 @@
 -- Steps that are the same wherever hidden bytes, the counters and the devices differ: what a state that is known stands for, and which
 -- steps from it look at what is known alone.
-use Rattle.std.specs.Prelude.{◌≡◌, ◌≢◌, ℕ, ◌+◌, ◌-◌, ◌<◌, ◌≤◌, ◌==◌, true, false, length, slice_index, None, Some}
+use Rattle.std.specs.Prelude.{◌≡◌, ℕ, ◌+◌, ◌-◌, ◌<◌, ◌≤◌, ◌==◌, Bool, true, false, not, ◌||◌, length, slice_index, None, Some}
+use Rattle.base.specs.declared.registers.csr.TheConstants.{MIP, MCYCLE, MINSTRET}
 use Rattle.base.specs.Ram.{ram_base}
 use Rattle.base.specs.Size.{bytes_of}
 use Rattle.cap_bounds.specs.CapValue.{CapValue}
@@ -10,11 +11,12 @@ use Rattle.isa_rows.specs.declared.kinds.Kind.TheVariants as kind
 use Rattle.isa_rows.specs.declared.operands.Insn.{Insn}
 use Rattle.isa_rows.specs.Kind.{kind_of}
 use Rattle.steps.specs.declared.effect.Effect.{Effect}
-use Rattle.steps.specs.declared.effect.Effect.TheVariants.{DeviceLoad, DeviceStore, Csr}
+use Rattle.steps.specs.declared.effect.Effect.TheVariants.{DeviceLoad, DeviceStore}
 use Rattle.steps.specs.Accesses.{size_of}
 use Rattle.steps.specs.MemoryRows.{place_of}
 use Rattle.steps.specs.State.{State, pc_of}
 use Rattle.steps.specs.Step.{insn_fetched, step_effect, step_fetched}
+use Rattle.steps.specs.SystemRows.{csr_number}
 use Rattle.authority.specs.Authority.{SameCsrs}
 
 -- RAM of the same size, with the same tags, and with the same byte at each address that is known
@@ -40,17 +42,20 @@ pub record IsKnownData (Known : ℕ → Type 0) (m : Memory) (address size : ℕ
   pub inside : is_in_ram m address size ≡ true
   pub known : AreKnown Known address size
 
--- the instruction uses no control and status register, and what it loads is known
+-- a control and status register that every run reads the same: not what devices ask for, nor the counters
+abbrev pub is_steady : ℕ → Bool
+is_steady number = not (MIP == number || (MCYCLE == number || MINSTRET == number))
+
+-- a control and status register that the instruction uses is steady, and what it loads is known
 pub record LooksAtKnown (Known : ℕ → Type 0) (insn : Insn) (a : State) : Type 0 where
-  pub csr : kind_of insn.row ≢ kind.Csr
+  pub csr : kind_of insn.row ≡ kind.Csr → is_steady (csr_number insn) ≡ true
   pub number : kind_of insn.row ≡ kind.Load → IsKnownData Known a.memory (place_of insn a) (bytes_of (size_of insn.row))
   pub capability : kind_of insn.row ≡ kind.LoadCapability → IsKnownData Known a.memory (place_of insn a) 16
 
--- the effect reads no device, doesn't halt the machine, and writes no control and status register
+-- the effect reads no device, and doesn't halt the machine
 abbrev pub LeavesDevices : Effect CapValue → Type 0
 LeavesDevices (DeviceLoad load) = ⊥
 LeavesDevices (DeviceStore store) = (store.address == halt) ≡ false
-LeavesDevices (Csr write) = ⊥
 LeavesDevices _ = Unit {0}
 
 -- the machine runs, no interrupt can be taken, and the word at PCC is known

@@ -7,15 +7,17 @@ ghost use Rattle.steps.specs.IsState.{IsState};
 ghost use Rattle.steps.specs.Looks.{HasRegisters};
 ghost use Rattle.steps.specs.MemoryRows.{place_of};
 ghost use Rattle.steps.specs.State.{pc_of};
+ghost use Rattle.steps.specs.SystemRows.{csr_number};
 ghost use Rattle.steps.specs.Step.{insn_fetched, step_fetched};
 ghost use Rattle.policy.specs.Terms.{Terms, terms_of};
 ghost use Rattle.policy.specs.Watch.{Applies};
 ghost use Rattle.every_run.specs.Known.{IsOutside};
 ghost use Rattle.every_run.specs.Lasting.{NoneApplies};
-ghost use Rattle.every_run.specs.Stands.{IsKnownData, IsRunning, LooksAtKnown, LeavesDevices, IsKnownStep};
+ghost use Rattle.every_run.specs.Stands.{IsKnownData, IsRunning, LooksAtKnown, LeavesDevices, IsKnownStep, is_steady};
 
 use crate::ranges::touches;
 use crate::verdict::Unshown;
+use base::csr;
 use cap_bounds::CapRep;
 use hart::{Hart, Planned};
 use isa_rows::{Insn, Kind};
@@ -87,12 +89,23 @@ fn check_data<C: CapRep>(
     Ok(())
 }
 
-/// That an instruction uses no control and status register, and loads what is known: a load of data counts as one of 8 bytes.
+/// Whether the control and status register that an instruction names is one that every run reads the same: not what devices ask for, nor
+/// the counters.
+fn is_steady(insn: Insn) -> bool
+    ensures { result ≡ is_steady (csr_number insn) }
+{
+    let number = (insn.imm % 0x1000) as u16;
+    !(csr::MIP == number || (csr::MCYCLE == number || csr::MINSTRET == number))
+}
+
+/// That a control and status register that an instruction uses is one that every run reads the same, and that it loads what is known: a
+/// load of data counts as one of 8 bytes.
 fn check_looks<C: CapRep>(hart: &Hart<C>, any: &[Range], insn: Insn) -> Result<(), Unshown>
     requires { HasRegisters insn }
     ensures { OnOk result (LooksAtKnown (IsOutside any.now) insn hart.now) }
 {
     match insn.row.kind() {
+        Kind::Csr if is_steady(insn) => Ok(()),
         Kind::Csr => Err(Unshown::SystemRegister { pc: pc_of(hart) }),
         Kind::Load => check_data(hart, any, access_place(hart, insn), 8),
         Kind::LoadCapability => check_data(hart, any, access_place(hart, insn), 16),
@@ -122,7 +135,7 @@ fn check_store(address: u64, pc: u64) -> Result<(), Unshown>
     Ok(())
 }
 
-/// That an effect reads no device, doesn't halt the machine and writes no control and status register.
+/// That an effect reads no device, and doesn't halt the machine.
 fn check_effect<C: CapRep>(effect: &Effect<C>, pc: u64) -> Result<(), Unshown>
     ensures { OnOk result (LeavesDevices (meant C.value effect.now)) }
 {
@@ -131,7 +144,6 @@ fn check_effect<C: CapRep>(effect: &Effect<C>, pc: u64) -> Result<(), Unshown>
             address: load.address,
         }),
         Effect::DeviceStore(store) => check_store(store.address, pc),
-        Effect::Csr(_) => Err(Unshown::SystemRegister { pc }),
         _ => Ok(()),
     }
 }

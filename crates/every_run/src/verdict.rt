@@ -1,3 +1,7 @@
+//! What a proof of every run comes to.
+ghost use Rattle.std.specs.Prelude.{◌≡◌};
+ghost use Rattle.every_run.specs.Opens.{holds};
+
 use policy::Ban;
 use reached::Place;
 
@@ -15,6 +19,18 @@ pub enum Verdict {
     Unshown(Unshown),
 }
 
+impl Verdict {
+    /// Whether every run is shown to keep to the rules.
+    pub fn holds(self) -> bool
+        ensures { result ≡ holds self }
+    {
+        match self {
+            Verdict::Holds { .. } => true,
+            Verdict::Unshown(_) => false,
+        }
+    }
+}
+
 /// Why it isn't shown that every run keeps to the rules.
 ///
 /// A place is where a capability stands when any code begins: among the roots are the 32 registers, PCC, DDC, MTCC, MTDC, MScratchC and
@@ -29,7 +45,7 @@ pub enum Unshown {
     UnknownData { address: u64 },
     /// A step would load data from outside RAM.
     Device { address: u64 },
-    /// A step would read or write a control and status register.
+    /// A step would use what runs read differently: mip, mcycle or minstret.
     SystemRegister { pc: u64 },
     /// An interrupt could be taken.
     Interrupts { pc: u64 },

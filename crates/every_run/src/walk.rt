@@ -30,5 +30,8 @@ pub(crate) fn walk<C: CapRep>(
         let planned = known_step(hart, any, rules)?;
         hart.apply(planned);
     }
+    if holds(any, pc_of(hart)) {
+        return Ok(most);
+    }
     Err(Unshown::MoreSteps { most })
 }

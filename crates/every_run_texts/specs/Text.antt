@@ -1,9 +1,12 @@
 -- What a verdict of every run says, as a text.
 use Rattle.std.specs.Prelude.{ℕ, ◌+◌, nat_lt, if◌then◌else◌, List, [], ◌++◌, codes, decimal, slice_index}
+use Rattle.std.specs.List.{flat_map}
 use Rattle.asm_names.specs.TrapNames.{register_at_fault}
 use Rattle.disassembler.specs.Shown.{name_or}
+use Rattle.texts.specs.Hex.{hex_of}
 use Rattle.symbols.specs.Symbols.{Symbol}
 use Rattle.symbols.specs.Labels.{labelled}
+use Rattle.reach.specs.declared.range.Range.{Range}
 use Rattle.reached.specs.declared.member.Place.{Place}
 use Rattle.reached.specs.declared.member.Place.TheVariants.{Root, Special, Granule}
 use Rattle.breach_texts.specs.Text.{ban_word}
@@ -46,9 +49,19 @@ why_text symbols lines (why.MaySeal place) = codes "seal\n  held  " ++ place_tex
 why_text symbols lines (why.Breaks rule ban place) =
     rule_text lines rule ++ codes ": " ++ ban_word ban ++ codes "\n  held  " ++ place_text symbols place
 
--- the lines of a verdict
-abbrev pub verdict_text : List Symbol → List ℕ → Verdict → List ℕ
-verdict_text symbols lines (verdict.Holds steps members) =
-    codes "holds\n  of every run, with any code in these ranges\n  steps " ++ decimal steps ++ codes ", capabilities " ++ decimal members
-    ++ codes "\n"
-verdict_text symbols lines (verdict.Unshown why) = codes "not shown: " ++ why_text symbols lines why ++ codes "\n"
+-- a range of any code: its first address with the label, and its end, which is not in it
+unfoldable pub any_line : List Symbol → Range → List ℕ
+any_line symbols range =
+    codes "  with any code in " ++ labelled symbols range.from ++ codes " to " ++ hex_of 17 range.to ++ codes "\n"
+
+-- of which runs it holds, and what it took to show: how many steps of the image's own code, and how many capabilities any code can hold
+abbrev pub holds_text : List Symbol → List Range → ℕ → ℕ → List ℕ
+holds_text symbols any steps members =
+    codes "holds\n  of every run of this image, over any steps, ticks and bytes\n"
+    ++ (flat_map (any_line symbols) any
+    ++ (codes "  steps " ++ decimal steps ++ codes ", capabilities " ++ decimal members ++ codes "\n"))
+
+-- the lines of a verdict about any code in these ranges
+abbrev pub verdict_text : List Symbol → List Range → List ℕ → Verdict → List ℕ
+verdict_text symbols any lines (verdict.Holds steps members) = holds_text symbols any steps members
+verdict_text symbols any lines (verdict.Unshown why) = codes "not shown: " ++ why_text symbols lines why ++ codes "\n"

@@ -2,17 +2,19 @@
 ghost use Rattle.std.specs.Prelude.{◌≡◌, ◌++◌, OnOk, codes, decimal, string_bytes};
 ghost use Rattle.std.specs.Prelude.{slice_index};
 ghost use Rattle.symbols.specs.Labels as labels;
-ghost use Rattle.every_run_texts.specs.Text.{place_text, rule_text, why_text, verdict_text};
+ghost use Rattle.std.specs.List.{flat_map};
+ghost use Rattle.every_run_texts.specs.Text.{any_line, holds_text, place_text, rule_text, why_text, verdict_text};
 ghost use Rattle.breach_texts.specs.Text as spec;
 
 use crate::place::append_place;
 use breach_texts::ban_word;
 use every_run::{Unshown, Verdict};
 use policy::Ban;
+use reach::Range;
 use reached::Place;
 use std::alloc::AllocError;
 use symbols::{Symbols, labelled};
-use texts::Piece::{Decimal, Text};
+use texts::Piece::{Decimal, Hexadecimal, Text};
 use texts::append;
 
 /// The number of a rule's line.
@@ -132,8 +134,62 @@ fn append_why(
     }
 }
 
-/// Appends the lines of a verdict, where each rule has the number of its line: that every run keeps to the rules, or why that is not
-/// shown.
+/// Appends the line of a range of any code: its first address with the label, and its end, which is not in it.
+#[tactic(auto, unfolding(crate::specs::Text::any_line))]
+fn append_any(text: &mut String, symbols: &Symbols, range: Range) -> Result<(), AllocError>
+    ensures { OnOk result (string_bytes text.new ≡ string_bytes text.old ++ any_line symbols.now range) }
+{
+    append(
+        text,
+        &[
+            Text("  with any code in "),
+            Text(labelled(Some(symbols), range.from).as_str()),
+            Text(" to "),
+            Hexadecimal(17, range.to),
+            Text("\n"),
+        ],
+    )
+}
+
+/// Appends the lines of ranges of any code.
+fn append_ranges(text: &mut String, symbols: &Symbols, any: &[Range]) -> Result<(), AllocError>
+    ensures { OnOk result (string_bytes text.new ≡ string_bytes text.old ++ flat_map (any_line symbols.now) any.now) }
+{
+    for range in any {
+        append_any(text, symbols, *range)?;
+    }
+    Ok(())
+}
+
+/// Appends that every run keeps to the rules: of which runs that is said, and what it took.
+fn append_holds(
+    text: &mut String,
+    symbols: &Symbols,
+    any: &[Range],
+    steps: u64,
+    members: usize,
+) -> Result<(), AllocError>
+    ensures { OnOk result (string_bytes text.new ≡ string_bytes text.old ++ holds_text symbols.now any.now steps members) }
+{
+    append(
+        text,
+        &[Text("holds\n  of every run of this image, over any steps, ticks and bytes\n")],
+    )?;
+    append_ranges(text, symbols, any)?;
+    append(
+        text,
+        &[
+            Text("  steps "),
+            Decimal(steps),
+            Text(", capabilities "),
+            Decimal(members as u64),
+            Text("\n"),
+        ],
+    )
+}
+
+/// Appends the lines of a verdict about any code in these ranges, where each rule has the number of its line: that every run keeps to the
+/// rules, or why that is not shown.
 ///
 /// # Errors
 ///
@@ -141,22 +197,15 @@ fn append_why(
 pub fn put_verdict(
     text: &mut String,
     symbols: &Symbols,
+    any: &[Range],
     lines: &[u64],
     verdict: Verdict,
 ) -> Result<(), AllocError>
-    ensures { OnOk result (string_bytes text.new ≡ string_bytes text.old ++ verdict_text symbols.now lines.now verdict) }
+    ensures { OnOk result (string_bytes text.new
+        ≡ string_bytes text.old ++ verdict_text symbols.now any.now lines.now verdict) }
 {
     match verdict {
-        Verdict::Holds { steps, members } => append(
-            text,
-            &[
-                Text("holds\n  of every run, with any code in these ranges\n  steps "),
-                Decimal(steps),
-                Text(", capabilities "),
-                Decimal(members as u64),
-                Text("\n"),
-            ],
-        ),
+        Verdict::Holds { steps, members } => append_holds(text, symbols, any, steps, members),
         Verdict::Unshown(why) => {
             append(text, &[Text("not shown: ")])?;
             append_why(text, symbols, lines, why)?;

@@ -5,7 +5,7 @@ use Rattle.std.specs.Io.KnownBytes.{Appends}
 use Rattle.bounds_text.specs.WordText.{word_of_halves}
 use Rattle.command_line.specs.CommandLine.{IsPlanOf, IsSound, IsTaken, NoPlanFits, found_in}
 use Rattle.command_line.specs.declared.plans.Plan.{Plan}
-use Rattle.command_line.specs.declared.plans.Plan.TheVariants.{Asm, Image, Go, Run, Audit, Dis, Debug, Bounds, Word, First}
+use Rattle.command_line.specs.declared.plans.Plan.TheVariants.{Asm, Image, Go, Run, Audit, Prove, Dis, Debug, Bounds, Word, First}
 use Rattle.sim_run.specs.Verdict.{status_of}
 use Rattle.program.specs.declared.carrying.Done.{Done}
 use Rattle.program.specs.declared.carrying.Done.TheVariants as done
@@ -18,14 +18,16 @@ use Rattle.commands.specs.Files.{File, Text, Change, bytes_of}
 use Rattle.commands.specs.Imaging.{MakesImage}
 use Rattle.commands.specs.Listing.{ListsFile}
 use Rattle.commands.specs.Overwriting.{Overwrites, Sameness}
+use Rattle.commands.specs.Proving.{ProvesFile}
 use Rattle.commands.specs.Running.{Runs, first_run, stop_at}
 use Rattle.commands.specs.Watching.{RunsFile}
 
--- 0 for what was done, and of a run what its end comes to; of an audit 1 where something is broken
+-- 0 for what was done, and of a run what its end comes to; 1 of an audit where something is broken, and of a proof that wasn't found
 abbrev pub status_of_done : Done → ℕ
 status_of_done done.All = 0
 status_of_done (done.Run ended) = status_of ended.end
 status_of_done (done.Audit count) = if count == 0 then 0 else 1
+status_of_done (done.Proof shown) = if shown then 0 else 1
 
 -- A plan was carried out wholly, with this status: what an output holds then that held something before, where that is known, and what
 -- became of files, where they are known; what was typed is what the input had left.
@@ -42,6 +44,8 @@ HasStatus (Run request why) typed change status =
     (ended : Ended) × (status ≡ status_of ended.end) × RunsFile request (stop_at why) ended change
 HasStatus (Audit request) typed change status =
     (count : ℕ) × (status ≡ (if count == 0 then 0 else 1)) × AuditsRun request count change
+HasStatus (Prove request) typed change status =
+    (shown : Bool) × (status ≡ (if shown then 0 else 1)) × ProvesFile request change.old shown change.sent change.out
 HasStatus (Dis image symbols header quiet) typed change status =
     (status ≡ 0) × ListsFile header change.old image.now symbols change.sent change.out
 HasStatus (Debug image symbols lines input gap tick quiet) typed change status =

@@ -13,7 +13,7 @@ use crate::debugging::debug_file;
 use command_line::{Plan, PlanFault, RunRequest, plan};
 use commands::{
     Ended, Folder, ProgramFault, assemble_file, audit_file, image_file, list_file, load,
-    overwrites, run_first, run_loaded, show_bounds, show_word, stop_at,
+    overwrites, prove_file, run_first, run_loaded, show_bounds, show_word, stop_at,
 };
 use image::DeviceFailed;
 use sim_run::{StopAt, verdict};
@@ -41,6 +41,8 @@ enum Done {
     Run(Ended),
     /// An audit that found so many parts of rules that are broken.
     Audit(usize),
+    /// A proof, and whether it was found.
+    Proof(bool),
 }
 
 /// What a command line ends with.
@@ -93,6 +95,7 @@ fn is_quiet(plan: Plan<'_>) -> bool {
         Plan::Go { request, .. } | Plan::Run { request, .. } | Plan::Audit(request) => {
             request.quiet
         }
+        Plan::Prove(request) => request.quiet,
         Plan::Bounds { .. } | Plan::Word { .. } | Plan::First => false,
     }
 }
@@ -143,6 +146,10 @@ fn carry_out<'a, F: Folder, I: Read + Drop, O: Write + Drop>(
         Plan::Audit(request) => {
             let (count, output) = audit_file(alloc, folder, request, output)?;
             Ok((Done::Audit(count), output))
+        }
+        Plan::Prove(request) => {
+            let (shown, output) = prove_file(alloc, folder, request, output)?;
+            Ok((Done::Proof(shown), output))
         }
         Plan::Asm {
             input: text,
@@ -206,9 +213,9 @@ fn tell_done<E: Write>(errors: &mut E, done: &Done) -> u8
     ensures { result ≡ status_of_done done.now }
 {
     match done {
-        Done::All | Done::Audit(0) => 0,
+        Done::All | Done::Audit(0) | Done::Proof(true) => 0,
         Done::Run(ended) => tell_end(errors, ended),
-        Done::Audit(_) => 1,
+        Done::Audit(_) | Done::Proof(false) => 1,
     }
 }
 
@@ -331,7 +338,7 @@ fn tell_no_plan<O: Write + Drop, E: Write>(output: O, errors: &mut E, fault: Pla
 /// from `input`, what is sent, listed, answered or helped with to `output`, and what is told of refusals, faults and ends to `errors`.
 ///
 /// Answers the status: 0 for what was done, the version shown among it, and of a run where the machine halted with 0; 1 for a run
-/// that ended otherwise; 2 for a command line that was refused or asks for help, and where a file would be written over another of the
+/// that ended otherwise, an audit that found a part broken and a proof that wasn't found; 2 for a command line that was refused or asks for help, and where a file would be written over another of the
 /// command; 3 for another fault. At 0 and 1 the output comes with it, which has grown by exactly what was asked for.
 pub fn status_of<F: Folder, I: Read + Drop, O: Write + Drop, E: Write>(
     alloc: Global,

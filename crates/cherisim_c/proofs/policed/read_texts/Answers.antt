@@ -1,5 +1,5 @@
 use Rattle.cherisim_c.specs.Refusals.{IsRefusalOf}
-use Rattle.cherisim_c.proofs.Stopping.{of_labels, refused_so}
+use Rattle.cherisim_c.proofs.Stopping.{of_texts, refused_so}
 use Rattle.cherisim_c.proofs.policed.read_texts.Goals as goal
 
 pub returns-in_err-schedule-clause-err : goal.returns-in_err-schedule-clause-err
@@ -8,12 +8,6 @@ returns-in_err-schedule-clause-err c =
     refused_so c.from_residual.result at.field-0.0 (IsRefusalOf c.args.labels.now c.args.text.now c.args.timetable)
     c.from_residual.ensures.1 (at.ensures.fault c.args.labels.now c.args.text.now)
 
-pub returns-in_err-symbols-clause-err : goal.returns-in_err-symbols-clause-err
-returns-in_err-symbols-clause-err c =
-    let at = c.in_err-symbols in
-    refused_so c.from_residual-in_err-symbols.result at.field-0.0 (IsRefusalOf c.args.labels.now c.args.text.now c.args.timetable)
-    c.from_residual-in_err-symbols.ensures.1
-    (of_labels c.args.labels.now c.args.text.now c.args.timetable at.field-0.0 at.ensures.fault)
-
 pub returns-in-Err-clause-err : goal.returns-in-Err-clause-err
-returns-in-Err-clause-err c = c.in-Err.ensures.fault c.args.labels.now c.args.timetable c.in_ok-symbols.ensures.symbols
+returns-in-Err-clause-err c =
+    of_texts c.args.labels.now c.args.text.now c.args.timetable c.in-Err.refusal c.in-Err.ensures.err

@@ -25,7 +25,10 @@ unreachable-requires c =
                     sym c.eq-else-eq-7.ensures ∙ c.if-eq-8.false,
                     (
                       sym c.eq-else-eq-8.ensures ∙ c.if-eq-9.false,
-                      tt,
+                      (
+                        sym c.eq-else-eq-9.ensures ∙ c.if-eq-10.false,
+                        tt,
+                      ),
                     ),
                   ),
                 ),
