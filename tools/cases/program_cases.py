@@ -7,7 +7,7 @@ import re
 
 from cases.bounds_texts import length_text, text as bounds_text, word_text
 from cases.program_lines import BAD, FILE, LISTED, NO_IMAGE, REPLY, TEXT, case, file_of, joined, refused
-from cases.program_runs import ended_otherwise, ends, labelled_runs, not_begun, runs_without_table, traces
+from cases.program_runs import ended_otherwise, ends, labelled_runs, not_begun, profiles, runs_without_table, traces
 from cases.program_sessions import debugged, reached, replayed, tables_refused
 from cases.program_sources import sources
 from cases.quoting import quoted
@@ -475,7 +475,7 @@ def fault_texts():
 
 def files():
     lines = ["# a command line, files and streams => the status, what is opened and made, sent, told, and what stands in the file made"]
-    lines += [*ends(), *ended_otherwise(), *not_begun(), *traces(), *labelled_runs(), *runs_without_table(), *images(), *named(),
-              *further_faults(), *headed(), *faults(), *failing(), *read_whole(), *sources()]
+    lines += [*ends(), *ended_otherwise(), *not_begun(), *traces(), *profiles(), *labelled_runs(), *runs_without_table(), *images(),
+              *named(), *further_faults(), *headed(), *faults(), *failing(), *read_whole(), *sources()]
     yield "commands.txt", lines
     yield "told.txt", fault_texts()

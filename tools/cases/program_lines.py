@@ -1,5 +1,7 @@
 """What cases of command lines are made of: files of images, listings and traces, by the model, and a case's line."""
 
+from collections import Counter
+
 from cases.quoting import quoted
 from model import recorded
 from model.devices import RAM
@@ -29,6 +31,27 @@ def traced(text, steps, keys=b""):
             machine.byte(byte)
         lines.append(f"{number + 1} {recorded.event(machine).line.replace(LABEL, '')}\n")
     return "".join(lines)
+
+
+def place_of(address, labels):
+    """The address of a label at an address or fewer than 4096 bytes below it, or else that of its 4 KiB."""
+    near = max((place for place, _ in labels if address - 4096 < place <= address), default=None)
+    return address - address % 4096 if near is None else near
+
+
+def profiled(text, steps, labels=(), keys=b""):
+    """The lines of a profile, by the model: with a byte before each step, as many as there are."""
+    machine, counts, done = machine_of(text), Counter(), 0
+    while done < steps and machine.halted is None:
+        for byte in keys[done:done + 1]:
+            machine.byte(byte)
+        counts[place_of(machine.state().pcc[1], labels)] += 1
+        machine.step()
+        done += 1
+    names = dict(reversed([(place, f" <{name}>") for place, name in labels]))
+    lines = [f"{count} {1000 * count // done // 10}.{1000 * count // done % 10} % {place:016x}{names.get(place, '')}\n"
+             for place, count in sorted(counts.items(), key=lambda counted: (-counted[1], counted[0]))]
+    return "".join([*lines, f"{done} steps\n"])
 
 
 def listed(text):

@@ -2,7 +2,7 @@
 
 from cases.explanations import access, begun, fetch, number as held_number, reply, trapped as trap_effect
 from cases.program_lines import BAD, FILE, LISTED, NO_IMAGE, REPLY, SENDS_A, TEXT, TEXT_OF_CLAP, TRACE
-from cases.program_lines import case, file_of, refused, table, traced
+from cases.program_lines import case, file_of, profiled, refused, table, traced
 from cases.quoting import quoted
 from cases.sessions import ECHO_THREE
 from model.devices import RAM
@@ -273,6 +273,80 @@ def traces():
     yield case("run first.img 5 --trace t --input none", [FILE], 3, "open first.img, open none",
                told="cherisim: file none\n  No such file or directory\n")
     for words in ("run first.img 5 --trace first.img", "run first.img 5 --input keys --trace keys", "run first.img 5 --trace"):
+        yield refused(words, [FILE, 'keys "A"'])
+
+
+# counts down from 3, by a call each time, and halts: of 16 steps 8 are from `loop` on, 6 from `less` on, and 2 before
+COUNTS_DOWN = """addi a0, zero, 3
+addi a1, zero, 0
+loop: jal ra, less
+bne a0, zero, loop
+lui a2, 0x100
+sd zero, 0(a2)
+less: addi a0, a0, -1
+jalr zero, 0(ra)"""
+
+
+def profiles():
+    """Runs of which a profile is written."""
+    down = file_of("down.img", COUNTS_DOWN)
+    start, loop, less = (RAM, "start"), (RAM + 8, "loop"), (RAM + 24, "less")
+
+    def counts(options, steps, labels, given=down, text=COUNTS_DOWN, status=1, told="cherisim: not halted\n", sent=b"", done=None, keys=b"",
+               parts=(), opened=", make p"):
+        name = given.split()[0]
+        symbols, read = ([table("s", labels)], ", open s") if labels else ([], "")
+        yield case(f"run {name} {steps} --quiet --profile p {'--symbols s ' if labels else ''}{options}", [given, *symbols, *parts], status,
+                   f"open {name}{read}{opened}", sent, told, profiled(text, steps if done is None else done, labels, keys).encode())
+
+    yield "# a profile: how many steps were fetched in each 4 KiB, in a file that is made after what is read"
+    yield case("run first.img 5 --profile p", [FILE], 0, "open first.img, make p", b"A", made=b"5 100.0 % 0000000080000000\n5 steps\n")
+    yield from counts("", 9, [], FILE, SENDS_A, 0, "", b"A")
+    yield from counts("", 2, [], FILE, SENDS_A)
+    yield "# at each label, most first, and of as many the lower address first; percents are rounded down"
+    for steps in (1, 2, 3, 4, 5, 7, 9, 13, 14):
+        yield from counts("", steps, [start, loop, less])
+    yield from counts("", 16, [start, loop, less], status=0, told="")
+    yield from counts("", 99, [less, start, loop], status=0, told="")
+    yield "# of several labels at an address the first; before the first label its 4 KiB"
+    yield from counts("", 14, [(RAM + 24, "less"), (RAM + 24, "other"), (RAM + 8, "again"), loop])
+    yield from counts("", 14, [less])
+    yield "# fewer than 4096 bytes below, or not near"
+    for place in (RAM - 4095, RAM - 4096, RAM - 4095 + 24, RAM + 28):
+        yield from counts("", 14, [(place, "near")])
+    yield "# a jump to where nothing can be fetched: the traps are counted there"
+    yield from counts("", 7, [start], file_of("trap.img", LOADS_BY_NULL), LOADS_BY_NULL)
+    yield from counts("", 7, [start, (0, "zero")], file_of("trap.img", LOADS_BY_NULL), LOADS_BY_NULL)
+    yield "# of a run that stops before a trap, the steps before it; of one that does none, none"
+    yield from counts("--input keys --why ", 9, [start, loop], file_of("call.img", SENDS_AND_CALLS), SENDS_AND_CALLS, sent=b"A", done=3,
+                      keys=b"A", parts=['keys "A"'], opened=", open keys, make p")
+    yield from counts("--why=all ", 9, [], file_of("trap.img", LOADS_BY_NULL), LOADS_BY_NULL, done=0)
+    yield "# with a trace: the profile is made before, and closed after"
+    yield case("run first.img 9 --profile p --trace t", [FILE], 0, "open first.img, make p, make t", b"A",
+               made=profiled(SENDS_A, 9).encode())
+    yield case("run first.img 9 --profile z --trace t", [FILE], 0, "open first.img, make z, make t", b"A", made=TRACE.encode())
+    yield "# of a text its own labels"
+    text = 'down.s "' + COUNTS_DOWN.replace("\n", "\\n") + '"'
+    yield case("go down.s --profile p", [text], 0, "open down.s, make p", made=profiled(COUNTS_DOWN, 99, [loop, less]).encode())
+    yield case("go down.s --profile p --steps 3 --times 4 --quiet", [text], 1, "open down.s, make p", b"", "cherisim: not halted\n",
+               profiled(COUNTS_DOWN, 12, [loop, less]).encode())
+    yield "# a profile that can't be made, before anything is done, or written to its end"
+    yield case("run first.img 5 --profile p", [FILE, "full"], 3, "open first.img, make p", told="cherisim: file p\n  No such file or directory\n")
+    yield case("run first.img 5 --profile d --trace t", [FILE, "directory d"], 3, "open first.img, make d",
+               told="cherisim: file d\n  Is a directory\n")
+    whole = profiled(SENDS_A, 5).encode()
+    for call in (0, 1, len(whole) - 1):
+        yield case("run first.img 5 --profile p", [FILE, f"made {call}"], 3, "open first.img, make p", b"A",
+                   "cherisim: L10 device failed\n  p: the file is cut short\n", whole[:call])
+    yield case("run first.img 5 --profile p", [FILE, f"made {len(whole)}"], 0, "open first.img, make p", b"A", made=whole)
+    yield "# where a byte can't be written, it stays empty"
+    yield case("run first.img 5 --profile p", [FILE, "output 0"], 3, "open first.img, make p", told="cherisim: write failed\n")
+    yield "# it is no file that is read, and not the trace, by whichever name"
+    for words in ("run first.img 5 --profile first.img", "run first.img 5 --profile ./first.img", "run first.img 5 --profile t --trace t",
+                  "run first.img 5 --profile t --trace ./t", "run first.img 5 --input keys --profile ./keys",
+                  "run first.img 5 --symbols keys --profile ./keys", "run first.img 5 --lines keys --profile ./keys",
+                  "run first.img 5 --policy keys --profile ./keys", "run first.img 5 --trace ./keys --input keys --profile p",
+                  "go first.img --profile ./first.img", "audit first.img 5 --profile p"):
         yield refused(words, [FILE, 'keys "A"'])
 
 

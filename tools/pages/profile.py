@@ -3,8 +3,9 @@
 
     python3 tools/pages/profile.py --check
 
-A mark is the word `profile` in a file of crates/*/specs or crates/*/src; the file has to be named in the table, as `crate/specs/Name` or
-`crate/src/name.rt`. It names also what the table names and is no file. It ends with 1 where something is missing.
+A mark is the word `profile` in parentheses in a comment of a file of crates/*/specs or crates/*/src (that of a run, which `--profile`
+writes, stands in none); the file has to be named in the table, as `crate/specs/Name` or `crate/src/name.rt`. It names also what the
+table names and is no file. It ends with 1 where something is missing.
 """
 import os
 import re
@@ -12,7 +13,7 @@ import subprocess
 import sys
 
 TOP = os.path.join(os.path.dirname(os.path.abspath(__file__)), "..", "..")
-MARK = re.compile(r"\bprofile\b")
+MARK = re.compile(r"^\s*(?:--|//).*\([^()]*\bprofile\b[^()]*\)", re.MULTILINE)
 
 
 def name_of(path):

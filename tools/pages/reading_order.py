@@ -74,7 +74,7 @@ REST = [
      "symbols/specs/Symbols, Labels, Sources; image_listing/specs/Named, Listing, Header"),
     ("what code can reach, as text", "reach_texts/specs/Text, Asked, Summary"),
     ("the command line and runs on a schedule",
-     "command_line/specs/CommandLine; schedules/specs/Schedule; sim_run/specs/Trace, Verdict, Unhandled, Ending, Stopping"),
+     "command_line/specs/CommandLine; schedules/specs/Schedule; sim_run/specs/Trace, Verdict, Unhandled, Ending, Stopping, Profile"),
     ("walks over a schedule, and who watches them", "schedules/specs/Whole, Walk, Pace, Both, Output"),
     ("policies as texts, runs that are watched by one, audits",
      "policy_text/specs/Policy, Sound; policy_runs/specs/Keeping; breach_texts/specs/Text; "

@@ -90,6 +90,8 @@ pub enum Plan<'a> {
         request: RunRequest<'a>,
         /// Which ends are explained, if any; with a policy none is.
         why: Option<Why>,
+        /// The file that its profile is written to, if one is named.
+        profile: Option<&'a str>,
     },
     /// Run an image.
     Run {
@@ -97,6 +99,8 @@ pub enum Plan<'a> {
         request: RunRequest<'a>,
         /// Which ends are explained, if any; with a policy none is.
         why: Option<Why>,
+        /// The file that its profile is written to, if one is named.
+        profile: Option<&'a str>,
     },
     /// List what breaks a policy in a run of an image, or the policy that the run keeps to.
     Audit(RunRequest<'a>),

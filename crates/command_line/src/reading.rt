@@ -269,6 +269,7 @@ fn go_plan<'a>(found: &ArgMatches<'a>) -> Plan<'a>
             amount(found, &GO_TIMES),
         ),
         why: ends(found, &WHY),
+        profile: file(found, &PROFILE),
     }
 }
 
@@ -285,6 +286,7 @@ fn run_plan<'a>(found: &ArgMatches<'a>) -> Plan<'a>
             amount(found, &TIMES),
         ),
         why: ends(found, &WHY),
+        profile: file(found, &PROFILE),
     }
 }
 

@@ -136,6 +136,9 @@ pub(crate) const ASM_LINES: Argument = argument!("lines" Named Written, "FILE",
 pub(crate) const TRACE: Argument = argument!("trace" Named Written, "FILE",
     "The file that a line for each step is written to");
 
+pub(crate) const PROFILE: Argument = argument!("profile" Named Written, "FILE",
+    "The file that the count of steps at each label is written to");
+
 // Numbers with limits.
 pub(crate) const STEPS: Argument = argument!("STEPS" Operand Count 1 to 100000000, "", None,
     "The most steps that are done" "");
@@ -237,15 +240,15 @@ pub(crate) const COMMANDS: [CommandRow; 10] = [
         "go",
         "Runs a text or an image until it halts; what it sends goes to standard output",
         &[
-            FILE, GO_STEPS, GO_TIMES, INPUT, RUN_GAP, RUN_TICK, STATUS, WHY, TRACE, TRACE_FROM,
-            TRACE_LAST, POLICY, RUN_LABELS, RUN_LINES,
+            FILE, GO_STEPS, GO_TIMES, INPUT, RUN_GAP, RUN_TICK, STATUS, WHY, PROFILE, TRACE,
+            TRACE_FROM, TRACE_LAST, POLICY, RUN_LABELS, RUN_LINES,
         ],
     ),
     (
         "run",
         "Runs an image, and writes the bytes that it sends to standard output",
         &[
-            IMAGE, STEPS, TIMES, INPUT, RUN_GAP, RUN_TICK, STATUS, WHY, TRACE, TRACE_FROM,
+            IMAGE, STEPS, TIMES, INPUT, RUN_GAP, RUN_TICK, STATUS, WHY, PROFILE, TRACE, TRACE_FROM,
             TRACE_LAST, POLICY, RUN_LABELS, RUN_LINES,
         ],
     ),

@@ -1,7 +1,7 @@
 -- The files of a folder: what became of them, in order.
 use Rattle.std.specs.Prelude.{◌≡◌, ℕ, ◌<◌, List, length, [], ◌∷◌, ◌++◌, bytes_eq, if◌then◌else◌, Option, Some, None, Err}
 use Rattle.std.specs.Prelude.{IfSome, ⊤}
-use Rattle.std.specs.Io.KnownBytes.{Keeps}
+use Rattle.std.specs.Io.KnownBytes.{Appends, Keeps}
 use Rattle.hints.specs.Printable.{IsHint}
 use Rattle.image.specs.Grammar.{reading}
 use Rattle.image.specs.Reads.{IsOfBytes}
@@ -38,6 +38,10 @@ Gains (Some files) new more = new ≡ Some (files ++ more)
 -- A file is closed that holds these bytes, where they are known.
 abbrev pub Closes : Text → Option (List ℕ) → Option (List File) → Option (List File) → Type 0
 Closes name held old new = (now : Option (List ℕ)) × Keeps held now × Gains old new (ended name now ∷ [])
+
+-- A file grows by bytes, and is closed.
+abbrev pub Finishes : Text → Option (List ℕ) → List ℕ → Option (List File) → Option (List File) → Type 0
+Finishes name held bytes old new = (now : Option (List ℕ)) × Appends held now bytes × Gains old new (ended name now ∷ [])
 
 -- Where files are known, a new one is empty.
 abbrev pub IsNew : Option (List File) → Option (List ℕ) → Type 0

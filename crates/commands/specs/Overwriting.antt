@@ -21,14 +21,19 @@ traces_over same run =
     (are_same same run.trace (Some run.image) || are_same same run.trace run.input)
     || ((are_same same run.trace run.policy || are_same same run.trace run.symbols) || are_same same run.trace run.lines)
 
+-- a file that a run writes is another of its own
+abbrev pub runs_over : Sameness → RunRequest → Option (Bor Text) → Bool
+runs_over same run profile =
+    traces_over same run || (traces_over same (record run { trace = profile }) || are_same same profile run.trace)
+
 -- a file that is written is another file of the command
 abbrev pub overwrites : Sameness → Plan → Bool
 overwrites same (Asm input output symbols lines quiet) =
     ((same output.now input.now || are_same same symbols (Some input)) || are_same same symbols (Some output))
     || ((are_same same lines (Some input) || are_same same lines (Some output)) || are_same same lines symbols)
 overwrites same (Image flat output layout quiet) = same output.now flat.now
-overwrites same (Go request why) = traces_over same request
-overwrites same (Run request why) = traces_over same request
+overwrites same (Go request why profile) = runs_over same request profile
+overwrites same (Run request why profile) = runs_over same request profile
 overwrites same (Audit request) = traces_over same request
 overwrites same other = false
 

@@ -1,5 +1,5 @@
 -- What a run sends, tells and writes, and where it ends. After an address stands its label, where a file with labels is named.
-use Rattle.std.specs.Prelude.{◌≡◌, ℕ, Bool, true, false, not, is_some, ◌==◌, ◌&&◌, if◌then◌else◌, List, [], ◌∷◌, Option, Some, None}
+use Rattle.std.specs.Prelude.{◌≡◌, ℕ, Bool, true, false, not, is_some, ◌==◌, ◌&&◌, if◌then◌else◌, List, [], ◌∷◌, ◌++◌, Option, Some, None}
 use Rattle.std.specs.Prelude.{string_bytes}
 use Rattle.std.specs.Borrow.{Bor}
 use Rattle.std.specs.Io.KnownBytes.{Appends}
@@ -16,6 +16,7 @@ use Rattle.sim_run.specs.declared.run.Ran.{Ran}
 use Rattle.sim_run.specs.declared.stopping.StopAt.{StopAt}
 use Rattle.sim_run.specs.declared.stopping.StopAt.TheVariants as stop
 use Rattle.sim_run.specs.Ending.{ending_lines}
+use Rattle.sim_run.specs.Profile.{IsProfile, fetches}
 use Rattle.sim_run.specs.Stopping.{events_met, stop_met, stopped_lines}
 use Rattle.sim_run.specs.Trace.{trace_text}
 use Rattle.sim_run.specs.Unhandled.{trap_left}
@@ -23,7 +24,7 @@ use Rattle.sim_run.specs.Verdict.{status_of}
 use Rattle.steps.specs.declared.event.Event.{Event}
 use Rattle.steps.specs.State.{State}
 use Rattle.commands.specs.declared.running.Ended.{Ended}
-use Rattle.commands.specs.Files.{Text, File, Change, Gains, whole}
+use Rattle.commands.specs.Files.{Text, File, Change, Gains, begun, ended, whole}
 use Rattle.commands.specs.Loading.{Run, events_to, state_after}
 
 -- which trap a run stops before that is to be explained
@@ -83,11 +84,24 @@ abbrev pub Traces : Option (Bor Text) → List ℕ → Option (List File) → Op
 Traces None lines old new = new ≡ old
 Traces (Some name) lines old new = Gains old new (whole name.now lines)
 
+-- what becomes of its file
+abbrev pub traced : Option (Bor Text) → List ℕ → List File
+traced None lines = []
+traced (Some name) lines = whole name.now lines
+
+-- A run that meets these events writes its trace, if a file is named for it; and its profile, if one is, to a file that is made before and
+-- closed after.
+abbrev pub Writes : RunRequest → Option (Bor Text) → Run → List Event → Option (List File) → Option (List File) → Type 0
+Writes request None run events old new = Traces request.trace (trace_of request run events) old new
+Writes request (Some name) run events old new =
+    (text : List ℕ) × IsProfile run.table (fetches events (opening run.image)) text
+    × Gains old new (begun name.now ∷ (traced request.trace (trace_of request run events) ++ ended name.now (Some text) ∷ []))
+
 -- A run that no policy watches.
-abbrev pub RunsFreely : RunRequest → Option StopAt → Run → Ended → Change → Type 0
-RunsFreely request at run ended change =
+abbrev pub RunsFreely : RunRequest → Option (Bor Text) → Option StopAt → Run → Ended → Change → Type 0
+RunsFreely request profile at run ended change =
     Runs run at request.quiet ended change.sent change.out
-    × Traces request.trace (trace_of request run (events_of at run)) change.old change.new
+    × Writes request profile run (events_of at run) change.old change.new
 
 -- ---- the first image
 

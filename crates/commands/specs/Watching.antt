@@ -1,6 +1,7 @@
 -- What a run does that is watched by a policy, and where it ends.
 use Rattle.std.specs.Prelude.{◌≡◌, ℕ, ◌-◌, ◌<◌, Bool, true, false, List, [], length, Option, Some, None, Err, IfSome, get_or}
 use Rattle.std.specs.Prelude.{string_bytes, IsUtf8, ⊤}
+use Rattle.std.specs.Borrow.{Bor}
 use Rattle.breach_texts.specs.Text.{refused_lines}
 use Rattle.command_line.specs.declared.plans.RunRequest.{RunRequest}
 use Rattle.hart.specs.Opening.{opening}
@@ -24,7 +25,7 @@ use Rattle.commands.specs.declared.running.Ended.{Ended}
 use Rattle.commands.specs.declared.watching.Stop.{Stop}
 use Rattle.commands.specs.Files.{Text, File, Change, IsReading, bytes_of}
 use Rattle.commands.specs.Loading.{IsLoaded, Run, events_to, run_of, state_after, terms_in}
-use Rattle.commands.specs.Running.{RunsFreely, Sends, Traces, place_of, trace_of}
+use Rattle.commands.specs.Running.{RunsFreely, Sends, Writes, place_of}
 
 -- a fault of a file that is to hold a policy: a text that is too long, or the system's
 abbrev pub IsPolicyTextFault : Text → Option (List File) → ProgramFault → Type 0
@@ -79,27 +80,29 @@ abbrev pub IsStopOf : Rules → Run → Bool → Option Stop → Type 0
 IsStopOf rules run quiet None = KeepsToEnd rules run
 IsStopOf rules run quiet (Some stop) = IsStop rules run quiet stop.number (string_bytes stop.lines)
 
--- what is sent is written, the lines of the trace that are kept are written, if a file is named, and the run ends as its machine does
-pub record Ends (request : RunRequest) (run : Run) (events : List Event) (ended : Ended) (change : Change) : Type 0 where
+-- what is sent is written, so are its trace and its profile, if files are named for them, and the run ends as its machine does
+pub record Ends (request : RunRequest) (profile : Option (Bor Text)) (run : Run) (events : List Event) (ended : Ended) (change : Change)
+    : Type 0 where
   pub sent : Sends run events change.sent change.out
-  pub traced : Traces request.trace (trace_of request run events) change.old change.new
+  pub written : Writes request profile run events change.old change.new
   pub end : ended.end ≡ end_of (state_after events run)
 
 -- A run that a policy watches: it ends before the step at which the policy stops it, or as every run.
-pub data IsWatchedRun (rules : Rules) (request : RunRequest) (run : Run) (ended : Ended) (change : Change) : Type 0 where
+pub data IsWatchedRun (rules : Rules) (request : RunRequest) (profile : Option (Bor Text)) (run : Run) (ended : Ended) (change : Change)
+    : Type 0 where
   stopped :
       (number : ℕ) → IsStop rules run request.quiet number (string_bytes ended.place)
-      → Ends request run (events_to (Some number) run) ended change → IsWatchedRun rules request run ended change
+      → Ends request profile run (events_to (Some number) run) ended change → IsWatchedRun rules request profile run ended change
   whole :
       KeepsToEnd rules run → string_bytes ended.place ≡ place_of run request.quiet false (events_to None run)
-      → Ends request run (events_to None run) ended change → IsWatchedRun rules request run ended change
+      → Ends request profile run (events_to None run) ended change → IsWatchedRun rules request profile run ended change
 
 -- A run is watched by the rules of a policy, if there is one; else it ends before the trap that it is to stop at.
-abbrev pub RunsBy : Option Rules → RunRequest → Option StopAt → Run → Ended → Change → Type 0
-RunsBy None request at run ended change = RunsFreely request at run ended change
-RunsBy (Some rules) request at run ended change = IsWatchedRun rules request run ended change
+abbrev pub RunsBy : Option Rules → RunRequest → Option (Bor Text) → Option StopAt → Run → Ended → Change → Type 0
+RunsBy None request profile at run ended change = RunsFreely request profile at run ended change
+RunsBy (Some rules) request profile at run ended change = IsWatchedRun rules request profile run ended change
 
 -- A run that is asked for, with what its files hold.
-abbrev pub RunsFile : RunRequest → Option StopAt → Ended → Change → Type 0
-RunsFile request at ended change =
-    (loaded : LoadedRun) × IsLoaded request change.old loaded × RunsBy loaded.rules loaded.request at (run_of loaded) ended change
+abbrev pub RunsFile : RunRequest → Option (Bor Text) → Option StopAt → Ended → Change → Type 0
+RunsFile request profile at ended change =
+    (loaded : LoadedRun) × IsLoaded request change.old loaded × RunsBy loaded.rules loaded.request profile at (run_of loaded) ended change

@@ -4,7 +4,8 @@ ghost use Rattle.std.specs.Prelude.{◌≡◌, ◌<◌, List, [], ◌∷◌, ◌
 ghost use Rattle.image.specs.Grammar.{spelling, reading};
 ghost use Rattle.symbols.specs.Sources.{faulty_place, places_of};
 ghost use Rattle.symbols.specs.Symbols.{faulty_line, symbols_of};
-ghost use Rattle.commands.specs.Files.{File, begun, ended, whole, Gains, IsNew, IsImageFault, IsTable, IsTableFault, IsTextTableFault};
+ghost use Rattle.commands.specs.Files.{File, begun, ended, whole, Finishes, Gains, IsNew, IsImageFault, IsTable, IsTableFault};
+ghost use Rattle.commands.specs.Files.{IsTextTableFault};
 ghost use Rattle.commands.specs.Files.{IsOpening, IsReading, IsTextFault, IsUnwritten, bytes_of};
 ghost use Rattle.commands.specs.Overwriting.{Sameness};
 
@@ -172,6 +173,25 @@ pub fn write_bytes<'a, F: Folder>(
     ensures err { IfErr result (IsUnwritten name.entry.now (F.files folder.old) (F.files folder.new)) }
 {
     let file = make_file(folder, name)?;
+    let mut sink = Writing::new(file);
+    match write_all(&mut sink, bytes) {
+        Ok(()) => {
+            folder.close(name, sink.into_inner());
+            Ok(())
+        }
+        Err(_) => Err(ProgramFault::CutShort(name)),
+    }
+}
+
+/// Writes bytes to a file of this name that was made, and closes it.
+pub fn finish_file<'a, F: Folder>(
+    folder: &mut F,
+    name: &'a str,
+    file: F::Made,
+    bytes: &[u8],
+) -> Result<(), ProgramFault<'a>>
+    ensures ok { OnOk result (Finishes name.entry.now (F.Made.contents file) bytes.now (F.files folder.old) (F.files folder.new)) }
+{
     let mut sink = Writing::new(file);
     match write_all(&mut sink, bytes) {
         Ok(()) => {

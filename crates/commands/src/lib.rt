@@ -12,6 +12,7 @@ mod imaging;
 mod listing;
 mod loading;
 mod overwriting;
+mod profiling;
 mod programs;
 mod proving;
 mod running;

@@ -1,7 +1,7 @@
 //! Commands that would write a file over another of their own.
 
 ghost use Rattle.std.specs.Prelude.{◌≡◌, ◌||◌, Some, IfSome};
-ghost use Rattle.commands.specs.Overwriting.{Overwrites, are_same, traces_over};
+ghost use Rattle.commands.specs.Overwriting.{Overwrites, are_same, runs_over, traces_over};
 
 use crate::files::Folder;
 use command_line::{Plan, RunRequest};
@@ -29,6 +29,21 @@ fn traces_over<F: Folder>(folder: &F, run: RunRequest<'_>) -> bool
     let over_labels = are_same(folder, run.trace, run.symbols);
     let over_lines = are_same(folder, run.trace, run.lines);
     (over_image || over_input) || ((over_policy || over_labels) || over_lines)
+}
+
+/// Whether the trace of a run or its profile is written over a file that is read for it, or over the other.
+fn runs_over<F: Folder>(folder: &F, run: RunRequest<'_>, profile: Option<&str>) -> bool
+    ensures { IfSome (F.same folder.now) (λ same. result ≡ runs_over same run.entry profile.entry) }
+{
+    let trace = traces_over(folder, run);
+    let counts = traces_over(
+        folder,
+        RunRequest {
+            trace: profile,
+            ..run
+        },
+    );
+    trace || (counts || are_same(folder, profile, run.trace))
 }
 
 /// Whether the lines of a text are written over another file of `asm`.
@@ -67,9 +82,17 @@ pub fn overwrites<F: Folder>(folder: &F, plan: Plan<'_>) -> bool
             (text || labels || image) || lines_over(folder, lines, input, output, symbols)
         }
         Plan::Image { flat, output, .. } => folder.is_same(output, flat),
-        Plan::Go { request, .. } | Plan::Run { request, .. } | Plan::Audit(request) => {
-            traces_over(folder, request)
+        Plan::Go {
+            request,
+            profile,
+            ..
         }
+        | Plan::Run {
+            request,
+            profile,
+            ..
+        } => runs_over(folder, request, profile),
+        Plan::Audit(request) => traces_over(folder, request),
         _ => false,
     }
 }

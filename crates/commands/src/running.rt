@@ -9,12 +9,13 @@ ghost use Rattle.sim_run.specs.Trace.{lines_past, trace_text};
 ghost use Rattle.symbols.specs.Symbols.{Symbol};
 ghost use Rattle.commands.specs.Files.{Closes, Gains, IsNew, begun, changed, whole};
 ghost use Rattle.commands.specs.Loading.{IsReady, events_to, run_of, state_after};
-ghost use Rattle.commands.specs.Running.{HasEnded, HasRun, Runs, RunsFreely, Sends, Traces};
+ghost use Rattle.commands.specs.Running.{HasEnded, HasRun, Runs, RunsFreely, Sends, Traces, Writes};
 ghost use Rattle.commands.specs.Running.{events_of, first_run, is_told, place_lines, stop_at, stops, trace_of};
 
 use crate::fault::ProgramFault;
 use crate::files::{Folder, make_file};
 use crate::loading::LoadedRun;
+use crate::profiling::run_profiled;
 use crate::writing::{UntilFailure, Writing};
 use command_line::{RunRequest, Why};
 use image::{DeviceFailed, Image};
@@ -69,7 +70,7 @@ pub struct Ended {
 }
 
 /// What a run leaves: its machine, how far it came, and its output.
-type Left<O> = (ProgramMachine, Ran, O);
+pub type Left<O> = (ProgramMachine, Ran, O);
 
 /// The lines of a trace: the file that they go to, how many of a run's first steps have none there, and before which step it ends.
 #[derive(Clone, Copy)]
@@ -351,21 +352,22 @@ fn stop_of<'a>(
 }
 
 /// Runs an image with the bytes of its input on its console. It ends before the trap that it is to stop `at`, if any. The lines that are
-/// kept of its trace are written to a file, where one is named, in blocks of 64 KiB. A run that is quiet doesn't say where it ended. Hands
-/// the output back.
+/// kept of its trace are written to a file, where one is named, in blocks of 64 KiB, and its profile to the file `profile`, if one is. A
+/// run that is quiet doesn't say where it ended. Hands the output back.
 pub fn run_freely<'a, F: Folder, O: Write + Drop>(
     alloc: Global,
     folder: &mut F,
     run: &LoadedRun<'a>,
+    profile: Option<&'a str>,
     at: Option<StopAt>,
     output: O,
 ) -> Result<(Ended, O), ProgramFault<'a>>
     requires { IsRunnable run.now.schedule }
-    ensures { IfOk result (λ done. RunsFreely run.now.request at (run_of run.now) done.0
+    ensures { IfOk result (λ done. RunsFreely run.now.request profile.entry at (run_of run.now) done.0
         (changed (O.contents output) (O.contents done.1) (F.files folder.old) (F.files folder.new))) }
 {
     let stop = stop_of(alloc, run, at)?;
-    let (machine, ran, output) = run_image(alloc, folder, run, stop, output)?;
+    let (machine, ran, output) = run_profiled(alloc, folder, run, profile, stop, output)?;
     let ended = ending(alloc, run, stop, &machine, ran)?;
     Ok((ended, output))
 }

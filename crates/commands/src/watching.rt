@@ -10,7 +10,8 @@ ghost use Rattle.commands.specs.Watching.{IsStopOf, IsWatchedRun, RunsBy, TellsR
 use crate::fault::ProgramFault;
 use crate::files::Folder;
 use crate::loading::{LoadedRun, Rules};
-use crate::running::{Ended, ProgramMachine, run_freely, run_image};
+use crate::profiling::run_profiled;
+use crate::running::{Ended, ProgramMachine, run_freely};
 use breach_texts::refused_lines;
 use machine::Machine;
 use policy_audit::rule_line;
@@ -88,40 +89,42 @@ fn run_watched<'a, F: Folder, O: Write + Drop>(
     folder: &mut F,
     run: &LoadedRun<'a>,
     rules: &Rules,
+    profile: Option<&'a str>,
     output: O,
 ) -> Result<(Ended, O), ProgramFault<'a>>
     requires numbered { AreNumbered rules.now }
     requires range { IsRunnable run.now.schedule }
-    ensures { IfOk result (λ done. IsWatchedRun rules.now run.now.request (run_of run.now) done.0
+    ensures { IfOk result (λ done. IsWatchedRun rules.now run.now.request profile.entry (run_of run.now) done.0
         (changed (O.contents output) (O.contents done.1) (F.files folder.old) (F.files folder.new))) }
 {
     match stop_of(alloc, run, rules)? {
         Some(stop) => {
             let number = Some(stop.number);
-            let (_, ran, output) = run_image(alloc, folder, run, number, output)?;
+            let (_, ran, output) = run_profiled(alloc, folder, run, profile, number, output)?;
             let end = ran.end;
             let place = stop.lines;
             Ok((Ended { end, place }, output))
         }
-        None => run_freely(alloc, folder, run, None, output),
+        None => run_freely(alloc, folder, run, profile, None, output),
     }
 }
 
-/// Runs an image, watched by the rules of its policy, if it has one; else it ends before the trap that it is to stop `at`, if any. Hands
-/// the output back.
+/// Runs an image, watched by the rules of its policy, if it has one; else it ends before the trap that it is to stop `at`, if any. Its
+/// profile is written to the file `profile`, if one is named. Hands the output back.
 pub fn run_loaded<'a, F: Folder, O: Write + Drop>(
     alloc: Global,
     folder: &mut F,
     run: &LoadedRun<'a>,
+    profile: Option<&'a str>,
     at: Option<StopAt>,
     output: O,
 ) -> Result<(Ended, O), ProgramFault<'a>>
     requires { IsReady run.now }
-    ensures { IfOk result (λ done. RunsBy run.now.rules run.now.request at (run_of run.now) done.0
+    ensures { IfOk result (λ done. RunsBy run.now.rules run.now.request profile.entry at (run_of run.now) done.0
         (changed (O.contents output) (O.contents done.1) (F.files folder.old) (F.files folder.new))) }
 {
     match &run.rules {
-        None => run_freely(alloc, folder, run, at, output),
-        Some(rules) => run_watched(alloc, folder, run, rules, output),
+        None => run_freely(alloc, folder, run, profile, at, output),
+        Some(rules) => run_watched(alloc, folder, run, rules, profile, output),
     }
 }

@@ -38,10 +38,10 @@ HasStatus (Asm input output symbols lines quiet) typed change status =
 HasStatus (Image flat output layout quiet) typed change status =
     (status ≡ 0) × (change.out ≡ change.sent)
     × IfSome (bytes_of flat.now change.old) (λ bytes. MakesImage layout output.now bytes change.old change.new)
-HasStatus (Go request why) typed change status =
-    (ended : Ended) × (status ≡ status_of ended.end) × RunsFile request (stop_at why) ended change
-HasStatus (Run request why) typed change status =
-    (ended : Ended) × (status ≡ status_of ended.end) × RunsFile request (stop_at why) ended change
+HasStatus (Go request why profile) typed change status =
+    (ended : Ended) × (status ≡ status_of ended.end) × RunsFile request profile (stop_at why) ended change
+HasStatus (Run request why profile) typed change status =
+    (ended : Ended) × (status ≡ status_of ended.end) × RunsFile request profile (stop_at why) ended change
 HasStatus (Audit request) typed change status =
     (count : ℕ) × (status ≡ (if count == 0 then 0 else 1)) × AuditsRun request count change
 HasStatus (Prove request) typed change status =

@@ -100,20 +100,22 @@ fn is_quiet(plan: Plan<'_>) -> bool {
     }
 }
 
-/// Runs the image of a file as it is asked for. It ends before the trap that it is to stop `at`, if any. Hands the output back.
+/// Runs the image of a file as it is asked for. It ends before the trap that it is to stop `at`, if any. Its profile is written to the file
+/// `profile`, if one is named. Hands the output back.
 fn run_file<'a, F: Folder, O: Write + Drop>(
     alloc: Global,
     folder: &mut F,
     request: RunRequest<'a>,
+    profile: Option<&'a str>,
     at: Option<StopAt>,
     output: O,
 ) -> Result<(Ended, O), ProgramFault<'a>>
     requires { AreInRange request }
-    ensures { IfOk result (λ done. RunsFile request.entry at done.0
+    ensures { IfOk result (λ done. RunsFile request.entry profile.entry at done.0
         (changed (O.contents output) (O.contents done.1) (F.files folder.old) (F.files folder.new))) }
 {
     match load(alloc, folder, request) {
-        Ok(run) => run_loaded(alloc, folder, &run, at, output),
+        Ok(run) => run_loaded(alloc, folder, &run, profile, at, output),
         Err(fault) => Err(fault),
     }
 }
@@ -135,12 +137,20 @@ fn carry_out<'a, F: Folder, I: Read + Drop, O: Write + Drop>(
             let (ended, output) = run_first(alloc, output)?;
             Ok((Done::Run(ended), output))
         }
-        Plan::Go { request, why } => {
-            let (ended, output) = run_file(alloc, folder, request, stop_at(why), output)?;
+        Plan::Go {
+            request,
+            why,
+            profile,
+        } => {
+            let (ended, output) = run_file(alloc, folder, request, profile, stop_at(why), output)?;
             Ok((Done::Run(ended), output))
         }
-        Plan::Run { request, why } => {
-            let (ended, output) = run_file(alloc, folder, request, stop_at(why), output)?;
+        Plan::Run {
+            request,
+            why,
+            profile,
+        } => {
+            let (ended, output) = run_file(alloc, folder, request, profile, stop_at(why), output)?;
             Ok((Done::Run(ended), output))
         }
         Plan::Audit(request) => {

@@ -4,3 +4,4 @@ pub mod Texts
 pub mod Stops
 pub mod TraceCuts
 pub mod FirstSteps
+pub mod Counting

@@ -4,6 +4,7 @@ pub mod Verdict
 pub mod Unhandled
 pub mod Ending
 pub mod Stopping
+pub mod Profile
 -- Inner words
 pub mod Lines
 pub mod LineLaws
@@ -11,3 +12,5 @@ pub mod WatchedLaws
 pub mod Watched
 pub mod Stopped
 pub mod StoppedLaws
+pub mod Counts
+pub mod CountLaws

@@ -10,4 +10,4 @@ returns-in_ok-ran-in-Some g c =
     let left = c.in_ok-ran-in-Some.ensures in
     let stops = IsStopOf c.args.rules.now (run_of run) run.request.quiet in
     stopped c.in-Some.stop.number (subst stops c.in-Some.is c.in_ok-stop.ensures)
-    (record { sent = left.sent; traced = left.files; end = left.ran.end ∙ ap end_of left.ran.state })
+    (record { sent = left.sent; written = left.files; end = left.ran.end ∙ ap end_of left.ran.state })
